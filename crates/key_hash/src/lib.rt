@@ -1,0 +1,2 @@
+//! The hash of a key and its bucket.
+#![tactic(auto)]
