@@ -1,13 +1,21 @@
-// A library with one function.
+//! The small types that the crates of `bpfmap` share: kinds and shapes of maps, calls and replies, lists, and the
+//! rules by which a map is created.
 #![tactic(auto)]
 
-ghost use Rattle.std.specs.Prelude.{◌≡◌};
-ghost use Rattle.map_types.specs.Echo.{echo_of};
+mod attr;
+mod call;
+mod gate;
+mod kind;
+mod list;
+mod pairs;
+mod refusal;
+mod reply;
 
-// The `ensures` clause is the contract: what `echo` returns is `echo_of` of its argument, a definition
-// in `specs/Echo.antt`, which a caller's clause can cite too.
-pub fn echo(x: usize) -> usize
-    ensures { result ≡ echo_of x }
-{
-    x
-}
+pub use attr::{CreateAttr, Shape};
+pub use call::{Call, Verb};
+pub use gate::{Gate, NoGate, Point};
+pub use kind::{DomainId, MapKind, Side};
+pub use list::{Bytes, List, Numbers};
+pub use pairs::Pairs;
+pub use refusal::{Absent, CreateRefusal, Errno, Failed, Limit, NoMemory};
+pub use reply::Reply;
