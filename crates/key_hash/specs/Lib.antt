@@ -1,0 +1,3 @@
+pub mod Bucket
+pub mod Jhash
+pub mod State
