@@ -11,7 +11,7 @@ pub struct CreateAttr {
     /// Bytes of a value, on one CPU.
     pub value_size: u32,
     pub max_entries: u32,
-    /// BPF_F_NO_PREALLOC is 1, BPF_F_NO_COMMON_LRU is 2, BPF_F_ZERO_SEED is 64.
+    /// Of `BPF_F_NO_PREALLOC`, `BPF_F_NO_COMMON_LRU` and `BPF_F_ZERO_SEED`.
     pub flags: u32,
     /// The seed of the keys' hash.
     pub seed: u32,

@@ -4,18 +4,22 @@
 
 mod attr;
 mod call;
+mod check;
 mod gate;
 mod kind;
 mod list;
 mod pairs;
 mod refusal;
 mod reply;
+mod values;
 
 pub use attr::{CreateAttr, Shape};
 pub use call::{Call, Verb};
+pub use check::{BPF_F_NO_COMMON_LRU, BPF_F_NO_PREALLOC, BPF_F_ZERO_SEED, check_attr};
 pub use gate::{Gate, NoGate, Point};
 pub use kind::{DomainId, MapKind, Side};
 pub use list::{Bytes, List, Numbers};
 pub use pairs::Pairs;
 pub use refusal::{Absent, CreateRefusal, Errno, Failed, Limit, NoMemory};
 pub use reply::Reply;
+pub use values::value_len;

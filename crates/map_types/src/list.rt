@@ -1,7 +1,9 @@
 //! Lists that contracts see as lists.
 
-ghost use Rattle.std.specs.Prelude.{◌≡◌, ◌==◌, length};
+ghost use Rattle.std.specs.Prelude.{◌≡◌, ◌==◌, length, IfOk};
 
+use crate::NoMemory;
+use std::alloc::Global;
 use std::marker::Model;
 
 /// A list that contracts see as its elements. It is made from a `Vec` and gives it back, and neither takes memory.
@@ -59,5 +61,16 @@ impl<T> List<T> {
         ensures { result ≡ (length self.now == 0) }
     {
         self.items.is_empty()
+    }
+}
+
+impl List<u8> {
+    /// A list of the same bytes.
+    pub fn copy(&self, alloc: Global) -> Result<List<u8>, NoMemory>
+        ensures { IfOk result (λ copy. copy ≡ self.now) }
+    {
+        Ok(List {
+            items: self.as_slice().to_vec(alloc)?,
+        })
     }
 }

@@ -1,5 +1,6 @@
 //! What a call answers where it gives nothing.
 
+use std::alloc::{AllocError, AllocFailed};
 use thiserror::Error;
 
 /// The error that a call on a map answers, as the kernel names it.
@@ -22,6 +23,22 @@ pub enum Errno {
 /// Memory for the answer was not found.
 #[derive(Clone, Copy, Debug, PartialEq, Eq)]
 pub struct NoMemory;
+
+impl From<AllocError> for NoMemory {
+    ghost from_gives = { λ _ _. Unit {0} };
+
+    fn from(_error: AllocError) -> NoMemory {
+        NoMemory
+    }
+}
+
+impl<T: Drop> From<AllocFailed<T>> for NoMemory {
+    ghost from_gives = { λ _ _. Unit {0} };
+
+    fn from(_error: AllocFailed<T>) -> NoMemory {
+        NoMemory
+    }
+}
 
 /// The key is not in the map (ENOENT).
 #[derive(Clone, Copy, Debug, PartialEq, Eq)]

@@ -1,0 +1,4 @@
+pub mod CreationLemmas
+pub mod PairLemmas
+pub mod PowerLemmas
+pub mod RoundLemmas

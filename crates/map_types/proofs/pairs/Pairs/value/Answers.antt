@@ -1,0 +1,17 @@
+use Rattle.std.proofs.Common.{◌<◌, length, ap, arith}
+use Rattle.map_types.specs.Pairs.{pair_at}
+use Rattle.map_types.proofs.PairLemmas.{length-pairs_of, value_at}
+use Rattle.map_types.proofs.pairs.Pairs.value.Goals as goal
+
+pub piece-requires-clause-within : goal.piece-requires-clause-within
+piece-requires-clause-within c =
+    let own = c.self.inside in
+    omega (arith, c.requires, length-pairs_of own.count own.key_size own.value_size own.keys.items own.values.items, ap length c.self.view_is)
+
+pub returns : goal.returns
+returns c =
+    let own = c.self.inside in
+    let within : c.args.i < own.count = omega (arith, c.requires, length-pairs_of own.count own.key_size own.value_size own.keys.items own.values.items, ap length c.self.view_is) in
+    let at = value_at own.count own.key_size own.value_size c.args.i own.keys.items own.values.items within in
+    let seen = ap (λ pairs. (pair_at pairs c.args.i).1) c.self.view_is in
+    cc
