@@ -1,13 +1,26 @@
-// A library with one function.
+//! Runs scripts of calls on maps, and prints what they answered.
 #![tactic(auto)]
 
-ghost use Rattle.std.specs.Prelude.{◌≡◌};
-ghost use Rattle.map_run.specs.Echo.{echo_of};
+mod delivery;
+mod finish;
+mod form;
+mod kept;
+mod memory;
+mod plain;
+mod reading;
+mod script;
+mod serial;
+mod sink;
+mod source;
+#[cfg(test)]
+mod tests;
+mod text;
+mod tokens;
 
-// The `ensures` clause is the contract: what `echo` returns is `echo_of` of its argument, a definition
-// in `specs/Echo.antt`, which a caller's clause can cite too.
-pub fn echo(x: usize) -> usize
-    ensures { result ≡ echo_of x }
-{
-    x
-}
+pub use finish::bpfmap;
+pub use kept::Kept;
+pub use memory::{MemSink, MemSource};
+pub use script::{Finish, GenSpec, Options, RunRecord, Script};
+pub use serial::run_serial;
+pub use sink::Sink;
+pub use source::Source;

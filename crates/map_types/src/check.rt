@@ -35,7 +35,7 @@ const MAX_POOL: u64 = 268_435_456;
 /// - `Einval`: a flag that isn't known; `BPF_F_NO_COMMON_LRU` on a kind that doesn't evict.
 /// - `BPF_F_NO_PREALLOC`: `Enotsupp` on a kind that evicts, and `Einval` on the others.
 /// - `Einval`: no entries, or keys or values of 0 bytes; `BPF_F_ZERO_SEED` with a seed that isn't 0.
-/// - `Limit`: see [`Limit`].
+/// - `Limit`: the limits, in the order of [`Limit`].
 pub fn check_attr(attr: &CreateAttr) -> Result<Shape, CreateRefusal>
     ensures exact { result ≡ creation attr.now }
     ensures shape { IfOk result IsShape }
@@ -132,7 +132,7 @@ fn shape_for(attr: &CreateAttr) -> Shape
         key_size: attr.key_size,
         value_size: attr.value_size,
         seed: attr.seed,
-        common: attr.kind.is_lru() & !own_lists,
+        common: attr.kind.is_lru() && !own_lists,
     }
 }
 

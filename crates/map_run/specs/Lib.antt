@@ -1,0 +1,14 @@
+pub mod Tokens
+pub mod Form
+pub mod Buckets
+pub mod Freelists
+pub mod Serial
+pub mod Plain
+pub mod PlainFields
+pub mod Served
+pub mod Record
+pub mod Text
+pub mod Reads
+pub mod Writes
+pub mod Memory
+pub mod Finish

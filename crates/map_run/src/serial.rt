@@ -1,0 +1,41 @@
+//! A run in serial order.
+
+ghost use Rattle.std.specs.Prelude.{◌≡◌, IfOk};
+ghost use Rattle.map_run.specs.Record.{IsRecord};
+ghost use Rattle.map_run.specs.Serial.{serial};
+ghost use Rattle.map_run.specs.Served.{IsScript, IsServed};
+
+use crate::plain::PlainMap;
+use crate::{RunRecord, Script};
+use map_types::{List, NoMemory};
+use std::alloc::Global;
+
+/// Runs the calls of a script one after another, on a new map, and keeps their replies. It fails only where memory
+/// does.
+///
+/// The script is one that was read; `bpfmap` reads it. The rules are those of the kernel's `htab_map_lookup_elem`,
+/// `htab_map_update_elem` and `htab_map_delete_elem`.
+pub fn run_serial(alloc: Global, script: &Script) -> Result<RunRecord, NoMemory>
+    requires { IsScript script.now }
+    ensures record { IfOk result (λ kept. kept ≡ serial script.now) }
+    ensures law { IfOk result (IsRecord script.now) }
+{
+    run_calls(alloc, script)
+}
+
+/// Runs the calls of a script whose run is built.
+#[tactic(auto, unfolding(crate::specs::Serial::serial))]
+fn run_calls(alloc: Global, script: &Script) -> Result<RunRecord, NoMemory>
+    requires { IsServed script.now }
+    ensures record { IfOk result (λ kept. kept ≡ serial script.now) }
+    ensures law { IfOk result (IsRecord script.now) }
+{
+    let mut map = PlainMap::open(alloc, &script.shape)?;
+    let mut replies = Vec::with_capacity(alloc, script.calls.len())?;
+    for call in script.calls.as_slice() {
+        replies.push(map.call(alloc, call)?)?;
+    }
+    Ok(RunRecord {
+        replies: List::of(replies),
+    })
+}
