@@ -1,0 +1,4 @@
+pub mod Reversed
+pub mod Keys
+pub mod Found
+pub mod Changes

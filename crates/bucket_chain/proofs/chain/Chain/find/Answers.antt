@@ -1,0 +1,14 @@
+use Rattle.std.proofs.Common.{◌≡◌, ap, sym, ◌∙◌, reverse}
+use Rattle.std.specs.Prelude.{position, Some}
+use Rattle.percpu_values.specs.BodyList.{BodyList}
+use Rattle.bucket_chain.specs.Places.{has_key}
+use Rattle.bucket_chain.proofs.Found.{key_found}
+use Rattle.bucket_chain.proofs.chain.Chain.find.Goals as goal
+
+pub returns-clause-found : goal.returns-clause-found
+returns-clause-found c =
+    let seen = ap (λ (list : BodyList). list.bodies) c.self.view_is in
+    let lies = ap reverse c.deref.ensures.value in
+    let some : position (has_key c.args.key.now) c.args.self.now.bodies ≡ Some c.in_ok-place.place =
+    sym (c.in_ok-place.ensures ∙ ap (position (has_key c.args.key.now)) (lies ∙ seen)) in
+    key_found c.args.key.now c.args.self.now.bodies c.in_ok-place.place some

@@ -1,0 +1,4 @@
+pub mod PartLemmas
+pub mod FieldLemmas
+pub mod SizeLemmas
+pub mod SideLemmas

@@ -1,0 +1,3 @@
+pub mod BodyList
+pub mod Layout
+pub mod Lending
