@@ -1,11 +1,8 @@
 pub mod BucketLemmas
 pub mod CallLemmas
-pub mod CallLines
 pub mod Io
 pub mod OpeningLemmas
 pub mod PlainLemmas
 pub mod RecordLemmas
-pub mod ReplyRoom
 pub mod ServedLemmas
-pub mod Splitting
 pub mod StackLemmas

@@ -16,7 +16,7 @@ use Rattle.map_types.specs.declared.kind.Side.TheVariants.{Prog, Sys}
 use Rattle.map_types.specs.declared.reply.Reply.{Reply}
 use Rattle.map_types.specs.declared.reply.Reply.TheVariants.{Done}
 use Rattle.map_run.specs.declared.kept.Kept.{Kept}
-use Rattle.map_run.specs.declared.script.Script.{Script}
+use Rattle.map_script.specs.declared.script.Script.{Script}
 use Rattle.map_run.specs.Buckets.{bucket_of_key, has_key, without_key, read_value}
 use Rattle.map_run.specs.Freelists.{popped}
 use Rattle.map_run.specs.Record.{MayAnswer, EachAnswered, IsRecord}

@@ -1,12 +1,22 @@
 -- How a run of the program ends: its status, what it writes, and what it keeps.
-use Rattle.std.specs.Prelude.{◌≡◌, ℕ, ◌≤◌, ◌⊎◌, Bool, false, List, [], ◌∷◌, ◌++◌, length, Option, Some, None, is_some, IsTrue, codes, bytes_eq, nat_le, if◌then◌else◌, ⊤}
-use Rattle.map_run.specs.declared.script.Finish.{Finish}
-use Rattle.map_run.specs.declared.script.Script.{Script}
-use Rattle.map_run.specs.declared.script.RunRecord.{RunRecord}
-use Rattle.map_run.specs.Form.{script_of}
+use Rattle.std.specs.Prelude.{◌≡◌, ℕ, ◌≤◌, ◌⊎◌, Bool, false, List, [], ◌∷◌, ◌++◌, length, Option, Some, None, Result, Ok, Err, IsTrue, codes, decimal, bytes_eq, nat_le, if◌then◌else◌, ⊤}
+use Rattle.map_run.specs.declared.record.Finish.{Finish}
+use Rattle.map_script.specs.declared.script.Script.{Script}
+use Rattle.map_run.specs.declared.record.RunRecord.{RunRecord}
+use Rattle.map_types.specs.declared.refusal.CreateRefusal.{CreateRefusal}
+use Rattle.map_types.specs.declared.refusal.CreateRefusal.TheVariants.{Einval, Enotsupp, Limit}
+use Rattle.map_types.specs.declared.refusal.Limit.{Limit as Bound}
+use Rattle.map_types.specs.declared.refusal.Limit.TheVariants.{Cpus, Max, Key, Value, Pool}
+use Rattle.map_script.specs.declared.refusal.Cause.{Cause}
+use Rattle.map_script.specs.declared.refusal.ScriptRefusal.{ScriptRefusal}
+use Rattle.map_script.specs.declared.refusal.ScriptRefusal.TheVariants.{Fault, Create, NoMemory}
+use Rattle.map_script.specs.declared.script.Form.TheVariants.{Calls}
+use Rattle.map_script.specs.Reading.{read_as}
+use Rattle.map_script.specs.CauseName.{cause_name}
 use Rattle.map_run.specs.Reads.{Takes, TakesAll}
 use Rattle.map_run.specs.Record.{IsRecord}
 use Rattle.map_run.specs.Serial.{serial}
+use Rattle.map_run.specs.Served.{is_built}
 use Rattle.map_run.specs.Text.{report}
 use Rattle.map_run.specs.Writes.{Written, AddsWhole, AddsPrefix}
 
@@ -20,27 +30,46 @@ pub data Ending : Type 0 where
   BadWords : Ending
   ReadFault : Ending
   TooLong : Ending
-  OutsideForm : Ending
+  Faulty : ℕ → Cause → Ending
+  Refused : CreateRefusal → Ending
+  NotBuilt : Ending
   OutOfMemory : Ending
   Ran : Script → Ending
 
 -- the status that it has
 abbrev pub status_of : Ending → ℕ
 status_of (Ran script) = 0
-status_of OutsideForm = 1
+status_of (Faulty line cause) = 1
 status_of BadWords = 2
 status_of ReadFault = 3
 status_of OutOfMemory = 5
+status_of (Refused why) = 6
 status_of TooLong = 7
+status_of NotBuilt = 8
+
+-- why a map can't be created
+abbrev pub limit_name : Bound → List ℕ
+limit_name Cpus = codes "cpus"
+limit_name Max = codes "max"
+limit_name Key = codes "key"
+limit_name Value = codes "value"
+limit_name Pool = codes "pool"
+
+abbrev pub refusal_name : CreateRefusal → List ℕ
+refusal_name Einval = codes "einval"
+refusal_name Enotsupp = codes "enotsupp"
+refusal_name (Limit limit) = codes "limit " ++ limit_name limit
 
 -- what is to be written: the report of a run in serial order, or a line
 abbrev pub text_due : Ending → List ℕ
 text_due (Ran script) = report script (serial script)
-text_due OutsideForm = codes "bpfmap: script\n"
+text_due (Faulty line cause) = codes "bpfmap: line " ++ decimal line ++ codes ": " ++ cause_name cause ++ codes "\n"
 text_due BadWords = codes "bpfmap: words\n"
 text_due ReadFault = codes "bpfmap: read\n"
 text_due OutOfMemory = codes "bpfmap: memory\n"
+text_due (Refused why) = codes "bpfmap: map refused: " ++ refusal_name why ++ codes "\n"
 text_due TooLong = codes "bpfmap: too long\n"
+text_due NotBuilt = codes "bpfmap: not built\n"
 
 -- what is kept of the run
 abbrev pub kept_of : Ending → Option RunRecord
@@ -54,12 +83,19 @@ pub record IsInput (before after : Option (List ℕ)) (input : List ℕ) : Type 
 
 -- which endings an input has that was read to its end
 abbrev pub HasInput : Ending → List ℕ → Type 0
-HasInput (Ran script) input = (script_of input ≡ Some script) × IsRecord script (serial script)
-HasInput OutsideForm input = script_of input ≡ None
+HasInput (Ran script) input = (read_as Calls input ≡ Ok script) × IsTrue (is_built script) × IsRecord script (serial script)
+HasInput (Faulty line cause) input = read_as Calls input ≡ Err (Fault line cause)
+HasInput (Refused why) input = read_as Calls input ≡ Err (Create why)
+HasInput NotBuilt input = (script : Script) × (read_as Calls input ≡ Ok script) × (is_built script ≡ false)
 HasInput OutOfMemory input = ⊤
 HasInput BadWords input = ⊥
 HasInput ReadFault input = ⊥
 HasInput TooLong input = ⊥
+
+-- the ending of an input that was read to its end
+abbrev pub HasRead : Ending → List (List ℕ) → Option (List ℕ) → Option (List ℕ) → Type 0
+HasRead ending words before after =
+    IsTrue (are_words words) × (input : List ℕ) × IsInput before after input × HasInput ending input
 
 -- When each ending comes, by the words and by what a source tells: what is left before and after, and whether its
 -- count of faults rose.
@@ -69,10 +105,10 @@ HasCause ReadFault words before after rose = IsTrue (are_words words) × rose
 HasCause TooLong words before after rose =
     IsTrue (are_words words) × (bytes : List ℕ) × Takes before after bytes × (length bytes ≡ 16777217)
 HasCause OutOfMemory words before after rose = IsTrue (are_words words)
-HasCause OutsideForm words before after rose =
-    IsTrue (are_words words) × (input : List ℕ) × IsInput before after input × HasInput OutsideForm input
-HasCause (Ran script) words before after rose =
-    IsTrue (are_words words) × (input : List ℕ) × IsInput before after input × HasInput (Ran script) input
+HasCause (Faulty line cause) words before after rose = HasRead (Faulty line cause) words before after
+HasCause (Refused why) words before after rose = HasRead (Refused why) words before after
+HasCause NotBuilt words before after rose = HasRead NotBuilt words before after
+HasCause (Ran script) words before after rose = HasRead (Ran script) words before after
 
 -- The text is written whole and flushed with the status that is due, or a prefix of it with status 4 and a fault.
 abbrev pub IsDelivered : ℕ → List ℕ → ℕ → Option Written → Option Written → Type 0 → Type 0
@@ -97,10 +133,17 @@ pub record FinishesInput (input : List ℕ) (before after : Option Written) (sin
   pub cause : HasInput ending input
   pub ends : Ends ending before after sink_rose finish
 
+-- the status of what an input is read as
+abbrev pub status_read : Result Script ScriptRefusal → ℕ
+status_read (Ok script) = if is_built script then 0 else 8
+status_read (Err (Fault line cause)) = 1
+status_read (Err (Create why)) = 6
+status_read (Err NoMemory) = 5
+
 -- the status of words and an input, where memory is found and no count of faults rises
 abbrev pub status_due : List (List ℕ) → List ℕ → ℕ
 status_due words input =
-    if are_words words then (if nat_le (length input) 16777216 then (if is_some (script_of input) then 0 else 1) else 7) else 2
+    if are_words words then (if nat_le (length input) 16777216 then status_read (read_as Calls input) else 7) else 2
 
 -- Each status has its cause: it is the one due, or a read failed, a write failed, or memory was not found.
 abbrev pub IsStatus : ℕ → ℕ → Type 0 → Type 0 → Type 0

@@ -1,5 +1,3 @@
-pub mod Tokens
-pub mod Form
 pub mod Buckets
 pub mod Freelists
 pub mod Serial

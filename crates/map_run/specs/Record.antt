@@ -11,8 +11,8 @@ use Rattle.map_types.specs.declared.refusal.Errno.{Errno}
 use Rattle.map_types.specs.declared.refusal.Errno.TheVariants.{Enoent, E2big, Eexist, Einval}
 use Rattle.map_types.specs.declared.reply.Reply.{Reply}
 use Rattle.map_types.specs.declared.reply.Reply.TheVariants.{Done, Value, Refused}
-use Rattle.map_run.specs.declared.script.Script.{Script}
-use Rattle.map_run.specs.declared.script.RunRecord.{RunRecord}
+use Rattle.map_script.specs.declared.script.Script.{Script}
+use Rattle.map_run.specs.declared.record.RunRecord.{RunRecord}
 
 -- Which error an update with these flags may answer, on a map that doesn't evict: EINVAL for flags that aren't known,
 -- EEXIST only under BPF_NOEXIST (1), ENOENT only under BPF_EXIST (2), and E2BIG only where a key may be added.

@@ -10,8 +10,8 @@ use Rattle.map_types.specs.declared.refusal.Errno.TheVariants.{Enoent, E2big, Ee
 use Rattle.map_types.specs.declared.reply.Reply.{Reply}
 use Rattle.map_types.specs.declared.reply.Reply.TheVariants.{Done, Value, Refused}
 use Rattle.map_run.specs.declared.kept.Kept.{Kept}
-use Rattle.map_run.specs.declared.script.Script.{Script}
-use Rattle.map_run.specs.declared.script.RunRecord.{RunRecord}
+use Rattle.map_script.specs.declared.script.Script.{Script}
+use Rattle.map_run.specs.declared.record.RunRecord.{RunRecord}
 use Rattle.map_run.specs.Buckets.{bucket_of_key, present, without_key, with_head, read_value}
 use Rattle.map_run.specs.Freelists.{opening_stacks, spares_popped, popped, pushed}
 

@@ -1,19 +1,42 @@
 -- The scripts whose run is built: HASH maps on one CPU, without walks and batches.
-use Rattle.std.specs.Prelude.{◌≡◌, ℕ, ◌<◌, List, length, All, Some}
+use Rattle.std.specs.Prelude.{◌≡◌, ◌<◌, ◌==◌, ◌&&◌, Bool, true, false, length, All}
+use Rattle.std.specs.List.{list_all}
 use Rattle.map_types.specs.Shape.{HasBounds}
 use Rattle.map_types.specs.ValueLen.{value_len_of}
 use Rattle.map_types.specs.declared.attr.Shape.{Shape}
 use Rattle.map_types.specs.declared.call.Call.{Call}
 use Rattle.map_types.specs.declared.call.Verb.{Verb}
-use Rattle.map_types.specs.declared.call.Verb.TheVariants.{Lookup, Update, Delete, Take}
-use Rattle.map_types.specs.declared.kind.MapKind.TheVariants.{Hash}
-use Rattle.map_run.specs.declared.script.Script.{Script}
-use Rattle.map_run.specs.Form.{script_of}
+use Rattle.map_types.specs.declared.call.Verb.TheVariants.{Lookup, Update, Delete, Take, Next, BatchRead, BatchUpdate, BatchDelete}
+use Rattle.map_types.specs.declared.kind.MapKind.{MapKind}
+use Rattle.map_types.specs.declared.kind.MapKind.TheVariants.{Hash, PercpuHash, LruHash, LruPercpuHash}
+use Rattle.map_script.specs.declared.script.Form.TheVariants.{Calls}
+use Rattle.map_script.specs.declared.script.Script.{Script}
+use Rattle.map_script.specs.Reading.{IsReadAs}
 
--- a script that the reader of the form gives
-pub record IsScript (script : Script) : Type 0 where
-  pub text : List ℕ
-  pub read : script_of text ≡ Some script
+-- a script that is read from some text, with a line for each call
+abbrev pub IsScript : Script → Type 0
+IsScript script = IsReadAs Calls script
+
+abbrev pub is_built_kind : MapKind → Bool
+is_built_kind Hash = true
+is_built_kind PercpuHash = false
+is_built_kind LruHash = false
+is_built_kind LruPercpuHash = false
+
+abbrev pub is_built_verb : Verb → Bool
+is_built_verb (Lookup side key) = true
+is_built_verb (Update side flags key value) = true
+is_built_verb (Delete key) = true
+is_built_verb (Take key) = true
+is_built_verb (Next key) = false
+is_built_verb (BatchRead remove count start flags) = false
+is_built_verb (BatchUpdate flags pairs) = false
+is_built_verb (BatchDelete flags keys) = false
+
+-- the run of the script is built
+abbrev pub is_built : Script → Bool
+is_built script =
+    is_built_kind script.shape.kind && script.shape.cpus == 1 && list_all (λ call. is_built_verb call.verb) script.calls
 
 -- the keys and values have the map's sizes
 abbrev pub IsServedVerb : Shape → Verb → Type 0
@@ -21,7 +44,10 @@ IsServedVerb shape (Lookup side key) = length key ≡ shape.key_size
 IsServedVerb shape (Update side flags key value) = (length key ≡ shape.key_size) × (length value ≡ value_len_of shape side)
 IsServedVerb shape (Delete key) = length key ≡ shape.key_size
 IsServedVerb shape (Take key) = length key ≡ shape.key_size
-IsServedVerb shape _ = ⊥
+IsServedVerb shape (Next key) = ⊥
+IsServedVerb shape (BatchRead remove count start flags) = ⊥
+IsServedVerb shape (BatchUpdate flags pairs) = ⊥
+IsServedVerb shape (BatchDelete flags keys) = ⊥
 
 pub record IsServedCall (shape : Shape) (call : Call) : Type 0 where
   pub cpu : call.cpu < shape.cpus

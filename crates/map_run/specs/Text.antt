@@ -9,8 +9,8 @@ use Rattle.map_types.specs.declared.refusal.Errno.{Errno}
 use Rattle.map_types.specs.declared.refusal.Errno.TheVariants.{Enoent, E2big, Enomem, Eexist, Einval, Enospc}
 use Rattle.map_types.specs.declared.reply.Reply.{Reply}
 use Rattle.map_types.specs.declared.reply.Reply.TheVariants.{Done, Value, Refused, Batch, Count}
-use Rattle.map_run.specs.declared.script.Script.{Script}
-use Rattle.map_run.specs.declared.script.RunRecord.{RunRecord}
+use Rattle.map_script.specs.declared.script.Script.{Script}
+use Rattle.map_run.specs.declared.record.RunRecord.{RunRecord}
 
 abbrev pub kind_name : MapKind → List ℕ
 kind_name Hash = codes "hash"

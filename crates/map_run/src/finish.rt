@@ -1,18 +1,21 @@
 //! The top call: from the words and the input to what is written.
 
-ghost use Rattle.std.specs.Prelude.{◌≡◌, ℕ, List, Some, None, false, map, IfSome, string_bytes};
-ghost use Rattle.map_run.specs.Finish.{Ending, are_words, kept_of, status_of, text_due, Ends, FinishesInput, Finishes, IsStatus, status_due};
-ghost use Rattle.map_run.specs.Form.{script_of};
+ghost use Rattle.std.specs.Prelude.{◌≡◌, ◌≤◌, ◌++◌, ℕ, List, Some, None, false, length, map, codes, decimal, IfOk, IfSome, IsTrue, string_bytes};
+ghost use Rattle.map_run.specs.Finish.{Ending, are_words, refusal_name, kept_of, status_of, text_due, Ends, FinishesInput, Finishes, IsStatus, status_due};
+ghost use Rattle.map_script.specs.CauseName.{cause_name};
+ghost use Rattle.map_script.specs.Reading.{read_as};
 ghost use Rattle.map_run.specs.Reads.{Rose};
+ghost use Rattle.map_run.specs.Served.{is_built};
 
 use crate::delivery::deliver;
-use crate::form::{FormRefusal, read_form};
 use crate::reading::{ReadStop, read_all};
 use crate::serial::run_serial;
-use crate::text::report_of;
-use crate::{Finish, Script, Sink, Source};
-use map_types::Gate;
-use std::alloc::Global;
+use crate::served::is_built;
+use crate::text::{push_labelled, report_of};
+use crate::{Finish, Sink, Source};
+use map_script::{Cause, Form, Script, ScriptRefusal, read_script};
+use map_types::{CreateRefusal, Gate, Limit};
+use std::alloc::{AllocError, Global};
 use std::sync::Wait;
 use std::thread::Threads;
 
@@ -27,11 +30,11 @@ fn are_words(words: &[String]) -> bool
 }
 
 /// Ends a run with a line.
-fn end_with_line<K: Sink>(sink: &mut K, status: u8, line: &str) -> Finish
+fn end_with_line<K: Sink>(sink: &mut K, status: u8, line: &[u8]) -> Finish
     ensures { (ending : Ending) → status_of ending ≡ status → text_due ending ≡ line.now → kept_of ending ≡ None
         → Ends ending (K.written sink.old) (K.written sink.new) (Rose (K.faults sink.old) (K.faults sink.new)) result }
 {
-    let status = match deliver(sink, line.as_bytes()) {
+    let status = match deliver(sink, line) {
         Ok(()) => status,
         Err(_) => 4,
     };
@@ -39,16 +42,17 @@ fn end_with_line<K: Sink>(sink: &mut K, status: u8, line: &str) -> Finish
 }
 
 /// Runs a script and ends with its report.
-fn end_with_run<K: Sink>(alloc: Global, script: &Script, sink: &mut K, input: &[u8]) -> Finish
-    requires { script_of input.now ≡ Some script.now }
+fn end_with_run<K: Sink>(alloc: Global, input: &[u8], script: &Script, sink: &mut K) -> Finish
+    requires read { read_as Form.Calls input.now ≡ Ok script.now }
+    requires built { IsTrue (is_built script.now) }
     ensures { FinishesInput input.now (K.written sink.old) (K.written sink.new)
         (Rose (K.faults sink.old) (K.faults sink.new)) result }
 {
     let Ok(kept) = run_serial(alloc, script) else {
-        return end_with_line(sink, 5, "bpfmap: memory\n");
+        return end_with_line(sink, 5, b"bpfmap: memory\n");
     };
     let Ok(text) = report_of(alloc, script, &kept) else {
-        return end_with_line(sink, 5, "bpfmap: memory\n");
+        return end_with_line(sink, 5, b"bpfmap: memory\n");
     };
     let status = match deliver(sink, text.as_slice()) {
         Ok(()) => 0,
@@ -60,15 +64,77 @@ fn end_with_run<K: Sink>(alloc: Global, script: &Script, sink: &mut K, input: &[
     }
 }
 
-/// Ends a run whose input was read to its end.
-fn end_with_input<K: Sink>(alloc: Global, input: &[u8], sink: &mut K) -> Finish
+/// The line of a map that can't be created.
+fn refusal_line(why: CreateRefusal) -> &'static str
+    ensures { result.now ≡ codes "bpfmap: map refused: " ++ refusal_name why ++ codes "\n" }
+{
+    match why {
+        CreateRefusal::Einval => "bpfmap: map refused: einval\n",
+        CreateRefusal::Enotsupp => "bpfmap: map refused: enotsupp\n",
+        CreateRefusal::Limit(Limit::Cpus) => "bpfmap: map refused: limit cpus\n",
+        CreateRefusal::Limit(Limit::Max) => "bpfmap: map refused: limit max\n",
+        CreateRefusal::Limit(Limit::Key) => "bpfmap: map refused: limit key\n",
+        CreateRefusal::Limit(Limit::Value) => "bpfmap: map refused: limit value\n",
+        CreateRefusal::Limit(Limit::Pool) => "bpfmap: map refused: limit pool\n",
+    }
+}
+
+/// The line of a fault of a script.
+fn fault_line(alloc: Global, line: u32, cause: Cause) -> Result<Vec<u8>, AllocError>
+    ensures { IfOk result (λ text. text.items
+        ≡ codes "bpfmap: line " ++ decimal line ++ codes ": " ++ cause_name cause ++ codes "\n") }
+{
+    let mut text = Vec::new(alloc);
+    push_labelled(&mut text, b"bpfmap: line ", line as usize)?;
+    text.extend_from_slice(b": ")?;
+    text.extend_from_slice(cause.name().as_bytes())?;
+    text.extend_from_slice(b"\n")?;
+    Ok(text)
+}
+
+/// Ends a run whose script has a fault.
+fn end_with_fault<K: Sink>(
+    alloc: Global,
+    input: &[u8],
+    sink: &mut K,
+    line: u32,
+    cause: Cause,
+) -> Finish
+    requires { read_as Form.Calls input.now ≡ Err (ScriptRefusal.Fault line cause) }
     ensures { FinishesInput input.now (K.written sink.old) (K.written sink.new)
         (Rose (K.faults sink.old) (K.faults sink.new)) result }
 {
-    match read_form(alloc, input) {
-        Ok(script) => end_with_run(alloc, &script, sink, input),
-        Err(FormRefusal::Outside) => end_with_line(sink, 1, "bpfmap: script\n"),
-        Err(FormRefusal::NoMemory) => end_with_line(sink, 5, "bpfmap: memory\n"),
+    let Ok(text) = fault_line(alloc, line, cause) else {
+        return end_with_line(sink, 5, b"bpfmap: memory\n");
+    };
+    end_with_line(sink, 1, text.as_slice())
+}
+
+/// Ends a run whose input is a script.
+fn end_with_script<K: Sink>(alloc: Global, input: &[u8], script: &Script, sink: &mut K) -> Finish
+    requires { read_as Form.Calls input.now ≡ Ok script.now }
+    ensures { FinishesInput input.now (K.written sink.old) (K.written sink.new)
+        (Rose (K.faults sink.old) (K.faults sink.new)) result }
+{
+    if !is_built(script) {
+        return end_with_line(sink, 8, b"bpfmap: not built\n");
+    }
+    end_with_run(alloc, input, script, sink)
+}
+
+/// Ends a run whose input was read to its end.
+fn end_with_input<K: Sink>(alloc: Global, input: &[u8], sink: &mut K) -> Finish
+    requires { length input.now ≤ 16777216 }
+    ensures { FinishesInput input.now (K.written sink.old) (K.written sink.new)
+        (Rose (K.faults sink.old) (K.faults sink.new)) result }
+{
+    match read_script(alloc, input, Form::Calls) {
+        Ok(script) => end_with_script(alloc, input, &script, sink),
+        Err(ScriptRefusal::Fault { line, cause }) => end_with_fault(
+            alloc, input, sink, line, cause,
+        ),
+        Err(ScriptRefusal::Create(why)) => end_with_line(sink, 6, refusal_line(why).as_bytes()),
+        Err(ScriptRefusal::NoMemory) => end_with_line(sink, 5, b"bpfmap: memory\n"),
     }
 }
 
@@ -85,30 +151,32 @@ fn end_with_words<S: Source, K: Sink>(
     ensures unread { are_words (map string_bytes words.now) ≡ false → source.new ≡ source.old }
 {
     if !are_words(words) {
-        return end_with_line(sink, 2, "bpfmap: words\n");
+        return end_with_line(sink, 2, b"bpfmap: words\n");
     }
     match read_all(alloc, source) {
         Ok(input) => end_with_input(alloc, input.as_slice(), sink),
-        Err(ReadStop::Failed) => end_with_line(sink, 3, "bpfmap: read\n"),
-        Err(ReadStop::TooLong) => end_with_line(sink, 7, "bpfmap: too long\n"),
-        Err(ReadStop::NoMemory) => end_with_line(sink, 5, "bpfmap: memory\n"),
+        Err(ReadStop::Failed) => end_with_line(sink, 3, b"bpfmap: read\n"),
+        Err(ReadStop::TooLong) => end_with_line(sink, 7, b"bpfmap: too long\n"),
+        Err(ReadStop::NoMemory) => end_with_line(sink, 5, b"bpfmap: memory\n"),
     }
 }
 
 /// Runs the program: reads a script to its end, runs it in the mode that the words name, and writes its report.
 ///
-/// The words are the program's name, which is not looked at, and `serial`. A script that is in the form is run in
-/// serial order. The status says how it ended, and what was written is the report or one line:
+/// The words are the program's name, which is not looked at, and `serial`. A script whose run is built is run in serial
+/// order. The status says how it ended, and what was written is the report or one line:
 ///
 /// | status | comes | written |
 /// |---|---|---|
 /// | 0 | the report was written and flushed | the report |
-/// | 1 | exactly where the input was read to its end and is outside the form | `bpfmap: script` |
+/// | 1 | exactly where the input was read to its end and isn't a script | `bpfmap: line N: CAUSE` |
 /// | 2 | exactly where the words are others; nothing is read | `bpfmap: words` |
 /// | 3 | only where the source's count of faults rose | `bpfmap: read` |
 /// | 4 | only where the sink's count of faults rose | a prefix of the report or the line |
 /// | 5 | memory was not found | `bpfmap: memory` |
+/// | 6 | exactly where the script's map can't be created | `bpfmap: map refused: WHY` |
 /// | 7 | exactly where 16,777,217 bytes were read | `bpfmap: too long` |
+/// | 8 | exactly where the input is a script whose run isn't built | `bpfmap: not built` |
 ///
 /// Status 4 replaces the one whose report or line could not be written.
 pub fn bpfmap<R: Threads + Wait + Sync, S: Source, K: Sink, G: Gate>(

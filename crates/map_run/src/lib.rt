@@ -3,24 +3,24 @@
 
 mod delivery;
 mod finish;
-mod form;
 mod kept;
 mod memory;
 mod plain;
 mod reading;
-mod script;
+mod record;
 mod serial;
+mod served;
 mod sink;
 mod source;
 #[cfg(test)]
 mod tests;
 mod text;
-mod tokens;
 
 pub use finish::bpfmap;
 pub use kept::Kept;
 pub use memory::{MemSink, MemSource};
-pub use script::{Finish, GenSpec, Options, RunRecord, Script};
+pub use record::{Finish, Options, RunRecord};
 pub use serial::run_serial;
+pub use served::is_built;
 pub use sink::Sink;
 pub use source::Source;

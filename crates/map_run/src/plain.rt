@@ -1,13 +1,11 @@
 //! A hash map on one CPU, as it is run in serial order.
 
-ghost use Rattle.std.specs.Prelude.{ℕ, [], List, ◌≡◌, ◌∷◌, ◌++◌, ◌<◌, ◌≤◌, IfOk, IfNone, OnOk, length, map, position, vec_len};
-ghost use Rattle.std.specs.Option.{option_copied};
-ghost use Rattle.key_hash.specs.Bucket.{IsPowerOfTwo};
+ghost use Rattle.std.specs.Prelude.{◌≡◌, ◌<◌, [], IfNone, IfOk, OnOk, length, map, position, vec_len};
+ghost use Rattle.std.specs.List.{range_with_len};
 ghost use Rattle.map_types.specs.Shape.{HasBounds};
 ghost use Rattle.map_run.specs.Buckets.{bucket_of_key, has_key, present, new_values, read_value, with_head, without_key};
-ghost use Rattle.map_run.specs.Served.{IsServedCall};
-ghost use Rattle.std.specs.List.{range_with_len};
 ghost use Rattle.map_run.specs.Serial.{bucket_at, deleted, opening, after_call, value_or_absent};
+ghost use Rattle.map_run.specs.Served.{IsServedCall};
 
 use crate::Kept;
 use key_hash::{bucket_of, jhash};
@@ -67,7 +65,9 @@ impl PlainMap {
         })
     }
 
-    /// Runs a call, and gives its answer.
+    /// Runs a call that is served, and gives its answer. Each verb's rule is that of the kernel function for it:
+    /// `__htab_map_lookup_elem`, `htab_map_update_elem`, `htab_map_delete_elem` and `htab_map_lookup_and_delete_elem`.
+    /// After an error the map is to be given up.
     #[tactic(auto, unfolding(crate::specs::Serial::after_call))]
     pub(crate) fn call(&mut self, alloc: Global, call: &Call) -> Result<Reply, NoMemory>
         requires one_cpu { self.old.shape.cpus ≡ 1 }
@@ -103,7 +103,8 @@ impl PlainMap {
         value_in(alloc, &self.buckets[number], key)
     }
 
-    /// Updates a key: the CPU's spare comes in the place of the element that held it, or a free element is added.
+    /// Updates a key. Where it is present, the spare comes in the place of the element that held it, which is the spare
+    /// then. Where it is absent, the top of the freelist is added, and the answer is `E2big` where there is none.
     fn update(
         &mut self,
         alloc: Global,
@@ -112,8 +113,8 @@ impl PlainMap {
         value: &[u8],
     ) -> Result<Reply, NoMemory>
         requires { length key.now ≡ self.old.shape.key_size }
-        ensures exact { IfOk result (λ reply.
-            (self.new.lists, reply) ≡ after_call self.old.shape 0 (Verb.Update Side.Prog flags key.now value.now) self.old.lists) }
+        ensures exact { IfOk result (λ reply. (self.new.lists, reply)
+            ≡ after_call self.old.shape 0 (Verb.Update Side.Prog flags key.now value.now) self.old.lists) }
         ensures shape { OnOk result (self.new.shape ≡ self.old.shape) }
     {
         if flags > BPF_EXIST {
@@ -144,9 +145,11 @@ impl PlainMap {
     fn delete(&mut self, key: &[u8], reply: Reply) -> Result<Reply, NoMemory>
         requires { length key.now ≡ self.old.shape.key_size }
         ensures exact { IfOk result (λ answer. (self.new.lists, answer)
-            ≡ deleted self.old.shape 0 key.now self.old.lists reply (present key.now (bucket_at self.old.shape self.old.lists key.now))) }
+            ≡ deleted self.old.shape 0 key.now self.old.lists reply
+            (present key.now (bucket_at self.old.shape self.old.lists key.now))) }
         ensures shape { OnOk result (self.new.shape ≡ self.old.shape) }
     {
+        self.freelist.reserve(1)?;
         let number = bucket_number(&self.shape, key);
         let Some(old) = take_out(&mut self.buckets[number], key) else {
             return Ok(Reply::Refused(Errno::Enoent));
@@ -171,7 +174,8 @@ impl PlainMap {
 /// So many buckets without elements.
 fn empty_buckets(alloc: Global, count: u32) -> Result<Vec<Vec<Kept>>, NoMemory>
     ensures len { IfOk result (λ buckets. vec_len buckets ≡ count) }
-    ensures empty { IfOk result (λ buckets. map (λ b. b.items) buckets.items ≡ map (λ b. []) (range_with_len 0 count)) }
+    ensures empty { IfOk result (λ buckets.
+        map (λ b. b.items) buckets.items ≡ map (λ b. []) (range_with_len 0 count)) }
 {
     let mut buckets = Vec::new(alloc);
     for _number in 0..count {
@@ -239,7 +243,8 @@ fn bytes_of(alloc: Global, bytes: &[u8]) -> Result<Bytes, NoMemory>
 
 /// An element with a copy of the key and of the value.
 fn kept_of(alloc: Global, element: u32, key: &[u8], value: &[u8]) -> Result<Kept, NoMemory>
-    ensures { IfOk result (λ kept. kept ≡ record { element = element; key = key.now; values = new_values value.now }) }
+    ensures { IfOk result (λ kept.
+        kept ≡ record { element = element; key = key.now; values = new_values value.now }) }
 {
     let key = bytes_of(alloc, key)?;
     let mut values = Vec::new(alloc);
@@ -278,7 +283,8 @@ fn replace(
 ) -> Result<Kept, NoMemory>
     requires { position (has_key key.now) bucket.old.items ≡ Some place }
     ensures old { IfOk result (λ old. present key.now bucket.old.items ≡ Some old) }
-    ensures bucket { OnOk result (bucket.new.items ≡ with_head element key.now value.now (without_key key.now bucket.old.items)) }
+    ensures bucket { OnOk result
+        (bucket.new.items ≡ with_head element key.now value.now (without_key key.now bucket.old.items)) }
 {
     put(alloc, bucket, element, key, value)?;
     Ok(bucket.remove(place + 1))

@@ -1,22 +1,24 @@
 //! A run in serial order.
 
-ghost use Rattle.std.specs.Prelude.{◌≡◌, IfOk};
+ghost use Rattle.std.specs.Prelude.{◌≡◌, IsTrue, IfOk};
 ghost use Rattle.map_run.specs.Record.{IsRecord};
 ghost use Rattle.map_run.specs.Serial.{serial};
-ghost use Rattle.map_run.specs.Served.{IsScript, IsServed};
+ghost use Rattle.map_run.specs.Served.{is_built, IsScript, IsServed};
 
+use crate::RunRecord;
 use crate::plain::PlainMap;
-use crate::{RunRecord, Script};
+use map_script::Script;
 use map_types::{List, NoMemory};
 use std::alloc::Global;
 
 /// Runs the calls of a script one after another, on a new map, and keeps their replies. It fails only where memory
 /// does.
 ///
-/// The script is one that was read; `bpfmap` reads it. The rules are those of the kernel's `htab_map_lookup_elem`,
+/// The script is one that `read_script` gives, and its run is built. The rules are those of the kernel's `htab_map_lookup_elem`,
 /// `htab_map_update_elem` and `htab_map_delete_elem`.
 pub fn run_serial(alloc: Global, script: &Script) -> Result<RunRecord, NoMemory>
-    requires { IsScript script.now }
+    requires script { IsScript script.now }
+    requires built { IsTrue (is_built script.now) }
     ensures record { IfOk result (λ kept. kept ≡ serial script.now) }
     ensures law { IfOk result (IsRecord script.now) }
 {

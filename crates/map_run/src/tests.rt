@@ -81,14 +81,23 @@ fn scripts_are_run(rt: HostRuntime) -> Result<(), Fail> {
     assert_eq!(rt; left.status, 0);
     assert_eq!(rt; left.kept, Some(4));
 
-    // A full map refuses a new key, and its spare takes a present one.
-    let full =
-        b"bpfmap 1\nmap hash key 1 value 1 max 1 cpus 1\n0 update any 01 aa\n0 update any 02 bb\n0 update any 01 cc\n0 lookup 01";
-    let left = run(&rt, alloc, "serial", full.to_vec(alloc)?, NO_FAULTS)?;
-    let report: &[u8] =
-        b"map hash capacity 1 elements 2 buckets 1\n1 ok\n2 e2big\n3 ok\n4 ok cc\nend\n";
-    assert_eq!(rt; left.sink.written(), report);
-    assert_eq!(rt; left.status, 0);
+    // A full map refuses a new key, and its spare takes a present one. Flags are refused in their order.
+    for (script, report) in [
+        (
+            "map hash key 1 value 1 max 1 cpus 1\n0 update any 01 aa\n0 update any 02 bb\n0 update any 01 cc\n0 lookup 01",
+            "map hash capacity 1 elements 2 buckets 1\n1 ok\n2 e2big\n3 ok\n4 ok cc\nend\n",
+        ),
+        (
+            "map hash key 1 value 1 max 2 cpus 1\n0 update exist 01 aa\n0 update noexist 01 aa\n0 update noexist 01 bb\n0 sysupdate exist 01 cc\n0 update 3 01 dd\n0 update 4 02 dd\n0 syslookup 01\n0 take 01\n0 take 01\n",
+            "map hash capacity 2 elements 3 buckets 2\n1 enoent\n2 ok\n3 eexist\n4 ok\n5 einval\n6 einval\n7 ok cc\n8 ok cc\n9 enoent\nend\n",
+        ),
+    ] {
+        let script = format!(in alloc; "bpfmap 1\n{script}")?;
+        let input = script.as_bytes().to_vec(alloc)?;
+        let left = run(&rt, alloc, "serial", input, NO_FAULTS)?;
+        assert_eq!(rt; left.sink.written(), report.as_bytes());
+        assert_eq!(rt; left.status, 0);
+    }
     Ok(())
 }
 
@@ -107,9 +116,40 @@ fn other_words_read_nothing(rt: HostRuntime) -> Result<(), Fail> {
 #[test]
 fn inputs_have_their_status(rt: HostRuntime) -> Result<(), Fail> {
     let alloc = rt.alloc();
-    let left = run(&rt, alloc, "serial", Vec::new(alloc), NO_FAULTS)?;
-    assert_eq!(rt; left.sink.written(), b"bpfmap: script\n".as_slice());
-    assert_eq!(rt; (left.status, left.kept), (1, None));
+    for (input, line, status) in [
+        ("", "bpfmap: line 1: version\n", 1),
+        ("bpfmap 1\nmap hash key 2\n", "bpfmap: line 2: map\n", 1),
+        (
+            "bpfmap 1\nmap hash key 2 value 1 max 1 cpus 1\n0 lookup 010\n",
+            "bpfmap: line 3: length\n",
+            1,
+        ),
+        (
+            "bpfmap 1\nmap lru_hash key 1 value 1 max 1 cpus 1 flags 1\n0 frob\n",
+            "bpfmap: map refused: enotsupp\n",
+            6,
+        ),
+        (
+            "bpfmap 1\nmap hash key 8 value 4096 max 65536 cpus 1\n",
+            "bpfmap: map refused: limit pool\n",
+            6,
+        ),
+        (
+            "bpfmap 1\nmap lru_hash key 1 value 1 max 65536 cpus 1\n",
+            "bpfmap: not built\n",
+            8,
+        ),
+        (
+            "bpfmap 1\nmap hash key 1 value 1 max 1 cpus 1\n0 next\n",
+            "bpfmap: not built\n",
+            8,
+        ),
+    ] {
+        let input = input.as_bytes().to_vec(alloc)?;
+        let left = run(&rt, alloc, "serial", input, NO_FAULTS)?;
+        assert_eq!(rt; left.sink.written(), line.as_bytes());
+        assert_eq!(rt; (left.status, left.kept), (status, None));
+    }
 
     let whole = Faults {
         piece_limit: u32::MAX,
@@ -122,7 +162,10 @@ fn inputs_have_their_status(rt: HostRuntime) -> Result<(), Fail> {
         vec![in alloc; b'#'; 16_777_216]?,
         whole,
     )?;
-    assert_eq!(rt; left.sink.written(), b"bpfmap: script\n".as_slice());
+    assert_eq!(rt;
+        left.sink.written(),
+        b"bpfmap: line 1: version\n".as_slice()
+    );
     assert_eq!(rt; (left.status, left.unread), (1, 0));
 
     let left = run(

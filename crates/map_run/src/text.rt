@@ -1,11 +1,12 @@
 //! The text of a report.
 
-ghost use Rattle.std.specs.Prelude.{◌≡◌, ◌++◌, IfOk, OnOk, decimal, codes};
+ghost use Rattle.std.specs.Prelude.{◌≡◌, ◌++◌, IfOk, OnOk, codes, decimal};
 ghost use Rattle.std.specs.List.{flat_map};
 ghost use Rattle.hex.specs.Hex.{encode_lower};
-ghost use Rattle.map_run.specs.Text.{errno_name, kind_name, map_line, reply_lines, reply_text, report, stop_name, pair_text};
+ghost use Rattle.map_run.specs.Text.{errno_name, kind_name, map_line, pair_text, reply_lines, reply_text, report, stop_name};
 
-use crate::{RunRecord, Script};
+use crate::RunRecord;
+use map_script::Script;
 use map_types::{Errno, MapKind, NoMemory, Pairs, Reply, Shape};
 use std::alloc::{AllocError, Global};
 use std::io::Write;
@@ -51,7 +52,8 @@ fn push_reply_lines(text: &mut Vec<u8>, replies: &[Reply]) -> Result<(), AllocEr
 
 /// Adds `NUMBER REPLY`.
 fn push_reply_line(text: &mut Vec<u8>, number: usize, reply: &Reply) -> Result<(), AllocError>
-    ensures { OnOk result (text.new.items ≡ text.old.items ++ decimal number ++ codes " " ++ reply_text reply.now ++ codes "\n") }
+    ensures { OnOk result
+        (text.new.items ≡ text.old.items ++ decimal number ++ codes " " ++ reply_text reply.now ++ codes "\n") }
 {
     push_number(text, number)?;
     text.extend_from_slice(b" ")?;
@@ -82,7 +84,8 @@ fn push_batch(
     taken: &Pairs,
     next: u32,
 ) -> Result<(), AllocError>
-    ensures { OnOk result (text.new.items ≡ text.old.items ++ reply_text (Reply.Batch stop taken.now next)) }
+    ensures { OnOk result
+        (text.new.items ≡ text.old.items ++ reply_text (Reply.Batch stop taken.now next)) }
 {
     text.extend_from_slice(stop_name(stop).as_bytes())?;
     push_labelled(text, b" taken ", taken.len())?;
@@ -102,7 +105,11 @@ fn push_pairs(text: &mut Vec<u8>, pairs: &Pairs) -> Result<(), AllocError>
 }
 
 /// Adds a label and a number in decimal digits.
-fn push_labelled(text: &mut Vec<u8>, label: &[u8], number: usize) -> Result<(), AllocError>
+pub(crate) fn push_labelled(
+    text: &mut Vec<u8>,
+    label: &[u8],
+    number: usize,
+) -> Result<(), AllocError>
     ensures { OnOk result (text.new.items ≡ text.old.items ++ label.now ++ decimal number) }
 {
     text.extend_from_slice(label)?;

@@ -22,7 +22,7 @@ returns g c =
     let whole : c.as_slice.result.now ≡ report c.args.script.now (serial c.args.script.now) = c.as_slice.ensures.value ∙ text_is in
     record {
       ending = Ran c.args.script.now;
-      cause = (c.requires, subst (λ kept. IsRecord c.args.script.now kept) kept_is c.in-Ok.ensures.law);
+      cause = (c.requires.read, c.requires.built, subst (λ kept. IsRecord c.args.script.now kept) kept_is c.in-Ok.ensures.law);
       ends = record {
         kept = ap Some kept_is;
         delivered = elim c.match-deliver.branch [

@@ -1,4 +1,4 @@
-use Rattle.std.proofs.Common.{refl, ap, sym, ◌∙◌, rules, Err}
+use Rattle.std.proofs.Common.{refl, ap, rules, Err}
 use Rattle.map_run.specs.Finish.{BadWords, ReadFault, TooLong, OutOfMemory}
 use Rattle.map_run.proofs.finish.end_with_words.Goals as goal
 

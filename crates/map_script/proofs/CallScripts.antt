@@ -1,0 +1,322 @@
+-- What a script that form Calls gives is like: its numbers, its keys and values, and its limits.
+use Rattle.std.proofs.Common.{◌≡◌, ℕ, ◌+◌, ◌<◌, ◌≤◌, Bool, true, false, nat_lt, nat_le, cond, List, [], ◌∷◌, Option, Some, None, Result, Ok, Err, refl, subst, arith}
+use Rattle.std.specs.Prelude.{IfSome, IfOk, bytes_eq, codes}
+use Rattle.std.specs.Option.{ok_or}
+use Rattle.std.proofs.lemmas.Bool.{cond_both, ltb-true, leb-true}
+use Rattle.map_types.specs.Creation.{creation}
+use Rattle.map_types.specs.ValueLen.{value_len_of}
+use Rattle.map_types.specs.declared.attr.CreateAttr.{CreateAttr}
+use Rattle.map_types.specs.declared.attr.Shape.{Shape}
+use Rattle.map_types.specs.declared.call.Call.{Call}
+use Rattle.map_types.specs.declared.call.Verb.{Verb}
+use Rattle.map_types.specs.declared.call.Verb.TheVariants.{Lookup, Update, Delete, Take, Next, BatchRead, BatchUpdate, BatchDelete}
+use Rattle.map_types.specs.declared.kind.Side.{Side}
+use Rattle.map_types.specs.declared.kind.Side.TheVariants.{Prog, Sys}
+use Rattle.map_types.specs.declared.refusal.CreateRefusal.{CreateRefusal}
+use Rattle.map_script.specs.declared.refusal.Cause.{Cause}
+use Rattle.map_script.specs.declared.refusal.Cause.TheVariants as causes
+use Rattle.map_script.specs.declared.refusal.ScriptRefusal.{ScriptRefusal}
+use Rattle.map_script.specs.declared.script.Form.TheVariants as forms
+use Rattle.map_script.specs.declared.script.Script.{Script}
+use Rattle.map_script.specs.Grammar.{kind_of, version_line, map_line, map_attr, call_line, call_on, verb_line, lookup_places, update_places, delete_places, take_places, next_places, batch_read_places, batch_update_places, batch_delete_places, pairs_to_end, keys_to_end, reply_bytes}
+use Rattle.map_script.specs.Lines.{Line, lines_of, end_number}
+use Rattle.map_script.specs.Places.{◌>>=◌, Tokens, valued, at_end, number, cpu, start, start_of, flag, flag_of, bytes, bytes_in, labelled, if_labelled, number_or_end, word, instead}
+use Rattle.map_script.specs.Reading.{at_line, or_fault, or_create, call_within, calls_of, body_of, map_of, version_of, read_as, script_of}
+use Rattle.map_script.specs.Tokens.{number_of}
+use Rattle.map_script.proofs.TokenValues.{IsNumber, IsStart, AreBytes, number_of_gives, flag_of_gives, start_of_gives, bytes_in_gives}
+
+-- ---- what is known of each part
+
+abbrev pub ArePairs : Shape → List (List ℕ × List ℕ) → Type 0
+ArePairs shape [] = Unit {0}
+ArePairs shape (pair ∷ pairs) =
+    AreBytes shape.key_size pair.0 × AreBytes (value_len_of shape Sys) pair.1 × ArePairs shape pairs
+
+abbrev pub AreKeys : Shape → List (List ℕ) → Type 0
+AreKeys shape [] = Unit {0}
+AreKeys shape (key ∷ keys) = AreBytes shape.key_size key × AreKeys shape keys
+
+abbrev pub IsVerb : Shape → Verb → Type 0
+IsVerb shape (Lookup side key) = AreBytes shape.key_size key
+IsVerb shape (Update side flags key value) =
+    IsNumber flags × AreBytes shape.key_size key × AreBytes (value_len_of shape side) value
+IsVerb shape (Delete key) = AreBytes shape.key_size key
+IsVerb shape (Take key) = AreBytes shape.key_size key
+IsVerb shape (Next key) = IfSome key (AreBytes shape.key_size)
+IsVerb shape (BatchRead remove count start flags) = IsNumber count × IsStart start × IsNumber flags
+IsVerb shape (BatchUpdate flags pairs) = IsNumber flags × ArePairs shape pairs
+IsVerb shape (BatchDelete flags keys) = IsNumber flags × AreKeys shape keys
+
+pub record IsCall (shape : Shape) (call : Call) : Type 0 where
+  pub on : IsNumber call.cpu
+  pub one_of : call.cpu < shape.cpus
+  pub does : IsVerb shape call.verb
+
+pub record IsAttr (attr : CreateAttr) : Type 0 where
+  pub key : IsNumber attr.key_size
+  pub value : IsNumber attr.value_size
+  pub max : IsNumber attr.max_entries
+  pub cpus : IsNumber attr.cpus
+  pub flags : IsNumber attr.flags
+  pub seed : IsNumber attr.seed
+
+-- calls behind so many calls whose replies may have so many bytes
+abbrev pub AreCalls : Shape → ℕ → ℕ → List Call → Type 0
+AreCalls shape count room [] = Unit {0}
+AreCalls shape count room (call ∷ calls) =
+    IsCall shape call × (count < 200000) × (room + reply_bytes shape call.verb ≤ 67108864)
+    × AreCalls shape (count + 1) (room + reply_bytes shape call.verb) calls
+
+pub record IsCallScript (script : Script) : Type 0 where
+  pub numbers : IsAttr script.attr
+  pub created : creation script.attr ≡ Ok script.shape
+  pub calls : AreCalls script.shape 0 0 script.calls
+  pub no_spec : script.spec ≡ None
+
+-- ---- one step behind another
+
+and_then : {A B E : Type 0} (P : A → Type 0) (Q : B → Type 0) (r : Result A E) (next : A → Result B E) → IfOk r P → ((a : A) → P a → IfOk (next a) Q) → IfOk (r >>= next) Q
+and_then P Q (Ok a) next h k = k a h
+and_then P Q (Err e) next h k = tt
+
+-- where nothing is told of the first step
+and_any : {A B E : Type 0} (Q : B → Type 0) (r : Result A E) (next : A → Result B E) → ((a : A) → IfOk (next a) Q) → IfOk (r >>= next) Q
+and_any Q (Ok a) next k = k a
+and_any Q (Err e) next k = tt
+
+-- ---- the places
+
+-- what is known of the value that is found
+abbrev Found : {A : Type 0} → (A → Type 0) → A × Tokens → Type 0
+Found P found = P found.0
+
+valued_gives : {A : Type 0} (cause : Cause) (value : List ℕ → Option A) (P : A → Type 0) → ((token : List ℕ) → IfSome (value token) P) → (tokens : Tokens) → IfOk (valued cause value tokens) (Found P)
+valued_gives cause value P gives [] = tt
+valued_gives {A} cause value P gives (first ∷ rest) = go (value first) (gives first)
+  where
+    go : (o : Option A) → IfSome o P → IfOk (ok_or o cause >>= (λ found. Ok (found, rest))) (Found P)
+    go None h = tt
+    go (Some a) h = h
+
+number_gives : (tokens : Tokens) → IfOk (number tokens) (Found IsNumber)
+number_gives tokens = valued_gives causes.Number number_of IsNumber number_of_gives tokens
+
+start_gives : (tokens : Tokens) → IfOk (start tokens) (Found IsStart)
+start_gives tokens = valued_gives causes.Number start_of IsStart start_of_gives tokens
+
+flag_gives : (tokens : Tokens) → IfOk (flag tokens) (Found IsNumber)
+flag_gives tokens = valued_gives causes.Flag flag_of IsNumber flag_of_gives tokens
+
+bytes_gives : (size : ℕ) (tokens : Tokens) → IfOk (bytes size tokens) (Found (AreBytes size))
+bytes_gives size [] = tt
+bytes_gives size (first ∷ rest) =
+    and_then (AreBytes size) (Found (AreBytes size)) (bytes_in size first) (λ found. Ok (found, rest)) (bytes_in_gives size first) (λ found h. h)
+
+abbrev IsCpu : ℕ → ℕ → Type 0
+IsCpu cpus on = IsNumber on × (on < cpus)
+
+cpu_gives : (cpus : ℕ) (tokens : Tokens) → IfOk (cpu cpus tokens) (Found (IsCpu cpus))
+cpu_gives cpus tokens =
+    and_then (Found IsNumber) (Found (IsCpu cpus)) (number tokens) _ (number_gives tokens) (λ found is.
+    cond_both (nat_lt found.0 cpus) (Ok found) (Err causes.Cpu) (λ r. IfOk r (Found (IsCpu cpus)))
+    (λ below. (is, ltb-true found.0 cpus below)) (λ above. tt))
+
+labelled_gives : (label : List ℕ) (tokens : Tokens) → IfOk (labelled label tokens) (Found IsNumber)
+labelled_gives label tokens =
+    and_any (Found IsNumber) (word causes.Missing label tokens) _ (λ found. number_gives found.1)
+
+zero_number : IsNumber 0
+zero_number = omega arith
+
+if_labelled_gives : (label : List ℕ) (tokens : Tokens) → IfOk (if_labelled label tokens) (Found IsNumber)
+if_labelled_gives label [] = zero_number
+if_labelled_gives label (first ∷ rest) =
+    cond_both (bytes_eq first label) (number rest) (Ok (0, first ∷ rest)) (λ r. IfOk r (Found IsNumber)) (λ same. number_gives rest) (λ other. zero_number)
+
+number_or_end_gives : (tokens : Tokens) → IfOk (number_or_end tokens) (Found IsNumber)
+number_or_end_gives [] = zero_number
+number_or_end_gives (first ∷ rest) = number_gives (first ∷ rest)
+
+end_gives : {A : Type 0} (P : A → Type 0) (value : A) (tokens : Tokens) → P value → IfOk (at_end value tokens) P
+end_gives P value [] h = h
+end_gives P value (first ∷ rest) h = tt
+
+-- ---- the verbs
+
+lookup_gives : (shape : Shape) (side : Side) (places : Tokens) → IfOk (lookup_places shape side places) (IsVerb shape)
+unfolding lookup_places
+lookup_gives shape side places =
+    and_then (Found (AreBytes shape.key_size)) (IsVerb shape) (bytes shape.key_size places) _ (bytes_gives shape.key_size places) (λ key key_is.
+    end_gives (IsVerb shape) (Lookup side key.0) key.1 key_is)
+
+update_gives : (shape : Shape) (side : Side) (places : Tokens) → IfOk (update_places shape side places) (IsVerb shape)
+unfolding update_places
+update_gives shape side places =
+    and_then (Found IsNumber) (IsVerb shape) (flag places) _ (flag_gives places) (λ flags flags_is.
+    and_then (Found (AreBytes shape.key_size)) (IsVerb shape) (bytes shape.key_size flags.1) _ (bytes_gives shape.key_size flags.1) (λ key key_is.
+    and_then (Found (AreBytes (value_len_of shape side))) (IsVerb shape) (bytes (value_len_of shape side) key.1) _ (bytes_gives (value_len_of shape side) key.1) (λ value value_is.
+    end_gives (IsVerb shape) (Update side flags.0 key.0 value.0) value.1 (flags_is, key_is, value_is))))
+
+delete_gives : (shape : Shape) (places : Tokens) → IfOk (delete_places shape places) (IsVerb shape)
+unfolding delete_places
+delete_gives shape places =
+    and_then (Found (AreBytes shape.key_size)) (IsVerb shape) (bytes shape.key_size places) _ (bytes_gives shape.key_size places) (λ key key_is.
+    end_gives (IsVerb shape) (Delete key.0) key.1 key_is)
+
+take_gives : (shape : Shape) (places : Tokens) → IfOk (take_places shape places) (IsVerb shape)
+unfolding take_places
+take_gives shape places =
+    and_then (Found (AreBytes shape.key_size)) (IsVerb shape) (bytes shape.key_size places) _ (bytes_gives shape.key_size places) (λ key key_is.
+    end_gives (IsVerb shape) (Take key.0) key.1 key_is)
+
+next_gives : (shape : Shape) (places : Tokens) → IfOk (next_places shape places) (IsVerb shape)
+unfolding next_places
+next_gives shape [] = tt
+next_gives shape (first ∷ rest) =
+    and_then (Found (AreBytes shape.key_size)) (IsVerb shape) (bytes shape.key_size (first ∷ rest)) _ (bytes_gives shape.key_size (first ∷ rest)) (λ key key_is.
+    end_gives (IsVerb shape) (Next (Some key.0)) key.1 key_is)
+
+batch_read_gives : (shape : Shape) (remove : Bool) (places : Tokens) → IfOk (batch_read_places remove places) (IsVerb shape)
+unfolding batch_read_places
+batch_read_gives shape remove places =
+    and_then (Found IsNumber) (IsVerb shape) (number places) _ (number_gives places) (λ count count_is.
+    and_then (Found IsStart) (IsVerb shape) (start count.1) _ (start_gives count.1) (λ begin begin_is.
+    and_then (Found IsNumber) (IsVerb shape) (number_or_end begin.1) _ (number_or_end_gives begin.1) (λ flags flags_is.
+    end_gives (IsVerb shape) (BatchRead remove count.0 begin.0 flags.0) flags.1 (count_is, begin_is, flags_is))))
+
+pairs_give : (shape : Shape) (tokens : Tokens) → IfOk (pairs_to_end shape tokens) (ArePairs shape)
+pairs_give shape [] = tt
+pairs_give shape (first ∷ []) =
+    and_any (ArePairs shape) (bytes_in shape.key_size first) (λ key. Err causes.Missing) (λ key. tt)
+pairs_give shape (first ∷ second ∷ rest) =
+    let others = pairs_give shape rest in
+    and_then (AreBytes shape.key_size) (ArePairs shape) (bytes_in shape.key_size first) _ (bytes_in_gives shape.key_size first) (λ key key_is.
+    and_then (AreBytes (value_len_of shape Sys)) (ArePairs shape) (bytes_in (value_len_of shape Sys) second) _ (bytes_in_gives (value_len_of shape Sys) second) (λ value value_is.
+    and_then (ArePairs shape) (ArePairs shape) (pairs_to_end shape rest) (λ pairs. Ok ((key, value) ∷ pairs)) others (λ pairs pairs_are. (key_is, value_is, pairs_are))))
+
+keys_give : (shape : Shape) (tokens : Tokens) → IfOk (keys_to_end shape tokens) (AreKeys shape)
+keys_give shape [] = tt
+keys_give shape (first ∷ rest) =
+    let others = keys_give shape rest in
+    and_then (AreBytes shape.key_size) (AreKeys shape) (bytes_in shape.key_size first) _ (bytes_in_gives shape.key_size first) (λ key key_is.
+    and_then (AreKeys shape) (AreKeys shape) (keys_to_end shape rest) (λ keys. Ok (key ∷ keys)) others (λ keys keys_are. (key_is, keys_are)))
+
+batch_update_gives : (shape : Shape) (places : Tokens) → IfOk (batch_update_places shape places) (IsVerb shape)
+unfolding batch_update_places
+batch_update_gives shape places =
+    and_then (Found IsNumber) (IsVerb shape) (number places) _ (number_gives places) (λ flags flags_is.
+    and_then (ArePairs shape) (IsVerb shape) (pairs_to_end shape flags.1) (λ pairs. Ok (BatchUpdate flags.0 pairs)) (pairs_give shape flags.1) (λ pairs pairs_are. (flags_is, pairs_are)))
+
+batch_delete_gives : (shape : Shape) (places : Tokens) → IfOk (batch_delete_places shape places) (IsVerb shape)
+unfolding batch_delete_places
+batch_delete_gives shape places =
+    and_then (Found IsNumber) (IsVerb shape) (number places) _ (number_gives places) (λ flags flags_is.
+    and_then (AreKeys shape) (IsVerb shape) (keys_to_end shape flags.1) (λ keys. Ok (BatchDelete flags.0 keys)) (keys_give shape flags.1) (λ keys keys_are. (flags_is, keys_are)))
+
+-- ---- the lines
+
+either : (shape : Shape) (test : Bool) (one other : Result Verb Cause) → IfOk one (IsVerb shape) → IfOk other (IsVerb shape) → IfOk (cond test one other) (IsVerb shape)
+either shape true one other is other_is = is
+either shape false one other is other_is = other_is
+
+verb_gives : (shape : Shape) (tokens : Tokens) → IfOk (verb_line shape tokens) (IsVerb shape)
+unfolding verb_line
+verb_gives shape [] = tt
+verb_gives shape (name ∷ places) =
+    either shape (bytes_eq name (codes "lookup")) _ _ (lookup_gives shape Prog places)
+    (either shape (bytes_eq name (codes "syslookup")) _ _ (lookup_gives shape Sys places)
+    (either shape (bytes_eq name (codes "update")) _ _ (update_gives shape Prog places)
+    (either shape (bytes_eq name (codes "sysupdate")) _ _ (update_gives shape Sys places)
+    (either shape (bytes_eq name (codes "delete")) _ _ (delete_gives shape places)
+    (either shape (bytes_eq name (codes "take")) _ _ (take_gives shape places)
+    (either shape (bytes_eq name (codes "next")) _ _ (next_gives shape places)
+    (either shape (bytes_eq name (codes "batch_lookup")) _ _ (batch_read_gives shape false places)
+    (either shape (bytes_eq name (codes "batch_take")) _ _ (batch_read_gives shape true places)
+    (either shape (bytes_eq name (codes "batch_update")) _ _ (batch_update_gives shape places)
+    (either shape (bytes_eq name (codes "batch_delete")) _ (Err causes.Verb) (batch_delete_gives shape places) tt))))))))))
+
+call_gives : (shape : Shape) (tokens : Tokens) → IfOk (call_line shape tokens) (IsCall shape)
+unfolding call_line
+call_gives shape tokens =
+    and_then (Found (IsCpu shape.cpus)) (IsCall shape) (cpu shape.cpus tokens) _ (cpu_gives shape.cpus tokens) (λ on on_is.
+    and_then (IsVerb shape) (IsCall shape) (verb_line shape on.1) (λ verb. Ok (call_on on.0 verb)) (verb_gives shape on.1) (λ verb verb_is.
+    record { on = on_is.0; one_of = on_is.1; does = verb_is }))
+
+instead_gives : {A : Type 0} (P : A → Type 0) (cause : Cause) (r : Result A Cause) → IfOk r P → IfOk (instead cause r) P
+instead_gives P cause (Ok a) h = h
+instead_gives P cause (Err e) h = tt
+
+map_gives : (tokens : Tokens) → IfOk (map_line tokens) IsAttr
+unfolding map_line
+map_gives tokens =
+    instead_gives IsAttr causes.Map _ (
+    and_any IsAttr (word causes.Map (codes "map") tokens) _ (λ name.
+    and_any IsAttr (valued causes.Map kind_of name.1) _ (λ kind.
+    and_then (Found IsNumber) IsAttr (labelled (codes "key") kind.1) _ (labelled_gives (codes "key") kind.1) (λ key key_is.
+    and_then (Found IsNumber) IsAttr (labelled (codes "value") key.1) _ (labelled_gives (codes "value") key.1) (λ value value_is.
+    and_then (Found IsNumber) IsAttr (labelled (codes "max") value.1) _ (labelled_gives (codes "max") value.1) (λ max max_is.
+    and_then (Found IsNumber) IsAttr (labelled (codes "cpus") max.1) _ (labelled_gives (codes "cpus") max.1) (λ cpus cpus_is.
+    and_then (Found IsNumber) IsAttr (if_labelled (codes "flags") cpus.1) _ (if_labelled_gives (codes "flags") cpus.1) (λ flags flags_is.
+    and_then (Found IsNumber) IsAttr (if_labelled (codes "seed") flags.1) _ (if_labelled_gives (codes "seed") flags.1) (λ seed seed_is.
+    end_gives IsAttr (map_attr kind.0 key.0 value.0 max.0 cpus.0 flags.0 seed.0) seed.1
+    record { key = key_is; value = value_is; max = max_is; cpus = cpus_is; flags = flags_is; seed = seed_is })))))))))
+
+-- ---- the script
+
+fault_gives : {A : Type 0} (P : A → Type 0) (at : ℕ) (r : Result A Cause) → IfOk r P → IfOk (or_fault at r) P
+fault_gives P at (Ok a) h = h
+fault_gives P at (Err e) h = tt
+
+at_line_gives : {A : Type 0} (P : A → Type 0) (line : Line) (reading : Tokens → Result A Cause) → ((tokens : Tokens) → IfOk (reading tokens) P) → IfOk (at_line line reading) P
+at_line_gives P line reading gives = fault_gives P line.number _ (and_any P line.says reading gives)
+
+abbrev IsCallWithin : Shape → ℕ → ℕ → Call → Type 0
+IsCallWithin shape count room call =
+    IsCall shape call × (count < 200000) × (room + reply_bytes shape call.verb ≤ 67108864)
+
+within_gives : (shape : Shape) (count room : ℕ) (tokens : Tokens) → IfOk (call_within shape count room tokens) (IsCallWithin shape count room)
+within_gives shape count room tokens =
+    let P = IsCallWithin shape count room in
+    and_then (IsCall shape) P (call_line shape tokens) _ (call_gives shape tokens) (λ call call_is.
+    cond_both (nat_lt count 200000) _ _ (λ r. IfOk r P)
+    (λ few. cond_both (nat_le (room + reply_bytes shape call.verb) 67108864) _ _ (λ r. IfOk r P)
+    (λ fits. (call_is, ltb-true count 200000 few, leb-true (room + reply_bytes shape call.verb) 67108864 fits)) (λ long. tt))
+    (λ many. tt))
+
+calls_give : (shape : Shape) (count room : ℕ) (lines : List Line) → IfOk (calls_of shape count room lines) (AreCalls shape count room)
+calls_give shape count room [] = tt
+calls_give shape count room (line ∷ lines) =
+    and_then (IsCallWithin shape count room) (AreCalls shape count room) (at_line line (call_within shape count room)) _ (at_line_gives (IsCallWithin shape count room) line (call_within shape count room) (within_gives shape count room)) (λ call call_is.
+    and_then (AreCalls shape (count + 1) (room + reply_bytes shape call.verb)) (AreCalls shape count room) (calls_of shape (count + 1) (room + reply_bytes shape call.verb) lines) (λ calls. Ok (call ∷ calls)) (calls_give shape (count + 1) (room + reply_bytes shape call.verb) lines) (λ calls calls_are.
+    (call_is.0, call_is.1, call_is.2, calls_are)))
+
+create_gives : (r : Result Shape CreateRefusal) → IfOk (or_create r) (λ shape. r ≡ Ok shape)
+create_gives (Ok shape) = refl
+create_gives (Err refusal) = tt
+
+body_gives : (attr : CreateAttr) (shape : Shape) (end : ℕ) (lines : List Line) → IsAttr attr → creation attr ≡ Ok shape → IfOk (body_of forms.Calls attr shape end lines) IsCallScript
+unfolding body_of
+body_gives attr shape end lines numbers created =
+    and_then (AreCalls shape 0 0) IsCallScript (calls_of shape 0 0 lines) (λ calls. Ok (script_of attr shape calls None)) (calls_give shape 0 0 lines) (λ calls calls_are.
+    record { numbers = numbers; created = created; calls = calls_are; no_spec = refl })
+
+map_of_gives : (end : ℕ) (lines : List Line) → IfOk (map_of forms.Calls end lines) IsCallScript
+unfolding map_of
+map_of_gives end [] = tt
+map_of_gives end (line ∷ lines) =
+    and_then IsAttr IsCallScript (at_line line map_line) _ (at_line_gives IsAttr line map_line map_gives) (λ attr numbers.
+    and_then (λ shape. creation attr ≡ Ok shape) IsCallScript (or_create (creation attr)) _ (create_gives (creation attr)) (λ shape created.
+    body_gives attr shape end lines numbers created))
+
+version_of_gives : (end : ℕ) (lines : List Line) → IfOk (version_of forms.Calls end lines) IsCallScript
+unfolding version_of
+version_of_gives end [] = tt
+version_of_gives end (line ∷ lines) =
+    and_any IsCallScript (at_line line version_line) _ (λ version. map_of_gives end lines)
+
+-- what is known of each script that form Calls gives
+pub script_gives : (given : List ℕ) (script : Script) → read_as forms.Calls given ≡ Ok script → IsCallScript script
+unfolding read_as
+script_gives given script read =
+    let P : Result Script ScriptRefusal → Type 0 = λ r. IfOk r IsCallScript in
+    subst P read (version_of_gives (end_number given) (lines_of given))

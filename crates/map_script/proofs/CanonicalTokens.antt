@@ -1,0 +1,145 @@
+-- The tokens of a canonical text's lines: that they are tokens, and that the text is these lines.
+use Rattle.std.proofs.Common.{◌≡◌, ℕ, ◌+◌, ◌*◌, ◌≤◌, ◌==◌, Bool, true, false, cond, List, [], ◌∷◌, ◌++◌, map, Some, None, Ok, refl, ap, ◌∙◌, append_assoc, arith}
+use Rattle.std.specs.Prelude.{codes, decimal}
+use Rattle.std.specs.List.{flat_map}
+use Rattle.std.proofs.Math.Nat.{le-mul_of_pos_right}
+use Rattle.std.proofs.lemmas.Bool.{cond_both}
+use Rattle.hex.specs.Hex.{encode_lower}
+use Rattle.map_types.specs.Creation.{creation}
+use Rattle.map_types.specs.Kind.{is_percpu}
+use Rattle.map_types.specs.Shape.{HasBounds}
+use Rattle.map_types.specs.ValueLen.{round8, value_len_of}
+use Rattle.map_types.specs.declared.attr.CreateAttr.{CreateAttr}
+use Rattle.map_types.specs.declared.attr.Shape.{Shape}
+use Rattle.map_types.specs.declared.call.Call.{Call}
+use Rattle.map_types.specs.declared.call.Verb.{Verb}
+use Rattle.map_types.specs.declared.call.Verb.TheVariants.{Lookup, Update, Delete, Take, Next, BatchRead, BatchUpdate, BatchDelete}
+use Rattle.map_types.specs.declared.kind.Side.{Side}
+use Rattle.map_types.specs.declared.kind.Side.TheVariants.{Prog, Sys}
+use Rattle.map_types.proofs.CreationLemmas.{bounds_of_shape}
+use Rattle.map_types.proofs.RoundLemmas.{rounded_up}
+use Rattle.map_script.specs.declared.script.Script.{Script}
+use Rattle.map_script.specs.Canonical.{canonical, spaced, line_text, label_and_number, unless_zero, map_tokens, verb_tokens, pair_tokens, call_text, body_text, lookup_name, update_name, batch_name}
+use Rattle.map_script.proofs.TokenLines.{is_token, AreTokens, AreLines, joined, text_of_lines}
+use Rattle.map_script.proofs.TokenValues.{is_token-decimal, is_token-flag_token, is_token-start_token, is_token-kind_name, is_token-encode_lower}
+use Rattle.map_script.proofs.CallScripts.{ArePairs, AreKeys, IsVerb, IsAttr, AreCalls, IsCallScript}
+
+abbrev pub version_tokens : List (List ℕ)
+version_tokens = codes "bpfmap" ∷ codes "1" ∷ []
+
+abbrev pub call_tokens : Call → List (List ℕ)
+call_tokens call = decimal call.cpu ∷ verb_tokens call.verb
+
+-- the lines of a script of form Calls
+abbrev pub script_lines : Script → List (List (List ℕ))
+script_lines script = version_tokens ∷ (codes "map" ∷ map_tokens script.attr) ∷ map call_tokens script.calls
+
+-- ---- the text is these lines
+
+line_text-append : (first : List ℕ) (others : List (List ℕ)) (rest : List ℕ) → line_text first others ++ rest ≡ joined (first ∷ others) ++ 10 ∷ rest
+line_text-append first others rest = append_assoc (first ++ spaced others) (10 ∷ []) rest
+
+call_lines : (calls : List Call) → flat_map call_text calls ≡ text_of_lines (map call_tokens calls)
+call_lines [] = refl
+call_lines (call ∷ calls) =
+    ap (λ (text : List ℕ). call_text call ++ text) (call_lines calls)
+    ∙ line_text-append (decimal call.cpu) (verb_tokens call.verb) (text_of_lines (map call_tokens calls))
+
+pub canonical-lines : (script : Script) → script.spec ≡ None → canonical script ≡ text_of_lines (script_lines script)
+unfolding canonical
+canonical-lines script no_spec =
+    let map_line = line_text (codes "map") (map_tokens script.attr) in
+    ap (λ spec. codes "bpfmap 1\n" ++ (map_line ++ body_text spec script.calls)) no_spec
+    ∙ ap (λ (text : List ℕ). codes "bpfmap 1\n" ++ (map_line ++ text)) (call_lines script.calls)
+    ∙ ap (λ (text : List ℕ). codes "bpfmap 1\n" ++ text) (line_text-append (codes "map") (map_tokens script.attr) (text_of_lines (map call_tokens script.calls)))
+
+-- ---- the tokens are tokens
+
+-- keys and values have some bytes
+pub record HasSomeBytes (shape : Shape) : Type 0 where
+  pub key : 1 ≤ shape.key_size
+  pub value : (side : Side) → 1 ≤ value_len_of shape side
+
+some_value : (shape : Shape) → 1 ≤ shape.cpus → 1 ≤ shape.value_size → (side : Side) → 1 ≤ value_len_of shape side
+some_value shape cpus value Prog = value
+some_value shape cpus value Sys =
+    let up : shape.value_size ≤ round8 shape.value_size = rounded_up shape.value_size 8 in
+    let whole : shape.cpus ≤ shape.cpus * round8 shape.value_size = le-mul_of_pos_right shape.cpus (omega arith) in
+    cond_both (is_percpu shape.kind) (shape.cpus * round8 shape.value_size) shape.value_size (λ len. 1 ≤ len) (λ percpu. omega arith) (λ other. value)
+
+pub HasSomeBytes-created : (attr : CreateAttr) (shape : Shape) → creation attr ≡ Ok shape → HasSomeBytes shape
+HasSomeBytes-created attr shape created =
+    let bounds : HasBounds shape = bounds_of_shape shape record { attr = attr; accepted = created } in
+    record { key = bounds.some_key; value = some_value shape bounds.some_cpu bounds.some_value }
+
+tokens-append : (tokens others : List (List ℕ)) → AreTokens tokens → AreTokens others → AreTokens (tokens ++ others)
+tokens-append [] others h k = k
+tokens-append (token ∷ tokens) others h k = (h.0, tokens-append tokens others h.1 k)
+
+tokens_if : (test : Bool) (tokens : List (List ℕ)) → AreTokens tokens → AreTokens (cond test [] tokens)
+tokens_if true tokens h = tt
+tokens_if false tokens h = h
+
+pairs_are_tokens : (shape : Shape) (pairs : List (List ℕ × List ℕ)) → HasSomeBytes shape → ArePairs shape pairs → AreTokens (flat_map pair_tokens pairs)
+pairs_are_tokens shape [] sizes h = tt
+pairs_are_tokens shape (pair ∷ pairs) sizes h = (
+  is_token-encode_lower shape.key_size pair.0 sizes.key h.0,
+  (is_token-encode_lower (value_len_of shape Sys) pair.1 (sizes.value Sys) h.1, pairs_are_tokens shape pairs sizes h.2),
+)
+
+keys_are_tokens : (shape : Shape) (keys : List (List ℕ)) → HasSomeBytes shape → AreKeys shape keys → AreTokens (map encode_lower keys)
+keys_are_tokens shape [] sizes h = tt
+keys_are_tokens shape (key ∷ keys) sizes h =
+    (is_token-encode_lower shape.key_size key sizes.key h.0, keys_are_tokens shape keys sizes h.1)
+
+is_token-lookup_name : (side : Side) → is_token (lookup_name side) ≡ true
+is_token-lookup_name Prog = refl
+is_token-lookup_name Sys = refl
+
+is_token-update_name : (side : Side) → is_token (update_name side) ≡ true
+is_token-update_name Prog = refl
+is_token-update_name Sys = refl
+
+is_token-batch_name : (remove : Bool) → is_token (batch_name remove) ≡ true
+is_token-batch_name false = refl
+is_token-batch_name true = refl
+
+verb_are_tokens : (shape : Shape) (verb : Verb) → HasSomeBytes shape → IsVerb shape verb → AreTokens (verb_tokens verb)
+verb_are_tokens shape (Lookup side key) sizes h =
+    (is_token-lookup_name side, (is_token-encode_lower shape.key_size key sizes.key h, tt))
+verb_are_tokens shape (Update side flags key value) sizes h = (
+  is_token-update_name side,
+  (is_token-flag_token flags h.0, (is_token-encode_lower shape.key_size key sizes.key h.1, (is_token-encode_lower (value_len_of shape side) value (sizes.value side) h.2, tt))),
+)
+verb_are_tokens shape (Delete key) sizes h = (refl, (is_token-encode_lower shape.key_size key sizes.key h, tt))
+verb_are_tokens shape (Take key) sizes h = (refl, (is_token-encode_lower shape.key_size key sizes.key h, tt))
+verb_are_tokens shape (Next None) sizes h = (refl, tt)
+verb_are_tokens shape (Next (Some key)) sizes h = (refl, (is_token-encode_lower shape.key_size key sizes.key h, tt))
+verb_are_tokens shape (BatchRead remove count start flags) sizes h = (
+  is_token-batch_name remove,
+  (is_token-decimal count h.0, (is_token-start_token start h.1, tokens_if (flags == 0) (decimal flags ∷ []) (is_token-decimal flags h.2, tt))),
+)
+verb_are_tokens shape (BatchUpdate flags pairs) sizes h =
+    (refl, (is_token-decimal flags h.0, pairs_are_tokens shape pairs sizes h.1))
+verb_are_tokens shape (BatchDelete flags keys) sizes h =
+    (refl, (is_token-decimal flags h.0, keys_are_tokens shape keys sizes h.1))
+
+calls_are_lines : (shape : Shape) (count room : ℕ) (calls : List Call) → HasSomeBytes shape → AreCalls shape count room calls → AreLines (map call_tokens calls)
+calls_are_lines shape count room [] sizes h = tt
+calls_are_lines shape count room (call ∷ calls) sizes h = (
+  (is_token-decimal call.cpu h.0.on, verb_are_tokens shape call.verb sizes h.0.does),
+  calls_are_lines shape (count + 1) _ calls sizes h.3,
+)
+
+map_are_tokens : (attr : CreateAttr) → IsAttr attr → AreTokens (map_tokens attr)
+map_are_tokens attr h =
+    let flags = tokens_if (attr.flags == 0) (label_and_number (codes "flags") attr.flags) (refl, (is_token-decimal attr.flags h.flags, tt)) in
+    let seed = tokens_if (attr.seed == 0) (label_and_number (codes "seed") attr.seed) (refl, (is_token-decimal attr.seed h.seed, tt)) in
+    let options = tokens-append (unless_zero attr.flags (label_and_number (codes "flags") attr.flags)) (unless_zero attr.seed (label_and_number (codes "seed") attr.seed)) flags seed in
+    (is_token-kind_name attr.kind, (refl, (is_token-decimal attr.key_size h.key, (refl, (is_token-decimal attr.value_size h.value, (refl, (is_token-decimal attr.max_entries h.max, (refl, (is_token-decimal attr.cpus h.cpus, options)))))))))
+
+pub script_are_lines : (script : Script) → IsCallScript script → AreLines (script_lines script)
+script_are_lines script h = (
+  (refl, (refl, tt)),
+  ((refl, map_are_tokens script.attr h.numbers), calls_are_lines script.shape 0 0 script.calls (HasSomeBytes-created script.attr script.shape h.created) h.calls),
+)

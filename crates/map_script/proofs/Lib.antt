@@ -1,0 +1,14 @@
+pub mod Splitting
+pub mod Fronts
+pub mod PlaceLemmas
+pub mod PairPlaces
+pub mod ReplyRoom
+pub mod CallLines
+pub mod CallSizes
+pub mod WellFormedLemmas
+pub mod TokenLines
+pub mod TokenValues
+pub mod CallScripts
+pub mod CanonicalTokens
+pub mod RoundTrip
+pub mod LineFeeds

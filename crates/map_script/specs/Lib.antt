@@ -1,0 +1,10 @@
+pub mod Lines
+pub mod Tokens
+pub mod Places
+pub mod Grammar
+pub mod Reading
+pub mod Canonical
+pub mod Unread
+pub mod Gives
+pub mod WellFormed
+pub mod CauseName

@@ -1,0 +1,101 @@
+-- What a text is read as: a script, or the first fault, or a map that can't be created.
+use Rattle.std.specs.Prelude.{◌≡◌, ℕ, ◌+◌, nat_lt, nat_le, List, [], ◌∷◌, Option, Some, None, Result, Ok, Err, if◌then◌else◌}
+use Rattle.map_types.specs.Creation.{creation}
+use Rattle.map_types.specs.declared.attr.CreateAttr.{CreateAttr}
+use Rattle.map_types.specs.declared.attr.Shape.{Shape}
+use Rattle.map_types.specs.declared.call.Call.{Call}
+use Rattle.map_types.specs.declared.refusal.CreateRefusal.{CreateRefusal}
+use Rattle.map_script.specs.declared.refusal.Cause.{Cause}
+use Rattle.map_script.specs.declared.refusal.Cause.TheVariants.{Version, Map, Gen, Calls, Room}
+use Rattle.map_script.specs.declared.refusal.ScriptRefusal.{ScriptRefusal}
+use Rattle.map_script.specs.declared.refusal.ScriptRefusal.TheVariants.{Fault, Create, NoMemory}
+use Rattle.map_script.specs.declared.script.Form.{Form}
+use Rattle.map_script.specs.declared.script.Form.TheVariants as forms
+use Rattle.map_script.specs.declared.script.GenSpec.{GenSpec}
+use Rattle.map_script.specs.declared.script.Script.{Script}
+use Rattle.map_script.specs.Grammar.{version_line, map_line, gen_line, call_line, reply_bytes}
+use Rattle.map_script.specs.Lines.{Line, lines_of, end_number}
+use Rattle.map_script.specs.Places.{◌>>=◌, Tokens}
+
+-- a cause, at a line
+abbrev pub or_fault : {A : Type 0} → ℕ → Result A Cause → Result A ScriptRefusal
+or_fault number (Ok found) = Ok found
+or_fault number (Err cause) = Err (Fault number cause)
+
+-- what a line is read as
+abbrev pub of_line : {A : Type 0} → Line → (Tokens → Result A Cause) → Result A Cause
+of_line line reading = line.says >>= reading
+
+-- the same, where a cause is a fault of the line
+abbrev pub at_line : {A : Type 0} → Line → (Tokens → Result A Cause) → Result A ScriptRefusal
+at_line line reading = or_fault line.number (of_line line reading)
+
+abbrev pub or_create : {A : Type 0} → Result A CreateRefusal → Result A ScriptRefusal
+or_create (Ok found) = Ok found
+or_create (Err refusal) = Err (Create refusal)
+
+-- a call that is well formed, is one of the first 200,000, and with which the replies have at most 67,108,864 bytes
+abbrev pub call_within : Shape → ℕ → ℕ → Tokens → Result Call Cause
+call_within shape count room tokens = do
+  call ← call_line shape tokens
+  if nat_lt count 200000
+      then (if nat_le (room + reply_bytes shape call.verb) 67108864 then Ok call else Err Room)
+      else Err Calls
+
+-- the calls of lines, behind so many calls whose replies may have so many bytes
+abbrev pub calls_of : Shape → ℕ → ℕ → List Line → Result (List Call) ScriptRefusal
+calls_of shape count room [] = Ok []
+calls_of shape count room (line ∷ lines) = do
+  call ← at_line line (call_within shape count room)
+  calls ← calls_of shape (count + 1) (room + reply_bytes shape call.verb) lines
+  Ok (call ∷ calls)
+
+-- the one generator line, behind which no line stands
+abbrev pub spec_of : Shape → ℕ → List Line → Result GenSpec ScriptRefusal
+spec_of shape end [] = Err (Fault end Gen)
+spec_of shape end (line ∷ []) = at_line line (gen_line shape)
+spec_of shape end (line ∷ next ∷ lines) = do
+  spec ← at_line line (gen_line shape)
+  at_line next (λ tokens. Err Gen)
+
+abbrev pub script_of : CreateAttr → Shape → List Call → Option GenSpec → Script
+script_of attr shape calls spec = record { attr = attr; shape = shape; calls = calls; spec = spec }
+
+-- what stands behind the map line
+unfoldable pub body_of : Form → CreateAttr → Shape → ℕ → List Line → Result Script ScriptRefusal
+body_of forms.Calls attr shape end lines = do
+  calls ← calls_of shape 0 0 lines
+  Ok (script_of attr shape calls None)
+body_of forms.Generator attr shape end lines = do
+  spec ← spec_of shape end lines
+  Ok (script_of attr shape [] (Some spec))
+
+-- the map line, and what stands behind it. Where the map can't be created no later line is judged.
+unfoldable pub map_of : Form → ℕ → List Line → Result Script ScriptRefusal
+map_of form end [] = Err (Fault end Map)
+map_of form end (line ∷ lines) = do
+  attr ← at_line line map_line
+  shape ← or_create (creation attr)
+  body_of form attr shape end lines
+
+-- the version line, and what stands behind it
+unfoldable pub version_of : Form → ℕ → List Line → Result Script ScriptRefusal
+version_of form end [] = Err (Fault end Version)
+version_of form end (line ∷ lines) = do
+  version ← at_line line version_line
+  map_of form end lines
+
+-- what a text is read as, which is never NoMemory
+unfoldable pub read_as : Form → List ℕ → Result Script ScriptRefusal
+read_as form text = version_of form (end_number text) (lines_of text)
+
+-- some text is read as this script in this form
+abbrev pub IsReadAs : Form → Script → Type 0
+IsReadAs form script = (text : List ℕ) × (read_as form text ≡ Ok script)
+
+-- what was returned is what was to be read, unless memory ran out
+abbrev pub IsReading : {A : Type 0} → Result A ScriptRefusal → Result A ScriptRefusal → Type 0
+IsReading (Ok found) read = read ≡ Ok found
+IsReading (Err (Fault line cause)) read = read ≡ Err (Fault line cause)
+IsReading (Err (Create refusal)) read = read ≡ Err (Create refusal)
+IsReading (Err NoMemory) read = Unit {0}

@@ -1,0 +1,11 @@
+-- The lines of a text that are still to be read.
+use Rattle.std.specs.Prelude.{ℕ, List}
+use Rattle.map_script.specs.Lines.{Line, lines_from, end_from}
+
+-- those that say something, in order, and the number of a fault at their end
+pub record Unread : Type 0 where
+  pub lines : List Line
+  pub end : ℕ
+
+abbrev pub unread_from : ℕ → List ℕ → Unread
+unread_from number text = record { lines = lines_from number text; end = end_from number text }

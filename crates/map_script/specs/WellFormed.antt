@@ -1,0 +1,45 @@
+-- What holds of each script that is read: its calls are calls on its map, within the limits.
+use Rattle.std.specs.Prelude.{◌≡◌, ℕ, ◌<◌, ◌≤◌, List, length, All, sum_by, Some, None, Ok}
+use Rattle.map_types.specs.Creation.{creation, IsShape}
+use Rattle.map_types.specs.Pairs.{HaveSizes}
+use Rattle.map_types.specs.ValueLen.{value_len_of}
+use Rattle.map_types.specs.declared.attr.Shape.{Shape}
+use Rattle.map_types.specs.declared.call.Call.{Call}
+use Rattle.map_types.specs.declared.call.Verb.{Verb}
+use Rattle.map_types.specs.declared.call.Verb.TheVariants.{Lookup, Update, Delete, Take, Next, BatchRead, BatchUpdate, BatchDelete}
+use Rattle.map_types.specs.declared.kind.Side.TheVariants.{Sys}
+use Rattle.map_script.specs.declared.script.Script.{Script}
+use Rattle.map_script.specs.Grammar.{reply_bytes}
+
+-- a key of the map's size
+abbrev pub IsKey : Shape → List ℕ → Type 0
+IsKey shape key = length key ≡ shape.key_size
+
+-- the keys have the map's size, and the values that of the side that gives them
+abbrev pub HasSizes : Shape → Verb → Type 0
+HasSizes shape (Lookup side key) = IsKey shape key
+HasSizes shape (Update side flags key value) = IsKey shape key × (length value ≡ value_len_of shape side)
+HasSizes shape (Delete key) = IsKey shape key
+HasSizes shape (Take key) = IsKey shape key
+HasSizes shape (Next None) = Unit {0}
+HasSizes shape (Next (Some key)) = IsKey shape key
+HasSizes shape (BatchRead remove count start flags) = Unit {0}
+HasSizes shape (BatchUpdate flags pairs) = HaveSizes shape.key_size (value_len_of shape Sys) pairs
+HasSizes shape (BatchDelete flags keys) = All (IsKey shape) keys
+
+-- a call on a map: on one of its CPUs, with keys and values of its sizes
+pub record IsCallOn (shape : Shape) (call : Call) : Type 0 where
+  pub cpu : call.cpu < shape.cpus
+  pub sizes : HasSizes shape call.verb
+
+-- the most bytes that the replies to some calls may have
+abbrev pub reply_room : Shape → List Call → ℕ
+reply_room shape calls = sum_by (λ call. reply_bytes shape call.verb) calls
+
+-- at most 200,000 calls on a map that can be created, with replies of at most 67,108,864 bytes
+pub record IsWellFormed (script : Script) : Type 0 where
+  pub created : creation script.attr ≡ Ok script.shape
+  pub shape : IsShape script.shape
+  pub calls : All (IsCallOn script.shape) script.calls
+  pub few : length script.calls ≤ 200000
+  pub room : reply_room script.shape script.calls ≤ 67108864

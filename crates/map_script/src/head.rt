@@ -1,0 +1,155 @@
+//! The lines of a script that are no calls: the version line, the map line and the generator line.
+
+ghost use Rattle.std.specs.Prelude.{◌≡◌, ◌≤◌, ◌^◌, nat_lt, Err};
+ghost use Rattle.map_script.specs.Grammar.{version_places, version_line, kind_of, map_places, map_line, is_spec, gen_places, gen_line};
+ghost use Rattle.map_script.specs.Places.{instead};
+ghost use Rattle.map_script.specs.Reading.{of_line};
+
+use crate::lines::TextLine;
+use crate::refusal::Cause;
+use crate::script::GenSpec;
+use crate::tokens::Tokens;
+use map_types::{CreateAttr, MapKind, Shape};
+
+/// How many calls may be generated.
+const MAX_CALLS: u32 = 200_000;
+
+/// How many keys they may have.
+const MAX_KEYS: u32 = 1_000_000;
+
+/// How many bytes of values they may have.
+const MAX_VALUES: u64 = 67_108_864;
+
+/// Reads `bpfmap 1`.
+#[tactic(auto, unfolding(crate::specs::Grammar::version_line))]
+pub(crate) fn version_line(line: &TextLine) -> Result<(), Cause>
+    ensures { result ≡ of_line line.now version_line }
+{
+    let tokens = line.tokens()?;
+    instead(Cause::Version, version_places(tokens))
+}
+
+fn version_places(mut tokens: Tokens) -> Result<(), Cause>
+    ensures { result ≡ version_places tokens.entry }
+{
+    tokens.word(Cause::Version, b"bpfmap")?;
+    tokens.word(Cause::Version, b"1")?;
+    tokens.at_end(())
+}
+
+/// Reads `map KIND key N value N max N cpus N`, and then `flags N` or not, and then `seed N` or not.
+#[tactic(auto, unfolding(crate::specs::Grammar::map_line))]
+pub(crate) fn map_line(line: &TextLine) -> Result<CreateAttr, Cause>
+    ensures { result ≡ of_line line.now map_line }
+{
+    let tokens = line.tokens()?;
+    instead(Cause::Map, map_places(tokens))
+}
+
+fn map_places(mut tokens: Tokens) -> Result<CreateAttr, Cause>
+    ensures { result ≡ map_places tokens.entry }
+{
+    tokens.word(Cause::Map, b"map")?;
+    let kind = kind_of(tokens.token()?).ok_or(Cause::Map)?;
+    let key_size = tokens.labelled(b"key")?;
+    let value_size = tokens.labelled(b"value")?;
+    let max_entries = tokens.labelled(b"max")?;
+    let cpus = tokens.labelled(b"cpus")?;
+    let flags = tokens.if_labelled(b"flags")?;
+    let seed = tokens.if_labelled(b"seed")?;
+    tokens.at_end(CreateAttr {
+        kind,
+        key_size,
+        value_size,
+        max_entries,
+        flags,
+        seed,
+        cpus,
+    })
+}
+
+/// The kind of this name.
+fn kind_of(name: &[u8]) -> Option<MapKind>
+    ensures { result ≡ kind_of name.now }
+{
+    if name == b"hash".as_slice() {
+        Some(MapKind::Hash)
+    } else if name == b"percpu_hash".as_slice() {
+        Some(MapKind::PercpuHash)
+    } else if name == b"lru_hash".as_slice() {
+        Some(MapKind::LruHash)
+    } else if name == b"lru_percpu_hash".as_slice() {
+        Some(MapKind::LruPercpuHash)
+    } else {
+        None
+    }
+}
+
+/// Reads `gen seed N calls N keys N mix N`.
+#[tactic(auto, unfolding(crate::specs::Grammar::gen_line))]
+pub(crate) fn gen_line(shape: &Shape, line: &TextLine) -> Result<GenSpec, Cause>
+    ensures { result ≡ of_line line.now (gen_line shape.now) }
+{
+    let tokens = line.tokens()?;
+    instead(Cause::Gen, gen_places(shape, tokens))
+}
+
+/// Reads a line behind the generator line, where none may stand.
+pub(crate) fn no_line(line: &TextLine) -> Result<GenSpec, Cause>
+    ensures { result ≡ of_line line.now (λ tokens. Err Cause.Gen) }
+{
+    let _tokens = line.tokens()?;
+    Err(Cause::Gen)
+}
+
+fn gen_places(shape: &Shape, mut tokens: Tokens) -> Result<GenSpec, Cause>
+    ensures { result ≡ gen_places shape.now tokens.entry }
+{
+    tokens.word(Cause::Gen, b"gen")?;
+    let seed = tokens.labelled(b"seed")?;
+    let calls = tokens.labelled(b"calls")?;
+    let keys = tokens.labelled(b"keys")?;
+    let mix = tokens.labelled(b"mix")?;
+    let spec = tokens.at_end(GenSpec {
+        seed,
+        calls,
+        keys,
+        mix,
+    })?;
+    if is_spec(shape, &spec) {
+        Ok(spec)
+    } else {
+        Err(Cause::Gen)
+    }
+}
+
+/// Whether calls on a map of this shape may be generated so.
+fn is_spec(shape: &Shape, spec: &GenSpec) -> bool
+    ensures { result ≡ is_spec shape.now spec.now }
+{
+    1 <= spec.calls
+        && spec.calls <= MAX_CALLS
+        && 1 <= spec.keys
+        && spec.keys <= MAX_KEYS
+        && is_below_all_keys(spec.keys, shape.key_size)
+        && spec.mix <= 1
+        && u64::from(spec.calls) * u64::from(shape.value_size) <= MAX_VALUES
+}
+
+/// Whether a number is below that of the keys of a size.
+fn is_below_all_keys(number: u32, key_size: u32) -> bool
+    requires { number ≤ 1000000 }
+    ensures { result ≡ nat_lt number (256 ^ key_size) }
+{
+    key_size > 2 || number < 256_u32.pow(key_size)
+}
+
+/// One cause for all that may be wrong.
+fn instead<T: Drop>(cause: Cause, read: Result<T, Cause>) -> Result<T, Cause>
+    ensures { result ≡ instead cause read }
+{
+    match read {
+        Ok(found) => Ok(found),
+        Err(_) => Err(cause),
+    }
+}

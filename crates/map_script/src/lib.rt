@@ -1,0 +1,19 @@
+//! Scripts in their text form: a map, and calls on it.
+#![tactic(auto)]
+
+mod calls;
+mod fault;
+mod head;
+mod line_error;
+mod lines;
+mod places;
+mod reading;
+mod refusal;
+mod script;
+mod text;
+mod tokens;
+mod verbs;
+
+pub use reading::read_script;
+pub use refusal::{Cause, ScriptRefusal};
+pub use script::{Form, GenSpec, Script};

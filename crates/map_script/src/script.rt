@@ -1,0 +1,56 @@
+//! A script.
+
+ghost use Rattle.std.specs.Prelude.{◌≡◌, IfOk};
+ghost use Rattle.map_script.specs.Canonical.{canonical};
+ghost use Rattle.map_script.specs.Reading.{IsReadAs, read_as};
+
+use crate::text::text_of;
+use map_types::{Call, CreateAttr, List, NoMemory, Shape};
+use std::alloc::Global;
+
+/// What a script's lines behind its map are.
+#[derive(Clone, Copy, Debug, PartialEq, Eq)]
+pub enum Form {
+    /// A line for each call.
+    Calls,
+    /// One line, from which the calls are generated.
+    Generator,
+}
+
+/// A map, and calls on it in order.
+#[derive(Drop)]
+pub struct Script {
+    pub attr: CreateAttr,
+    /// What `check_attr` makes of the attributes.
+    pub shape: Shape,
+    /// None, where the script was read in form Generator.
+    pub calls: List<Call>,
+    /// What its calls are generated from, in a script of form Generator.
+    pub spec: Option<GenSpec>,
+}
+
+impl Script {
+    /// The script's canonical text: one space between tokens, no comments, numbers without leading zeros, lower case
+    /// digits, the flags 0, 1 and 2 of an update by name, and only where they aren't 0 the flags and the seed of the
+    /// map and the flags of a batch read. It fails only where memory does.
+    pub fn text(&self, alloc: Global) -> Result<Vec<u8>, NoMemory>
+        ensures canonical { IfOk result (λ text. text.items ≡ canonical self.now) }
+        // A script that form Calls gives is what form Calls reads from its canonical text.
+        ensures round_trip { IfOk result (λ text. IsReadAs Form.Calls self.now → read_as Form.Calls text.items ≡ Ok self.now) }
+    {
+        text_of(alloc, self)
+    }
+}
+
+/// What the calls of a script are generated from.
+#[derive(Clone, Copy, Debug, PartialEq, Eq)]
+pub struct GenSpec {
+    /// What the draws start from.
+    pub seed: u32,
+    /// How many calls, 1 to 200,000.
+    pub calls: u32,
+    /// How many keys, 1 to 1,000,000 and fewer than there are keys of the map's size.
+    pub keys: u32,
+    /// 0 for rounds of updates and of lookups over all keys, 1 for a mix that is drawn.
+    pub mix: u32,
+}
