@@ -7,8 +7,8 @@ use map_types::NoMemory;
 use std::alloc::Global;
 use std::marker::Model;
 
-/// A stack of bodies with the room that it was created with. Contracts see the list of the bodies, the top first, and
-/// the number that can still be pushed.
+/// A stack of bodies with room for some more, which never finds memory. Contracts see the list of the bodies, the top
+/// first, and the number that can still be pushed.
 #[derive(Drop)]
 pub struct BodyStack {
     /// The top is the last.

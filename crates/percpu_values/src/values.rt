@@ -56,7 +56,8 @@ impl Values {
     }
 
     /// Copies all parts to `out`, each to a field of its size rounded up to a multiple of 8 bytes, which `out` just holds.
-    /// What is left of a field is 0. So the system call reads, as in the kernel's `bpf_percpu_hash_copy`.
+    /// So the system call reads, after the kernel's `bpf_percpu_hash_copy`. That what is left of a field is 0 is this
+    /// project's own rule.
     pub fn read_all(&self, out: &mut [u8])
         requires exact { length out.old ≡ length self.now * round8 (part_size self.now) }
         ensures copied { out.new ≡ fields_of self.now }
@@ -76,9 +77,9 @@ impl Values {
         copy_to(&mut self.bytes, start, value);
     }
 
-    /// Writes all parts, each from the head of its field. A field has the size of a part rounded up to a multiple of 8
-    /// bytes, and what is past the part in it is not kept. So the system call writes, as in the kernel's
-    /// `pcpu_copy_value`.
+    /// Writes all parts, each from the head of its field, which has the size of a part rounded up to a multiple of 8
+    /// bytes. So the system call writes, after the kernel's `pcpu_copy_value`. That what is past the part in its field is
+    /// not kept is this project's own rule.
     pub fn write_all(&mut self, fields: &[u8])
         requires exact { length fields.now ≡ length self.old * round8 (part_size self.old) }
         ensures { self.new ≡ values_in (length self.old) (part_size self.old) fields.now }
@@ -102,7 +103,7 @@ impl Values {
         copy_to(&mut self.bytes, part as usize * self.size as usize, value);
     }
 
-    /// Writes all parts as `write_all` does. So the system call fills a new element, as in the kernel's
+    /// Writes all parts as `write_all` does. So the system call fills a new element, after the kernel's
     /// `pcpu_init_value`.
     pub fn init_all(&mut self, fields: &[u8])
         requires exact { length fields.now ≡ length self.old * round8 (part_size self.old) }
