@@ -1,0 +1,16 @@
+pub mod ElementLemmas
+pub mod FrameLemmas
+pub mod RowLemmas
+pub mod OwnerSteps
+pub mod HomeSteps
+pub mod ListCode
+pub mod LockSteps
+pub mod OpeningLemmas
+pub mod OpeningLaws
+pub mod StepLaws
+pub mod TotalLemmas
+pub mod WholeLemmas
+pub mod CoreLemmas
+pub mod HeldLemmas
+pub mod RehomeLemmas
+pub mod StartLemmas

@@ -1,0 +1,11 @@
+pub mod Answers
+pub mod CoreView
+pub mod ElementLists
+pub mod Opening
+pub mod OpeningView
+pub mod Places
+pub mod Ranks
+pub mod State
+pub mod Steps
+pub mod Totals
+pub mod Wholeness

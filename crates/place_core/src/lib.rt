@@ -1,0 +1,16 @@
+//! The pure core of a map: where its elements are, and by which steps of its CPUs they move.
+#![tactic(auto)]
+
+mod cells;
+mod laws;
+mod lists;
+mod locks;
+mod owners;
+mod pure_core;
+mod rehome;
+mod start;
+mod step;
+
+pub use laws::{place_laws, reached_laws, step_laws, wait_laws};
+pub use pure_core::Core;
+pub use step::{CoreRefusal, Lists, Step};

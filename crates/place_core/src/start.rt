@@ -1,0 +1,213 @@
+//! The opening contents of a map.
+
+ghost use Rattle.std.specs.Prelude.{◌≡◌, ◌+◌, ◌≤◌, ◌++◌, ◌<◌, ◌^◌, ◌==◌, length, map, take, position, slice_index_or, filter, IfOk, OnOk, IsTrue};
+ghost use Rattle.std.specs.List.{range_with_len, flat_map};
+ghost use Rattle.map_types.specs.Creation.{IsShape};
+ghost use Rattle.map_types.specs.declared.attr.Shape as shapes;
+ghost use Rattle.place_words.specs.Locks.{lock_count, lock_named};
+ghost use Rattle.place_words.specs.declared.owner.Owner.TheVariants as owner_names;
+ghost use Rattle.place_core.specs.Opening.{pushed_from, share_first, share_count, opening_stack, opening_spares, spare_owner, opening_owner, opening_home, opening_free, opening_lists};
+ghost use Rattle.place_core.specs.Answers.{view_of};
+ghost use Rattle.place_core.specs.OpeningView.{AreOpeningOwners, IsOpening};
+ghost use Rattle.place_core.specs.State.{is_free};
+
+use crate::Lists;
+use crate::cells::{Cells, is_free};
+use crate::lists::index_of;
+use map_types::{DomainId, MapKind, NoMemory, Numbers, Shape};
+use place_words::{Home, Owner, is_lock, lock_named};
+use std::alloc::Global;
+
+/// Adds so many elements from one on, the last of them first: as they lie where each is pushed at the head.
+fn push_from(list: &mut Vec<u32>, first: u32, count: u32) -> Result<(), NoMemory>
+    requires { first + count < 2 ^ 32 }
+    ensures { OnOk result (list.new.items ≡ list.old.items ++ pushed_from first count) }
+{
+    let mut left = count;
+    while left > 0 {
+        left -= 1;
+        list.push(first + left)?;
+    }
+    Ok(())
+}
+
+/// The first element of a CPU's share, and how many there are.
+fn share(shape: &Shape, cpu: u32) -> (u32, u32)
+    requires shape { IsShape shape.now }
+    requires cpu { cpu < shape.now.cpus }
+    ensures first { result.0 ≡ share_first shape.now cpu }
+    ensures count { result.1 ≡ share_count shape.now cpu }
+    ensures within { result.0 + result.1 ≤ shape.now.elements }
+{
+    let each = shape.elements / shape.cpus;
+    let more = shape.elements % shape.cpus;
+    let one_more = if cpu < more { 1 } else { 0 };
+    (cpu * each + cpu.min(more), each + one_more)
+}
+
+/// A CPU's share, as it lies on its stack at first.
+fn stack(alloc: Global, shape: &Shape, cpu: u32) -> Result<Vec<u32>, NoMemory>
+    requires shape { IsShape shape.now }
+    requires cpu { cpu < shape.now.cpus }
+    ensures { IfOk result (λ list. list.items ≡ opening_stack shape.now cpu) }
+{
+    let (first, count) = share(shape, cpu);
+    let mut list = Vec::new(alloc);
+    push_from(&mut list, first, count)?;
+    Ok(list)
+}
+
+/// The spare elements of the CPUs of a map of kind HASH.
+fn spares(alloc: Global, shape: &Shape) -> Result<Vec<u32>, NoMemory>
+    requires { IsShape shape.now }
+    ensures { IfOk result (λ list. list.items ≡ opening_spares shape.now) }
+{
+    let mut list = Vec::new(alloc);
+    for cpu in 0..shape.cpus {
+        list.extend_from_slice(stack(alloc, shape, cpu)?.as_slice())?;
+    }
+    list.truncate(shape.cpus as usize);
+    Ok(list)
+}
+
+/// Who has an element at first.
+#[tactic(auto, unfolding(crate::specs::Opening::opening_owner))]
+fn owner_at_first(kind: MapKind, spares: &[u32], element: u32) -> Owner
+    requires { length spares.now < 2 ^ 32 }
+    ensures { (shape : shapes.Shape) → opening_spares shape ≡ spares.now → result ≡ opening_owner shape kind element }
+{
+    match kind {
+        MapKind::Hash => match index_of(element, spares) {
+            Some(cpu) => Owner::Hand(cpu as u32),
+            None => Owner::Free,
+        },
+        MapKind::PercpuHash | MapKind::LruHash | MapKind::LruPercpuHash => Owner::Free,
+    }
+}
+
+/// Where the home of an element is at first.
+#[tactic(auto, unfolding(crate::specs::Opening::opening_home))]
+fn home_at_first(shape: &Shape, element: u32) -> Home
+    requires shape { IsShape shape.now }
+    requires element { element < shape.now.elements }
+    ensures { result ≡ opening_home shape.now element }
+{
+    if shape.common {
+        Home::In(DomainId::Global)
+    } else if shape.kind.is_lru() {
+        Home::In(DomainId::CpuLru(element / (shape.elements / shape.cpus)))
+    } else {
+        Home::Unlisted
+    }
+}
+
+/// Elements pushed as above, of which those that aren't free are left out.
+fn only_free(alloc: Global, owners: &[Owner], first: u32, count: u32) -> Result<Numbers, NoMemory>
+    requires within { first + count ≤ length owners.now }
+    requires few { length owners.now < 2 ^ 32 }
+    ensures { IfOk result (λ list. list ≡ filter (λ e. is_free (slice_index_or owners.now e owner_names.Free)) (pushed_from first count)) }
+{
+    let mut list = Vec::new(alloc);
+    let mut left = count;
+    while left > 0 {
+        left -= 1;
+        let element = first + left;
+        if is_free(owners[element as usize]) {
+            list.push(element)?;
+        }
+    }
+    Ok(Numbers::of(list))
+}
+
+/// What is free under a lock at first.
+fn free_at_first(
+    alloc: Global,
+    shape: &Shape,
+    owners: &[Owner],
+    lock: DomainId,
+) -> Result<Numbers, NoMemory>
+    requires shape { IsShape shape.now }
+    requires owners { AreOpeningOwners shape.now owners.now }
+    ensures { IfOk result (λ list. list ≡ opening_free shape.now lock) }
+{
+    if !is_lock(shape, lock) {
+        return Ok(Numbers::of(Vec::new(alloc)));
+    }
+    match lock {
+        DomainId::Local(_) => Ok(Numbers::of(Vec::new(alloc))),
+        DomainId::Bucket(_) => Ok(Numbers::of(Vec::new(alloc))),
+        DomainId::Global => only_free(alloc, owners, 0, shape.elements),
+        DomainId::CpuLru(cpu) => {
+            let (first, count) = share(shape, cpu);
+            only_free(alloc, owners, first, count)
+        }
+        DomainId::Freelist(cpu) => {
+            let (first, count) = share(shape, cpu);
+            only_free(alloc, owners, first, count)
+        }
+    }
+}
+
+/// What lies under each lock at first.
+fn lists_at_first(alloc: Global, shape: &Shape, owners: &[Owner]) -> Result<Vec<Lists>, NoMemory>
+    requires shape { IsShape shape.now }
+    requires owners { AreOpeningOwners shape.now owners.now }
+    ensures { IfOk result (λ lists. lists.items ≡ map (opening_lists shape.now) (range_with_len 0 (lock_count shape.now))) }
+{
+    let mut lists = Vec::new(alloc);
+    let count = shape.cpus + 1 + shape.cpus + shape.buckets + shape.cpus;
+    for number in 0..count {
+        let free = free_at_first(alloc, shape, owners, lock_named(shape, number))?;
+        lists.push(Lists {
+            free,
+            first: Numbers::of(Vec::new(alloc)),
+            second: Numbers::of(Vec::new(alloc)),
+            cursor: None,
+        })?;
+    }
+    Ok(lists)
+}
+
+/// Who has each element at first.
+fn owners_at_first(alloc: Global, shape: &Shape) -> Result<Vec<Owner>, NoMemory>
+    requires { IsShape shape.now }
+    ensures { IfOk result (λ owners. owners.items ≡ map (opening_owner shape.now shape.now.kind) (range_with_len 0 shape.now.elements)) }
+{
+    let spares = spares(alloc, shape)?;
+    let mut owners = Vec::new(alloc);
+    for element in 0..shape.elements {
+        owners.push(owner_at_first(shape.kind, spares.as_slice(), element))?;
+    }
+    Ok(owners)
+}
+
+/// Where the home of each element is at first.
+fn homes_at_first(alloc: Global, shape: &Shape) -> Result<Vec<Home>, NoMemory>
+    requires { IsShape shape.now }
+    ensures { IfOk result (λ homes. homes.items ≡ map (opening_home shape.now) (range_with_len 0 shape.now.elements)) }
+{
+    let mut homes = Vec::new(alloc);
+    for element in 0..shape.elements {
+        homes.push(home_at_first(shape, element))?;
+    }
+    Ok(homes)
+}
+
+/// The cells of a map at its opening.
+pub(crate) fn cells_at_first(alloc: Global, shape: &Shape) -> Result<Cells, NoMemory>
+    requires { IsShape shape.now }
+    ensures { IfOk result (λ cells. IsOpening shape.now (view_of cells)) }
+{
+    let owners = owners_at_first(alloc, shape)?;
+    let lists = lists_at_first(alloc, shape, owners.as_slice())?;
+    let homes = homes_at_first(alloc, shape)?;
+    let bits = vec![in alloc; false; shape.elements as usize]?;
+    Ok(Cells {
+        shape: *shape,
+        held: Vec::new(alloc),
+        lists,
+        owners,
+        homes,
+        bits,
+    })
+}
