@@ -12,3 +12,5 @@ pub mod CallScripts
 pub mod CanonicalTokens
 pub mod RoundTrip
 pub mod LineFeeds
+pub mod BlankLemmas
+pub mod LineLaws

@@ -8,3 +8,4 @@ pub mod Unread
 pub mod Gives
 pub mod WellFormed
 pub mod CauseName
+pub mod SameLines

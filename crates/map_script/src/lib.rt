@@ -4,6 +4,7 @@
 mod calls;
 mod fault;
 mod head;
+mod laws;
 mod line_error;
 mod lines;
 mod places;
@@ -14,6 +15,7 @@ mod text;
 mod tokens;
 mod verbs;
 
+pub use laws::reading_laws;
 pub use reading::read_script;
 pub use refusal::{Cause, ScriptRefusal};
 pub use script::{Form, GenSpec, Script};

@@ -1,0 +1,149 @@
+-- What a line says changes neither with its comment nor with its blanks.
+use Rattle.std.proofs.Common.{◌≡◌, ℕ, suc, ◌+◌, ◌==◌, ◌&&◌, ◌||◌, nat_le, Bool, true, false, not, cond, List, [], ◌∷◌, ◌++◌, length, take, filter, count_by, Result, Ok, Err, refl, sym, ap, ◌∙◌, append-nil, arith}
+use Rattle.std.specs.List.{slice_split, onto_first, list_all, prefix_len}
+use Rattle.std.proofs.lemmas.Bool.{cond-false}
+use Rattle.std.proofs.lemmas.List.Splits.{slice_split-cons_yes, length-slice_split}
+use Rattle.std.proofs.lemmas.List.Folds.{list_all-append}
+use Rattle.map_script.specs.declared.refusal.Cause.{Cause}
+use Rattle.map_script.specs.declared.refusal.Cause.TheVariants.{Byte}
+use Rattle.map_script.specs.Lines.{is_blank, is_hash, is_allowed, before_comment, tokens_of, said_by}
+
+-- ---- a line without its comment, byte by byte
+
+abbrev cut : List ℕ → List ℕ
+cut [] = []
+cut (byte ∷ line) = cond (is_hash byte) [] (byte ∷ cut line)
+
+take_step : (stop : Bool) (n byte : ℕ) (line : List ℕ) → take (cond (not stop) (1 + n) 0) (byte ∷ line) ≡ cond stop [] (byte ∷ take n line)
+take_step true n byte line = refl
+take_step false n byte line = let next : 1 + n ≡ suc n = omega arith in ap (λ (m : ℕ). take m (byte ∷ line)) next
+
+cut_is : (line : List ℕ) → before_comment line ≡ cut line
+cut_is [] = refl
+cut_is (byte ∷ line) =
+    take_step (is_hash byte) (prefix_len (λ x. not (is_hash x)) line) byte line
+    ∙ ap (λ (rest : List ℕ). cond (is_hash byte) [] (byte ∷ rest)) (cut_is line)
+
+-- what a line says that has no comment
+abbrev says : List ℕ → Result (List (List ℕ)) Cause
+says line = cond (list_all is_allowed line) (Ok (tokens_of line)) (Err Byte)
+
+said_is : (line : List ℕ) → said_by line ≡ says (cut line)
+said_is line = ap says (cut_is line)
+
+one_step : (stop : Bool) (byte : ℕ) (a b : List ℕ) (f : List ℕ → Result (List (List ℕ)) Cause) → f (byte ∷ a) ≡ f (byte ∷ b) → f (cond stop [] (byte ∷ a)) ≡ f (cond stop [] (byte ∷ b))
+one_step true byte a b f h = refl
+one_step false byte a b f h = h
+
+-- two lines that begin alike are cut alike, in their common part or behind it
+cut_same : (pre x y : List ℕ) (f : List ℕ → Result (List (List ℕ)) Cause) → ((q : List ℕ) → f (q ++ cut x) ≡ f (q ++ cut y)) → f (cut (pre ++ x)) ≡ f (cut (pre ++ y))
+cut_same [] x y f h = h []
+cut_same (byte ∷ pre) x y f h =
+    one_step (is_hash byte) byte (cut (pre ++ x)) (cut (pre ++ y)) f (cut_same pre x y (λ line. f (byte ∷ line)) (λ q. h (byte ∷ q)))
+
+said_same : (pre x y : List ℕ) → ((q : List ℕ) → says (q ++ cut x) ≡ says (q ++ cut y)) → said_by (pre ++ x) ≡ said_by (pre ++ y)
+said_same pre x y h = said_is (pre ++ x) ∙ cut_same pre x y says h ∙ sym (said_is (pre ++ y))
+
+says_same : (a b : List ℕ) → list_all is_allowed a ≡ list_all is_allowed b → tokens_of a ≡ tokens_of b → says a ≡ says b
+says_same a b allowed tokens =
+    ap (λ (all : Bool). cond all (Ok (tokens_of a)) (Err Byte)) allowed
+    ∙ ap (λ (found : List (List ℕ)). cond (list_all is_allowed b) (Ok found) (Err Byte)) tokens
+
+-- ---- what a blank is
+
+blank_is_no_hash : (b : ℕ) → is_blank b ≡ true → is_hash b ≡ false
+blank_is_no_hash b h = grind arith
+
+cut_blank : (b : ℕ) (line : List ℕ) → is_blank b ≡ true → cut (b ∷ line) ≡ b ∷ cut line
+cut_blank b line h = cond-false (is_hash b) [] (b ∷ cut line) (blank_is_no_hash b h)
+
+allowed_blank : (b : ℕ) (line : List ℕ) → is_blank b ≡ true → list_all is_allowed (b ∷ line) ≡ list_all is_allowed line
+allowed_blank b line h = ap (λ (blank : Bool). (blank || (nat_le 33 b && nat_le b 126)) && list_all is_allowed line) h
+
+allowed_behind : (q x y : List ℕ) → list_all is_allowed x ≡ list_all is_allowed y → list_all is_allowed (q ++ x) ≡ list_all is_allowed (q ++ y)
+allowed_behind q x y h =
+    list_all-append is_allowed q x
+    ∙ ap (λ (all : Bool). list_all is_allowed q && all) h
+    ∙ sym (list_all-append is_allowed q y)
+
+-- ---- a line falls apart at a blank
+
+onto_append : (byte n : ℕ) (parts more : List (List ℕ)) → length parts ≡ suc n → onto_first byte (parts ++ more) ≡ onto_first byte parts ++ more
+onto_append byte n [] more h = absurd (omega (arith, h))
+onto_append byte n (part ∷ parts) more h = refl
+
+step_append : (blank : Bool) (byte n : ℕ) (parts more : List (List ℕ)) → length parts ≡ suc n → cond blank ([] ∷ (parts ++ more)) (onto_first byte (parts ++ more)) ≡ cond blank ([] ∷ parts) (onto_first byte parts) ++ more
+step_append true byte n parts more h = refl
+step_append false byte n parts more h = onto_append byte n parts more h
+
+some_part : (line : List ℕ) → length (slice_split is_blank line) ≡ suc (count_by is_blank line)
+some_part line = omega (arith, length-slice_split is_blank line)
+
+split_blank : (q : List ℕ) (b : ℕ) (line : List ℕ) → is_blank b ≡ true → slice_split is_blank (q ++ b ∷ line) ≡ slice_split is_blank q ++ slice_split is_blank line
+split_blank [] b line h = slice_split-cons_yes is_blank b line h
+split_blank (byte ∷ q) b line h =
+    ap (λ (parts : List (List ℕ)). cond (is_blank byte) ([] ∷ parts) (onto_first byte parts)) (split_blank q b line h)
+    ∙ step_append (is_blank byte) byte (count_by is_blank q) (slice_split is_blank q) (slice_split is_blank line) (some_part q)
+
+abbrev is_some_token : List ℕ → Bool
+is_some_token token = not (length token == 0)
+
+kept_step : (keep : Bool) (token : List ℕ) (a b : List (List ℕ)) → cond keep (token ∷ (a ++ b)) (a ++ b) ≡ cond keep (token ∷ a) a ++ b
+kept_step true token a b = refl
+kept_step false token a b = refl
+
+kept_append : (a b : List (List ℕ)) → filter is_some_token (a ++ b) ≡ filter is_some_token a ++ filter is_some_token b
+kept_append [] b = refl
+kept_append (token ∷ a) b =
+    ap (λ (rest : List (List ℕ)). cond (is_some_token token) (token ∷ rest) rest) (kept_append a b)
+    ∙ kept_step (is_some_token token) token (filter is_some_token a) (filter is_some_token b)
+
+tokens_blank : (q : List ℕ) (b : ℕ) (line : List ℕ) → is_blank b ≡ true → tokens_of (q ++ b ∷ line) ≡ tokens_of q ++ tokens_of line
+tokens_blank q b line h = ap (filter is_some_token) (split_blank q b line h) ∙ kept_append (slice_split is_blank q) (slice_split is_blank line)
+
+-- ---- what a line says
+
+-- a comment says nothing
+pub said_comment : (pre comment : List ℕ) → said_by (pre ++ 35 ∷ comment) ≡ said_by (pre ++ [])
+said_comment pre comment = said_same pre (35 ∷ comment) [] (λ q. refl)
+
+-- a blank that becomes another
+pub said_blank : (pre l : List ℕ) (b c : ℕ) → is_blank b ≡ true → is_blank c ≡ true → said_by (pre ++ b ∷ l) ≡ said_by (pre ++ c ∷ l)
+said_blank pre l b c hb hc =
+    said_same pre (b ∷ l) (c ∷ l) (λ q.
+    let line = cut l in
+    ap (λ (x : List ℕ). says (q ++ x)) (cut_blank b l hb)
+    ∙ says_same (q ++ b ∷ line) (q ++ c ∷ line)
+    (allowed_behind q (b ∷ line) (c ∷ line) (allowed_blank b line hb ∙ sym (allowed_blank c line hc)))
+    (tokens_blank q b line hb ∙ sym (tokens_blank q c line hc))
+    ∙ sym (ap (λ (x : List ℕ). says (q ++ x)) (cut_blank c l hc)))
+
+-- a blank in front of a blank
+pub said_blanks : (pre l : List ℕ) (b c : ℕ) → is_blank b ≡ true → is_blank c ≡ true → said_by (pre ++ b ∷ c ∷ l) ≡ said_by (pre ++ c ∷ l)
+said_blanks pre l b c hb hc =
+    said_same pre (b ∷ c ∷ l) (c ∷ l) (λ q.
+    let line = cut (c ∷ l) in
+    let rest = cut l in
+    let after : line ≡ c ∷ rest = cut_blank c l hc in
+    ap (λ (x : List ℕ). says (q ++ x)) (cut_blank b (c ∷ l) hb ∙ ap (λ (x : List ℕ). b ∷ x) after)
+    ∙ says_same (q ++ b ∷ c ∷ rest) (q ++ c ∷ rest)
+    (allowed_behind q (b ∷ c ∷ rest) (c ∷ rest) (allowed_blank b (c ∷ rest) hb))
+    (tokens_blank q b (c ∷ rest) hb ∙ ap (λ (x : List (List ℕ)). tokens_of q ++ x) (tokens_blank [] c rest hc) ∙ sym (tokens_blank q c rest hc))
+    ∙ sym (ap (λ (x : List ℕ). says (q ++ x)) after))
+
+-- a blank at the end
+pub said_end : (pre : List ℕ) (b : ℕ) → is_blank b ≡ true → said_by (pre ++ b ∷ []) ≡ said_by (pre ++ [])
+said_end pre b h =
+    said_same pre (b ∷ []) [] (λ q.
+    ap (λ (x : List ℕ). says (q ++ x)) (cut_blank b [] h)
+    ∙ says_same (q ++ b ∷ []) (q ++ [])
+    (allowed_behind q (b ∷ []) [] (allowed_blank b [] h))
+    (tokens_blank q b [] h ∙ append-nil (tokens_of q) ∙ sym (ap tokens_of (append-nil q))))
+
+-- a blank at the beginning
+pub said_begin : (l : List ℕ) (b : ℕ) → is_blank b ≡ true → said_by (b ∷ l) ≡ said_by l
+said_begin l b h =
+    said_is (b ∷ l)
+    ∙ ap says (cut_blank b l h)
+    ∙ says_same (b ∷ cut l) (cut l) (allowed_blank b (cut l) h) (tokens_blank [] b (cut l) h)
+    ∙ sym (said_is l)
