@@ -260,6 +260,206 @@ mod tests {
     }
 
     #[test]
+    fn refuses_without_the_lock(rt: HostRuntime) -> Result<(), Fail> {
+        let shape = check_attr(&PLAIN)?;
+        let mut core = Core::start(rt.alloc(), &shape)?;
+        let (cpu, bucket) = (0, 0);
+        let (free, spare) = (0, 1);
+        let refused = Err(CoreRefusal::NotEnabled);
+        let steps = [
+            (
+                Step::Give {
+                    cpu,
+                    lock: FREELIST,
+                    lists: one_free(rt.alloc())?,
+                },
+                refused,
+            ),
+            (
+                Step::Claim {
+                    cpu,
+                    element: free,
+                    lock: FREELIST,
+                },
+                refused,
+            ),
+            (
+                Step::Settle {
+                    cpu,
+                    element: spare,
+                    lock: FREELIST,
+                },
+                refused,
+            ),
+            (
+                Step::Attach {
+                    cpu,
+                    element: spare,
+                    bucket,
+                },
+                refused,
+            ),
+            (Step::Take { cpu, lock: BUCKET }, Ok(())),
+            (
+                Step::Settle {
+                    cpu,
+                    element: spare,
+                    lock: BUCKET,
+                },
+                refused,
+            ),
+            (
+                Step::Take {
+                    cpu,
+                    lock: FREELIST,
+                },
+                Ok(()),
+            ),
+            (
+                Step::Claim {
+                    cpu,
+                    element: free,
+                    lock: FREELIST,
+                },
+                Ok(()),
+            ),
+            (
+                Step::Attach {
+                    cpu,
+                    element: free,
+                    bucket,
+                },
+                Ok(()),
+            ),
+            (
+                Step::Give {
+                    cpu,
+                    lock: BUCKET,
+                    lists: one_first(rt.alloc())?,
+                },
+                Ok(()),
+            ),
+            (
+                Step::Mark {
+                    cpu,
+                    element: free,
+                    bucket,
+                },
+                refused,
+            ),
+            (
+                Step::Detach {
+                    cpu,
+                    element: free,
+                    bucket,
+                },
+                refused,
+            ),
+        ];
+        for (step, answer) in steps {
+            assert_eq!(rt; core.step(rt.alloc(), &step), answer);
+        }
+        Ok(())
+    }
+
+    #[test]
+    fn refuses_other_lists(rt: HostRuntime) -> Result<(), Fail> {
+        let shape = check_attr(&PLAIN)?;
+        let mut core = Core::start(rt.alloc(), &shape)?;
+        let take = Step::Take {
+            cpu: 0,
+            lock: FREELIST,
+        };
+        assert_eq!(rt; core.step(rt.alloc(), &take), Ok(()));
+        let mut repeated = no_lists(rt.alloc());
+        repeated.free = Numbers::of([0, 0].to_vec(rt.alloc())?);
+        let mut listed = one_free(rt.alloc())?;
+        listed.first = Numbers::of([0].to_vec(rt.alloc())?);
+        let mut pointed = one_free(rt.alloc())?;
+        pointed.cursor = Some(0);
+        for lists in [repeated, listed, pointed] {
+            let give = Step::Give {
+                cpu: 0,
+                lock: FREELIST,
+                lists,
+            };
+            assert_eq!(rt; core.step(rt.alloc(), &give), Err(CoreRefusal::NotEnabled));
+        }
+        Ok(())
+    }
+
+    #[test]
+    fn refuses_where_homes_forbid(rt: HostRuntime) -> Result<(), Fail> {
+        let attr = CreateAttr {
+            kind: MapKind::LruHash,
+            ..PLAIN
+        };
+        let shape = check_attr(&attr)?;
+        let mut core = Core::start(rt.alloc(), &shape)?;
+        let (cpu, element, bucket) = (0, 0, 0);
+        let local = DomainId::Local(0);
+        let (here, above, hand) = (Home::In(local), Home::In(DomainId::Global), Home::Hand(0));
+        let refused = Err(CoreRefusal::NotEnabled);
+        let rehome = |to| Step::Rehome { cpu, element, to };
+        let steps = [
+            (Step::Take { cpu, lock: local }, Ok(())),
+            (rehome(here), refused),
+            (Step::Clear { cpu, element }, refused),
+            (
+                Step::Take {
+                    cpu,
+                    lock: DomainId::Global,
+                },
+                Ok(()),
+            ),
+            (rehome(hand), refused),
+            (rehome(Home::In(DomainId::CpuLru(0))), refused),
+            (rehome(Home::Unlisted), refused),
+            (
+                Step::Claim {
+                    cpu,
+                    element,
+                    lock: DomainId::Global,
+                },
+                Ok(()),
+            ),
+            (
+                Step::Settle {
+                    cpu,
+                    element,
+                    lock: local,
+                },
+                refused,
+            ),
+            (rehome(hand), Ok(())),
+            (Step::Take { cpu, lock: BUCKET }, Ok(())),
+            (
+                Step::Attach {
+                    cpu,
+                    element,
+                    bucket,
+                },
+                refused,
+            ),
+            (rehome(above), Ok(())),
+            (
+                Step::Attach {
+                    cpu,
+                    element,
+                    bucket,
+                },
+                Ok(()),
+            ),
+            (rehome(here), refused),
+            (rehome(hand), refused),
+        ];
+        for (step, answer) in steps {
+            assert_eq!(rt; core.step(rt.alloc(), &step), answer);
+        }
+        Ok(())
+    }
+
+    #[test]
     fn takes_no_lower_rank(rt: HostRuntime) -> Result<(), Fail> {
         let shape = check_attr(&PLAIN)?;
         let mut core = Core::start(rt.alloc(), &shape)?;
@@ -322,7 +522,13 @@ mod tests {
             ),
             (MapKind::LruHash, 0, 1, 2, DomainId::Global, 1, 2),
             (MapKind::LruHash, 0, 3, 3, DomainId::Local(2), 9, 0),
+            (MapKind::LruHash, 0, 16, 3, DomainId::Global, 2, 3),
+            (MapKind::LruPercpuHash, 0, 1, 1, DomainId::Global, 0, 1),
+            (MapKind::LruPercpuHash, 0, 3, 2, DomainId::Global, 1, 2),
             (MapKind::LruPercpuHash, 0, 16, 2, DomainId::Global, 1, 2),
+            (MapKind::LruPercpuHash, 0, 16, 2, DomainId::Local(15), 9, 0),
+            (MapKind::LruHash, 2, 16, 16, DomainId::CpuLru(8), 8, 1),
+            (MapKind::LruPercpuHash, 2, 1, 4, DomainId::CpuLru(0), 3, 4),
             (MapKind::LruHash, 2, 1, 2, DomainId::CpuLru(0), 1, 2),
             (MapKind::LruHash, 2, 3, 5, DomainId::CpuLru(1), 3, 2),
             (MapKind::LruPercpuHash, 2, 3, 5, DomainId::CpuLru(2), 5, 2),

@@ -12,6 +12,7 @@ owner_code owners.Free = 0
 owner_code (owners.Hand cpu) = 1 + cpu
 owner_code (owners.Bucket bucket) = 32 + bucket
 
+-- the owners that have a code: CPUs below 16, and buckets below 131,072
 abbrev pub HasOwnerCode : Owner → Type 0
 HasOwnerCode owners.Free = Unit {0}
 HasOwnerCode (owners.Hand cpu) = cpu < 16
@@ -24,10 +25,11 @@ home_code (homes.Hand cpu) = 1 + cpu
 home_code (homes.In (Local cpu)) = 32 + cpu
 home_code (homes.In Global) = 64
 home_code (homes.In (CpuLru cpu)) = 96 + cpu
+-- these two have no code, and a number only so that the function is whole
 home_code (homes.In (Bucket bucket)) = 0
 home_code (homes.In (Freelist cpu)) = 0
 
--- an element is never listed under a bucket or a freelist
+-- The homes that have a code: those of CPUs below 16, and none under a bucket or a freelist, where no element is listed.
 abbrev pub HasHomeCode : Home → Type 0
 HasHomeCode homes.Unlisted = Unit {0}
 HasHomeCode (homes.Hand cpu) = cpu < 16

@@ -5,7 +5,8 @@ use Rattle.map_types.specs.declared.kind.DomainId.{DomainId}
 use Rattle.map_types.specs.declared.kind.DomainId.TheVariants.{Local, Global, CpuLru, Bucket, Freelist}
 use Rattle.map_types.specs.Kind.{is_lru}
 
--- Local lists are locked before the global lists or a list set, these before a bucket, a bucket before a freelist.
+-- Local lists are locked before the global lists or a list set, these before a bucket, a bucket before a freelist. The
+-- global lists and all list sets share a rank, so that a CPU holds one of them at most.
 abbrev pub rank_of : DomainId → ℕ
 rank_of (Local cpu) = 1
 rank_of Global = 2
@@ -44,7 +45,7 @@ lock_number shape (CpuLru cpu) = first_set shape + cpu
 lock_number shape (Bucket bucket) = first_bucket shape + bucket
 lock_number shape (Freelist cpu) = first_freelist shape + cpu
 
--- the lock of a number
+-- the lock of a number, for a number of a lock that the map has
 unfoldable pub lock_named : Shape → ℕ → DomainId
 lock_named shape k =
     if nat_lt k shape.cpus then Local k

@@ -6,7 +6,7 @@ ghost use Rattle.place_words.specs.declared.home.Home as homes;
 
 use map_types::DomainId;
 
-/// On whose lists an element of an evicting map is.
+/// On whose lists an element is.
 #[derive(Clone, Copy, Debug, PartialEq, Eq)]
 pub enum Home {
     /// The map doesn't evict: this is the home of each of its elements.

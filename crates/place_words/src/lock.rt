@@ -54,7 +54,7 @@ pub fn lock_number(shape: &Shape, lock: DomainId) -> u32
     }
 }
 
-/// The lock of a number.
+/// The lock of a number, for a number that `lock_number` gives of this map.
 #[tactic(auto, unfolding(crate::specs::Locks::lock_named))]
 pub fn lock_named(shape: &Shape, number: u32) -> DomainId
     requires { IsShape shape.now }
