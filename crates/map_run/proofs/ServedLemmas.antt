@@ -1,14 +1,11 @@
 -- A script that is read, and whose run is built, is one that is run.
-use Rattle.std.proofs.Common.{◌≡◌, ◌==◌, Bool, true, false, ◌&&◌, List, [], ◌∷◌, All, refl}
+use Rattle.std.proofs.Common.{◌≡◌, Bool, true, false, ◌&&◌, List, [], ◌∷◌, All, refl}
 use Rattle.std.specs.List.{AllByRecursion, list_all}
-use Rattle.std.proofs.lemmas.Bool.{eqb-true}
 use Rattle.std.proofs.lemmas.List.Elements.{All-nil, All-cons, recursion_from_All}
 use Rattle.map_types.specs.declared.attr.Shape.{Shape}
 use Rattle.map_types.specs.declared.call.Call.{Call}
 use Rattle.map_types.specs.declared.call.Verb.{Verb}
 use Rattle.map_types.specs.declared.call.Verb.TheVariants.{Lookup, Update, Delete, Take, Next, BatchRead, BatchUpdate, BatchDelete}
-use Rattle.map_types.specs.declared.kind.MapKind.{MapKind}
-use Rattle.map_types.specs.declared.kind.MapKind.TheVariants.{Hash, PercpuHash, LruHash, LruPercpuHash}
 use Rattle.map_types.proofs.CreationLemmas.{bounds_of_shape}
 use Rattle.map_script.specs.declared.script.Script.{Script}
 use Rattle.map_script.specs.declared.script.Form.TheVariants.{Calls}
@@ -20,12 +17,6 @@ use Rattle.map_run.specs.Served.{is_built_kind, is_built_verb, is_built, IsScrip
 both_hold : (a b : Bool) → (a && b) ≡ true → (a ≡ true) × (b ≡ true)
 both_hold true b both = (refl, both)
 both_hold false b both = absurd cc
-
-kind_is : (kind : MapKind) → is_built_kind kind ≡ true → kind ≡ Hash
-kind_is Hash built = refl
-kind_is PercpuHash built = absurd cc
-kind_is LruHash built = absurd cc
-kind_is LruPercpuHash built = absurd cc
 
 verb_served : (shape : Shape) (verb : Verb) → is_built_verb verb ≡ true → HasSizes shape verb → IsServedVerb shape verb
 verb_served shape (Lookup side key) built has = has
@@ -47,11 +38,9 @@ calls_served shape (call ∷ calls) built are =
 pub IsServed-from_script : (script : Script) → IsScript script → is_built script ≡ true → IsServed script
 IsServed-from_script script is built =
     let like = IsWellFormed-read_as Calls is.0 script is.1 in
-    let parts = both_hold (is_built_kind script.shape.kind && (script.shape.cpus == 1)) (list_all (λ call. is_built_verb call.verb) script.calls) built in
-    let head = both_hold (is_built_kind script.shape.kind) (script.shape.cpus == 1) parts.0 in
+    let parts = both_hold (is_built_kind script.shape.kind) (list_all (λ call. is_built_verb call.verb) script.calls) built in
     record {
-      kind = kind_is script.shape.kind head.0;
-      one_cpu = eqb-true script.shape.cpus 1 head.1;
+      kind = parts.0;
       bounds = bounds_of_shape script.shape like.shape;
       calls = calls_served script.shape script.calls parts.1 (recursion_from_All (IsCallOn script.shape) script.calls like.calls);
     }

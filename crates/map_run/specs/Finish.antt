@@ -1,6 +1,7 @@
 -- How a run of the program ends: its status, what it writes, and what it keeps.
-use Rattle.std.specs.Prelude.{◌≡◌, ℕ, ◌≤◌, ◌⊎◌, Bool, false, List, [], ◌∷◌, ◌++◌, length, Option, Some, None, Result, Ok, Err, IsTrue, codes, decimal, bytes_eq, nat_le, if◌then◌else◌, ⊤}
+use Rattle.std.specs.Prelude.{◌≡◌, ℕ, ◌≤◌, ◌⊎◌, false, List, ◌++◌, length, Option, Some, None, Result, Ok, Err, IsTrue, codes, decimal, nat_le, if◌then◌else◌, ⊤}
 use Rattle.map_run.specs.declared.record.Finish.{Finish}
+use Rattle.map_run.specs.declared.record.Options.{Options}
 use Rattle.map_script.specs.declared.script.Script.{Script}
 use Rattle.map_run.specs.declared.record.RunRecord.{RunRecord}
 use Rattle.map_types.specs.declared.refusal.CreateRefusal.{CreateRefusal}
@@ -14,16 +15,12 @@ use Rattle.map_script.specs.declared.script.Form.TheVariants.{Calls}
 use Rattle.map_script.specs.Reading.{read_as}
 use Rattle.map_script.specs.CauseName.{cause_name}
 use Rattle.map_run.specs.Reads.{Takes, TakesAll}
-use Rattle.map_run.specs.Record.{IsRecord}
+use Rattle.map_run.specs.Laws.{SerialLaws}
 use Rattle.map_run.specs.Serial.{serial}
 use Rattle.map_run.specs.Served.{is_built}
 use Rattle.map_run.specs.Text.{report}
+use Rattle.map_run.specs.Words.{are_words, options_of}
 use Rattle.map_run.specs.Writes.{Written, AddsWhole, AddsPrefix}
-
--- the program's name, which isn't looked at, and the one word `serial`
-abbrev pub are_words : List (List ℕ) → Bool
-are_words (name ∷ mode ∷ []) = bytes_eq mode (codes "serial")
-are_words _ = false
 
 -- how a run ends, before anything is written
 pub data Ending : Type 0 where
@@ -34,11 +31,11 @@ pub data Ending : Type 0 where
   Refused : CreateRefusal → Ending
   NotBuilt : Ending
   OutOfMemory : Ending
-  Ran : Script → Ending
+  Ran : Options → Script → Ending
 
 -- the status that it has
 abbrev pub status_of : Ending → ℕ
-status_of (Ran script) = 0
+status_of (Ran options script) = 0
 status_of (Faulty line cause) = 1
 status_of BadWords = 2
 status_of ReadFault = 3
@@ -62,7 +59,7 @@ refusal_name (Limit limit) = codes "limit " ++ limit_name limit
 
 -- what is to be written: the report of a run in serial order, or a line
 abbrev pub text_due : Ending → List ℕ
-text_due (Ran script) = report script (serial script)
+text_due (Ran options script) = report script (serial script) options
 text_due (Faulty line cause) = codes "bpfmap: line " ++ decimal line ++ codes ": " ++ cause_name cause ++ codes "\n"
 text_due BadWords = codes "bpfmap: words\n"
 text_due ReadFault = codes "bpfmap: read\n"
@@ -73,7 +70,7 @@ text_due NotBuilt = codes "bpfmap: not built\n"
 
 -- what is kept of the run
 abbrev pub kept_of : Ending → Option RunRecord
-kept_of (Ran script) = Some (serial script)
+kept_of (Ran options script) = Some (serial script)
 kept_of _ = None
 
 -- an input was read to its end, and isn't too long
@@ -81,34 +78,31 @@ pub record IsInput (before after : Option (List ℕ)) (input : List ℕ) : Type 
   pub all : TakesAll before after input
   pub short : length input ≤ 16777216
 
--- which endings an input has that was read to its end
-abbrev pub HasInput : Ending → List ℕ → Type 0
-HasInput (Ran script) input = (read_as Calls input ≡ Ok script) × IsTrue (is_built script) × IsRecord script (serial script)
-HasInput (Faulty line cause) input = read_as Calls input ≡ Err (Fault line cause)
-HasInput (Refused why) input = read_as Calls input ≡ Err (Create why)
-HasInput NotBuilt input = (script : Script) × (read_as Calls input ≡ Ok script) × (is_built script ≡ false)
-HasInput OutOfMemory input = ⊤
-HasInput BadWords input = ⊥
-HasInput ReadFault input = ⊥
-HasInput TooLong input = ⊥
+-- Which endings an input has that was read to its end, where these options are asked for. A script that ran has the laws
+-- of such runs.
+abbrev pub HasInput : Options → List ℕ → Ending → Type 0
+HasInput asked input (Ran options script) =
+    (options ≡ asked) × (read_as Calls input ≡ Ok script) × IsTrue (is_built script) × SerialLaws script
+HasInput asked input (Faulty line cause) = read_as Calls input ≡ Err (Fault line cause)
+HasInput asked input (Refused why) = read_as Calls input ≡ Err (Create why)
+HasInput asked input NotBuilt = (script : Script) × (read_as Calls input ≡ Ok script) × (is_built script ≡ false)
+HasInput asked input OutOfMemory = ⊤
+HasInput asked input _ = ⊥
 
--- the ending of an input that was read to its end
-abbrev pub HasRead : Ending → List (List ℕ) → Option (List ℕ) → Option (List ℕ) → Type 0
-HasRead ending words before after =
-    IsTrue (are_words words) × (input : List ℕ) × IsInput before after input × HasInput ending input
+-- Which endings good words have, by what a source tells is left before and after, and by whether its count of faults
+-- rose.
+abbrev pub HasSource : Options → Option (List ℕ) → Option (List ℕ) → Type 0 → Ending → Type 0
+HasSource asked before after rose BadWords = ⊥
+HasSource asked before after rose ReadFault = rose
+HasSource asked before after rose TooLong = (bytes : List ℕ) × Takes before after bytes × (length bytes ≡ 16777217)
+HasSource asked before after rose OutOfMemory = ⊤
+HasSource asked before after rose ending = (input : List ℕ) × IsInput before after input × HasInput asked input ending
 
--- When each ending comes, by the words and by what a source tells: what is left before and after, and whether its
--- count of faults rose.
-abbrev pub HasCause : Ending → List (List ℕ) → Option (List ℕ) → Option (List ℕ) → Type 0 → Type 0
-HasCause BadWords words before after rose = (are_words words ≡ false) × (after ≡ before)
-HasCause ReadFault words before after rose = IsTrue (are_words words) × rose
-HasCause TooLong words before after rose =
-    IsTrue (are_words words) × (bytes : List ℕ) × Takes before after bytes × (length bytes ≡ 16777217)
-HasCause OutOfMemory words before after rose = IsTrue (are_words words)
-HasCause (Faulty line cause) words before after rose = HasRead (Faulty line cause) words before after
-HasCause (Refused why) words before after rose = HasRead (Refused why) words before after
-HasCause NotBuilt words before after rose = HasRead NotBuilt words before after
-HasCause (Ran script) words before after rose = HasRead (Ran script) words before after
+-- Which endings words have. Any words may end with memory not found.
+abbrev pub HasCause : List (List ℕ) → Option (List ℕ) → Option (List ℕ) → Type 0 → Ending → Type 0
+HasCause words before after rose BadWords = (are_words words ≡ false) × (after ≡ before)
+HasCause words before after rose OutOfMemory = ⊤
+HasCause words before after rose ending = IsTrue (are_words words) × HasSource (options_of words) before after rose ending
 
 -- The text is written whole and flushed with the status that is due, or a prefix of it with status 4 and a fault.
 abbrev pub IsDelivered : ℕ → List ℕ → ℕ → Option Written → Option Written → Type 0 → Type 0
@@ -120,18 +114,11 @@ pub record Ends (ending : Ending) (before after : Option Written) (rose : Type 0
   pub kept : finish.kept ≡ kept_of ending
   pub delivered : IsDelivered (status_of ending) (text_due ending) finish.status before after rose
 
--- how a run ended, from what a source tells before and after it to what a sink tells
-pub record Finishes (words : List (List ℕ)) (left rest : Option (List ℕ)) (source_rose : Type 0)
-    (before after : Option Written) (sink_rose : Type 0) (finish : Finish) : Type 0 where
+-- how a run ended, by which endings it may have, and from what a sink tells before to what it tells after
+pub record Finishes (MayEnd : Ending → Type 0) (before after : Option Written) (rose : Type 0) (finish : Finish) : Type 0 where
   pub ending : Ending
-  pub cause : HasCause ending words left rest source_rose
-  pub ends : Ends ending before after sink_rose finish
-
--- how a run ended whose input was read to its end
-pub record FinishesInput (input : List ℕ) (before after : Option Written) (sink_rose : Type 0) (finish : Finish) : Type 0 where
-  pub ending : Ending
-  pub cause : HasInput ending input
-  pub ends : Ends ending before after sink_rose finish
+  pub cause : MayEnd ending
+  pub ends : Ends ending before after rose finish
 
 -- the status of what an input is read as
 abbrev pub status_read : Result Script ScriptRefusal → ℕ

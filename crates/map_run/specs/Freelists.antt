@@ -3,10 +3,11 @@
 use Rattle.std.specs.Prelude.{ℕ, zero, suc, ◌+◌, ◌-◌, ◌*◌, ◌/◌, ◌%◌, ◌==◌, min, not, nat_lt, List, [], ◌∷◌, ◌++◌, length, map, reverse, drop, find, slice_index, slice_index_or, slice_set, Option, option_map, unwrap_or, if◌then◌else◌}
 use Rattle.std.specs.List.{range_with_len}
 
--- The elements are spread in order over the CPUs. The first of them get one more where they don't come out even.
+-- The elements are spread in order over the CPUs. The first CPUs get one more where they don't come out even.
 abbrev pub share_first : ℕ → ℕ → ℕ → ℕ
 share_first elements cpus cpu = cpu * (elements / cpus) + min cpu (elements % cpus)
 
+-- how many a CPU gets
 abbrev pub share_count : ℕ → ℕ → ℕ → ℕ
 share_count elements cpus cpu = elements / cpus + (if nat_lt cpu (elements % cpus) then 1 else 0)
 

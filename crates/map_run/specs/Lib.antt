@@ -1,12 +1,17 @@
 pub mod Buckets
 pub mod Freelists
 pub mod Serial
+pub mod EachOnce
+pub mod Soundness
+pub mod Entries
 pub mod Plain
 pub mod PlainFields
 pub mod Served
 pub mod Record
+pub mod Laws
 pub mod Text
 pub mod Reads
 pub mod Writes
 pub mod Memory
+pub mod Words
 pub mod Finish

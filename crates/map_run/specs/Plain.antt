@@ -1,15 +1,25 @@
--- A map on one CPU, as it is run in serial order.
-use Rattle.std.specs.Prelude.{ℕ, List, [], ◌∷◌, reverse}
+-- A map that doesn't evict, as it is run in serial order.
+use Rattle.std.specs.Prelude.{ℕ, List, [], map, reverse, Vec}
 use Rattle.map_types.specs.declared.attr.Shape.{Shape}
-use Rattle.map_run.specs.declared.kept.Kept.{Kept}
-use Rattle.map_run.specs.Serial.{MapLists}
+use Rattle.percpu_values.specs.BodyList.{BodyList}
+use Rattle.map_run.specs.declared.finals.Finals.{Finals}
 
 -- what it is, and what it holds
 pub record PlainState : Type 0 where
   pub shape : Shape
-  pub lists : MapLists
+  pub lists : Finals
 
--- one freelist, whose top is at the end here, and one spare
-abbrev pub plain_lists : List (List Kept) → List ℕ → ℕ → MapLists
-plain_lists buckets freelist spare =
-    record { buckets = buckets; freelists = reverse freelist ∷ []; spares = spare ∷ [] }
+-- stacks whose tops are at their ends, seen top first
+abbrev pub stacks_of : {A : Type 0} → List (Vec ℕ A) → List (List ℕ)
+stacks_of stacks = map (λ stack. reverse stack.items) stacks
+
+-- the lists of chains of bodies, of freelists and of spares
+abbrev pub plain_lists : List BodyList → List (List ℕ) → List ℕ → Finals
+plain_lists chains freelists spares = record {
+  buckets = map (λ (chain : BodyList). chain.bodies) chains;
+  freelists = freelists;
+  spares = spares;
+  sets = [];
+  locals = [];
+  marked = [];
+}

@@ -1,5 +1,5 @@
--- What can be asked of the replies of a run one by one. Which of its possible replies a call has depends on the calls
--- before it, and is said by the run in serial order.
+-- What can be asked of the replies of a run one by one, and of what it leaves. Which of its possible replies a call has
+-- depends on the calls before it, and is said by the run in serial order. Both are of maps that don't evict.
 use Rattle.std.specs.Prelude.{◌≡◌, ℕ, ◌<◌, ◌≤◌, List, [], ◌∷◌, length, ⊤}
 use Rattle.map_types.specs.ValueLen.{value_len_of}
 use Rattle.map_types.specs.declared.attr.Shape.{Shape}
@@ -13,6 +13,7 @@ use Rattle.map_types.specs.declared.reply.Reply.{Reply}
 use Rattle.map_types.specs.declared.reply.Reply.TheVariants.{Done, Value, Refused}
 use Rattle.map_script.specs.declared.script.Script.{Script}
 use Rattle.map_run.specs.declared.record.RunRecord.{RunRecord}
+use Rattle.map_run.specs.Soundness.{IsSound}
 
 -- Which error an update with these flags may answer, on a map that doesn't evict: EINVAL for flags that aren't known,
 -- EEXIST only under BPF_NOEXIST (1), ENOENT only under BPF_EXIST (2), and E2BIG only where a key may be added.
@@ -43,6 +44,7 @@ EachAnswered shape (call ∷ calls) (reply ∷ replies) = MayAnswer shape call.v
 EachAnswered shape [] (reply ∷ replies) = ⊥
 EachAnswered shape (call ∷ calls) [] = ⊥
 
--- a record of a run of the script
+-- A record of a run of the script: each call has a reply that it may have, and what the map holds at the end is sound.
 pub record IsRecord (script : Script) (kept : RunRecord) : Type 0 where
   pub replies : EachAnswered script.shape script.calls kept.replies
+  pub finals : IsSound script.shape kept.finals

@@ -1,5 +1,5 @@
--- The scripts whose run is built: HASH maps on one CPU, without walks and batches.
-use Rattle.std.specs.Prelude.{◌≡◌, ◌<◌, ◌==◌, ◌&&◌, Bool, true, false, length, All}
+-- The scripts whose run is built: those of maps that don't evict, without walks and batches.
+use Rattle.std.specs.Prelude.{◌≡◌, ◌<◌, ◌&&◌, Bool, true, false, IsTrue, length, All}
 use Rattle.std.specs.List.{list_all}
 use Rattle.map_types.specs.Shape.{HasBounds}
 use Rattle.map_types.specs.ValueLen.{value_len_of}
@@ -19,7 +19,7 @@ IsScript script = IsReadAs Calls script
 
 abbrev pub is_built_kind : MapKind → Bool
 is_built_kind Hash = true
-is_built_kind PercpuHash = false
+is_built_kind PercpuHash = true
 is_built_kind LruHash = false
 is_built_kind LruPercpuHash = false
 
@@ -36,7 +36,7 @@ is_built_verb (BatchDelete flags keys) = false
 -- the run of the script is built
 abbrev pub is_built : Script → Bool
 is_built script =
-    is_built_kind script.shape.kind && script.shape.cpus == 1 && list_all (λ call. is_built_verb call.verb) script.calls
+    is_built_kind script.shape.kind && list_all (λ call. is_built_verb call.verb) script.calls
 
 -- the keys and values have the map's sizes
 abbrev pub IsServedVerb : Shape → Verb → Type 0
@@ -49,12 +49,13 @@ IsServedVerb shape (BatchRead remove count start flags) = ⊥
 IsServedVerb shape (BatchUpdate flags pairs) = ⊥
 IsServedVerb shape (BatchDelete flags keys) = ⊥
 
+-- a call on one of the map's CPUs
 pub record IsServedCall (shape : Shape) (call : Call) : Type 0 where
   pub cpu : call.cpu < shape.cpus
   pub verb : IsServedVerb shape call.verb
 
+-- what is known of a script whose run is built
 pub record IsServed (script : Script) : Type 0 where
-  pub kind : script.shape.kind ≡ Hash
-  pub one_cpu : script.shape.cpus ≡ 1
+  pub kind : IsTrue (is_built_kind script.shape.kind)
   pub bounds : HasBounds script.shape
   pub calls : All (IsServedCall script.shape) script.calls

@@ -1,33 +1,25 @@
 //! The top call: from the words and the input to what is written.
 
 ghost use Rattle.std.specs.Prelude.{◌≡◌, ◌≤◌, ◌++◌, ℕ, List, Some, None, false, length, map, codes, decimal, IfOk, IfSome, IsTrue, string_bytes};
-ghost use Rattle.map_run.specs.Finish.{Ending, are_words, refusal_name, kept_of, status_of, text_due, Ends, FinishesInput, Finishes, IsStatus, status_due};
+ghost use Rattle.map_run.specs.Finish.{Ending, refusal_name, kept_of, status_of, text_due, Ends, Finishes, HasCause, HasInput, HasSource, IsStatus, status_due};
 ghost use Rattle.map_script.specs.CauseName.{cause_name};
 ghost use Rattle.map_script.specs.Reading.{read_as};
 ghost use Rattle.map_run.specs.Reads.{Rose};
 ghost use Rattle.map_run.specs.Served.{is_built};
+ghost use Rattle.map_run.specs.Words.{are_words};
 
 use crate::delivery::deliver;
 use crate::reading::{ReadStop, read_all};
 use crate::serial::run_serial;
 use crate::served::is_built;
 use crate::text::{push_labelled, report_of};
-use crate::{Finish, Sink, Source};
+use crate::words::{WordsStop, options_of};
+use crate::{Finish, Options, Sink, Source};
 use map_script::{Cause, Form, Script, ScriptRefusal, read_script};
 use map_types::{CreateRefusal, Gate, Limit};
 use std::alloc::{AllocError, Global};
 use std::sync::Wait;
 use std::thread::Threads;
-
-/// Whether the words are the program's name and `serial`.
-fn are_words(words: &[String]) -> bool
-    ensures { result ≡ are_words (map string_bytes words.now) }
-{
-    match words {
-        [_, mode] => mode.as_str() == "serial",
-        _ => false,
-    }
-}
 
 /// Ends a run with a line.
 fn end_with_line<K: Sink>(sink: &mut K, status: u8, line: &[u8]) -> Finish
@@ -42,16 +34,22 @@ fn end_with_line<K: Sink>(sink: &mut K, status: u8, line: &[u8]) -> Finish
 }
 
 /// Runs a script and ends with its report.
-fn end_with_run<K: Sink>(alloc: Global, input: &[u8], script: &Script, sink: &mut K) -> Finish
+fn end_with_run<K: Sink>(
+    alloc: Global,
+    options: Options,
+    input: &[u8],
+    script: &Script,
+    sink: &mut K,
+) -> Finish
     requires read { read_as Form.Calls input.now ≡ Ok script.now }
     requires built { IsTrue (is_built script.now) }
-    ensures { FinishesInput input.now (K.written sink.old) (K.written sink.new)
+    ensures { Finishes (HasInput options input.now) (K.written sink.old) (K.written sink.new)
         (Rose (K.faults sink.old) (K.faults sink.new)) result }
 {
     let Ok(kept) = run_serial(alloc, script) else {
         return end_with_line(sink, 5, b"bpfmap: memory\n");
     };
-    let Ok(text) = report_of(alloc, script, &kept) else {
+    let Ok(text) = report_of(alloc, script, &kept, options) else {
         return end_with_line(sink, 5, b"bpfmap: memory\n");
     };
     let status = match deliver(sink, text.as_slice()) {
@@ -101,7 +99,7 @@ fn end_with_fault<K: Sink>(
     cause: Cause,
 ) -> Finish
     requires { read_as Form.Calls input.now ≡ Err (ScriptRefusal.Fault line cause) }
-    ensures { FinishesInput input.now (K.written sink.old) (K.written sink.new)
+    ensures { (asked : Options) → Finishes (HasInput asked input.now) (K.written sink.old) (K.written sink.new)
         (Rose (K.faults sink.old) (K.faults sink.new)) result }
 {
     let Ok(text) = fault_line(alloc, line, cause) else {
@@ -110,30 +108,45 @@ fn end_with_fault<K: Sink>(
     end_with_line(sink, 1, text.as_slice())
 }
 
+/// Ends a run whose script has a map that can't be created.
+fn end_with_refusal<K: Sink>(input: &[u8], sink: &mut K, why: CreateRefusal) -> Finish
+    requires { read_as Form.Calls input.now ≡ Err (ScriptRefusal.Create why) }
+    ensures { (asked : Options) → Finishes (HasInput asked input.now) (K.written sink.old) (K.written sink.new)
+        (Rose (K.faults sink.old) (K.faults sink.new)) result }
+{
+    end_with_line(sink, 6, refusal_line(why).as_bytes())
+}
+
 /// Ends a run whose input is a script.
-fn end_with_script<K: Sink>(alloc: Global, input: &[u8], script: &Script, sink: &mut K) -> Finish
+fn end_with_script<K: Sink>(
+    alloc: Global,
+    options: Options,
+    input: &[u8],
+    script: &Script,
+    sink: &mut K,
+) -> Finish
     requires { read_as Form.Calls input.now ≡ Ok script.now }
-    ensures { FinishesInput input.now (K.written sink.old) (K.written sink.new)
+    ensures { Finishes (HasInput options input.now) (K.written sink.old) (K.written sink.new)
         (Rose (K.faults sink.old) (K.faults sink.new)) result }
 {
     if !is_built(script) {
         return end_with_line(sink, 8, b"bpfmap: not built\n");
     }
-    end_with_run(alloc, input, script, sink)
+    end_with_run(alloc, options, input, script, sink)
 }
 
 /// Ends a run whose input was read to its end.
-fn end_with_input<K: Sink>(alloc: Global, input: &[u8], sink: &mut K) -> Finish
+fn end_with_input<K: Sink>(alloc: Global, options: Options, input: &[u8], sink: &mut K) -> Finish
     requires { length input.now ≤ 16777216 }
-    ensures { FinishesInput input.now (K.written sink.old) (K.written sink.new)
+    ensures { Finishes (HasInput options input.now) (K.written sink.old) (K.written sink.new)
         (Rose (K.faults sink.old) (K.faults sink.new)) result }
 {
     match read_script(alloc, input, Form::Calls) {
-        Ok(script) => end_with_script(alloc, input, &script, sink),
+        Ok(script) => end_with_script(alloc, options, input, &script, sink),
         Err(ScriptRefusal::Fault { line, cause }) => end_with_fault(
             alloc, input, sink, line, cause,
         ),
-        Err(ScriptRefusal::Create(why)) => end_with_line(sink, 6, refusal_line(why).as_bytes()),
+        Err(ScriptRefusal::Create(why)) => end_with_refusal(input, sink, why),
         Err(ScriptRefusal::NoMemory) => end_with_line(sink, 5, b"bpfmap: memory\n"),
     }
 }
@@ -145,16 +158,31 @@ fn end_with_words<S: Source, K: Sink>(
     source: &mut S,
     sink: &mut K,
 ) -> Finish
-    ensures finish { Finishes (map string_bytes words.now) (S.left source.old) (S.left source.new)
-        (Rose (S.faults source.old) (S.faults source.new)) (K.written sink.old) (K.written sink.new)
+    ensures finish { Finishes (HasCause (map string_bytes words.now) (S.left source.old) (S.left source.new)
+        (Rose (S.faults source.old) (S.faults source.new))) (K.written sink.old) (K.written sink.new)
         (Rose (K.faults sink.old) (K.faults sink.new)) result }
     ensures unread { are_words (map string_bytes words.now) ≡ false → source.new ≡ source.old }
 {
-    if !are_words(words) {
-        return end_with_line(sink, 2, b"bpfmap: words\n");
+    match options_of(alloc, words) {
+        Ok(options) => end_with_source(alloc, options, source, sink),
+        Err(WordsStop::Other) => end_with_line(sink, 2, b"bpfmap: words\n"),
+        Err(WordsStop::NoMemory) => end_with_line(sink, 5, b"bpfmap: memory\n"),
     }
+}
+
+/// Ends a run whose words are good.
+fn end_with_source<S: Source, K: Sink>(
+    alloc: Global,
+    options: Options,
+    source: &mut S,
+    sink: &mut K,
+) -> Finish
+    ensures { Finishes (HasSource options (S.left source.old) (S.left source.new)
+        (Rose (S.faults source.old) (S.faults source.new))) (K.written sink.old) (K.written sink.new)
+        (Rose (K.faults sink.old) (K.faults sink.new)) result }
+{
     match read_all(alloc, source) {
-        Ok(input) => end_with_input(alloc, input.as_slice(), sink),
+        Ok(input) => end_with_input(alloc, options, input.as_slice(), sink),
         Err(ReadStop::Failed) => end_with_line(sink, 3, b"bpfmap: read\n"),
         Err(ReadStop::TooLong) => end_with_line(sink, 7, b"bpfmap: too long\n"),
         Err(ReadStop::NoMemory) => end_with_line(sink, 5, b"bpfmap: memory\n"),
@@ -163,13 +191,15 @@ fn end_with_words<S: Source, K: Sink>(
 
 /// Runs the program: reads a script to its end, runs it in the mode that the words name, and writes its report.
 ///
-/// The words are the program's name, which is not looked at, and `serial`. A script whose run is built is run in serial
-/// order. The status says how it ended, and what was written is the report or one line:
+/// The words are the program's name, which is not looked at, then `serial` once and `--dump` at most once, in any order.
+/// One `--` may stand among them, after which no option follows. A script whose run is built is run in serial order, and
+/// with `--dump` the report says what the map holds at the end. The status says how it ended, and what was written is the
+/// report or one line:
 ///
 /// | status | comes | written |
 /// |---|---|---|
 /// | 0 | the report was written and flushed | the report |
-/// | 1 | exactly where the input was read to its end and isn't a script | `bpfmap: line N: CAUSE` |
+/// | 1 | exactly where the input was read to its end and has a fault of the grammar | `bpfmap: line N: CAUSE` |
 /// | 2 | exactly where the words are others; nothing is read | `bpfmap: words` |
 /// | 3 | only where the source's count of faults rose | `bpfmap: read` |
 /// | 4 | only where the sink's count of faults rose | a prefix of the report or the line |
@@ -178,7 +208,8 @@ fn end_with_words<S: Source, K: Sink>(
 /// | 7 | exactly where 16,777,217 bytes were read | `bpfmap: too long` |
 /// | 8 | exactly where the input is a script whose run isn't built | `bpfmap: not built` |
 ///
-/// Status 4 replaces the one whose report or line could not be written.
+/// Status 4 replaces the one whose report or line could not be written, and status 5 may come in the place of any other. The
+/// record of the run is kept exactly where its report was due: with status 0, and with 4 in the place of it.
 pub fn bpfmap<R: Threads + Wait + Sync, S: Source, K: Sink, G: Gate>(
     _rt: &R,
     alloc: Global,
@@ -188,8 +219,8 @@ pub fn bpfmap<R: Threads + Wait + Sync, S: Source, K: Sink, G: Gate>(
     _gate: &G,
 ) -> Finish
     // How it ended, why, what was written, and what is kept.
-    ensures finish { Finishes (map string_bytes words.now) (S.left source.old) (S.left source.new)
-        (Rose (S.faults source.old) (S.faults source.new)) (K.written sink.old) (K.written sink.new)
+    ensures finish { Finishes (HasCause (map string_bytes words.now) (S.left source.old) (S.left source.new)
+        (Rose (S.faults source.old) (S.faults source.new))) (K.written sink.old) (K.written sink.new)
         (Rose (K.faults sink.old) (K.faults sink.new)) result }
 
     // Where the source tells its bytes, the status is the one that they have, unless a read or a write failed or

@@ -1,9 +1,12 @@
 //! Runs scripts of calls on maps, and prints what they answered.
 #![tactic(auto)]
 
+mod bodies;
+mod buckets;
 mod delivery;
+mod dump;
+mod finals;
 mod finish;
-mod kept;
 mod memory;
 mod plain;
 mod reading;
@@ -12,12 +15,14 @@ mod serial;
 mod served;
 mod sink;
 mod source;
+mod stacks;
 #[cfg(test)]
 mod tests;
 mod text;
+mod words;
 
+pub use finals::{Finals, Kept, LocalFinal, SetFinal};
 pub use finish::bpfmap;
-pub use kept::Kept;
 pub use memory::{MemSink, MemSource};
 pub use record::{Finish, Options, RunRecord};
 pub use serial::run_serial;

@@ -1,8 +1,9 @@
 //! What is kept of a run, and how it ended.
 
+use crate::Finals;
 use map_types::{List, Reply};
 
-/// What a report has beside the replies.
+/// How a report is written, and what it has beside the replies.
 #[derive(Clone, Copy, Debug, PartialEq, Eq)]
 pub struct Options {
     /// What happened under each lock.
@@ -18,6 +19,8 @@ pub struct Options {
 pub struct RunRecord {
     /// The answer to each call, in the script's order.
     pub replies: List<Reply>,
+    /// What the map holds at the end.
+    pub finals: Finals,
 }
 
 /// How a run of the program ended.
@@ -25,6 +28,6 @@ pub struct RunRecord {
 pub struct Finish {
     /// The status of the process, as `bpfmap` lists them.
     pub status: u8,
-    /// What is kept of the run, where it came to its end.
+    /// The record of the run, exactly where its report was due: with status 0, and with 4 in the place of it.
     pub kept: Option<RunRecord>,
 }

@@ -51,14 +51,16 @@ fn listed(alloc: Global, number: Option<u32>) -> Result<List<u32>, AllocError> {
 fn run<R: Threads + Wait + Sync>(
     rt: &R,
     alloc: Global,
-    mode: &str,
+    line: &str,
     input: Vec<u8>,
     faults: Faults,
 ) -> Result<Left, Fail> {
     let limit = faults.piece_limit.max(1);
     let mut words = Vec::new(alloc);
     words.push(String::from_str(alloc, "bpfmap")?)?;
-    words.push(String::from_str(alloc, mode)?)?;
+    for word in line.split(' ') {
+        words.push(String::from_str(alloc, word)?)?;
+    }
     let mut source = MemSource::of(List::of(input), listed(alloc, faults.read)?, limit);
     let mut sink = MemSink::of(alloc, listed(alloc, faults.write)?, limit, faults.room).map_err(
         |_| AllocError,
@@ -80,21 +82,90 @@ fn scripts_are_run(rt: HostRuntime) -> Result<(), Fail> {
     assert_eq!(rt; left.sink.flushed(), FIRST_REPORT.len());
     assert_eq!(rt; left.status, 0);
     assert_eq!(rt; left.kept, Some(4));
+    Ok(())
+}
 
-    // A full map refuses a new key, and its spare takes a present one. Flags are refused in their order.
-    for (script, report) in [
-        (
-            "map hash key 1 value 1 max 1 cpus 1\n0 update any 01 aa\n0 update any 02 bb\n0 update any 01 cc\n0 lookup 01",
-            "map hash capacity 1 elements 2 buckets 1\n1 ok\n2 e2big\n3 ok\n4 ok cc\nend\n",
-        ),
-        (
-            "map hash key 1 value 1 max 2 cpus 1\n0 update exist 01 aa\n0 update noexist 01 aa\n0 update noexist 01 bb\n0 sysupdate exist 01 cc\n0 update 3 01 dd\n0 update 4 02 dd\n0 syslookup 01\n0 take 01\n0 take 01\n",
-            "map hash capacity 2 elements 3 buckets 2\n1 enoent\n2 ok\n3 eexist\n4 ok\n5 einval\n6 einval\n7 ok cc\n8 ok cc\n9 enoent\nend\n",
-        ),
-    ] {
-        let script = format!(in alloc; "bpfmap 1\n{script}")?;
+/// Words, a script behind its version line, and its report.
+const RUNS: [(&str, &str, &str); 12] = [
+    // No calls: one element on the freelist, and one spare.
+    (
+        "serial --dump",
+        "map hash key 1 value 1 max 1 cpus 1",
+        "map hash capacity 1 elements 2 buckets 1\nfreelist 0 0\nspare 0 1\nend\n",
+    ),
+    // A full map refuses a new key, and its spare takes a present one.
+    (
+        "--dump -- serial",
+        "map hash key 1 value 1 max 1 cpus 1\n0 update any 01 aa\n0 update any 02 bb\n0 update any 01 cc\n0 lookup 01",
+        "map hash capacity 1 elements 2 buckets 1\n1 ok\n2 e2big\n3 ok\n4 ok cc\nbucket 0 1 01 cc\nfreelist 0\nspare 0 0\nend\n",
+    ),
+    // An element changes stacks: it is popped from CPU 1's, and pushed on CPU 0's.
+    (
+        "serial --dump",
+        "map hash key 1 value 1 max 1 cpus 2\n0 update any 01 aa\n0 delete 01",
+        "map hash capacity 1 elements 3 buckets 1\n1 ok\n2 ok\nfreelist 0 2\nfreelist 1\nspare 0 1\nspare 1 0\nend\n",
+    ),
+    // Flags are refused in their order.
+    (
+        "serial",
+        "map hash key 1 value 1 max 2 cpus 1\n0 update exist 01 aa\n0 update noexist 01 aa\n0 update noexist 01 bb\n0 update exist 01 cc\n0 update 3 01 dd\n0 update 4 02 dd\n0 lookup 01",
+        "map hash capacity 2 elements 3 buckets 2\n1 enoent\n2 ok\n3 eexist\n4 ok\n5 einval\n6 einval\n7 ok cc\nend\n",
+    ),
+    // A seed; the head of a bucket; whose spare it is; what a refusal leaves.
+    (
+        "serial --dump",
+        "map hash key 1 value 1 max 4 cpus 2 seed 1\n1 update any 01 a1\n1 update any 02 a2\n1 update any 03 a3\n1 update any 02 b2\n0 update noexist 02 ff\n0 update exist 04 ff\n0 update 4 02 ff\n0 lookup 02",
+        "map hash capacity 4 elements 6 buckets 4\n1 ok\n2 ok\n3 ok\n4 ok\n5 eexist\n6 enoent\n7 einval\n8 ok b2\nbucket 3 1 02 b2\nbucket 3 3 03 a3\nbucket 3 5 01 a1\nfreelist 0 0\nfreelist 1\nspare 0 2\nspare 1 4\nend\n",
+    ),
+    // A write in place leaves its element where it stands, and a deletion pushes on the calling CPU's freelist.
+    (
+        "serial --dump",
+        "map percpu_hash key 1 value 1 max 4 cpus 2\n0 update any 01 a1\n0 update any 02 a2\n1 update any 01 b1\n1 delete 02",
+        "map percpu_hash capacity 4 elements 4 buckets 4\n1 ok\n2 ok\n3 ok\n4 ok\nbucket 3 1 01 a1 b1\nfreelist 0\nfreelist 1 0 3 2\nend\n",
+    ),
+    // Both sides of HASH are alike, takes too.
+    (
+        "serial",
+        "map hash key 1 value 1 max 2 cpus 1\n0 update exist 01 aa\n0 update noexist 01 aa\n0 update noexist 01 bb\n0 sysupdate exist 01 cc\n0 update 3 01 dd\n0 update 4 02 dd\n0 syslookup 01\n0 take 01\n0 take 01",
+        "map hash capacity 2 elements 3 buckets 2\n1 enoent\n2 ok\n3 eexist\n4 ok\n5 einval\n6 einval\n7 ok cc\n8 ok cc\n9 enoent\nend\n",
+    ),
+    // Each CPU has its value, and the system call sees all of them.
+    (
+        "serial",
+        "map percpu_hash key 1 value 5 max 1 cpus 3\n1 update any 01 0102030405\n1 lookup 01\n0 lookup 01\n2 syslookup 01\n0 sysupdate any 01 1111111111ffffff2222222222ffffff3333333333ffffff\n2 lookup 01\n2 syslookup 01\n0 update exist 01 4444444444\n0 syslookup 01\n0 update any 02 0000000000",
+        "map percpu_hash capacity 1 elements 1 buckets 1\n1 ok\n2 ok 0102030405\n3 ok 0000000000\n4 ok 000000000000000001020304050000000000000000000000\n5 ok\n6 ok 3333333333\n7 ok 111111111100000022222222220000003333333333000000\n8 ok\n9 ok 444444444400000022222222220000003333333333000000\n10 e2big\nend\n",
+    ),
+    // A pop goes round from the own CPU: from CPU 2 to CPU 0, then to CPU 1.
+    (
+        "serial --dump",
+        "map percpu_hash key 1 value 1 max 2 cpus 3\n2 update any 01 aa\n2 update any 03 bb",
+        "map percpu_hash capacity 2 elements 2 buckets 2\n1 ok\n2 ok\nbucket 0 1 03 00 00 bb\nbucket 1 0 01 00 00 aa\nfreelist 0\nfreelist 1\nfreelist 2\nend\n",
+    ),
+    // The same calls on 1, 3 and 16 CPUs.
+    (
+        "serial --dump",
+        "map hash key 1 value 1 max 2 cpus 1\n0 update any 01 a1\n0 update any 02 b2\n0 update any 03 c3\n0 delete 01\n0 update any 03 c3",
+        "map hash capacity 2 elements 3 buckets 2\n1 ok\n2 ok\n3 e2big\n4 ok\n5 ok\nbucket 0 1 03 c3\nbucket 1 0 02 b2\nfreelist 0\nspare 0 2\nend\n",
+    ),
+    (
+        "serial --dump",
+        "map hash key 1 value 1 max 2 cpus 3\n0 update any 01 a1\n0 update any 02 b2\n0 update any 03 c3\n0 delete 01\n0 update any 03 c3",
+        "map hash capacity 2 elements 5 buckets 2\n1 ok\n2 ok\n3 e2big\n4 ok\n5 ok\nbucket 0 2 03 c3\nbucket 1 4 02 b2\nfreelist 0\nfreelist 1\nfreelist 2\nspare 0 1\nspare 1 0\nspare 2 3\nend\n",
+    ),
+    (
+        "serial --dump",
+        "map hash key 1 value 1 max 2 cpus 16\n0 update any 01 a1\n0 update any 02 b2\n0 update any 03 c3\n0 delete 01\n0 update any 03 c3",
+        "map hash capacity 2 elements 18 buckets 2\n1 ok\n2 ok\n3 e2big\n4 ok\n5 ok\nbucket 0 16 03 c3\nbucket 1 17 02 b2\nfreelist 0\nfreelist 1\nfreelist 2\nfreelist 3\nfreelist 4\nfreelist 5\nfreelist 6\nfreelist 7\nfreelist 8\nfreelist 9\nfreelist 10\nfreelist 11\nfreelist 12\nfreelist 13\nfreelist 14\nfreelist 15\nspare 0 1\nspare 1 0\nspare 2 3\nspare 3 2\nspare 4 4\nspare 5 5\nspare 6 6\nspare 7 7\nspare 8 8\nspare 9 9\nspare 10 10\nspare 11 11\nspare 12 12\nspare 13 13\nspare 14 14\nspare 15 15\nend\n",
+    ),
+];
+
+#[test]
+fn runs_have_their_reports(rt: HostRuntime) -> Result<(), Fail> {
+    let alloc = rt.alloc();
+    for (words, script, report) in RUNS {
+        let script = format!(in alloc; "bpfmap 1\n{script}\n")?;
         let input = script.as_bytes().to_vec(alloc)?;
-        let left = run(&rt, alloc, "serial", input, NO_FAULTS)?;
+        let left = run(&rt, alloc, words, input, NO_FAULTS)?;
         assert_eq!(rt; left.sink.written(), report.as_bytes());
         assert_eq!(rt; left.status, 0);
     }
@@ -113,38 +184,117 @@ fn other_words_read_nothing(rt: HostRuntime) -> Result<(), Fail> {
     Ok(())
 }
 
+/// An input, the line that it gets, and its status.
+const INPUTS: [(&str, &str, u8); 23] = [
+    ("", "bpfmap: line 1: version\n", 1),
+    ("bpfmap 2\n", "bpfmap: line 1: version\n", 1),
+    ("bpfmap 1\nmap hash key 2\n", "bpfmap: line 2: map\n", 1),
+    (
+        "bpfmap 1\nmap hash key 2 value 1 max 1 cpus 1\n0 lookup 010\n",
+        "bpfmap: line 3: length\n",
+        1,
+    ),
+    (
+        "bpfmap 1\nmap hash key 2 value 1 max 1 cpus 1\n0 lookup 01zz\n",
+        "bpfmap: line 3: digits\n",
+        1,
+    ),
+    (
+        "bpfmap 1\nmap hash key 2 value 1 max 1 cpus 1\n1 lookup 0102\n",
+        "bpfmap: line 3: cpu\n",
+        1,
+    ),
+    (
+        "bpfmap 1\nmap hash key 2 value 1 max 1 cpus 1\n0 frob 0102\n",
+        "bpfmap: line 3: verb\n",
+        1,
+    ),
+    (
+        "bpfmap 1\nmap hash key 2 value 1 max 1 cpus 1\n0 lookup\n",
+        "bpfmap: line 3: missing\n",
+        1,
+    ),
+    (
+        "bpfmap 1\nmap hash key 2 value 1 max 1 cpus 1\n0 lookup 0102 03\n",
+        "bpfmap: line 3: extra\n",
+        1,
+    ),
+    (
+        "bpfmap 1\nmap lru_hash key 1 value 1 max 1 cpus 1 flags 1\n0 frob\n",
+        "bpfmap: map refused: enotsupp\n",
+        6,
+    ),
+    (
+        "bpfmap 1\nmap hash key 1 value 1 max 1 cpus 1 flags 1\n",
+        "bpfmap: map refused: einval\n",
+        6,
+    ),
+    (
+        "bpfmap 1\nmap hash key 1 value 1 max 1 cpus 1 flags 2\n",
+        "bpfmap: map refused: einval\n",
+        6,
+    ),
+    (
+        "bpfmap 1\nmap hash key 0 value 1 max 1 cpus 1\n",
+        "bpfmap: map refused: einval\n",
+        6,
+    ),
+    (
+        "bpfmap 1\nmap hash key 1 value 1 max 1 cpus 1 flags 64 seed 5\n",
+        "bpfmap: map refused: einval\n",
+        6,
+    ),
+    (
+        "bpfmap 1\nmap hash key 1 value 1 max 1 cpus 1 flags 4\n",
+        "bpfmap: map refused: einval\n",
+        6,
+    ),
+    (
+        "bpfmap 1\nmap hash key 1 value 1 max 1 cpus 17\n",
+        "bpfmap: map refused: limit cpus\n",
+        6,
+    ),
+    (
+        "bpfmap 1\nmap hash key 1 value 1 max 65537 cpus 1\n",
+        "bpfmap: map refused: limit max\n",
+        6,
+    ),
+    (
+        "bpfmap 1\nmap hash key 513 value 1 max 1 cpus 1\n",
+        "bpfmap: map refused: limit key\n",
+        6,
+    ),
+    (
+        "bpfmap 1\nmap hash key 1 value 4097 max 1 cpus 1\n",
+        "bpfmap: map refused: limit value\n",
+        6,
+    ),
+    (
+        "bpfmap 1\nmap hash key 8 value 4096 max 65536 cpus 1\n",
+        "bpfmap: map refused: limit pool\n",
+        6,
+    ),
+    (
+        "bpfmap 1\nmap lru_hash key 1 value 1 max 65536 cpus 1\n",
+        "bpfmap: not built\n",
+        8,
+    ),
+    (
+        "bpfmap 1\nmap hash key 1 value 1 max 1 cpus 1\n0 next\n",
+        "bpfmap: not built\n",
+        8,
+    ),
+    (
+        "bpfmap 1\nmap percpu_hash key 1 value 1 max 1 cpus 1\n0 batch_lookup 1 -\n",
+        "bpfmap: not built\n",
+        8,
+    ),
+];
+
 #[test]
 fn inputs_have_their_status(rt: HostRuntime) -> Result<(), Fail> {
     let alloc = rt.alloc();
-    for (input, line, status) in [
-        ("", "bpfmap: line 1: version\n", 1),
-        ("bpfmap 1\nmap hash key 2\n", "bpfmap: line 2: map\n", 1),
-        (
-            "bpfmap 1\nmap hash key 2 value 1 max 1 cpus 1\n0 lookup 010\n",
-            "bpfmap: line 3: length\n",
-            1,
-        ),
-        (
-            "bpfmap 1\nmap lru_hash key 1 value 1 max 1 cpus 1 flags 1\n0 frob\n",
-            "bpfmap: map refused: enotsupp\n",
-            6,
-        ),
-        (
-            "bpfmap 1\nmap hash key 8 value 4096 max 65536 cpus 1\n",
-            "bpfmap: map refused: limit pool\n",
-            6,
-        ),
-        (
-            "bpfmap 1\nmap lru_hash key 1 value 1 max 65536 cpus 1\n",
-            "bpfmap: not built\n",
-            8,
-        ),
-        (
-            "bpfmap 1\nmap hash key 1 value 1 max 1 cpus 1\n0 next\n",
-            "bpfmap: not built\n",
-            8,
-        ),
-    ] {
+    for (input, line, status) in INPUTS {
         let input = input.as_bytes().to_vec(alloc)?;
         let left = run(&rt, alloc, "serial", input, NO_FAULTS)?;
         assert_eq!(rt; left.sink.written(), line.as_bytes());
@@ -168,15 +318,16 @@ fn inputs_have_their_status(rt: HostRuntime) -> Result<(), Fail> {
     );
     assert_eq!(rt; (left.status, left.unread), (1, 0));
 
-    let left = run(
-        &rt,
-        alloc,
-        "serial",
-        vec![in alloc; b'#'; 16_777_218]?,
-        whole,
-    )?;
-    assert_eq!(rt; left.sink.written(), b"bpfmap: too long\n".as_slice());
-    assert_eq!(rt; (left.status, left.unread), (7, 1));
+    // No byte is read behind the one that is too many: the 257th read gives it, and the next one would fail.
+    for (bytes, unread) in [(16_777_217usize, 0usize), (16_777_218, 1)] {
+        let failing = Faults {
+            read: Some(257),
+            ..whole
+        };
+        let left = run(&rt, alloc, "serial", vec![in alloc; b'#'; bytes]?, failing)?;
+        assert_eq!(rt; left.sink.written(), b"bpfmap: too long\n".as_slice());
+        assert_eq!(rt; (left.status, left.unread), (7, unread));
+    }
     Ok(())
 }
 

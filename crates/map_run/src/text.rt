@@ -1,31 +1,44 @@
 //! The text of a report.
 
-ghost use Rattle.std.specs.Prelude.{◌≡◌, ◌++◌, IfOk, OnOk, codes, decimal};
+ghost use Rattle.std.specs.Prelude.{◌≡◌, [], ◌++◌, IfOk, OnOk, codes, decimal, if◌then◌else◌};
 ghost use Rattle.std.specs.List.{flat_map};
 ghost use Rattle.hex.specs.Hex.{encode_lower};
-ghost use Rattle.map_run.specs.Text.{errno_name, kind_name, map_line, pair_text, reply_lines, reply_text, report, stop_name};
+ghost use Rattle.map_run.specs.Text.{dump, errno_name, kind_name, map_line, pair_text, reply_lines, reply_text, report, stop_name};
 
-use crate::RunRecord;
+use crate::dump::push_dump;
+use crate::{Finals, Options, RunRecord};
 use map_script::Script;
 use map_types::{Errno, MapKind, NoMemory, Pairs, Reply, Shape};
 use std::alloc::{AllocError, Global};
 use std::io::Write;
 
-/// What is printed of a run: a line for the map, a numbered line for each reply, and `end`. It fails only where memory
-/// does.
+/// What is printed of a run: a line for the map, a numbered line for each reply, what the map holds at the end where
+/// that is asked for, and `end`. It fails only where memory does.
 #[tactic(auto, unfolding(crate::specs::Text::report))]
 pub(crate) fn report_of(
     alloc: Global,
     script: &Script,
     kept: &RunRecord,
+    options: Options,
 ) -> Result<Vec<u8>, NoMemory>
-    ensures { IfOk result (λ text. text.items ≡ report script.now kept.now) }
+    ensures { IfOk result (λ text. text.items ≡ report script.now kept.now options) }
 {
     let mut text = Vec::new(alloc);
     push_map_line(&mut text, &script.shape)?;
     push_reply_lines(&mut text, kept.replies.as_slice())?;
+    push_asked(&mut text, &kept.finals, options)?;
     text.extend_from_slice(b"end\n")?;
     Ok(text)
+}
+
+/// Adds what the options ask for.
+fn push_asked(text: &mut Vec<u8>, finals: &Finals, options: Options) -> Result<(), AllocError>
+    ensures { OnOk result (text.new.items ≡ text.old.items ++ (if options.dump then dump finals.now else [])) }
+{
+    if options.dump {
+        push_dump(text, finals)?;
+    }
+    Ok(())
 }
 
 /// Adds `map KIND capacity N elements N buckets N`.
@@ -117,7 +130,11 @@ pub(crate) fn push_labelled(
 }
 
 /// Adds a label and bytes as hexadecimal digits.
-fn push_labelled_bytes(text: &mut Vec<u8>, label: &[u8], bytes: &[u8]) -> Result<(), AllocError>
+pub(crate) fn push_labelled_bytes(
+    text: &mut Vec<u8>,
+    label: &[u8],
+    bytes: &[u8],
+) -> Result<(), AllocError>
     ensures { OnOk result (text.new.items ≡ text.old.items ++ label.now ++ encode_lower bytes.now) }
 {
     text.extend_from_slice(label)?;

@@ -1,7 +1,6 @@
 use Rattle.std.proofs.Common.{refl, ◌≡◌, Some, inl, inr, ap, ◌∙◌, subst}
 use Rattle.map_run.specs.Serial.{serial}
 use Rattle.map_run.specs.Text.{report}
-use Rattle.map_run.specs.Record.{IsRecord}
 use Rattle.map_run.specs.Writes.{AddsWhole, AddsPrefix}
 use Rattle.map_run.specs.Finish.{Ran, OutOfMemory}
 use Rattle.map_run.proofs.finish.end_with_run.Goals as goal
@@ -17,12 +16,12 @@ returns-in_default-report_of g c =
 pub returns : goal.returns
 returns g c =
     let kept_is : c.in-Ok.kept ≡ serial c.args.script.now = c.in-Ok.ensures.record in
-    let text_is : c.in-Ok-report_of.text.items ≡ report c.args.script.now (serial c.args.script.now) =
-    c.in-Ok-report_of.ensures ∙ ap (λ kept. report c.args.script.now kept) kept_is in
-    let whole : c.as_slice.result.now ≡ report c.args.script.now (serial c.args.script.now) = c.as_slice.ensures.value ∙ text_is in
+    let text_is : c.in-Ok-report_of.text.items ≡ report c.args.script.now (serial c.args.script.now) c.args.options =
+    c.in-Ok-report_of.ensures ∙ ap (λ kept. report c.args.script.now kept c.args.options) kept_is in
+    let whole : c.as_slice.result.now ≡ report c.args.script.now (serial c.args.script.now) c.args.options = c.as_slice.ensures.value ∙ text_is in
     record {
-      ending = Ran c.args.script.now;
-      cause = (c.requires.read, c.requires.built, subst (λ kept. IsRecord c.args.script.now kept) kept_is c.in-Ok.ensures.law);
+      ending = Ran c.args.options c.args.script.now;
+      cause = (refl, c.requires.read, c.requires.built, c.run_serial.ensures.laws);
       ends = record {
         kept = ap Some kept_is;
         delivered = elim c.match-deliver.branch [

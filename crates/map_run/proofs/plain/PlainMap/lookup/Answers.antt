@@ -1,14 +1,11 @@
-use Rattle.std.proofs.Common.{◌<◌, length, arith, sym, ap, ◌∙◌}
-use Rattle.std.proofs.lemmas.Result.{IfOk-weaker}
+use Rattle.std.proofs.Common.{◌≡◌, ◌<◌, length, arith, sym, ap, ◌∙◌, Some, option_map}
 use Rattle.map_run.specs.Buckets.{present}
-use Rattle.map_run.specs.Serial.{value_or_absent}
-use Rattle.map_run.proofs.CallLemmas.{plain_bucket}
+use Rattle.map_run.proofs.PlainLemmas.{chain_sized, body_sized}
 use Rattle.map_run.proofs.plain.PlainMap.lookup.Goals as goal
 
-pub returns : goal.returns
-returns c =
+pub value_of-requires-clause-sized : goal.value_of-requires-clause-sized
+value_of-requires-clause-sized c =
     let fields = c.self.inside in
     let within : c.bucket_number-number.result < length fields.buckets.items = omega (arith, fields.buckets.ok.0) in
-    let bucket = plain_bucket fields.shape fields.buckets.items fields.freelist.items fields.spare c.args.key.now _ c.index.result.now within c.bucket_number-number.ensures.value c.index.ensures in
-    rw (← c.self.view_is)
-    (IfOk-weaker c.value_in.result _ _ (λ reply is. is ∙ ap (λ b. value_or_absent (present c.args.key.now b)) (c.deref.ensures.value ∙ sym bucket)) c.value_in.ensures)
+    let found : present c.args.key.now c.index.result.now.bodies ≡ Some c.in-Some.body.now = sym c.body_in.ensures ∙ ap (option_map (λ body. body.now)) c.in-Some.is in
+    body_sized fields.shape c.index.result.now c.args.key.now c.in-Some.body.now (chain_sized fields.shape fields.buckets.items _ c.index.result.now c.self.invariant.sized within c.index.ensures) found

@@ -1,61 +1,109 @@
-use Rattle.std.proofs.Common.{◌≡◌, ◌<◌, ◌≤◌, ◌++◌, ◌∷◌, [], None, length, position, arith, sym, ap, ◌∙◌}
-use Rattle.map_types.specs.declared.kind.Side.TheVariants.{Prog}
-use Rattle.map_run.specs.Buckets.{has_key, present}
-use Rattle.map_run.proofs.BucketLemmas.{held_nowhere, held_somewhere}
-use Rattle.map_run.proofs.PlainLemmas.{same_bucket}
-use Rattle.map_run.proofs.StackLemmas.{empty_stack, popped_stack}
-use Rattle.map_run.proofs.CallLemmas.{update_unknown, plain_exists, plain_replaced, plain_absent, plain_full, plain_added}
+use Rattle.std.proofs.Common.{◌≡◌, ◌<◌, ◌≤◌, ◌∷◌, length, set, arith, sym, ap, subst, ◌∙◌}
+use Rattle.std.proofs.lemmas.List.{with_items_is}
+use Rattle.std.proofs.lemmas.List.Elements.{All-set}
+use Rattle.map_types.specs.declared.refusal.Errno.TheVariants.{E2big}
+use Rattle.map_types.specs.declared.reply.Reply.TheVariants.{Done, Refused}
+use Rattle.map_run.specs.Buckets.{without_key}
+use Rattle.map_run.specs.Freelists.{popped}
+use Rattle.map_run.specs.Plain.{PlainState, plain_lists, stacks_of}
+use Rattle.map_run.specs.Serial.{new_stored}
+use Rattle.map_run.proofs.PlainLemmas.{AllSized, same_place, spare_within, spare_read, update_unknown, plain_exists, plain_written, plain_replaced, plain_absent, plain_full, plain_added}
 use Rattle.map_run.proofs.plain.PlainMap.update.Goals as goal
 
 pub returns-then-flags-gt-BPF_EXIST-clause-exact : goal.returns-then-flags-gt-BPF_EXIST-clause-exact
-returns-then-flags-gt-BPF_EXIST-clause-exact c = update_unknown _ _ _ _ _ _ c.if-flags-gt-BPF_EXIST.true
-
-pub returns-in_default-clause-exact : goal.returns-in_default-clause-exact
-returns-in_default-clause-exact c =
-    let fields = c.self.inside in
-    let within : c.bucket_number-number.result < length fields.buckets.items = omega (arith, fields.buckets.ok.0) in
-    let absent : present c.args.key.now c.index.result.now.items ≡ None = held_nowhere c.args.key.now c.index.result.now.items (ap (position (has_key c.args.key.now)) (sym c.deref.ensures.value) ∙ sym c.place_of.ensures ∙ c.in-None-2.is) in
-    let empty : fields.freelist.items ≡ [] = empty_stack _ (let last = rw c.deref-in-None-2.ensures.value at c.last.ensures.value in sym last ∙ sym c.copied.ensures ∙ c.in_default.is) in
-    rw (← c.self.view_is)
-    (plain_full fields.shape fields.buckets.items fields.freelist.items fields.spare c.args.key.now _ c.index.result.now within c.bucket_number-number.ensures.value c.index.ensures
-    Prog c.args.flags c.args.value.now (omega arith) c.if-flags-eq-BPF_EXIST.false absent empty)
+returns-then-flags-gt-BPF_EXIST-clause-exact c = update_unknown _ _ _ _ _ _ _ c.if-flags-gt-BPF_EXIST.true
 
 pub returns-in-Some-clause-exact : goal.returns-in-Some-clause-exact
 returns-in-Some-clause-exact c =
     let fields = c.self.inside in
     let within : c.bucket_number-number.result < length fields.buckets.items = omega (arith, fields.buckets.ok.0) in
-    let present = held_somewhere c.args.key.now c.index.result.now.items _ (ap (position (has_key c.args.key.now)) (sym c.deref.ensures.value) ∙ sym c.place_of.ensures ∙ c.in-Some.is) in
     rw (← c.self.view_is)
-    (plain_exists fields.shape fields.buckets.items fields.freelist.items fields.spare c.args.key.now _ c.index.result.now within c.bucket_number-number.ensures.value c.index.ensures
-    Prog c.args.flags c.args.value.now present.0 c.if-flags-eq-BPF_NOEXIST.true present.1)
+    (plain_exists fields.shape fields.buckets.items (stacks_of fields.freelists.items) fields.spares.items c.args.key.now _ c.index.result.now within c.bucket_number-number.ensures.value c.index.ensures
+    c.args.side c.args.cpu c.args.flags c.args.value.now _ c.if-flags-eq-BPF_NOEXIST.true (sym c.find.ensures.place ∙ c.in-Some.is))
 
-pub returns-in_ok-old-in-Some-2-clause-exact : goal.returns-in_ok-old-in-Some-2-clause-exact
-returns-in_ok-old-in-Some-2-clause-exact c =
+pub returns-in-Some-2-clause-exact : goal.returns-in-Some-2-clause-exact
+returns-in-Some-2-clause-exact c =
     let fields = c.self.inside in
     let within : c.bucket_number-number.result < length fields.buckets.items = omega (arith, fields.buckets.ok.0) in
     let low : c.args.flags ≤ 2 = omega arith in
+    let found = same_place fields.buckets.items _ c.index.result.now c.index_mut-chain.result.now c.args.key.now _ within c.index.ensures c.index_mut-chain.ensures.value (sym c.find.ensures.place ∙ c.in-Some-2.is) in
     rw (← c.self.view_is)
-    (plain_replaced fields.shape fields.buckets.items fields.freelist.items fields.spare c.args.key.now _ c.index_mut.result.now within c.bucket_number-number.ensures.value c.index_mut.ensures.value
-    Prog c.args.flags c.args.value.now c.in_ok-old-in-Some-2.old c.replace.new.bucket low c.if-flags-eq-BPF_NOEXIST.false c.in_ok-old-in-Some-2.ensures.old c.in_ok-old-in-Some-2.ensures.bucket)
+    (plain_written fields.shape fields.buckets.items (stacks_of fields.freelists.items) fields.spares.items c.args.key.now _ c.index_mut-chain.result.now within c.bucket_number-number.ensures.value c.index_mut-chain.ensures.value
+    c.args.side c.args.cpu c.args.flags c.args.value.now _ c.write_in.new.chain low c.if-flags-eq-BPF_NOEXIST.false (sym c.is_percpu.ensures ∙ c.if-is_percpu.true) found c.write_in.ensures.written)
+
+pub returns-in_ok-old-in-Some-3-clause-exact : goal.returns-in_ok-old-in-Some-3-clause-exact
+returns-in_ok-old-in-Some-3-clause-exact c =
+    let fields = c.self.inside in
+    let within : c.bucket_number-number.result < length fields.buckets.items = omega (arith, fields.buckets.ok.0) in
+    let low : c.args.flags ≤ 2 = omega arith in
+    let there : c.args.cpu < length fields.spares.items =
+    subst (λ n. c.args.cpu < n) fields.spares.ok.0 (spare_within fields.shape c.args.cpu _ c.self.invariant.kind (sym c.is_percpu.ensures ∙ c.if-is_percpu.false)
+    (subst (λ n. c.args.cpu < n) (sym (ap (λ (state : PlainState). state.shape.cpus) c.self.view_is)) c.requires.cpu) c.self.invariant.spares) in
+    let spare = spare_read fields.spares.items c.args.cpu c.index-spare.result.now there c.index-spare.ensures in
+    let found = same_place fields.buckets.items _ c.index.result.now c.index_mut-chain-in-Some-3.result.now c.args.key.now _ within c.index.ensures c.index_mut-chain-in-Some-3.ensures.value (sym c.find.ensures.place ∙ c.in-Some-3.is) in
+    rw (← c.self.view_is)
+    (plain_replaced fields.shape fields.buckets.items (stacks_of fields.freelists.items) fields.spares.items c.args.key.now _ c.index_mut-chain-in-Some-3.result.now within c.bucket_number-number.ensures.value c.index_mut-chain-in-Some-3.ensures.value
+    c.args.side c.args.cpu c.args.flags c.args.value.now _ c.in_ok-old-in-Some-3.old c.replace_in.new.chain low c.if-flags-eq-BPF_NOEXIST.false (sym c.is_percpu.ensures ∙ c.if-is_percpu.false) found c.in_ok-old-in-Some-3.ensures.old
+    (c.in_ok-old-in-Some-3.ensures.bucket ∙ ap (λ element. new_stored fields.shape c.args.side c.args.cpu element c.args.key.now c.args.value.now ∷ without_key c.args.key.now c.index_mut-chain-in-Some-3.result.now.bodies) spare))
 
 pub returns-in-None-clause-exact : goal.returns-in-None-clause-exact
 returns-in-None-clause-exact c =
     let fields = c.self.inside in
     let within : c.bucket_number-number.result < length fields.buckets.items = omega (arith, fields.buckets.ok.0) in
-    let absent : present c.args.key.now c.index.result.now.items ≡ None = held_nowhere c.args.key.now c.index.result.now.items (ap (position (has_key c.args.key.now)) (sym c.deref.ensures.value) ∙ sym c.place_of.ensures ∙ c.in-None.is) in
     rw (← c.self.view_is)
-    (plain_absent fields.shape fields.buckets.items fields.freelist.items fields.spare c.args.key.now _ c.index.result.now within c.bucket_number-number.ensures.value c.index.ensures
-    Prog c.args.flags c.args.value.now c.if-flags-eq-BPF_EXIST.true absent)
+    (plain_absent fields.shape fields.buckets.items (stacks_of fields.freelists.items) fields.spares.items c.args.key.now _ c.index.result.now within c.bucket_number-number.ensures.value c.index.ensures
+    c.args.side c.args.cpu c.args.flags c.args.value.now c.if-flags-eq-BPF_EXIST.true (sym c.find.ensures.place ∙ c.in-None.is))
 
-pub returns-in_ok-put-in-None-2-clause-exact : goal.returns-in_ok-put-in-None-2-clause-exact
-returns-in_ok-put-in-None-2-clause-exact c =
+pub returns-in_default-clause-exact : goal.returns-in_default-clause-exact
+returns-in_default-clause-exact c =
     let fields = c.self.inside in
     let within : c.bucket_number-number.result < length fields.buckets.items = omega (arith, fields.buckets.ok.0) in
-    let absent : present c.args.key.now c.index.result.now.items ≡ None = held_nowhere c.args.key.now c.index.result.now.items (ap (position (has_key c.args.key.now)) (sym c.deref.ensures.value) ∙ sym c.place_of.ensures ∙ c.in-None-2.is) in
-    let stocked : fields.freelist.items ≡ c.pop.new.self.items ++ c.in-Some-copied.element ∷ [] = popped_stack _ _ _ _ _ (omega (arith, fields.freelist.ok.0))
-    (let last = rw c.deref-in-None-2.ensures.value at c.last.ensures.value in sym last ∙ sym c.copied.ensures ∙ c.in-Some-copied.is) c.pop.ensures.items c.pop.ensures.value in
-    let same = same_bucket fields.buckets.items _ c.index_mut-in-None-2.result.now c.index.result.now within c.index_mut-in-None-2.ensures.value c.index.ensures in
     let low : c.args.flags ≤ 2 = omega arith in
+    let now = c.pop.new.stacks in
+    let long : length now ≡ fields.freelists.len = c.pop.auto.stacks ∙ c.deref_mut.ensures.len in
+    let kept = with_items_is fields.freelists now long in
+    let stay : stacks_of now ≡ stacks_of fields.freelists.items = ap stacks_of (c.in_default.ensures.1 ∙ c.deref_mut.ensures.value) in
+    let empty = ap (popped c.args.cpu) (ap stacks_of (sym c.deref_mut.ensures.value)) ∙ c.in_default.ensures.0 in
     rw (← c.self.view_is)
-    (plain_added fields.shape fields.buckets.items fields.freelist.items fields.spare c.args.key.now _ c.index_mut-in-None-2.result.now within c.bucket_number-number.ensures.value c.index_mut-in-None-2.ensures.value
-    Prog c.args.flags c.args.value.now c.in-Some-copied.element c.pop.new.self.items c.put.new.bucket low c.if-flags-eq-BPF_EXIST.false (ap (λ b. present c.args.key.now b.items) same ∙ absent) stocked c.in_ok-put-in-None-2.ensures)
+    (ap (λ lists. (lists, Refused E2big)) (ap (λ stacks. plain_lists fields.buckets.items stacks fields.spares.items) (ap stacks_of kept ∙ stay))
+    ∙ plain_full fields.shape fields.buckets.items (stacks_of fields.freelists.items) fields.spares.items c.args.key.now _ c.index.result.now within c.bucket_number-number.ensures.value c.index.ensures
+    c.args.side c.args.cpu c.args.flags c.args.value.now low c.if-flags-eq-BPF_EXIST.false (sym c.find.ensures.place ∙ c.in-None-2.is) empty)
+
+pub returns-in_ok-add_in-in-None-2-clause-exact : goal.returns-in_ok-add_in-in-None-2-clause-exact
+returns-in_ok-add_in-in-None-2-clause-exact c =
+    let fields = c.self.inside in
+    let within : c.bucket_number-number.result < length fields.buckets.items = omega (arith, fields.buckets.ok.0) in
+    let low : c.args.flags ≤ 2 = omega arith in
+    let now = c.pop.new.stacks in
+    let long : length now ≡ fields.freelists.len = c.pop.auto.stacks ∙ c.deref_mut.ensures.len in
+    let kept = with_items_is fields.freelists now long in
+    let some = ap (popped c.args.cpu) (ap stacks_of (sym c.deref_mut.ensures.value)) ∙ c.in-Some-pop.ensures in
+    let none = same_place fields.buckets.items _ c.index.result.now c.index_mut-chain-in-None-2.result.now c.args.key.now _ within c.index.ensures c.index_mut-chain-in-None-2.ensures.value (sym c.find.ensures.place ∙ c.in-None-2.is) in
+    rw (← c.self.view_is)
+    (ap (λ lists. (lists, Done)) (ap (λ stacks. plain_lists (set fields.buckets.items c.bucket_number-number.result c.add_in.new.chain) stacks fields.spares.items) (ap stacks_of kept))
+    ∙ plain_added fields.shape fields.buckets.items (stacks_of fields.freelists.items) fields.spares.items c.args.key.now _ c.index_mut-chain-in-None-2.result.now within c.bucket_number-number.ensures.value c.index_mut-chain-in-None-2.ensures.value
+    c.args.side c.args.cpu c.args.flags c.args.value.now _ (stacks_of now) c.add_in.new.chain low c.if-flags-eq-BPF_EXIST.false none some c.in_ok-add_in-in-None-2.ensures.bucket)
+
+pub invariant_of-self-in-None-2 : goal.invariant_of-self-in-None-2
+invariant_of-self-in-None-2 c =
+    let whole = c.self.invariant in
+    record {
+      bounds = whole.bounds;
+      kind = whole.kind;
+      buckets = whole.buckets;
+      freelists = whole.freelists;
+      spares = whole.spares;
+      sized = All-set (AllSized c.self.inside.shape) c.self.inside.buckets.items c.bucket_number-number.result c.add_in.new.chain c.add_in.ensures.sized whole.sized;
+    }
+
+pub invariant_of-self-in_err-add_in-in-None-2 : goal.invariant_of-self-in_err-add_in-in-None-2
+invariant_of-self-in_err-add_in-in-None-2 c =
+    let whole = c.self.invariant in
+    record {
+      bounds = whole.bounds;
+      kind = whole.kind;
+      buckets = whole.buckets;
+      freelists = whole.freelists;
+      spares = whole.spares;
+      sized = All-set (AllSized c.self.inside.shape) c.self.inside.buckets.items c.bucket_number-number.result c.add_in.new.chain c.add_in.ensures.sized whole.sized;
+    }

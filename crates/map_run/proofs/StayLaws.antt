@@ -1,0 +1,103 @@
+-- Which calls leave the lists of a map as they were.
+use Rattle.std.proofs.Common.{◌≡◌, ℕ, zero, suc, ◌+◌, ◌==◌, nat_lt, List, [], ◌∷◌, Option, Some, None, take, length, refl, ap, sym, ◌∙◌, add-one}
+use Rattle.std.specs.Prelude.{slice_get}
+use Rattle.std.proofs.lemmas.Bool.{cond_both}
+use Rattle.std.proofs.lemmas.Option.{none-some, same_Some}
+use Rattle.map_types.specs.Stored.{Stored}
+use Rattle.map_types.specs.declared.attr.Shape.{Shape}
+use Rattle.map_types.specs.declared.call.Call.{Call}
+use Rattle.map_types.specs.declared.call.Verb.{Verb}
+use Rattle.map_types.specs.declared.call.Verb.TheVariants.{Lookup, Update, Delete, Take, Next, BatchRead, BatchUpdate, BatchDelete}
+use Rattle.map_types.specs.declared.kind.Side.{Side}
+use Rattle.map_types.specs.declared.kind.Side.TheVariants.{Sys}
+use Rattle.map_types.specs.declared.refusal.Errno.{Errno}
+use Rattle.map_types.specs.declared.reply.Reply.{Reply}
+use Rattle.map_types.specs.declared.reply.Reply.TheVariants.{Done, Refused}
+use Rattle.map_script.specs.declared.script.Script.{Script}
+use Rattle.map_run.specs.declared.finals.Finals.{Finals}
+use Rattle.map_run.specs.Buckets.{present}
+use Rattle.map_run.specs.Freelists.{popped}
+use Rattle.map_run.specs.Laws.{IsLookup, lists_before}
+use Rattle.map_run.specs.Serial.{opening, bucket_at, value_or_absent, added, updated, deleted, after_call, replies_from, lists_after, serial}
+
+-- a call that is refused leaves the lists
+abbrev Stays : Errno → Finals → Finals × Reply → Type 0
+Stays errno lists after = after.1 ≡ Refused errno → after.0 ≡ lists
+
+added_stays : (errno : Errno) (shape : Shape) (side : Side) (cpu : ℕ) (key value : List ℕ) (lists : Finals) (top : Option (ℕ × List (List ℕ))) → Stays errno lists (added shape side cpu key value lists top)
+added_stays errno shape side cpu key value lists None = λ refused. refl
+added_stays errno shape side cpu key value lists (Some top) = λ refused. absurd cc
+
+updated_stays : (errno : Errno) (shape : Shape) (side : Side) (cpu flags : ℕ) (key value : List ℕ) (lists : Finals) (found : Option Stored) → Stays errno lists (updated shape side cpu flags key value lists found)
+updated_stays errno shape side cpu flags key value lists None =
+    cond_both (flags == 2) _ _ (Stays errno lists) (λ two refused. refl) (λ other. added_stays errno shape side cpu key value lists (popped cpu lists.freelists))
+updated_stays errno shape side cpu flags key value lists (Some old) =
+    cond_both (flags == 1) _ _ (Stays errno lists) (λ one refused. refl) (λ other refused. absurd cc)
+
+-- a key that is there is taken out, and the call isn't refused
+deleted_stays : (errno : Errno) (shape : Shape) (cpu : ℕ) (key : List ℕ) (lists : Finals) (found : Option Stored) → Stays errno lists (deleted shape cpu key lists Done found)
+deleted_stays errno shape cpu key lists None = λ refused. refl
+deleted_stays errno shape cpu key lists (Some old) = λ refused. absurd cc
+
+taken_stays : (errno : Errno) (shape : Shape) (cpu : ℕ) (key : List ℕ) (lists : Finals) (found : Option Stored) → Stays errno lists (deleted shape cpu key lists (value_or_absent shape Sys cpu found) found)
+taken_stays errno shape cpu key lists None = λ refused. refl
+taken_stays errno shape cpu key lists (Some old) = λ refused. absurd cc
+
+refused_stays : (errno : Errno) (shape : Shape) (cpu : ℕ) (verb : Verb) (lists : Finals) → Stays errno lists (after_call shape cpu verb lists)
+unfolding after_call
+refused_stays errno shape cpu (Lookup side key) lists = λ refused. refl
+refused_stays errno shape cpu (Update side flags key value) lists =
+    cond_both (nat_lt 2 flags) _ _ (Stays errno lists) (λ above refused. refl) (λ known. updated_stays errno shape side cpu flags key value lists (present key (bucket_at shape lists key)))
+refused_stays errno shape cpu (Delete key) lists = deleted_stays errno shape cpu key lists (present key (bucket_at shape lists key))
+refused_stays errno shape cpu (Take key) lists = taken_stays errno shape cpu key lists (present key (bucket_at shape lists key))
+refused_stays errno shape cpu (Next key) lists = λ refused. refl
+refused_stays errno shape cpu (BatchRead remove count start flags) lists = λ refused. refl
+refused_stays errno shape cpu (BatchUpdate flags pairs) lists = λ refused. refl
+refused_stays errno shape cpu (BatchDelete flags keys) lists = λ refused. refl
+
+lookup_stays : (shape : Shape) (cpu : ℕ) (verb : Verb) (lists : Finals) → IsLookup verb → (after_call shape cpu verb lists).0 ≡ lists
+unfolding after_call
+lookup_stays shape cpu (Lookup side key) lists is = refl
+lookup_stays shape cpu (Update side flags key value) lists is = absurd is
+lookup_stays shape cpu (Delete key) lists is = absurd is
+lookup_stays shape cpu (Take key) lists is = absurd is
+lookup_stays shape cpu (Next key) lists is = absurd is
+lookup_stays shape cpu (BatchRead remove count start flags) lists is = absurd is
+lookup_stays shape cpu (BatchUpdate flags pairs) lists is = absurd is
+lookup_stays shape cpu (BatchDelete flags keys) lists is = absurd is
+
+-- the lists after the call of an index are what that call makes of those before it
+next_lists : (shape : Shape) (calls : List Call) (n : ℕ) (call : Call) (lists : Finals) → slice_get calls n ≡ Some call
+    → lists_after shape lists (take (suc n) calls) ≡ (after_call shape call.cpu call.verb (lists_after shape lists (take n calls))).0
+next_lists shape [] n call lists none = absurd (none-some call none)
+next_lists shape (first ∷ calls) zero call lists is = ap (λ (here : Call). (after_call shape here.cpu here.verb lists).0) (same_Some first call is)
+next_lists shape (first ∷ calls) (suc n) call lists is = next_lists shape calls n call (after_call shape first.cpu first.verb lists).0 is
+
+-- and its reply is the call's
+reply_at : (shape : Shape) (calls : List Call) (n : ℕ) (reply : Reply) (lists : Finals) → slice_get (replies_from shape lists calls) n ≡ Some reply
+    → (call : Call) × (slice_get calls n ≡ Some call) × ((after_call shape call.cpu call.verb (lists_after shape lists (take n calls))).1 ≡ reply)
+reply_at shape [] n reply lists none = absurd (none-some reply none)
+reply_at shape (first ∷ calls) zero reply lists is = (first, refl, same_Some _ reply is)
+reply_at shape (first ∷ calls) (suc n) reply lists is = reply_at shape calls n reply (after_call shape first.cpu first.verb lists).0 is
+
+pub lookups_stay : (script : Script) (n : ℕ) (call : Call) → slice_get script.calls n ≡ Some call → IsLookup call.verb → lists_before script (n + 1) ≡ lists_before script n
+lookups_stay script n call is lookup =
+    rw add-one (next_lists script.shape script.calls n call (opening script.shape) is ∙ lookup_stays script.shape call.cpu call.verb (lists_before script n) lookup)
+
+replies_are : (script : Script) → (serial script).replies ≡ replies_from script.shape (opening script.shape) script.calls
+unfolding serial
+replies_are script = refl
+
+pub refusals_stay : (script : Script) (n : ℕ) (errno : Errno) → slice_get (serial script).replies n ≡ Some (Refused errno) → lists_before script (n + 1) ≡ lists_before script n
+refusals_stay script n errno is =
+    let at = reply_at script.shape script.calls n (Refused errno) (opening script.shape) (ap (λ (replies : List Reply). slice_get replies n) (sym (replies_are script)) ∙ is) in
+    rw add-one (next_lists script.shape script.calls n at.0 (opening script.shape) at.1 ∙ refused_stays errno script.shape at.0.cpu at.0.verb (lists_before script n) at.2)
+
+-- what is kept is what the map holds after the last call
+take_whole : {A : Type 0} (xs : List A) → take (length xs) xs ≡ xs
+take_whole [] = refl
+take_whole (x ∷ xs) = ap (λ rest. x ∷ rest) (take_whole xs)
+
+pub finals_are : (script : Script) → (serial script).finals ≡ lists_before script (length script.calls)
+unfolding serial
+finals_are script = ap (λ (calls : List Call). lists_after script.shape (opening script.shape) calls) (sym (take_whole script.calls))

@@ -1,0 +1,69 @@
+-- What holds of every run in serial order of a map that doesn't evict.
+use Rattle.std.specs.Prelude.{◌≡◌, ◌≢◌, ◌↔◌, ℕ, ◌+◌, ◌<◌, List, [], length, take, Some, None, option_map, All, slice_get, ⊤}
+use Rattle.map_types.specs.declared.attr.Shape.{Shape}
+use Rattle.map_types.specs.declared.call.Call.{Call}
+use Rattle.map_types.specs.declared.call.Verb.{Verb}
+use Rattle.map_types.specs.declared.call.Verb.TheVariants.{Lookup, Update}
+use Rattle.map_types.specs.declared.refusal.Errno.{Errno}
+use Rattle.map_types.specs.declared.refusal.Errno.TheVariants.{E2big, Enomem}
+use Rattle.map_types.specs.declared.reply.Reply.{Reply}
+use Rattle.map_types.specs.declared.reply.Reply.TheVariants.{Refused}
+use Rattle.map_types.specs.Stored.{Stored}
+use Rattle.map_script.specs.declared.script.Script.{Script}
+use Rattle.map_run.specs.declared.finals.Finals.{Finals}
+use Rattle.map_run.specs.Buckets.{present}
+use Rattle.map_run.specs.EachOnce.{in_buckets}
+use Rattle.map_run.specs.Entries.{Entry, entry_of, answers_from, entries_after}
+use Rattle.map_run.specs.Record.{IsRecord}
+use Rattle.map_run.specs.Serial.{opening, bucket_at, lists_after, serial}
+use Rattle.map_run.specs.Soundness.{IsSound}
+
+-- the lists of the map before the call of an index, and its entries as its user sees them
+abbrev pub lists_before : Script → ℕ → Finals
+lists_before script n = lists_after script.shape (opening script.shape) (take n script.calls)
+
+abbrev pub entries_before : Script → ℕ → List Entry
+entries_before script n = entries_after script.shape [] (take n script.calls)
+
+-- Entries are what lists hold: each key has the values that stand in its bucket, and there are as many keys.
+pub record Sees (shape : Shape) (lists : Finals) (entries : List Entry) : Type 0 where
+  pub each_key : (key : List ℕ) → option_map (λ (entry : Entry). entry.values) (entry_of key entries)
+      ≡ option_map (λ (stored : Stored). stored.values) (present key (bucket_at shape lists key))
+  pub count : length entries ≡ length (in_buckets lists)
+
+-- an update under BPF_ANY (0) or BPF_NOEXIST (1) of a key that isn't there, where `capacity` keys are present
+abbrev pub FindsNoRoom : Shape → List Entry → Verb → Type 0
+FindsNoRoom shape entries (Update side flags key value) =
+    (flags < 2) × (entry_of key entries ≡ None) × (length entries ≡ shape.capacity)
+FindsNoRoom shape entries _ = ⊥
+
+-- a call that only reads
+abbrev pub IsLookup : Verb → Type 0
+IsLookup (Lookup side key) = ⊤
+IsLookup _ = ⊥
+
+-- the call of an index is answered with E2BIG
+abbrev pub IsTooBig : Script → ℕ → Type 0
+IsTooBig script n = slice_get (serial script).replies n ≡ Some (Refused E2big)
+
+pub record SerialLaws (script : Script) : Type 0 where
+  -- what is kept is a record of the script
+  pub is_record : IsRecord script (serial script)
+  -- at each step of the run each element is in one place, and each key in its bucket
+  pub sound : (n : ℕ) → IsSound script.shape (lists_before script n)
+  -- what is kept is what it holds after the last call
+  pub finals : (serial script).finals ≡ lists_before script (length script.calls)
+  -- a lookup leaves it as it was, and so does a call that is refused
+  pub lookups_stay : (n : ℕ) (call : Call) → slice_get script.calls n ≡ Some call → IsLookup call.verb
+      → lists_before script (n + 1) ≡ lists_before script n
+  pub refusals_stay : (n : ℕ) (errno : Errno) → slice_get (serial script).replies n ≡ Some (Refused errno)
+      → lists_before script (n + 1) ≡ lists_before script n
+  -- the replies are those of a plain map from keys to values that has room for `capacity` keys
+  pub plain : (serial script).replies ≡ answers_from script.shape [] script.calls
+  -- and at each step that map holds what the lists hold
+  pub seen : (n : ℕ) → Sees script.shape (lists_before script n) (entries_before script n)
+  -- E2BIG comes exactly where a key that isn't there finds no room
+  pub too_big : (n : ℕ) (call : Call) → slice_get script.calls n ≡ Some call
+      → IsTooBig script n ↔ FindsNoRoom script.shape (entries_before script n) call.verb
+  -- no reply is ENOMEM
+  pub never_enomem : All (λ (reply : Reply). reply ≢ Refused Enomem) (serial script).replies
