@@ -4,7 +4,8 @@ use Rattle.std.specs.Prelude.{slice_get, remove, position, None, Some}
 use Rattle.std.specs.List.{list_any}
 use Rattle.std.proofs.lemmas.List.{reverse-append, length-reverse, get_or-reverse}
 use Rattle.map_types.specs.Stored.{Stored}
-use Rattle.bucket_chain.specs.Places.{has_key, key_at, values_at, with_values_at, HasDistinctKeys}
+use Rattle.place_words.specs.Bodies.{has_key, HasDistinctKeys}
+use Rattle.bucket_chain.specs.Places.{key_at, values_at, with_values_at}
 use Rattle.bucket_chain.proofs.Reversed.{slice_get-reverse, remove-reverse, set-reverse}
 use Rattle.bucket_chain.proofs.Keys.{distinct_written, distinct_removed, gone_removed, written_is, values_at-is}
 use Rattle.bucket_chain.proofs.Found.{none_passes}

@@ -9,7 +9,8 @@ use Rattle.std.proofs.lemmas.List.{get_or-map}
 use Rattle.std.proofs.lemmas.List.Quantifiers.{position-Some}
 use Rattle.std.proofs.lemmas.Slice.Eq.{bytes_eq-Decides}
 use Rattle.map_types.specs.Stored.{Stored}
-use Rattle.bucket_chain.specs.Places.{has_key, key_at}
+use Rattle.place_words.specs.Bodies.{has_key}
+use Rattle.bucket_chain.specs.Places.{key_at}
 
 some_if : (b : Bool) (x y : ℕ) → cond b (Some x) None ≡ Some y → (b ≡ true) × (x ≡ y)
 some_if true x y some = (refl, cc)

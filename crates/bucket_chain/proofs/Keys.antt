@@ -1,11 +1,12 @@
 -- Distinct keys, over what is written and removed.
-use Rattle.std.proofs.Common.{◌≡◌, ℕ, zero, suc, ◌<◌, Bool, true, false, ◌||◌, List, [], ◌∷◌, length, get_or, refl, ap, sym, ◌∙◌, arith}
+use Rattle.std.proofs.Common.{◌≡◌, ℕ, zero, suc, ◌<◌, Bool, true, false, ◌||◌, List, [], ◌∷◌, length, get_or, refl, ap, ◌∙◌, arith}
 use Rattle.std.specs.Prelude.{remove, bytes_eq, slice_set}
 use Rattle.std.specs.List.{list_any}
 use Rattle.std.proofs.lemmas.List.{get_or-map}
-use Rattle.std.proofs.lemmas.Slice.Eq.{bytes_eq-Decides}
 use Rattle.map_types.specs.Stored.{Stored}
-use Rattle.bucket_chain.specs.Places.{has_key, key_at, values_at, with_values_at, HasDistinctKeys}
+use Rattle.place_words.specs.Bodies.{has_key, HasDistinctKeys}
+use Rattle.place_words.proofs.BucketLaws.{bytes_differ}
+use Rattle.bucket_chain.specs.Places.{key_at, values_at, with_values_at}
 
 either_false : (a b : Bool) → (a || b) ≡ false → (a ≡ false) × (b ≡ false)
 either_false true b neither = cc
@@ -14,14 +15,6 @@ either_false false b neither = (refl, neither)
 both_false : (a b : Bool) → a ≡ false → b ≡ false → (a || b) ≡ false
 both_false true b first second = cc
 both_false false b first second = second
-
--- the order of the two keys does not matter
-bytes_differ : (a b : List ℕ) → bytes_eq a b ≡ false → bytes_eq b a ≡ false
-bytes_differ a b differ =
-    elim (bytes_eq b a) as (λ r. bytes_eq b a ≡ r → r ≡ false) [
-      | true ↦ λ same. let equal : b ≡ a = (bytes_eq-Decides b a).0 same in let yes : bytes_eq a b ≡ true = (bytes_eq-Decides a b).1 (sym equal) in cc
-      | false ↦ λ same. refl
-    ] refl
 
 any_written : (key : List ℕ) (place : ℕ) (values : List (List ℕ)) (bodies : List Stored) → list_any (has_key key) (with_values_at place values bodies) ≡ list_any (has_key key) bodies
 any_written key place values [] = refl
@@ -51,7 +44,7 @@ distinct_removed (suc place) (body ∷ bodies) distinct =
     (absent_removed (has_key body.key) place bodies distinct.0, distinct_removed place bodies distinct.1)
 
 -- a key that no body has is not that of the body at a place
-differs_at : (key : List ℕ) (place : ℕ) (bodies : List Stored) → list_any (has_key key) bodies ≡ false → place < length bodies → bytes_eq (key_at place bodies) key ≡ false
+pub differs_at : (key : List ℕ) (place : ℕ) (bodies : List Stored) → list_any (has_key key) bodies ≡ false → place < length bodies → bytes_eq (key_at place bodies) key ≡ false
 differs_at key place [] absent within = absurd (omega arith)
 differs_at key zero (body ∷ bodies) absent within = (either_false (has_key key body) (list_any (has_key key) bodies) absent).0
 differs_at key (suc place) (body ∷ bodies) absent within =

@@ -1,4 +1,8 @@
-pub mod Reversed
-pub mod Keys
-pub mod Found
+pub mod ByKey
 pub mod Changes
+pub mod Found
+pub mod Keys
+pub mod Reversed
+pub mod SizeLaws
+pub mod Turns
+pub mod WriteLaws

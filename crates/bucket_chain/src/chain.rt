@@ -1,10 +1,11 @@
 //! A bucket's list of bodies.
 
-ghost use Rattle.std.specs.Prelude.{◌≡◌, ◌-◌, ◌*◌, ◌^◌, ◌<◌, ◌≤◌, ◌↔◌, [], ◌∷◌, ◌++◌, length, remove, reverse, position, slice_get, slice_index_or, nat_lt, if◌then◌else◌, IsSome, IfSome, OnOk};
+ghost use Rattle.std.specs.Prelude.{◌≡◌, ◌-◌, ◌*◌, ◌^◌, ◌<◌, ◌≤◌, ◌↔◌, [], ◌∷◌, ◌++◌, length, remove, reverse, position, slice_get, slice_index_or, nat_lt, if◌then◌else◌, map, IsSome, IfSome, IfNone, MatchOption, OnOk};
 ghost use Rattle.std.specs.Option.{option_map};
 ghost use Rattle.map_types.specs.Parts.{part_size, values_in, written_own};
 ghost use Rattle.map_types.specs.ValueLen.{round8};
-ghost use Rattle.bucket_chain.specs.Places.{place_of_key, key_at, values_at, with_values_at, body_of, without_element, has_key, has_number, HasDistinctKeys};
+ghost use Rattle.place_words.specs.Bodies.{present, without_key, body_of, without_element, has_key, has_number, HasDistinctKeys};
+ghost use Rattle.bucket_chain.specs.Places.{place_of_key, key_at, values_at, with_values_at, rewritten};
 
 use map_types::NoMemory;
 use percpu_values::{Body, BoxedBody};
@@ -23,7 +24,7 @@ pub struct Chain {
 impl Model for Chain {
     ghost use Rattle.std.specs.Prelude.{◌-◌, ◌<◌, ◌^◌, length, reverse, vec_len, vec_capacity};
     ghost use Rattle.percpu_values.specs.BodyList.{BodyList};
-    ghost use Rattle.bucket_chain.specs.Places.{HasDistinctKeys};
+    ghost use Rattle.place_words.specs.Bodies.{HasDistinctKeys};
 
     ghost Value = { BodyList };
 
@@ -54,6 +55,8 @@ impl Chain {
     /// The place of a key, where it is in the list, as in the kernel's `lookup_elem_raw`.
     pub fn find(&self, key: &[u8]) -> Option<u32>
         ensures place { result ≡ place_of_key key.now self.now.bodies }
+        ensures holder { MatchOption result (present key.now self.now.bodies ≡ None)
+            (λ place. slice_get self.now.bodies place ≡ present key.now self.now.bodies) }
         ensures found { IfSome result (λ place. (place < length self.now.bodies) × (key_at place self.now.bodies ≡ key.now)) }
         ensures distinct { HasDistinctKeys self.now.bodies }
     {
@@ -76,13 +79,12 @@ impl Chain {
         requires in_range { part < length (values_at place self.old.bodies) }
         requires exact { length value.now ≡ part_size (values_at place self.old.bodies) }
         ensures bodies { self.new.bodies ≡ with_values_at place (written_own part value.now (values_at place self.old.bodies)) self.old.bodies }
+        ensures of_key { self.new.bodies ≡ map (rewritten (key_at place self.old.bodies) (written_own part value.now)) self.old.bodies }
         ensures room { self.new.spare ≡ self.old.spare }
     {
         let at = self.bodies.len() - 1 - place as usize;
-        self.bodies[at]
-            .body_mut()
-            .values_mut()
-            .write_own(part, value);
+        let body = self.bodies[at].body_mut();
+        body.values_mut().write_own(part, value);
     }
 
     /// Writes all parts of the values at a place, below the length, from their fields, as `Values` does.
@@ -90,6 +92,7 @@ impl Chain {
         requires at_body { place < length self.old.bodies }
         requires exact { length fields.now ≡ length (values_at place self.old.bodies) * round8 (part_size (values_at place self.old.bodies)) }
         ensures bodies { self.new.bodies ≡ with_values_at place (values_in (length (values_at place self.old.bodies)) (part_size (values_at place self.old.bodies)) fields.now) self.old.bodies }
+        ensures of_key { self.new.bodies ≡ map (rewritten (key_at place self.old.bodies) (λ values. values_in (length values) (part_size values) fields.now)) self.old.bodies }
         ensures room { self.new.spare ≡ self.old.spare }
     {
         let at = self.bodies.len() - 1 - place as usize;
@@ -111,7 +114,9 @@ impl Chain {
         requires at_body { place < length self.old.bodies }
         requires same_key { key_at place self.old.bodies ≡ body.key }
         ensures taken { slice_get self.old.bodies place ≡ Some result }
+        ensures holder { present body.key self.old.bodies ≡ Some result }
         ensures bodies { self.new.bodies ≡ body ∷ remove self.old.bodies place }
+        ensures of_key { self.new.bodies ≡ body ∷ without_key body.key self.old.bodies }
         ensures room { self.new.spare ≡ self.old.spare }
     {
         let at = self.bodies.len() - 1 - place as usize;
@@ -123,6 +128,8 @@ impl Chain {
         ensures taken { result ≡ slice_get self.old.bodies place }
         ensures present { IsSome result ↔ (place < length self.old.bodies) }
         ensures bodies { self.new.bodies ≡ remove self.old.bodies place }
+        ensures of_key { IfSome result (λ body. (present body.key self.old.bodies ≡ Some body) × (self.new.bodies ≡ without_key body.key self.old.bodies)) }
+        ensures same { IfNone result (self.new ≡ self.old) }
         ensures room { self.old.spare ≤ self.new.spare }
     {
         let at = self.index_of(place)?;
@@ -133,6 +140,7 @@ impl Chain {
     pub fn take_element(&mut self, element: u32) -> Option<BoxedBody>
         ensures taken { result ≡ body_of element self.old.bodies }
         ensures bodies { self.new.bodies ≡ without_element element self.old.bodies }
+        ensures same { IfNone result (self.new ≡ self.old) }
         ensures room { self.old.spare ≤ self.new.spare }
     {
         let place = position_of_element(&self.bodies, element)?;

@@ -1,12 +1,10 @@
 -- At each step of a run each key is in its bucket, once, with a key and values of the map's sizes.
-use Rattle.std.proofs.Common.{◌≡◌, ℕ, zero, suc, Bool, true, false, ◌||◌, eqb, nat_lt, List, [], ◌∷◌, ◌++◌, length, replicate, get_or, set, Option, Some, None, refl, ap, sym, ◌∙◌, subst}
+use Rattle.std.proofs.Common.{◌≡◌, ℕ, zero, suc, true, false, ◌||◌, eqb, nat_lt, List, [], ◌∷◌, ◌++◌, length, replicate, get_or, set, Option, Some, None, refl, ap, sym, ◌∙◌, subst}
 use Rattle.std.specs.Prelude.{bytes_eq, slice_index, slice_index_or}
 use Rattle.std.specs.List.{AllByRecursion, list_any, before_first, after_first}
-use Rattle.std.proofs.lemmas.Bool.{cond_both, or_parts, or_from}
-use Rattle.std.proofs.lemmas.Bool.Decides.{same_from_decides, Decides-like}
-use Rattle.std.proofs.lemmas.List.Folds.{list_any_none}
+use Rattle.std.proofs.lemmas.Bool.{cond_both}
 use Rattle.std.proofs.lemmas.Slice.Eq.{bytes_eq-Decides}
-use Rattle.bucket_chain.specs.Places.{has_key, HasDistinctKeys}
+use Rattle.place_words.specs.Bodies.{has_key, HasDistinctKeys}
 use Rattle.map_types.specs.Kind.{is_percpu}
 use Rattle.map_types.specs.Shape.{HasBounds}
 use Rattle.map_types.specs.Sides.{part_count, values_written}
@@ -20,13 +18,15 @@ use Rattle.map_types.specs.declared.kind.Side.{Side}
 use Rattle.map_types.specs.declared.reply.Reply.{Reply}
 use Rattle.map_types.specs.declared.reply.Reply.TheVariants.{Done}
 use Rattle.percpu_values.proofs.SideLemmas.{HaveSizes-written, HaveSizes-new}
-use Rattle.map_run.specs.declared.finals.Finals.{Finals}
-use Rattle.map_run.specs.Buckets.{bucket_of_key, present, without_key, with_in_place}
+use Rattle.place_words.specs.declared.finals.Finals.{Finals}
+use Rattle.place_words.specs.Bodies.{present, without_key}
+use Rattle.map_run.specs.Buckets.{bucket_of_key, with_in_place}
 use Rattle.map_run.specs.Freelists.{popped, pushed}
 use Rattle.map_run.specs.Serial.{opening, bucket_at, new_stored, replaced, written, added, updated, deleted, after_call}
 use Rattle.map_run.specs.Served.{is_built_kind, IsServedVerb, IsServedCall}
 use Rattle.map_run.specs.Soundness.{HasLists, IsBucket, HasNoLruLists}
-use Rattle.map_run.proofs.EachOnceSteps.{find_passes, find_misses, find_splits}
+use Rattle.place_words.proofs.Splits.{find_passes, find_splits, none_passes}
+use Rattle.place_words.proofs.BucketLaws.{distinct_cut, key_cut}
 
 -- Lists with one more in the middle
 
@@ -44,39 +44,16 @@ each_put P [] back x each here = (here, each)
 each_put P (y ∷ front) back x each here = (each.0, each_put P front back x each.1 here)
 
 -- whether one passes
-any_cut : (test : Stored → Bool) (front back : List Stored) (x : Stored) → list_any test (front ++ x ∷ back) ≡ false → (test x ≡ false) × (list_any test (front ++ back) ≡ false)
-any_cut test [] back x none = or_parts (test x) (list_any test back) none
-any_cut test (y ∷ front) back x none =
-    let parts = or_parts (test y) (list_any test (front ++ x ∷ back)) none in
-    let rest = any_cut test front back x parts.1 in
-    (rest.0, or_from (test y) (list_any test (front ++ back)) parts.0 rest.1)
-
 any_same : (key : List ℕ) (front back : List Stored) (x y : Stored) → x.key ≡ y.key → list_any (has_key key) (front ++ x ∷ back) ≡ list_any (has_key key) (front ++ y ∷ back)
 any_same key [] back x y same = ap (λ k. bytes_eq k key || list_any (has_key key) back) same
 any_same key (z ∷ front) back x y same = ap (λ b. has_key key z || b) (any_same key front back x y same)
 
 -- distinct keys
-distinct_cut : (front back : List Stored) (x : Stored) → HasDistinctKeys (front ++ x ∷ back) → HasDistinctKeys (front ++ back)
-distinct_cut [] back x distinct = distinct.1
-distinct_cut (y ∷ front) back x distinct =
-    ((any_cut (has_key y.key) front back x distinct.0).1, distinct_cut front back x distinct.1)
-
 distinct_same : (front back : List Stored) (x y : Stored) → x.key ≡ y.key → HasDistinctKeys (front ++ x ∷ back) → HasDistinctKeys (front ++ y ∷ back)
 distinct_same [] back x y same distinct =
     (subst (λ k. list_any (has_key k) back ≡ false) same distinct.0, distinct.1)
 distinct_same (z ∷ front) back x y same distinct =
     (sym (any_same z.key front back x y same) ∙ distinct.0, distinct_same front back x y same distinct.1)
-
--- the order of two keys doesn't matter
-differ_back : (a b : List ℕ) → bytes_eq a b ≡ false → bytes_eq b a ≡ false
-differ_back a b differ =
-    same_from_decides (bytes_eq b a) (bytes_eq a b) (bytes_eq-Decides b a) (Decides-like (bytes_eq a b) sym sym (bytes_eq-Decides a b)) ∙ differ
-
--- a key is gone with its element
-key_cut : (front back : List Stored) (x : Stored) → HasDistinctKeys (front ++ x ∷ back) → list_any (has_key x.key) (front ++ back) ≡ false
-key_cut [] back x distinct = distinct.0
-key_cut (y ∷ front) back x distinct =
-    or_from (has_key x.key y) (list_any (has_key x.key) (front ++ back)) (differ_back x.key y.key (any_cut (has_key y.key) front back x distinct.0).0) (key_cut front back x distinct.1)
 
 -- Buckets
 
@@ -120,11 +97,6 @@ bucket_put shape bucket new is absent sizes = record {
   distinct = (absent, is.distinct);
   sized = (sizes, is.sized);
 }
-
--- where no element is found for a key, none has it
-absent_key : (key : List ℕ) (bucket : List Stored) → present key bucket ≡ None → list_any (has_key key) bucket ≡ false
-absent_key key bucket none =
-    list_any_none (has_key key) bucket (λ k d within. find_misses (has_key key) bucket k d none within)
 
 -- a new element has a key and values of the map's sizes, and a write leaves the sizes
 new_sized : (shape : Shape) (side : Side) (cpu element : ℕ) (key value : List ℕ) → length key ≡ shape.key_size → length value ≡ value_len_of shape side
@@ -195,7 +167,7 @@ module _ (shape : Shape) (lists : Finals) (each : AreBuckets shape lists) (evict
       let bucket : List Stored = bucket_at shape lists key in
       let new : Stored = new_stored shape side cpu top.0 key value in
       bucket_keeps key (new ∷ bucket) top.1 lists.spares
-      (bucket_put shape bucket new (each (bucket_of_key shape key)) (absent_key key bucket is) (new_sized shape side cpu top.0 key value long exact))
+      (bucket_put shape bucket new (each (bucket_of_key shape key)) (none_passes (has_key key) bucket is) (new_sized shape side cpu top.0 key value long exact))
 
   -- a value is written in place
   written_keeps : (side : Side) (cpu : ℕ) (key value : List ℕ) (old : Stored) → length value ≡ value_len_of shape side → present key (bucket_at shape lists key) ≡ Some old → Keeps (written shape side cpu key value lists old)

@@ -1,5 +1,5 @@
 -- What is read, written and taken out where a key stands.
-use Rattle.std.proofs.Common.{◌≡◌, ℕ, suc, set, ◌+◌, ◌*◌, ◌<◌, ◌≤◌, true, false, List, [], ◌∷◌, ◌++◌, length, take, drop, get_or, ap, sym, ◌∙◌, subst, arith}
+use Rattle.std.proofs.Common.{◌≡◌, ℕ, suc, set, ◌+◌, ◌*◌, ◌<◌, false, List, [], ◌∷◌, ◌++◌, length, take, drop, get_or, ap, sym, ◌∙◌, subst, arith}
 use Rattle.std.specs.Prelude.{All, Some, remove, slice_get, if◌then◌else◌}
 use Rattle.std.specs.List.{position_or_len, before_first}
 use Rattle.std.proofs.lemmas.List.{set_split, take_more}
@@ -10,15 +10,16 @@ use Rattle.map_types.specs.declared.kind.Side.{Side}
 use Rattle.map_types.specs.declared.kind.Side.TheVariants.{Prog, Sys}
 use Rattle.map_types.specs.Kind.{is_percpu}
 use Rattle.map_types.specs.ValueLen.{round8, value_len_of}
-use Rattle.map_types.specs.Parts.{part_size, values_in, written_own}
+use Rattle.map_types.specs.Parts.{written_own}
 use Rattle.map_types.specs.Sides.{part_count, percpu_written, values_written}
 use Rattle.map_types.specs.Stored.{Stored, HasSizes}
 use Rattle.percpu_values.proofs.SideLemmas.{HaveSizes, HaveSizes-written}
-use Rattle.bucket_chain.specs.Places.{has_key, place_of_key, values_at, with_values_at}
+use Rattle.place_words.specs.Bodies.{has_key}
+use Rattle.bucket_chain.specs.Places.{place_of_key, values_at, with_values_at}
 use Rattle.bucket_chain.proofs.Found.{position_some, find_some, key_found}
 use Rattle.bucket_chain.proofs.Keys.{written_is, values_at-is}
-use Rattle.map_run.specs.Buckets.{present, without_key, with_in_place}
-use Rattle.map_run.proofs.BodyLemmas.{part_size_is, some_part}
+use Rattle.place_words.specs.Bodies.{present, without_key}
+use Rattle.map_run.specs.Buckets.{with_in_place}
 
 -- the body of the key stands at its place
 pub stands_at : (key : List ℕ) (bodies : List Stored) (place : ℕ) (old d : Stored) → place_of_key key bodies ≡ Some place → present key bodies ≡ Some old → get_or bodies place d ≡ old
@@ -73,32 +74,6 @@ sized_replaced key_size parts size place body bodies now all sized is =
     let new = All-cons (HasSizes key_size parts size) body (remove bodies place) sized (All-remove (HasSizes key_size parts size) bodies place all) in
     subst (λ (list : List Stored). All (HasSizes key_size parts size) list) (sym is) new
 
--- The values of a side, on a CPU. A system call writes all parts of a kind that has a value for each CPU.
-pub all_exact : (shape : Shape) (values : List (List ℕ)) (bytes : List ℕ) → is_percpu shape.kind ≡ true → 1 ≤ shape.cpus → HaveSizes (part_count shape) shape.value_size values → length bytes ≡ value_len_of shape Sys → length bytes ≡ length values * round8 (part_size values)
-all_exact shape values bytes is some have long =
-    let counted : length values ≡ shape.cpus = subst (λ b. length values ≡ (if b then shape.cpus else 1)) is have.counted in
-    let exact : length bytes ≡ shape.cpus * round8 shape.value_size = subst (λ b. length bytes ≡ (if b then shape.cpus * round8 shape.value_size else shape.value_size)) is long in
-    let size : part_size values ≡ shape.value_size = part_size_is shape.value_size values have.sized (omega arith) in
-    exact ∙ sym (ap (λ n. n * round8 (part_size values)) counted ∙ ap (λ n. shape.cpus * round8 n) size)
-
-pub all_written : (shape : Shape) (cpu : ℕ) (values : List (List ℕ)) (bytes : List ℕ) → is_percpu shape.kind ≡ true → 1 ≤ shape.cpus → HaveSizes (part_count shape) shape.value_size values → values_in (length values) (part_size values) bytes ≡ values_written shape Sys cpu values bytes
-all_written shape cpu values bytes is some have =
-    let counted : length values ≡ shape.cpus = subst (λ b. length values ≡ (if b then shape.cpus else 1)) is have.counted in
-    let size : part_size values ≡ shape.value_size = part_size_is shape.value_size values have.sized (omega arith) in
-    let now : values_in (length values) (part_size values) bytes ≡ values_in shape.cpus shape.value_size bytes =
-    ap (λ n. values_in n (part_size values) bytes) counted ∙ ap (λ n. values_in shape.cpus n bytes) size in
-    now ∙ sym (ap (λ b. if b then values_in shape.cpus shape.value_size bytes else written_own 0 bytes values) is)
-
--- a program writes the part of its CPU
-pub own_within : (shape : Shape) (cpu : ℕ) (values : List (List ℕ)) → is_percpu shape.kind ≡ true → cpu < shape.cpus → HaveSizes (part_count shape) shape.value_size values → cpu < length values
-own_within shape cpu values is on have =
-    let counted : length values ≡ shape.cpus = subst (λ b. length values ≡ (if b then shape.cpus else 1)) is have.counted in
-    omega arith
-
-pub own_written : (shape : Shape) (cpu : ℕ) (values : List (List ℕ)) (bytes : List ℕ) → is_percpu shape.kind ≡ true → written_own cpu bytes values ≡ values_written shape Prog cpu values bytes
-own_written shape cpu values bytes is =
-    sym (ap (λ b. if b then written_own cpu bytes values else written_own 0 bytes values) is)
-
 -- on the other kinds both write the one part
 pub one_long : (shape : Shape) (side : Side) (bytes : List ℕ) → is_percpu shape.kind ≡ false → length bytes ≡ value_len_of shape side → length bytes ≡ shape.value_size
 one_long shape Prog bytes is long = long
@@ -108,11 +83,6 @@ one_long shape Sys bytes is long =
 pub one_written : (shape : Shape) (side : Side) (cpu : ℕ) (values : List (List ℕ)) (bytes : List ℕ) → is_percpu shape.kind ≡ false → written_own 0 bytes values ≡ values_written shape side cpu values bytes
 one_written shape side cpu values bytes is =
     sym (ap (λ b. if b then percpu_written shape side cpu values bytes else written_own 0 bytes values) is)
-
--- a value of the size of a part
-pub part_exact : (shape : Shape) (cpu : ℕ) (values : List (List ℕ)) (bytes : List ℕ) → cpu < shape.cpus → HaveSizes (part_count shape) shape.value_size values → length bytes ≡ shape.value_size → length bytes ≡ part_size values
-part_exact shape cpu values bytes on have long =
-    long ∙ sym (part_size_is shape.value_size values have.sized (omega (arith, have.counted, some_part shape cpu on)))
 
 -- what a write leaves, in the words of the calls
 pub write_tells : (shape : Shape) (side : Side) (cpu : ℕ) (key bytes : List ℕ) (place : ℕ) (bodies now : List Stored) (values : List (List ℕ)) → place_of_key key bodies ≡ Some place → values ≡ values_written shape side cpu (values_at place bodies) bytes → now ≡ with_values_at place values bodies → (old : Stored) → present key bodies ≡ Some old → now ≡ with_in_place key (record old { values = values_written shape side cpu old.values bytes }) bodies

@@ -6,7 +6,7 @@ use Rattle.std.proofs.lemmas.List.{length-set}
 use Rattle.std.proofs.lemmas.List.Elements.{recursion_from_All, All-take}
 use Rattle.key_hash.proofs.Buckets.{bucket_number-lt}
 use Rattle.key_hash.specs.Jhash.{hash}
-use Rattle.bucket_chain.specs.Places.{has_key}
+use Rattle.place_words.specs.Bodies.{has_key}
 use Rattle.map_types.specs.Kind.{is_percpu}
 use Rattle.map_types.specs.Shape.{HasBounds}
 use Rattle.map_types.specs.Sides.{values_written}
@@ -21,8 +21,9 @@ use Rattle.map_types.specs.declared.kind.Side.{Side}
 use Rattle.map_types.specs.declared.reply.Reply.{Reply}
 use Rattle.map_types.specs.declared.reply.Reply.TheVariants.{Done}
 use Rattle.map_script.specs.declared.script.Script.{Script}
-use Rattle.map_run.specs.declared.finals.Finals.{Finals}
-use Rattle.map_run.specs.Buckets.{bucket_of_key, present, without_key, with_in_place}
+use Rattle.place_words.specs.declared.finals.Finals.{Finals}
+use Rattle.place_words.specs.Bodies.{present, without_key}
+use Rattle.map_run.specs.Buckets.{bucket_of_key, with_in_place}
 use Rattle.map_run.specs.EachOnce.{EachOnce, on_freelists}
 use Rattle.map_run.specs.Freelists.{popped}
 use Rattle.map_run.specs.Laws.{lists_before}

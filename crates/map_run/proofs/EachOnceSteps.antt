@@ -1,15 +1,15 @@
 -- Lists in other orders: over what is set, taken out, popped and pushed.
-use Rattle.std.proofs.Common.{◌≡◌, ℕ, zero, suc, ◌+◌, ◌<◌, Bool, true, false, not, eqb, cond, List, [], ◌∷◌, ◌++◌, length, map, take, drop, get_or, set, Option, Some, None, IsPermutation, refl, sym, ap, ◌∙◌, subst, inl, inr, arith, append_assoc}
-use Rattle.std.specs.Prelude.{find, slice_get, remove, option_map}
-use Rattle.std.specs.List.{concat, flat_map, before_first, after_first, position_or_len}
+use Rattle.std.proofs.Common.{◌≡◌, ℕ, zero, suc, ◌<◌, Bool, true, false, not, eqb, List, [], ◌∷◌, ◌++◌, length, map, drop, get_or, set, Option, Some, None, IsPermutation, refl, sym, ap, ◌∙◌, subst, inl, inr, arith, append_assoc}
+use Rattle.std.specs.Prelude.{find, remove, option_map}
+use Rattle.std.specs.List.{concat, flat_map, before_first, after_first}
 use Rattle.std.proofs.lemmas.Bool.{cases_lt}
 use Rattle.std.proofs.lemmas.Bool.Decides.{nat_tests}
-use Rattle.std.proofs.lemmas.List.{take-append-drop, drop_more, map-append, set-get_or, get_or-set_same, get_or_past, length-set}
+use Rattle.std.proofs.lemmas.List.{map-append, set-get_or, get_or-set_same, get_or_past, length-set}
 use Rattle.std.proofs.lemmas.List.Concat.{concat_is}
-use Rattle.std.proofs.lemmas.List.Folds.{find_at}
 use Rattle.std.proofs.lemmas.List.Sorted.{IsPermutation-refl, IsPermutation-sym, IsPermutation-trans, IsPermutation-cons, IsPermutation-append, IsPermutation-append_left, IsPermutation-append_right, IsPermutation-append_comm, IsPermutation-middle, IsPermutation-map, IsPermutation-remove}
-use Rattle.std.proofs.lemmas.Option.{none-some, same_Some, slice_get_within, get_or_from_slice_get}
+use Rattle.std.proofs.lemmas.Option.{none-some, same_Some}
 use Rattle.bucket_chain.proofs.Reversed.{remove-set}
+use Rattle.place_words.proofs.Splits.{find_passes, find_splits}
 use Rattle.map_types.specs.Stored.{Stored}
 use Rattle.map_run.specs.Freelists.{stack_at, first_not_empty, popped_at, popped, pushed}
 
@@ -82,24 +82,6 @@ popped_at_permutes stacks cpu within some =
     (concat_set_more stacks cpu (get_or stacks cpu []) (drop 1 (get_or stacks cpu [])) (get_or (get_or stacks cpu []) 0 0) within
     (permutes_same (get_or stacks cpu []) (get_or (get_or stacks cpu []) 0 0 ∷ drop 1 (get_or stacks cpu [])) (first_rest (get_or stacks cpu []) some)))
 
--- what is found passes, and where none is found none passes
-find_here : {X : Type 0} (test : X → Bool) (y x : X) (rest : Option X) (b : Bool) → test y ≡ b → (rest ≡ Some x → test x ≡ true) → cond b (Some y) rest ≡ Some x → test x ≡ true
-find_here test y x rest true is later found = subst (λ z. test z ≡ true) (same_Some y x found) is
-find_here test y x rest false is later found = later found
-
-pub find_passes : {X : Type 0} (test : X → Bool) (xs : List X) (x : X) → find test xs ≡ Some x → test x ≡ true
-find_passes test [] x found = absurd (none-some x found)
-find_passes test (y ∷ xs) x found = find_here test y x (find test xs) (test y) refl (λ later. find_passes test xs x later) found
-
-find_not_here : {X : Type 0} (y : X) (rest : Option X) (b : Bool) → cond b (Some y) rest ≡ None → (b ≡ false) × (rest ≡ None)
-find_not_here y rest true none = absurd (none-some y (sym none))
-find_not_here y rest false none = (refl, none)
-
-pub find_misses : {X : Type 0} (test : X → Bool) (xs : List X) (i : ℕ) (d : X) → find test xs ≡ None → i < length xs → test (get_or xs i d) ≡ false
-find_misses test [] i d none within = absurd (omega arith)
-find_misses test (y ∷ xs) zero d none within = (find_not_here y (find test xs) (test y) none).0
-find_misses test (y ∷ xs) (suc i) d none within = find_misses test xs i d (find_not_here y (find test xs) (test y) none).1 (omega arith)
-
 -- what the test of a stack says
 pub some_there : (n : ℕ) → not (eqb n 0) ≡ true → 0 < n
 some_there n test = grind (arith, nat_tests)
@@ -132,15 +114,6 @@ popped_is cpu stacks top is =
     pop_found stacks (first_not_empty cpu stacks) top (λ c found. some_there (length (stack_at stacks c)) (find_passes (λ c. not (eqb (length (stack_at stacks c)) 0)) _ c found)) is
 
 -- Buckets
-
--- a list with one that passes is the first that does, what is before it, and what is behind it
-pub find_splits : {X : Type 0} (test : X → Bool) (xs : List X) (x : X) → find test xs ≡ Some x → xs ≡ before_first test xs ++ x ∷ after_first test xs
-find_splits test xs x found =
-    let place = position_or_len test xs in
-    let there : slice_get xs place ≡ Some x = sym (find_at test xs) ∙ found in
-    let within : place < length xs = slice_get_within xs place x there in
-    let is : get_or xs place x ≡ x = get_or_from_slice_get xs place x x there in
-    sym (take-append-drop place xs) ∙ ap (λ l. take place xs ++ l) (drop_more xs place x within) ∙ ap (λ y. take place xs ++ y ∷ drop (place + 1) xs) is
 
 pub find_permutes : {X : Type 0} (test : X → Bool) (xs : List X) (x : X) → find test xs ≡ Some x → IsPermutation xs (x ∷ (before_first test xs ++ after_first test xs))
 find_permutes test xs x found =

@@ -6,7 +6,7 @@ use Rattle.map_types.specs.Shape.{HasBounds}
 use Rattle.map_types.specs.declared.attr.Shape.{Shape}
 use Rattle.map_types.specs.declared.call.Call.{Call}
 use Rattle.map_script.specs.declared.script.Script.{Script}
-use Rattle.map_run.specs.declared.finals.Finals.{Finals}
+use Rattle.place_words.specs.declared.finals.Finals.{Finals}
 use Rattle.map_run.specs.EachOnce.{EachOnce}
 use Rattle.map_run.specs.Entries.{Entry, answered, answers_from, entries_after}
 use Rattle.map_run.specs.Laws.{lists_before, entries_before}

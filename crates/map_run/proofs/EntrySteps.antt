@@ -8,7 +8,7 @@ use Rattle.std.proofs.lemmas.List.{get_or-set_same, length-map}
 use Rattle.std.proofs.lemmas.List.Folds.{find-append}
 use Rattle.std.proofs.lemmas.List.FromFn.{get_or-range_with_len, length-range_with_len}
 use Rattle.std.proofs.lemmas.Slice.Eq.{bytes_eq-Decides}
-use Rattle.bucket_chain.specs.Places.{has_key}
+use Rattle.place_words.specs.Bodies.{has_key}
 use Rattle.key_hash.specs.Jhash.{hash}
 use Rattle.key_hash.proofs.Buckets.{bucket_number-lt}
 use Rattle.map_types.specs.Kind.{is_percpu}
@@ -27,8 +27,9 @@ use Rattle.map_types.specs.declared.refusal.Errno.{Errno}
 use Rattle.map_types.specs.declared.refusal.Errno.TheVariants.{E2big, Einval}
 use Rattle.map_types.specs.declared.reply.Reply.{Reply}
 use Rattle.map_types.specs.declared.reply.Reply.TheVariants.{Done, Value, Refused}
-use Rattle.map_run.specs.declared.finals.Finals.{Finals}
-use Rattle.map_run.specs.Buckets.{bucket_of_key, present, without_key}
+use Rattle.place_words.specs.declared.finals.Finals.{Finals}
+use Rattle.place_words.specs.Bodies.{present, without_key}
+use Rattle.map_run.specs.Buckets.{bucket_of_key}
 use Rattle.map_run.specs.EachOnce.{on_freelists, EachOnce}
 use Rattle.map_run.specs.Entries.{Entry, entry_of, without, read, values_put, refusal, unless, taken_out, answered}
 use Rattle.map_run.specs.Freelists.{stack_at, ring, first_not_empty, popped_at, popped}

@@ -6,7 +6,8 @@ use Rattle.std.proofs.lemmas.List.Elements.{All-nil, recursion_from_All}
 use Rattle.std.proofs.lemmas.List.{map-set, get_or-map, get_or_default}
 use Rattle.std.proofs.lemmas.Option.{slice_get_cases, none-some}
 use Rattle.std.proofs.Math.Seq.{map-set_same}
-use Rattle.bucket_chain.specs.Places.{has_key, place_of_key}
+use Rattle.place_words.specs.Bodies.{has_key}
+use Rattle.bucket_chain.specs.Places.{place_of_key}
 use Rattle.bucket_chain.proofs.Found.{find_some, find_none, key_found}
 use Rattle.percpu_values.specs.BodyList.{BodyList}
 use Rattle.map_types.specs.Kind.{is_percpu}
@@ -18,8 +19,9 @@ use Rattle.map_types.specs.declared.kind.Side.{Side}
 use Rattle.map_types.specs.declared.refusal.Errno.TheVariants.{Enoent, E2big, Eexist, Einval}
 use Rattle.map_types.specs.declared.reply.Reply.{Reply}
 use Rattle.map_types.specs.declared.reply.Reply.TheVariants.{Done, Refused}
-use Rattle.map_run.specs.declared.finals.Finals.{Finals}
-use Rattle.map_run.specs.Buckets.{bucket_of_key, present, without_key, with_in_place}
+use Rattle.place_words.specs.declared.finals.Finals.{Finals}
+use Rattle.place_words.specs.Bodies.{present, without_key}
+use Rattle.map_run.specs.Buckets.{bucket_of_key, with_in_place}
 use Rattle.map_run.specs.Freelists.{opening_stacks, popped, pushed, spares_popped}
 use Rattle.map_run.specs.Plain.{plain_lists}
 use Rattle.map_run.specs.Served.{is_built_kind}

@@ -10,8 +10,8 @@ use Rattle.map_types.specs.declared.refusal.Errno.TheVariants.{E2big, Enomem}
 use Rattle.map_types.specs.declared.reply.Reply.{Reply}
 use Rattle.map_types.specs.declared.reply.Reply.TheVariants.{Refused}
 use Rattle.map_script.specs.declared.script.Script.{Script}
-use Rattle.map_run.specs.declared.finals.Finals.{Finals}
-use Rattle.map_run.specs.Buckets.{present}
+use Rattle.place_words.specs.declared.finals.Finals.{Finals}
+use Rattle.place_words.specs.Bodies.{present}
 use Rattle.map_run.specs.Entries.{Entry, entry_of, answers_from}
 use Rattle.map_run.specs.Laws.{lists_before, entries_before, Sees, FindsNoRoom, SerialLaws}
 use Rattle.map_run.specs.Record.{EachAnswered}

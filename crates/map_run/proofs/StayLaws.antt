@@ -14,8 +14,8 @@ use Rattle.map_types.specs.declared.refusal.Errno.{Errno}
 use Rattle.map_types.specs.declared.reply.Reply.{Reply}
 use Rattle.map_types.specs.declared.reply.Reply.TheVariants.{Done, Refused}
 use Rattle.map_script.specs.declared.script.Script.{Script}
-use Rattle.map_run.specs.declared.finals.Finals.{Finals}
-use Rattle.map_run.specs.Buckets.{present}
+use Rattle.place_words.specs.declared.finals.Finals.{Finals}
+use Rattle.place_words.specs.Bodies.{present}
 use Rattle.map_run.specs.Freelists.{popped}
 use Rattle.map_run.specs.Laws.{IsLookup, lists_before}
 use Rattle.map_run.specs.Serial.{opening, bucket_at, value_or_absent, added, updated, deleted, after_call, replies_from, lists_after, serial}

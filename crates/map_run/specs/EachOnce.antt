@@ -2,7 +2,7 @@
 use Rattle.std.specs.Prelude.{◌≡◌, ℕ, ◌+◌, List, ◌++◌, length, map, IsPermutation}
 use Rattle.std.specs.List.{concat, flat_map, range_with_len}
 use Rattle.map_types.specs.Stored.{Stored}
-use Rattle.map_run.specs.declared.finals.Finals.{Finals}
+use Rattle.place_words.specs.declared.finals.Finals.{Finals}
 
 -- the elements in buckets, those on freelists, and these with the spares
 abbrev pub in_buckets : Finals → List ℕ

@@ -1,17 +1,10 @@
 -- The freelists of a map that doesn't evict: a stack of free elements for each CPU, top first. The rules are those of the
 -- kernel's `pcpu_freelist_populate`, `__pcpu_freelist_pop` and `__pcpu_freelist_push`.
-use Rattle.std.specs.Prelude.{ℕ, zero, suc, ◌+◌, ◌-◌, ◌*◌, ◌/◌, ◌%◌, ◌==◌, min, not, nat_lt, List, [], ◌∷◌, ◌++◌, length, map, reverse, drop, find, slice_index, slice_index_or, slice_set, Option, option_map, unwrap_or, if◌then◌else◌}
+use Rattle.std.specs.Prelude.{ℕ, zero, suc, ◌-◌, ◌==◌, not, List, [], ◌∷◌, ◌++◌, length, map, reverse, drop, find, slice_index, slice_index_or, slice_set, Option, option_map, unwrap_or}
 use Rattle.std.specs.List.{range_with_len}
+use Rattle.place_words.specs.Shares.{share_first, share_count}
 
--- The elements are spread in order over the CPUs. The first CPUs get one more where they don't come out even.
-abbrev pub share_first : ℕ → ℕ → ℕ → ℕ
-share_first elements cpus cpu = cpu * (elements / cpus) + min cpu (elements % cpus)
-
--- how many a CPU gets
-abbrev pub share_count : ℕ → ℕ → ℕ → ℕ
-share_count elements cpus cpu = elements / cpus + (if nat_lt cpu (elements % cpus) then 1 else 0)
-
--- each is pushed in order, so the greatest is on top
+-- a CPU's share of the elements: each is pushed in order, so the greatest is on top
 abbrev pub opening_stack : ℕ → ℕ → ℕ → List ℕ
 opening_stack elements cpus cpu = reverse (range_with_len (share_first elements cpus cpu) (share_count elements cpus cpu))
 

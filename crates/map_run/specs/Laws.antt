@@ -10,8 +10,8 @@ use Rattle.map_types.specs.declared.reply.Reply.{Reply}
 use Rattle.map_types.specs.declared.reply.Reply.TheVariants.{Refused}
 use Rattle.map_types.specs.Stored.{Stored}
 use Rattle.map_script.specs.declared.script.Script.{Script}
-use Rattle.map_run.specs.declared.finals.Finals.{Finals}
-use Rattle.map_run.specs.Buckets.{present}
+use Rattle.place_words.specs.declared.finals.Finals.{Finals}
+use Rattle.place_words.specs.Bodies.{present}
 use Rattle.map_run.specs.EachOnce.{in_buckets}
 use Rattle.map_run.specs.Entries.{Entry, entry_of, answers_from, entries_after}
 use Rattle.map_run.specs.Record.{IsRecord}

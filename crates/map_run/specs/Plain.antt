@@ -2,7 +2,7 @@
 use Rattle.std.specs.Prelude.{ℕ, List, [], map, reverse, Vec}
 use Rattle.map_types.specs.declared.attr.Shape.{Shape}
 use Rattle.percpu_values.specs.BodyList.{BodyList}
-use Rattle.map_run.specs.declared.finals.Finals.{Finals}
+use Rattle.place_words.specs.declared.finals.Finals.{Finals}
 
 -- what it is, and what it holds
 pub record PlainState : Type 0 where

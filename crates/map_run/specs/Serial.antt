@@ -18,9 +18,10 @@ use Rattle.map_types.specs.Kind.{is_percpu}
 use Rattle.map_types.specs.Sides.{value_read, values_written, new_values}
 use Rattle.map_types.specs.Stored.{Stored}
 use Rattle.map_script.specs.declared.script.Script.{Script}
-use Rattle.map_run.specs.declared.finals.Finals.{Finals}
+use Rattle.place_words.specs.declared.finals.Finals.{Finals}
 use Rattle.map_run.specs.declared.record.RunRecord.{RunRecord}
-use Rattle.map_run.specs.Buckets.{bucket_of_key, present, without_key, with_in_place}
+use Rattle.place_words.specs.Bodies.{present, without_key}
+use Rattle.map_run.specs.Buckets.{bucket_of_key, with_in_place}
 use Rattle.map_run.specs.Freelists.{opening_stacks, spares_popped, popped, pushed}
 
 -- a map of kind HASH has a spare element for each CPU, and one of another kind has none

@@ -1,11 +1,11 @@
 -- What holds of the lists of a map that doesn't evict at each moment, whatever was called.
 use Rattle.std.specs.Prelude.{◌≡◌, ℕ, List, [], length, slice_index_or}
 use Rattle.std.specs.List.{AllByRecursion}
-use Rattle.bucket_chain.specs.Places.{HasDistinctKeys}
+use Rattle.place_words.specs.Bodies.{HasDistinctKeys}
 use Rattle.map_types.specs.declared.attr.Shape.{Shape}
 use Rattle.map_types.specs.Sides.{part_count}
 use Rattle.map_types.specs.Stored.{Stored, HasSizes}
-use Rattle.map_run.specs.declared.finals.Finals.{Finals}
+use Rattle.place_words.specs.declared.finals.Finals.{Finals}
 use Rattle.map_run.specs.Buckets.{bucket_of_key}
 use Rattle.map_run.specs.EachOnce.{EachOnce}
 use Rattle.map_run.specs.Serial.{spare_count}

@@ -11,7 +11,7 @@ use Rattle.map_types.specs.declared.reply.Reply.{Reply}
 use Rattle.map_types.specs.declared.reply.Reply.TheVariants.{Done, Value, Refused, Batch, Count}
 use Rattle.map_types.specs.Stored.{Stored}
 use Rattle.map_script.specs.declared.script.Script.{Script}
-use Rattle.map_run.specs.declared.finals.Finals.{Finals}
+use Rattle.place_words.specs.declared.finals.Finals.{Finals}
 use Rattle.map_run.specs.declared.record.Options.{Options}
 use Rattle.map_run.specs.declared.record.RunRecord.{RunRecord}
 

@@ -9,9 +9,9 @@ ghost use Rattle.map_types.specs.Stored.{HasSizes};
 ghost use Rattle.map_types.specs.ValueLen.{value_len_of};
 ghost use Rattle.map_run.specs.Serial.{new_stored};
 
-use crate::Kept;
 use map_types::{Bytes, List, NoMemory, Shape, Side};
 use percpu_values::{Body, BoxedBody};
+use place_words::Kept;
 use std::alloc::Global;
 
 /// A body for an element that is new in its bucket, with a copy of the key, and a value that a side writes on a CPU, as

@@ -6,14 +6,15 @@ ghost use Rattle.map_types.specs.Sides.{part_count, values_written};
 ghost use Rattle.map_types.specs.Stored.{HasSizes, Stored};
 ghost use Rattle.map_types.specs.ValueLen.{value_len_of};
 ghost use Rattle.bucket_chain.specs.Places.{place_of_key};
-ghost use Rattle.map_run.specs.Buckets.{present, with_in_place, without_key};
+ghost use Rattle.place_words.specs.Bodies.{present, without_key};
+ghost use Rattle.map_run.specs.Buckets.{with_in_place};
 ghost use Rattle.map_run.specs.Serial.{new_stored};
 
-use crate::Kept;
 use crate::bodies::{body_copy, new_body};
 use bucket_chain::Chain;
 use map_types::{List, NoMemory, Shape, Side};
 use percpu_values::{Body, BoxedBody};
+use place_words::Kept;
 use std::alloc::Global;
 
 /// So many buckets without elements.

@@ -5,8 +5,8 @@ ghost use Rattle.std.specs.List.{flat_map};
 ghost use Rattle.map_run.specs.Text.{bucket_lines, bytes_text, dump, element_text, freelist_lines, spare_lines, stored_line};
 
 use crate::text::{push_labelled, push_labelled_bytes};
-use crate::{Finals, Kept};
 use map_types::{Bytes, List, Numbers};
+use place_words::{Finals, Kept};
 use std::alloc::AllocError;
 
 /// Adds what a map that doesn't evict holds: a line for each element in a bucket, for each freelist and for each spare.

@@ -5,7 +5,6 @@ mod bodies;
 mod buckets;
 mod delivery;
 mod dump;
-mod finals;
 mod finish;
 mod memory;
 mod plain;
@@ -21,9 +20,9 @@ mod tests;
 mod text;
 mod words;
 
-pub use finals::{Finals, Kept, LocalFinal, SetFinal};
 pub use finish::bpfmap;
 pub use memory::{MemSink, MemSource};
+pub use place_words::{Finals, Kept, LocalFinal, SetFinal};
 pub use record::{Finish, Options, RunRecord};
 pub use serial::run_serial;
 pub use served::is_built;

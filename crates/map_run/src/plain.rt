@@ -3,17 +3,18 @@
 ghost use Rattle.std.specs.Prelude.{◌≡◌, ◌<◌, IfOk, OnOk, IsTrue, length};
 ghost use Rattle.map_types.specs.Shape.{HasBounds};
 ghost use Rattle.map_types.specs.ValueLen.{value_len_of};
-ghost use Rattle.map_run.specs.Buckets.{bucket_of_key, present};
+ghost use Rattle.place_words.specs.Bodies.{present};
+ghost use Rattle.map_run.specs.Buckets.{bucket_of_key};
 ghost use Rattle.map_run.specs.Serial.{bucket_at, deleted, opening, after_call, spare_count, value_or_absent};
 ghost use Rattle.map_run.specs.Served.{is_built_kind, IsServedCall};
 
-use crate::Finals;
 use crate::bodies::value_of;
 use crate::buckets::{add_in, body_in, buckets_of, empty_buckets, replace_in, take_in, write_in};
 use crate::stacks::{opening_stacks, pop, pop_spares, push, top_first};
 use bucket_chain::Chain;
 use key_hash::{bucket_of, jhash};
 use map_types::{Call, Errno, List, MapKind, NoMemory, Reply, Shape, Side, Verb};
+use place_words::Finals;
 use std::alloc::Global;
 use std::marker::Model;
 

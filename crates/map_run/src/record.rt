@@ -1,7 +1,7 @@
 //! What is kept of a run, and how it ended.
 
-use crate::Finals;
 use map_types::{List, Reply};
+use place_words::Finals;
 
 /// How a report is written, and what it has beside the replies.
 #[derive(Clone, Copy, Debug, PartialEq, Eq)]

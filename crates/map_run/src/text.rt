@@ -6,9 +6,10 @@ ghost use Rattle.hex.specs.Hex.{encode_lower};
 ghost use Rattle.map_run.specs.Text.{dump, errno_name, kind_name, map_line, pair_text, reply_lines, reply_text, report, stop_name};
 
 use crate::dump::push_dump;
-use crate::{Finals, Options, RunRecord};
+use crate::{Options, RunRecord};
 use map_script::Script;
 use map_types::{Errno, MapKind, NoMemory, Pairs, Reply, Shape};
+use place_words::Finals;
 use std::alloc::{AllocError, Global};
 use std::io::Write;
 

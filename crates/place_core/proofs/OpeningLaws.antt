@@ -16,11 +16,13 @@ use Rattle.place_words.specs.declared.owner.Owner.TheVariants as owners
 use Rattle.place_words.specs.declared.home.Home.TheVariants as homes
 use Rattle.place_words.specs.Locks.{is_lock, lock_number, lock_named}
 use Rattle.place_words.proofs.LockLemmas.{named_by_number, number_of_named}
-use Rattle.place_core.specs.ElementLists.{one, times}
-use Rattle.place_core.specs.State.{is_free, HasOnlyItsLists}
+use Rattle.place_words.specs.ElementLists.{one, times}
+use Rattle.place_words.specs.Openings.{is_free}
+use Rattle.place_core.specs.State.{HasOnlyItsLists}
 use Rattle.place_core.specs.Places.{Place, lies, lies_at, has_row, home_of_place, MayOwn, MayLie, MayLieUnder, Placed}
 use Rattle.place_core.specs.Ranks.{Ranked}
-use Rattle.place_core.specs.Opening.{opening_stack, opening_spares, spare_owner, opening_owner, opening_home, opening_pushed, opening_free, opening, opening_lists}
+use Rattle.place_words.specs.Openings.{opening_stack, opening_spares, spare_owner, opening_owner, opening_pushed, opening_free}
+use Rattle.place_core.specs.Opening.{opening_home, opening, opening_lists}
 use Rattle.place_core.proofs.OpeningLemmas.{pushed_in, pushed_out, times_filter, its_cpu, its_cpu_is, in_its_stack, in_no_other, its_quotient, in_none}
 use Rattle.place_core.proofs.RowLemmas.{no_row_free}
 
@@ -56,7 +58,7 @@ spare_exists shape e (Some cpu) is =
     let few = spares_few shape.cpus (flat_map (opening_stack shape) (range_with_len 0 shape.cpus)) in
     omega (arith, within, few)
 
-owner_exists : (shape : Shape) (kind : MapKind) (e : ℕ) → MayOwn shape (opening_owner shape kind e)
+pub owner_exists : (shape : Shape) (kind : MapKind) (e : ℕ) → MayOwn shape (opening_owner shape kind e)
 unfolding opening_owner
 owner_exists shape Hash e = spare_exists shape e _ refl
 owner_exists shape PercpuHash e = tt

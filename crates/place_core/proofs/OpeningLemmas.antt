@@ -5,8 +5,9 @@ use Rattle.std.proofs.Math.Nat.{suc-mul, zero-mul, div-add-mod, div-eq_of_lt-le}
 use Rattle.std.proofs.lemmas.Bool.{cases_Bool, cases_eq, cases_lt, lt-ltb, le-ltb, leb-true, leb-false}
 use Rattle.map_types.specs.declared.attr.Shape.{Shape}
 use Rattle.map_types.specs.Shape.{HasBounds}
-use Rattle.place_core.specs.ElementLists.{times}
-use Rattle.place_core.specs.Opening.{share_first, share_count, pushed_from, opening_stack}
+use Rattle.place_words.specs.ElementLists.{times}
+use Rattle.place_words.specs.Openings.{opening_stack}
+use Rattle.place_words.specs.Shares.{share_first, share_count, pushed_from}
 use Rattle.place_core.proofs.ElementLemmas.{times_cons_same, times_cons_other}
 
 -- Lists of elements that were pushed in order
@@ -48,7 +49,7 @@ times_filter p e (x ∷ xs) =
 
 -- Shares
 
-pub first_next : (shape : Shape) (c : ℕ) → share_first shape (suc c) ≡ share_first shape c + share_count shape c
+pub first_next : (shape : Shape) (c : ℕ) → share_first shape.elements shape.cpus (suc c) ≡ share_first shape.elements shape.cpus c + share_count shape.elements shape.cpus c
 first_next shape c =
     let q = shape.elements / shape.cpus in
     let more : suc c * q ≡ c * q + q = suc-mul c q in
@@ -57,20 +58,20 @@ first_next shape c =
     (λ (past : shape.elements % shape.cpus ≤ c). rw (le-ltb c (shape.elements % shape.cpus) past) (omega arith))
     (cases_lt c (shape.elements % shape.cpus))
 
-pub first_rises : (shape : Shape) (c d : ℕ) → share_first shape c ≤ share_first shape (d + c)
-first_rises shape c zero = let same : 0 + c ≡ c = omega arith in subst (λ (x : ℕ). share_first shape c ≤ share_first shape x) (sym same) (omega arith)
+pub first_rises : (shape : Shape) (c d : ℕ) → share_first shape.elements shape.cpus c ≤ share_first shape.elements shape.cpus (d + c)
+first_rises shape c zero = let same : 0 + c ≡ c = omega arith in subst (λ (x : ℕ). share_first shape.elements shape.cpus c ≤ share_first shape.elements shape.cpus x) (sym same) (omega arith)
 first_rises shape c (suc d) =
     let same : suc d + c ≡ suc (d + c) = omega arith in
     let below = first_rises shape c d in
     let next = first_next shape (d + c) in
-    subst (λ (x : ℕ). share_first shape c ≤ share_first shape x) (sym same) (omega arith)
+    subst (λ (x : ℕ). share_first shape.elements shape.cpus c ≤ share_first shape.elements shape.cpus x) (sym same) (omega arith)
 
-pub first_up : (shape : Shape) (c d : ℕ) → c ≤ d → share_first shape c ≤ share_first shape d
+pub first_up : (shape : Shape) (c d : ℕ) → c ≤ d → share_first shape.elements shape.cpus c ≤ share_first shape.elements shape.cpus d
 first_up shape c d less =
     let apart : d - c + c ≡ d = omega arith in
-    subst (λ (x : ℕ). share_first shape c ≤ share_first shape x) apart (first_rises shape c (d - c))
+    subst (λ (x : ℕ). share_first shape.elements shape.cpus c ≤ share_first shape.elements shape.cpus x) apart (first_rises shape c (d - c))
 
-pub first_of_all : (shape : Shape) → 1 ≤ shape.cpus → share_first shape shape.cpus ≡ shape.elements
+pub first_of_all : (shape : Shape) → 1 ≤ shape.cpus → share_first shape.elements shape.cpus shape.cpus ≡ shape.elements
 first_of_all shape some =
     let parts = div-add-mod shape.elements shape.cpus in
     let below : shape.elements % shape.cpus < shape.cpus = omega arith in
@@ -79,30 +80,30 @@ first_of_all shape some =
 -- the CPU in whose share an element is: the last one of at most m whose share doesn't begin after it
 pub sharer : Shape → ℕ → ℕ → ℕ
 sharer shape zero e = 0
-sharer shape (suc m) e = cond (leb (share_first shape (suc m)) e) (suc m) (sharer shape m e)
+sharer shape (suc m) e = cond (leb (share_first shape.elements shape.cpus (suc m)) e) (suc m) (sharer shape m e)
 
 pub record Shares (shape : Shape) (m e c : ℕ) : Type 0 where
   pub among : c ≤ m
-  pub from_there : share_first shape c ≤ e
-  pub below_next : (d : ℕ) → c < d → d ≤ m → e < share_first shape d
+  pub from_there : share_first shape.elements shape.cpus c ≤ e
+  pub below_next : (d : ℕ) → c < d → d ≤ m → e < share_first shape.elements shape.cpus d
 
 pub shares : (shape : Shape) (m e : ℕ) → Shares shape m e (sharer shape m e)
 unfolding sharer
 shares shape zero e = record { among = omega arith; from_there = let none = zero-mul (shape.elements / shape.cpus) in omega arith; below_next = λ d more few. absurd (omega arith) }
 shares shape (suc m) e =
     ⊎_elim
-    (λ (here : leb (share_first shape (suc m)) e ≡ true). subst (λ b. Shares shape (suc m) e (cond b (suc m) (sharer shape m e))) (sym here) record { among = omega arith; from_there = leb-true _ _ here; below_next = λ d more few. absurd (omega arith) })
-    (λ (below : leb (share_first shape (suc m)) e ≡ false).
+    (λ (here : leb (share_first shape.elements shape.cpus (suc m)) e ≡ true). subst (λ b. Shares shape (suc m) e (cond b (suc m) (sharer shape m e))) (sym here) record { among = omega arith; from_there = leb-true _ _ here; below_next = λ d more few. absurd (omega arith) })
+    (λ (below : leb (share_first shape.elements shape.cpus (suc m)) e ≡ false).
     let rest = shares shape m e in
     subst (λ b. Shares shape (suc m) e (cond b (suc m) (sharer shape m e))) (sym below) record {
       among = let few = rest.among in omega arith;
       from_there = rest.from_there;
       below_next = λ d more few. ⊎_elim
-          (λ (is : d ≡ suc m). subst (λ (x : ℕ). e < share_first shape x) (sym is) (leb-false _ _ below))
+          (λ (is : d ≡ suc m). subst (λ (x : ℕ). e < share_first shape.elements shape.cpus x) (sym is) (leb-false _ _ below))
           (λ (other : d ≡ suc m → ⊥). rest.below_next d more (omega arith))
           (cases_eq d (suc m));
     })
-    (cases_Bool (leb (share_first shape (suc m)) e))
+    (cases_Bool (leb (share_first shape.elements shape.cpus (suc m)) e))
 
 module _ (shape : Shape) (bounds : HasBounds shape) (e : ℕ) (real : e < shape.elements) where
   -- the CPU in whose share the element is
@@ -119,7 +120,7 @@ module _ (shape : Shape) (bounds : HasBounds shape) (e : ℕ) (real : e < shape.
       let whole = first_of_all shape bounds.some_cpu in
       let among = share.among in
       ⊎_elim
-      (λ (last : its_cpu ≡ shape.cpus). let past : share_first shape shape.cpus ≤ e = subst (λ (c : ℕ). share_first shape c ≤ e) last share.from_there in absurd (omega arith))
+      (λ (last : its_cpu ≡ shape.cpus). let past : share_first shape.elements shape.cpus shape.cpus ≤ e = subst (λ (c : ℕ). share_first shape.elements shape.cpus c ≤ e) last share.from_there in absurd (omega arith))
       (λ (other : its_cpu ≡ shape.cpus → ⊥). omega arith)
       (cases_eq its_cpu shape.cpus)
 
@@ -129,14 +130,14 @@ module _ (shape : Shape) (bounds : HasBounds shape) (e : ℕ) (real : e < shape.
       let share = its_share in
       let next = first_next shape its_cpu in
       let few = its_cpu_is in
-      pushed_in (share_first shape its_cpu) (share_count shape its_cpu) e share.from_there (let below = share.below_next (suc its_cpu) (omega arith) (omega arith) in omega arith)
+      pushed_in (share_first shape.elements shape.cpus its_cpu) (share_count shape.elements shape.cpus its_cpu) e share.from_there (let below = share.below_next (suc its_cpu) (omega arith) (omega arith) in omega arith)
 
   pub in_no_other : (c : ℕ) → c < shape.cpus → c ≢ its_cpu → times e (opening_stack shape c) ≡ 0
   unfolding opening_stack
   in_no_other c few other =
       let share = its_share in
       let next = first_next shape c in
-      pushed_out (share_first shape c) (share_count shape c) e
+      pushed_out (share_first shape.elements shape.cpus c) (share_count shape.elements shape.cpus c) e
       (⊎_elim
       (λ (less : c < its_cpu). let up = first_up shape (suc c) its_cpu (omega arith) in let here = share.from_there in inr (omega arith))
       (λ (more : its_cpu ≤ c). inl (share.below_next c (omega arith) (omega arith)))
@@ -150,8 +151,8 @@ module _ (shape : Shape) (bounds : HasBounds shape) (e : ℕ) (real : e < shape.
       let q = shape.elements / shape.cpus in
       let below = share.below_next (suc its_cpu) (omega arith) (omega arith) in
       let here = share.from_there in
-      let first_is : share_first shape its_cpu ≡ its_cpu * q = omega arith in
-      let next_is : share_first shape (suc its_cpu) ≡ suc its_cpu * q = omega arith in
+      let first_is : share_first shape.elements shape.cpus its_cpu ≡ its_cpu * q = omega arith in
+      let next_is : share_first shape.elements shape.cpus (suc its_cpu) ≡ suc its_cpu * q = omega arith in
       let one_more : (its_cpu + 1) * q ≡ suc its_cpu * q = ap (λ (x : ℕ). x * q) (omega arith) in
       sym (div-eq_of_lt-le q (omega arith) (omega arith))
 
@@ -162,4 +163,4 @@ in_none shape bounds e c past few =
     let next = first_next shape c in
     let up = first_up shape (suc c) shape.cpus (omega arith) in
     let whole = first_of_all shape bounds.some_cpu in
-    pushed_out (share_first shape c) (share_count shape c) e (inr (omega arith))
+    pushed_out (share_first shape.elements shape.cpus c) (share_count shape.elements shape.cpus c) e (inr (omega arith))

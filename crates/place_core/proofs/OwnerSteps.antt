@@ -12,8 +12,9 @@ use Rattle.place_words.specs.declared.owner.Owner.TheVariants as owners
 use Rattle.place_words.specs.declared.home.Home.TheVariants as homes
 use Rattle.place_words.specs.Locks.{is_lock, lock_number, lock_named}
 use Rattle.place_words.proofs.LockLemmas.{named_by_number, one_number}
-use Rattle.place_core.specs.ElementLists.{put, one, times}
-use Rattle.place_core.specs.State.{State, rows, is_bucket, is_free, HasOnlyItsLists}
+use Rattle.place_words.specs.ElementLists.{put, one, times}
+use Rattle.place_words.specs.Openings.{is_free}
+use Rattle.place_core.specs.State.{State, rows, is_bucket, HasOnlyItsLists}
 use Rattle.place_core.specs.Places.{Place, lies, carried, lies_at, is_in_bucket, has_row, home_of_place, MayLie, MayLieUnder, PlacedAt, Placed}
 use Rattle.place_core.specs.Steps.{lists_under, with_free, without_free, with_row, without_row, CanClaim, claimed, CanSettle, settled, IsLockHome, CanAttach, attached, IsInHeldBucket, detached}
 use Rattle.place_core.proofs.ElementLemmas.{times_cons_same, times_cons_other, times_append, times_without_same, times_without_other}

@@ -11,8 +11,9 @@ use Rattle.place_words.specs.declared.owner.Owner.{Owner}
 use Rattle.place_words.specs.declared.owner.Owner.TheVariants as owners
 use Rattle.place_words.specs.Locks.{is_lock}
 use Rattle.place_core.specs.declared.step.Lists.{Lists}
-use Rattle.place_core.specs.ElementLists.{one, times, IsIn, IsHead, without, neighbour}
-use Rattle.place_core.specs.State.{rows, is_bucket, is_free, HasOnlyItsLists, HasCursorInside}
+use Rattle.place_words.specs.ElementLists.{one, times, IsIn, IsHead, without, neighbour}
+use Rattle.place_words.specs.Openings.{is_free}
+use Rattle.place_core.specs.State.{rows, is_bucket, HasOnlyItsLists, HasCursorInside}
 use Rattle.place_core.specs.Places.{Place, lies, carried, lies_at, is_in_bucket, has_row}
 use Rattle.place_core.specs.Steps.{with_free, without_free, with_row, without_row, cursor_without}
 use Rattle.place_core.proofs.ElementLemmas.{by_test, times_cons_same, times_cons_other, times_append, times_without_same, times_without_other, before_stays}

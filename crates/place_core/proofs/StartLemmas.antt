@@ -18,8 +18,11 @@ use Rattle.place_words.specs.declared.home.Home.TheVariants as homes
 use Rattle.place_words.specs.Locks.{is_lock, lock_named, lock_count}
 use Rattle.place_words.proofs.LockLemmas.{number_of_named, number_within}
 use Rattle.place_core.specs.declared.step.Lists.{Lists}
-use Rattle.place_core.specs.State.{no_lists, is_free}
-use Rattle.place_core.specs.Opening.{pushed_from, share_first, share_count, opening_stack, opening_spares, spare_owner, opening_owner, opening_home, opening_pushed, opening_free, opening_lists, opening}
+use Rattle.place_words.specs.Openings.{is_free}
+use Rattle.place_core.specs.State.{no_lists}
+use Rattle.place_words.specs.Openings.{opening_stack, opening_spares, spare_owner, opening_owner, opening_pushed, opening_free}
+use Rattle.place_words.specs.Shares.{pushed_from, share_first, share_count}
+use Rattle.place_core.specs.Opening.{opening_home, opening_lists, opening}
 use Rattle.place_core.specs.Places.{Placed}
 use Rattle.place_core.specs.Ranks.{Ranked}
 use Rattle.place_core.specs.CoreView.{CoreView, state_of, HeldOnce, IsCore}
@@ -69,7 +72,7 @@ pub spares_are : (shape : Shape) (list now : List ℕ) → list ≡ flat_map (op
 unfolding opening_spares
 spares_are shape list now list_is now_is = now_is ∙ ap (take shape.cpus) list_is
 
-pub stack_is : (shape : Shape) (cpu first count : ℕ) → first ≡ share_first shape cpu → count ≡ share_count shape cpu → pushed_from first count ≡ opening_stack shape cpu
+pub stack_is : (shape : Shape) (cpu first count : ℕ) → first ≡ share_first shape.elements shape.cpus cpu → count ≡ share_count shape.elements shape.cpus cpu → pushed_from first count ≡ opening_stack shape cpu
 unfolding opening_stack
 stack_is shape cpu first count first_is count_is = λ i. pushed_from (first_is i) (count_is i)
 
@@ -201,11 +204,11 @@ free_bucket shape lock bucket is = subst (λ (d : DomainId). [] ≡ opening_free
 pub free_global : (shape : Shape) (held : List Owner) (lock : DomainId) → AreOpeningOwners shape held → is_lock shape lock ≡ true → lock ≡ Global → filter (λ e. is_free (get_or held e owners.Free)) (pushed_from 0 shape.elements) ≡ opening_free shape lock
 free_global shape held lock are is lock_is = free_is shape held lock 0 shape.elements are is (ap (opening_pushed shape) lock_is) (omega arith)
 
-pub free_set : (shape : Shape) (held : List Owner) (lock : DomainId) (cpu first count : ℕ) → AreOpeningOwners shape held → is_lock shape lock ≡ true → lock ≡ CpuLru cpu → first ≡ share_first shape cpu → count ≡ share_count shape cpu → first + count ≤ shape.elements → filter (λ e. is_free (get_or held e owners.Free)) (pushed_from first count) ≡ opening_free shape lock
+pub free_set : (shape : Shape) (held : List Owner) (lock : DomainId) (cpu first count : ℕ) → AreOpeningOwners shape held → is_lock shape lock ≡ true → lock ≡ CpuLru cpu → first ≡ share_first shape.elements shape.cpus cpu → count ≡ share_count shape.elements shape.cpus cpu → first + count ≤ shape.elements → filter (λ e. is_free (get_or held e owners.Free)) (pushed_from first count) ≡ opening_free shape lock
 free_set shape held lock cpu first count are is lock_is first_is count_is within =
     free_is shape held lock first count are is (ap (opening_pushed shape) lock_is ∙ sym (stack_is shape cpu first count first_is count_is)) within
 
-pub free_list : (shape : Shape) (held : List Owner) (lock : DomainId) (cpu first count : ℕ) → AreOpeningOwners shape held → is_lock shape lock ≡ true → lock ≡ Freelist cpu → first ≡ share_first shape cpu → count ≡ share_count shape cpu → first + count ≤ shape.elements → filter (λ e. is_free (get_or held e owners.Free)) (pushed_from first count) ≡ opening_free shape lock
+pub free_list : (shape : Shape) (held : List Owner) (lock : DomainId) (cpu first count : ℕ) → AreOpeningOwners shape held → is_lock shape lock ≡ true → lock ≡ Freelist cpu → first ≡ share_first shape.elements shape.cpus cpu → count ≡ share_count shape.elements shape.cpus cpu → first + count ≤ shape.elements → filter (λ e. is_free (get_or held e owners.Free)) (pushed_from first count) ≡ opening_free shape lock
 free_list shape held lock cpu first count are is lock_is first_is count_is within =
     free_is shape held lock first count are is (ap (opening_pushed shape) lock_is ∙ sym (stack_is shape cpu first count first_is count_is)) within
 

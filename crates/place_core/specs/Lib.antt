@@ -1,6 +1,5 @@
 pub mod Answers
 pub mod CoreView
-pub mod ElementLists
 pub mod Opening
 pub mod OpeningView
 pub mod Places

@@ -4,7 +4,8 @@ use Rattle.std.specs.List.{range_with_len}
 use Rattle.map_types.specs.declared.attr.Shape.{Shape}
 use Rattle.place_words.specs.declared.owner.Owner.{Owner}
 use Rattle.place_words.specs.Locks.{lock_count}
-use Rattle.place_core.specs.Opening.{opening_owner, opening_home, opening_lists}
+use Rattle.place_words.specs.Openings.{opening_owner}
+use Rattle.place_core.specs.Opening.{opening_home, opening_lists}
 use Rattle.place_core.specs.CoreView.{CoreView}
 
 -- the owners of all elements, in order

@@ -10,8 +10,9 @@ use Rattle.place_words.specs.declared.owner.Owner.{Owner}
 use Rattle.place_words.specs.declared.owner.Owner.TheVariants as owners
 use Rattle.place_words.specs.Locks.{is_lock, lock_named}
 use Rattle.place_core.specs.declared.step.Lists.{Lists}
-use Rattle.place_core.specs.ElementLists.{one, times}
-use Rattle.place_core.specs.State.{State, rows, is_free, HasOnlyItsLists, HasCursorInside}
+use Rattle.place_words.specs.ElementLists.{one, times}
+use Rattle.place_words.specs.Openings.{is_free}
+use Rattle.place_core.specs.State.{State, rows, HasOnlyItsLists, HasCursorInside}
 
 -- Where an element lies: under the lock of this number, on whose lists it is or was last, or in the hand of a CPU that
 -- carries it from one lock's lists to another's.

@@ -10,7 +10,7 @@ use Rattle.place_words.specs.declared.home.Home.TheVariants as homes
 use Rattle.place_words.specs.declared.owner.Owner.{Owner}
 use Rattle.place_words.specs.declared.owner.Owner.TheVariants as owners
 use Rattle.place_core.specs.declared.step.Lists.{Lists}
-use Rattle.place_core.specs.ElementLists.{IsIn}
+use Rattle.place_words.specs.ElementLists.{IsIn}
 
 pub record State : Type 0 where
   -- of a lock: the CPU that holds it
@@ -48,11 +48,6 @@ HasOnlyItsLists (Freelist cpu) lists = (lists.first ≡ []) × (lists.second ≡
 -- a cursor is an inactive element or the mark
 abbrev pub HasCursorInside : Lists → Type 0
 HasCursorInside lists = IfSome lists.cursor (λ e. IsIn e lists.second)
-
-abbrev pub is_free : Owner → Bool
-is_free owners.Free = true
-is_free (owners.Bucket bucket) = false
-is_free (owners.Hand cpu) = false
 
 -- A CPU is in no call where it holds no lock, carries no element, and has nothing in hand but one spare of HASH.
 pub record IsInNoCall (shape : Shape) (s : State) (cpu : ℕ) : Type 0 where

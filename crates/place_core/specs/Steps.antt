@@ -12,8 +12,9 @@ use Rattle.place_words.specs.Locks.{rank_of, is_lock, lock_number, lock_named}
 use Rattle.place_core.specs.declared.step.Lists.{Lists}
 use Rattle.place_core.specs.declared.step.Step.{Step}
 use Rattle.place_core.specs.declared.step.Step.TheVariants.{Take, Give, Claim, Settle, Attach, Detach, Rehome, Mark, Clear, Glance}
-use Rattle.place_core.specs.ElementLists.{put, times, IsIn, IsHead, without, neighbour}
-use Rattle.place_core.specs.State.{State, rows, is_bucket, is_free, HasOnlyItsLists, HasCursorInside}
+use Rattle.place_words.specs.ElementLists.{put, times, IsIn, IsHead, without, neighbour}
+use Rattle.place_words.specs.Openings.{is_free}
+use Rattle.place_core.specs.State.{State, rows, is_bucket, HasOnlyItsLists, HasCursorInside}
 
 -- what lies under a lock
 abbrev pub lists_under : Shape → State → DomainId → Lists

@@ -6,10 +6,12 @@ ghost use Rattle.map_types.specs.Creation.{IsShape};
 ghost use Rattle.map_types.specs.declared.attr.Shape as shapes;
 ghost use Rattle.place_words.specs.Locks.{lock_count, lock_named};
 ghost use Rattle.place_words.specs.declared.owner.Owner.TheVariants as owner_names;
-ghost use Rattle.place_core.specs.Opening.{pushed_from, share_first, share_count, opening_stack, opening_spares, spare_owner, opening_owner, opening_home, opening_free, opening_lists};
+ghost use Rattle.place_words.specs.Openings.{opening_stack, opening_spares, spare_owner, opening_owner, opening_free};
+ghost use Rattle.place_words.specs.Shares.{pushed_from, share_first, share_count};
+ghost use Rattle.place_core.specs.Opening.{opening_home, opening_lists};
 ghost use Rattle.place_core.specs.Answers.{view_of};
 ghost use Rattle.place_core.specs.OpeningView.{AreOpeningOwners, IsOpening};
-ghost use Rattle.place_core.specs.State.{is_free};
+ghost use Rattle.place_words.specs.Openings.{is_free};
 
 use crate::Lists;
 use crate::cells::{Cells, is_free};
@@ -35,8 +37,8 @@ fn push_from(list: &mut Vec<u32>, first: u32, count: u32) -> Result<(), NoMemory
 fn share(shape: &Shape, cpu: u32) -> (u32, u32)
     requires shape { IsShape shape.now }
     requires cpu { cpu < shape.now.cpus }
-    ensures first { result.0 ≡ share_first shape.now cpu }
-    ensures count { result.1 ≡ share_count shape.now cpu }
+    ensures first { result.0 ≡ share_first shape.now.elements shape.now.cpus cpu }
+    ensures count { result.1 ≡ share_count shape.now.elements shape.now.cpus cpu }
     ensures within { result.0 + result.1 ≤ shape.now.elements }
 {
     let each = shape.elements / shape.cpus;
@@ -57,8 +59,8 @@ fn stack(alloc: Global, shape: &Shape, cpu: u32) -> Result<Vec<u32>, NoMemory>
     Ok(list)
 }
 
-/// The spare elements of the CPUs of a map of kind HASH.
-fn spares(alloc: Global, shape: &Shape) -> Result<Vec<u32>, NoMemory>
+/// The spare elements of the CPUs of a map of kind HASH, by CPU.
+pub fn spares_at_first(alloc: Global, shape: &Shape) -> Result<Vec<u32>, NoMemory>
     requires { IsShape shape.now }
     ensures { IfOk result (λ list. list.items ≡ opening_spares shape.now) }
 {
@@ -71,7 +73,7 @@ fn spares(alloc: Global, shape: &Shape) -> Result<Vec<u32>, NoMemory>
 }
 
 /// Who has an element at first.
-#[tactic(auto, unfolding(crate::specs::Opening::opening_owner))]
+#[tactic(auto, unfolding(place_words::specs::Openings::opening_owner))]
 fn owner_at_first(kind: MapKind, spares: &[u32], element: u32) -> Owner
     requires { length spares.now < 2 ^ 32 }
     ensures { (shape : shapes.Shape) → opening_spares shape ≡ spares.now → result ≡ opening_owner shape kind element }
@@ -119,8 +121,8 @@ fn only_free(alloc: Global, owners: &[Owner], first: u32, count: u32) -> Result<
     Ok(Numbers::of(list))
 }
 
-/// What is free under a lock at first.
-fn free_at_first(
+/// What is free under a lock at first, the head first.
+pub fn free_at_first(
     alloc: Global,
     shape: &Shape,
     owners: &[Owner],
@@ -169,11 +171,11 @@ fn lists_at_first(alloc: Global, shape: &Shape, owners: &[Owner]) -> Result<Vec<
 }
 
 /// Who has each element at first.
-fn owners_at_first(alloc: Global, shape: &Shape) -> Result<Vec<Owner>, NoMemory>
+pub fn owners_at_first(alloc: Global, shape: &Shape) -> Result<Vec<Owner>, NoMemory>
     requires { IsShape shape.now }
     ensures { IfOk result (λ owners. owners.items ≡ map (opening_owner shape.now shape.now.kind) (range_with_len 0 shape.now.elements)) }
 {
-    let spares = spares(alloc, shape)?;
+    let spares = spares_at_first(alloc, shape)?;
     let mut owners = Vec::new(alloc);
     for element in 0..shape.elements {
         owners.push(owner_at_first(shape.kind, spares.as_slice(), element))?;

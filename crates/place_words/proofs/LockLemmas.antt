@@ -1,12 +1,12 @@
 -- No two locks have one number.
 use Rattle.std.proofs.Common.{◌≡◌, ℕ, ◌+◌, ◌-◌, ◌<◌, ◌≤◌, true, false, eqb, ltb, refl, ap, ◌∙◌, sym, subst, ⊎_elim, arith}
 use Rattle.std.specs.Prelude.{IsTrue}
-use Rattle.std.proofs.lemmas.Bool.{cases_Bool, and_parts, ltb-true, ltb-false}
+use Rattle.std.proofs.lemmas.Bool.{cases_Bool, and_parts, ltb-true, ltb-false, eqb-true}
 use Rattle.std.proofs.lemmas.Bool.Decides.{nat_tests}
 use Rattle.map_types.specs.declared.attr.Shape.{Shape}
 use Rattle.map_types.specs.declared.kind.DomainId.{DomainId}
 use Rattle.map_types.specs.declared.kind.DomainId.TheVariants.{Local, Global, CpuLru, Bucket, Freelist}
-use Rattle.place_words.specs.Locks.{is_lock, lock_number, lock_named, lock_count, first_set, first_bucket, first_freelist}
+use Rattle.place_words.specs.Locks.{is_lock, lock_number, lock_named, lock_count, first_set, first_bucket, first_freelist, is_same_lock}
 
 below : (k n : ℕ) → k < n → ltb k n ≡ true
 below k n less = grind (arith, nat_tests)
@@ -89,3 +89,41 @@ number_within shape (Freelist cpu) is =
 pub named_at : (shape : Shape) (lock named : DomainId) → IsTrue (is_lock shape lock) → lock ≡ named → lock_named shape (lock_number shape named) ≡ lock
 named_at shape lock named is same_lock =
     subst (λ (other : DomainId). lock_named shape (lock_number shape other) ≡ lock) same_lock (named_by_number shape lock is)
+
+-- the test for one lock
+pub same_lock : (lock : DomainId) → is_same_lock lock lock ≡ true
+same_lock (Local cpu) = same cpu cpu refl
+same_lock Global = refl
+same_lock (CpuLru cpu) = same cpu cpu refl
+same_lock (Bucket bucket) = same bucket bucket refl
+same_lock (Freelist cpu) = same cpu cpu refl
+
+pub one_lock : (lock other : DomainId) → is_same_lock lock other ≡ true → lock ≡ other
+one_lock (Local c) (Local d) is = ap Local (eqb-true c d is)
+one_lock (Local c) Global is = cc
+one_lock (Local c) (CpuLru d) is = cc
+one_lock (Local c) (Bucket d) is = cc
+one_lock (Local c) (Freelist d) is = cc
+one_lock Global (Local d) is = cc
+one_lock Global Global is = refl
+one_lock Global (CpuLru d) is = cc
+one_lock Global (Bucket d) is = cc
+one_lock Global (Freelist d) is = cc
+one_lock (CpuLru c) (Local d) is = cc
+one_lock (CpuLru c) Global is = cc
+one_lock (CpuLru c) (CpuLru d) is = ap CpuLru (eqb-true c d is)
+one_lock (CpuLru c) (Bucket d) is = cc
+one_lock (CpuLru c) (Freelist d) is = cc
+one_lock (Bucket c) (Local d) is = cc
+one_lock (Bucket c) Global is = cc
+one_lock (Bucket c) (CpuLru d) is = cc
+one_lock (Bucket c) (Bucket d) is = ap Bucket (eqb-true c d is)
+one_lock (Bucket c) (Freelist d) is = cc
+one_lock (Freelist c) (Local d) is = cc
+one_lock (Freelist c) Global is = cc
+one_lock (Freelist c) (CpuLru d) is = cc
+one_lock (Freelist c) (Bucket d) is = cc
+one_lock (Freelist c) (Freelist d) is = ap Freelist (eqb-true c d is)
+
+pub other_lock : (lock other : DomainId) → (lock ≡ other → ⊥) → is_same_lock lock other ≡ false
+other_lock lock other apart = ⊎_elim (λ (is : is_same_lock lock other ≡ true). absurd (apart (one_lock lock other is))) (λ (no_one : is_same_lock lock other ≡ false). no_one) (cases_Bool (is_same_lock lock other))

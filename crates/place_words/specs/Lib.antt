@@ -1,2 +1,15 @@
+pub mod Bodies
+pub mod Buckets
 pub mod Codes
+pub mod ElementLists
+pub mod Freelists
+pub mod Histories
+pub mod Listed
 pub mod Locks
+pub mod Moves
+pub mod Openings
+pub mod Rotation
+pub mod Shares
+pub mod Shrinking
+pub mod Sizes
+pub mod Strands

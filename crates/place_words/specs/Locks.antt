@@ -1,5 +1,5 @@
 -- The locks of a map: which there are, in which order they are taken, and their numbers.
-use Rattle.std.specs.Prelude.{ℕ, ◌+◌, ◌-◌, Bool, not, ◌&&◌, ◌==◌, nat_lt, if◌then◌else◌}
+use Rattle.std.specs.Prelude.{ℕ, ◌+◌, ◌-◌, Bool, true, false, not, ◌&&◌, ◌==◌, nat_lt, if◌then◌else◌}
 use Rattle.map_types.specs.declared.attr.Shape.{Shape}
 use Rattle.map_types.specs.declared.kind.DomainId.{DomainId}
 use Rattle.map_types.specs.declared.kind.DomainId.TheVariants.{Local, Global, CpuLru, Bucket, Freelist}
@@ -53,3 +53,12 @@ lock_named shape k =
     else if nat_lt k (first_bucket shape) then CpuLru (k - first_set shape)
     else if nat_lt k (first_freelist shape) then Bucket (k - first_bucket shape)
     else Freelist (k - first_freelist shape)
+
+-- whether two names are of one lock
+abbrev pub is_same_lock : DomainId → DomainId → Bool
+is_same_lock (Local c) (Local d) = c == d
+is_same_lock Global Global = true
+is_same_lock (CpuLru c) (CpuLru d) = c == d
+is_same_lock (Bucket b) (Bucket d) = b == d
+is_same_lock (Freelist c) (Freelist d) = c == d
+is_same_lock lock other = false

@@ -1,11 +1,29 @@
 //! Where an element is, in words: who owns it, where its home is, the numbers by which a shared table keeps both, and
-//! the order in which locks are taken.
+//! the order in which locks are taken. And what is recorded of the turns of each lock, with the rules by which each
+//! changes what lies under it.
 #![tactic(auto)]
 
+mod bucket_part;
+mod copying;
+mod finals;
+mod free_part;
+mod history;
 mod home;
+mod list_part;
 mod lock;
 mod owner;
+mod row;
+#[cfg(test)]
+mod tests;
+mod visits;
 
+pub use bucket_part::{BucketPart, NextFound, Put, Seen, Walked};
+pub use finals::{Finals, Kept, LocalFinal, SetFinal};
+pub use free_part::FreePart;
+pub use history::{Entry, LockHistory, Part, Strand, StrandStep};
 pub use home::{Home, home_code, home_of_code};
+pub use list_part::{GlobalPart, LocalPart, OwnPart, Stolen};
 pub use lock::{is_lock, lock_named, lock_number, rank};
 pub use owner::{Owner, owner_code, owner_of_code};
+pub use row::Row;
+pub use visits::{Flush, Look, ShrinkNote, Try, Visit};

@@ -1,6 +1,7 @@
 use Rattle.std.proofs.Common.{◌≡◌, sym, ◌∙◌}
 use Rattle.std.specs.Prelude.{Some, None}
-use Rattle.bucket_chain.specs.Places.{has_key, place_of_key}
+use Rattle.place_words.specs.Bodies.{has_key}
+use Rattle.bucket_chain.specs.Places.{place_of_key}
 use Rattle.bucket_chain.proofs.Found.{find_none, find_some}
 use Rattle.map_run.proofs.buckets.body_in.Goals as goal
 

@@ -2,9 +2,9 @@ use Rattle.std.proofs.Common.{◌≡◌, ap, sym, ◌∙◌}
 use Rattle.std.specs.Prelude.{Some, option_map}
 use Rattle.map_types.specs.Sides.{part_count}
 use Rattle.map_types.specs.Stored.{Stored}
-use Rattle.bucket_chain.specs.Places.{has_key}
+use Rattle.place_words.specs.Bodies.{has_key}
 use Rattle.bucket_chain.proofs.Found.{find_some, key_found}
-use Rattle.map_run.specs.Buckets.{present}
+use Rattle.place_words.specs.Bodies.{present}
 use Rattle.map_run.proofs.ChainLemmas.{sized_replaced}
 use Rattle.map_run.proofs.buckets.replace_in.Goals as goal
 

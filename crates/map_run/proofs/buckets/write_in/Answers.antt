@@ -3,8 +3,8 @@ use Rattle.map_types.specs.declared.kind.Side.{Side}
 use Rattle.map_types.specs.ValueLen.{value_len_of}
 use Rattle.map_types.specs.Sides.{part_count, values_written}
 use Rattle.bucket_chain.specs.Places.{values_at}
-use Rattle.map_run.proofs.BodyLemmas.{some_part}
-use Rattle.map_run.proofs.ChainLemmas.{sized_found, all_exact, all_written, own_within, own_written, one_long, one_written, part_exact, write_tells, write_keeps}
+use Rattle.bucket_chain.proofs.WriteLaws.{some_part, all_exact, all_written, own_within, own_written, part_exact}
+use Rattle.map_run.proofs.ChainLemmas.{sized_found, one_long, one_written, write_tells, write_keeps}
 use Rattle.map_run.proofs.buckets.write_in.Goals as goal
 
 pub write_own-requires-clause-in_range : goal.write_own-requires-clause-in_range

@@ -1,6 +1,7 @@
 use Rattle.std.proofs.Common.{◌≡◌, map}
 use Rattle.std.specs.List.{range_with_len}
-use Rattle.map_run.specs.Freelists.{opening_stack, share_first}
+use Rattle.place_words.specs.Shares.{share_first}
+use Rattle.map_run.specs.Freelists.{opening_stack}
 use Rattle.map_run.specs.Plain.{stacks_of}
 use Rattle.map_run.proofs.stacks.opening_stacks.Given as goal
 

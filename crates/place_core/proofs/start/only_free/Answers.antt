@@ -1,6 +1,6 @@
 use Rattle.std.proofs.Common.{arith, rules, ◌≡◌, ◌+◌, ◌-◌, true, get_or}
 use Rattle.place_words.specs.declared.owner.Owner.TheVariants as names
-use Rattle.place_core.specs.State.{is_free}
+use Rattle.place_words.specs.Openings.{is_free}
 use Rattle.place_core.proofs.StartLemmas.{filter_pass}
 use Rattle.place_core.proofs.start.only_free.Goals as goal
 

@@ -1,8 +1,8 @@
 use Rattle.std.proofs.Common.{◌≡◌, ◌++◌, ◌≤◌}
 use Rattle.std.specs.Prelude.{filter, slice_index_or}
 use Rattle.place_words.specs.declared.owner.Owner.TheVariants as names
-use Rattle.place_core.specs.Opening.{pushed_from}
-use Rattle.place_core.specs.State.{is_free}
+use Rattle.place_words.specs.Shares.{pushed_from}
+use Rattle.place_words.specs.Openings.{is_free}
 use Rattle.place_core.proofs.start.only_free.Given as goal
 
 abbrev pub invariant-loop-left : goal.invariant-loop-left

@@ -1,7 +1,7 @@
 use Rattle.std.proofs.Common.{sym, ◌∙◌, ap, List, ℕ, eqb}
 use Rattle.std.specs.Prelude.{position}
 use Rattle.map_types.specs.declared.kind.MapKind.{MapKind}
-use Rattle.place_core.specs.Opening.{spare_owner, opening_owner}
+use Rattle.place_words.specs.Openings.{spare_owner, opening_owner}
 use Rattle.place_core.proofs.start.owner_at_first.Goals as goal
 
 pub returns-in-Some : goal.returns-in-Some

@@ -1,6 +1,6 @@
 use Rattle.std.proofs.Common.{arith, sym, ◌∙◌, ◌≡◌, ◌≤◌, List, ℕ, length, subst}
 use Rattle.map_types.proofs.CreationLemmas.{bounds_of_shape}
-use Rattle.place_core.specs.Opening.{opening_owner, opening_spares}
+use Rattle.place_words.specs.Openings.{opening_owner, opening_spares}
 use Rattle.place_core.proofs.StartLemmas.{map_next, spares_length}
 use Rattle.place_core.proofs.start.owners_at_first.Goals as goal
 

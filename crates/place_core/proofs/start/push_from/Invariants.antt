@@ -1,5 +1,5 @@
 use Rattle.std.proofs.Common.{◌≡◌, ◌++◌, ◌≤◌}
-use Rattle.place_core.specs.Opening.{pushed_from}
+use Rattle.place_words.specs.Shares.{pushed_from}
 use Rattle.place_core.proofs.start.push_from.Given as goal
 
 abbrev pub invariant-loop-left : goal.invariant-loop-left

@@ -1,6 +1,6 @@
 use Rattle.std.proofs.Common.{arith, ◌∙◌, ap, List, ℕ, ◌++◌}
 use Rattle.map_types.proofs.CreationLemmas.{bounds_of_shape}
-use Rattle.place_core.specs.Opening.{pushed_from}
+use Rattle.place_words.specs.Shares.{pushed_from}
 use Rattle.place_core.proofs.StartLemmas.{stack_is}
 use Rattle.place_core.proofs.start.stack.Goals as goal
 

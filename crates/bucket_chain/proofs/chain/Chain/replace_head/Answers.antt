@@ -1,9 +1,12 @@
-use Rattle.std.proofs.Common.{◌≡◌, ◌-◌, length, ap, refl, ◌∙◌, arith, ◌++◌, ◌∷◌, [], reverse, get_or}
+use Rattle.std.proofs.Common.{◌≡◌, ◌-◌, ℕ, List, length, ap, sym, refl, ◌∙◌, arith, ◌++◌, ◌∷◌, [], reverse, get_or}
 use Rattle.std.proofs.lemmas.List.{length-reverse, with_items_is}
 use Rattle.std.specs.Vec.{with_items}
 use Rattle.std.specs.Prelude.{remove}
+use Rattle.place_words.specs.Bodies.{present, without_key}
+use Rattle.map_types.specs.Stored.{Stored}
 use Rattle.percpu_values.specs.BodyList.{BodyList}
-use Rattle.bucket_chain.proofs.Changes.{taken_seen, replaced_seen, replaced_distinct}
+use Rattle.bucket_chain.proofs.Changes.{distinct_seen, taken_seen, replaced_seen, replaced_distinct}
+use Rattle.bucket_chain.proofs.ByKey.{holds_its_key, removed_its_key}
 use Rattle.bucket_chain.proofs.chain.Chain.replace_head.Goals as goal
 
 pub invariant_of-self : goal.invariant_of-self
@@ -50,3 +53,18 @@ returns-clause-bodies c =
     let same : length now ≡ c.self.inside.bodies.len = c.replace_last.auto.bodies ∙ c.deref_mut.ensures.len in
     let held = with_items_is c.self.inside.bodies now same in
     replaced_seen items _ (remove items (c.len.result - 1 - c.args.place)) (with_items c.self.inside.bodies now).items c.args.place _ c.args.body seen c.requires.at_body index refl (held ∙ is)
+
+pub returns-clause-holder : goal.returns-clause-holder
+returns-clause-holder c =
+    let bodies = c.args.self.now.bodies in
+    let seen = ap (λ (list : BodyList). list.bodies) c.self.view_is in
+    let distinct = distinct_seen c.self.inside.bodies.items bodies seen c.self.invariant.0 in
+    ap (λ (key : List ℕ). present key bodies) (sym c.requires.same_key) ∙ sym (holds_its_key c.args.place bodies distinct c.requires.at_body) ∙ returns-clause-taken c
+
+pub returns-clause-of_key : goal.returns-clause-of_key
+returns-clause-of_key c =
+    let bodies = c.args.self.now.bodies in
+    let seen = ap (λ (list : BodyList). list.bodies) c.self.view_is in
+    let distinct = distinct_seen c.self.inside.bodies.items bodies seen c.self.invariant.0 in
+    returns-clause-bodies c ∙ ap (λ (rest : List Stored). c.args.body ∷ rest) (removed_its_key c.args.place bodies distinct c.requires.at_body)
+    ∙ ap (λ (key : List ℕ). c.args.body ∷ without_key key bodies) c.requires.same_key

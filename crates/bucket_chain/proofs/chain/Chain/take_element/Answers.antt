@@ -1,7 +1,7 @@
 use Rattle.std.proofs.Common.{◌≡◌, ap, sym, ◌∙◌, reverse}
 use Rattle.percpu_values.specs.BodyList.{BodyList}
 use Rattle.std.specs.Prelude.{position, Some, None}
-use Rattle.bucket_chain.specs.Places.{has_number}
+use Rattle.place_words.specs.Bodies.{has_number}
 use Rattle.bucket_chain.proofs.Found.{find_none, find_some, rest_some}
 use Rattle.bucket_chain.proofs.chain.Chain.take_element.Goals as goal
 

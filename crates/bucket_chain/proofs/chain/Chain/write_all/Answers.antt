@@ -3,7 +3,8 @@ use Rattle.std.proofs.lemmas.List.{length-reverse}
 use Rattle.percpu_values.specs.BodyList.{BodyList}
 use Rattle.map_types.specs.Parts.{values_in, part_size}
 use Rattle.bucket_chain.specs.Places.{values_at, with_values_at}
-use Rattle.bucket_chain.proofs.Changes.{values_seen, written_seen, written_distinct}
+use Rattle.bucket_chain.proofs.Changes.{distinct_seen, values_seen, written_seen, written_distinct}
+use Rattle.bucket_chain.proofs.ByKey.{written_its_key}
 use Rattle.bucket_chain.proofs.chain.Chain.write_all.Goals as goal
 
 pub invariant_of-self : goal.invariant_of-self
@@ -40,3 +41,10 @@ returns-clause-bodies c =
     c.values_mut.ensures.value ∙ sym (values_seen items _ c.args.place _ body seen c.requires.at_body index read) in
     let new = c.write_all.ensures ∙ ap (λ (old : List (List ℕ)). values_in (length old) (part_size old) c.args.fields.now) old in
     written_seen items _ c.args.place _ body c.write_all.new.self seen c.requires.at_body index read ∙ ap (λ values. with_values_at c.args.place values c.args.self.now.bodies) new
+
+pub returns-clause-of_key : goal.returns-clause-of_key
+returns-clause-of_key c =
+    let bodies = c.args.self.now.bodies in
+    let seen = ap (λ (list : BodyList). list.bodies) c.self.view_is in
+    let distinct = distinct_seen c.self.inside.bodies.items bodies seen c.self.invariant.0 in
+    returns-clause-bodies c ∙ written_its_key c.args.place (λ (values : List (List ℕ)). values_in (length values) (part_size values) c.args.fields.now) bodies distinct c.requires.at_body

@@ -1,5 +1,5 @@
 use Rattle.std.proofs.Common.{◌≡◌, ◌<◌, length, arith, sym, ap, ◌∙◌, Some, option_map}
-use Rattle.map_run.specs.Buckets.{present}
+use Rattle.place_words.specs.Bodies.{present}
 use Rattle.map_run.proofs.PlainLemmas.{chain_sized, body_sized}
 use Rattle.map_run.proofs.plain.PlainMap.lookup.Goals as goal
 

@@ -3,7 +3,7 @@ use Rattle.std.proofs.lemmas.List.{with_items_is}
 use Rattle.std.proofs.lemmas.List.Elements.{All-set}
 use Rattle.map_types.specs.declared.refusal.Errno.TheVariants.{E2big}
 use Rattle.map_types.specs.declared.reply.Reply.TheVariants.{Done, Refused}
-use Rattle.map_run.specs.Buckets.{without_key}
+use Rattle.place_words.specs.Bodies.{without_key}
 use Rattle.map_run.specs.Freelists.{popped}
 use Rattle.map_run.specs.Plain.{PlainState, plain_lists, stacks_of}
 use Rattle.map_run.specs.Serial.{new_stored}
