@@ -1,0 +1,63 @@
+-- The first pass of a table is in no call, and keeps the spares that it has in hand.
+use Rattle.std.proofs.Common.{◌≡◌, ℕ, ◌+◌, ◌<◌, ◌≤◌, true, List, [], length, get_or, Option, None, Some, refl, ap, ◌∙◌, sym, subst, arith}
+use Rattle.std.specs.Prelude.{MatchOption}
+use Rattle.map_types.specs.declared.attr.Shape.{Shape}
+use Rattle.map_types.specs.declared.kind.MapKind.{MapKind}
+use Rattle.map_types.specs.declared.kind.MapKind.TheVariants.{Hash}
+use Rattle.map_types.specs.Shape.{HasBounds}
+use Rattle.map_types.specs.Stored.{Stored}
+use Rattle.place_words.specs.declared.history.StrandStep.{StrandStep}
+use Rattle.place_table.specs.declared.content.Behind.{Behind}
+use Rattle.place_table.specs.declared.view.View.{View}
+use Rattle.place_table.specs.declared.view.InHand.{InHand}
+use Rattle.place_table.specs.Contents.{IsSized}
+use Rattle.place_table.specs.Views.{is_among, is_in_hand_of, spares_from, first_hand, first_view}
+use Rattle.place_table.specs.Passes.{PassView, TableView, spare_of, SparesFit, IsPass, IsInNoCall, IsFirstPass}
+use Rattle.place_table.specs.Opening.{first_spares, AreBodiesOf}
+use Rattle.place_table.proofs.FirstSpares.{spares_count, hand_is_spares, spare_in_hand, spare_at_place}
+use Rattle.place_table.proofs.Opens.{among_below}
+
+-- the body that stands at a CPU's place
+body_at : (shape : Shape) (elements : List ℕ) (bodies : List (Option Stored)) (cpu : ℕ) → AreBodiesOf shape elements bodies → cpu < length elements → (body : Stored) × (spare_of cpu bodies ≡ Some body) × (body.element ≡ get_or elements cpu 0)
+body_at shape elements bodies cpu are within = go (spare_of cpu bodies) refl (are cpu)
+  where
+    go : (found : Option Stored) → spare_of cpu bodies ≡ found → MatchOption found (length elements ≤ cpu) (λ body. (cpu < length elements) × (body.element ≡ get_or elements cpu 0) × IsSized shape body) → (body : Stored) × (spare_of cpu bodies ≡ Some body) × (body.element ≡ get_or elements cpu 0)
+    go None is past = absurd (omega arith)
+    go (Some body) is fact = (body, is, fact.1)
+
+first_count : (shape : Shape) → HasBounds shape → shape.kind ≡ Hash → length (first_spares shape.kind shape) ≡ shape.cpus
+first_count shape bounds hash = ap (λ (kind : MapKind). length (first_spares kind shape)) hash ∙ spares_count shape bounds hash
+
+pub first_in_no_call : (shape : Shape) (p : PassView) → HasBounds shape → p.view ≡ first_view shape → AreBodiesOf shape (first_spares shape.kind shape) p.spares → IsInNoCall p
+first_in_no_call shape p bounds is are = record {
+  holds_nothing = ap (λ (v : View). v.held) is;
+  spares_only = λ e cpu mine in_hand.
+      let hand : is_in_hand_of e cpu (spares_from 0 (first_spares shape.kind shape)) ≡ true = subst (λ (hand : List InHand). is_in_hand_of e cpu hand ≡ true) (ap (λ (v : View). v.hand) is ∙ hand_is_spares shape.kind shape) in_hand in
+      let found = spare_in_hand e cpu 0 (first_spares shape.kind shape) hand in
+      let at : found.0 ≡ cpu = let place = found.2 in omega arith in
+      let kept = body_at shape (first_spares shape.kind shape) p.spares cpu are (let within = found.1 in omega arith) in
+      (kept.0, kept.1, kept.2 ∙ (ap (λ (i : ℕ). get_or (first_spares shape.kind shape) i 0) (sym at) ∙ found.3));
+  none_out = λ hash cpu mine.
+      let is_hash : shape.kind ≡ Hash = ap (λ (v : View). v.shape.kind) (sym is) ∙ hash in
+      let few : cpu < shape.cpus = among_below cpu shape.cpus (subst (λ (v : View). is_among cpu v.cpus ≡ true) is mine) in
+      let kept = body_at shape (first_spares shape.kind shape) p.spares cpu are (omega (arith, first_count shape bounds is_hash)) in
+      (kept.0, kept.1);
+}
+
+first_spares_fit : (shape : Shape) (spares : List (Option Stored)) → AreBodiesOf shape (first_spares shape.kind shape) spares → SparesFit (first_view shape) spares
+first_spares_fit shape spares are cpu body kept =
+    let elements : List ℕ = first_spares shape.kind shape in
+    let fact : (cpu < length (first_spares shape.kind shape)) × (body.element ≡ get_or (first_spares shape.kind shape) cpu 0) × IsSized shape body = subst (λ (found : Option Stored). MatchOption found (length (first_spares shape.kind shape) ≤ cpu) (λ stored. (cpu < length (first_spares shape.kind shape)) × (stored.element ≡ get_or (first_spares shape.kind shape) cpu 0) × IsSized shape stored)) kept (are cpu) in
+    let place : 0 + cpu ≡ cpu = omega arith in
+    let hand : is_in_hand_of (get_or (first_spares shape.kind shape) cpu 0) cpu (spares_from 0 (first_spares shape.kind shape)) ≡ true = subst (λ (c : ℕ). is_in_hand_of (get_or (first_spares shape.kind shape) cpu 0) c (spares_from 0 (first_spares shape.kind shape)) ≡ true) place (spare_at_place cpu 0 (first_spares shape.kind shape) fact.0) in
+    (ap (λ (e : ℕ). is_in_hand_of e cpu (first_hand shape.kind shape)) fact.1 ∙ (ap (λ (hand : List InHand). is_in_hand_of (get_or (first_spares shape.kind shape) cpu 0) cpu hand) (hand_is_spares shape.kind shape) ∙ hand), fact.2)
+
+pub first_is_pass : (shape : Shape) (v : View) (slots : List (ℕ × Behind)) (strand : List StrandStep) (spares : List (Option Stored)) → v ≡ first_view shape → slots ≡ [] → strand ≡ [] → AreBodiesOf shape (first_spares shape.kind shape) spares → IsPass v slots strand spares
+first_is_pass shape v slots strand spares is none no_steps are =
+    subst (λ (w : View). IsPass w slots strand spares) (sym is)
+    (subst (λ (xs : List (ℕ × Behind)). IsPass (first_view shape) xs strand spares) (sym none)
+    record { carries = tt; strand_is = no_steps; none_ended = refl; spares_fit = first_spares_fit shape spares are })
+
+pub is_first_pass : (t : TableView) (p : PassView) → HasBounds t.shape → p.table ≡ t.id → p.view ≡ first_view t.shape → AreBodiesOf t.shape (first_spares t.shape.kind t.shape) p.spares → IsFirstPass t p
+is_first_pass t p bounds of_table is are =
+    record { table_is = of_table; view_is = is; in_no_call = first_in_no_call t.shape p bounds is are }

@@ -1,0 +1,92 @@
+-- The words of a table at first.
+use Rattle.std.proofs.Common.{◌≡◌, ℕ, zero, suc, ◌+◌, ◌-◌, ◌*◌, ◌<◌, ◌≤◌, List, [], ◌++◌, length, get_or, map, replicate, refl, ap, ◌∙◌, sym, subst, arith}
+use Rattle.std.specs.List.{range_with_len}
+use Rattle.std.proofs.lemmas.List.{length-append, length-replicate, length-map, get_or_append_left, get_or-append_right, get_or-map}
+use Rattle.std.proofs.lemmas.List.FromFn.{length-map-range_with_len, get_or-map-range_with_len}
+use Rattle.map_types.specs.declared.attr.Shape.{Shape}
+use Rattle.map_types.specs.Shape.{HasBounds}
+use Rattle.place_words.specs.declared.owner.Owner.{Owner}
+use Rattle.place_words.specs.declared.owner.Owner.TheVariants as owners
+use Rattle.place_words.specs.Codes.{owner_code, HasOwnerCode}
+use Rattle.place_words.specs.Locks.{lock_count}
+use Rattle.place_words.specs.Openings.{opening_owner}
+use Rattle.place_core.specs.OpeningView.{AreOpeningOwners}
+use Rattle.place_core.specs.Places.{MayOwn}
+use Rattle.place_core.proofs.OpeningLaws.{owner_exists}
+use Rattle.place_core.proofs.StartLemmas.{owners_count}
+use Rattle.place_table.specs.Opening.{opening_codes, opening_words}
+use Rattle.place_table.specs.Rules.{word_count, owner_word}
+
+-- what may own an element has a code
+owner_has_code : (shape : Shape) (o : Owner) → HasBounds shape → MayOwn shape o → HasOwnerCode o
+owner_has_code shape owners.Free bounds may = tt
+owner_has_code shape (owners.Hand cpu) bounds may = let few = bounds.cpus_bounded in omega arith
+owner_has_code shape (owners.Bucket bucket) bounds may = let few = bounds.buckets_bounded in omega arith
+
+pub owners_have_codes : (shape : Shape) (held : List Owner) → HasBounds shape → AreOpeningOwners shape held → (k : ℕ) (d : Owner) → k < length held → HasOwnerCode (get_or held k d)
+owners_have_codes shape held bounds are k d within =
+    let real : k < shape.elements = omega (arith, owners_count shape held are) in
+    let is : get_or held k d ≡ opening_owner shape shape.kind k = ap (λ (xs : List Owner). get_or xs k d) are ∙ get_or-map-range_with_len (opening_owner shape shape.kind) 0 shape.elements k k d real (omega arith) in
+    subst HasOwnerCode (sym is) (owner_has_code shape (opening_owner shape shape.kind k) bounds (owner_exists shape shape.kind k))
+
+pub words_are : (shape : Shape) (held : List Owner) (first locks owned whole : List ℕ) (n m : ℕ) → AreOpeningOwners shape held → first ≡ [] → n ≡ lock_count shape → m ≡ 2 * shape.elements
+    → locks ≡ first ++ replicate n 0 → owned ≡ locks ++ map owner_code held → whole ≡ owned ++ replicate m 0 → whole ≡ opening_words shape
+unfolding opening_words
+words_are shape held first locks owned whole n m are first_is n_is m_is locks_are owned_are whole_is =
+    let lock_words : locks ≡ replicate (lock_count shape) 0 = locks_are ∙ (λ i. first_is i ++ replicate (n_is i) 0) in
+    let owner_words : owned ≡ replicate (lock_count shape) 0 ++ opening_codes shape = owned_are ∙ (λ i. lock_words i ++ map owner_code (are i)) in
+    whole_is ∙ (λ i. owner_words i ++ replicate (m_is i) 0)
+
+-- Reading
+
+at_zeros : (n i : ℕ) → get_or (replicate {A = ℕ} n 0) i 0 ≡ 0
+at_zeros zero i = refl
+at_zeros (suc n) zero = refl
+at_zeros (suc n) (suc i) = at_zeros n i
+
+length_codes : (shape : Shape) → length (opening_codes shape) ≡ shape.elements
+length_codes shape = length-map (map (opening_owner shape shape.kind) (range_with_len 0 shape.elements)) owner_code ∙ length-map-range_with_len (opening_owner shape shape.kind) 0 shape.elements
+
+-- the words of locks and owners
+abbrev words_with_owners : Shape → List ℕ
+words_with_owners shape = replicate (lock_count shape) 0 ++ opening_codes shape
+
+length_with_owners : (shape : Shape) → length (words_with_owners shape) ≡ lock_count shape + shape.elements
+length_with_owners shape =
+    let locks : length (replicate {A = ℕ} (lock_count shape) 0) ≡ lock_count shape = length-replicate (lock_count shape) 0 in
+    let codes = length_codes shape in
+    length-append (replicate {A = ℕ} (lock_count shape) 0) (opening_codes shape) ∙ omega arith
+
+pub length_words : (shape : Shape) → length (opening_words shape) ≡ word_count shape
+unfolding opening_words
+length_words shape =
+    let owned = length_with_owners shape in
+    let rest : length (replicate {A = ℕ} (2 * shape.elements) 0) ≡ 2 * shape.elements = length-replicate (2 * shape.elements) 0 in
+    length-append (words_with_owners shape) (replicate {A = ℕ} (2 * shape.elements) 0) ∙ omega arith
+
+pub first_lock_word : (shape : Shape) (k : ℕ) → k < lock_count shape → get_or (opening_words shape) k 0 ≡ 0
+unfolding opening_words
+first_lock_word shape k within =
+    let owned = length_with_owners shape in
+    let locks : length (replicate {A = ℕ} (lock_count shape) 0) ≡ lock_count shape = length-replicate (lock_count shape) 0 in
+    get_or_append_left (words_with_owners shape) (replicate {A = ℕ} (2 * shape.elements) 0) 0 k (omega arith)
+    ∙ (get_or_append_left (replicate {A = ℕ} (lock_count shape) 0) (opening_codes shape) 0 k (omega arith) ∙ at_zeros (lock_count shape) k)
+
+pub first_owner_word : (shape : Shape) (e : ℕ) → e < shape.elements → get_or (opening_words shape) (owner_word shape e) 0 ≡ owner_code (opening_owner shape shape.kind e)
+unfolding opening_words
+first_owner_word shape e real =
+    let owned = length_with_owners shape in
+    let locks : length (replicate {A = ℕ} (lock_count shape) 0) ≡ lock_count shape = length-replicate (lock_count shape) 0 in
+    let back : lock_count shape + e - lock_count shape ≡ e = omega arith in
+    let all : List Owner = map (opening_owner shape shape.kind) (range_with_len 0 shape.elements) in
+    let count : length (map (opening_owner shape shape.kind) (range_with_len 0 shape.elements)) ≡ shape.elements = length-map-range_with_len (opening_owner shape shape.kind) 0 shape.elements in
+    get_or_append_left (words_with_owners shape) (replicate {A = ℕ} (2 * shape.elements) 0) 0 (lock_count shape + e) (omega arith)
+    ∙ (get_or-append_right (replicate {A = ℕ} (lock_count shape) 0) (opening_codes shape) (lock_count shape) (lock_count shape + e) 0 locks (omega arith)
+    ∙ (ap (λ (i : ℕ). get_or (opening_codes shape) i 0) back
+    ∙ (get_or-map owner_code (map (opening_owner shape shape.kind) (range_with_len 0 shape.elements)) e owners.Free 0 (omega arith)
+    ∙ ap owner_code (get_or-map-range_with_len (opening_owner shape shape.kind) 0 shape.elements e e owners.Free real (omega arith)))))
+
+pub first_later_word : (shape : Shape) (i : ℕ) → lock_count shape + shape.elements ≤ i → get_or (opening_words shape) i 0 ≡ 0
+unfolding opening_words
+first_later_word shape i past =
+    get_or-append_right (words_with_owners shape) (replicate {A = ℕ} (2 * shape.elements) 0) (lock_count shape + shape.elements) i 0 (length_with_owners shape) past ∙ at_zeros (2 * shape.elements) (i - (lock_count shape + shape.elements))

@@ -1,0 +1,200 @@
+-- From what a take tells to what a give asks.
+use Rattle.std.proofs.Common.{◌≡◌, ℕ, zero, suc, ◌<◌, cond, Bool, true, false, List, [], ◌∷◌, ◌++◌, length, sym, refl, ap, ◌∙◌, subst, append_assoc, arith}
+use Rattle.std.specs.Prelude.{IsTrue}
+use Rattle.map_types.specs.declared.attr.Shape.{Shape}
+use Rattle.map_types.specs.declared.kind.DomainId.{DomainId}
+use Rattle.map_types.specs.declared.kind.DomainId.TheVariants.{Bucket}
+use Rattle.map_types.specs.Kind.{is_lru}
+use Rattle.percpu_values.specs.BodyList.{BodyList}
+use Rattle.place_words.specs.declared.bucket_part.BucketPart.TheVariants.{First}
+use Rattle.place_words.specs.declared.history.Part.{Part}
+use Rattle.place_words.specs.declared.history.Part.TheVariants as parts
+use Rattle.place_words.specs.Bodies.{first_key}
+use Rattle.place_words.specs.Buckets.{AllowsInBucket, bucket_after}
+use Rattle.place_words.specs.ElementLists.{times}
+use Rattle.place_words.specs.Histories.{content, content_after, Allows}
+use Rattle.place_words.specs.Locks.{is_lock, lock_named}
+use Rattle.place_words.proofs.LockLemmas.{named_by_number}
+use Rattle.place_core.specs.State.{rows}
+use Rattle.place_table.specs.declared.content.Content.{Content}
+use Rattle.place_table.specs.declared.content.Content.TheVariants as contents
+use Rattle.place_table.proofs.Worlds.{by_bool}
+use Rattle.place_table.specs.Contents.{told, Fits}
+use Rattle.place_words.specs.declared.owner.Owner.{Owner}
+use Rattle.place_core.proofs.ElementLemmas.{by_test}
+use Rattle.place_table.specs.declared.view.View.{View}
+use Rattle.place_table.specs.declared.view.Notes.{Notes}
+use Rattle.place_table.specs.declared.view.BitSeen.{BitSeen}
+use Rattle.place_table.specs.declared.view.Turned.{Turned}
+use Rattle.place_table.proofs.Entries.{append_nil}
+use Rattle.place_table.specs.Views.{no_notes, is_among, is_in_hand_of, given, turned, holds_below, notes_below, noted, with_clear, with_owner_read, bits_with, numbers_below}
+use Rattle.place_table.specs.TurnNotes.{NotesFit}
+use Rattle.place_table.specs.Passes.{PassView, TableView, IsPassOf, HasBegun, Takes, CanGive, Gave, GaveSome, Went, IsInNoCall, IsFirstPass, SawOwner, Cleared, with_view, entry_of, spare_of}
+
+-- what was taken may be given back by a part that changes nothing
+pub unchanged : (t : TableView) (lock : DomainId) (p q : PassView) (here : Content) (part : Part) → Takes t lock p q here → IsPassOf t q → HasBegun q → IsTrue (is_lock t.shape lock)
+    → Allows t.shape q.cpu part (told here) → content_after t.shape q.cpu part (told here) ≡ told here → NotesFit t.shape part no_notes → CanGive t lock q here part
+unchanged t lock p q here part took of_table begun there allowed same notes_fit =
+    let named : lock_named t.shape took.hold.lock ≡ lock = ap (lock_named t.shape) took.lock_is ∙ named_by_number t.shape lock there in
+    let told_there : told here ≡ content t.shape (lock_named t.shape took.hold.lock) took.hold.log = took.told_is ∙ ap (λ (d : DomainId). content t.shape d took.hold.log) (sym named) in record {
+      of_table = of_table;
+      begun = begun;
+      hold = took.hold;
+      below = p.view.held;
+      innermost = ap (λ (z : PassView). z.view.held) took.after_is;
+      notes = no_notes;
+      notes_below = p.view.notes;
+      notes_are = ap (λ (z : PassView). z.view.notes) took.after_is;
+      there = there;
+      lock_is = took.lock_is;
+      may_put = record {
+        cpu = begun;
+        told_is = sym same ∙ ap (content_after t.shape q.cpu part) told_there;
+        fits = subst (λ (d : DomainId). Fits t.shape d here) (sym named) took.fits;
+        allowed = subst (Allows t.shape q.cpu part) told_there allowed;
+        same_free = λ e. ap (λ l. times e l.free) (sym took.now);
+        same_rows = λ e. ap (λ l. times e (rows l)) (sym took.now);
+      };
+      notes_fit = notes_fit;
+    }
+
+-- A turn that changes nothing, from its take to its give.
+pub went_of : (t : TableView) (lock : DomainId) (p q r : PassView) (here : Content) (part : Part) → Takes t lock p q here → Gave q r part → (step : Turned) × Went p r (step ∷ [])
+went_of t lock p q r here part took gave =
+    let hold_is : gave.hold ≡ took.hold = same_head (sym gave.innermost ∙ ap (λ (z : PassView). z.view.held) took.after_is) in
+    let view : r ≡ with_view q (given gave.hold (entry_of q part) gave.kept q.view) = gave.after_is in (
+      turned gave.hold.lock (length gave.hold.log) (entry_of q part),
+      record {
+        table = ap (λ (z : PassView). z.table) view ∙ ap (λ (z : PassView). z.table) took.after_is;
+        seat = ap (λ (z : PassView). z.seat) view ∙ ap (λ (z : PassView). z.seat) took.after_is;
+        cpu = ap (λ (z : PassView). z.cpu) view ∙ ap (λ (z : PassView). z.cpu) took.after_is;
+        call = ap (λ (z : PassView). z.call) view ∙ ap (λ (z : PassView). z.call) took.after_is;
+        spares = ap (λ (z : PassView). z.spares) view ∙ ap (λ (z : PassView). z.spares) took.after_is;
+        shape = ap (λ (z : PassView). z.view.shape) view ∙ ap (λ (z : PassView). z.view.shape) took.after_is;
+        cpus = ap (λ (z : PassView). z.view.cpus) view ∙ ap (λ (z : PassView). z.view.cpus) took.after_is;
+        held = ap (λ (z : PassView). z.view.held) view ∙ ap (λ (z : PassView). holds_below z.view.held) took.after_is;
+        hand = ap (λ (z : PassView). z.view.hand) view ∙ ap (λ (z : PassView). z.view.hand) took.after_is;
+        notes = ap (λ (z : PassView). z.view.notes) view ∙ ap (λ (z : PassView). notes_below z.view.notes) took.after_is;
+        steps = ap (λ (z : PassView). z.view.steps) view ∙ ap (λ (z : PassView). z.view.steps ++ turned gave.hold.lock (length gave.hold.log) (entry_of q part) ∷ []) took.after_is;
+        ended = ap (λ (z : PassView). z.view.ended) view ∙ ap (λ (z : PassView). z.view.ended) took.after_is;
+      },
+    )
+  where
+    same_head : {A : Type 0} {x y : A} {xs ys : List A} → x ∷ xs ≡ y ∷ ys → x ≡ y
+    same_head e = cc
+
+-- the same where nothing was recorded
+pub went_some : (t : TableView) (lock : DomainId) (p q r : PassView) (here put : Content) → Takes t lock p q here → GaveSome t lock q r put → (step : Turned) × Went p r (step ∷ [])
+went_some t lock p q r here put took gave =
+    let view : r ≡ with_view q (given gave.can.hold (entry_of q gave.part) q.view.kept q.view) = gave.after_is in (
+      turned gave.can.hold.lock (length gave.can.hold.log) (entry_of q gave.part),
+      record {
+        table = ap (λ (z : PassView). z.table) view ∙ ap (λ (z : PassView). z.table) took.after_is;
+        seat = ap (λ (z : PassView). z.seat) view ∙ ap (λ (z : PassView). z.seat) took.after_is;
+        cpu = ap (λ (z : PassView). z.cpu) view ∙ ap (λ (z : PassView). z.cpu) took.after_is;
+        call = ap (λ (z : PassView). z.call) view ∙ ap (λ (z : PassView). z.call) took.after_is;
+        spares = ap (λ (z : PassView). z.spares) view ∙ ap (λ (z : PassView). z.spares) took.after_is;
+        shape = ap (λ (z : PassView). z.view.shape) view ∙ ap (λ (z : PassView). z.view.shape) took.after_is;
+        cpus = ap (λ (z : PassView). z.view.cpus) view ∙ ap (λ (z : PassView). z.view.cpus) took.after_is;
+        held = ap (λ (z : PassView). z.view.held) view ∙ ap (λ (z : PassView). holds_below z.view.held) took.after_is;
+        hand = ap (λ (z : PassView). z.view.hand) view ∙ ap (λ (z : PassView). z.view.hand) took.after_is;
+        notes = ap (λ (z : PassView). z.view.notes) view ∙ ap (λ (z : PassView). notes_below z.view.notes) took.after_is;
+        steps = ap (λ (z : PassView). z.view.steps) view ∙ ap (λ (z : PassView). z.view.steps ++ turned gave.can.hold.lock (length gave.can.hold.log) (entry_of q gave.part) ∷ []) took.after_is;
+        ended = ap (λ (z : PassView). z.view.ended) view ∙ ap (λ (z : PassView). z.view.ended) took.after_is;
+      },
+    )
+
+-- a pass in no call is in none afterwards
+pub stays_idle : (p q : PassView) (more : List Turned) → IsInNoCall p → Went p q more → IsInNoCall q
+stays_idle p q more idle went = record {
+  holds_nothing = went.held ∙ idle.holds_nothing;
+  spares_only = λ e cpu has in_hand.
+      let x = idle.spares_only e cpu (ap (is_among cpu) (sym went.cpus) ∙ has) (ap (is_in_hand_of e cpu) (sym went.hand) ∙ in_hand) in
+      (x.0, ap (spare_of cpu) went.spares ∙ x.1, x.2);
+  none_out = λ kind cpu has.
+      let x = idle.none_out (ap (λ (z : Shape). z.kind) (sym went.shape) ∙ kind) cpu (ap (is_among cpu) (sym went.cpus) ∙ has) in
+      (x.0, ap (spare_of cpu) went.spares ∙ x.1);
+}
+
+-- the pass that has taken a lock is of the table and has begun
+pub taken_of_table : (t : TableView) (lock : DomainId) (p q : PassView) (here : Content) → Takes t lock p q here → IsPassOf t p → IsPassOf t q
+taken_of_table t lock p q here took of_table =
+    (ap (λ (z : PassView). z.table) took.after_is ∙ of_table.0, ap (λ (z : PassView). z.view.shape) took.after_is ∙ of_table.1)
+
+pub taken_begun : (t : TableView) (lock : DomainId) (p q : PassView) (here : Content) → Takes t lock p q here → HasBegun p → HasBegun q
+taken_begun t lock p q here took begun = ap (λ (z : PassView). is_among z.cpu z.view.cpus) took.after_is ∙ begun
+
+-- the key at the head of a bucket may always be told
+pub told_first : (t : TableView) (bucket : ℕ) (p q : PassView) (chain : BodyList) → Takes t (Bucket bucket) p q (contents.Bucket chain) → IsPassOf t p → HasBegun p → IsTrue (is_lock t.shape (Bucket bucket))
+    → CanGive t (Bucket bucket) q (contents.Bucket chain) (parts.Bucket (First (first_key chain.bodies)))
+unfolding AllowsInBucket bucket_after
+told_first t bucket p q chain took of_table begun there =
+    unchanged t (Bucket bucket) p q (contents.Bucket chain) (parts.Bucket (First (first_key chain.bodies))) took (taken_of_table t (Bucket bucket) p q (contents.Bucket chain) took of_table) (taken_begun t (Bucket bucket) p q (contents.Bucket chain) took begun) there
+    refl refl record {
+      marks_are = by_bool (is_lru t.shape.kind) (λ b. [] ≡ cond {A = List ℕ} b [] []) (λ _. refl) (λ _. refl);
+      no_clears = refl;
+      seen = tt;
+    }
+
+-- a look, or a bit cleared, where no lock is held
+pub went_noted : (p q : PassView) (notes : List Notes) (bits : List BitSeen) → q ≡ with_view p (noted notes bits p.view) → notes ≡ p.view.notes → Went p q []
+went_noted p q notes bits after_is same = record {
+  table = ap (λ (z : PassView). z.table) after_is;
+  seat = ap (λ (z : PassView). z.seat) after_is;
+  cpu = ap (λ (z : PassView). z.cpu) after_is;
+  call = ap (λ (z : PassView). z.call) after_is;
+  spares = ap (λ (z : PassView). z.spares) after_is;
+  shape = ap (λ (z : PassView). z.view.shape) after_is;
+  cpus = ap (λ (z : PassView). z.view.cpus) after_is;
+  held = ap (λ (z : PassView). z.view.held) after_is;
+  hand = ap (λ (z : PassView). z.view.hand) after_is;
+  notes = ap (λ (z : PassView). z.view.notes) after_is ∙ same;
+  steps = ap (λ (z : PassView). z.view.steps) after_is ∙ sym (append_nil p.view.steps);
+  ended = ap (λ (z : PassView). z.view.ended) after_is;
+}
+
+-- one after the other
+pub went_on : (p q r : PassView) (first second : List Turned) → Went p q first → Went q r second → Went p r (first ++ second)
+went_on p q r first second a b = record {
+  table = b.table ∙ a.table;
+  seat = b.seat ∙ a.seat;
+  cpu = b.cpu ∙ a.cpu;
+  call = b.call ∙ a.call;
+  spares = b.spares ∙ a.spares;
+  shape = b.shape ∙ a.shape;
+  cpus = b.cpus ∙ a.cpus;
+  held = b.held ∙ a.held;
+  hand = b.hand ∙ a.hand;
+  notes = b.notes ∙ a.notes;
+  steps = b.steps ∙ (ap (λ (l : List Turned). l ++ second) a.steps ∙ append_assoc p.view.steps first second);
+  ended = b.ended ∙ a.ended;
+}
+
+-- an owner was read
+pub went_owner : (t : TableView) (e : ℕ) (p q : PassView) (owner : Owner) → p.view.notes ≡ [] → SawOwner t e p q owner → Went p q []
+went_owner t e p q owner none_noted saw =
+    went_noted p q (with_owner_read e owner p.view.notes) p.view.bits saw.after_is (no_read p.view.notes none_noted)
+  where
+    no_read : (notes : List Notes) → notes ≡ [] → with_owner_read e owner notes ≡ notes
+    no_read [] empty = refl
+    no_read (n ∷ below) empty = absurd cc
+
+-- an owner was read and a bit cleared, where no lock is held
+pub went_cleared : (t : TableView) (e : ℕ) (p q r : PassView) (owner : Owner) (bit : Bool) → p.view.notes ≡ [] → SawOwner t e p q owner → Cleared e q r bit → Went p r []
+went_cleared t e p q r owner bit none_noted saw was_cleared =
+    let first = went_owner t e p q owner none_noted saw in
+    went_on p q r [] [] first (went_noted q r (with_clear e bit q.view.notes) (bits_with e false q.view) was_cleared.after_is (no_clear q.view.notes (first.notes ∙ none_noted)))
+  where
+    no_clear : (notes : List Notes) → notes ≡ [] → with_clear e bit notes ≡ notes
+    no_clear [] empty = refl
+    no_clear (n ∷ below) empty = absurd cc
+
+-- The first pass
+
+pub among_below : (c n : ℕ) → c < n → is_among c (numbers_below n) ≡ true
+among_below c zero less = absurd (omega arith)
+among_below c (suc n) less = by_test n c (λ b. cond b true (is_among c (numbers_below n)) ≡ true) (λ _. refl) (λ other. among_below c n (omega arith))
+
+-- it has all CPUs, and holds nothing
+pub first_has : (t : TableView) (p : PassView) (c : ℕ) → IsFirstPass t p → c < t.shape.cpus → is_among c p.view.cpus ≡ true
+first_has t p c first less = ap (λ (v : View). is_among c v.cpus) first.view_is ∙ among_below c t.shape.cpus less

@@ -1,0 +1,254 @@
+-- What is left of the slots of a closed table.
+use Rattle.std.proofs.Common.{◌≡◌, ℕ, zero, suc, ◌+◌, ◌-◌, ◌<◌, Bool, true, false, cond, List, [], ◌∷◌, ◌++◌, length, get_or, take, drop, map, nat_lt, sym, refl, ap, ◌∙◌, add-one, append-nil, subst, ◌==◌, arith, Option, Some, None, Vec, Global}
+use mathlib.Core.Option.{some, some-injective, some-ne-none}
+use lib.ListN.{get_elem?}
+use Rattle.std.specs.Prelude.{not, filter, slice_get, slice_range, All, ◌||◌, ◌&&◌}
+use Rattle.std.specs.List.{range_with_len, list_any}
+use Rattle.std.proofs.lemmas.List.{take_more, map-append, get_or_default, get_or-map, get_or-take, get_or-drop, length-map, length-take-le, length-drop}
+use Rattle.std.proofs.lemmas.List.Elements.{filter-append}
+use Rattle.std.proofs.lemmas.List.Folds.{list_any-append}
+use Rattle.std.proofs.lemmas.Option.{get_or_from_slice_get, slice_get_within}
+use Rattle.std.proofs.lemmas.Bool.Decides.{nat_tests}
+use Rattle.map_types.specs.declared.attr.Shape.{Shape}
+use Rattle.map_types.specs.declared.kind.DomainId.{DomainId}
+use Rattle.map_types.specs.declared.kind.DomainId.TheVariants as named
+use Rattle.map_types.specs.Kind.{is_lru}
+use Rattle.map_types.specs.Stored.{Stored}
+use Rattle.place_words.specs.declared.history.Entry.{Entry}
+use Rattle.place_words.specs.declared.history.LockHistory.{LockHistory}
+use Rattle.place_words.specs.declared.history.StrandStep.{StrandStep}
+use Rattle.place_words.specs.Histories.{in_bucket, on_freelist, content}
+use Rattle.place_words.specs.Locks.{is_lock, lock_named, lock_number, lock_count, first_bucket, first_freelist}
+use Rattle.place_words.proofs.LockLemmas.{named_by_number, number_within}
+use Rattle.place_table.specs.declared.content.Behind.{Behind}
+use Rattle.place_table.specs.declared.content.Content.{Content}
+use Rattle.place_table.specs.declared.content.Content.TheVariants as lying
+use Rattle.place_table.specs.Contents.{told, Fits}
+use Rattle.place_table.specs.Closing.{AreSlots, has_lock, history_of, strands_of, spare_numbers}
+use Rattle.place_table.specs.Leaving.{Logs, bodies_in, numbers_in, HasSizedBodies, IsHistory, HaveHistories, AreContents, AreKept}
+
+-- one body more of a copy
+pub take_body : (bodies done now : List Stored) (place : ℕ) (body : Stored) → done ≡ take place bodies → slice_get bodies place ≡ Some body → now ≡ done ++ body ∷ [] → now ≡ take (place + 1) bodies
+take_body bodies done now place body so_far there is =
+    let front = ap (λ (list : List Stored). list ++ body ∷ []) so_far in
+    let last = ap (λ (one : Stored). take place bodies ++ one ∷ []) (get_or_from_slice_get bodies place body body there) in
+    is ∙ front ∙ sym (take_more bodies place body (slice_get_within bodies place body there) ∙ last)
+
+-- ---- ranges
+
+range_more : (a n : ℕ) → range_with_len a (suc n) ≡ range_with_len a n ++ (a + n) ∷ []
+range_more a zero = ap (λ (k : ℕ). k ∷ []) (omega arith)
+range_more a (suc n) =
+    ap (λ (list : List ℕ). a ∷ list) (range_more (a + 1) n ∙ ap (λ (k : ℕ). range_with_len (a + 1) n ++ k ∷ []) (omega arith))
+
+below_more : (n : ℕ) → range_with_len 0 (n + 1) ≡ range_with_len 0 n ++ n ∷ []
+below_more n =
+    ap (range_with_len 0) (add-one n) ∙ range_more 0 n ∙ ap (λ (k : ℕ). range_with_len 0 n ++ k ∷ []) (let e : 0 + n ≡ n = omega arith in e)
+
+-- those below n + 1 that pass
+pub filter_more : (test : ℕ → Bool) (n : ℕ) → filter test (range_with_len 0 (n + 1)) ≡ filter test (range_with_len 0 n) ++ cond (test n) (n ∷ []) []
+filter_more test n = ap (filter test) (below_more n) ∙ filter-append test (range_with_len 0 n) (n ∷ [])
+
+pub filter_passes : (test : ℕ → Bool) (n : ℕ) → test n ≡ true → filter test (range_with_len 0 (n + 1)) ≡ filter test (range_with_len 0 n) ++ n ∷ []
+filter_passes test n passes = filter_more test n ∙ ap (λ (b : Bool). filter test (range_with_len 0 n) ++ cond b (n ∷ []) []) passes
+
+pub filter_fails : (test : ℕ → Bool) (n : ℕ) → test n ≡ false → filter test (range_with_len 0 (n + 1)) ≡ filter test (range_with_len 0 n)
+filter_fails test n fails =
+    filter_more test n ∙ ap (λ (b : Bool). filter test (range_with_len 0 n) ++ cond b (n ∷ []) []) fails ∙ append-nil (filter test (range_with_len 0 n))
+
+-- ---- histories
+
+kept_last : (shape : Shape) (log : Logs) (lost : ℕ → Bool) (locks : List ℕ) (n : ℕ) → map (history_of shape log) (filter (λ k. not (lost k)) (locks ++ n ∷ []))
+    ≡ map (history_of shape log) (filter (λ k. not (lost k)) locks) ++ map (history_of shape log) (cond (not (lost n)) (n ∷ []) [])
+kept_last shape log lost locks n =
+    ap (map (history_of shape log)) (filter-append (λ k. not (lost k)) locks (n ∷ []))
+    ∙ map-append (history_of shape log) (filter (λ k. not (lost k)) locks) (cond (not (lost n)) (n ∷ []) [])
+
+or_true : (b : Bool) → (b || true) ≡ true
+or_true true = refl
+or_true false = refl
+
+or_false : (b : Bool) → (b || false) ≡ b
+or_false true = refl
+or_false false = refl
+
+any_one : (lost : ℕ → Bool) (n : ℕ) (b : Bool) → lost n ≡ b → list_any lost (n ∷ []) ≡ b
+any_one lost n b is = or_false (lost n) ∙ is
+
+any_last : (lost : ℕ → Bool) (locks : List ℕ) (n : ℕ) (b : Bool) → lost n ≡ b → list_any lost (locks ++ n ∷ []) ≡ (list_any lost locks || b)
+any_last lost locks n b is =
+    list_any-append lost locks (n ∷ []) ∙ ap (λ (v : Bool). list_any lost locks || v) (any_one lost n b is)
+
+-- no lock is of none
+pub none_kept : (shape : Shape) (log : Logs) (lost : ℕ → Bool) → AreKept shape log lost 0 [] false
+none_kept shape log lost = record { kept_are = refl; lost_is = refl }
+
+-- a lock that the map doesn't have leaves none
+pub no_lock : (shape : Shape) (log : Logs) (lost : ℕ → Bool) (n : ℕ) (kept : List LockHistory) (some_lost : Bool) → has_lock shape n ≡ false → AreKept shape log lost n kept some_lost → AreKept shape log lost (n + 1) kept some_lost
+no_lock shape log lost n kept some_lost there is =
+    let same = sym (filter_fails (has_lock shape) n there) in record {
+      kept_are = is.kept_are ∙ ap (λ (ks : List ℕ). map (history_of shape log) (filter (λ k. not (lost k)) ks)) same;
+      lost_is = is.lost_is ∙ ap (list_any lost) same;
+    }
+
+-- one whose record is lost leaves that
+pub lost_one : (shape : Shape) (log : Logs) (lost : ℕ → Bool) (n : ℕ) (kept : List LockHistory) (some_lost : Bool) → has_lock shape n ≡ true → lost n ≡ true → AreKept shape log lost n kept some_lost → AreKept shape log lost (n + 1) kept true
+lost_one shape log lost n kept some_lost there gone is =
+    let locks = filter (has_lock shape) (range_with_len 0 n) in
+    let more = filter_passes (has_lock shape) n there in record {
+      kept_are = is.kept_are ∙ sym (
+          ap (λ (ks : List ℕ). map (history_of shape log) (filter (λ k. not (lost k)) ks)) more
+          ∙ kept_last shape log lost locks n
+          ∙ ap (λ (b : Bool). map (history_of shape log) (filter (λ k. not (lost k)) locks) ++ map (history_of shape log) (cond (not b) (n ∷ []) [])) gone
+          ∙ append-nil (map (history_of shape log) (filter (λ k. not (lost k)) locks)));
+      lost_is = sym (ap (list_any lost) more ∙ any_last lost locks n true gone ∙ or_true (list_any lost locks));
+    }
+
+-- and any other its history
+pub kept_one : (shape : Shape) (log : Logs) (lost : ℕ → Bool) (n : ℕ) (kept now : List LockHistory) (some_lost : Bool) (entries : List Entry) → has_lock shape n ≡ true → lost n ≡ false → entries ≡ log n
+    → now ≡ kept ++ record { lock = lock_named shape n; entries = entries } ∷ [] → AreKept shape log lost n kept some_lost → AreKept shape log lost (n + 1) now some_lost
+kept_one shape log lost n kept now some_lost entries there stays turns pushed is =
+    let locks = filter (has_lock shape) (range_with_len 0 n) in
+    let more = filter_passes (has_lock shape) n there in record {
+      kept_are = pushed
+          ∙ ap (λ (l : List LockHistory). l ++ record { lock = lock_named shape n; entries = entries } ∷ []) is.kept_are
+          ∙ ap (λ (es : List Entry). map (history_of shape log) (filter (λ k. not (lost k)) locks) ++ record { lock = lock_named shape n; entries = es } ∷ []) turns
+          ∙ sym (ap (λ (ks : List ℕ). map (history_of shape log) (filter (λ k. not (lost k)) ks)) more
+          ∙ kept_last shape log lost locks n
+          ∙ ap (λ (b : Bool). map (history_of shape log) (filter (λ k. not (lost k)) locks) ++ map (history_of shape log) (cond (not b) (n ∷ []) [])) stays);
+      lost_is = is.lost_is ∙ sym (ap (list_any lost) more ∙ any_last lost locks n false stays ∙ or_false (list_any lost locks));
+    }
+
+-- the history of a lock is where its number is
+pub history_at : (shape : Shape) (log : Logs) (lost : ℕ → Bool) (histories : List (Option (Vec Entry Global))) (k n : ℕ) (history : Option (Vec Entry Global)) → HaveHistories shape log lost histories → length histories ≡ lock_count shape
+    → n ≡ k → k < length histories → history ≡ get_or histories k history → has_lock shape n ≡ true → IsHistory (lost n) (log n) history
+history_at shape log lost histories k n history told counted same within at there =
+    let here : get_or histories n None ≡ history = ap (λ (i : ℕ). get_or histories i None) same ∙ get_or_default histories k None history within ∙ sym at in
+    subst (IsHistory (lost n) (log n)) here (told n (omega arith) there)
+
+-- ---- strands and spares
+
+not_empty : (n : ℕ) → (n == 0) ≡ false → 0 < n
+not_empty n is = grind (arith, nat_tests)
+
+some_steps : (shape : Shape) (steps : List StrandStep) → 0 < length steps → strands_of shape steps ≡ record { cpus = range_with_len 0 shape.cpus; steps = steps } ∷ []
+some_steps shape [] more = absurd (omega arith)
+some_steps shape (step ∷ steps) more = refl
+
+-- a strand of all steps, where there is one
+pub strand_made : (shape : Shape) (steps given : List StrandStep) (cpus : List ℕ) (n : ℕ) → n ≡ length steps → (n == 0) ≡ false → cpus ≡ range_with_len 0 shape.cpus → given ≡ steps → record { cpus = cpus; steps = given } ∷ [] ≡ strands_of shape steps
+strand_made shape steps given cpus n counted more all same =
+    ap (λ (cs : List ℕ). record { cpus = cs; steps = given } ∷ []) all
+    ∙ ap (λ (ss : List StrandStep). record { cpus = range_with_len 0 shape.cpus; steps = ss } ∷ []) same
+    ∙ sym (some_steps shape steps (let above = not_empty n more in omega arith))
+
+spare_numbers-append : (xs ys : List (Option Stored)) → spare_numbers (xs ++ ys) ≡ spare_numbers xs ++ spare_numbers ys
+spare_numbers-append [] ys = refl
+spare_numbers-append (None ∷ xs) ys = spare_numbers-append xs ys
+spare_numbers-append (Some x ∷ xs) ys = ap (λ (list : List ℕ). x.element ∷ list) (spare_numbers-append xs ys)
+
+spare_more : (spares : List (Option Stored)) (i : ℕ) (spare : Option Stored) → i < length spares → spare ≡ get_or spares i spare → spare_numbers (take (i + 1) spares) ≡ spare_numbers (take i spares) ++ spare_numbers (spare ∷ [])
+spare_more spares i spare within is =
+    ap spare_numbers (take_more spares i spare within ∙ ap (λ (x : Option Stored). take i spares ++ x ∷ []) (sym is)) ∙ spare_numbers-append (take i spares) (spare ∷ [])
+
+-- a CPU's spare, and none
+pub spare_kept : (spares : List (Option Stored)) (i : ℕ) (spare : Option Stored) (body : Stored) (done now : List ℕ) (element : ℕ) → i < length spares → spare ≡ get_or spares i spare
+    → spare ≡ Some body → element ≡ body.element → now ≡ done ++ element ∷ [] → done ≡ spare_numbers (take i spares) → now ≡ spare_numbers (take (i + 1) spares)
+spare_kept spares i spare body done now element within at is number pushed so_far =
+    pushed ∙ ap (λ (list : List ℕ). list ++ element ∷ []) so_far
+    ∙ ap (λ (e : ℕ). spare_numbers (take i spares) ++ e ∷ []) number
+    ∙ ap (λ (one : Option Stored). spare_numbers (take i spares) ++ spare_numbers (one ∷ [])) (sym is)
+    ∙ sym (spare_more spares i spare within at)
+
+pub no_spare : (spares : List (Option Stored)) (i : ℕ) (spare : Option Stored) (done : List ℕ) → i < length spares → spare ≡ get_or spares i spare → spare ≡ None → done ≡ spare_numbers (take i spares) → done ≡ spare_numbers (take (i + 1) spares)
+no_spare spares i spare done within at none so_far =
+    so_far ∙ sym (append-nil (spare_numbers (take i spares)))
+    ∙ ap (λ (one : Option Stored). spare_numbers (take i spares) ++ spare_numbers (one ∷ [])) (sym none)
+    ∙ sym (spare_more spares i spare within at)
+
+-- ---- buckets and freelists
+
+pub passes_below : (k n : ℕ) → k < n → nat_lt k n ≡ true
+passes_below k n less = grind (arith, nat_tests)
+
+-- what lies under a lock of the map
+at_lock : (shape : Shape) (log : Logs) (contents : List (Option Content)) (lock : DomainId) → is_lock shape lock ≡ true → AreContents shape log contents
+    → (here : Content) × (get_or contents (lock_number shape lock) None ≡ Some here) × (told here ≡ content shape lock (log (lock_number shape lock))) × Fits shape lock here
+at_lock shape log contents lock there lies =
+    let k : ℕ = lock_number shape lock in
+    let same : lock_named shape k ≡ lock = named_by_number shape lock there in
+    let at = lies k (number_within shape lock there) (ap (is_lock shape) same ∙ there) in
+    (at.0, at.1, at.2 ∙ ap (λ (l : DomainId). content shape l (log k)) same, subst (λ (l : DomainId). Fits shape l at.0) same at.3)
+
+bucket_told : (shape : Shape) (bucket : ℕ) (here : Content) → Fits shape (named.Bucket bucket) here → in_bucket (bodies_in (Some here)) ≡ told here
+bucket_told shape bucket (lying.Bucket chain) fits = refl
+bucket_told shape bucket (lying.Freelist freelist) fits = absurd fits
+
+freelist_told : (shape : Shape) (cpu : ℕ) (here : Content) → Fits shape (named.Freelist cpu) here → on_freelist (numbers_in (Some here)) ≡ told here
+freelist_told shape cpu (lying.Bucket chain) fits = absurd fits
+freelist_told shape cpu (lying.Freelist freelist) fits = refl
+
+-- the contents of the buckets' locks are their bodies
+pub buckets_told : (shape : Shape) (log : Logs) (contents : List (Option Content)) (first count : ℕ) (buckets : List (List Stored)) → AreContents shape log contents → length contents ≡ lock_count shape → first ≡ first_bucket shape → count ≡ shape.buckets
+    → buckets ≡ map bodies_in (take count (drop first contents)) → (length buckets ≡ shape.buckets) × ((bucket : ℕ) → bucket < shape.buckets → in_bucket (get_or buckets bucket []) ≡ content shape (named.Bucket bucket) (log (lock_number shape (named.Bucket bucket))))
+buckets_told shape log contents first count buckets lies counted first_is count_is are =
+    let long : length (take count (drop first contents)) ≡ count = length-take-le count (drop first contents) (simp length-drop (omega arith)) in (
+      ap length are ∙ length-map (take count (drop first contents)) bodies_in ∙ long ∙ count_is,
+      λ bucket within.
+          let at = at_lock shape log contents (named.Bucket bucket) (passes_below bucket shape.buckets within) lies in
+          let here : get_or buckets bucket [] ≡ bodies_in (Some at.0) =
+          ap (λ (l : List (List Stored)). get_or l bucket []) are
+          ∙ get_or-map bodies_in (take count (drop first contents)) bucket None [] (subst (λ (n : ℕ). bucket < n) (sym long) (omega arith))
+          ∙ ap bodies_in (get_or-take count (drop first contents) bucket None (omega arith) ∙ get_or-drop first contents bucket None
+          ∙ ap (λ (i : ℕ). get_or contents (i + bucket) None) first_is ∙ at.1) in
+          ap in_bucket here ∙ bucket_told shape bucket at.0 at.3 ∙ at.2,
+    )
+
+-- and those of the freelists' locks their elements
+pub freelists_told : (shape : Shape) (log : Logs) (contents : List (Option Content)) (first : ℕ) (freelists : List (List ℕ)) → is_lru shape.kind ≡ false → AreContents shape log contents → length contents ≡ lock_count shape → first ≡ first_freelist shape
+    → freelists ≡ map numbers_in (drop first contents) → (length freelists ≡ shape.cpus) × ((cpu : ℕ) → cpu < shape.cpus → on_freelist (get_or freelists cpu []) ≡ content shape (named.Freelist cpu) (log (lock_number shape (named.Freelist cpu))))
+freelists_told shape log contents first freelists plain lies counted first_is are = (
+  ap length are ∙ length-map (drop first contents) numbers_in ∙ simp length-drop (omega arith),
+  λ cpu within.
+      let there : is_lock shape (named.Freelist cpu) ≡ true =
+      ap (λ (b : Bool). not b && nat_lt cpu shape.cpus) plain ∙ passes_below cpu shape.cpus within in
+      let at = at_lock shape log contents (named.Freelist cpu) there lies in
+      let here : get_or freelists cpu [] ≡ numbers_in (Some at.0) =
+      ap (λ (l : List (List ℕ)). get_or l cpu []) are
+      ∙ get_or-map numbers_in (drop first contents) cpu None [] (simp length-drop (omega arith))
+      ∙ ap numbers_in (get_or-drop first contents cpu None ∙ ap (λ (i : ℕ). get_or contents (i + cpu) None) first_is ∙ at.1) in
+      ap on_freelist here ∙ freelist_told shape cpu at.0 at.3 ∙ at.2,
+)
+
+bucket_sized : (shape : Shape) (bucket : ℕ) (here : Content) → Fits shape (named.Bucket bucket) here → HasSizedBodies shape (Some here)
+bucket_sized shape bucket (lying.Bucket chain) fits = fits
+bucket_sized shape bucket (lying.Freelist freelist) fits = absurd fits
+
+-- the bodies under the buckets' locks have the sizes of the map
+pub buckets_sized : (shape : Shape) (log : Logs) (contents : List (Option Content)) → AreContents shape log contents → length contents ≡ lock_count shape → All (HasSizedBodies shape) (slice_range contents (first_bucket shape) (first_freelist shape))
+buckets_sized shape log contents lies counted = λ k d within.
+    let count : ℕ = first_freelist shape - first_bucket shape in
+    let long : length (take count (drop (first_bucket shape) contents)) ≡ count = length-take-le count (drop (first_bucket shape) contents) (simp length-drop (omega arith)) in
+    let below : k < shape.buckets = omega arith in
+    let at = at_lock shape log contents (named.Bucket k) (passes_below k shape.buckets below) lies in
+    let here : get_or (take count (drop (first_bucket shape) contents)) k d ≡ Some at.0 =
+    get_or_default (take count (drop (first_bucket shape) contents)) k d None within
+    ∙ get_or-take count (drop (first_bucket shape) contents) k None (omega arith) ∙ get_or-drop (first_bucket shape) contents k None ∙ at.1 in
+    subst (HasSizedBodies shape) (sym here) (bucket_sized shape k at.0 at.3)
+
+-- ---- the slots, contents and histories apart
+
+part_at : {B : Type 0} (part : Behind → B) (slots : List Behind) (k : ℕ) (behind : Behind) (d : B) → get_elem? slots k ≡ some behind → get_or (map part slots) k d ≡ part behind
+part_at part [] k behind d at = absurd (some-ne-none behind (sym at))
+part_at part (x ∷ xs) zero behind d at = ap part (some-injective x behind at)
+part_at part (x ∷ xs) (suc k) behind d at = part_at part xs k behind d at
+
+pub contents_apart : (shape : Shape) (log : Logs) (lost : ℕ → Bool) (slots : List Behind) (contents : List (Option Content)) → AreSlots shape log lost slots → contents ≡ map (λ behind. behind.content) slots → AreContents shape log contents
+contents_apart shape log lost slots contents are is = λ k below there.
+    let at = are.each k below there in
+    (at.2.here, ap (λ (l : List (Option Content)). get_or l k None) is ∙ part_at (λ behind. behind.content) slots k at.0 None at.1 ∙ at.2.content_is, at.2.told_is, at.2.fits)
+
+pub histories_apart : (shape : Shape) (log : Logs) (lost : ℕ → Bool) (slots : List Behind) (histories : List (Option (Vec Entry Global))) → AreSlots shape log lost slots → histories ≡ map (λ behind. behind.history) slots → HaveHistories shape log lost histories
+histories_apart shape log lost slots histories are is = λ k below there.
+    let at = are.each k below there in
+    subst (IsHistory (lost k) (log k)) (sym (ap (λ (l : List (Option (Vec Entry Global))). get_or l k None) is ∙ part_at (λ behind. behind.history) slots k at.0 None at.1)) at.2.kept

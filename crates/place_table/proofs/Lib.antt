@@ -1,0 +1,14 @@
+pub mod Closes
+pub mod CodeLemmas
+pub mod Entries
+pub mod FirstPass
+pub mod FirstSlots
+pub mod FirstSpares
+pub mod FirstWords
+pub mod Gives
+pub mod Leaves
+pub mod Locks
+pub mod Opens
+pub mod Passes
+pub mod WordSteps
+pub mod Worlds

@@ -1,0 +1,510 @@
+-- The steps on a lock word: a lock is taken with its slot, and given back with a turn.
+use Rattle.std.proofs.Common.{◌≡◌, ◌≢◌, ℕ, zero, suc, ◌+◌, ◌<◌, ◌≤◌, ◌⊎◌, inl, inr, ⊎_elim, eqb, cond, Bool, true, false, List, [], ◌∷◌, ◌++◌, length, get_or, set, sym, refl, ap, ◌∙◌, subst, arith, Option, Some, None, length-set, get_or-set_other, get_or-set_same}
+use Rattle.std.specs.Prelude.{◌&&◌, IsTrue, MatchOption, nat_lt}
+use Rattle.std.proofs.lemmas.Bool.{ltb-true}
+use mathlib.Core.Option.{some, none, some-ne-none}
+use mathlib.Core.Option as maybe
+use lib.ListN.{get_elem?}
+use prog.Atomic.{either}
+use Rattle.atomic_table.specs.Table.{State, Allows, Act, Valid, keeps, takes, gives, stepped, carried_after, rest, step, put_back}
+use Rattle.atomic_table.proofs.Lists.{at_set, set_again, set_here, set_else, exchanged}
+use Rattle.map_types.specs.declared.attr.Shape.{Shape}
+use Rattle.map_types.specs.declared.kind.DomainId.{DomainId}
+use Rattle.map_types.specs.declared.kind.DomainId.TheVariants.{Local, Global, CpuLru, Bucket, Freelist}
+use Rattle.map_types.proofs.CreationLemmas.{bounds_of_shape}
+use Rattle.place_words.specs.declared.history.Entry.{Entry}
+use Rattle.place_words.specs.declared.history.Part.{Part}
+use Rattle.place_words.specs.declared.history.StrandStep.{StrandStep}
+use Rattle.place_words.specs.ElementLists.{put, one}
+use Rattle.place_words.specs.Histories.{content, IsLegal}
+use Rattle.place_words.specs.Locks.{is_lock, lock_named, lock_number, lock_count, rank_of}
+use Rattle.place_words.specs.Strands.{places_on}
+use Rattle.place_words.proofs.HistoryLemmas.{content_more, legal_more}
+use Rattle.place_words.proofs.LockLemmas.{named_by_number, number_of_named, one_number, number_within, same_lock, other_lock}
+use Rattle.place_core.specs.declared.step.Lists.{Lists}
+use Rattle.place_core.specs.declared.step.Step.TheVariants.{Take, Give}
+use Rattle.place_core.specs.State as cores
+use Rattle.place_core.specs.State.{rows, HasOnlyItsLists, HasCursorInside}
+use Rattle.place_core.specs.Steps.{CanTake, taken, CanGive, given}
+use Rattle.place_core.proofs.ElementLemmas.{by_test, at_put}
+use Rattle.place_core.proofs.StepLaws.{step_keeps_places, step_keeps_ranks}
+use Rattle.place_table.specs.declared.content.Behind.{Behind}
+use Rattle.place_table.specs.declared.content.Content.{Content}
+use Rattle.place_table.specs.declared.content.Content.TheVariants as contents
+use Rattle.place_table.specs.declared.view.View.{View}
+use Rattle.place_table.specs.declared.view.Hold.{Hold}
+use Rattle.place_table.specs.declared.view.Notes.{Notes}
+use Rattle.place_table.specs.Contents.{told, lists_of, Fits}
+use Rattle.place_table.specs.Laws.{StepsAs, goes_if, goes_by}
+use Rattle.place_table.specs.declared.view.Turned.{Turned}
+use Rattle.place_table.specs.Views as views
+use Rattle.place_table.specs.Views.{is_among, hold_at, known_log, holding, has_all}
+use Rattle.place_table.specs.Rules.{World, Rule, Knows, AtHome, Reads, Tagged, entries, lock_code, hold, hold_of, IsAboveAll, Ascends, turns_on, turns_of, indexes, AreTagged, owner_word, home_word, bit_word}
+use Rattle.place_table.specs.Plays.{Seated, Tries, AreElements, MayPut, MayGive, IsRecorded, IsKeptOrLost, Gives, GivesSome, entry_by}
+use Rattle.place_table.specs.TurnNotes.{NotesFit}
+use Rattle.place_table.proofs.Entries.{entries_more, entries_length, turns_of_same, turns_of_other, turns_on_same, turns_on_other, places_on_same, places_on_other, indexes_more}
+use Rattle.place_table.proofs.Worlds.{at_put4, by_bool, true_false, some_is, none_some, hold_of_mine, IsMineOrFree, hold_of_other, HoldIs, hold_of_is, hold_at_first, hold_at_other, none_below, above_each, has_mine, all_here, here_all, among_first, others, strand_stays, past_stays, tagged_stays, tagged_more, SameStrands, knows_none}
+
+-- a step that is told as one of the core is one that the rule allows
+pub allows_of : (shape : Shape) (slots pass : ℕ) (me : Seated) (i : ℕ) (f : ℕ → ℕ) (goes : ℕ → cores.State → cores.State → Type 0) (told_then : ℕ → Seated → Type 0)
+    → StepsAs shape slots pass me i f goes told_then → Allows (Rule shape) slots pass me i f told_then
+allows_of shape slots pass me i f goes told_then steps s r wide at small =
+    let x = steps s r wide at small in (x.0, x.1, x.2, x.3.0, x.4)
+
+-- a seat that is there
+pub there : {A : Type 0} (l : List A) (i : ℕ) (a : A) → get_elem? l i ≡ some a → i < length l
+there [] i a e = absurd (some-ne-none a (sym e))
+there (x ∷ xs) zero a e = omega arith
+there (x ∷ xs) (suc i) a e = let h = there xs i a e in omega arith
+
+pub found_at : (l : List ℕ) (i : ℕ) → i < length l → get_elem? l i ≡ some (get_or l i 0)
+found_at [] i h = absurd (omega arith)
+found_at (x ∷ xs) zero h = refl
+found_at (x ∷ xs) (suc i) h = found_at xs i (omega arith)
+
+-- the rule holds of the same words and views, of the same world
+pub same_rule : (shape : Shape) (s : State Behind View) (r : Rule shape s) (words : List ℕ) (views : List View) → words ≡ s.words → views ≡ s.views → Rule shape record { words = words; homes = s.homes; views = views }
+same_rule shape s r words views e f = record {
+  world = r.world;
+  is_shape = r.is_shape;
+  plain = r.plain;
+  words = ap length e ∙ r.words;
+  slots = r.slots;
+  lock_words = λ k below. ap (λ (l : List ℕ). get_or l k 0) e ∙ r.lock_words k below;
+  owner_words = λ x below. ap (λ (l : List ℕ). get_or l (owner_word shape x) 0) e ∙ r.owner_words x below;
+  home_words = λ x below. ap (λ (l : List ℕ). get_or l (home_word shape x) 0) e ∙ r.home_words x below;
+  bit_words = λ x below. ap (λ (l : List ℕ). get_or l (bit_word shape x) 0) e ∙ r.bit_words x below;
+  placed = r.placed;
+  ranked = r.ranked;
+  legal = r.legal;
+  homes = r.homes;
+  seated = λ c less. subst (λ (l : List View). r.world.whose c < length l) (sym f) (r.seated c less);
+  tagged = λ k. subst (λ (l : List View). AreTagged r.world (length l) (r.world.log k)) (sym f) (r.tagged k);
+  knows = λ j u at. r.knows j u (sym (ap (λ (l : List View). get_elem? l j) f) ∙ at);
+}
+
+-- what lies under a lock that nobody holds
+pub free_home : (shape : Shape) (k : ℕ) (holder : Option ℕ) (log : List Entry) (lists : Lists) (lost : Bool) (x : maybe.Option (maybe.Option Behind)) → holder ≡ None → AtHome shape k holder log lists lost x
+    → ((b : Behind) × (x ≡ some (some b)) × Reads shape k log lost b) × (lists ≡ lists_of (content shape (lock_named shape k) log))
+free_home shape k holder log lists lost x e p = subst (λ (z : Option ℕ). AtHome shape k z log lists lost x) e p
+
+code_of_none : (holder : Option ℕ) → lock_code holder ≡ 0 → holder ≡ None
+code_of_none None e = refl
+code_of_none (Some c) e = absurd (omega arith)
+
+at_most_one : {n : ℕ} (b : Bool) → n ≡ one b → n ≤ 1
+at_most_one true e = omega (arith, e)
+at_most_one false e = omega (arith, e)
+
+below_by : {n : ℕ} (a b : ℕ) (c : Bool) → n ≡ one (nat_lt a b && c) → 0 < n → a < b
+below_by {n} a b c e some_there = by_bool (nat_lt a b) (λ t. n ≡ one (t && c) → a < b)
+    (λ is _. ltb-true a b is) (λ _ f. absurd (omega (arith, f))) e
+
+-- the elements that lie under a lock are the map's, each once
+pub elements_there : (shape : Shape) (s : State Behind View) (r : Rule shape s) (k : ℕ) → AreElements shape (r.world.core.lists k)
+elements_there shape s r k = record {
+  free_once = λ e. at_most_one _ (r.placed.placed.free k e);
+  rows_once = λ e. at_most_one _ (r.placed.placed.rows k e);
+  free_real = λ e some_there. below_by e shape.elements _ (r.placed.placed.free k e) some_there;
+  rows_real = λ e some_there. below_by e shape.elements _ (r.placed.placed.rows k e) some_there;
+}
+
+module _ (shape : Shape) (slots pass : ℕ) (me : Seated) (lock : DomainId) (c : ℕ) (cpu : is_among c me.0.cpus ≡ true) (is : IsTrue (is_lock shape lock)) (above : IsAboveAll shape (rank_of lock) me.0.held) where
+  can_take : (s : State Behind View) (r : Rule shape s) → get_elem? s.views pass ≡ some me.0 → r.world.core.holder (lock_number shape lock) ≡ None → CanTake shape r.world.core c lock
+  can_take s r at free =
+      let kn = r.knows pass me.0 at in let mine = has_mine shape r.world pass me.0 c kn cpu in record {
+        is_cpu = kn.within c cpu;
+        is_lock = is;
+        nobody = free;
+        above = λ j holds. above_each shape (rank_of lock) me.0.held j (hold j c (r.world.log j) (r.world.core.lists j) (r.world.lost j)) above
+            (kn.held j ∙ (ap (λ (z : Option ℕ). hold_of pass r.world.whose j z (r.world.log j) (r.world.core.lists j) (r.world.lost j)) holds
+            ∙ hold_of_mine r.world.whose pass j c (r.world.log j) (r.world.core.lists j) (r.world.lost j) mine));
+      }
+
+  took_world : World → World
+  took_world w = record { core = taken shape w.core c lock; log = w.log; lost = w.lost; whose = w.whose; keeper = w.keeper; team = w.team; current = w.current; past = w.past; next = w.next }
+
+  took_hold : World → Hold
+  took_hold w = hold (lock_number shape lock) c (w.log (lock_number shape lock)) (w.core.lists (lock_number shape lock)) (w.lost (lock_number shape lock))
+
+  took_rule : (s : State Behind View) (r : Rule shape s) → get_elem? s.views pass ≡ some me.0 → r.world.core.holder (lock_number shape lock) ≡ None
+      → (after : Rule shape record { words = set s.words (lock_number shape lock) (1 + c); homes = set s.homes (lock_number shape lock) none; views = set s.views pass (holding (took_hold r.world) me.0) })
+      × goes_by shape (Take c lock) 0 r.world.core after.world.core
+  unfolding took_world took_hold
+  took_rule s r at_pass free =
+      let k : ℕ = lock_number shape lock in
+      let v = me.0 in let w = r.world in let kn = r.knows pass v at_pass in let mine = has_mine shape w pass v c kn cpu in
+      let real : k < lock_count shape = number_within shape lock is in
+      let h : Hold = hold k c (w.log k) (w.core.lists k) (w.lost k) in
+      let w' : World = took_world w in
+      let nv : View = holding h v in
+      let can = can_take s r at_pass free in
+      let bounds = bounds_of_shape shape r.is_shape in
+      let same : SameStrands w w' = record { keeper = λ _. refl; team = λ _. refl; next = refl; current = λ _. refl; past = λ _. refl; whose = λ _. refl } in (
+        record {
+          world = w';
+          is_shape = r.is_shape;
+          plain = r.plain;
+          words = length-set s.words k (1 + c) ∙ r.words;
+          slots = length-set s.homes k none ∙ r.slots;
+          lock_words = λ m below. at_put w.core.holder k (Some c) (λ i x. i < lock_count shape → get_or (set s.words k (1 + c)) i 0 ≡ lock_code x) m
+              (λ _. get_or-set_same s.words k (1 + c) 0 (omega (arith, r.words, real)))
+              (λ ne below. get_or-set_other s.words k m (1 + c) 0 (λ y. ne (omega arith)) ∙ r.lock_words m below) below;
+          owner_words = λ x below. get_or-set_other s.words k (owner_word shape x) (1 + c) 0 (λ y. omega (arith, real)) ∙ r.owner_words x below;
+          home_words = λ x below. get_or-set_other s.words k (home_word shape x) (1 + c) 0 (λ y. omega (arith, real)) ∙ r.home_words x below;
+          bit_words = λ x below. get_or-set_other s.words k (bit_word shape x) (1 + c) 0 (λ y. omega (arith, real)) ∙ r.bit_words x below;
+          placed = step_keeps_places shape w.core (Take c lock) bounds can r.placed;
+          ranked = step_keeps_ranks shape w.core (Take c lock) can r.ranked;
+          legal = r.legal;
+          homes = λ m below there_is. at_put w.core.holder k (Some c) (λ i x. i < lock_count shape → IsTrue (is_lock shape (lock_named shape i)) → AtHome shape i x (entries (w.log i)) (w.core.lists i) (w.lost i) (get_elem? (set s.homes k none) i)) m
+              (λ _ _. set_here s.homes k none (omega (arith, r.slots, real)))
+              (λ ne below there_is. subst (λ z. AtHome shape m (w.core.holder m) (entries (w.log m)) (w.core.lists m) (w.lost m) z) (sym (set_else s.homes k m none ne)) (r.homes m below there_is)) below there_is;
+          seated = λ x less. subst (λ (z : ℕ). w.whose x < z) (sym (length-set s.views pass nv)) (r.seated x less);
+          tagged = λ m. tagged_stays w w' (length s.views) (length (set s.views pass nv)) (w.log m) (sym (length-set s.views pass nv)) same (r.tagged m);
+          knows = λ j u f. ⊎_elim
+              (λ t. subst (λ (z : ℕ × View). Knows shape w' z.0 z.1) (λ i. (sym t.0 i, t.1 i)) record {
+                shape_is = kn.shape_is;
+                cpus = kn.cpus;
+                within = kn.within;
+                held = λ m. at_put w.core.holder k (Some c) (λ i x. hold_at i (h ∷ v.held) ≡ hold_of pass w.whose i x (w.log i) (w.core.lists i) (w.lost i)) m
+                    (hold_at_first h v.held ∙ sym (hold_of_mine w.whose pass k c (w.log k) (w.core.lists k) (w.lost k) mine))
+                    (λ ne. hold_at_other m h v.held ne ∙ kn.held m);
+                ascends = (subst (λ (d : DomainId). IsAboveAll shape (rank_of d) v.held) (sym (named_by_number shape lock is)) above, kn.ascends);
+                hands = kn.hands;
+                known = kn.known;
+                bits = kn.bits;
+                only = kn.only;
+                strand = strand_stays shape w w' pass (w.current pass) v.cpus v.steps v.kept kn.strand.keeper (λ z. z) refl (λ _. refl) (λ _ z. z) kn.strand;
+                past = past_stays shape w w' pass (w.past pass) v.ended same (λ _ _ _ _. refl) (λ _ z. z) kn.past;
+                apart = kn.apart;
+                idle = kn.idle;
+              })
+              (λ t. let ku = r.knows j u t.1 in others shape w w' j u same ku
+              (λ m. at_put w.core.holder k (Some c) (λ i x. hold_of j w.whose i x (w.log i) (w.core.lists i) (w.lost i) ≡ hold_of j w.whose i (w.core.holder i) (w.log i) (w.core.lists i) (w.lost i)) m
+              (hold_of_other w.whose pass j k (Some c) (w.log k) (w.core.lists k) (w.lost k) mine t.0 ∙ ap (λ (z : Option ℕ). hold_of j w.whose k z (w.log k) (w.core.lists k) (w.lost k)) (sym free))
+              (λ _. refl))
+              (λ _ _ _. refl)
+              (λ _ _ _. refl)
+              (λ _ z. z)
+              ku.known
+              ku.bits)
+              (at_set s.views pass j nv u f);
+        },
+        record { enabled = can; changed = refl },
+      )
+
+  pub tries : StepsAs shape slots pass me (lock_number shape lock) (λ n. either (eqb n 0) (1 + c) n) (goes_if shape 0 (Take c lock)) (Tries (step slots (lock_number shape lock) 0 (1 + c) none) me)
+  unfolding took_hold same_rule
+  tries s r wide at_pass _ =
+      let k : ℕ = lock_number shape lock in
+      let found : ℕ = get_or s.words k 0 in
+      let real : k < lock_count shape = number_within shape lock is in
+      let named = named_by_number shape lock is in
+      exchanged found 0 (1 + c) (λ x. (v : View) × (a : Act Behind) × Valid s.homes me.1 a × ((after : Rule shape (stepped s k x pass me.1 v a)) × goes_if shape 0 (Take c lock) found r.world.core after.world.core) × Tries (step slots k 0 (1 + c) none) me found (v, carried_after me.1 a))
+      (λ hit.
+      let w = r.world in let kn = r.knows pass me.0 at_pass in
+      let free : w.core.holder k ≡ None = code_of_none (w.core.holder k) (sym (r.lock_words k real) ∙ hit) in
+      let home = free_home shape k (w.core.holder k) (entries (w.log k)) (w.core.lists k) (w.lost k) (get_elem? s.homes k) free (r.homes k real (subst (λ (d : DomainId). IsTrue (is_lock shape d)) (sym named) is)) in
+      let h : Hold = hold k c (w.log k) (w.core.lists k) (w.lost k) in
+      let rule = took_rule s r at_pass free in (
+        holding h me.0,
+        takes k home.0.0,
+        home.0.1,
+        (rule.0, ((λ _. rule.1), λ miss. absurd (miss hit))),
+        (
+          (λ _. record {
+            behind = home.0.0;
+            hold = h;
+            lock = refl;
+            cpu_is = omega arith;
+            after_is = refl;
+            reads = subst (λ z. Reads z k (entries (w.log k)) (w.lost k) home.0.0) (sym kn.shape_is) home.0.2;
+            now = home.1 ∙ ap (λ z. lists_of (content z (lock_named z k) (entries (w.log k)))) (sym kn.shape_is);
+            elements = subst (λ z. AreElements z (w.core.lists k)) (sym kn.shape_is) (elements_there shape s r k);
+            legal = subst (λ z. IsLegal z (lock_named z k) (entries (w.log k))) (sym kn.shape_is) (r.legal k);
+            known = λ log f. kn.known k log f;
+          }),
+          λ miss. absurd (miss hit),
+        ),
+      ))
+      (λ miss. (
+        me.0,
+        keeps,
+        tt,
+        (same_rule shape s r (set s.words k found) (set s.views pass me.0) (set_again s.words k found (found_at s.words k (omega (arith, r.words, real)))) (set_again s.views pass me.0 at_pass), ((λ hit. absurd (miss hit)), λ _. refl)),
+        ((λ hit. absurd (miss hit)), λ _. refl),
+      ))
+
+-- the same, at the number and the code that a caller has
+pub tries_at : (shape : Shape) (slots pass : ℕ) (me : Seated) (k c code : ℕ) → is_among c me.0.cpus ≡ true → IsTrue (is_lock shape (lock_named shape k)) → IsAboveAll shape (rank_of (lock_named shape k)) me.0.held → code ≡ 1 + c
+    → Allows (Rule shape) slots pass me k (λ n. either (eqb n 0) code n) (Tries (step slots k 0 code none) me)
+tries_at shape slots pass me k c code cpu is above code_is =
+    subst (λ (z : ℕ × ℕ). Allows (Rule shape) slots pass me z.0 (λ n. either (eqb n 0) z.1 n) (Tries (step slots z.0 0 z.1 none) me)) (λ i. (number_of_named shape k i, sym code_is i))
+    (allows_of shape slots pass me (lock_number shape (lock_named shape k)) (λ n. either (eqb n 0) (1 + c) n) (goes_if shape 0 (Take c (lock_named shape k))) (Tries (step slots (lock_number shape (lock_named shape k)) 0 (1 + c) none) me)
+    (tries shape slots pass me (lock_named shape k) c cpu is above))
+
+-- Lists as given back
+
+-- what lies under a lock of one kind has only the lists of that kind, and no cursor
+fits_lists : (shape : Shape) (lock : DomainId) (here : Content) → Fits shape lock here → HasOnlyItsLists lock (lists_of (told here))
+fits_lists shape (Bucket b) (contents.Bucket chain) fits = (refl, refl)
+fits_lists shape (Bucket b) (contents.Freelist freelist) fits = absurd fits
+fits_lists shape (Freelist c) (contents.Freelist freelist) fits = (refl, refl)
+fits_lists shape (Freelist c) (contents.Bucket chain) fits = absurd fits
+fits_lists shape (Local c) (contents.Bucket chain) fits = absurd fits
+fits_lists shape (Local c) (contents.Freelist freelist) fits = absurd fits
+fits_lists shape Global (contents.Bucket chain) fits = absurd fits
+fits_lists shape Global (contents.Freelist freelist) fits = absurd fits
+fits_lists shape (CpuLru c) (contents.Bucket chain) fits = absurd fits
+fits_lists shape (CpuLru c) (contents.Freelist freelist) fits = absurd fits
+
+no_cursor : (here : Content) → HasCursorInside (lists_of (told here))
+no_cursor (contents.Bucket chain) = tt
+no_cursor (contents.Freelist freelist) = tt
+
+-- what follows of the record of a lock, where there is one and where there is none
+pub lost_of : {A : Type 0} → Option A → Bool
+lost_of None = true
+lost_of (Some x) = false
+
+recorded : {A : Type 0} (o : Option A) (P P' : Type 0) (Q Q' : A → Type 0) → MatchOption o P Q → (lost_of o ≡ true → P → P') → ((x : A) → lost_of o ≡ false → Q x → Q' x) → MatchOption o P' Q'
+unfolding lost_of
+recorded None P P' Q Q' h f g = f refl h
+recorded (Some x) P P' Q Q' h f g = g x refl h
+
+either_record : {A : Type 0} (o : Option A) (P R : Type 0) (Q : A → Type 0) → MatchOption o P Q → (lost_of o ≡ true → P → R) → ((x : A) → lost_of o ≡ false → Q x → R) → R
+unfolding lost_of
+either_record None P R Q h f g = f refl h
+either_record (Some x) P R Q h f g = g x refl h
+
+-- the steps that are recorded then
+kept_or_lost : (shape : Shape) (v : View) (h : Hold) (e : Entry) (kept : List StrandStep) (b : Behind) → v.shape ≡ shape → IsRecorded shape v h e kept b → IsKeptOrLost v h kept
+kept_or_lost shape v h e kept b shape_is rec =
+    either_record b.history _ _ _ rec (λ _ p. inl p) (λ x _ p. inr (p.2 ∙ ap (λ (z : Shape). v.kept ++ views.kept_step z h.lock (length h.log) ∷ []) (sym shape_is)))
+
+module _ (shape : Shape) (slots pass : ℕ) (v : View) (b : Behind) (cs : List (ℕ × Behind)) (lock : DomainId) (h : Hold) (below : List Hold) (is_held : v.held ≡ h ∷ below) (is : IsTrue (is_lock shape lock)) (at_lock : h.lock ≡ lock_number shape lock)
+    (e : Entry) (kept : List StrandStep) (may : MayGive shape v h e kept b) where
+  gave_world : World → World
+  gave_world w = record {
+    core = given shape w.core lock (lists_of (told may.here));
+    log = put w.log (lock_number shape lock) (w.log (lock_number shape lock) ++ (w.current pass, e) ∷ []);
+    lost = put w.lost (lock_number shape lock) (lost_of b.history);
+    whose = w.whose;
+    keeper = w.keeper;
+    team = w.team;
+    current = w.current;
+    past = w.past;
+    next = w.next;
+  }
+
+  -- the hold, as the world has it
+  found_hold : (w : World) → Knows shape w pass v → HoldIs w.whose pass (lock_number shape lock) (w.core.holder (lock_number shape lock)) (w.log (lock_number shape lock)) (w.core.lists (lock_number shape lock)) (w.lost (lock_number shape lock)) h
+  found_hold w kn =
+      let k : ℕ = lock_number shape lock in
+      hold_of_is w.whose pass k (w.core.holder k) (w.log k) (w.core.lists k) (w.lost k) h
+      (sym (kn.held k) ∙ (ap (hold_at k) is_held ∙ subst (λ (z : ℕ). hold_at z (h ∷ below) ≡ Some h) at_lock (hold_at_first h below)))
+
+  -- what is put back, told of the world
+  put_back_there : (w : World) (kn : Knows shape w pass v) → MayPut shape v (hold (lock_number shape lock) h.cpu (w.log (lock_number shape lock)) (w.core.lists (lock_number shape lock)) (w.lost (lock_number shape lock))) e may.here
+  put_back_there w kn = subst (λ (z : Hold). MayPut shape v z e may.here) (found_hold w kn).hold_is may.may_put
+
+  recorded_there : (w : World) (kn : Knows shape w pass v) → IsRecorded shape v (hold (lock_number shape lock) h.cpu (w.log (lock_number shape lock)) (w.core.lists (lock_number shape lock)) (w.lost (lock_number shape lock))) e kept b
+  recorded_there w kn = subst (λ (z : Hold). IsRecorded shape v z e kept b) (found_hold w kn).hold_is may.records
+
+  can_give : (s : State Behind View) (r : Rule shape s) → get_elem? s.views pass ≡ some v → CanGive shape r.world.core h.cpu lock (lists_of (told may.here))
+  can_give s r at_pass =
+      let w = r.world in let k : ℕ = lock_number shape lock in let kn = r.knows pass v at_pass in
+      let at = found_hold w kn in
+      let m = put_back_there w kn in
+      let named = named_by_number shape lock is in
+      let there = elements_there shape s r k in
+      record {
+        holds = record { is_cpu = r.ranked.within h.cpu k at.holder_is; is_lock = is; held = at.holder_is };
+        fit = fits_lists shape lock may.here (subst (λ (d : DomainId). Fits shape d may.here) named m.fits);
+        same_free = m.same_free;
+        same_rows = m.same_rows;
+        free_once = λ x. subst (λ (n : ℕ). n ≤ 1) (sym (m.same_free x)) (there.free_once x);
+        rows_once = λ x. subst (λ (n : ℕ). n ≤ 1) (sym (m.same_rows x)) (there.rows_once x);
+        cursor = no_cursor may.here;
+      }
+
+  gave_rule : (s : State Behind View) (r : Rule shape s) → get_elem? s.views pass ≡ some v
+      → (after : Rule shape record { words = set s.words (lock_number shape lock) 0; homes = set s.homes (lock_number shape lock) (some b); views = set s.views pass (views.given h e kept v) })
+      × goes_by shape (Give h.cpu lock (lists_of (told may.here))) 0 r.world.core after.world.core
+  unfolding gave_world
+  gave_rule s r at_pass =
+      let k : ℕ = lock_number shape lock in
+      let w = r.world in let kn = r.knows pass v at_pass in
+      let at = found_hold w kn in
+      let m0 = put_back_there w kn in
+      let rec = recorded_there w kn in
+      let can = can_give s r at_pass in
+      let bounds = bounds_of_shape shape r.is_shape in
+      let real : k < lock_count shape = number_within shape lock is in
+      let es : List Entry = entries (w.log k) in
+      let log_is : h.log ≡ es = ap (λ (z : Hold). z.log) at.hold_is in
+      let l' : List Tagged = w.log k ++ (w.current pass, e) ∷ [] in
+      let lo' : Bool = lost_of b.history in
+      let n' : Lists = lists_of (told may.here) in
+      let es_is : entries l' ≡ es ++ e ∷ [] = entries_more (w.log k) (w.current pass, e) in
+      let content_is : content shape (lock_named shape k) (entries l') ≡ told may.here = ap (content shape (lock_named shape k)) es_is ∙ (content_more shape (lock_named shape k) es e ∙ sym m0.told_is) in
+      let w' : World = gave_world w in
+      let nv : View = views.given h e kept v in
+      let new_turn : Turned = views.turned h.lock (length h.log) e in
+      let same : SameStrands w w' = record { keeper = λ _. refl; team = λ _. refl; next = refl; current = λ _. refl; past = λ _. refl; whose = λ _. refl } in
+      let mine_lock : IsMineOrFree w.whose pass (w.core.holder k) = subst (IsMineOrFree w.whose pass) (sym at.holder_is) at.mine in
+      let losses : (m : ℕ) → put w.lost k lo' m ≡ false → w.lost m ≡ false = λ m. at_put w.lost k lo' (λ i lo. lo ≡ false → w.lost i ≡ false) m
+      (λ lo. either_record b.history _ _ _ rec (λ lost _. true_false (sym lost ∙ lo)) (λ x _ p. p.0)) (λ _ lo. lo) in
+      let on_here : turns_on k (v.steps ++ new_turn ∷ []) ≡ turns_on k v.steps ++ (length h.log, e) ∷ [] = turns_on_same k (length h.log) e v.steps new_turn (ap (λ (z : ℕ). views.turned z (length h.log) e) at_lock) in
+      let on_else : (m : ℕ) → m ≢ k → turns_on m (v.steps ++ new_turn ∷ []) ≡ turns_on m v.steps = λ m ne. turns_on_other m v.steps new_turn (λ y. ne (sym y ∙ at_lock)) in
+      let kept_else : (m : ℕ) → m ≢ k → places_on (lock_named shape m) kept ≡ places_on (lock_named shape m) v.kept = λ m ne. either_record b.history _ _ _ rec
+      (λ _ p. ap (places_on (lock_named shape m)) p)
+      (λ x _ p. ap (places_on (lock_named shape m)) p.2 ∙ places_on_other (lock_named shape m) v.kept (views.kept_step shape k (length es)) (other_lock (lock_named shape k) (lock_named shape m) (λ y. ne (sym (one_number shape k m y))))) in
+      let ranks : Ascends shape (h ∷ below) = subst (Ascends shape) is_held kn.ascends in
+      let none_there : hold_at k below ≡ None = none_below shape k below (subst (λ (z : ℕ). IsAboveAll shape (rank_of (lock_named shape z)) below) at_lock ranks.0) in
+      let counted : length h.log ≡ length (w.log k) + 0 = ap length log_is ∙ (entries_length (w.log k) ∙ (let g : length (w.log k) ≡ length (w.log k) + 0 = omega arith in g)) in (
+        record {
+          world = w';
+          is_shape = r.is_shape;
+          plain = r.plain;
+          words = length-set s.words k 0 ∙ r.words;
+          slots = length-set s.homes k (some b) ∙ r.slots;
+          lock_words = λ m within. at_put w.core.holder k None (λ i x. i < lock_count shape → get_or (set s.words k 0) i 0 ≡ lock_code x) m
+              (λ _. get_or-set_same s.words k 0 0 (omega (arith, r.words, real)))
+              (λ ne within. get_or-set_other s.words k m 0 0 (λ y. ne (omega arith)) ∙ r.lock_words m within) within;
+          owner_words = λ x within. get_or-set_other s.words k (owner_word shape x) 0 0 (λ y. omega (arith, real)) ∙ r.owner_words x within;
+          home_words = λ x within. get_or-set_other s.words k (home_word shape x) 0 0 (λ y. omega (arith, real)) ∙ r.home_words x within;
+          bit_words = λ x within. get_or-set_other s.words k (bit_word shape x) 0 0 (λ y. omega (arith, real)) ∙ r.bit_words x within;
+          placed = step_keeps_places shape w.core (Give h.cpu lock n') bounds can r.placed;
+          ranked = step_keeps_ranks shape w.core (Give h.cpu lock n') can r.ranked;
+          legal = λ m. at_put w.log k l' (λ i l. IsLegal shape (lock_named shape i) (entries l)) m
+              (subst (IsLegal shape (lock_named shape k)) (sym es_is) (legal_more shape (lock_named shape k) es e (r.legal k) m0.allowed))
+              (λ _. r.legal m);
+          homes = λ m within there_is. at_put4 w.core.holder w.log w.core.lists w.lost k None l' n' lo' (λ i ho l n lo. i < lock_count shape → IsTrue (is_lock shape (lock_named shape i)) → AtHome shape i ho (entries l) n lo (get_elem? (set s.homes k (some b)) i)) m
+              (λ _ _. (
+                (
+                  b,
+                  set_here s.homes k (some b) (omega (arith, r.slots, real)),
+                  record {
+                    here = may.here;
+                    content_is = may.content_is;
+                    told_is = sym content_is;
+                    fits = m0.fits;
+                    kept = recorded b.history _ (lo' ≡ true) _ (λ u. (lo' ≡ false) × (u.items ≡ entries l')) rec (λ lo _. lo) (λ u lo p. (lo, p.1 ∙ sym es_is));
+                  },
+                ),
+                sym (ap lists_of content_is),
+              ))
+              (λ ne within there_is. subst (λ z. AtHome shape m (w.core.holder m) (entries (w.log m)) (w.core.lists m) (w.lost m) z) (sym (set_else s.homes k m (some b) ne)) (r.homes m within there_is)) within there_is;
+          seated = λ x less. subst (λ (z : ℕ). w.whose x < z) (sym (length-set s.views pass nv)) (r.seated x less);
+          tagged = λ m. tagged_stays w w' (length s.views) (length (set s.views pass nv)) (put w.log k l' m) (sym (length-set s.views pass nv)) same
+              (at_put w.log k l' (λ i l. AreTagged w (length s.views) l) m
+              (tagged_more w (length s.views) (w.log k) (w.current pass, e) (r.tagged k) record {
+                seated = subst (λ (z : ℕ). z < length s.views) (sym kn.strand.keeper) (there s.views pass v at_pass);
+                numbered = kn.strand.numbered;
+                has_cpu = ap (is_among e.cpu) kn.strand.team ∙ m0.cpu;
+                listed = subst (λ (z : ℕ). is_among (w.current pass) (w.current z ∷ w.past z) ≡ true) (sym kn.strand.keeper) (among_first (w.current pass) (w.past pass));
+              })
+              (λ _. r.tagged m));
+          knows = λ j u f. ⊎_elim
+              (λ t. subst (λ (z : ℕ × View). Knows shape w' z.0 z.1) (λ i. (sym t.0 i, t.1 i)) record {
+                shape_is = kn.shape_is;
+                cpus = kn.cpus;
+                within = kn.within;
+                held = λ m. ap (hold_at m) (ap views.holds_below is_held) ∙ at_put4 w.core.holder w.log w.core.lists w.lost k None l' n' lo' (λ i ho l n lo. hold_at i below ≡ hold_of pass w.whose i ho l n lo) m
+                    none_there
+                    (λ ne. sym (ap (hold_at m) is_held ∙ hold_at_other m h below (λ y. ne (y ∙ at_lock))) ∙ kn.held m);
+                ascends = subst (Ascends shape) (sym (ap views.holds_below is_held)) ranks.1;
+                hands = kn.hands;
+                known = λ m log. by_bool (has_all v) (λ t. known_log m (cond t (record { lock = h.lock; log = h.log ++ e ∷ [] } ∷ v.known) v.known) ≡ Some log → entries (put w.log k l' m) ≡ log)
+                    (λ _. at_put w.log k l' (λ i l. cond (eqb h.lock i) (Some (h.log ++ e ∷ [])) (known_log i v.known) ≡ Some log → entries l ≡ log) m
+                    (by_test h.lock k (λ t. cond t (Some (h.log ++ e ∷ [])) (known_log k v.known) ≡ Some log → entries l' ≡ log)
+                    (λ _ f. es_is ∙ (ap (λ (z : List Entry). z ++ e ∷ []) (sym log_is) ∙ some_is f)) (λ n. absurd (n at_lock)))
+                    (λ ne. by_test h.lock m (λ t. cond t (Some (h.log ++ e ∷ [])) (known_log m v.known) ≡ Some log → entries (w.log m) ≡ log) (λ y. absurd (ne (sym y ∙ at_lock))) (λ _ f. kn.known m log f)))
+                    (λ few f. ⊎_elim (λ empty. absurd (none_some (sym (ap (known_log m) empty.0) ∙ f))) (λ all. true_false (sym (all_here v.shape.cpus v.cpus (λ c lt. all c (subst (λ z. c < z.cpus) kn.shape_is lt))) ∙ few)) kn.only);
+                bits = kn.bits;
+                only = by_bool (has_all v) (λ t. ((cond t (record { lock = h.lock; log = h.log ++ e ∷ [] } ∷ v.known) v.known ≡ []) × (v.bits ≡ [])) ⊎ ((c : ℕ) → c < shape.cpus → is_among c v.cpus ≡ true))
+                    (λ all. inr (λ c lt. here_all v.shape.cpus v.cpus all c (subst (λ z. c < z.cpus) (sym kn.shape_is) lt)))
+                    (λ _. kn.only);
+                strand = record {
+                  keeper = kn.strand.keeper;
+                  numbered = kn.strand.numbered;
+                  team = kn.strand.team;
+                  steps_are = λ m. at_put w.log k l' (λ i l. turns_on i (v.steps ++ new_turn ∷ []) ≡ turns_of (w.current pass) 0 l) m
+                      (on_here ∙ (ap (λ z. z ++ (length h.log, e) ∷ []) (kn.strand.steps_are k)
+                      ∙ (ap (λ (n : ℕ). turns_of (w.current pass) 0 (w.log k) ++ (n, e) ∷ []) counted ∙ sym (turns_of_same (w.current pass) 0 (w.log k) e))))
+                      (λ ne. on_else m ne ∙ kn.strand.steps_are m);
+                  kept_are = λ m within there_is. at_put w.lost k lo' (λ i lo. i < lock_count shape → IsTrue (is_lock shape (lock_named shape i)) → lo ≡ false → places_on (lock_named shape i) kept ≡ indexes (turns_on i (v.steps ++ new_turn ∷ []))) m
+                      (λ within there_is lo. either_record b.history _ _ _ rec (λ lost _. true_false (sym lost ∙ lo))
+                      (λ x _ p. ap (places_on (lock_named shape k)) p.2 ∙ (places_on_same (lock_named shape k) v.kept (views.kept_step shape k (length es)) (same_lock (lock_named shape k))
+                      ∙ (ap (λ (z : List ℕ). z ++ length es ∷ []) (kn.strand.kept_are k within there_is p.0)
+                      ∙ sym (ap indexes on_here ∙ (indexes_more (turns_on k v.steps) ((length h.log, e) ∷ []) ∙ ap (λ (n : ℕ). indexes (turns_on k v.steps) ++ n ∷ []) (ap length log_is)))))))
+                      (λ ne within there_is lo. kept_else m ne ∙ (kn.strand.kept_are m within there_is lo ∙ ap indexes (sym (on_else m ne)))) within there_is;
+                };
+                past = past_stays shape w w' pass (w.past pass) v.ended same
+                    (λ t m among own. at_put w.log k l' (λ i l. turns_of t 0 l ≡ turns_of t 0 (w.log i)) m (turns_of_other t (w.current pass) 0 (w.log k) e (λ is_same. true_false (sym among ∙ (ap (λ (z : ℕ). is_among z (w.past pass)) (sym is_same) ∙ kn.apart)))) (λ _. refl))
+                    losses kn.past;
+                apart = kn.apart;
+                idle = λ empty. true_false (sym m0.cpu ∙ ap (is_among e.cpu) empty);
+              })
+              (λ t. let ku = r.knows j u t.1 in let no_more = knows_none shape w pass j u h.cpu ku (r.ranked.within h.cpu k at.holder_is) at.mine t.0 in
+              others shape w w' j u same ku
+              (λ m. at_put4 w.core.holder w.log w.core.lists w.lost k None l' n' lo' (λ i ho l n lo. hold_of j w.whose i ho l n lo ≡ hold_of j w.whose i (w.core.holder i) (w.log i) (w.core.lists i) (w.lost i)) m
+              (sym (hold_of_other w.whose pass j k (w.core.holder k) (w.log k) (w.core.lists k) (w.lost k) mine_lock t.0))
+              (λ _. refl))
+              (λ _ _ _. refl)
+              (λ tag m own. at_put w.log k l' (λ i l. turns_of tag 0 l ≡ turns_of tag 0 (w.log i)) m
+              (turns_of_other tag (w.current pass) 0 (w.log k) e (λ is_same. t.0 (sym own ∙ (ap w.keeper (sym is_same) ∙ kn.strand.keeper)))) (λ _. refl))
+              losses
+              (λ m log f. absurd (none_some (sym (ap (known_log m) no_more.0) ∙ f)))
+              ku.bits)
+              (at_set s.views pass j nv u f);
+        },
+        record { enabled = can; changed = refl },
+      )
+
+  pub gives_back : StepsAs shape slots pass (v, (lock_number shape lock, b) ∷ cs) (lock_number shape lock) (λ _. 0) (goes_by shape (Give h.cpu lock (lists_of (told may.here)))) (λ _. Gives e kept (v, (lock_number shape lock, b) ∷ cs))
+  gives_back s r wide at_pass _ = (
+    views.given h e kept v,
+    gives,
+    tt,
+    gave_rule s r at_pass,
+    record { hold = h; below = below; innermost = is_held; kept_is = kept_or_lost shape v h e kept b (r.knows pass v at_pass).shape_is may.records; after_is = refl },
+  )
+
+-- the same, at the seat and the number that a caller has
+pub gives_at : (shape : Shape) (slots pass : ℕ) (me : Seated) (b : Behind) (cs : List (ℕ × Behind)) (h : Hold) (below : List Hold) (k : ℕ) (e : Entry) (kept : List StrandStep) → me.1 ≡ (k, b) ∷ cs → me.0.held ≡ h ∷ below → h.lock ≡ k → IsTrue (is_lock shape (lock_named shape k))
+    → MayGive shape me.0 h e kept b → Allows (Rule shape) slots pass me k (λ _. 0) (λ _. Gives e kept me)
+gives_at shape slots pass me b cs h below k e kept slots_are held at_lock is may =
+    let num = number_of_named shape k in
+    subst (λ (z : ℕ × List (ℕ × Behind)). Allows (Rule shape) slots pass (me.0, z.1) z.0 (λ _. 0) (λ _. Gives e kept (me.0, z.1))) (λ i. (num i, (ap (λ (y : ℕ). (y, b) ∷ cs) num ∙ sym slots_are) i))
+    (allows_of shape slots pass (me.0, (lock_number shape (lock_named shape k), b) ∷ cs) (lock_number shape (lock_named shape k)) (λ _. 0) (goes_by shape (Give h.cpu (lock_named shape k) (lists_of (told may.here)))) (λ _. Gives e kept (me.0, (lock_number shape (lock_named shape k), b) ∷ cs))
+    (gives_back shape slots pass me.0 b cs (lock_named shape k) h below held is (at_lock ∙ sym num) e kept may))
+
+-- the same with no record, by some part of a CPU and a call
+pub gives_some : (shape : Shape) (slots pass : ℕ) (me : Seated) (b : Behind) (h : Hold) (below : List Hold) (k cpu call : ℕ) (part : Part) (notes : Notes) (notes_below : List Notes) → me.1 ≡ (k, b) ∷ rest me.1 → me.0.held ≡ h ∷ below → h.lock ≡ k → IsTrue (is_lock shape (lock_named shape k))
+    → MayGive shape me.0 h (entry_by cpu call part) me.0.kept b → me.0.notes ≡ notes ∷ notes_below → NotesFit shape part notes → Allows (Rule shape) slots pass me k (λ _. 0) (λ _. GivesSome cpu call me)
+gives_some shape slots pass me b h below k cpu call part notes notes_below slots_are held at_lock is may notes_are notes_fit s r wide at_pass small =
+    let num = number_of_named shape k in
+    let e : Entry = entry_by cpu call part in
+    let kn = r.knows pass me.0 at_pass in
+    let rule = gave_rule shape slots pass me.0 b (rest me.1) (lock_named shape k) h below held is (at_lock ∙ sym num) e me.0.kept may s r at_pass in (
+      views.given h e me.0.kept me.0,
+      gives,
+      tt,
+      subst (λ (z : ℕ × List (ℕ × Behind)). Rule shape record { words = set s.words z.0 0; homes = put_back s.homes z.1; views = set s.views pass (views.given h e me.0.kept me.0) }) (λ i. (num i, (ap (λ (y : ℕ). (y, b) ∷ rest me.1) num ∙ sym slots_are) i)) rule.0,
+      record {
+        hold = h;
+        below = below;
+        behind = b;
+        part = part;
+        innermost = held;
+        slot = slots_are ∙ ap (λ (y : ℕ). (y, b) ∷ rest me.1) (sym at_lock);
+        may = subst (λ z. MayGive z me.0 h e me.0.kept b) (sym kn.shape_is) may;
+        notes = notes;
+        notes_below = notes_below;
+        notes_are = notes_are;
+        notes_fit = subst (λ z. NotesFit z part notes) (sym kn.shape_is) notes_fit;
+        after_is = refl;
+      },
+    )

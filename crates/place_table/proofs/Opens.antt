@@ -1,0 +1,180 @@
+-- A table at its opening keeps the rule, and its first pass is in no call.
+use Rattle.std.proofs.Common.{◌≡◌, ℕ, zero, suc, ◌<◌, Bool, true, false, ◌&&◌, cond, ltb, List, [], ◌∷◌, map, Option, None, Some, refl, ap, ◌∙◌, sym, subst, inr, arith}
+use Rattle.std.proofs.lemmas.Bool.{lt-ltb}
+use Rattle.std.proofs.lemmas.List.{length-map}
+use mathlib.Core.Option.{some, some-ne-none, some-injective}
+use lib.ListN.{get_elem?}
+use Rattle.atomic_table.specs.Table as table
+use Rattle.atomic_table.proofs.Lists.{at_map}
+use Rattle.map_types.specs.declared.attr.Shape.{Shape}
+use Rattle.map_types.specs.declared.kind.DomainId.{DomainId}
+use Rattle.map_types.specs.declared.kind.DomainId.TheVariants.{Local, Global, CpuLru, Bucket, Freelist}
+use Rattle.map_types.specs.Creation.{IsShape}
+use Rattle.map_types.specs.Shape.{HasBounds}
+use Rattle.map_types.specs.Kind.{is_lru}
+use Rattle.map_types.proofs.CreationLemmas.{bounds_of_shape}
+use Rattle.place_words.specs.declared.history.Entry.{Entry}
+use Rattle.place_words.specs.declared.home.Home.TheVariants as homes
+use Rattle.place_words.specs.declared.owner.Owner.TheVariants as owners
+use Rattle.place_words.specs.Codes.{owner_code, home_code}
+use Rattle.place_words.specs.Histories.{opening_content, replayed, AllAllowed}
+use Rattle.place_words.specs.Locks.{is_lock, lock_named, lock_count}
+use Rattle.place_words.specs.Openings.{opening_owner, opening_free}
+use Rattle.place_core.specs.declared.step.Lists.{Lists}
+use Rattle.place_core.specs.Opening.{opening, opening_home, opening_lists}
+use Rattle.place_core.proofs.OpeningLaws.{opening_placed, opening_ranked}
+use Rattle.place_core.proofs.ElementLemmas.{by_test}
+use Rattle.place_core.proofs.StartLemmas.{free_bucket}
+use Rattle.place_table.specs.declared.content.Behind.{Behind}
+use Rattle.place_table.specs.declared.content.Content.{Content}
+use Rattle.place_table.specs.declared.view.View.{View}
+use Rattle.place_table.specs.Contents.{lists_of}
+use Rattle.place_table.specs.Views.{is_among, known_log, bit_seen, numbers_below, no_turns, no_bits, first_view}
+use Rattle.place_table.specs.Rules.{World, Rule, Knows, Reads, AtHome, home_word, bit_word, is_hand_of}
+use Rattle.place_table.specs.Opening.{opening_words, IsFirstContent, IsFirstSlot, AreFirstSlots}
+use Rattle.place_table.proofs.FirstSlots.{not_common, no_local, no_global, no_set}
+use Rattle.place_table.proofs.FirstSpares.{hand_at_first}
+use Rattle.place_table.proofs.FirstWords.{length_words, first_lock_word, first_owner_word, first_later_word}
+
+-- What the first pass knows
+
+pub among : (c n : ℕ) → c < n → is_among c (numbers_below n) ≡ true
+among c zero few = absurd (omega arith)
+among c (suc n) few =
+    by_test n c (λ b. cond b true (is_among c (numbers_below n)) ≡ true) (λ _. refl) (λ other. among c n (omega arith))
+
+pub among_below : (c n : ℕ) → is_among c (numbers_below n) ≡ true → c < n
+among_below c zero is = absurd cc
+among_below c (suc n) is =
+    by_test n c (λ b. cond b true (is_among c (numbers_below n)) ≡ true → c < suc n)
+    (λ same _. omega arith)
+    (λ _ later. let below = among_below c n later in omega arith)
+    is
+
+known_first : (k n : ℕ) (log : List Entry) → known_log k (no_turns n) ≡ Some log → [] ≡ log
+known_first k zero log is = absurd cc
+known_first k (suc n) log is =
+    by_test n k (λ b. cond b (Some []) (known_log k (no_turns n)) ≡ Some log → [] ≡ log)
+    (λ _ found. cc)
+    (λ _ later. known_first k n log later)
+    is
+
+bit_first : (e n : ℕ) (bit : Bool) → bit_seen e (no_bits n) ≡ Some bit → false ≡ bit
+bit_first e zero bit is = absurd cc
+bit_first e (suc n) bit is =
+    by_test n e (λ b. cond b (Some false) (bit_seen e (no_bits n)) ≡ Some bit → false ≡ bit)
+    (λ _ found. cc)
+    (λ _ later. bit_first e n bit later)
+    is
+
+-- What lies under the locks
+
+reads_first : (shape : Shape) (k : ℕ) (behind : Behind) → IsFirstSlot shape k behind → is_lock shape (lock_named shape k) ≡ true → Reads shape k [] false behind
+unfolding replayed
+reads_first shape k behind slot there = go behind.content refl slot.content
+  where
+    go : (found : Option Content) → behind.content ≡ found → IsFirstContent shape (lock_named shape k) found → Reads shape k [] false behind
+    go None is none = absurd cc
+    go (Some here) is first = record { here = here; content_is = is; told_is = first.0; fits = first.1; kept = slot.kept }
+
+abbrev free_only : List ℕ → Lists
+free_only xs = record { free = xs; first = []; second = []; cursor = None }
+
+lists_first : (shape : Shape) (lock : DomainId) → HasBounds shape → is_lru shape.kind ≡ false → is_lock shape lock ≡ true → free_only (opening_free shape lock) ≡ lists_of (opening_content shape lock)
+lists_first shape (Local cpu) bounds plain there = let gone = no_local shape cpu bounds plain in absurd cc
+lists_first shape Global bounds plain there = let gone = no_global shape bounds plain in absurd cc
+lists_first shape (CpuLru cpu) bounds plain there = let gone = no_set shape cpu plain in absurd cc
+lists_first shape (Bucket bucket) bounds plain there = ap free_only (sym (free_bucket shape (Bucket bucket) bucket refl))
+lists_first shape (Freelist cpu) bounds plain there = refl
+
+home_first : (shape : Shape) → HasBounds shape → is_lru shape.kind ≡ false → (slots : List Behind) → AreFirstSlots shape (lock_count shape) slots → (k : ℕ) → k < lock_count shape → is_lock shape (lock_named shape k) ≡ true
+    → AtHome shape k None [] (opening_lists shape k) false (get_elem? (map some slots) k)
+unfolding replayed opening_lists
+home_first shape bounds plain slots are k within there =
+    let found = are.each k within in
+    ((found.0, at_map some slots k found.0 found.1, reads_first shape k found.0 found.2 there), lists_first shape (lock_named shape k) bounds plain there)
+
+-- Words
+
+home_word_first : (shape : Shape) (e : ℕ) → HasBounds shape → is_lru shape.kind ≡ false → home_code ((opening shape).home e) ≡ 0
+unfolding opening opening_home
+home_word_first shape e bounds plain = either (ltb e shape.elements)
+  where
+    unlisted : home_code (opening_home shape e) ≡ 0
+    unlisted = rw (not_common shape bounds plain, plain) refl
+
+    either : (b : Bool) → home_code (cond b (opening_home shape e) homes.Unlisted) ≡ 0
+    either true = unlisted
+    either false = refl
+
+owner_first : (shape : Shape) (e : ℕ) → e < shape.elements → (opening shape).owner e ≡ opening_owner shape shape.kind e
+unfolding opening
+owner_first shape e real = ap (λ b. cond b (opening_owner shape shape.kind e) owners.Free) (lt-ltb e shape.elements real)
+
+-- The rule
+
+abbrev first_world : Shape → World
+first_world shape = record {
+  core = opening shape;
+  log = λ k. [];
+  lost = λ k. false;
+  whose = λ c. 0;
+  keeper = λ strand. 0;
+  team = λ strand. numbers_below shape.cpus;
+  current = λ pass. 0;
+  past = λ pass. [];
+  next = 1;
+}
+
+and_true : (a : Bool) → a ≡ (a && true)
+and_true true = refl
+and_true false = refl
+
+first_knows : (shape : Shape) → HasBounds shape → Knows shape (first_world shape) 0 (first_view shape)
+unfolding opening
+first_knows shape bounds = record {
+  shape_is = refl;
+  cpus = λ c few. among c shape.cpus few;
+  within = λ c mine. among_below c shape.cpus mine;
+  held = λ k. refl;
+  ascends = tt;
+  hands = λ e c few. hand_at_first shape bounds e c ∙ and_true (is_hand_of c ((opening shape).owner e));
+  known = λ k log is. known_first k (lock_count shape) log is;
+  bits = λ e bit is. bit_first e shape.elements bit is;
+  only = inr (λ c few. among c shape.cpus few);
+  strand = record { keeper = refl; numbered = omega arith; team = refl; steps_are = λ k. refl; kept_are = λ k within there kept. refl };
+  past = tt;
+  apart = refl;
+  idle = λ _. (refl, tt);
+}
+
+opens_at : (shape : Shape) (slots : List Behind) → IsShape shape → is_lru shape.kind ≡ false → AreFirstSlots shape (lock_count shape) slots → Rule shape (table.opening (opening_words shape) slots (first_view shape))
+unfolding opening AllAllowed
+opens_at shape slots is_one plain are =
+    let bounds = bounds_of_shape shape is_one in
+    record {
+      world = first_world shape;
+      is_shape = is_one;
+      plain = plain;
+      words = length_words shape;
+      slots = length-map slots some ∙ are.count;
+      lock_words = λ k within. first_lock_word shape k within;
+      owner_words = λ e real. first_owner_word shape e real ∙ ap owner_code (sym (owner_first shape e real));
+      home_words = λ e real. first_later_word shape (home_word shape e) (omega arith) ∙ sym (home_word_first shape e bounds plain);
+      bit_words = λ e real. first_later_word shape (bit_word shape e) (omega arith);
+      placed = opening_placed shape bounds;
+      ranked = opening_ranked shape;
+      legal = λ k. tt;
+      homes = λ k within there. home_first shape bounds plain slots are k within there;
+      seated = λ c few. omega arith;
+      tagged = λ k. tt;
+      knows = λ pass v at. first_seat bounds pass v at;
+    }
+  where
+    first_seat : HasBounds shape → (pass : ℕ) (v : View) → get_elem? (first_view shape ∷ []) pass ≡ some v → Knows shape (first_world shape) pass v
+    first_seat bounds zero v at = subst (Knows shape (first_world shape) 0) (some-injective (first_view shape) v at) (first_knows shape bounds)
+    first_seat bounds (suc pass) v at = absurd (some-ne-none v (sym at))
+
+pub opens : (shape : Shape) (words : List ℕ) (slots : List Behind) → IsShape shape → is_lru shape.kind ≡ false → words ≡ opening_words shape → AreFirstSlots shape (lock_count shape) slots → Rule shape (table.opening words slots (first_view shape))
+opens shape words slots is_one plain words_are are =
+    subst (λ (ws : List ℕ). Rule shape (table.opening ws slots (first_view shape))) (sym words_are) (opens_at shape slots is_one plain are)

@@ -1,0 +1,237 @@
+-- From what the steps of a seat tell to what a caller with a pass knows.
+use Rattle.std.proofs.Common.{◌≡◌, ℕ, Bool, true, false, List, [], ◌∷◌, ◌++◌, length, Option, Some, None, MatchOption, sym, refl, ap, ◌∙◌, subst, inl, ⊎_elim}
+use Rattle.std.specs.Prelude.{Vec}
+use Rattle.std.specs.Global.{Global}
+use Rattle.atomic_table.specs.Table.{rest}
+use Rattle.map_types.specs.Stored.{Stored}
+use Rattle.map_types.specs.declared.attr.Shape.{Shape}
+use Rattle.map_types.specs.declared.kind.DomainId.{DomainId}
+use Rattle.map_types.specs.Creation.{IsShape}
+use Rattle.place_words.specs.declared.history.Entry.{Entry}
+use Rattle.place_words.specs.declared.history.Part.{Part}
+use Rattle.place_words.specs.declared.history.StrandStep.{StrandStep}
+use Rattle.place_words.specs.declared.owner.Owner.{Owner}
+use Rattle.place_words.specs.Codes.{owner_code, HasOwnerCode}
+use Rattle.place_words.specs.Locks.{lock_named, lock_number}
+use Rattle.place_words.proofs.LockLemmas.{named_by_number}
+use Rattle.place_core.specs.Places.{MayOwn}
+use Rattle.place_table.specs.declared.content.Behind.{Behind}
+use Rattle.place_table.specs.declared.content.Content.{Content}
+use Rattle.place_table.specs.declared.steps.Recorded.{Recorded}
+use Rattle.place_table.specs.declared.view.View.{View}
+use Rattle.place_table.specs.declared.view.Hold.{Hold}
+use Rattle.place_table.specs.declared.view.Notes.{Notes}
+use Rattle.place_table.specs.declared.view.BitSeen.{BitSeen}
+use Rattle.place_table.specs.Rules.{KeptAs}
+use Rattle.place_table.specs.Views.{holding, given, holds_below, noted, owner_read}
+use Rattle.place_table.specs.Recording.{IsLost, RecordsIn, Records, recorded_step, last_from, last_in, entry_given, no_entry}
+use Rattle.place_table.specs.Plays.{Seated, Took, Gives, GivesSome, entry_by, IsKeptOrLost, MayPut, MayGive, OwnerFits, SeesOwner}
+use Rattle.place_table.specs.TurnNotes.{NotesFit}
+use Rattle.place_table.specs.Passes.{PassView, TableView, Carries, IsPass, IsPassOf, with_view, without_content, entry_of, CanGive, Gave, GaveSome, SawOwner}
+use Rattle.place_table.proofs.CodeLemmas.{one_owner, has_owner_code}
+use Rattle.place_table.proofs.Worlds.{some_is}
+
+first_behind : Behind → List (ℕ × Behind) → Behind
+first_behind other [] = other
+first_behind other (slot ∷ slots) = slot.1
+
+-- two readings of one first slot
+pub same_behind : (slots : List (ℕ × Behind)) (k : ℕ) (a b : Behind) (below others : List (ℕ × Behind)) → slots ≡ (k, a) ∷ below → slots ≡ (k, b) ∷ others → a ≡ b
+unfolding first_behind
+same_behind slots k a b below others one other = ap (first_behind a) (sym one ∙ other)
+
+-- a pass once a lock is taken and its content is out
+pub is_pass_taken : (v : View) (slots : List (ℕ × Behind)) (strand : List StrandStep) (spares : List (Option Stored)) (k cpu : ℕ) (taken out : Seated) → IsPass v slots strand spares → Took k cpu (v, slots) taken
+    → (b : Behind) → taken.1 ≡ (k, b) ∷ rest taken.1 → out ≡ (taken.0, (k, without_content b) ∷ rest taken.1) → IsPass out.0 out.1 strand spares
+is_pass_taken v slots strand spares k cpu taken out pass took b slot left =
+    let b_is : b ≡ took.behind = same_behind taken.1 k b took.behind (rest taken.1) slots slot (ap (λ (z : Seated). z.1) took.after_is) in
+    let out_is : out ≡ (holding took.hold v, (k, without_content took.behind) ∷ slots) = left ∙ (λ i. ((took.after_is i).0, (k, without_content (b_is i)) ∷ rest (took.after_is i).1)) in
+    subst (λ (z : Seated). IsPass z.0 z.1 strand spares) (sym out_is) record {
+      carries = (sym took.lock, refl, took.reads.kept, pass.carries);
+      strand_is = pass.strand_is;
+      none_ended = pass.none_ended;
+      spares_fit = pass.spares_fit;
+    }
+
+-- what a pass carries for the lock that it took last
+pub carried_head : (held : List Hold) (slots : List (ℕ × Behind)) (hold : Hold) (below : List Hold) (k : ℕ) → held ≡ hold ∷ below → hold.lock ≡ k → Carries held slots
+    → (b : Behind) × (slots ≡ (k, b) ∷ rest slots) × (b.content ≡ None) × KeptAs hold.lost hold.log b × Carries below (rest slots)
+carried_head held slots hold below k held_is lock carries = go slots (subst (λ l. Carries l slots) held_is carries)
+  where
+    go : (slots : List (ℕ × Behind)) → Carries (hold ∷ below) slots → (b : Behind) × (slots ≡ (k, b) ∷ rest slots) × (b.content ≡ None) × KeptAs hold.lost hold.log b × Carries below (rest slots)
+    go [] carries = absurd carries
+    go (slot ∷ slots) carries = (slot.1, ap (λ (j : ℕ). (j, slot.1) ∷ slots) (carries.0 ∙ lock), carries.1, carries.2, carries.3)
+
+-- and for those below it
+carries_below : (held : List Hold) (slots : List (ℕ × Behind)) → Carries held slots → Carries (holds_below held) (rest slots)
+carries_below [] [] carries = tt
+carries_below [] (slot ∷ slots) carries = absurd carries
+carries_below (hold ∷ holds) [] carries = absurd carries
+carries_below (hold ∷ holds) (slot ∷ slots) carries = carries.3
+
+-- the slot of the lock that is given back
+pub slot_given : (t : TableView) (lock : DomainId) (p : PassView) (here : Content) (part : Part) (can : CanGive t lock p here part) (v : View) (slots : List (ℕ × Behind)) (k : ℕ) → v ≡ p.view → k ≡ lock_number t.shape lock → Carries v.held slots
+    → (b : Behind) × (slots ≡ (k, b) ∷ rest slots) × (b.content ≡ None) × KeptAs can.hold.lost can.hold.log b × Carries can.below (rest slots)
+slot_given t lock p here part can v slots k v_is k_is carries =
+    carried_head v.held slots can.hold can.below k (ap (λ (z : View). z.held) v_is ∙ can.innermost) (can.lock_is ∙ sym k_is) carries
+
+-- its record is that of the hold
+pub kept_given : (t : TableView) (lock : DomainId) (p : PassView) (here : Content) (part : Part) (can : CanGive t lock p here part) (v : View) (slots : List (ℕ × Behind)) (k : ℕ) (found : Behind) (below : List (ℕ × Behind))
+    → v ≡ p.view → k ≡ lock_number t.shape lock → Carries v.held slots → slots ≡ (k, found) ∷ below → KeptAs can.hold.lost can.hold.log found
+kept_given t lock p here part can v slots k found below v_is k_is carries read =
+    let slot = slot_given t lock p here part can v slots k v_is k_is carries in
+    subst (KeptAs can.hold.lost can.hold.log) (same_behind slots k slot.0 found (rest slots) below slot.1 read) slot.3
+
+-- the entry that was put in last
+last_added : (first entry : Entry) (entries : List Entry) → last_from first (entries ++ entry ∷ []) ≡ entry
+last_added first entry [] = refl
+last_added first entry (next ∷ entries) = last_added next entry entries
+
+last_of_history : (history now : Option (Vec Entry Global)) (lock : DomainId) (entry : Entry) (before after : List StrandStep) (recorded : Recorded) → RecordsIn history now lock entry before after recorded → last_in now ≡ entry
+last_of_history None now lock entry before after recorded records = absurd records
+last_of_history (Some history) None lock entry before after recorded records = absurd records
+last_of_history (Some history) (Some now) lock entry before after recorded records = ap (last_from no_entry) records.0 ∙ last_added no_entry entry history.items
+
+lost_of_recorded : (history now : Option (Vec Entry Global)) (lock : DomainId) (entry : Entry) (before after : List StrandStep) (recorded : Recorded) → RecordsIn history now lock entry before after recorded → recorded.lost ≡ None
+lost_of_recorded None now lock entry before after recorded records = absurd records
+lost_of_recorded (Some history) None lock entry before after recorded records = absurd records
+lost_of_recorded (Some history) (Some now) lock entry before after recorded records = records.1
+
+-- the entry that a lock is given back with is the one that was recorded or handed back
+pub entry_given_is : (history : Option (Vec Entry Global)) (lock : DomainId) (entry : Entry) (before after : List StrandStep) (recorded : Recorded) (k : ℕ) (here : Option Content) (slots below : List (ℕ × Behind))
+    → Records history lock entry before after recorded → slots ≡ (k, record { content = here; history = recorded.history }) ∷ below → entry_given recorded.lost slots ≡ entry
+entry_given_is history lock entry before after recorded k here slots below records slot =
+    ⊎_elim
+    (λ (lost : IsLost entry before after recorded). ap (λ o. entry_given o slots) lost.1)
+    (λ (kept : RecordsIn history recorded.history lock entry before after recorded).
+    (λ i. entry_given (lost_of_recorded history recorded.history lock entry before after recorded kept i) (slot i)) ∙ last_of_history history recorded.history lock entry before after recorded kept)
+    records
+
+-- a history that is that of the hold has the entry more, and the strand the step, or nothing is recorded
+kept_in : (history now : Option (Vec Entry Global)) (lock : DomainId) (entry : Entry) (before after : List StrandStep) (recorded : Recorded) (lost : Bool) (log : List Entry)
+    → MatchOption history (lost ≡ true) (λ u. (lost ≡ false) × (u.items ≡ log)) → RecordsIn history now lock entry before after recorded
+    → MatchOption now (after ≡ before) (λ u. (lost ≡ false) × (u.items ≡ log ++ entry ∷ []) × (after ≡ before ++ recorded_step lock (length log) ∷ []))
+kept_in None now lock entry before after recorded lost log was records = absurd records
+kept_in (Some history) None lock entry before after recorded lost log was records = absurd records
+kept_in (Some history) (Some now) lock entry before after recorded lost log was records =
+    (was.0, records.0 ∙ ap (λ l. l ++ entry ∷ []) was.1, records.2 ∙ ap (λ l. before ++ recorded_step lock (length l) ∷ []) was.1)
+
+one_more : (history : Option (Vec Entry Global)) (lock : DomainId) (entry : Entry) (before after : List StrandStep) (recorded : Recorded) (lost : Bool) (log : List Entry)
+    → MatchOption history (lost ≡ true) (λ u. (lost ≡ false) × (u.items ≡ log)) → Records history lock entry before after recorded
+    → MatchOption recorded.history (after ≡ before) (λ u. (lost ≡ false) × (u.items ≡ log ++ entry ∷ []) × (after ≡ before ++ recorded_step lock (length log) ∷ []))
+one_more history lock entry before after recorded lost log was records =
+    ⊎_elim
+    (λ (gone : IsLost entry before after recorded).
+    subst (λ (o : Option (Vec Entry Global)). MatchOption o (after ≡ before) (λ u. (lost ≡ false) × (u.items ≡ log ++ entry ∷ []) × (after ≡ before ++ recorded_step lock (length log) ∷ []))) (sym gone.0) gone.2)
+    (λ (kept : RecordsIn history recorded.history lock entry before after recorded). kept_in history recorded.history lock entry before after recorded lost log was kept)
+    records
+
+-- what is put back, at the seat
+may_put_at : (shape key : Shape) (v w : View) (hold : Hold) (entry e : Entry) (here : Content) → key ≡ shape → w ≡ v → e ≡ entry → MayPut shape v hold entry here → MayPut key w hold e here
+may_put_at shape key v w hold entry e here key_is w_is e_is may =
+    subst (λ (z : Shape × View × Entry). MayPut z.0 z.1 hold z.2 here) (λ i. (sym key_is i, sym w_is i, sym e_is i)) may
+
+-- the lock may be given back with what was recorded
+pub may_give : (t : TableView) (lock : DomainId) (p : PassView) (here : Content) (part : Part) (can : CanGive t lock p here part) (key : Shape) (v : View) (found : Behind) (entry e : Entry) (strand now : List StrandStep) (recorded : Recorded)
+    → key ≡ t.shape → v ≡ p.view → entry ≡ entry_of p part → e ≡ entry → strand ≡ p.view.kept → KeptAs can.hold.lost can.hold.log found → Records found.history lock entry strand now recorded
+    → MayGive key v can.hold e now record { content = Some here; history = recorded.history }
+may_give t lock p here part can key v found entry e strand now recorded key_is v_is entry_is e_is strand_is kept records =
+    let hold : Hold = can.hold in
+    let named : lock_named key hold.lock ≡ lock = (λ i. lock_named (key_is i) (can.lock_is i)) ∙ named_by_number t.shape lock can.there in
+    let strand_kept : strand ≡ v.kept = strand_is ∙ sym (ap (λ (z : View). z.kept) v_is) in
+    record {
+      here = here;
+      content_is = refl;
+      may_put = may_put_at t.shape key p.view v hold (entry_of p part) e here key_is v_is (e_is ∙ entry_is) can.may_put;
+      records = subst (λ (z : List StrandStep × DomainId × Entry). MatchOption recorded.history (now ≡ z.0) (λ u. (hold.lost ≡ false) × (u.items ≡ hold.log ++ z.2 ∷ []) × (now ≡ z.0 ++ recorded_step z.1 (length hold.log) ∷ [])))
+          (λ i. (strand_kept i, sym named i, sym e_is i)) (one_more found.history lock entry strand now recorded hold.lost hold.log kept records);
+    }
+
+-- and with nothing recorded
+pub may_lose : (t : TableView) (lock : DomainId) (p : PassView) (here : Content) (part : Part) (can : CanGive t lock p here part) (key : Shape) (v : View) → key ≡ t.shape → v ≡ p.view
+    → MayGive key v can.hold (entry_of p part) v.kept record { content = Some here; history = None }
+may_lose t lock p here part can key v key_is v_is = record {
+  here = here;
+  content_is = refl;
+  may_put = may_put_at t.shape key p.view v can.hold (entry_of p part) (entry_of p part) here key_is v_is refl can.may_put;
+  records = refl;
+}
+
+-- a pass once its lock is given back
+pub is_pass_given : (v : View) (slots : List (ℕ × Behind)) (strand now : List StrandStep) (spares : List (Option Stored)) (entry : Entry) (kept : List StrandStep) (put after : Seated) → IsPass v slots strand spares
+    → put.0 ≡ v → rest put.1 ≡ rest slots → Gives entry kept put after → now ≡ kept → IsPass after.0 after.1 now spares
+is_pass_given v slots strand now spares entry kept put after pass put_is below_is gives now_is =
+    let after_is : after ≡ (given gives.hold entry kept v, rest slots) = gives.after_is ∙ (λ i. (given gives.hold entry kept (put_is i), below_is i)) in
+    subst (λ (z : Seated). IsPass z.0 z.1 now spares) (sym after_is) record {
+      carries = carries_below v.held slots pass.carries;
+      strand_is = now_is;
+      none_ended = pass.none_ended;
+      spares_fit = pass.spares_fit;
+    }
+
+pub gives_of_some : (cpu call : ℕ) (before after : Seated) (some : GivesSome cpu call before after) → Gives (entry_by cpu call some.part) before.0.kept before after
+gives_of_some cpu call before after some =
+    record { hold = some.hold; below = some.below; innermost = some.innermost; kept_is = inl refl; after_is = some.after_is }
+
+pub gave_of : (before after : PassView) (part : Part) (entry : Entry) (kept : List StrandStep) (put given_seat : Seated) → put.0 ≡ before.view → entry ≡ entry_of before part → Gives entry kept put given_seat → after ≡ with_view before given_seat.0 → Gave before after part
+gave_of before after part entry kept put given_seat put_is entry_is gives after_is = record {
+  hold = gives.hold;
+  below = gives.below;
+  innermost = ap (λ (z : View). z.held) (sym put_is) ∙ gives.innermost;
+  kept = kept;
+  kept_is = subst (λ (z : View). IsKeptOrLost z gives.hold kept) put_is gives.kept_is;
+  after_is = after_is ∙ (ap (λ (z : Seated). with_view before z.0) gives.after_is ∙ (λ i. with_view before (given gives.hold (entry_is i) kept (put_is i))));
+}
+
+-- a lock was given back with nothing recorded, by a part that could be given
+pub gave_some_of : (t : TableView) (lock : DomainId) (before after : PassView) (here : Content) (part : Part) (can : CanGive t lock before here part) (put given_seat : Seated) (behind : Behind) (k : ℕ) → put.0 ≡ before.view → put.1 ≡ (k, behind) ∷ rest put.1 → behind.content ≡ Some here
+    → GivesSome before.cpu before.call put given_seat → after ≡ with_view before given_seat.0 → GaveSome t lock before after here
+gave_some_of t lock before after here part can put given_seat behind k put_is slot content_is some after_is =
+    let shape_is : put.0.shape ≡ t.shape = ap (λ (z : View). z.shape) put_is ∙ can.of_table.1 in
+    let same_hold : some.hold ≡ can.hold = same_head (sym some.innermost ∙ (ap (λ (z : View). z.held) put_is ∙ can.innermost)) in
+    let same_slot : some.behind ≡ behind = ap (λ (z : ℕ × Behind). z.1) (same_head (sym some.slot ∙ slot)) in
+    let same_here : some.may.here ≡ here = some_is (sym some.may.content_is ∙ (ap (λ (z : Behind). z.content) same_slot ∙ content_is)) in
+    let may : MayPut t.shape before.view some.hold (entry_of before some.part) here =
+    subst (λ (z : Shape × View × Content). MayPut z.0 z.1 some.hold (entry_of before some.part) z.2) (λ i. (shape_is i, put_is i, same_here i)) some.may.may_put in record {
+      part = some.part;
+      can = record {
+        of_table = can.of_table;
+        begun = can.begun;
+        hold = some.hold;
+        below = some.below;
+        innermost = ap (λ (z : View). z.held) (sym put_is) ∙ some.innermost;
+        notes = some.notes;
+        notes_below = some.notes_below;
+        notes_are = ap (λ (z : View). z.notes) (sym put_is) ∙ some.notes_are;
+        there = can.there;
+        lock_is = ap (λ (z : Hold). z.lock) same_hold ∙ can.lock_is;
+        may_put = may;
+        notes_fit = subst (λ (z : Shape). NotesFit z some.part some.notes) shape_is some.notes_fit;
+      };
+      after_is = after_is ∙ (ap (λ (z : Seated). with_view before z.0) some.after_is ∙ ap (λ (z : View). with_view before (given some.hold (entry_of before some.part) z.kept z)) put_is);
+    }
+  where
+    same_head : {A : Type 0} {x y : A} {xs ys : List A} → x ∷ xs ≡ y ∷ ys → x ≡ y
+    same_head e = cc
+
+-- a pass that has made a note
+pub is_pass_noted : (v : View) (slots : List (ℕ × Behind)) (strand : List StrandStep) (spares : List (Option Stored)) (notes : List Notes) (bits : List BitSeen) (after : Seated) → IsPass v slots strand spares → after ≡ (noted notes bits v, slots) → IsPass after.0 after.1 strand spares
+is_pass_noted v slots strand spares notes bits after pass after_is =
+    subst (λ (z : Seated). IsPass z.0 z.1 strand spares) (sym after_is) record { carries = pass.carries; strand_is = pass.strand_is; none_ended = pass.none_ended; spares_fit = pass.spares_fit }
+
+-- the owner that was read has a code
+pub read_has_code : (t : TableView) (e : ℕ) (before : PassView) (old new : Seated) (found : ℕ) → IsShape t.shape → IsPassOf t before → old.0 ≡ before.view → (sees : SeesOwner e old found new) → HasOwnerCode sees.owner
+read_has_code t e before old new found is of_table old_is sees =
+    has_owner_code t.shape sees.owner is (subst (λ (shape : Shape). MayOwn shape sees.owner) (ap (λ (v : View). v.shape) old_is ∙ of_table.1) sees.exists_there)
+
+-- and what the code stands for is that owner
+pub saw_owner : (t : TableView) (e : ℕ) (before after : PassView) (old new : Seated) (found : ℕ) (owner : Owner) → IsShape t.shape → IsPassOf t before → old.0 ≡ before.view → SeesOwner e old found new → HasOwnerCode owner → owner_code owner ≡ found
+    → after ≡ with_view before new.0 → SawOwner t e before after owner
+saw_owner t e before after old new found owner is of_table old_is sees has code after_is =
+    let shape_is : old.0.shape ≡ t.shape = ap (λ (v : View). v.shape) old_is ∙ of_table.1 in
+    let same : sees.owner ≡ owner = one_owner sees.owner owner (read_has_code t e before old new found is of_table old_is sees) has (sym sees.found_is ∙ sym code) in
+    record {
+      exists_there = subst (λ (z : Shape × Owner). MayOwn z.0 z.1) (λ i. (shape_is i, same i)) sees.exists_there;
+      fits = subst (λ (z : Shape × View × Owner). OwnerFits z.0 z.1 e z.2) (λ i. (shape_is i, old_is i, same i)) sees.fits;
+      after_is = after_is ∙ (ap (λ (z : Seated). with_view before z.0) sees.after_is ∙ (λ i. with_view before (owner_read e (same i) (old_is i))));
+    }

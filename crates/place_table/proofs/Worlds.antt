@@ -1,0 +1,240 @@
+-- How what is true of the table changes at one lock or element, and what stays for the passes that make no step.
+use Rattle.std.proofs.Common.{◌≡◌, ◌≢◌, ℕ, zero, suc, ◌<◌, ◌⊎◌, inl, inr, ⊎_elim, eqb, cond, Bool, true, false, List, [], ◌∷◌, ◌++◌, sym, refl, ap, ◌∙◌, subst, arith, Option, Some, None}
+use Rattle.std.specs.Prelude.{◌&&◌}
+use Rattle.std.proofs.lemmas.Bool.{eqb-true}
+use Rattle.map_types.specs.declared.attr.Shape.{Shape}
+use Rattle.place_words.specs.declared.history.Entry.{Entry}
+use Rattle.place_words.specs.declared.history.StrandStep.{StrandStep}
+use Rattle.place_words.specs.declared.owner.Owner.{Owner}
+use Rattle.place_words.specs.declared.owner.Owner.TheVariants as owners
+use Rattle.place_words.specs.ElementLists.{put}
+use Rattle.place_words.specs.Locks.{lock_named, rank_of}
+use Rattle.place_core.specs.declared.step.Lists.{Lists}
+use Rattle.place_core.proofs.ElementLemmas.{by_test}
+use Rattle.place_table.specs.declared.view.View.{View}
+use Rattle.place_table.specs.declared.view.Hold.{Hold}
+use Rattle.place_table.specs.declared.view.Turned.{Turned}
+use Rattle.place_table.specs.declared.view.Ended.{Ended}
+use Rattle.place_table.specs.Views.{is_among, hold_at, is_in_hand_of, known_log, bit_seen, has_all_below}
+use Rattle.place_table.specs.Rules.{Tagged, entries, World, hold, hold_of, is_hand_of, IsAboveAll, turns_of, IsStrand, ArePast, IsTagged, AreTagged, Knows}
+
+-- the same of four functions that change at one place
+pub at_put4 : {A B C D : Type 0} (f : ℕ → A) (g : ℕ → B) (h : ℕ → C) (l : ℕ → D) (i : ℕ) (x : A) (y : B) (z : C) (u : D) (F : ℕ → A → B → C → D → Type 0) (j : ℕ)
+    → F i x y z u → (j ≢ i → F j (f j) (g j) (h j) (l j)) → F j (put f i x j) (put g i y j) (put h i z j) (put l i u j)
+unfolding put
+at_put4 f g h l i x y z u F j here other =
+    by_test j i (λ b. F j (cond b x (f j)) (cond b y (g j)) (cond b z (h j)) (cond b u (l j))) (λ e. subst (λ (k : ℕ). F k x y z u) (sym e) here) (λ n. other n)
+
+pub true_false : {A : Type 0} → true ≡ false → A
+true_false {A} e = absurd cc
+
+pub by_bool : (b : Bool) (F : Bool → Type 0) → (b ≡ true → F true) → (b ≡ false → F false) → F b
+by_bool true F hit miss = hit refl
+by_bool false F hit miss = miss refl
+
+pub some_is : {A : Type 0} {x y : A} → Some x ≡ Some y → x ≡ y
+some_is {A} {x} {y} e = cc
+
+pub none_some : {A : Type 0} {x : A} → None ≡ Some x → ⊥
+none_some {A} {x} e = cc
+
+-- Holds
+
+pub hold_of_mine : (whose : ℕ → ℕ) (pass k c : ℕ) (log : List Tagged) (lists : Lists) (lost : Bool) → whose c ≡ pass → hold_of pass whose k (Some c) log lists lost ≡ Some (hold k c log lists lost)
+hold_of_mine whose pass k c log lists lost mine =
+    by_test (whose c) pass (λ b. cond b (Some (hold k c log lists lost)) None ≡ Some (hold k c log lists lost)) (λ _. refl) (λ other. absurd (other mine))
+
+-- a lock is free, or held by a CPU of the pass
+abbrev pub IsMineOrFree : (ℕ → ℕ) → ℕ → Option ℕ → Type 0
+IsMineOrFree whose pass None = Unit {0}
+IsMineOrFree whose pass (Some c) = whose c ≡ pass
+
+pub hold_of_other : (whose : ℕ → ℕ) (pass j k : ℕ) (holder : Option ℕ) (log : List Tagged) (lists : Lists) (lost : Bool) → IsMineOrFree whose pass holder → j ≢ pass → hold_of j whose k holder log lists lost ≡ None
+hold_of_other whose pass j k None log lists lost mine other = refl
+hold_of_other whose pass j k (Some c) log lists lost mine other =
+    by_test (whose c) j (λ b. cond b (Some (hold k c log lists lost)) None ≡ None) (λ e. absurd (other (sym e ∙ mine))) (λ _. refl)
+
+-- from what a pass knows of a lock to what is so
+pub record HoldIs (whose : ℕ → ℕ) (pass k : ℕ) (holder : Option ℕ) (log : List Tagged) (lists : Lists) (lost : Bool) (x : Hold) : Type 0 where
+  pub holder_is : holder ≡ Some x.cpu
+  pub mine : whose x.cpu ≡ pass
+  pub hold_is : x ≡ hold k x.cpu log lists lost
+
+pub hold_of_is : (whose : ℕ → ℕ) (pass k : ℕ) (holder : Option ℕ) (log : List Tagged) (lists : Lists) (lost : Bool) (x : Hold) → hold_of pass whose k holder log lists lost ≡ Some x → HoldIs whose pass k holder log lists lost x
+hold_of_is whose pass k None log lists lost x e = absurd (none_some e)
+hold_of_is whose pass k (Some c) log lists lost x e =
+    by_test (whose c) pass (λ b. cond b (Some (hold k c log lists lost)) None ≡ Some x → HoldIs whose pass k (Some c) log lists lost x)
+    (λ mine f. let same = some_is f in let cpu : c ≡ x.cpu = ap (λ (y : Hold). y.cpu) same in record {
+      holder_is = ap Some cpu;
+      mine = subst (λ (d : ℕ). whose d ≡ pass) cpu mine;
+      hold_is = sym same ∙ ap (λ (d : ℕ). hold k d log lists lost) cpu;
+    })
+    (λ _ f. absurd (none_some f)) e
+
+pub hold_at_first : (hold : Hold) (holds : List Hold) → hold_at hold.lock (hold ∷ holds) ≡ Some hold
+hold_at_first hold holds =
+    by_test hold.lock hold.lock (λ b. cond b (Some hold) (hold_at hold.lock holds) ≡ Some hold) (λ _. refl) (λ n. absurd (n refl))
+
+pub hold_at_other : (k : ℕ) (hold : Hold) (holds : List Hold) → k ≢ hold.lock → hold_at k (hold ∷ holds) ≡ hold_at k holds
+hold_at_other k hold holds other =
+    by_test hold.lock k (λ b. cond b (Some hold) (hold_at k holds) ≡ hold_at k holds) (λ e. absurd (other (sym e))) (λ _. refl)
+
+-- a lock that is not below itself stands nowhere further in
+pub none_below : (shape : Shape) (k : ℕ) (holds : List Hold) → IsAboveAll shape (rank_of (lock_named shape k)) holds → hold_at k holds ≡ None
+none_below shape k [] above = refl
+none_below shape k (hold ∷ holds) above =
+    by_test hold.lock k (λ b. cond b (Some hold) (hold_at k holds) ≡ None)
+    (λ e. let low : rank_of (lock_named shape k) < rank_of (lock_named shape k) = subst (λ (x : ℕ). rank_of (lock_named shape x) < rank_of (lock_named shape k)) e above.0 in absurd (omega arith))
+    (λ _. none_below shape k holds above.1)
+
+-- the rank is above that of each lock held
+pub above_each : (shape : Shape) (rank : ℕ) (holds : List Hold) (k : ℕ) (x : Hold) → IsAboveAll shape rank holds → hold_at k holds ≡ Some x → rank_of (lock_named shape k) < rank
+above_each shape rank [] k x above e = absurd (none_some e)
+above_each shape rank (hold ∷ holds) k x above e =
+    by_test hold.lock k (λ b. cond b (Some hold) (hold_at k holds) ≡ Some x → rank_of (lock_named shape k) < rank)
+    (λ same _. subst (λ (i : ℕ). rank_of (lock_named shape i) < rank) same above.0)
+    (λ _ f. above_each shape rank holds k x above.1 f) e
+
+-- Hands
+
+pub hand_is : (cpu : ℕ) (owner : Owner) → is_hand_of cpu owner ≡ true → owner ≡ owners.Hand cpu
+hand_is cpu owners.Free e = true_false (sym e)
+hand_is cpu (owners.Bucket bucket) e = true_false (sym e)
+hand_is cpu (owners.Hand c) e = ap owners.Hand (eqb-true c cpu e)
+
+pub both_true : (a b : Bool) → (a && b) ≡ true → (a ≡ true) × (b ≡ true)
+both_true true b e = (refl, e)
+both_true false b e = true_false (sym e)
+
+pub has_mine : (shape : Shape) (w : World) (pass : ℕ) (v : View) (c : ℕ) → Knows shape w pass v → is_among c v.cpus ≡ true → w.whose c ≡ pass
+has_mine shape w pass v c kn has = eqb-true (w.whose c) pass (sym (kn.cpus c (kn.within c has)) ∙ has)
+
+pub in_hand_is : (shape : Shape) (w : World) (pass : ℕ) (v : View) (e c : ℕ) → Knows shape w pass v → is_among c v.cpus ≡ true → is_in_hand_of e c v.hand ≡ true → w.core.owner e ≡ owners.Hand c
+in_hand_is shape w pass v e c kn has there =
+    hand_is c (w.core.owner e) (both_true _ _ (sym (kn.hands e c (kn.within c has)) ∙ there)).0
+
+-- where a pass has a CPU, what its CPUs have in hand is what it knows to be in their hands
+pub own_hand : (shape : Shape) (w : World) (pass : ℕ) (v : View) (e c : ℕ) → Knows shape w pass v → is_among c v.cpus ≡ true → is_hand_of c (w.core.owner e) ≡ is_in_hand_of e c v.hand
+own_hand shape w pass v e c kn has =
+    let mine = has_mine shape w pass v c kn has in
+    sym (kn.hands e c (kn.within c has) ∙ and_true (is_hand_of c (w.core.owner e)) (w.whose c) mine)
+  where
+    and_true : (b : Bool) (x : ℕ) → x ≡ pass → (b && eqb x pass) ≡ b
+    and_true b x e = by_test x pass (λ t. (b && t) ≡ b) (λ _. go b) (λ n. absurd (n e))
+      where
+        go : (b : Bool) → (b && true) ≡ b
+        go true = refl
+        go false = refl
+
+-- All CPUs
+
+pub all_here : (n : ℕ) (cpus : List ℕ) → ((c : ℕ) → c < n → is_among c cpus ≡ true) → has_all_below n cpus ≡ true
+all_here zero cpus all = refl
+all_here (suc n) cpus all =
+    (λ i. all n (let low : n < suc n = omega arith in low) i && has_all_below n cpus) ∙ all_here n cpus (λ c less. all c (omega arith))
+
+pub here_all : (n : ℕ) (cpus : List ℕ) → has_all_below n cpus ≡ true → (c : ℕ) → c < n → is_among c cpus ≡ true
+here_all zero cpus all c less = absurd (omega arith)
+here_all (suc n) cpus all c less =
+    let parts = both_true (is_among n cpus) (has_all_below n cpus) all in
+    ⊎_elim
+    (λ (last : c ≡ n). subst (λ (x : ℕ). is_among x cpus ≡ true) (sym last) parts.0)
+    (λ (below : c < n). here_all n cpus parts.1 c below)
+    (let either : (c ≡ n) ⊎ (c < n) = last_or_below c n less in either)
+  where
+    last_or_below : (c n : ℕ) → c < suc n → (c ≡ n) ⊎ (c < n)
+    last_or_below c n less = by_test c n (λ b. (c ≡ n) ⊎ (c < n)) (λ e. inl e) (λ other. inr (omega arith))
+
+-- a pass other than this one, which has a CPU of the map, knows no turns and no bits
+pub knows_none : (shape : Shape) (w : World) (pass j : ℕ) (u : View) (c : ℕ) → Knows shape w j u → c < shape.cpus → w.whose c ≡ pass → j ≢ pass → (u.known ≡ []) × (u.bits ≡ [])
+knows_none shape w pass j u c ku real mine other =
+    ⊎_elim
+    (λ (none_known : (u.known ≡ []) × (u.bits ≡ [])). none_known)
+    (λ (all : (c : ℕ) → c < shape.cpus → is_among c u.cpus ≡ true). absurd (other (sym (has_mine shape w j u c ku (all c real)) ∙ mine)))
+    ku.only
+
+pub among_first : (t : ℕ) (ts : List ℕ) → is_among t (t ∷ ts) ≡ true
+among_first t ts = by_test t t (λ b. cond b true (is_among t ts) ≡ true) (λ _. refl) (λ n. absurd (n refl))
+
+-- Strands
+
+pub strand_stays : (shape : Shape) (w w' : World) (pass t : ℕ) (cpus : List ℕ) (steps : List Turned) (kept : List StrandStep)
+    → w'.keeper t ≡ pass → (t < w.next → t < w'.next) → w'.team t ≡ w.team t → ((k : ℕ) → turns_of t 0 (w'.log k) ≡ turns_of t 0 (w.log k)) → ((k : ℕ) → w'.lost k ≡ false → w.lost k ≡ false)
+    → IsStrand shape w pass t cpus steps kept → IsStrand shape w' pass t cpus steps kept
+strand_stays shape w w' pass t cpus steps kept keeper numbered team same losses st = record {
+  keeper = keeper;
+  numbered = numbered st.numbered;
+  team = team ∙ st.team;
+  steps_are = λ k. st.steps_are k ∙ sym (same k);
+  kept_are = λ k below is lo. st.kept_are k below is (losses k lo);
+}
+
+-- strands have the same passes, CPUs and numbers
+pub record SameStrands (w w' : World) : Type 0 where
+  pub keeper : (t : ℕ) → w'.keeper t ≡ w.keeper t
+  pub team : (t : ℕ) → w'.team t ≡ w.team t
+  pub next : w'.next ≡ w.next
+  pub current : (pass : ℕ) → w'.current pass ≡ w.current pass
+  pub past : (pass : ℕ) → w'.past pass ≡ w.past pass
+  pub whose : (c : ℕ) → w'.whose c ≡ w.whose c
+
+pub past_stays : (shape : Shape) (w w' : World) (pass : ℕ) (ts : List ℕ) (es : List Ended) → SameStrands w w'
+    → ((t k : ℕ) → is_among t ts ≡ true → w.keeper t ≡ pass → turns_of t 0 (w'.log k) ≡ turns_of t 0 (w.log k)) → ((k : ℕ) → w'.lost k ≡ false → w.lost k ≡ false)
+    → ArePast shape w pass ts es → ArePast shape w' pass ts es
+past_stays shape w w' pass [] [] same turns losses p = tt
+past_stays shape w w' pass [] (e ∷ es) same turns losses p = absurd p
+past_stays shape w w' pass (t ∷ ts) [] same turns losses p = absurd p
+past_stays shape w w' pass (t ∷ ts) (e ∷ es) same turns losses p = (
+  strand_stays shape w w' pass t e.cpus e.steps e.kept (same.keeper t ∙ p.0.keeper) (λ less. subst (λ (n : ℕ). t < n) (sym same.next) less) (same.team t)
+      (λ k. turns t k (among_first t ts) p.0.keeper) losses p.0,
+  p.1,
+  past_stays shape w w' pass ts es same
+      (λ u k among. turns u k (by_test t u (λ b. cond b true (is_among u ts) ≡ true) (λ _. refl) (λ _. among))) losses p.2,
+)
+
+-- each turn stays in its strand
+pub tagged_stays : (w w' : World) (n m : ℕ) (log : List Tagged) → n ≡ m → SameStrands w w' → AreTagged w n log → AreTagged w' m log
+tagged_stays w w' n m [] e same tagged = tt
+tagged_stays w w' n m (x ∷ xs) e same tagged = (
+  record {
+    seated = subst (λ (z : ℕ). w'.keeper x.0 < z) e (subst (λ (z : ℕ). z < n) (sym (same.keeper x.0)) tagged.0.seated);
+    numbered = subst (λ (z : ℕ). x.0 < z) (sym same.next) tagged.0.numbered;
+    has_cpu = ap (is_among x.1.cpu) (same.team x.0) ∙ tagged.0.has_cpu;
+    listed = ap (λ (z : ℕ). is_among x.0 (w'.current z ∷ w'.past z)) (same.keeper x.0)
+        ∙ ((λ i. is_among x.0 (same.current (w.keeper x.0) i ∷ same.past (w.keeper x.0) i)) ∙ tagged.0.listed);
+  },
+  tagged_stays w w' n m xs e same tagged.1,
+)
+
+pub tagged_more : (w : World) (n : ℕ) (log : List Tagged) (x : Tagged) → AreTagged w n log → IsTagged w n x → AreTagged w n (log ++ x ∷ [])
+tagged_more w n [] x tagged last = (last, tt)
+tagged_more w n (y ∷ ys) x tagged last = (tagged.0, tagged_more w n ys x tagged.1 last)
+
+-- THE FRAME. What a pass knows stays where its own locks, hands and strands do, and where what it keeps of turns and bits
+-- is still so.
+pub others : (shape : Shape) (w w' : World) (j : ℕ) (u : View) → SameStrands w w' → Knows shape w j u
+    → ((k : ℕ) → hold_of j w'.whose k (w'.core.holder k) (w'.log k) (w'.core.lists k) (w'.lost k) ≡ hold_of j w.whose k (w.core.holder k) (w.log k) (w.core.lists k) (w.lost k))
+    → ((e c : ℕ) → c < shape.cpus → (is_hand_of c (w'.core.owner e) && eqb (w'.whose c) j) ≡ (is_hand_of c (w.core.owner e) && eqb (w.whose c) j))
+    → ((t k : ℕ) → w.keeper t ≡ j → turns_of t 0 (w'.log k) ≡ turns_of t 0 (w.log k))
+    → ((k : ℕ) → w'.lost k ≡ false → w.lost k ≡ false)
+    → ((k : ℕ) (log : List Entry) → known_log k u.known ≡ Some log → entries (w'.log k) ≡ log)
+    → ((e : ℕ) (bit : Bool) → bit_seen e u.bits ≡ Some bit → w'.core.bit e ≡ bit)
+    → Knows shape w' j u
+others shape w w' j u same kn holds hands turns losses known bits = record {
+  shape_is = kn.shape_is;
+  cpus = λ c less. kn.cpus c less ∙ sym (ap (λ (z : ℕ). eqb z j) (same.whose c));
+  within = kn.within;
+  held = λ k. kn.held k ∙ sym (holds k);
+  ascends = kn.ascends;
+  hands = λ e c less. kn.hands e c less ∙ sym (hands e c less);
+  known = known;
+  bits = bits;
+  only = kn.only;
+  strand = subst (λ (z : ℕ). IsStrand shape w' j z u.cpus u.steps u.kept) (sym (same.current j))
+      (strand_stays shape w w' j (w.current j) u.cpus u.steps u.kept (same.keeper (w.current j) ∙ kn.strand.keeper) (λ less. subst (λ (n : ℕ). w.current j < n) (sym same.next) less) (same.team (w.current j))
+      (λ k. turns (w.current j) k kn.strand.keeper) losses kn.strand);
+  past = subst (λ (z : List ℕ). ArePast shape w' j z u.ended) (sym (same.past j))
+      (past_stays shape w w' j (w.past j) u.ended same (λ t k _ own. turns t k own) losses kn.past);
+  apart = (λ i. is_among (same.current j i) (same.past j i)) ∙ kn.apart;
+  idle = kn.idle;
+}

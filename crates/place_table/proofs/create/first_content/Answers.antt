@@ -1,0 +1,14 @@
+use Rattle.std.proofs.Common.{◌≡◌, ◌≤◌, ◌∙◌, ℕ, List, length, sym, subst}
+use Rattle.map_types.proofs.CreationLemmas.{bounds_of_shape}
+use Rattle.place_words.specs.Openings.{opening_free}
+use Rattle.place_table.proofs.FirstSlots.{free_few, no_lists}
+use Rattle.place_table.proofs.create.first_content.Goals as goal
+
+pub freelist_of-requires : goal.freelist_of-requires
+freelist_of-requires c =
+    let free : c.as_slice.result.now ≡ opening_free c.args.shape.now c.args.lock = c.as_slice.ensures ∙ c.in_ok-free-in-Freelist.ensures in
+    subst (λ (xs : List ℕ). length xs ≤ c.args.shape.now.elements) (sym free)
+    (free_few c.args.shape.now c.args.lock c.in-Freelist.field-0 (bounds_of_shape c.args.shape.now c.requires.shape) (sym c.is_lock.ensures ∙ c.if-not-is_lock.false) c.in-Freelist.is)
+
+pub returns-in-Local : goal.returns-in-Local
+returns-in-Local c = no_lists c.args.shape.now c.args.lock (bounds_of_shape c.args.shape.now c.requires.shape) c.requires.plain c.in-Local.is

@@ -1,0 +1,49 @@
+use Rattle.std.proofs.Common.{◌≡◌, rules, refl, sym, ap, ◌∙◌, subst, ◌∷◌, Some, None}
+use Rattle.map_types.specs.declared.attr.Shape.{Shape}
+use Rattle.atomic_table.specs.Table.{rest}
+use Rattle.place_table.specs.declared.content.Behind.{Behind}
+use Rattle.place_table.specs.Passes.{PassView}
+use Rattle.place_table.specs.Plays.{MayGive, GivesSome, entry_by}
+use Rattle.place_table.specs.TurnNotes.{NotesFit}
+use Rattle.place_table.proofs.Passes.{slot_given, may_lose, is_pass_given, gives_of_some, gave_some_of}
+use Rattle.place_table.proofs.table.PlaceTable.give_none.Goals as goal
+
+pub exchange-requires : goal.exchange-requires
+exchange-requires c =
+    let slot = slot_given _ _ _ _ _ c.requires.1 c.pass.inside.seat.me.0 c.pass.inside.seat.me.1 c.lock_number-number.result (search rules) (search rules) c.pass.invariant.carries in
+    (search rules, (slot.0, slot.1))
+
+pub lose_lock-requires-clause-may : goal.lose_lock-requires-clause-may
+lose_lock-requires-clause-may c =
+    let can = c.requires.1 in
+    let done = c.exchange.ensures in
+    let view_is = ap (λ z. z.0) done.3 ∙ ap (λ z. z.view) c.pass.view_is in
+    let key_is : c.self.inside.table.shared.key ≡ c.args.self.now.shape = search rules in
+    let behind : Behind = record { content = Some c.args.content; history = None } in (
+      behind,
+      can.hold,
+      can.below,
+      c.requires.0,
+      can.notes,
+      can.notes_below,
+      ap (λ z. z.1) done.3 ∙ ap (λ l. (c.lock_number-number.result, behind) ∷ l) (sym (ap (λ z. rest z.1) done.3)),
+      ap (λ z. z.held) view_is ∙ can.innermost,
+      search rules,
+      subst (λ (z : PassView). MayGive c.self.inside.table.shared.key c.exchange.new.seat.me.0 can.hold (entry_by z.cpu z.call c.requires.0) c.exchange.new.seat.me.0.kept behind) (sym c.pass.view_is) (may_lose _ _ _ _ _ can _ _ key_is view_is),
+      ap (λ z. z.notes) view_is ∙ can.notes_are,
+      subst (λ (z : Shape). NotesFit z c.requires.0 can.notes) (sym key_is) can.notes_fit,
+    )
+
+pub invariant_of-pass : goal.invariant_of-pass
+invariant_of-pass c =
+    let done = c.exchange.ensures in
+    is_pass_given _ c.pass.inside.seat.me.1 _ _ _ _ _ c.exchange.new.seat.me _ c.pass.invariant (ap (λ z. z.0) done.3) (ap (λ z. rest z.1) done.3) (gives_of_some _ _ _ _ c.lose_lock.ensures.gave) (c.pass.invariant.strand_is ∙ sym (ap (λ z. z.0.kept) done.3))
+
+pub returns : goal.returns
+returns c =
+    let can = c.requires.1 in
+    let done = c.exchange.ensures in
+    let behind : Behind = record { content = Some c.args.content; history = None } in
+    gave_some_of c.args.self.now c.args.lock c.args.pass.now _ c.args.content c.requires.0 can c.exchange.new.seat.me c.lose_lock.new.seat.me behind c.lock_number-number.result (ap (λ z. z.0) done.3 ∙ ap (λ z. z.view) c.pass.view_is)
+    (ap (λ z. z.1) done.3 ∙ ap (λ l. (c.lock_number-number.result, behind) ∷ l) (sym (ap (λ z. rest z.1) done.3))) refl
+    (subst (λ (z : PassView). GivesSome z.cpu z.call c.exchange.new.seat.me c.lose_lock.new.seat.me) c.pass.view_is c.lose_lock.ensures.gave) (search rules)

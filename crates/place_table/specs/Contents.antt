@@ -1,0 +1,40 @@
+-- What lies under a lock: as the table has it, as histories tell it, and as lists of elements.
+use Rattle.std.specs.Prelude.{◌≡◌, [], All, None}
+use Rattle.map_types.specs.declared.attr.Shape.{Shape}
+use Rattle.map_types.specs.declared.kind.DomainId.{DomainId}
+use Rattle.map_types.specs.declared.kind.DomainId.TheVariants.{Local, Global, CpuLru, Bucket, Freelist}
+use Rattle.map_types.specs.Stored.{Stored, HasSizes}
+use Rattle.map_types.specs.Sides.{part_count}
+use Rattle.place_words.specs.Bodies.{numbers}
+use Rattle.place_words.specs.Histories as histories
+use Rattle.place_words.specs.Histories.{in_bucket, on_freelist, untold}
+use Rattle.place_core.specs.declared.step.Lists.{Lists}
+use Rattle.place_core.specs.State.{no_lists}
+use Rattle.place_table.specs.declared.content.Content.{Content}
+use Rattle.place_table.specs.declared.content.Content.TheVariants as contents
+
+-- as histories tell it
+abbrev pub told : Content → histories.Content
+told (contents.Bucket chain) = in_bucket chain.bodies
+told (contents.Freelist freelist) = on_freelist (numbers freelist.bodies)
+
+-- as lists of elements
+abbrev pub lists_of : histories.Content → Lists
+lists_of (in_bucket bodies) = record { free = []; first = numbers bodies; second = []; cursor = None }
+lists_of (on_freelist stack) = record { free = stack; first = []; second = []; cursor = None }
+lists_of untold = no_lists
+
+-- the keys and values have the sizes of the map
+abbrev pub IsSized : Shape → Stored → Type 0
+IsSized shape body = HasSizes shape.key_size (part_count shape) shape.value_size body
+
+-- A bucket lies under a bucket's lock and a freelist under a freelist's, with bodies of the map's sizes. A freelist has room
+-- for every element, as it was created.
+abbrev pub Fits : Shape → DomainId → Content → Type 0
+Fits shape (Bucket bucket) (contents.Bucket chain) = All (IsSized shape) chain.bodies
+Fits shape (Bucket bucket) (contents.Freelist freelist) = ⊥
+Fits shape (Freelist cpu) (contents.Freelist freelist) = All (IsSized shape) freelist.bodies × (freelist.room ≡ shape.elements)
+Fits shape (Freelist cpu) (contents.Bucket chain) = ⊥
+Fits shape (Local cpu) content = ⊥
+Fits shape Global content = ⊥
+Fits shape (CpuLru cpu) content = ⊥

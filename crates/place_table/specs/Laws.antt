@@ -1,0 +1,77 @@
+-- Each operation on a word of the table is the step of the core that has its name, and the rule holds before and after it.
+use Rattle.std.specs.Prelude.{◌≡◌, ◌≢◌, ℕ, ◌+◌, ◌<◌, ◌==◌, true, List, ◌∷◌, Some, IsTrue, length, slice_index}
+use mathlib.Core.Option.{some, none}
+use lib.ListN.{get_elem?}
+use prog.Atomic.{either}
+use Rattle.atomic_table.specs.Table as table
+use Rattle.atomic_table.specs.Table.{Me, Act, Valid, stepped, carried_after, step}
+use Rattle.map_types.specs.declared.attr.Shape.{Shape}
+use Rattle.map_types.specs.declared.kind.DomainId.{DomainId}
+use Rattle.map_types.specs.declared.kind.DomainId.TheVariants.{Bucket}
+use Rattle.place_words.specs.declared.history.Entry.{Entry}
+use Rattle.place_words.specs.declared.history.StrandStep.{StrandStep}
+use Rattle.place_words.specs.ElementLists.{IsIn}
+use Rattle.place_words.specs.Locks.{is_lock, lock_number, rank_of}
+use Rattle.place_core.specs.declared.step.Step.{Step}
+use Rattle.place_core.specs.declared.step.Step.TheVariants.{Take, Give, Mark, Clear, Glance}
+use Rattle.place_core.specs.State as cores
+use Rattle.place_core.specs.Steps.{CoreStep}
+use Rattle.place_table.specs.declared.content.Behind.{Behind}
+use Rattle.place_table.specs.declared.view.View.{View}
+use Rattle.place_table.specs.declared.view.Hold.{Hold}
+use Rattle.place_table.specs.Contents.{told, lists_of}
+use Rattle.place_table.specs.Views.{is_among, hold_at, is_in_hand_of}
+use Rattle.place_table.specs.Rules.{Rule, IsAboveAll, owner_word, home_word, bit_word}
+use Rattle.place_table.specs.Plays.{Seated, MayGive, Tries, Gives, Marks, Clears, SeesBit, SeesOwner, SeesHome}
+
+-- A step on the word i, which becomes f of what it was, by a pass with this seat: whatever the table is then, if the rule
+-- holds, there are a view and an act of the seat after which the rule holds again, the core has gone on as it may, and this
+-- is told.
+abbrev pub StepsAs : Shape → ℕ → ℕ → Seated → ℕ → (ℕ → ℕ) → (ℕ → cores.State → cores.State → Type 0) → (ℕ → Seated → Type 0) → Type 0
+StepsAs shape slots pass me i f goes told =
+    (s : table.State Behind View) (r : Rule shape s) → length s.homes ≡ slots → get_elem? s.views pass ≡ some me.0 → slice_index s.words i < 18446744073709551616
+    → (v : View) × (a : Act Behind) × Valid s.homes me.1 a
+    × ((after : Rule shape (stepped s i (f (slice_index s.words i)) pass me.1 v a)) × goes (slice_index s.words i) r.world.core after.world.core)
+    × told (slice_index s.words i) (v, carried_after me.1 a)
+
+-- the core takes this step, whatever number was found
+abbrev pub goes_by : Shape → Step → ℕ → cores.State → cores.State → Type 0
+goes_by shape step found before after = CoreStep shape before step after
+
+-- the core takes this step where this number was found, and stays where another was
+abbrev pub goes_if : Shape → ℕ → Step → ℕ → cores.State → cores.State → Type 0
+goes_if shape wanted step found before after =
+    (found ≡ wanted → CoreStep shape before step after) × (found ≢ wanted → after ≡ before)
+
+-- a lock is taken by the swap of its word from 0 to 1 and the CPU
+abbrev pub TakeIsStep : Type 0
+TakeIsStep =
+    (shape : Shape) (slots pass : ℕ) (me : Seated) (lock : DomainId) (c : ℕ) → is_among c me.0.cpus ≡ true → IsTrue (is_lock shape lock) → IsAboveAll shape (rank_of lock) me.0.held
+    → StepsAs shape slots pass me (lock_number shape lock) (λ n. either (n == 0) (1 + c) n) (goes_if shape 0 (Take c lock)) (Tries (step slots (lock_number shape lock) 0 (1 + c) none) me)
+
+-- it is given back by a store of 0, with its slot, in which stands what an allowed entry leads to
+abbrev pub GiveIsStep : Type 0
+GiveIsStep =
+    (shape : Shape) (slots pass : ℕ) (v : View) (behind : Behind) (slots_below : List (ℕ × Behind)) (lock : DomainId) (hold : Hold) (below : List Hold) → v.held ≡ hold ∷ below → IsTrue (is_lock shape lock) → hold.lock ≡ lock_number shape lock
+    → (entry : Entry) (kept : List StrandStep) (may : MayGive shape v hold entry kept behind)
+    → StepsAs shape slots pass (v, (lock_number shape lock, behind) ∷ slots_below) (lock_number shape lock) (λ _. 0) (goes_by shape (Give hold.cpu lock (lists_of (told may.here)))) (λ _. Gives entry kept (v, (lock_number shape lock, behind) ∷ slots_below))
+
+-- a bit is set by a store of 1, of an element of a bucket that is held
+abbrev pub MarkIsStep : Type 0
+MarkIsStep =
+    (shape : Shape) (slots pass : ℕ) (me : Seated) (e bucket : ℕ) (hold : Hold) → bucket < shape.buckets → hold_at (lock_number shape (Bucket bucket)) me.0.held ≡ Some hold → IsIn e hold.now.first
+    → StepsAs shape slots pass me (bit_word shape e) (λ _. 1) (goes_by shape (Mark hold.cpu e bucket)) (λ _. Marks e me)
+
+-- it is cleared by a swap with 0, of an element in the hand
+abbrev pub ClearIsStep : Type 0
+ClearIsStep =
+    (shape : Shape) (slots pass : ℕ) (me : Seated) (e c : ℕ) → e < shape.elements → is_among c me.0.cpus ≡ true → is_in_hand_of e c me.0.hand ≡ true
+    → StepsAs shape slots pass me (bit_word shape e) (λ _. 0) (goes_by shape (Clear c e)) (Clears e me)
+
+-- a bit, an owner or a home is read by a load, which changes nothing; any CPU of the map may look
+abbrev pub GlanceIsStep : Type 0
+GlanceIsStep =
+    (shape : Shape) (slots pass : ℕ) (me : Seated) (e : ℕ) → e < shape.elements
+    → StepsAs shape slots pass me (bit_word shape e) (λ n. n) (goes_by shape (Glance 0 e)) (SeesBit e me)
+    × StepsAs shape slots pass me (owner_word shape e) (λ n. n) (goes_by shape (Glance 0 e)) (SeesOwner e me)
+    × StepsAs shape slots pass me (home_word shape e) (λ n. n) (goes_by shape (Glance 0 e)) (SeesHome e me)

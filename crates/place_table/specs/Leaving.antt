@@ -1,0 +1,53 @@
+-- What the slots of a closed table leave.
+use Rattle.std.specs.Prelude.{◌≡◌, ℕ, ◌<◌, Bool, true, false, not, List, [], map, filter, Option, None, Some, MatchOption, All, Vec, slice_index_or}
+use Rattle.std.specs.Global.{Global}
+use Rattle.std.specs.List.{range_with_len, list_any}
+use Rattle.map_types.specs.declared.attr.Shape.{Shape}
+use Rattle.map_types.specs.Stored.{Stored}
+use Rattle.cpu_freelist.specs.Stack.{numbers}
+use Rattle.place_words.specs.declared.history.Entry.{Entry}
+use Rattle.place_words.specs.declared.history.LockHistory.{LockHistory}
+use Rattle.place_words.specs.Histories.{content}
+use Rattle.place_words.specs.Locks.{lock_named, lock_count}
+use Rattle.place_table.specs.declared.content.Content.{Content}
+use Rattle.place_table.specs.declared.content.Content.TheVariants.{Bucket, Freelist}
+use Rattle.place_table.specs.Contents.{told, Fits, IsSized}
+use Rattle.place_table.specs.Closing.{has_lock, history_of}
+
+-- of each lock by number its turns
+abbrev pub Logs : Type 0
+Logs = ℕ → List Entry
+
+-- the bodies of a bucket, and the elements of a freelist
+abbrev pub bodies_in : Option Content → List Stored
+bodies_in None = []
+bodies_in (Some (Bucket chain)) = chain.bodies
+bodies_in (Some (Freelist freelist)) = []
+
+abbrev pub numbers_in : Option Content → List ℕ
+numbers_in None = []
+numbers_in (Some (Bucket chain)) = []
+numbers_in (Some (Freelist freelist)) = numbers freelist
+
+-- the bodies of a bucket have the sizes of the map
+abbrev pub HasSizedBodies : Shape → Option Content → Type 0
+HasSizedBodies shape content = All (IsSized shape) (bodies_in content)
+
+-- the turns of a lock as its slot has them, nothing where their record is lost
+abbrev pub IsHistory : Bool → List Entry → Option (Vec Entry Global) → Type 0
+IsHistory lost log history = MatchOption history (lost ≡ true) (λ entries. (lost ≡ false) × (entries.items ≡ log))
+
+-- those of all locks that the map has, by number
+abbrev pub HaveHistories : Shape → Logs → (ℕ → Bool) → List (Option (Vec Entry Global)) → Type 0
+HaveHistories shape log lost histories =
+    (k : ℕ) → k < lock_count shape → has_lock shape k ≡ true → IsHistory (lost k) (log k) (slice_index_or histories k None)
+
+-- what lies under all locks that the map has, by number
+abbrev pub AreContents : Shape → Logs → List (Option Content) → Type 0
+AreContents shape log contents =
+    (k : ℕ) → k < lock_count shape → has_lock shape k ≡ true → (here : Content) × (slice_index_or contents k None ≡ Some here) × (told here ≡ content shape (lock_named shape k) (log k)) × Fits shape (lock_named shape k) here
+
+-- the histories of the first n locks, and whether one of them is lost
+pub record AreKept (shape : Shape) (log : Logs) (lost : ℕ → Bool) (n : ℕ) (kept : List LockHistory) (some_lost : Bool) : Type 0 where
+  pub kept_are : kept ≡ map (history_of shape log) (filter (λ k. not (lost k)) (filter (has_lock shape) (range_with_len 0 n)))
+  pub lost_is : some_lost ≡ list_any lost (filter (has_lock shape) (range_with_len 0 n))

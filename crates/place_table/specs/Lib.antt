@@ -1,0 +1,11 @@
+pub mod Closing
+pub mod Contents
+pub mod Laws
+pub mod Leaving
+pub mod Opening
+pub mod Passes
+pub mod Plays
+pub mod Recording
+pub mod Rules
+pub mod TurnNotes
+pub mod Views

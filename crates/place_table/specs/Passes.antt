@@ -1,0 +1,222 @@
+-- What a caller of the table knows of its pass: what each call asks, and what it leaves.
+use Rattle.std.specs.Prelude.{◌≡◌, ℕ, ◌<◌, Bool, true, false, List, [], ◌∷◌, ◌++◌, Option, None, Some, MatchOption, IsTrue, slice_index_or}
+use Rattle.atomic_table.specs.Seated.{TableId}
+use Rattle.map_types.specs.declared.attr.Shape.{Shape}
+use Rattle.map_types.specs.declared.kind.DomainId.{DomainId}
+use Rattle.map_types.specs.declared.kind.DomainId.TheVariants.{Bucket}
+use Rattle.map_types.specs.declared.kind.MapKind.TheVariants.{Hash}
+use Rattle.map_types.specs.Stored.{Stored}
+use Rattle.place_words.specs.declared.history.Entry.{Entry}
+use Rattle.place_words.specs.declared.history.Part.{Part}
+use Rattle.place_words.specs.declared.history.StrandStep.{StrandStep}
+use Rattle.place_words.specs.declared.owner.Owner.{Owner}
+use Rattle.place_words.specs.declared.home.Home.{Home}
+use Rattle.place_words.specs.declared.home.Home.TheVariants.{Unlisted}
+use Rattle.map_types.specs.Kind.{is_lru}
+use Rattle.place_words.specs.Codes.{HasHomeCode}
+use Rattle.place_words.specs.ElementLists.{IsIn}
+use Rattle.place_words.specs.Histories.{content, IsLegal}
+use Rattle.place_words.specs.Locks.{lock_number, rank_of, is_lock}
+use Rattle.place_core.specs.Places.{MayOwn}
+use Rattle.place_table.specs.declared.content.Content.{Content}
+use Rattle.place_table.specs.declared.content.Behind.{Behind}
+use Rattle.place_table.specs.declared.view.View.{View}
+use Rattle.place_table.specs.declared.view.Hold.{Hold}
+use Rattle.place_table.specs.declared.view.Notes.{Notes}
+use Rattle.place_table.specs.declared.view.Turned.{Turned}
+use Rattle.place_table.specs.Contents.{told, lists_of, Fits, IsSized}
+use Rattle.place_table.specs.Views.{is_among, hold_at, is_in_hand_of, known_log, first_view, holding, given, cleared, bit_read, owner_read, home_read}
+use Rattle.place_table.specs.Rules.{KeptAs, IsAboveAll}
+use Rattle.place_table.specs.Plays.{AreElements, MayPut, IsInnermost, IsKeptOrLost, IsKnownBit, OwnerFits}
+use Rattle.place_table.specs.TurnNotes.{NotesFit}
+
+-- What a pass is seen as: the table that it is of, its place among the table's passes, the CPU and the call of its last
+-- `begin`, what it knows, and the spares that it keeps, by CPU.
+pub record PassView : Type 0 where
+  pub table : TableId
+  pub seat : ℕ
+  pub cpu : ℕ
+  pub call : ℕ
+  pub view : View
+  pub spares : List (Option Stored)
+
+-- what the table is seen as
+pub record TableView : Type 0 where
+  pub id : TableId
+  pub shape : Shape
+
+-- the slots that a pass has, lock by lock: the content is out, and the record is that of the hold
+abbrev pub Carries : List Hold → List (ℕ × Behind) → Type 0
+Carries [] [] = Unit {0}
+Carries [] (x ∷ xs) = ⊥
+Carries (hold ∷ holds) [] = ⊥
+Carries (hold ∷ holds) (x ∷ xs) = (x.0 ≡ hold.lock) × (x.1.content ≡ None) × KeptAs hold.lost hold.log x.1 × Carries holds xs
+
+-- a slot whose content is out
+abbrev pub without_content : Behind → Behind
+without_content behind = record { content = None; history = behind.history }
+
+-- the spare that is kept for a CPU
+abbrev pub spare_of : ℕ → List (Option Stored) → Option Stored
+spare_of cpu spares = slice_index_or spares cpu None
+
+-- a spare that is kept is in its CPU's hand, and has the sizes of the map
+abbrev pub SparesFit : View → List (Option Stored) → Type 0
+SparesFit v spares =
+    (cpu : ℕ) (body : Stored) → spare_of cpu spares ≡ Some body → (is_in_hand_of body.element cpu v.hand ≡ true) × IsSized v.shape body
+
+-- what holds of each pass
+pub record IsPass (v : View) (slots : List (ℕ × Behind)) (strand : List StrandStep) (spares : List (Option Stored)) : Type 0 where
+  pub carries : Carries v.held slots
+  pub strand_is : strand ≡ v.kept
+  pub none_ended : v.ended ≡ []
+  pub spares_fit : SparesFit v spares
+
+abbrev pub IsPassOf : TableView → PassView → Type 0
+IsPassOf t p = (p.table ≡ t.id) × (p.view.shape ≡ t.shape)
+
+-- its last `begin` named a CPU that it still has
+abbrev pub HasBegun : PassView → Type 0
+HasBegun p = is_among p.cpu p.view.cpus ≡ true
+
+abbrev pub with_view : PassView → View → PassView
+with_view p v = record { table = p.table; seat = p.seat; cpu = p.cpu; call = p.call; view = v; spares = p.spares }
+
+-- A pass is in no call: it holds no lock, and its CPUs have nothing in hand but spares, none of which is out.
+pub record IsInNoCall (p : PassView) : Type 0 where
+  pub holds_nothing : p.view.held ≡ []
+  pub spares_only : (e cpu : ℕ) → is_among cpu p.view.cpus ≡ true → is_in_hand_of e cpu p.view.hand ≡ true → (body : Stored) × (spare_of cpu p.spares ≡ Some body) × (body.element ≡ e)
+  pub none_out : p.view.shape.kind ≡ Hash → (cpu : ℕ) → is_among cpu p.view.cpus ≡ true → (body : Stored) × (spare_of cpu p.spares ≡ Some body)
+
+-- the first pass of a table, which has all CPUs and knows all
+pub record IsFirstPass (t : TableView) (p : PassView) : Type 0 where
+  pub table_is : p.table ≡ t.id
+  pub view_is : p.view ≡ first_view t.shape
+  pub in_no_call : IsInNoCall p
+
+-- a call begins
+abbrev pub begun : PassView → ℕ → ℕ → PassView
+begun p cpu call = record { table = p.table; seat = p.seat; cpu = cpu; call = call; view = p.view; spares = p.spares }
+
+-- take asks for a lock that the map has, above all that are held
+pub record CanTake (t : TableView) (lock : DomainId) (p : PassView) : Type 0 where
+  pub of_table : IsPassOf t p
+  pub begun : HasBegun p
+  pub there : IsTrue (is_lock t.shape lock)
+  pub above : IsAboveAll t.shape (rank_of lock) p.view.held
+
+-- What take leaves: the lock is held, and what lies there is what its turns lead to. Where the pass knew the turns, these
+-- are they.
+pub record Takes (t : TableView) (lock : DomainId) (before after : PassView) (here : Content) : Type 0 where
+  pub hold : Hold
+  pub lock_is : hold.lock ≡ lock_number t.shape lock
+  pub cpu_is : hold.cpu ≡ before.cpu
+  pub after_is : after ≡ with_view before (holding hold before.view)
+  pub told_is : told here ≡ content t.shape lock hold.log
+  pub fits : Fits t.shape lock here
+  pub now : hold.now ≡ lists_of (told here)
+  pub elements : AreElements t.shape hold.now
+  pub legal : IsLegal t.shape lock hold.log
+  pub known : (log : List Entry) → known_log (lock_number t.shape lock) before.view.known ≡ Some log → hold.log ≡ log
+
+abbrev pub entry_of : PassView → Part → Entry
+entry_of p part = record { cpu = p.cpu; call = p.call; part = part }
+
+-- What give asks: the lock is the last one taken, the part is allowed on what lay there at the take and leads to what is
+-- put back, and this has the elements that lie there at this step.
+pub record CanGive (t : TableView) (lock : DomainId) (p : PassView) (here : Content) (part : Part) : Type 0 where
+  pub of_table : IsPassOf t p
+  pub begun : HasBegun p
+  pub hold : Hold
+  pub below : List Hold
+  pub innermost : IsInnermost p.view hold below
+  pub notes : Notes
+  pub notes_below : List Notes
+  pub notes_are : p.view.notes ≡ notes ∷ notes_below
+  pub there : IsTrue (is_lock t.shape lock)
+  pub lock_is : hold.lock ≡ lock_number t.shape lock
+  pub may_put : MayPut t.shape p.view hold (entry_of p part) here
+  pub notes_fit : NotesFit t.shape part notes
+
+-- what give leaves: the strand has one step more, which is recorded, or lost with the history of the lock
+pub record Gave (before after : PassView) (part : Part) : Type 0 where
+  pub hold : Hold
+  pub below : List Hold
+  pub innermost : IsInnermost before.view hold below
+  pub kept : List StrandStep
+  pub kept_is : IsKeptOrLost before.view hold kept
+  pub after_is : after ≡ with_view before (given hold (entry_of before part) kept before.view)
+
+-- where there is no part, some part could be given
+abbrev pub CanGiveSome : TableView → DomainId → PassView → Content → Type 0
+CanGiveSome t lock p here = (part : Part) × CanGive t lock p here part
+
+abbrev pub MayGiveBack : TableView → DomainId → PassView → Content → Option Part → Type 0
+MayGiveBack t lock p here part = MatchOption part (CanGiveSome t lock p here) (λ given_part. CanGive t lock p here given_part)
+
+-- and then nothing is recorded, and some part that could be given stands for it
+pub record GaveSome (t : TableView) (lock : DomainId) (before after : PassView) (here : Content) : Type 0 where
+  pub part : Part
+  pub can : CanGive t lock before here part
+  pub after_is : after ≡ with_view before (given can.hold (entry_of before part) before.view.kept before.view)
+
+abbrev pub GaveBack : TableView → DomainId → PassView → PassView → Content → Option Part → Type 0
+GaveBack t lock before after here part =
+    MatchOption part (GaveSome t lock before after here) (λ given_part. Gave before after given_part)
+
+-- mark asks for an element of a bucket that the CPU holds
+pub record CanMark (t : TableView) (e bucket : ℕ) (p : PassView) : Type 0 where
+  pub of_table : IsPassOf t p
+  pub begun : HasBegun p
+  pub hold : Hold
+  pub real : e < t.shape.elements
+  pub there : bucket < t.shape.buckets
+  pub held : hold_at (lock_number t.shape (Bucket bucket)) p.view.held ≡ Some hold
+  pub cpu_is : hold.cpu ≡ p.cpu
+  pub inside : IsIn e hold.now.first
+
+-- clear asks for an element in the CPU's hand, since a map that doesn't evict tells no home
+pub record CanClear (t : TableView) (e : ℕ) (p : PassView) : Type 0 where
+  pub of_table : IsPassOf t p
+  pub begun : HasBegun p
+  pub real : e < t.shape.elements
+  pub in_hand : is_in_hand_of e p.cpu p.view.hand ≡ true
+
+-- a look asks for an element of the map
+pub record CanLook (t : TableView) (e : ℕ) (p : PassView) : Type 0 where
+  pub of_table : IsPassOf t p
+  pub real : e < t.shape.elements
+
+pub record Cleared (e : ℕ) (before after : PassView) (bit : Bool) : Type 0 where
+  pub known : IsKnownBit e bit before.view
+  pub after_is : after ≡ with_view before (cleared e bit before.view)
+
+pub record SawBit (e : ℕ) (before after : PassView) (bit : Bool) : Type 0 where
+  pub known : IsKnownBit e bit before.view
+  pub after_is : after ≡ with_view before (bit_read e bit before.view)
+
+pub record SawOwner (t : TableView) (e : ℕ) (before after : PassView) (owner : Owner) : Type 0 where
+  pub exists_there : MayOwn t.shape owner
+  pub fits : OwnerFits t.shape before.view e owner
+  pub after_is : after ≡ with_view before (owner_read e owner before.view)
+
+pub record SawHome (t : TableView) (e : ℕ) (before after : PassView) (home : Home) : Type 0 where
+  pub has_code : HasHomeCode home
+  pub plain : is_lru t.shape.kind ≡ false → home ≡ Unlisted
+  pub after_is : after ≡ with_view before (home_read e home before.view)
+
+-- What calls leave of a pass that move no element: the locks held, what was noted under them, the hands and the spares are
+-- the same, and the strand has these turns more.
+pub record Went (before after : PassView) (more : List Turned) : Type 0 where
+  pub table : after.table ≡ before.table
+  pub seat : after.seat ≡ before.seat
+  pub cpu : after.cpu ≡ before.cpu
+  pub call : after.call ≡ before.call
+  pub spares : after.spares ≡ before.spares
+  pub shape : after.view.shape ≡ before.view.shape
+  pub cpus : after.view.cpus ≡ before.view.cpus
+  pub held : after.view.held ≡ before.view.held
+  pub hand : after.view.hand ≡ before.view.hand
+  pub notes : after.view.notes ≡ before.view.notes
+  pub steps : after.view.steps ≡ before.view.steps ++ more
+  pub ended : after.view.ended ≡ before.view.ended

@@ -1,0 +1,160 @@
+-- What each step on a word tells of the pass that makes it.
+use Rattle.std.specs.Prelude.{◌≡◌, ◌≢◌, ◌⊎◌, ℕ, ◌<◌, ◌≤◌, ◌-◌, Bool, true, false, List, [], ◌∷◌, ◌++◌, length, Some, MatchOption}
+use Rattle.atomic_table.specs.Table as table
+use Rattle.atomic_table.specs.Table.{Me, rest}
+use Rattle.map_types.specs.declared.attr.Shape.{Shape}
+use Rattle.map_types.specs.declared.kind.DomainId.TheVariants.{Bucket}
+use Rattle.map_types.specs.Kind.{is_lru}
+use Rattle.place_words.specs.declared.history.Entry.{Entry}
+use Rattle.place_words.specs.declared.history.Part.{Part}
+use Rattle.place_words.specs.declared.history.StrandStep.{StrandStep}
+use Rattle.place_words.specs.declared.owner.Owner.{Owner}
+use Rattle.place_words.specs.declared.owner.Owner.TheVariants.{Free}
+use Rattle.place_words.specs.declared.home.Home.{Home}
+use Rattle.place_words.specs.declared.home.Home.TheVariants.{Unlisted}
+use Rattle.place_words.specs.Codes.{owner_code, home_code, HasHomeCode}
+use Rattle.place_words.specs.ElementLists.{one, times, IsIn}
+use Rattle.place_words.specs.Histories.{content, content_after, Allows, IsLegal}
+use Rattle.place_words.specs.Locks.{lock_named, lock_number}
+use Rattle.place_core.specs.declared.step.Lists.{Lists}
+use Rattle.place_core.specs.State.{rows}
+use Rattle.place_core.specs.Places.{is_in_bucket, MayOwn}
+use Rattle.place_table.specs.declared.content.Content.{Content}
+use Rattle.place_table.specs.declared.content.Behind.{Behind}
+use Rattle.place_table.specs.declared.view.View.{View}
+use Rattle.place_table.specs.declared.view.Hold.{Hold}
+use Rattle.place_table.specs.declared.view.Notes.{Notes}
+use Rattle.place_table.specs.Contents.{told, lists_of, Fits}
+use Rattle.place_table.specs.Views.{is_among, hold_at, is_in_hand_of, known_log, bit_seen, holding, given, kept_step, marked, cleared, bit_read, owner_read, home_read}
+use Rattle.place_table.specs.Rules.{Reads, is_hand_of}
+use Rattle.place_table.specs.TurnNotes.{NotesFit}
+
+-- a seat at the table: what it knows, and the slots that it has
+abbrev pub Seated : Type 0
+Seated = Me Behind View
+
+-- each element stands at most once among the free ones of a lock and among the others, and is one of the map's
+pub record AreElements (shape : Shape) (lists : Lists) : Type 0 where
+  pub free_once : (e : ℕ) → times e lists.free ≤ 1
+  pub rows_once : (e : ℕ) → times e (rows lists) ≤ 1
+  pub free_real : (e : ℕ) → IsIn e lists.free → e < shape.elements
+  pub rows_real : (e : ℕ) → IsIn e (rows lists) → e < shape.elements
+
+-- A lock was taken by a CPU: its slot, and what the pass knows of it from then on.
+pub record Took (k cpu : ℕ) (before after : Seated) : Type 0 where
+  pub behind : Behind
+  pub hold : Hold
+  pub lock : hold.lock ≡ k
+  pub cpu_is : hold.cpu ≡ cpu
+  pub after_is : after ≡ (holding hold before.0, (k, behind) ∷ before.1)
+  pub reads : Reads before.0.shape k hold.log hold.lost behind
+  pub now : hold.now ≡ lists_of (content before.0.shape (lock_named before.0.shape k) hold.log)
+  pub elements : AreElements before.0.shape hold.now
+  pub legal : IsLegal before.0.shape (lock_named before.0.shape k) hold.log
+  pub known : (log : List Entry) → known_log k before.0.known ≡ Some log → hold.log ≡ log
+
+-- a lock is tried: it is taken where nobody held it, else nothing changes
+abbrev pub Tries : table.Step Behind → Seated → ℕ → Seated → Type 0
+Tries step before found after =
+    (found ≡ step.first → Took step.word (step.second - 1) before after) × (found ≢ step.first → after ≡ before)
+
+-- What is put back: an entry that is allowed leads to it, and it has the elements that lie there at this step.
+pub record MayPut (shape : Shape) (v : View) (hold : Hold) (entry : Entry) (here : Content) : Type 0 where
+  pub cpu : is_among entry.cpu v.cpus ≡ true
+  pub told_is : told here ≡ content_after shape entry.cpu entry.part (content shape (lock_named shape hold.lock) hold.log)
+  pub fits : Fits shape (lock_named shape hold.lock) here
+  pub allowed : Allows shape entry.cpu entry.part (content shape (lock_named shape hold.lock) hold.log)
+  pub same_free : (e : ℕ) → times e (lists_of (told here)).free ≡ times e hold.now.free
+  pub same_rows : (e : ℕ) → times e (rows (lists_of (told here))) ≡ times e (rows hold.now)
+
+-- the history has the entry where it isn't lost, and then the strand has its step
+abbrev pub IsRecorded : Shape → View → Hold → Entry → List StrandStep → Behind → Type 0
+IsRecorded shape v hold entry kept behind =
+    MatchOption behind.history (kept ≡ v.kept) (λ u. (hold.lost ≡ false) × (u.items ≡ hold.log ++ entry ∷ []) × (kept ≡ v.kept ++ kept_step shape hold.lock (length hold.log) ∷ []))
+
+pub record MayGive (shape : Shape) (v : View) (hold : Hold) (entry : Entry) (kept : List StrandStep) (behind : Behind) : Type 0 where
+  pub here : Content
+  pub content_is : behind.content ≡ Some here
+  pub may_put : MayPut shape v hold entry here
+  pub records : IsRecorded shape v hold entry kept behind
+
+-- the steps that are recorded after a turn: the one of the turn too, or none more where the record of the lock is lost
+abbrev pub IsKeptOrLost : View → Hold → List StrandStep → Type 0
+IsKeptOrLost v hold kept = (kept ≡ v.kept) ⊎ (kept ≡ v.kept ++ kept_step v.shape hold.lock (length hold.log) ∷ [])
+
+-- the lock taken last, and those below it
+abbrev pub IsInnermost : View → Hold → List Hold → Type 0
+IsInnermost v hold below = v.held ≡ hold ∷ below
+
+-- the lock taken last was given back with this entry, and these steps are recorded then
+pub record Gives (entry : Entry) (kept : List StrandStep) (before after : Seated) : Type 0 where
+  pub hold : Hold
+  pub below : List Hold
+  pub innermost : IsInnermost before.0 hold below
+  pub kept_is : IsKeptOrLost before.0 hold kept
+  pub after_is : after ≡ (given hold entry kept before.0, rest before.1)
+
+-- the entry of a CPU's turn in a call
+abbrev pub entry_by : ℕ → ℕ → Part → Entry
+entry_by cpu call part = record { cpu = cpu; call = call; part = part }
+
+-- the same with nothing recorded, by some part of this CPU and call that leads to what was put back
+pub record GivesSome (cpu call : ℕ) (before after : Seated) : Type 0 where
+  pub hold : Hold
+  pub below : List Hold
+  pub behind : Behind
+  pub part : Part
+  pub innermost : IsInnermost before.0 hold below
+  pub slot : before.1 ≡ (hold.lock, behind) ∷ rest before.1
+  pub may : MayGive before.0.shape before.0 hold (entry_by cpu call part) before.0.kept behind
+  pub notes : Notes
+  pub notes_below : List Notes
+  pub notes_are : before.0.notes ≡ notes ∷ notes_below
+  pub notes_fit : NotesFit before.0.shape part notes
+  pub after_is : after ≡ (given hold (entry_by cpu call part) before.0.kept before.0, rest before.1)
+
+-- a bit was set
+abbrev pub Marks : ℕ → Seated → Seated → Type 0
+Marks e before after = after ≡ (marked e before.0, before.1)
+
+-- where the pass knew the bit, this is it
+abbrev pub IsKnownBit : ℕ → Bool → View → Type 0
+IsKnownBit e bit v = (known : Bool) → bit_seen e v.bits ≡ Some known → bit ≡ known
+
+-- a bit was cleared, and was this before
+pub record Clears (e : ℕ) (before : Seated) (found : ℕ) (after : Seated) : Type 0 where
+  pub bit : Bool
+  pub found_is : found ≡ one bit
+  pub known : IsKnownBit e bit before.0
+  pub after_is : after ≡ (cleared e bit before.0, before.1)
+
+-- a bit was read
+pub record SeesBit (e : ℕ) (before : Seated) (found : ℕ) (after : Seated) : Type 0 where
+  pub bit : Bool
+  pub found_is : found ≡ one bit
+  pub known : IsKnownBit e bit before.0
+  pub after_is : after ≡ (bit_read e bit before.0, before.1)
+
+-- An owner that what the pass knows doesn't rule out: the element is in a bucket that is held exactly where it lies there,
+-- it is free where it lies on a free list that is held, and it is in the hand of a CPU of the pass exactly where the pass
+-- knows of it.
+pub record OwnerFits (shape : Shape) (v : View) (e : ℕ) (owner : Owner) : Type 0 where
+  pub in_held_bucket : (bucket : ℕ) (hold : Hold) → bucket < shape.buckets → hold_at (lock_number shape (Bucket bucket)) v.held ≡ Some hold → times e (rows hold.now) ≡ one (is_in_bucket bucket owner)
+  pub on_held_free_list : (k : ℕ) (hold : Hold) → hold_at k v.held ≡ Some hold → IsIn e hold.now.free → owner ≡ Free
+  pub in_own_hand : (cpu : ℕ) → is_among cpu v.cpus ≡ true → is_hand_of cpu owner ≡ is_in_hand_of e cpu v.hand
+
+-- an owner was read
+pub record SeesOwner (e : ℕ) (before : Seated) (found : ℕ) (after : Seated) : Type 0 where
+  pub owner : Owner
+  pub found_is : found ≡ owner_code owner
+  pub exists_there : MayOwn before.0.shape owner
+  pub fits : OwnerFits before.0.shape before.0 e owner
+  pub after_is : after ≡ (owner_read e owner before.0, before.1)
+
+-- a home was read, of which a map that doesn't evict tells nothing
+pub record SeesHome (e : ℕ) (before : Seated) (found : ℕ) (after : Seated) : Type 0 where
+  pub home : Home
+  pub found_is : found ≡ home_code home
+  pub has_code : HasHomeCode home
+  pub plain : is_lru before.0.shape.kind ≡ false → home ≡ Unlisted
+  pub after_is : after ≡ (home_read e home before.0, before.1)

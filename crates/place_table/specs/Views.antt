@@ -1,0 +1,195 @@
+-- What a pass knows, and how each step changes it.
+use Rattle.std.specs.Prelude.{ℕ, zero, suc, ◌==◌, Bool, true, false, ◌&&◌, List, [], ◌∷◌, ◌++◌, length, Option, None, Some, if◌then◌else◌}
+use Rattle.map_types.specs.declared.attr.Shape.{Shape}
+use Rattle.place_words.specs.declared.history.Entry.{Entry}
+use Rattle.place_words.specs.declared.history.StrandStep.{StrandStep}
+use Rattle.place_words.specs.declared.home.Home.{Home}
+use Rattle.place_words.specs.declared.owner.Owner.{Owner}
+use Rattle.place_words.specs.Locks.{lock_count, lock_named}
+use Rattle.place_words.specs.Openings.{opening_spares}
+use Rattle.map_types.specs.declared.kind.MapKind.{MapKind}
+use Rattle.map_types.specs.declared.kind.MapKind.TheVariants.{Hash, PercpuHash, LruHash, LruPercpuHash}
+use Rattle.place_table.specs.declared.view.View.{View}
+use Rattle.place_table.specs.declared.view.Hold.{Hold}
+use Rattle.place_table.specs.declared.view.InHand.{InHand}
+use Rattle.place_table.specs.declared.view.Notes.{Notes}
+use Rattle.place_table.specs.declared.view.Known.{Known}
+use Rattle.place_table.specs.declared.view.Turned.{Turned}
+use Rattle.place_table.specs.declared.view.BitSeen.{BitSeen}
+
+abbrev pub is_among : ℕ → List ℕ → Bool
+is_among n [] = false
+is_among n (x ∷ xs) = if x == n then true else is_among n xs
+
+-- the hold of a lock, none where it isn't held
+abbrev pub hold_at : ℕ → List Hold → Option Hold
+hold_at k [] = None
+hold_at k (hold ∷ holds) = if hold.lock == k then Some hold else hold_at k holds
+
+abbrev pub is_in_hand_of : ℕ → ℕ → List InHand → Bool
+is_in_hand_of e cpu [] = false
+is_in_hand_of e cpu (x ∷ xs) = if (x.element == e) && (x.cpu == cpu) then true else is_in_hand_of e cpu xs
+
+-- the turns of a lock, none where they aren't known
+abbrev pub known_log : ℕ → List Known → Option (List Entry)
+known_log k [] = None
+known_log k (x ∷ xs) = if x.lock == k then Some x.log else known_log k xs
+
+-- the bit of an element, none where it isn't known
+abbrev pub bit_seen : ℕ → List BitSeen → Option Bool
+bit_seen e [] = None
+bit_seen e (x ∷ xs) = if x.element == e then Some x.bit else bit_seen e xs
+
+abbrev pub has_all_below : ℕ → List ℕ → Bool
+has_all_below zero cpus = true
+has_all_below (suc n) cpus = is_among n cpus && has_all_below n cpus
+
+-- a pass has all CPUs of the map
+abbrev pub has_all : View → Bool
+has_all v = has_all_below v.shape.cpus v.cpus
+
+abbrev pub numbers_below : ℕ → List ℕ
+numbers_below zero = []
+numbers_below (suc n) = n ∷ numbers_below n
+
+-- the first pass has all CPUs and all spares, and knows that no turn was made and no bit is set
+abbrev pub no_turns : ℕ → List Known
+no_turns zero = []
+no_turns (suc n) = record { lock = n; log = [] } ∷ no_turns n
+
+abbrev pub no_bits : ℕ → List BitSeen
+no_bits zero = []
+no_bits (suc n) = record { element = n; bit = false } ∷ no_bits n
+
+abbrev pub spares_from : ℕ → List ℕ → List InHand
+spares_from cpu [] = []
+spares_from cpu (spare ∷ spares) = record { element = spare; cpu = cpu } ∷ spares_from (suc cpu) spares
+
+abbrev pub first_hand : MapKind → Shape → List InHand
+first_hand Hash shape = spares_from 0 (opening_spares shape)
+first_hand PercpuHash shape = []
+first_hand LruHash shape = []
+first_hand LruPercpuHash shape = []
+
+abbrev pub first_view : Shape → View
+first_view shape = record {
+  shape = shape;
+  cpus = numbers_below shape.cpus;
+  held = [];
+  hand = first_hand shape.kind shape;
+  notes = [];
+  known = no_turns (lock_count shape);
+  bits = no_bits shape.elements;
+  steps = [];
+  kept = [];
+  ended = [];
+}
+
+abbrev pub no_notes : Notes
+no_notes = record { marks = []; clears = []; bits = []; owners = []; homes = [] }
+
+-- one lock more is held
+abbrev pub holding : Hold → View → View
+holding hold v = record {
+  shape = v.shape;
+  cpus = v.cpus;
+  held = hold ∷ v.held;
+  hand = v.hand;
+  notes = no_notes ∷ v.notes;
+  known = v.known;
+  bits = v.bits;
+  steps = v.steps;
+  kept = v.kept;
+  ended = v.ended;
+}
+
+abbrev pub holds_below : List Hold → List Hold
+holds_below [] = []
+holds_below (hold ∷ holds) = holds
+
+abbrev pub notes_below : List Notes → List Notes
+notes_below [] = []
+notes_below (notes ∷ below) = below
+
+-- a turn of the lock k, with the place of its entry
+abbrev pub turned : ℕ → ℕ → Entry → Turned
+turned k index entry = record { lock = k; index = index; entry = entry }
+
+abbrev pub kept_step : Shape → ℕ → ℕ → StrandStep
+kept_step shape k index = record { lock = lock_named shape k; index = index }
+
+-- a pass with all CPUs knows the turns of the lock that it gives back
+abbrev pub learned : Hold → Entry → View → List Known
+learned hold entry v =
+    if has_all v then record { lock = hold.lock; log = hold.log ++ entry ∷ [] } ∷ v.known else v.known
+
+-- the lock taken last is given back with this entry, and these steps are recorded then
+abbrev pub given : Hold → Entry → List StrandStep → View → View
+given hold entry kept v = record {
+  shape = v.shape;
+  cpus = v.cpus;
+  held = holds_below v.held;
+  hand = v.hand;
+  notes = notes_below v.notes;
+  known = learned hold entry v;
+  bits = v.bits;
+  steps = v.steps ++ turned hold.lock (length hold.log) entry ∷ [];
+  kept = kept;
+  ended = v.ended;
+}
+
+-- other notes and other bits known
+abbrev pub noted : List Notes → List BitSeen → View → View
+noted notes bits v = record {
+  shape = v.shape;
+  cpus = v.cpus;
+  held = v.held;
+  hand = v.hand;
+  notes = notes;
+  known = v.known;
+  bits = bits;
+  steps = v.steps;
+  kept = v.kept;
+  ended = v.ended;
+}
+
+-- a note belongs to the lock taken last, and is dropped where none is held
+abbrev pub with_mark : ℕ → List Notes → List Notes
+with_mark e [] = []
+with_mark e (n ∷ below) = record n { marks = e ∷ n.marks } ∷ below
+
+abbrev pub with_clear : ℕ → Bool → List Notes → List Notes
+with_clear e bit [] = []
+with_clear e bit (n ∷ below) = record n { clears = record { element = e; bit = bit } ∷ n.clears } ∷ below
+
+abbrev pub with_bit_read : ℕ → Bool → List Notes → List Notes
+with_bit_read e bit [] = []
+with_bit_read e bit (n ∷ below) = record n { bits = record { element = e; bit = bit } ∷ n.bits } ∷ below
+
+abbrev pub with_owner_read : ℕ → Owner → List Notes → List Notes
+with_owner_read e owner [] = []
+with_owner_read e owner (n ∷ below) = record n { owners = record { element = e; owner = owner } ∷ n.owners } ∷ below
+
+abbrev pub with_home_read : ℕ → Home → List Notes → List Notes
+with_home_read e home [] = []
+with_home_read e home (n ∷ below) = record n { homes = record { element = e; home = home } ∷ n.homes } ∷ below
+
+-- a pass with all CPUs keeps what a bit is
+abbrev pub bits_with : ℕ → Bool → View → List BitSeen
+bits_with e bit v = if has_all v then record { element = e; bit = bit } ∷ v.bits else v.bits
+
+abbrev pub marked : ℕ → View → View
+marked e v = noted (with_mark e v.notes) (bits_with e true v) v
+
+-- the bit was this, and is 0 now
+abbrev pub cleared : ℕ → Bool → View → View
+cleared e was v = noted (with_clear e was v.notes) (bits_with e false v) v
+
+abbrev pub bit_read : ℕ → Bool → View → View
+bit_read e bit v = noted (with_bit_read e bit v.notes) (bits_with e bit v) v
+
+abbrev pub owner_read : ℕ → Owner → View → View
+owner_read e owner v = noted (with_owner_read e owner v.notes) v.bits v
+
+abbrev pub home_read : ℕ → Home → View → View
+home_read e home v = noted (with_home_read e home v.notes) v.bits v

@@ -1,0 +1,376 @@
+//! A table at its opening.
+
+ghost use Rattle.std.specs.Prelude.{◌≡◌, ◌+◌, ◌≤◌, ◌++◌, false, [], length, map, replicate, All, IfOk, OnOk};
+ghost use Rattle.map_types.specs.Creation.{IsShape};
+ghost use Rattle.map_types.specs.Kind.{is_lru};
+ghost use Rattle.place_words.specs.Bodies.{numbers};
+ghost use Rattle.place_words.specs.Codes.{owner_code, HasOwnerCode};
+ghost use Rattle.place_words.specs.Locks.{lock_count};
+ghost use Rattle.place_core.specs.OpeningView.{AreOpeningOwners};
+ghost use Rattle.place_table.specs.Contents.{IsSized};
+ghost use Rattle.place_table.specs.Opening.{opening_words, IsFirstContent, IsFirstSlot, AreFirstSlots, first_spares, AreBodiesOf};
+ghost use Rattle.place_table.specs.Passes.{IsFirstPass};
+
+use crate::content::{Behind, Content};
+use crate::pass::Pass;
+use crate::table::PlaceTable;
+use atomic_table::Table;
+use bucket_chain::Chain;
+use cpu_freelist::Freelist;
+use map_types::{DomainId, MapKind, NoMemory, Shape};
+use percpu_values::BoxedBody;
+use place_core::{free_at_first, owners_at_first, spares_at_first};
+use place_words::{Owner, is_lock, lock_named, owner_code};
+use std::alloc::Global;
+
+impl PlaceTable {
+    /// A table at its opening, and its first pass. All buckets are empty, and the elements lie in the freelists of the CPUs,
+    /// but for the spare elements of a map of kind HASH. The pass has all CPUs and all spares, is in no call and has begun
+    /// none. Memory for all elements is found here, and only want of it is refused. Kinds that evict are not served yet.
+    pub fn create(alloc: Global, shape: &Shape) -> Result<(PlaceTable, Pass), NoMemory>
+        requires shape { IsShape shape.now }
+        requires plain { is_lru shape.now.kind ≡ false }
+        ensures { IfOk result (λ made. (made.0.shape ≡ shape.now) × IsFirstPass made.0 made.1) }
+    {
+        let owners = owners_at_first(alloc, shape)?;
+        let words = first_words(alloc, shape, owners.as_slice())?;
+        let slots = first_slots(alloc, shape, owners.as_slice())?;
+        let spares = spare_bodies(alloc, shape)?;
+        match Table::new(alloc, words.as_slice(), slots, shape) {
+            Ok((table, seat)) => Ok((
+                PlaceTable {
+                    table,
+                    shape: *shape,
+                    alloc,
+                },
+                Pass {
+                    seat,
+                    cpu: shape.cpus,
+                    call: 0,
+                    strand: Vec::new(alloc),
+                    spares,
+                },
+            )),
+            Err(_) => Err(NoMemory),
+        }
+    }
+}
+
+/// Adds so many zeros.
+fn push_zeros(words: &mut Vec<u64>, count: u32) -> Result<(), NoMemory>
+    ensures { OnOk result (words.new.items ≡ words.old.items ++ replicate count 0) }
+{
+    for _ in 0..count {
+        words.push(0)?;
+    }
+    Ok(())
+}
+
+/// Adds the codes of owners.
+fn push_codes(words: &mut Vec<u64>, owners: &[Owner]) -> Result<(), NoMemory>
+    requires { All HasOwnerCode owners.now }
+    ensures { OnOk result (words.new.items ≡ words.old.items ++ map owner_code owners.now) }
+{
+    for owner in owners {
+        words.push(owner_code(*owner))?;
+    }
+    Ok(())
+}
+
+/// How many locks are numbered.
+fn count_locks(shape: &Shape) -> u32
+    requires { IsShape shape.now }
+    ensures { result ≡ lock_count shape.now }
+{
+    3 * shape.cpus + 1 + shape.buckets
+}
+
+/// The words of the locks, of the owners, and of the homes and bits.
+fn first_words(alloc: Global, shape: &Shape, owners: &[Owner]) -> Result<Vec<u64>, NoMemory>
+    requires shape { IsShape shape.now }
+    requires owners { AreOpeningOwners shape.now owners.now }
+    ensures { IfOk result (λ words. words.items ≡ opening_words shape.now) }
+{
+    let mut words = Vec::new(alloc);
+    push_zeros(&mut words, count_locks(shape))?;
+    push_codes(&mut words, owners)?;
+    push_zeros(&mut words, 2 * shape.elements)?;
+    Ok(words)
+}
+
+/// The body of an element, in the map's sizes.
+fn new_body(alloc: Global, shape: &Shape, element: u32) -> Result<BoxedBody, NoMemory>
+    ensures element { IfOk result (λ body. body.element ≡ element) }
+    ensures sized { IfOk result (λ body. IsSized shape.now body) }
+{
+    let parts = if shape.kind.is_percpu() {
+        shape.cpus
+    } else {
+        1
+    };
+    BoxedBody::create(alloc, element, shape.key_size, parts, shape.value_size)
+}
+
+/// A freelist with these elements, the first on top, and with room for all elements of the map.
+fn freelist_of(alloc: Global, shape: &Shape, elements: &[u32]) -> Result<Freelist, NoMemory>
+    requires { length elements.now ≤ shape.now.elements }
+    ensures numbers { IfOk result (λ freelist. numbers freelist.bodies ≡ elements.now) }
+    ensures sized { IfOk result (λ freelist. All (IsSized shape.now) freelist.bodies) }
+    ensures room { IfOk result (λ freelist. freelist.room ≡ shape.now.elements) }
+{
+    let mut freelist = Freelist::create(alloc, shape.elements)?;
+    let mut left = elements.len();
+    while left > 0 {
+        left -= 1;
+        freelist.push(new_body(alloc, shape, elements[left])?);
+    }
+    Ok(freelist)
+}
+
+/// What lies under a lock at first, or nothing where the map has no such lock.
+fn first_content(
+    alloc: Global,
+    shape: &Shape,
+    owners: &[Owner],
+    lock: DomainId,
+) -> Result<Option<Content>, NoMemory>
+    requires shape { IsShape shape.now }
+    requires plain { is_lru shape.now.kind ≡ false }
+    requires owners { AreOpeningOwners shape.now owners.now }
+    ensures { IfOk result (λ content. IsFirstContent shape.now lock content) }
+{
+    if !is_lock(shape, lock) {
+        return Ok(None);
+    }
+    match lock {
+        DomainId::Bucket(_) => Ok(Some(Content::Bucket(Chain::empty(alloc)))),
+        DomainId::Freelist(_) => {
+            let free = free_at_first(alloc, shape, owners, lock)?;
+            let freelist = freelist_of(alloc, shape, free.as_slice())?;
+            Ok(Some(Content::Freelist(freelist)))
+        }
+        // A map that doesn't evict has no such lock.
+        DomainId::Local(_) | DomainId::Global | DomainId::CpuLru(_) => Ok(None),
+    }
+}
+
+/// What stands in the slot of a lock at first.
+fn first_slot(alloc: Global, shape: &Shape, owners: &[Owner], lock: u32) -> Result<Behind, NoMemory>
+    requires shape { IsShape shape.now }
+    requires plain { is_lru shape.now.kind ≡ false }
+    requires owners { AreOpeningOwners shape.now owners.now }
+    ensures { IfOk result (λ behind. IsFirstSlot shape.now lock behind) }
+{
+    let content = first_content(alloc, shape, owners, lock_named(shape, lock))?;
+    Ok(Behind {
+        content,
+        history: Some(Vec::new(alloc)),
+    })
+}
+
+/// What stands in the slots of all locks at first.
+fn first_slots(alloc: Global, shape: &Shape, owners: &[Owner]) -> Result<Vec<Behind>, NoMemory>
+    requires shape { IsShape shape.now }
+    requires plain { is_lru shape.now.kind ≡ false }
+    requires owners { AreOpeningOwners shape.now owners.now }
+    ensures { IfOk result (λ slots. AreFirstSlots shape.now (lock_count shape.now) slots.items) }
+{
+    let mut slots = Vec::new(alloc);
+    for lock in 0..count_locks(shape) {
+        slots.push(first_slot(alloc, shape, owners, lock)?)?;
+    }
+    Ok(slots)
+}
+
+/// No body for any CPU.
+fn no_bodies() -> [Option<BoxedBody>; 16]
+    ensures { result ≡ replicate 16 None }
+{
+    [
+        None, None, None, None, None, None, None, None, None, None, None, None, None, None, None,
+        None,
+    ]
+}
+
+/// The bodies of some elements, by CPU.
+fn bodies_of(
+    alloc: Global,
+    shape: &Shape,
+    elements: &[u32],
+) -> Result<[Option<BoxedBody>; 16], NoMemory>
+    requires { length elements.now ≤ 16 }
+    ensures { IfOk result (λ bodies. AreBodiesOf shape.now elements.now bodies) }
+{
+    let mut bodies = no_bodies();
+    for cpu in 0..elements.len() {
+        bodies[cpu] = Some(new_body(alloc, shape, elements[cpu])?);
+    }
+    Ok(bodies)
+}
+
+/// The bodies of the spares at first, by CPU.
+fn spare_bodies(alloc: Global, shape: &Shape) -> Result<[Option<BoxedBody>; 16], NoMemory>
+    requires { IsShape shape.now }
+    ensures { IfOk result (λ spares. AreBodiesOf shape.now (first_spares shape.now.kind shape.now) spares) }
+{
+    match shape.kind {
+        MapKind::Hash => {
+            let elements = spares_at_first(alloc, shape)?;
+            bodies_of(alloc, shape, elements.as_slice())
+        }
+        MapKind::PercpuHash | MapKind::LruHash | MapKind::LruPercpuHash => Ok(no_bodies()),
+    }
+}
+
+#[cfg(test)]
+mod tests {
+    use super::*;
+    use map_types::{CreateAttr, check_attr};
+    use std::process::Abort;
+    use std::test::Fail;
+
+    /// The shape of a map with short keys and values.
+    fn shape_of(kind: MapKind, max_entries: u32, cpus: u32) -> Result<Shape, Fail>
+        ensures { IfOk result IsShape }
+    {
+        let attr = CreateAttr {
+            kind,
+            key_size: 2,
+            value_size: 3,
+            max_entries,
+            flags: 0,
+            seed: 0,
+            cpus,
+        };
+        Ok(check_attr(&attr)?)
+    }
+
+    /// The elements of a freelist at first, the top first.
+    fn free(alloc: Global, shape: &Shape, cpu: u32) -> Result<Vec<u32>, Fail>
+        requires shape { IsShape shape.now }
+        requires plain { is_lru shape.now.kind ≡ false }
+    {
+        let owners = owners_at_first(alloc, shape)?;
+        let content = first_content(alloc, shape, owners.as_slice(), DomainId::Freelist(cpu))?;
+        let mut freelist = match content {
+            Some(Content::Freelist(freelist)) => freelist,
+            Some(Content::Bucket(_bucket)) => return Ok(Vec::new(alloc)),
+            None => return Ok(Vec::new(alloc)),
+        };
+        let mut elements = Vec::new(alloc);
+        for _ in 0..shape.elements {
+            if let Some(body) = freelist.pop() {
+                elements.push(body.body().element())?;
+            }
+        }
+        Ok(elements)
+    }
+
+    /// A map opens with these freelists, the top first, and these spares, both by CPU.
+    fn opens(
+        rt: &impl Abort,
+        alloc: Global,
+        kind: MapKind,
+        max_entries: u32,
+        freelists: &[&[u32]],
+        spares: &[u32],
+    ) -> Result<(), Fail> {
+        let cpus = freelists.len().min(16) as u32;
+        let shape = shape_of(kind, max_entries, cpus)?;
+        assert!(rt; !shape.kind.is_lru());
+        let (_table, pass) = PlaceTable::create(alloc, &shape)?;
+        for cpu in 0..16 {
+            let spare = pass.spares[cpu].as_ref().map(|body| body.body().element());
+            assert_eq!(rt; spare, spares.get(cpu).copied(), "the spare of CPU {cpu}");
+        }
+        for cpu in 0..cpus {
+            let list = free(alloc, &shape, cpu)?;
+            assert_eq!(rt;
+                list.as_slice(),
+                freelists[cpu as usize],
+                "the freelist of CPU {cpu}"
+            );
+        }
+        Ok(())
+    }
+
+    #[test]
+    fn one_cpu(rt: HostRuntime) -> Result<(), Fail> {
+        opens(&rt, rt.alloc(), MapKind::Hash, 1, &[&[0]], &[1])?;
+        opens(&rt, rt.alloc(), MapKind::PercpuHash, 1, &[&[0]], &[])
+    }
+
+    #[test]
+    fn three_cpus(rt: HostRuntime) -> Result<(), Fail> {
+        opens(
+            &rt,
+            rt.alloc(),
+            MapKind::Hash,
+            4,
+            &[&[], &[4, 3], &[6, 5]],
+            &[2, 1, 0],
+        )?;
+        opens(
+            &rt,
+            rt.alloc(),
+            MapKind::PercpuHash,
+            4,
+            &[&[1, 0], &[2], &[3]],
+            &[],
+        )
+    }
+
+    #[test]
+    fn sixteen_cpus(rt: HostRuntime) -> Result<(), Fail> {
+        opens(
+            &rt,
+            rt.alloc(),
+            MapKind::Hash,
+            20,
+            &[
+                &[],
+                &[],
+                &[],
+                &[],
+                &[],
+                &[],
+                &[17, 16],
+                &[19, 18],
+                &[21, 20],
+                &[23, 22],
+                &[25, 24],
+                &[27, 26],
+                &[29, 28],
+                &[31, 30],
+                &[33, 32],
+                &[35, 34],
+            ],
+            &[2, 1, 0, 5, 4, 3, 8, 7, 6, 11, 10, 9, 13, 12, 15, 14],
+        )?;
+        opens(
+            &rt,
+            rt.alloc(),
+            MapKind::PercpuHash,
+            20,
+            &[
+                &[1, 0],
+                &[3, 2],
+                &[5, 4],
+                &[7, 6],
+                &[8],
+                &[9],
+                &[10],
+                &[11],
+                &[12],
+                &[13],
+                &[14],
+                &[15],
+                &[16],
+                &[17],
+                &[18],
+                &[19],
+            ],
+            &[],
+        )
+    }
+}

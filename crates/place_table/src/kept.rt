@@ -1,0 +1,86 @@
+//! Copies of the bodies that a table leaves.
+
+ghost use Rattle.std.specs.Prelude.{◌≡◌, ◌<◌, All, IfOk, length};
+ghost use Rattle.map_types.specs.Parts.{part_size, part_at};
+ghost use Rattle.map_types.specs.Sides.{part_count};
+ghost use Rattle.map_types.specs.Stored.{HasSizes};
+ghost use Rattle.place_table.specs.Contents.{IsSized};
+
+use bucket_chain::Chain;
+use map_types::{Bytes, List, NoMemory, Shape};
+use percpu_values::Body;
+use place_words::Kept;
+use std::alloc::Global;
+
+/// A copy of a bucket, head first.
+pub(crate) fn bucket_copy(
+    alloc: Global,
+    shape: &Shape,
+    chain: &Chain,
+) -> Result<List<Kept>, NoMemory>
+    requires sized { All (IsSized shape.now) chain.now.bodies }
+    ensures { IfOk result (λ bucket. bucket ≡ chain.now.bodies) }
+{
+    let mut bucket = Vec::with_capacity(alloc, chain.len() as usize)?;
+    for place in 0..chain.len() {
+        if let Some(body) = chain.body(place) {
+            bucket.push(body_copy(alloc, shape, body)?)?;
+        }
+    }
+    Ok(List::of(bucket))
+}
+
+/// A copy of a body.
+fn body_copy(alloc: Global, shape: &Shape, body: &Body) -> Result<Kept, NoMemory>
+    requires sized { IsSized shape.now body.now }
+    ensures { IfOk result (λ kept. kept ≡ body.now) }
+{
+    let key = List::of(Vec::from_slice(alloc, body.key())?);
+    let values = List::of(parts_of(alloc, part_count(shape), shape.value_size, body)?);
+    Ok(Kept {
+        element: body.element(),
+        key,
+        values,
+    })
+}
+
+/// How many parts the values of an element have.
+fn part_count(shape: &Shape) -> u32
+    ensures { result ≡ part_count shape.now }
+{
+    if shape.kind.is_percpu() {
+        shape.cpus
+    } else {
+        1
+    }
+}
+
+/// Copies of the parts of a body's values.
+fn parts_of(alloc: Global, parts: u32, size: u32, body: &Body) -> Result<Vec<Bytes>, NoMemory>
+    requires sized { HasSizes (length body.now.key) parts size body.now }
+    ensures { IfOk result (λ values. values.items ≡ body.now.values) }
+{
+    let mut values = Vec::with_capacity(alloc, parts as usize)?;
+    for part in 0..parts {
+        values.push(own_of(alloc, part, size, body)?)?;
+    }
+    Ok(values)
+}
+
+/// A copy of a part of a body's values.
+fn own_of(alloc: Global, part: u32, size: u32, body: &Body) -> Result<Bytes, NoMemory>
+    requires in_range { part < length body.now.values }
+    requires exact { size ≡ part_size body.now.values }
+    ensures { IfOk result (λ value. value ≡ part_at part body.now.values) }
+{
+    let mut out = zeros(alloc, size as usize)?;
+    body.values().read_own(part, out.as_mut_slice());
+    Ok(List::of(out))
+}
+
+/// So many zeros.
+fn zeros(alloc: Global, count: usize) -> Result<Vec<u8>, NoMemory>
+    ensures { IfOk result (λ bytes. length bytes.items ≡ count) }
+{
+    Ok(vec![in alloc; 0; count]?)
+}

@@ -1,0 +1,14 @@
+//! Laws of the table.
+
+ghost use Rattle.place_table.specs.Laws.{TakeIsStep, GiveIsStep, MarkIsStep, ClearIsStep, GlanceIsStep};
+
+/// Each operation on a word of a table is the step of the core that has its name: whatever the table is when it happens,
+/// if the rule holds before it, it holds after it, and what the words and contents are read as has gone on by that step.
+/// A try of a lock that somebody holds changes nothing.
+pub fn word_laws()
+    ensures take { TakeIsStep }
+    ensures give { GiveIsStep }
+    ensures mark { MarkIsStep }
+    ensures clear { ClearIsStep }
+    ensures glance { GlanceIsStep }
+{}

@@ -1,0 +1,214 @@
+//! What a closed table leaves, read of its slots.
+
+ghost use Rattle.std.specs.Prelude.{◌≡◌, ℕ, ◌+◌, Bool, true, false, All, IfOk, OnOk, drop, filter, length, map, slice_range};
+ghost use Rattle.std.specs.List.{range_with_len};
+ghost use Rattle.cpu_freelist.specs.Stack.{numbers};
+ghost use Rattle.map_types.specs.Creation.{IsShape};
+ghost use Rattle.map_types.specs.Kind.{is_lru};
+ghost use Rattle.place_words.specs.Locks.{lock_count, first_bucket, first_freelist};
+ghost use Rattle.place_table.specs.Closing.{has_lock, strands_of, spare_numbers, IsLeft};
+ghost use Rattle.place_table.specs.Leaving.{Logs, bodies_in, numbers_in, HasSizedBodies, IsHistory, HaveHistories, AreContents, AreKept};
+
+use crate::closed::Closed;
+use crate::content::Content;
+use crate::kept::bucket_copy;
+use cpu_freelist::Freelist;
+use map_types::{List, NoMemory, Numbers, Shape};
+use percpu_values::BoxedBody;
+use place_words::{Entry, Finals, Kept, LockHistory, Strand, StrandStep, is_lock, lock_named};
+use std::alloc::Global;
+
+/// What is left of what lay in the slots, contents and histories apart, beside the marked elements, the recorded steps and
+/// the spares.
+pub(crate) fn left(
+    alloc: Global,
+    shape: &Shape,
+    contents: Vec<Option<Content>>,
+    histories: Vec<Option<Vec<Entry>>>,
+    marked: Numbers,
+    steps: Vec<StrandStep>,
+    spares: &[Option<BoxedBody>],
+) -> Result<Closed, NoMemory>
+    requires shape { IsShape shape.now }
+    requires plain { is_lru shape.now.kind ≡ false }
+    requires counted { (length contents.items ≡ lock_count shape.now) × (length histories.items ≡ lock_count shape.now) }
+    requires sized { All (HasSizedBodies shape.now) (slice_range contents.items (first_bucket shape.now) (first_freelist shape.now)) }
+    ensures { (log : Logs) (lost bit : ℕ → Bool) → AreContents shape.now log contents.items → HaveHistories shape.now log lost histories.items
+        → marked ≡ filter bit (range_with_len 0 shape.now.elements) → IfOk result (λ closed. IsLeft shape.now log lost bit steps.items spares.now closed) }
+{
+    let first_bucket = 2 * shape.cpus as usize + 1;
+    let first_freelist = first_bucket + shape.buckets as usize;
+    let buckets = buckets_left(alloc, shape, &contents[first_bucket..first_freelist])?;
+    let freelists = freelists_left(alloc, contents, first_freelist)?;
+    let Histories { kept, lost } = histories_left(alloc, shape, histories)?;
+    let strands = strands_left(alloc, shape, steps)?;
+    let spares = spares_left(alloc, spares)?;
+    Ok(Closed {
+        histories: List::of(kept),
+        strands,
+        finals: Finals {
+            buckets: List::of(buckets),
+            freelists: List::of(freelists),
+            spares,
+            sets: List::of(Vec::new(alloc)),
+            locals: List::of(Vec::new(alloc)),
+            marked,
+        },
+        lost,
+    })
+}
+
+/// Copies of buckets.
+fn buckets_left(
+    alloc: Global,
+    shape: &Shape,
+    contents: &[Option<Content>],
+) -> Result<Vec<List<Kept>>, NoMemory>
+    requires sized { All (HasSizedBodies shape.now) contents.now }
+    ensures { IfOk result (λ buckets. buckets.items ≡ map bodies_in contents.now) }
+{
+    let mut buckets = Vec::with_capacity(alloc, contents.len())?;
+    for content in contents {
+        buckets.push(bucket_left(alloc, shape, content)?)?;
+    }
+    Ok(buckets)
+}
+
+/// A copy of a bucket.
+fn bucket_left(
+    alloc: Global,
+    shape: &Shape,
+    content: &Option<Content>,
+) -> Result<List<Kept>, NoMemory>
+    requires sized { HasSizedBodies shape.now content.now }
+    ensures { IfOk result (λ bucket. bucket ≡ bodies_in content.now) }
+{
+    match content {
+        Some(Content::Bucket(chain)) => bucket_copy(alloc, shape, chain),
+        _ => Ok(List::of(Vec::new(alloc))),
+    }
+}
+
+/// The elements of the freelists, which stand from here on.
+fn freelists_left(
+    alloc: Global,
+    contents: Vec<Option<Content>>,
+    first: usize,
+) -> Result<Vec<Numbers>, NoMemory>
+    ensures { IfOk result (λ freelists. freelists.items ≡ map numbers_in (drop first contents.items)) }
+{
+    let mut freelists = Vec::new(alloc);
+    for content in contents.into_iter().skip(first) {
+        freelists.push(freelist_left(alloc, content)?)?;
+    }
+    Ok(freelists)
+}
+
+/// The elements of a freelist, top first.
+fn freelist_left(alloc: Global, content: Option<Content>) -> Result<Numbers, NoMemory>
+    ensures { IfOk result (λ elements. elements ≡ numbers_in content) }
+{
+    match content {
+        Some(Content::Freelist(freelist)) => numbers_left(alloc, freelist),
+        _ => Ok(List::of(Vec::new(alloc))),
+    }
+}
+
+/// The elements of a freelist, top first.
+fn numbers_left(alloc: Global, mut freelist: Freelist) -> Result<Numbers, NoMemory>
+    ensures { IfOk result (λ elements. elements ≡ numbers freelist) }
+{
+    let mut elements = Vec::new(alloc);
+    while let Some(body) = freelist.pop() {
+        elements.push(body.body().element())?;
+    }
+    Ok(List::of(elements))
+}
+
+/// The histories whose record isn't lost, and whether one is.
+#[derive(Drop)]
+struct Histories {
+    kept: Vec<LockHistory>,
+    lost: bool,
+}
+
+/// The histories of all locks that the map has.
+fn histories_left(
+    alloc: Global,
+    shape: &Shape,
+    histories: Vec<Option<Vec<Entry>>>,
+) -> Result<Histories, NoMemory>
+    requires shape { IsShape shape.now }
+    requires counted { length histories.items ≡ lock_count shape.now }
+    ensures { (log : Logs) (lost : ℕ → Bool) → HaveHistories shape.now log lost histories.items → IfOk result (λ left. AreKept shape.now log lost (lock_count shape.now) left.kept.items left.lost) }
+{
+    let mut left = Histories {
+        kept: Vec::new(alloc),
+        lost: false,
+    };
+    let mut number = 0;
+    for history in histories {
+        left.keep(shape, number, history)?;
+        number += 1;
+    }
+    Ok(left)
+}
+
+impl Histories {
+    /// Keeps the history of a lock, if the map has the lock, or that it is lost.
+    fn keep(
+        &mut self,
+        shape: &Shape,
+        number: u32,
+        history: Option<Vec<Entry>>,
+    ) -> Result<(), NoMemory>
+        requires shape { IsShape shape.now }
+        ensures { (log : Logs) (lost : ℕ → Bool) → (has_lock shape.now number ≡ true → IsHistory (lost number) (log number) history)
+            → AreKept shape.now log lost number self.old.kept.items self.old.lost → OnOk result (AreKept shape.now log lost (number + 1) self.new.kept.items self.new.lost) }
+    {
+        let lock = lock_named(shape, number);
+        if !is_lock(shape, lock) {
+            return Ok(());
+        }
+        let Some(entries) = history else {
+            self.lost = true;
+            return Ok(());
+        };
+        self.kept.push(LockHistory {
+            lock,
+            entries: List::of(entries),
+        })?;
+        Ok(())
+    }
+}
+
+/// The strand of all CPUs, if it has a step.
+fn strands_left(
+    alloc: Global,
+    shape: &Shape,
+    steps: Vec<StrandStep>,
+) -> Result<List<Strand>, NoMemory>
+    ensures { IfOk result (λ strands. strands ≡ strands_of shape.now steps.items) }
+{
+    if steps.is_empty() {
+        return Ok(List::of(Vec::new(alloc)));
+    }
+    let strand = Strand {
+        cpus: List::of((0..shape.cpus).collect(alloc)?),
+        steps: List::of(steps),
+    };
+    Ok(List::of(vec![in alloc; strand]?))
+}
+
+/// The elements of the spares that are kept, by CPU.
+fn spares_left(alloc: Global, spares: &[Option<BoxedBody>]) -> Result<Numbers, NoMemory>
+    ensures { IfOk result (λ elements. elements ≡ spare_numbers spares.now) }
+{
+    let mut elements = Vec::new(alloc);
+    for spare in spares {
+        if let Some(body) = spare {
+            elements.push(body.body().element())?;
+        }
+    }
+    Ok(List::of(elements))
+}

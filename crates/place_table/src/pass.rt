@@ -1,0 +1,26 @@
+//! What one worker has of the table: its seat, its call, the steps of its strand that are recorded, and its spares.
+
+use crate::rule::Place;
+use percpu_values::BoxedBody;
+use place_words::StrandStep;
+use std::marker::Model;
+
+/// A pass for some CPUs of a map. It may move to another thread.
+#[derive(Drop)]
+pub struct Pass {
+    pub(crate) seat: Place,
+    pub(crate) cpu: u32,
+    pub(crate) call: u32,
+    pub(crate) strand: Vec<StrandStep>,
+    pub(crate) spares: [Option<BoxedBody>; 16],
+}
+
+impl Model for Pass {
+    ghost use Rattle.place_table.specs.Passes.{PassView, IsPass};
+
+    ghost Value = { PassView };
+
+    ghost view = { λ p. record { table = p.seat.table_id; seat = p.seat.id; cpu = p.cpu; call = p.call; view = p.seat.me.0; spares = p.spares } };
+
+    ghost invariant = { λ p. IsPass p.seat.me.0 p.seat.me.1 p.strand.items p.spares };
+}

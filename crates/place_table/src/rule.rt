@@ -1,0 +1,155 @@
+//! The rule of the table, and what each of its steps tells.
+
+use crate::content::Behind;
+use crate::view::View;
+use atomic_table::{Play, Seat, Shared, TableRule};
+use map_types::Shape;
+use std::marker::{Brand, PhantomData};
+
+pub struct Law;
+
+impl TableRule<Behind, View, Shape> for Law {
+    ghost use Rattle.place_table.specs.Rules.{Rule};
+    ghost use Rattle.place_table.specs.Views.{first_view};
+
+    ghost holds = { λ shape s. Rule shape s };
+
+    ghost first = { λ shape. first_view shape };
+}
+
+pub type Desk = Shared<Behind, View, Shape, Law>;
+
+pub type Place = Seat<Behind, View>;
+
+/// A lock is tried.
+pub struct Trying;
+
+impl Play<Behind, View> for Trying {
+    ghost use Rattle.place_table.specs.Plays.{Tries};
+
+    ghost then = { Tries };
+}
+
+/// What a lock is given back with, which its word doesn't tell: the entry, and the steps that are recorded then.
+pub trait Turn {
+    ghost use Rattle.std.specs.Prelude.{List};
+    ghost use Rattle.place_words.specs.declared.history.Entry.{Entry};
+    ghost use Rattle.place_words.specs.declared.history.StrandStep.{StrandStep};
+
+    ghost entry: { Entry };
+
+    ghost kept: { List StrandStep };
+}
+
+impl Turn for Brand {
+    ghost use Rattle.std.specs.Prelude.{[]};
+    ghost use Rattle.place_words.specs.declared.history.Part.TheVariants as parts;
+    ghost use Rattle.place_words.specs.declared.free_part.FreePart.TheVariants.{FoundEmpty};
+
+    ghost entry = { record { cpu = 0; call = 0; part = parts.Free FoundEmpty } };
+
+    ghost kept = { [] };
+}
+
+/// A lock is given back, and its turn recorded where there was memory.
+pub struct Giving<N> {
+    about: PhantomData<N>,
+}
+
+impl<N: Turn> Play<Behind, View> for Giving<N> {
+    ghost use Rattle.place_table.specs.Plays.{Gives};
+
+    ghost then = { λ st me n after. Gives N.entry N.kept me after };
+}
+
+/// The CPU and the call that give a lock back with nothing recorded.
+pub trait Caller {
+    ghost use Rattle.std.specs.Prelude.{ℕ};
+
+    ghost cpu: { ℕ };
+
+    ghost call: { ℕ };
+}
+
+impl Caller for Brand {
+    ghost cpu = { 0 };
+
+    ghost call = { 0 };
+}
+
+/// A lock is given back with nothing recorded.
+pub struct Losing<N> {
+    about: PhantomData<N>,
+}
+
+impl<N: Caller> Play<Behind, View> for Losing<N> {
+    ghost use Rattle.place_table.specs.Plays.{GivesSome};
+
+    ghost then = { λ st me n after. GivesSome N.cpu N.call me after };
+}
+
+/// The element that a step is about.
+pub trait About {
+    ghost use Rattle.std.specs.Prelude.{ℕ};
+
+    ghost element: { ℕ };
+}
+
+impl About for Brand {
+    ghost element = { 0 };
+}
+
+/// A bit is set.
+pub struct Marking<N> {
+    about: PhantomData<N>,
+}
+
+impl<N: About> Play<Behind, View> for Marking<N> {
+    ghost use Rattle.place_table.specs.Plays.{Marks};
+
+    ghost then = { λ st me n after. Marks N.element me after };
+}
+
+/// A bit is cleared.
+pub struct Clearing<N> {
+    about: PhantomData<N>,
+}
+
+impl<N: About> Play<Behind, View> for Clearing<N> {
+    ghost use Rattle.place_table.specs.Plays.{Clears};
+
+    ghost then = { λ st me n after. Clears N.element me n after };
+}
+
+/// A bit is read.
+pub struct ReadingBit<N> {
+    about: PhantomData<N>,
+}
+
+impl<N: About> Play<Behind, View> for ReadingBit<N> {
+    ghost use Rattle.place_table.specs.Plays.{SeesBit};
+
+    ghost then = { λ st me n after. SeesBit N.element me n after };
+}
+
+/// An owner is read.
+pub struct ReadingOwner<N> {
+    about: PhantomData<N>,
+}
+
+impl<N: About> Play<Behind, View> for ReadingOwner<N> {
+    ghost use Rattle.place_table.specs.Plays.{SeesOwner};
+
+    ghost then = { λ st me n after. SeesOwner N.element me n after };
+}
+
+/// A home is read.
+pub struct ReadingHome<N> {
+    about: PhantomData<N>,
+}
+
+impl<N: About> Play<Behind, View> for ReadingHome<N> {
+    ghost use Rattle.place_table.specs.Plays.{SeesHome};
+
+    ghost then = { λ st me n after. SeesHome N.element me n after };
+}

@@ -1,0 +1,232 @@
+//! Single steps on the words of the table, by the seat of a pass.
+
+ghost use Rattle.std.specs.Prelude.{◌≡◌, ℕ, List, [], ◌+◌, ◌*◌, ◌<◌, ◌^◌, ◌∷◌, ◌++◌, length, true, IsTrue, MatchBool, MatchOption, IfSome, IfNone, Some, None};
+ghost use Rattle.atomic_table.specs.Table.{rest};
+ghost use Rattle.map_types.specs.declared.kind.DomainId.TheVariants as locks;
+ghost use Rattle.place_words.specs.Locks.{lock_count, lock_named, lock_number, is_lock, rank_of};
+ghost use Rattle.place_words.specs.ElementLists.{IsIn};
+ghost use Rattle.place_core.specs.State.{rows};
+ghost use Rattle.place_table.specs.declared.content.Behind.{Behind};
+ghost use Rattle.place_table.specs.declared.content.Content.{Content};
+ghost use Rattle.place_table.specs.declared.view.Hold.{Hold};
+ghost use Rattle.place_words.specs.declared.history.Part as history;
+ghost use Rattle.place_table.specs.declared.view.Notes.{Notes};
+ghost use Rattle.place_table.specs.Views.{is_among, hold_at, is_in_hand_of, kept_step};
+ghost use Rattle.place_table.specs.Rules.{word_count, owner_word, home_word, bit_word, IsAboveAll};
+ghost use Rattle.place_table.specs.Plays.{Took, MayGive, IsInnermost, Gives, GivesSome, entry_by, Marks, Clears, SeesBit, SeesOwner, SeesHome};
+ghost use Rattle.place_table.specs.Recording.{Records, entry_given};
+ghost use Rattle.place_table.specs.Passes.{without_content};
+ghost use Rattle.place_table.specs.TurnNotes.{NotesFit};
+
+use crate::content::{Behind, Content};
+use crate::rule::{
+    About, Caller, Clearing, Desk, Giving, Losing, Marking, Place, ReadingBit, ReadingHome,
+    ReadingOwner, Trying, Turn,
+};
+use map_types::DomainId;
+use place_words::{Entry, StrandStep};
+use std::sync::Wait;
+use std::thread;
+
+/// Takes the lock of this number for a CPU, where nobody holds it.
+pub(crate) fn try_lock(desk: &Desk, seat: &mut Place, lock: u32, cpu: u32) -> bool
+    requires table { seat.old.table_id ≡ desk.now.table_id }
+    requires words { desk.now.table_id.words ≡ word_count desk.now.key }
+    requires lock { (lock < lock_count desk.now.key) × IsTrue (is_lock desk.now.key (lock_named desk.now.key lock)) }
+    requires cpu { is_among cpu seat.old.me.0.cpus ≡ true }
+    requires above { IsAboveAll desk.now.key (rank_of (lock_named desk.now.key lock)) seat.old.me.0.held }
+    ensures seat { (seat.new.table_id ≡ seat.old.table_id) × (seat.new.id ≡ seat.old.id) }
+    ensures took { MatchBool result (Took lock cpu seat.old.me seat.new.me) (seat.new.me ≡ seat.old.me) }
+{
+    desk.compare_exchange::<Trying>(seat, lock as usize, 0, cpu as u64 + 1) == 0
+}
+
+/// Waits for the lock of this number, and takes it for a CPU.
+pub(crate) fn take_lock<R: Wait>(rt: &R, desk: &Desk, seat: &mut Place, lock: u32, cpu: u32)
+    requires table { seat.old.table_id ≡ desk.now.table_id }
+    requires words { desk.now.table_id.words ≡ word_count desk.now.key }
+    requires lock { (lock < lock_count desk.now.key) × IsTrue (is_lock desk.now.key (lock_named desk.now.key lock)) }
+    requires cpu { is_among cpu seat.old.me.0.cpus ≡ true }
+    requires above { IsAboveAll desk.now.key (rank_of (lock_named desk.now.key lock)) seat.old.me.0.held }
+    ensures seat { (seat.new.table_id ≡ seat.old.table_id) × (seat.new.id ≡ seat.old.id) }
+    ensures took { Took lock cpu seat.old.me seat.new.me }
+{
+    for _ in rt.forever() {
+        if try_lock(desk, seat, lock, cpu) {
+            return;
+        }
+        thread::yield_now();
+    }
+    unreachable!()
+}
+
+/// Moves the content out of the slot that was taken last.
+pub(crate) fn unload(desk: &Desk, seat: &mut Place, lock: u32) -> Option<Content>
+    requires table { seat.old.table_id ≡ desk.now.table_id }
+    requires slot { (behind : Behind) × (seat.old.me.1 ≡ (lock, behind) ∷ rest seat.old.me.1) }
+    ensures seat { (seat.new.table_id ≡ seat.old.table_id) × (seat.new.id ≡ seat.old.id) }
+    ensures out { (behind : Behind) × (seat.old.me.1 ≡ (lock, behind) ∷ rest seat.old.me.1) × (result ≡ behind.content) × (seat.new.me ≡ (seat.old.me.0, (lock, without_content behind) ∷ rest seat.old.me.1)) }
+{
+    let Behind { content, history } = desk.exchange(seat, lock as usize, Behind::nothing());
+    let _ = desk.exchange(
+        seat,
+        lock as usize,
+        Behind {
+            content: None,
+            history,
+        },
+    );
+    content
+}
+
+/// A history after a turn, and the entry of the turn where there was no memory for it. There is no history then.
+#[derive(Drop)]
+pub(crate) struct Recorded {
+    pub(crate) history: Option<Vec<Entry>>,
+    pub(crate) lost: Option<Entry>,
+}
+
+/// The history with the entry, and the strand with its step. Where there was no history, or there is no memory for both,
+/// there is none from then on, and the strand stays.
+pub(crate) fn record_turn(
+    strand: &mut Vec<StrandStep>,
+    history: Option<Vec<Entry>>,
+    lock: DomainId,
+    entry: Entry,
+) -> Recorded
+    ensures { Records history lock entry strand.old.items strand.new.items result }
+{
+    let Some(mut history) = history else {
+        return Recorded {
+            history: None,
+            lost: Some(entry),
+        };
+    };
+    if history.reserve(1).is_err() || strand.reserve(1).is_err() {
+        return Recorded {
+            history: None,
+            lost: Some(entry),
+        };
+    }
+    strand.push_reserved(StrandStep {
+        lock,
+        index: history.len() as u64,
+    });
+    history.push_reserved(entry);
+    Recorded {
+        history: Some(history),
+        lost: None,
+    }
+}
+
+/// Gives back the lock that was taken last, with its slot.
+pub(crate) fn give_lock<N: Turn>(
+    desk: &Desk,
+    seat: &mut Place,
+    lock: u32,
+    lost: &Option<Entry>,
+    strand: &Vec<StrandStep>,
+)
+    requires table { seat.old.table_id ≡ desk.now.table_id }
+    requires words { desk.now.table_id.words ≡ word_count desk.now.key }
+    requires lock { (lock < lock_count desk.now.key) × IsTrue (is_lock desk.now.key (lock_named desk.now.key lock)) }
+    requires turn { (N.entry ≡ entry_given lost.now seat.old.me.1) × (N.kept ≡ strand.now.items) }
+    requires may { (behind : Behind) × (slots : List (ℕ × Behind)) × (hold : Hold) × (below : List Hold) × (seat.old.me.1 ≡ (lock, behind) ∷ slots) × IsInnermost seat.old.me.0 hold below × (hold.lock ≡ lock) × MayGive desk.now.key seat.old.me.0 hold N.entry N.kept behind }
+    ensures seat { (seat.new.table_id ≡ seat.old.table_id) × (seat.new.id ≡ seat.old.id) }
+    ensures gave { Gives N.entry N.kept seat.old.me seat.new.me }
+{
+    let _ = lost;
+    let _ = strand;
+    desk.store::<Giving<N>>(seat, lock as usize, 0);
+}
+
+/// Gives back the lock that was taken last, with its slot, in which no history is left.
+pub(crate) fn lose_lock<N: Caller>(desk: &Desk, seat: &mut Place, lock: u32, cpu: u32, call: u32)
+    requires table { seat.old.table_id ≡ desk.now.table_id }
+    requires words { desk.now.table_id.words ≡ word_count desk.now.key }
+    requires lock { (lock < lock_count desk.now.key) × IsTrue (is_lock desk.now.key (lock_named desk.now.key lock)) }
+    requires caller { (N.cpu ≡ cpu) × (N.call ≡ call) }
+    requires may { (behind : Behind) × (hold : Hold) × (below : List Hold) × (part : history.Part) × (notes : Notes) × (notes_below : List Notes) × (seat.old.me.1 ≡ (lock, behind) ∷ rest seat.old.me.1) × IsInnermost seat.old.me.0 hold below × (hold.lock ≡ lock) × MayGive desk.now.key seat.old.me.0 hold (entry_by N.cpu N.call part) seat.old.me.0.kept behind × (seat.old.me.0.notes ≡ notes ∷ notes_below) × NotesFit desk.now.key part notes }
+    ensures seat { (seat.new.table_id ≡ seat.old.table_id) × (seat.new.id ≡ seat.old.id) }
+    ensures gave { GivesSome N.cpu N.call seat.old.me seat.new.me }
+{
+    let _ = cpu;
+    let _ = call;
+    desk.store::<Losing<N>>(seat, lock as usize, 0);
+}
+
+/// Sets the bit of an element that lies in a bucket that is held.
+pub(crate) fn set_bit<N: About>(
+    desk: &Desk,
+    seat: &mut Place,
+    element: u32,
+    word: usize,
+    bucket: u32,
+)
+    requires table { seat.old.table_id ≡ desk.now.table_id }
+    requires words { (desk.now.table_id.words ≡ word_count desk.now.key) × (word ≡ bit_word desk.now.key element) }
+    requires element { (element < desk.now.key.elements) × (N.element ≡ element) }
+    requires bucket { (hold : Hold) × (bucket < desk.now.key.buckets) × (hold_at (lock_number desk.now.key (locks.Bucket bucket)) seat.old.me.0.held ≡ Some hold) × IsIn element hold.now.first }
+    ensures seat { (seat.new.table_id ≡ seat.old.table_id) × (seat.new.id ≡ seat.old.id) }
+    ensures marked { Marks element seat.old.me seat.new.me }
+{
+    let _ = bucket;
+    let _ = element;
+    desk.store::<Marking<N>>(seat, word, 1);
+}
+
+/// Clears the bit of an element in the hand of a CPU, and answers what it was.
+pub(crate) fn clear_bit<N: About>(
+    desk: &Desk,
+    seat: &mut Place,
+    element: u32,
+    word: usize,
+    cpu: u32,
+) -> u64
+    requires table { seat.old.table_id ≡ desk.now.table_id }
+    requires words { (desk.now.table_id.words ≡ word_count desk.now.key) × (word ≡ bit_word desk.now.key element) }
+    requires element { (element < desk.now.key.elements) × (N.element ≡ element) }
+    requires hand { (is_among cpu seat.old.me.0.cpus ≡ true) × (is_in_hand_of element cpu seat.old.me.0.hand ≡ true) }
+    ensures seat { (seat.new.table_id ≡ seat.old.table_id) × (seat.new.id ≡ seat.old.id) }
+    ensures cleared { Clears element seat.old.me result seat.new.me }
+{
+    let _ = cpu;
+    let _ = element;
+    desk.swap::<Clearing<N>>(seat, word, 0)
+}
+
+/// What the bit word of an element is.
+pub(crate) fn read_bit<N: About>(desk: &Desk, seat: &mut Place, element: u32, word: usize) -> u64
+    requires table { seat.old.table_id ≡ desk.now.table_id }
+    requires words { (desk.now.table_id.words ≡ word_count desk.now.key) × (word ≡ bit_word desk.now.key element) }
+    requires element { (element < desk.now.key.elements) × (N.element ≡ element) }
+    ensures seat { (seat.new.table_id ≡ seat.old.table_id) × (seat.new.id ≡ seat.old.id) }
+    ensures seen { SeesBit element seat.old.me result seat.new.me }
+{
+    let _ = element;
+    desk.load::<ReadingBit<N>>(seat, word)
+}
+
+/// What the owner word of an element is.
+pub(crate) fn read_owner<N: About>(desk: &Desk, seat: &mut Place, element: u32, word: usize) -> u64
+    requires table { seat.old.table_id ≡ desk.now.table_id }
+    requires words { (desk.now.table_id.words ≡ word_count desk.now.key) × (word ≡ owner_word desk.now.key element) }
+    requires element { (element < desk.now.key.elements) × (N.element ≡ element) }
+    ensures seat { (seat.new.table_id ≡ seat.old.table_id) × (seat.new.id ≡ seat.old.id) }
+    ensures seen { SeesOwner element seat.old.me result seat.new.me }
+{
+    let _ = element;
+    desk.load::<ReadingOwner<N>>(seat, word)
+}
+
+/// What the home word of an element is.
+pub(crate) fn read_home<N: About>(desk: &Desk, seat: &mut Place, element: u32, word: usize) -> u64
+    requires table { seat.old.table_id ≡ desk.now.table_id }
+    requires words { (desk.now.table_id.words ≡ word_count desk.now.key) × (word ≡ home_word desk.now.key element) }
+    requires element { (element < desk.now.key.elements) × (N.element ≡ element) }
+    ensures seat { (seat.new.table_id ≡ seat.old.table_id) × (seat.new.id ≡ seat.old.id) }
+    ensures seen { SeesHome element seat.old.me result seat.new.me }
+{
+    let _ = element;
+    desk.load::<ReadingHome<N>>(seat, word)
+}

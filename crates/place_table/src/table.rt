@@ -1,0 +1,250 @@
+//! The table that the CPUs of a map share.
+
+ghost use Rattle.std.specs.Prelude.{◌≡◌, ◌+◌, ◌*◌, ◌<◌, ◌^◌, true, [], MatchOption, IsTrue, if◌then◌else◌};
+ghost use Rattle.map_types.specs.Kind.{is_lru};
+ghost use Rattle.place_words.specs.Locks.{lock_number, lock_count, is_lock};
+ghost use Rattle.place_table.specs.Views.{is_among, marked};
+ghost use Rattle.place_table.specs.Rules.{word_count, owner_word, home_word, bit_word};
+ghost use Rattle.place_table.specs.Passes.{IsPassOf, HasBegun, IsInNoCall, begun, with_view, CanTake, Takes, CanGive, CanGiveSome, MayGiveBack, Gave, GaveSome, GaveBack, CanMark, CanClear, CanLook, Cleared, SawBit, SawOwner, SawHome};
+
+use crate::content::{Behind, Content};
+use crate::pass::Pass;
+use crate::rule::Law;
+use crate::steps::{
+    Recorded, clear_bit, give_lock, lose_lock, read_bit, read_home, read_owner, record_turn,
+    set_bit, take_lock, unload,
+};
+use crate::view::View;
+use atomic_table::Table;
+use map_types::{DomainId, Gate, Point, Shape};
+use place_words::{Entry, Home, Owner, Part, home_of_code, lock_number, owner_of_code};
+use std::alloc::Global;
+use std::marker::{Brand, Model};
+use std::sync::Wait;
+
+/// The locks of a map with what lies under them, and the owners, homes and bits of its elements. It may be shared by
+/// threads, each of which has a pass. Contracts see its shape and which table it is.
+#[derive(Drop)]
+pub struct PlaceTable {
+    pub(crate) table: Table<Behind, View, Shape, Law, Global>,
+    pub(crate) shape: Shape,
+    pub(crate) alloc: Global,
+}
+
+impl Model for PlaceTable {
+    ghost use Rattle.std.specs.Prelude.{◌≡◌};
+    ghost use Rattle.map_types.specs.Creation.{IsShape};
+    ghost use Rattle.place_table.specs.Passes.{TableView};
+    ghost use Rattle.place_table.specs.Rules.{word_count};
+
+    ghost Value = { TableView };
+
+    ghost view = { λ t. record { id = t.table.shared.table_id; shape = t.shape } };
+
+    ghost invariant = { λ t. (t.table.shared.key ≡ t.shape) × (t.table.shared.table_id.words ≡ word_count t.shape) × IsShape t.shape };
+}
+
+impl PlaceTable {
+    /// The shape that the table was created with.
+    pub fn shape(&self) -> &Shape
+        ensures { result.now ≡ self.now.shape }
+    {
+        &self.shape
+    }
+
+    /// Starts a call on a CPU of the pass, which is in no call. Calls are named by numbers of the caller's.
+    pub fn begin(&self, pass: &mut Pass, cpu: u32, call: u32)
+        requires table { IsPassOf self.now pass.old }
+        requires cpu { is_among cpu pass.old.view.cpus ≡ true }
+        requires in_no_call { IsInNoCall pass.old }
+        ensures { pass.new ≡ begun pass.old cpu call }
+    {
+        pass.cpu = cpu;
+        pass.call = call;
+    }
+
+    /// The CPU of the pass's last `begin`.
+    pub fn cpu_of(&self, pass: &Pass) -> u32
+        requires table { IsPassOf self.now pass.now }
+        requires begun { HasBegun pass.now }
+        ensures { result ≡ pass.now.cpu }
+    {
+        pass.cpu
+    }
+
+    /// Waits for a lock of the map, above all that the pass holds, and takes what lies under it.
+    pub fn take<R: Wait, G: Gate>(
+        &self,
+        rt: &R,
+        pass: &mut Pass,
+        lock: DomainId,
+        gate: &G,
+    ) -> Content
+        requires { CanTake self.now lock pass.old }
+        ensures { Takes self.now lock pass.old pass.new result }
+    {
+        let shared = &self.table.shared;
+        let number = lock_number(&self.shape, lock);
+        take_lock(rt, shared, &mut pass.seat, number, pass.cpu);
+        gate.at(pass.cpu, Point::Took(lock));
+        match unload(shared, &mut pass.seat, number) {
+            Some(content) => content,
+            None => unreachable!(),
+        }
+    }
+
+    /// Gives back the lock that the pass took last, with a content to which an allowed part leads. The part is recorded
+    /// where there is memory for it. Where there is none, or no part, the record of this lock's turns is lost for good.
+    pub fn give<G: Gate>(
+        &self,
+        pass: &mut Pass,
+        lock: DomainId,
+        content: Content,
+        part: Option<Part>,
+        gate: &G,
+    )
+        requires { MayGiveBack self.now lock pass.old content part }
+        ensures { GaveBack self.now lock pass.old pass.new content part }
+    {
+        match part {
+            Some(part) => self.give_part(pass, lock, content, part),
+            None => self.give_none(pass, lock, content),
+        }
+        gate.at(pass.cpu, Point::Gave(lock));
+    }
+
+    /// Gives the lock back with a part, which is recorded where there is memory.
+    fn give_part(&self, pass: &mut Pass, lock: DomainId, content: Content, part: Part)
+        requires { CanGive self.now lock pass.old content part }
+        ensures { Gave pass.old pass.new part }
+    {
+        let shared = &self.table.shared;
+        let number = lock_number(&self.shape, lock);
+        let entry = Entry {
+            cpu: pass.cpu,
+            call: pass.call,
+            part,
+        };
+        let Behind { history, .. } = shared.exchange(
+            &mut pass.seat,
+            number as usize,
+            Behind::nothing(),
+        );
+        let Recorded { history, lost } = record_turn(&mut pass.strand, history, lock, entry);
+        let _ = shared.exchange(
+            &mut pass.seat,
+            number as usize,
+            Behind {
+                content: Some(content),
+                history,
+            },
+        );
+        give_lock::<Brand>(shared, &mut pass.seat, number, &lost, &pass.strand);
+    }
+
+    /// Gives the lock back with no part. Its history is lost.
+    fn give_none(&self, pass: &mut Pass, lock: DomainId, content: Content)
+        requires { CanGiveSome self.now lock pass.old content }
+        ensures { GaveSome self.now lock pass.old pass.new content }
+    {
+        let shared = &self.table.shared;
+        let number = lock_number(&self.shape, lock);
+        let _ = shared.exchange(
+            &mut pass.seat,
+            number as usize,
+            Behind {
+                content: Some(content),
+                history: None,
+            },
+        );
+        lose_lock::<Brand>(shared, &mut pass.seat, number, pass.cpu, pass.call);
+    }
+
+    /// Sets the bit of an element of a bucket that the CPU holds.
+    pub fn mark(&self, pass: &mut Pass, element: u32, bucket: u32)
+        requires { CanMark self.now element bucket pass.old }
+        ensures { pass.new ≡ with_view pass.old (marked element pass.old.view) }
+    {
+        let word = self.bit_word(element);
+        set_bit::<Brand>(&self.table.shared, &mut pass.seat, element, word, bucket);
+    }
+
+    /// Clears the bit of an element, and answers what it was. Here that is one in the CPU's hand.
+    pub fn clear(&self, pass: &mut Pass, element: u32) -> bool
+        requires { CanClear self.now element pass.old }
+        ensures { Cleared element pass.old pass.new result }
+    {
+        let word = self.bit_word(element);
+        clear_bit::<Brand>(&self.table.shared, &mut pass.seat, element, word, pass.cpu) == 1
+    }
+
+    /// The bit of an element.
+    pub fn bit_of(&self, pass: &mut Pass, element: u32) -> bool
+        requires { CanLook self.now element pass.old }
+        ensures { SawBit element pass.old pass.new result }
+    {
+        let word = self.bit_word(element);
+        read_bit::<Brand>(&self.table.shared, &mut pass.seat, element, word) == 1
+    }
+
+    /// The home of an element. A map that doesn't evict tells none.
+    pub fn home_of(&self, pass: &mut Pass, element: u32) -> Home
+        requires { CanLook self.now element pass.old }
+        ensures { SawHome self.now element pass.old pass.new result }
+    {
+        let word = self.home_word(element);
+        match home_of_code(read_home::<Brand>(&self.table.shared, &mut pass.seat, element, word)) {
+            Some(home) => home,
+            None => unreachable!(),
+        }
+    }
+
+    /// The owner of an element.
+    pub fn owner_of(&self, pass: &mut Pass, element: u32) -> Owner
+        requires { CanLook self.now element pass.old }
+        ensures { SawOwner self.now element pass.old pass.new result }
+    {
+        let word = self.owner_word(element);
+        match owner_of_code(read_owner::<Brand>(
+            &self.table.shared,
+            &mut pass.seat,
+            element,
+            word,
+        )) {
+            Some(owner) => owner,
+            None => unreachable!(),
+        }
+    }
+
+    /// How many locks are numbered.
+    fn locks(&self) -> usize
+        ensures exact { result ≡ lock_count self.now.shape }
+        ensures within { result < 2 ^ 32 }
+    {
+        (3 * self.shape.cpus + 1 + self.shape.buckets) as usize
+    }
+
+    /// The word that tells an element's owner.
+    fn owner_word(&self, element: u32) -> usize
+        requires { element < self.now.shape.elements }
+        ensures { result ≡ owner_word self.now.shape element }
+    {
+        self.locks() + element as usize
+    }
+
+    /// The word that tells an element's home.
+    fn home_word(&self, element: u32) -> usize
+        requires { element < self.now.shape.elements }
+        ensures { result ≡ home_word self.now.shape element }
+    {
+        self.locks() + self.shape.elements as usize + element as usize
+    }
+
+    /// The word that tells an element's bit.
+    fn bit_word(&self, element: u32) -> usize
+        requires { element < self.now.shape.elements }
+        ensures { result ≡ bit_word self.now.shape element }
+    {
+        self.locks() + 2 * self.shape.elements as usize + element as usize
+    }
+}

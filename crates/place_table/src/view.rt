@@ -1,0 +1,87 @@
+//! What a pass knows. No value of these types is made: they are what contracts see.
+
+use map_types::Shape;
+use place_core::Lists;
+use place_words::{Entry, Home, Owner, StrandStep};
+use std::collections::LinkedList;
+
+/// A lock that is held: its number, the CPU, the turns before, what lies there at this step, and whether the record of
+/// the turns is lost.
+pub struct Hold {
+    pub lock: u64,
+    pub cpu: u64,
+    pub log: LinkedList<Entry>,
+    pub now: Lists,
+    pub lost: bool,
+}
+
+/// An element in the hand of a CPU.
+pub struct InHand {
+    pub element: u64,
+    pub cpu: u64,
+}
+
+/// A turn that a pass made: the lock's number, the place of the entry in its history, and the entry.
+pub struct Turned {
+    pub lock: u64,
+    pub index: u64,
+    pub entry: Entry,
+}
+
+/// The bit of an element, as it was read.
+pub struct BitSeen {
+    pub element: u64,
+    pub bit: bool,
+}
+
+/// The owner of an element, as it was read.
+pub struct OwnerSeen {
+    pub element: u64,
+    pub owner: Owner,
+}
+
+/// The home of an element, as it was read.
+pub struct HomeSeen {
+    pub element: u64,
+    pub home: Home,
+}
+
+/// What was done and read while a lock was the last one taken of those that are held, the last first.
+pub struct Notes {
+    pub marks: LinkedList<u64>,
+    pub clears: LinkedList<BitSeen>,
+    pub bits: LinkedList<BitSeen>,
+    pub owners: LinkedList<OwnerSeen>,
+    pub homes: LinkedList<HomeSeen>,
+}
+
+/// The turns of a lock that isn't held, as a pass with all CPUs knows them.
+pub struct Known {
+    pub lock: u64,
+    pub log: LinkedList<Entry>,
+}
+
+/// A strand that has ended.
+pub struct Ended {
+    pub cpus: LinkedList<u64>,
+    pub steps: LinkedList<Turned>,
+    pub kept: LinkedList<StrandStep>,
+}
+
+/// What a pass knows.
+pub struct View {
+    pub shape: Shape,
+    pub cpus: LinkedList<u64>,
+    /// The locks held, the last taken first.
+    pub held: LinkedList<Hold>,
+    pub hand: LinkedList<InHand>,
+    /// Those of the locks held, in the same order.
+    pub notes: LinkedList<Notes>,
+    /// Empty unless the pass has all CPUs. What stands first of a lock or an element counts.
+    pub known: LinkedList<Known>,
+    pub bits: LinkedList<BitSeen>,
+    /// The turns of the current strand, and those of them that are recorded.
+    pub steps: LinkedList<Turned>,
+    pub kept: LinkedList<StrandStep>,
+    pub ended: LinkedList<Ended>,
+}
