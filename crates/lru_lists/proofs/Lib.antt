@@ -1,0 +1,4 @@
+pub mod CursorLemmas
+pub mod NoteLemmas
+pub mod SetLemmas
+mod WorkedMoves

@@ -1,0 +1,10 @@
+pub mod ActiveSteps
+pub mod ActiveWalk
+pub mod AskingLemmas
+pub mod InactiveStep
+pub mod InactiveSteps
+pub mod InactiveWalk
+pub mod MoveLemmas
+pub mod TailLemmas
+pub mod RotationLemmas
+pub mod RowsStay

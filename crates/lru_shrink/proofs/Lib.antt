@@ -1,0 +1,9 @@
+pub mod AskingLemmas
+pub mod LookLoop
+pub mod LookWalk
+pub mod Marks
+pub mod Parts
+pub mod RowSteps
+pub mod TryLoop
+pub mod ShrinkLaws
+pub mod StackLemmas

@@ -1,0 +1,129 @@
+-- What a shrink does to a list set and tells of it.
+use Rattle.std.specs.Prelude.{◌≡◌, ◌+◌, ◌-◌, ◌≤◌, ℕ, Bool, false, IsTrue, All, List, ◌++◌, map, filter, filter_map, length, count_by, take, reverse, option_map, unwrap_or, if◌then◌else◌}
+use Rattle.map_types.specs.Stored.{Stored}
+use Rattle.percpu_values.specs.BodyList.{BodyList}
+use Rattle.place_words.specs.ElementLists.{IsIn, times}
+use Rattle.place_words.specs.Listed.{Listed, elements_of}
+use Rattle.place_words.specs.Shrinking.{AreLooks, AreTries, IsShrink, look_removed, try_removed, after_looks, after_tries, shrunk, forced_rows, freed}
+use Rattle.place_words.specs.declared.bucket_part.Seen.{Seen}
+use Rattle.place_words.specs.declared.visits.Look.{Look}
+use Rattle.place_words.specs.declared.visits.Try.{Try}
+use Rattle.lru_lists.specs.Notes.{AreNoted}
+use Rattle.lru_lists.specs.Sets.{SetView, listed, moved_to, taken_off, numbers_of, row_on, times_listed}
+use Rattle.lru_lists.specs.declared.bits.BitCall.{BitCall}
+use Rattle.lru_lists.specs.declared.bits.BitCall.TheVariants.{Cleared}
+use Rattle.lru_lists.specs.declared.bits.ProbeCall.{ProbeCall}
+use Rattle.lru_lists.specs.declared.name.ListName.TheVariants.{Active}
+use Rattle.lru_lists.specs.declared.notes.Noted.{Noted}
+use Rattle.lru_lists.specs.declared.notes.ShrinkNotes.{ShrinkNotes}
+
+-- a set with these active and inactive rows and this cursor, its free list as it was
+abbrev pub with_listed : Listed → SetView → SetView
+with_listed rows set = record set { active = rows.active; inactive = rows.inactive; cursor = rows.cursor }
+
+-- the calls that clear a bit, one for each look
+abbrev pub cleared : List Look → List BitCall
+cleared looks = map (λ look. Cleared (record { element = look.element; bit = look.bit })) looks
+
+-- the probe of an element of a set, by the hash that its row has there, or 0 where it has none
+abbrev pub probe_on : SetView → ℕ → Seen → ProbeCall
+probe_on set e seen = record {
+  element = e;
+  hash = unwrap_or (option_map (λ row. row.hash) (row_on e set)) 0;
+  probed = seen;
+}
+
+-- the probes of looks, none where the bit was set, and those of tries
+abbrev pub look_probes : SetView → List Look → List ProbeCall
+look_probes set looks = filter_map (λ look. option_map (probe_on set look.element) look.probed) looks
+
+abbrev pub try_probes : SetView → List Try → List ProbeCall
+try_probes set tries = map (λ try. probe_on set try.element try.probed) tries
+
+-- the elements that looks removed, and those that tries removed
+abbrev pub removed_by_looks : List Look → List ℕ
+removed_by_looks looks = map (λ look. look.element) (filter look_removed looks)
+
+abbrev pub removed_by_tries : List Try → List ℕ
+removed_by_tries tries = map (λ try. try.element) (filter try_removed tries)
+
+-- Bodies of these elements came on a stack in this order, so the first lies deepest, and it had room for them. `gives` is
+-- known of each.
+pub record AreStacked (gives : Stored → Type 0) (elements : List ℕ) (before after : BodyList) : Type 0 where
+  pub bodies : List Stored
+  pub numbers : numbers_of bodies ≡ elements
+  pub given : All gives bodies
+  pub fits : length bodies ≤ before.spare
+  pub stacked : after ≡ record { bodies = reverse bodies ++ before.bodies; spare = before.spare - length bodies }
+
+-- Where a look takes its row: with its bit set to the head of active, where it was removed off the set. Else it stays.
+abbrev pub after_look : Look → SetView → SetView
+after_look look set =
+    if look.bit then moved_to look.element Active set else (if look_removed look then taken_off look.element set else set)
+
+-- likewise a try
+abbrev pub after_try : Try → SetView → SetView
+after_try try set = if try_removed try then taken_off try.element set else set
+
+-- The first part of a shrink: looks, and what they did. The answer is how many they removed.
+pub record LooksPart (scans target : ℕ) (before after : SetView) (calls calls_after : List BitCall) (probes probes_after : List ProbeCall)
+    (gives : Stored → Type 0) (out out_after : BodyList) (notes notes_after : Noted Look) (answer : ℕ) : Type 0 where
+  pub looks : List Look
+  pub looked : AreLooks scans target (listed before) looks
+  pub set : after ≡ with_listed (after_looks (listed before) looks) before
+  pub left : AreStacked gives (removed_by_looks looks) out out_after
+  pub count : answer ≡ count_by look_removed looks
+  pub enough : answer ≤ target
+  pub asked : calls_after ≡ calls ++ cleared looks
+  pub probed : probes_after ≡ probes ++ look_probes before looks
+  pub noted : AreNoted looks notes notes_after
+  pub rows : (e : ℕ) → times_listed e after + times e (removed_by_looks looks) ≡ times_listed e before
+  pub same_rows : (e : ℕ) → times e (removed_by_looks looks) ≡ 0 → row_on e after ≡ row_on e before
+  pub number : (length after.active + length after.inactive) + answer ≡ length before.active + length before.inactive
+
+-- The second part: tries by force, and what they did.
+pub record TriesPart (before after : SetView) (probes probes_after : List ProbeCall)
+    (gives : Stored → Type 0) (out out_after : BodyList) (notes notes_after : Noted Try) (answer : ℕ) : Type 0 where
+  pub tries : List Try
+  pub tried : AreTries (listed before) tries
+  pub set : after ≡ with_listed (after_tries (listed before) tries) before
+  pub left : AreStacked gives (removed_by_tries tries) out out_after
+  pub count : answer ≡ count_by try_removed tries
+  pub one : answer ≤ 1
+  pub probed : probes_after ≡ probes ++ try_probes before tries
+  pub noted : AreNoted tries notes notes_after
+  pub rows : (e : ℕ) → times_listed e after + times e (removed_by_tries tries) ≡ times_listed e before
+  pub same_rows : (e : ℕ) → times e (removed_by_tries tries) ≡ 0 → row_on e after ≡ row_on e before
+  pub number : (length after.active + length after.inactive) + answer ≡ length before.active + length before.inactive
+
+-- An element whose bit was set is never evicted while another one within the scan limit whose bit wasn't could be removed.
+-- `bits` says of each element looked at whether its look found the bit set, and `removable` which elements a probe removes.
+abbrev pub SparesUsed : ℕ → Listed → List Look → List Try → Type 0
+SparesUsed scans set looks forced =
+    (bits removable : ℕ → Bool) →
+    All (λ look. (look.bit ≡ bits look.element) × (look.bit ≡ false → look_removed look ≡ removable look.element)) looks →
+    (evicted other : ℕ) → IsIn evicted (freed looks forced) → IsTrue (bits evicted) →
+    IsIn other (elements_of (take scans (reverse set.inactive))) → bits other ≡ false → removable other ≡ false
+
+-- A shrink of a set, by the calls for bits and the probes before and after it, by the stack that takes the bodies, by its
+-- notes and by its answer. What the looks and the tries found alone says where each row goes. Each look is one call that
+-- clears the bit, and each look whose bit wasn't set and each try is one probe.
+pub record Shrink (scans target : ℕ) (before after : SetView) (calls calls_after : List BitCall) (probes probes_after : List ProbeCall)
+    (gives : Stored → Type 0) (out out_after : BodyList) (notes notes_after : ShrinkNotes) (answer : ℕ) : Type 0 where
+  pub looks : List Look
+  pub forced : List Try
+  pub shrinks : IsShrink scans target (listed before) looks forced
+  pub set : after ≡ with_listed (shrunk (listed before) looks forced) before
+  pub left : AreStacked gives (freed looks forced) out out_after
+  pub count : answer ≡ length (freed looks forced)
+  pub asked : calls_after ≡ calls ++ cleared looks
+  pub probed : probes_after ≡ probes ++ look_probes before looks ++ try_probes before forced
+  pub noted_looks : AreNoted looks notes.looks notes_after.looks
+  pub noted_forced : AreNoted forced notes.forced notes_after.forced
+  pub few_looks : length looks ≤ scans
+  pub few_tries : length forced ≤ length (forced_rows (after_looks (listed before) looks))
+  pub enough : answer ≤ target
+  pub rows : (e : ℕ) → times_listed e after + times e (freed looks forced) ≡ times_listed e before
+  pub same_rows : (e : ℕ) → times e (freed looks forced) ≡ 0 → row_on e after ≡ row_on e before
+  pub number : (length after.active + length after.inactive) + answer ≡ length before.active + length before.inactive
+  pub spared : SparesUsed scans (listed before) looks forced

@@ -1,0 +1,14 @@
+use Rattle.std.proofs.Common.{ap, sym, ◌∙◌, subst, Option, reverse}
+use Rattle.place_words.specs.ElementLists.{IsIn, IsHead}
+use Rattle.place_words.specs.declared.row.Row.{Row}
+use Rattle.place_words.specs.Listed.{elements_of}
+use Rattle.row_list.specs.RowWords.{row_before}
+use Rattle.row_list.proofs.RowLemmas.{HasSome, before_present}
+use Rattle.row_list.proofs.plain.PlainRowsRows.before.Goals as goal
+
+pub returns-clause-present : goal.returns-clause-present
+returns-clause-present c =
+    let rows = reverse c.args.self.now.items.items in
+    let there : Option Row → Type 0 = λ found. HasSome found (IsIn c.args.element (elements_of rows) × (¬ IsHead c.args.element (elements_of rows))) in
+    let is = c.behind_in.ensures ∙ ap (λ items. row_before c.args.element (reverse items)) c.deref.ensures.value in
+    subst there (sym is) (before_present c.args.element rows)

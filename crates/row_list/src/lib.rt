@@ -1,0 +1,11 @@
+//! Lists of rows, each an element with the stored hash of its key: what the lists of an evicting map are made of.
+#![tactic(auto)]
+
+mod plain;
+mod rows;
+#[cfg(test)]
+mod tests;
+
+pub use place_words::Row;
+pub use plain::PlainRows;
+pub use rows::Rows;
