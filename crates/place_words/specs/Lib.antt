@@ -13,3 +13,4 @@ pub mod Shares
 pub mod Shrinking
 pub mod Sizes
 pub mod Strands
+pub mod Traces
