@@ -1,7 +1,7 @@
 -- The last state of a table whose one pass has all CPUs and holds no lock.
 use Rattle.std.proofs.Common.{◌≡◌, ◌≢◌, ℕ, zero, suc, ◌+◌, ◌<◌, ◌≤◌, ◌⊎◌, inl, inr, ⊎_elim, eqb, cond, Bool, true, false, List, [], ◌∷◌, length, get_or, sym, refl, ap, ◌∙◌, subst, arith, Option, Some, None}
-use Rattle.std.specs.Prelude.{IsTrue, filter, slice_get, Result, Ok, Err, IfOk}
-use Rattle.std.specs.List.{range_with_len}
+use Rattle.std.specs.Prelude.{◌||◌, IsTrue, filter, slice_get, Result, Ok, Err, IfOk}
+use Rattle.std.specs.List.{range_with_len, list_any}
 use Rattle.std.proofs.lemmas.List.FromFn.{length-range_with_len}
 use Rattle.map_types.specs.declared.kind.DomainId.{DomainId}
 use mathlib.Core.Option.{some}
@@ -25,8 +25,8 @@ use Rattle.place_table.specs.Contents.{lists_of}
 use Rattle.place_table.specs.Views.{is_among, hold_at, is_in_hand_of, known_log, bit_seen}
 use Rattle.place_table.specs.Rules.{World, Rule, Knows, Tagged, entries, hold_of, is_hand_of, turns_on, turns_of, indexes, ArePast, AreTagged, HaveNoSteps, bit_word}
 use Rattle.place_table.specs.Passes.{PassView}
-use Rattle.place_table.specs.Closing.{ClosedView, AreSlots, has_lock, numbered, strands_of, IsLeft, IsClosed}
-use Rattle.place_table.proofs.Worlds.{true_false, some_is, none_some, hold_of_mine, has_mine, own_hand}
+use Rattle.place_table.specs.Closing.{ClosedView, AreSlots, has_lock, all_locks, numbered, strands_of, IsLeft, IsClosed}
+use Rattle.place_table.proofs.Worlds.{by_bool, true_false, some_is, none_some, hold_of_mine, has_mine, own_hand}
 use Rattle.place_table.proofs.Locks.{free_home}
 
 -- what was true at the end, before anything is handed out
@@ -43,6 +43,7 @@ pub record AtEnd (shape : Shape) (v : View) (words : List ℕ) (slots : List Beh
   pub bits : (e : ℕ) (bit : Bool) → bit_seen e v.bits ≡ Some bit → core.bit e ≡ bit
   pub turns : (k : ℕ) → turns_on k v.steps ≡ numbered 0 (log k)
   pub recorded : (k : ℕ) → k < lock_count shape → IsTrue (has_lock shape k) → lost k ≡ false → places_on (lock_named shape k) v.kept ≡ indexes (turns_on k v.steps)
+  pub losses : (k : ℕ) → is_among k v.lost ≡ true → (k < lock_count shape) × IsTrue (has_lock shape k) × (lost k ≡ true)
   pub by_cpus : (k place : ℕ) (entry : Entry) → slice_get (log k) place ≡ Some entry → entry.cpu < shape.cpus
   pub slots_are : AreSlots shape log lost slots
   pub bit_words : (e : ℕ) → e < shape.elements → get_or words (bit_word shape e) 0 ≡ one (core.bit e)
@@ -171,6 +172,7 @@ module _ (shape : Shape) (s : State Behind View) (r : Rule shape s) (pass : ℕ)
         bits = kn.bits;
         turns = λ k. kn.strand.steps_are k ∙ all_turns (w.current pass) 0 (w.log k) (none_else k);
         recorded = kn.strand.kept_are;
+        losses = λ k among. let is = kn.losses k among in (is.below, is.there, is.lost);
         by_cpus = λ k place entry found. kn.within entry.cpu (ap (is_among entry.cpu) (sym kn.strand.team) ∙ in_team w (length s.views) (w.current pass) 0 (w.log k) (r.tagged k) (none_else k) place entry found);
         slots_are = record {
           counted = sym counted ∙ r.slots;
@@ -231,6 +233,24 @@ shares_out shape v words slots e strands is k below there_is lo =
           ∙ ap (λ (z : ℕ). places_of (λ _. 0) z (length (e.log k))) (sym first.0)));
     }
 
+-- a lock of the map whose record is lost is one of all
+or_right : (x y : Bool) → y ≡ true → (x || y) ≡ true
+or_right true y e = refl
+or_right false y e = e
+
+any_between : (test lost : ℕ → Bool) (k a n : ℕ) → a ≤ k → k < a + n → test k ≡ true → lost k ≡ true → list_any lost (filter test (range_with_len a n)) ≡ true
+any_between test lost k a zero from_there under has is = absurd (omega arith)
+any_between test lost k a (suc n) from_there under has is =
+    by_test a k (λ _. list_any lost (filter test (range_with_len a (suc n))) ≡ true)
+    (λ same. (λ i. list_any lost (cond ((ap test same ∙ has) i) (a ∷ filter test (range_with_len (a + 1) n)) (filter test (range_with_len (a + 1) n))))
+    ∙ (λ i. (ap lost same ∙ is) i || list_any lost (filter test (range_with_len (a + 1) n))))
+    (λ other. by_bool (test a) (λ b. list_any lost (cond b (a ∷ filter test (range_with_len (a + 1) n)) (filter test (range_with_len (a + 1) n))) ≡ true)
+    (λ _. or_right (lost a) _ (any_between test lost k (a + 1) n (omega arith) (omega arith) has is))
+    (λ _. any_between test lost k (a + 1) n (omega arith) (omega arith) has is))
+
+any_of : (shape : Shape) (lost : ℕ → Bool) (k : ℕ) → k < lock_count shape → IsTrue (has_lock shape k) → lost k ≡ true → list_any lost (all_locks shape) ≡ true
+any_of shape lost k below there_is is = any_between (has_lock shape) lost k 0 (lock_count shape) (omega arith) (omega arith) there_is is
+
 -- the whole
 pub closed_is : (shape : Shape) (p : PassView) (words : List ℕ) (slots : List Behind) (closed : ClosedView) (e : AtEnd shape p.view words slots) → IsLeft shape e.log e.lost e.core.bit p.view.kept p.spares closed → IsClosed shape p closed
 closed_is shape p words slots closed e left = record {
@@ -245,6 +265,8 @@ closed_is shape p words slots closed e left = record {
   known = e.known;
   bits = e.bits;
   turns = e.turns;
+  recorded = e.recorded;
+  losses = λ k among. let is = e.losses k among in left.lost_is ∙ any_of shape e.lost k is.0 is.1 is.2;
   left = left;
   shared_out = shares_out shape p.view words slots e closed.strands left.strands_are;
 }

@@ -1,6 +1,7 @@
 -- The first pass of a table is in no call, and keeps the spares that it has in hand.
-use Rattle.std.proofs.Common.{◌≡◌, ℕ, ◌+◌, ◌<◌, ◌≤◌, true, List, [], length, get_or, Option, None, Some, refl, ap, ◌∙◌, sym, subst, arith}
+use Rattle.std.proofs.Common.{◌≡◌, ℕ, ◌+◌, ◌<◌, ◌≤◌, true, List, [], length, get_or, Option, None, Some, refl, ap, ◌∙◌, sym, subst, arith, ⊎_elim}
 use Rattle.std.specs.Prelude.{MatchOption}
+use Rattle.std.proofs.lemmas.Bool.{cases_lt}
 use Rattle.map_types.specs.declared.attr.Shape.{Shape}
 use Rattle.map_types.specs.declared.kind.MapKind.{MapKind}
 use Rattle.map_types.specs.declared.kind.MapKind.TheVariants.{Hash}
@@ -14,8 +15,9 @@ use Rattle.place_table.specs.Contents.{IsSized}
 use Rattle.place_table.specs.Views.{is_among, is_in_hand_of, spares_from, first_hand, first_view}
 use Rattle.place_table.specs.Passes.{PassView, TableView, spare_of, SparesFit, IsPass, IsInNoCall, IsFirstPass}
 use Rattle.place_table.specs.Opening.{first_spares, AreBodiesOf}
-use Rattle.place_table.proofs.FirstSpares.{spares_count, hand_is_spares, spare_in_hand, spare_at_place}
+use Rattle.place_table.proofs.FirstSpares.{hand_past, spares_count, hand_is_spares, spare_in_hand, spare_at_place}
 use Rattle.place_table.proofs.Opens.{among_below}
+use Rattle.place_table.proofs.Worlds.{true_false}
 
 -- the body that stands at a CPU's place
 body_at : (shape : Shape) (elements : List ℕ) (bodies : List (Option Stored)) (cpu : ℕ) → AreBodiesOf shape elements bodies → cpu < length elements → (body : Stored) × (spare_of cpu bodies ≡ Some body) × (body.element ≡ get_or elements cpu 0)
@@ -28,6 +30,22 @@ body_at shape elements bodies cpu are within = go (spare_of cpu bodies) refl (ar
 first_count : (shape : Shape) → HasBounds shape → shape.kind ≡ Hash → length (first_spares shape.kind shape) ≡ shape.cpus
 first_count shape bounds hash = ap (λ (kind : MapKind). length (first_spares kind shape)) hash ∙ spares_count shape bounds hash
 
+-- each spare that is kept is the CPU's, and has the sizes of the map
+kept_fact : (shape : Shape) (spares : List (Option Stored)) → AreBodiesOf shape (first_spares shape.kind shape) spares → (cpu : ℕ) (body : Stored) → spare_of cpu spares ≡ Some body
+    → (cpu < length (first_spares shape.kind shape)) × (body.element ≡ get_or (first_spares shape.kind shape) cpu 0) × IsSized shape body
+kept_fact shape spares are cpu body kept =
+    subst (λ (found : Option Stored). MatchOption found (length (first_spares shape.kind shape) ≤ cpu) (λ stored. (cpu < length (first_spares shape.kind shape)) × (stored.element ≡ get_or (first_spares shape.kind shape) cpu 0) × IsSized shape stored)) kept (are cpu)
+
+first_spares_fit : (shape : Shape) (spares : List (Option Stored)) → AreBodiesOf shape (first_spares shape.kind shape) spares → SparesFit (first_view shape) spares
+first_spares_fit shape spares are cpu body kept = (kept_fact shape spares are cpu body kept).2
+
+first_in_hand : (shape : Shape) (spares : List (Option Stored)) → AreBodiesOf shape (first_spares shape.kind shape) spares → (cpu : ℕ) (body : Stored) → spare_of cpu spares ≡ Some body → is_in_hand_of body.element cpu (first_hand shape.kind shape) ≡ true
+first_in_hand shape spares are cpu body kept =
+    let fact = kept_fact shape spares are cpu body kept in
+    let place : 0 + cpu ≡ cpu = omega arith in
+    let hand : is_in_hand_of (get_or (first_spares shape.kind shape) cpu 0) cpu (spares_from 0 (first_spares shape.kind shape)) ≡ true = subst (λ (c : ℕ). is_in_hand_of (get_or (first_spares shape.kind shape) cpu 0) c (spares_from 0 (first_spares shape.kind shape)) ≡ true) place (spare_at_place cpu 0 (first_spares shape.kind shape) fact.0) in
+    ap (λ (e : ℕ). is_in_hand_of e cpu (first_hand shape.kind shape)) fact.1 ∙ (ap (λ (hand : List InHand). is_in_hand_of (get_or (first_spares shape.kind shape) cpu 0) cpu hand) (hand_is_spares shape.kind shape) ∙ hand)
+
 pub first_in_no_call : (shape : Shape) (p : PassView) → HasBounds shape → p.view ≡ first_view shape → AreBodiesOf shape (first_spares shape.kind shape) p.spares → IsInNoCall p
 first_in_no_call shape p bounds is are = record {
   holds_nothing = ap (λ (v : View). v.held) is;
@@ -37,6 +55,7 @@ first_in_no_call shape p bounds is are = record {
       let at : found.0 ≡ cpu = let place = found.2 in omega arith in
       let kept = body_at shape (first_spares shape.kind shape) p.spares cpu are (let within = found.1 in omega arith) in
       (kept.0, kept.1, kept.2 ∙ (ap (λ (i : ℕ). get_or (first_spares shape.kind shape) i 0) (sym at) ∙ found.3));
+  spares_in_hand = λ cpu body kept. subst (λ (hand : List InHand). is_in_hand_of body.element cpu hand ≡ true) (sym (ap (λ (v : View). v.hand) is)) (first_in_hand shape p.spares are cpu body kept);
   none_out = λ hash cpu mine.
       let is_hash : shape.kind ≡ Hash = ap (λ (v : View). v.shape.kind) (sym is) ∙ hash in
       let few : cpu < shape.cpus = among_below cpu shape.cpus (subst (λ (v : View). is_among cpu v.cpus ≡ true) is mine) in
@@ -44,19 +63,18 @@ first_in_no_call shape p bounds is are = record {
       (kept.0, kept.1);
 }
 
-first_spares_fit : (shape : Shape) (spares : List (Option Stored)) → AreBodiesOf shape (first_spares shape.kind shape) spares → SparesFit (first_view shape) spares
-first_spares_fit shape spares are cpu body kept =
-    let elements : List ℕ = first_spares shape.kind shape in
-    let fact : (cpu < length (first_spares shape.kind shape)) × (body.element ≡ get_or (first_spares shape.kind shape) cpu 0) × IsSized shape body = subst (λ (found : Option Stored). MatchOption found (length (first_spares shape.kind shape) ≤ cpu) (λ stored. (cpu < length (first_spares shape.kind shape)) × (stored.element ≡ get_or (first_spares shape.kind shape) cpu 0) × IsSized shape stored)) kept (are cpu) in
-    let place : 0 + cpu ≡ cpu = omega arith in
-    let hand : is_in_hand_of (get_or (first_spares shape.kind shape) cpu 0) cpu (spares_from 0 (first_spares shape.kind shape)) ≡ true = subst (λ (c : ℕ). is_in_hand_of (get_or (first_spares shape.kind shape) cpu 0) c (spares_from 0 (first_spares shape.kind shape)) ≡ true) place (spare_at_place cpu 0 (first_spares shape.kind shape) fact.0) in
-    (ap (λ (e : ℕ). is_in_hand_of e cpu (first_hand shape.kind shape)) fact.1 ∙ (ap (λ (hand : List InHand). is_in_hand_of (get_or (first_spares shape.kind shape) cpu 0) cpu hand) (hand_is_spares shape.kind shape) ∙ hand), fact.2)
+first_real : (shape : Shape) → HasBounds shape → (e cpu : ℕ) → is_in_hand_of e cpu (first_hand shape.kind shape) ≡ true → e < shape.elements
+first_real shape bounds e cpu in_hand =
+    ⊎_elim
+    (λ (real : e < shape.elements). real)
+    (λ (past : shape.elements ≤ e). true_false (sym in_hand ∙ hand_past shape shape.kind bounds e cpu past))
+    (cases_lt e shape.elements)
 
-pub first_is_pass : (shape : Shape) (v : View) (slots : List (ℕ × Behind)) (strand : List StrandStep) (spares : List (Option Stored)) → v ≡ first_view shape → slots ≡ [] → strand ≡ [] → AreBodiesOf shape (first_spares shape.kind shape) spares → IsPass v slots strand spares
-first_is_pass shape v slots strand spares is none no_steps are =
+pub first_is_pass : (shape : Shape) → HasBounds shape → (v : View) (slots : List (ℕ × Behind)) (strand : List StrandStep) (spares : List (Option Stored)) → v ≡ first_view shape → slots ≡ [] → strand ≡ [] → AreBodiesOf shape (first_spares shape.kind shape) spares → IsPass v slots strand spares
+first_is_pass shape bounds v slots strand spares is none no_steps are =
     subst (λ (w : View). IsPass w slots strand spares) (sym is)
     (subst (λ (xs : List (ℕ × Behind)). IsPass (first_view shape) xs strand spares) (sym none)
-    record { carries = tt; strand_is = no_steps; none_ended = refl; spares_fit = first_spares_fit shape spares are })
+    record { carries = tt; strand_is = no_steps; none_ended = refl; spares_fit = first_spares_fit shape spares are; within = λ cpu has. among_below cpu shape.cpus has; hands_real = λ e cpu in_hand. first_real shape bounds e cpu in_hand })
 
 pub is_first_pass : (t : TableView) (p : PassView) → HasBounds t.shape → p.table ≡ t.id → p.view ≡ first_view t.shape → AreBodiesOf t.shape (first_spares t.shape.kind t.shape) p.spares → IsFirstPass t p
 is_first_pass t p bounds of_table is are =

@@ -167,7 +167,7 @@ hand_by_owner shape PercpuHash e c = refl
 hand_by_owner shape LruHash e c = refl
 hand_by_owner shape LruPercpuHash e c = refl
 
-hand_past : (shape : Shape) (kind : MapKind) → HasBounds shape → (e c : ℕ) → shape.elements ≤ e → is_in_hand_of e c (first_hand kind shape) ≡ false
+pub hand_past : (shape : Shape) (kind : MapKind) → HasBounds shape → (e c : ℕ) → shape.elements ≤ e → is_in_hand_of e c (first_hand kind shape) ≡ false
 hand_past shape Hash bounds e c past = not_in_hand e c 0 (opening_spares shape) (spares_real shape bounds e past)
 hand_past shape PercpuHash bounds e c past = refl
 hand_past shape LruHash bounds e c past = refl

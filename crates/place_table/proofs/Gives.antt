@@ -1,5 +1,5 @@
 -- From what a take tells to what a give asks.
-use Rattle.std.proofs.Common.{◌≡◌, ℕ, zero, suc, ◌<◌, cond, Bool, true, false, List, [], ◌∷◌, ◌++◌, length, sym, refl, ap, ◌∙◌, subst, append_assoc, arith}
+use Rattle.std.proofs.Common.{◌≡◌, ℕ, zero, suc, ◌<◌, cond, Bool, true, false, List, [], ◌∷◌, ◌++◌, sym, refl, ap, ◌∙◌, subst, arith}
 use Rattle.std.specs.Prelude.{IsTrue}
 use Rattle.map_types.specs.declared.attr.Shape.{Shape}
 use Rattle.map_types.specs.declared.kind.DomainId.{DomainId}
@@ -26,10 +26,10 @@ use Rattle.place_table.specs.declared.view.View.{View}
 use Rattle.place_table.specs.declared.view.Notes.{Notes}
 use Rattle.place_table.specs.declared.view.BitSeen.{BitSeen}
 use Rattle.place_table.specs.declared.view.Turned.{Turned}
-use Rattle.place_table.proofs.Entries.{append_nil}
-use Rattle.place_table.specs.Views.{no_notes, is_among, is_in_hand_of, given, turned, holds_below, notes_below, noted, with_clear, with_owner_read, bits_with, numbers_below}
+use Rattle.place_table.proofs.Going.{goes_on, goes_took, goes_gave, goes_gave_some, goes_noted, made_on, given_turn}
+use Rattle.place_table.specs.Views.{no_notes, is_among, is_in_hand_of, holds_below, notes_below, noted, with_clear, with_owner_read, bits_with, numbers_below}
 use Rattle.place_table.specs.TurnNotes.{NotesFit}
-use Rattle.place_table.specs.Passes.{PassView, TableView, IsPassOf, HasBegun, Takes, CanGive, Gave, GaveSome, Went, IsInNoCall, IsFirstPass, SawOwner, Cleared, with_view, entry_of, spare_of}
+use Rattle.place_table.specs.Passes.{PassView, TableView, IsPassOf, HasBegun, Takes, CanGive, Gave, GaveSome, Went, IsInNoCall, IsFirstPass, SawOwner, Cleared, with_view, spare_of}
 
 -- what was taken may be given back by a part that changes nothing
 pub unchanged : (t : TableView) (lock : DomainId) (p q : PassView) (here : Content) (part : Part) → Takes t lock p q here → IsPassOf t q → HasBegun q → IsTrue (is_lock t.shape lock)
@@ -59,62 +59,49 @@ unchanged t lock p q here part took of_table begun there allowed same notes_fit 
     }
 
 -- A turn that changes nothing, from its take to its give.
-pub went_of : (t : TableView) (lock : DomainId) (p q r : PassView) (here : Content) (part : Part) → Takes t lock p q here → Gave q r part → (step : Turned) × Went p r (step ∷ [])
-went_of t lock p q r here part took gave =
-    let hold_is : gave.hold ≡ took.hold = same_head (sym gave.innermost ∙ ap (λ (z : PassView). z.view.held) took.after_is) in
-    let view : r ≡ with_view q (given gave.hold (entry_of q part) gave.kept q.view) = gave.after_is in (
-      turned gave.hold.lock (length gave.hold.log) (entry_of q part),
-      record {
-        table = ap (λ (z : PassView). z.table) view ∙ ap (λ (z : PassView). z.table) took.after_is;
-        seat = ap (λ (z : PassView). z.seat) view ∙ ap (λ (z : PassView). z.seat) took.after_is;
-        cpu = ap (λ (z : PassView). z.cpu) view ∙ ap (λ (z : PassView). z.cpu) took.after_is;
-        call = ap (λ (z : PassView). z.call) view ∙ ap (λ (z : PassView). z.call) took.after_is;
-        spares = ap (λ (z : PassView). z.spares) view ∙ ap (λ (z : PassView). z.spares) took.after_is;
-        shape = ap (λ (z : PassView). z.view.shape) view ∙ ap (λ (z : PassView). z.view.shape) took.after_is;
-        cpus = ap (λ (z : PassView). z.view.cpus) view ∙ ap (λ (z : PassView). z.view.cpus) took.after_is;
-        held = ap (λ (z : PassView). z.view.held) view ∙ ap (λ (z : PassView). holds_below z.view.held) took.after_is;
-        hand = ap (λ (z : PassView). z.view.hand) view ∙ ap (λ (z : PassView). z.view.hand) took.after_is;
-        notes = ap (λ (z : PassView). z.view.notes) view ∙ ap (λ (z : PassView). notes_below z.view.notes) took.after_is;
-        steps = ap (λ (z : PassView). z.view.steps) view ∙ ap (λ (z : PassView). z.view.steps ++ turned gave.hold.lock (length gave.hold.log) (entry_of q part) ∷ []) took.after_is;
-        ended = ap (λ (z : PassView). z.view.ended) view ∙ ap (λ (z : PassView). z.view.ended) took.after_is;
-      },
-    )
-  where
-    same_head : {A : Type 0} {x y : A} {xs ys : List A} → x ∷ xs ≡ y ∷ ys → x ≡ y
-    same_head e = cc
+pub went_of : (t : TableView) (lock : DomainId) (p q r : PassView) (here : Content) (part : Part) → Takes t lock p q here → Gave q r part → (step : Turned) × Went p r (step ∷ []) []
+went_of t lock p q r here part took gave = (
+  given_turn q gave.hold part,
+  record {
+    made = record {
+      goes = goes_on p q r [] (given_turn q gave.hold part ∷ []) [] [] (goes_took t lock p q here took) (goes_gave q r part gave);
+      held = ap (λ (z : PassView). z.view.held) gave.after_is ∙ ap (λ (z : PassView). holds_below z.view.held) took.after_is;
+      notes = ap (λ (z : PassView). z.view.notes) gave.after_is ∙ ap (λ (z : PassView). notes_below z.view.notes) took.after_is;
+    };
+    spares = ap (λ (z : PassView). z.spares) gave.after_is ∙ ap (λ (z : PassView). z.spares) took.after_is;
+    hand = ap (λ (z : PassView). z.view.hand) gave.after_is ∙ ap (λ (z : PassView). z.view.hand) took.after_is;
+  },
+)
 
 -- the same where nothing was recorded
-pub went_some : (t : TableView) (lock : DomainId) (p q r : PassView) (here put : Content) → Takes t lock p q here → GaveSome t lock q r put → (step : Turned) × Went p r (step ∷ [])
-went_some t lock p q r here put took gave =
-    let view : r ≡ with_view q (given gave.can.hold (entry_of q gave.part) q.view.kept q.view) = gave.after_is in (
-      turned gave.can.hold.lock (length gave.can.hold.log) (entry_of q gave.part),
-      record {
-        table = ap (λ (z : PassView). z.table) view ∙ ap (λ (z : PassView). z.table) took.after_is;
-        seat = ap (λ (z : PassView). z.seat) view ∙ ap (λ (z : PassView). z.seat) took.after_is;
-        cpu = ap (λ (z : PassView). z.cpu) view ∙ ap (λ (z : PassView). z.cpu) took.after_is;
-        call = ap (λ (z : PassView). z.call) view ∙ ap (λ (z : PassView). z.call) took.after_is;
-        spares = ap (λ (z : PassView). z.spares) view ∙ ap (λ (z : PassView). z.spares) took.after_is;
-        shape = ap (λ (z : PassView). z.view.shape) view ∙ ap (λ (z : PassView). z.view.shape) took.after_is;
-        cpus = ap (λ (z : PassView). z.view.cpus) view ∙ ap (λ (z : PassView). z.view.cpus) took.after_is;
-        held = ap (λ (z : PassView). z.view.held) view ∙ ap (λ (z : PassView). holds_below z.view.held) took.after_is;
-        hand = ap (λ (z : PassView). z.view.hand) view ∙ ap (λ (z : PassView). z.view.hand) took.after_is;
-        notes = ap (λ (z : PassView). z.view.notes) view ∙ ap (λ (z : PassView). notes_below z.view.notes) took.after_is;
-        steps = ap (λ (z : PassView). z.view.steps) view ∙ ap (λ (z : PassView). z.view.steps ++ turned gave.can.hold.lock (length gave.can.hold.log) (entry_of q gave.part) ∷ []) took.after_is;
-        ended = ap (λ (z : PassView). z.view.ended) view ∙ ap (λ (z : PassView). z.view.ended) took.after_is;
-      },
-    )
+pub went_some : (t : TableView) (lock : DomainId) (p q r : PassView) (here put : Content) → Takes t lock p q here → GaveSome t lock q r put → (step : Turned) × (lost : ℕ) × Went p r (step ∷ []) (lost ∷ [])
+went_some t lock p q r here put took gave = (
+  given_turn q gave.can.hold gave.part,
+  gave.can.hold.lock,
+  record {
+    made = record {
+      goes = goes_on p q r [] (given_turn q gave.can.hold gave.part ∷ []) [] (gave.can.hold.lock ∷ []) (goes_took t lock p q here took) (goes_gave_some t lock q r put gave);
+      held = ap (λ (z : PassView). z.view.held) gave.after_is ∙ ap (λ (z : PassView). holds_below z.view.held) took.after_is;
+      notes = ap (λ (z : PassView). z.view.notes) gave.after_is ∙ ap (λ (z : PassView). notes_below z.view.notes) took.after_is;
+    };
+    spares = ap (λ (z : PassView). z.spares) gave.after_is ∙ ap (λ (z : PassView). z.spares) took.after_is;
+    hand = ap (λ (z : PassView). z.view.hand) gave.after_is ∙ ap (λ (z : PassView). z.view.hand) took.after_is;
+  },
+)
 
 -- a pass in no call is in none afterwards
-pub stays_idle : (p q : PassView) (more : List Turned) → IsInNoCall p → Went p q more → IsInNoCall q
-stays_idle p q more idle went = record {
-  holds_nothing = went.held ∙ idle.holds_nothing;
-  spares_only = λ e cpu has in_hand.
-      let x = idle.spares_only e cpu (ap (is_among cpu) (sym went.cpus) ∙ has) (ap (is_in_hand_of e cpu) (sym went.hand) ∙ in_hand) in
-      (x.0, ap (spare_of cpu) went.spares ∙ x.1, x.2);
-  none_out = λ kind cpu has.
-      let x = idle.none_out (ap (λ (z : Shape). z.kind) (sym went.shape) ∙ kind) cpu (ap (is_among cpu) (sym went.cpus) ∙ has) in
-      (x.0, ap (spare_of cpu) went.spares ∙ x.1);
-}
+pub stays_idle : (p q : PassView) (more : List Turned) (lost : List ℕ) → IsInNoCall p → Went p q more lost → IsInNoCall q
+stays_idle p q more lost idle went =
+    let goes = went.made.goes in record {
+      holds_nothing = went.made.held ∙ idle.holds_nothing;
+      spares_only = λ e cpu has in_hand.
+          let x = idle.spares_only e cpu (ap (is_among cpu) (sym goes.cpus) ∙ has) (ap (is_in_hand_of e cpu) (sym went.hand) ∙ in_hand) in
+          (x.0, ap (spare_of cpu) went.spares ∙ x.1, x.2);
+      spares_in_hand = λ cpu body kept. ap (is_in_hand_of body.element cpu) went.hand ∙ idle.spares_in_hand cpu body (ap (spare_of cpu) (sym went.spares) ∙ kept);
+      none_out = λ kind cpu has.
+          let x = idle.none_out (ap (λ (z : Shape). z.kind) (sym goes.shape) ∙ kind) cpu (ap (is_among cpu) (sym goes.cpus) ∙ has) in
+          (x.0, ap (spare_of cpu) went.spares ∙ x.1);
+    }
 
 -- the pass that has taken a lock is of the table and has begun
 pub taken_of_table : (t : TableView) (lock : DomainId) (p q : PassView) (here : Content) → Takes t lock p q here → IsPassOf t p → IsPassOf t q
@@ -137,41 +124,27 @@ told_first t bucket p q chain took of_table begun there =
     }
 
 -- a look, or a bit cleared, where no lock is held
-pub went_noted : (p q : PassView) (notes : List Notes) (bits : List BitSeen) → q ≡ with_view p (noted notes bits p.view) → notes ≡ p.view.notes → Went p q []
+pub went_noted : (p q : PassView) (notes : List Notes) (bits : List BitSeen) → q ≡ with_view p (noted notes bits p.view) → notes ≡ p.view.notes → Went p q [] []
 went_noted p q notes bits after_is same = record {
-  table = ap (λ (z : PassView). z.table) after_is;
-  seat = ap (λ (z : PassView). z.seat) after_is;
-  cpu = ap (λ (z : PassView). z.cpu) after_is;
-  call = ap (λ (z : PassView). z.call) after_is;
+  made = record {
+    goes = goes_noted notes bits p q after_is;
+    held = ap (λ (z : PassView). z.view.held) after_is;
+    notes = ap (λ (z : PassView). z.view.notes) after_is ∙ same;
+  };
   spares = ap (λ (z : PassView). z.spares) after_is;
-  shape = ap (λ (z : PassView). z.view.shape) after_is;
-  cpus = ap (λ (z : PassView). z.view.cpus) after_is;
-  held = ap (λ (z : PassView). z.view.held) after_is;
   hand = ap (λ (z : PassView). z.view.hand) after_is;
-  notes = ap (λ (z : PassView). z.view.notes) after_is ∙ same;
-  steps = ap (λ (z : PassView). z.view.steps) after_is ∙ sym (append_nil p.view.steps);
-  ended = ap (λ (z : PassView). z.view.ended) after_is;
 }
 
 -- one after the other
-pub went_on : (p q r : PassView) (first second : List Turned) → Went p q first → Went q r second → Went p r (first ++ second)
-went_on p q r first second a b = record {
-  table = b.table ∙ a.table;
-  seat = b.seat ∙ a.seat;
-  cpu = b.cpu ∙ a.cpu;
-  call = b.call ∙ a.call;
+pub went_on : (p q r : PassView) (first second : List Turned) (lost more_lost : List ℕ) → Went p q first lost → Went q r second more_lost → Went p r (first ++ second) (more_lost ++ lost)
+went_on p q r first second lost more_lost a b = record {
+  made = made_on p q r first second lost more_lost a.made b.made;
   spares = b.spares ∙ a.spares;
-  shape = b.shape ∙ a.shape;
-  cpus = b.cpus ∙ a.cpus;
-  held = b.held ∙ a.held;
   hand = b.hand ∙ a.hand;
-  notes = b.notes ∙ a.notes;
-  steps = b.steps ∙ (ap (λ (l : List Turned). l ++ second) a.steps ∙ append_assoc p.view.steps first second);
-  ended = b.ended ∙ a.ended;
 }
 
 -- an owner was read
-pub went_owner : (t : TableView) (e : ℕ) (p q : PassView) (owner : Owner) → p.view.notes ≡ [] → SawOwner t e p q owner → Went p q []
+pub went_owner : (t : TableView) (e : ℕ) (p q : PassView) (owner : Owner) → p.view.notes ≡ [] → SawOwner t e p q owner → Went p q [] []
 went_owner t e p q owner none_noted saw =
     went_noted p q (with_owner_read e owner p.view.notes) p.view.bits saw.after_is (no_read p.view.notes none_noted)
   where
@@ -180,10 +153,10 @@ went_owner t e p q owner none_noted saw =
     no_read (n ∷ below) empty = absurd cc
 
 -- an owner was read and a bit cleared, where no lock is held
-pub went_cleared : (t : TableView) (e : ℕ) (p q r : PassView) (owner : Owner) (bit : Bool) → p.view.notes ≡ [] → SawOwner t e p q owner → Cleared e q r bit → Went p r []
+pub went_cleared : (t : TableView) (e : ℕ) (p q r : PassView) (owner : Owner) (bit : Bool) → p.view.notes ≡ [] → SawOwner t e p q owner → Cleared e q r bit → Went p r [] []
 went_cleared t e p q r owner bit none_noted saw was_cleared =
     let first = went_owner t e p q owner none_noted saw in
-    went_on p q r [] [] first (went_noted q r (with_clear e bit q.view.notes) (bits_with e false q.view) was_cleared.after_is (no_clear q.view.notes (first.notes ∙ none_noted)))
+    went_on p q r [] [] [] [] first (went_noted q r (with_clear e bit q.view.notes) (bits_with e false q.view) was_cleared.after_is (no_clear q.view.notes (first.made.notes ∙ none_noted)))
   where
     no_clear : (notes : List Notes) → notes ≡ [] → with_clear e bit notes ≡ notes
     no_clear [] empty = refl

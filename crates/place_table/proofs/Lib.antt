@@ -6,9 +6,14 @@ pub mod FirstSlots
 pub mod FirstSpares
 pub mod FirstWords
 pub mod Gives
+pub mod Going
+pub mod Hands
+pub mod HomeSteps
 pub mod Leaves
 pub mod Locks
 pub mod Opens
+pub mod OwnerSteps
 pub mod Passes
+pub mod PlaceSteps
 pub mod WordSteps
 pub mod Worlds

@@ -1,5 +1,5 @@
 -- The steps on a lock word: a lock is taken with its slot, and given back with a turn.
-use Rattle.std.proofs.Common.{◌≡◌, ◌≢◌, ℕ, zero, suc, ◌+◌, ◌<◌, ◌≤◌, ◌⊎◌, inl, inr, ⊎_elim, eqb, cond, Bool, true, false, List, [], ◌∷◌, ◌++◌, length, get_or, set, sym, refl, ap, ◌∙◌, subst, arith, Option, Some, None, length-set, get_or-set_other, get_or-set_same}
+use Rattle.std.proofs.Common.{◌≡◌, ◌≢◌, ℕ, zero, suc, ◌+◌, ◌<◌, ◌≤◌, ◌⊎◌, inl, inr, ⊎_elim, eqb, cond, Bool, true, false, List, [], ◌∷◌, ◌++◌, length, get_or, set, sym, refl, ap, ◌∙◌, subst, arith, Option, Some, None, length-append, length-set, get_or-set_other, get_or-set_same}
 use Rattle.std.specs.Prelude.{◌&&◌, IsTrue, MatchOption, nat_lt}
 use Rattle.std.proofs.lemmas.Bool.{ltb-true}
 use mathlib.Core.Option.{some, none, some-ne-none}
@@ -23,6 +23,11 @@ use Rattle.place_words.proofs.HistoryLemmas.{content_more, legal_more}
 use Rattle.place_words.proofs.LockLemmas.{named_by_number, number_of_named, one_number, number_within, same_lock, other_lock}
 use Rattle.place_core.specs.declared.step.Lists.{Lists}
 use Rattle.place_core.specs.declared.step.Step.TheVariants.{Take, Give}
+use Rattle.place_words.specs.declared.owner.Owner.{Owner}
+use Rattle.place_words.specs.declared.owner.Owner.TheVariants as owners
+use Rattle.place_words.specs.Openings.{is_free}
+use Rattle.place_core.specs.Places.{lies_at, has_row}
+use Rattle.map_types.specs.Kind.{is_lru}
 use Rattle.place_core.specs.State as cores
 use Rattle.place_core.specs.State.{rows, HasOnlyItsLists, HasCursorInside}
 use Rattle.place_core.specs.Steps.{CanTake, taken, CanGive, given}
@@ -40,10 +45,10 @@ use Rattle.place_table.specs.declared.view.Turned.{Turned}
 use Rattle.place_table.specs.Views as views
 use Rattle.place_table.specs.Views.{is_among, hold_at, known_log, holding, has_all}
 use Rattle.place_table.specs.Rules.{World, Rule, Knows, AtHome, Reads, Tagged, entries, lock_code, hold, hold_of, IsAboveAll, Ascends, turns_on, turns_of, indexes, AreTagged, owner_word, home_word, bit_word}
-use Rattle.place_table.specs.Plays.{Seated, Tries, AreElements, MayPut, MayGive, IsRecorded, IsKeptOrLost, Gives, GivesSome, entry_by}
+use Rattle.place_table.specs.Plays.{Seated, Tries, AreElements, IsApartFromHands, MayPut, MayGive, IsRecorded, IsKeptOrLost, Gives, GivesSome, entry_by}
 use Rattle.place_table.specs.TurnNotes.{NotesFit}
 use Rattle.place_table.proofs.Entries.{entries_more, entries_length, turns_of_same, turns_of_other, turns_on_same, turns_on_other, places_on_same, places_on_other, indexes_more}
-use Rattle.place_table.proofs.Worlds.{at_put4, by_bool, true_false, some_is, none_some, hold_of_mine, IsMineOrFree, hold_of_other, HoldIs, hold_of_is, hold_at_first, hold_at_other, none_below, above_each, has_mine, all_here, here_all, among_first, others, strand_stays, past_stays, tagged_stays, tagged_more, SameStrands, knows_none}
+use Rattle.place_table.proofs.Worlds.{at_put4, by_bool, true_false, some_is, none_some, hold_of_mine, IsMineOrFree, hold_of_other, HoldIs, hold_of_is, hold_at_first, hold_at_other, none_below, above_each, has_mine, in_hand_is, lock_still_lost, all_here, here_all, among_first, others, strand_stays, past_stays, tagged_stays, tagged_more, SameStrands, knows_none}
 
 -- a step that is told as one of the core is one that the rule allows
 pub allows_of : (shape : Shape) (slots pass : ℕ) (me : Seated) (i : ℕ) (f : ℕ → ℕ) (goes : ℕ → cores.State → cores.State → Type 0) (told_then : ℕ → Seated → Type 0)
@@ -109,6 +114,28 @@ elements_there shape s r k = record {
   rows_real = λ e some_there. below_by e shape.elements _ (r.placed.placed.rows k e) some_there;
 }
 
+-- and what is in the hand of a CPU of a pass is on no free list and in no bucket
+pub apart_there : (shape : Shape) (s : State Behind View) (r : Rule shape s) (pass : ℕ) (v : View) → get_elem? s.views pass ≡ some v → (k : ℕ) → IsApartFromHands v (r.world.core.lists k)
+apart_there shape s r pass v at_pass k e c has in_hand =
+    let w = r.world in let kn = r.knows pass v at_pass in
+    let owner : w.core.owner e ≡ owners.Hand c = in_hand_is shape w pass v e c kn has in_hand in (
+      r.placed.placed.free k e ∙ (ap (λ (o : Owner). one (nat_lt e shape.elements && (is_free o && lies_at k (r.placed.place e)))) owner ∙ none_and (nat_lt e shape.elements)),
+      λ plain. r.placed.placed.rows k e ∙ ((λ i. one (nat_lt e shape.elements && has_row (is_lru shape.kind) (lock_named shape k) (owner i) (lies_at k (r.placed.place e))))
+          ∙ (ap (λ (b : Bool). one (nat_lt e shape.elements && has_row b (lock_named shape k) (owners.Hand c) (lies_at k (r.placed.place e)))) r.plain
+          ∙ (ap (λ (b : Bool). one (nat_lt e shape.elements && b)) (no_row (lock_named shape k) (lies_at k (r.placed.place e))) ∙ none_and (nat_lt e shape.elements)))),
+    )
+  where
+    none_and : (b : Bool) → one (b && false) ≡ 0
+    none_and true = refl
+    none_and false = refl
+
+    no_row : (lock : DomainId) (here : Bool) → has_row false lock (owners.Hand c) here ≡ false
+    no_row (Local x) here = refl
+    no_row Global here = refl
+    no_row (CpuLru x) here = refl
+    no_row (Bucket x) here = refl
+    no_row (Freelist x) here = refl
+
 module _ (shape : Shape) (slots pass : ℕ) (me : Seated) (lock : DomainId) (c : ℕ) (cpu : is_among c me.0.cpus ≡ true) (is : IsTrue (is_lock shape lock)) (above : IsAboveAll shape (rank_of lock) me.0.held) where
   can_take : (s : State Behind View) (r : Rule shape s) → get_elem? s.views pass ≡ some me.0 → r.world.core.holder (lock_number shape lock) ≡ None → CanTake shape r.world.core c lock
   can_take s r at free =
@@ -171,9 +198,11 @@ module _ (shape : Shape) (slots pass : ℕ) (me : Seated) (lock : DomainId) (c :
                     (λ ne. hold_at_other m h v.held ne ∙ kn.held m);
                 ascends = (subst (λ (d : DomainId). IsAboveAll shape (rank_of d) v.held) (sym (named_by_number shape lock is)) above, kn.ascends);
                 hands = kn.hands;
+                carried = kn.carried;
                 known = kn.known;
                 bits = kn.bits;
                 only = kn.only;
+                losses = λ j among. lock_still_lost shape w w' j (λ lo. lo) (kn.losses j among);
                 strand = strand_stays shape w w' pass (w.current pass) v.cpus v.steps v.kept kn.strand.keeper (λ z. z) refl (λ _. refl) (λ _ z. z) kn.strand;
                 past = past_stays shape w w' pass (w.past pass) v.ended same (λ _ _ _ _. refl) (λ _ z. z) kn.past;
                 apart = kn.apart;
@@ -183,6 +212,7 @@ module _ (shape : Shape) (slots pass : ℕ) (me : Seated) (lock : DomainId) (c :
               (λ m. at_put w.core.holder k (Some c) (λ i x. hold_of j w.whose i x (w.log i) (w.core.lists i) (w.lost i) ≡ hold_of j w.whose i (w.core.holder i) (w.log i) (w.core.lists i) (w.lost i)) m
               (hold_of_other w.whose pass j k (Some c) (w.log k) (w.core.lists k) (w.lost k) mine t.0 ∙ ap (λ (z : Option ℕ). hold_of j w.whose k z (w.log k) (w.core.lists k) (w.lost k)) (sym free))
               (λ _. refl))
+              (λ _ _ _. refl)
               (λ _ _ _. refl)
               (λ _ _ _. refl)
               (λ _ z. z)
@@ -221,6 +251,7 @@ module _ (shape : Shape) (slots pass : ℕ) (me : Seated) (lock : DomainId) (c :
             reads = subst (λ z. Reads z k (entries (w.log k)) (w.lost k) home.0.0) (sym kn.shape_is) home.0.2;
             now = home.1 ∙ ap (λ z. lists_of (content z (lock_named z k) (entries (w.log k)))) (sym kn.shape_is);
             elements = subst (λ z. AreElements z (w.core.lists k)) (sym kn.shape_is) (elements_there shape s r k);
+            apart = apart_there shape s r pass me.0 at_pass k;
             legal = subst (λ z. IsLegal z (lock_named z k) (entries (w.log k))) (sym kn.shape_is) (r.legal k);
             known = λ log f. kn.known k log f;
           }),
@@ -328,11 +359,13 @@ module _ (shape : Shape) (slots pass : ℕ) (v : View) (b : Behind) (cs : List (
         cursor = no_cursor may.here;
       }
 
+  -- the pass may come to know that the record of this lock is lost
   gave_rule : (s : State Behind View) (r : Rule shape s) → get_elem? s.views pass ≡ some v
-      → (after : Rule shape record { words = set s.words (lock_number shape lock) 0; homes = set s.homes (lock_number shape lock) (some b); views = set s.views pass (views.given h e kept v) })
+      → (known_lost : List ℕ) → ((m : ℕ) → is_among m known_lost ≡ true → (is_among m v.lost ≡ true) ⊎ ((m ≡ lock_number shape lock) × (lost_of b.history ≡ true)))
+      → (after : Rule shape record { words = set s.words (lock_number shape lock) 0; homes = set s.homes (lock_number shape lock) (some b); views = set s.views pass (views.with_lost known_lost (views.given h e kept v)) })
       × goes_by shape (Give h.cpu lock (lists_of (told may.here))) 0 r.world.core after.world.core
   unfolding gave_world
-  gave_rule s r at_pass =
+  gave_rule s r at_pass known_lost is_lost =
       let k : ℕ = lock_number shape lock in
       let w = r.world in let kn = r.knows pass v at_pass in
       let at = found_hold w kn in
@@ -349,7 +382,7 @@ module _ (shape : Shape) (slots pass : ℕ) (v : View) (b : Behind) (cs : List (
       let es_is : entries l' ≡ es ++ e ∷ [] = entries_more (w.log k) (w.current pass, e) in
       let content_is : content shape (lock_named shape k) (entries l') ≡ told may.here = ap (content shape (lock_named shape k)) es_is ∙ (content_more shape (lock_named shape k) es e ∙ sym m0.told_is) in
       let w' : World = gave_world w in
-      let nv : View = views.given h e kept v in
+      let nv : View = views.with_lost known_lost (views.given h e kept v) in
       let new_turn : Turned = views.turned h.lock (length h.log) e in
       let same : SameStrands w w' = record { keeper = λ _. refl; team = λ _. refl; next = refl; current = λ _. refl; past = λ _. refl; whose = λ _. refl } in
       let mine_lock : IsMineOrFree w.whose pass (w.core.holder k) = subst (IsMineOrFree w.whose pass) (sym at.holder_is) at.mine in
@@ -416,6 +449,7 @@ module _ (shape : Shape) (slots pass : ℕ) (v : View) (b : Behind) (cs : List (
                     (λ ne. sym (ap (hold_at m) is_held ∙ hold_at_other m h below (λ y. ne (y ∙ at_lock))) ∙ kn.held m);
                 ascends = subst (Ascends shape) (sym (ap views.holds_below is_held)) ranks.1;
                 hands = kn.hands;
+                carried = kn.carried;
                 known = λ m log. by_bool (has_all v) (λ t. known_log m (cond t (record { lock = h.lock; log = h.log ++ e ∷ [] } ∷ v.known) v.known) ≡ Some log → entries (put w.log k l' m) ≡ log)
                     (λ _. at_put w.log k l' (λ i l. cond (eqb h.lock i) (Some (h.log ++ e ∷ [])) (known_log i v.known) ≡ Some log → entries l ≡ log) m
                     (by_test h.lock k (λ t. cond t (Some (h.log ++ e ∷ [])) (known_log k v.known) ≡ Some log → entries l' ≡ log)
@@ -426,6 +460,14 @@ module _ (shape : Shape) (slots pass : ℕ) (v : View) (b : Behind) (cs : List (
                 only = by_bool (has_all v) (λ t. ((cond t (record { lock = h.lock; log = h.log ++ e ∷ [] } ∷ v.known) v.known ≡ []) × (v.bits ≡ [])) ⊎ ((c : ℕ) → c < shape.cpus → is_among c v.cpus ≡ true))
                     (λ all. inr (λ c lt. here_all v.shape.cpus v.cpus all c (subst (λ z. c < z.cpus) (sym kn.shape_is) lt)))
                     (λ _. kn.only);
+                losses = λ m among. ⊎_elim
+                    (λ (before : is_among m v.lost ≡ true). lock_still_lost shape w w' m (losses m) (kn.losses m before))
+                    (λ (here : (m ≡ k) × (lo' ≡ true)). record {
+                      below = subst (λ (z : ℕ). z < lock_count shape) (sym here.0) real;
+                      there = subst (λ (d : DomainId). IsTrue (is_lock shape d)) (sym (ap (lock_named shape) here.0 ∙ named_by_number shape lock is)) is;
+                      lost = at_put w.lost k lo' (λ i lo. i ≡ k → lo ≡ true) m (λ _. here.1) (λ ne same. absurd (ne same)) here.0;
+                    })
+                    (is_lost m among);
                 strand = record {
                   keeper = kn.strand.keeper;
                   numbered = kn.strand.numbered;
@@ -453,6 +495,7 @@ module _ (shape : Shape) (slots pass : ℕ) (v : View) (b : Behind) (cs : List (
               (sym (hold_of_other w.whose pass j k (w.core.holder k) (w.log k) (w.core.lists k) (w.lost k) mine_lock t.0))
               (λ _. refl))
               (λ _ _ _. refl)
+              (λ _ _ _. refl)
               (λ tag m own. at_put w.log k l' (λ i l. turns_of tag 0 l ≡ turns_of tag 0 (w.log i)) m
               (turns_of_other tag (w.current pass) 0 (w.log k) e (λ is_same. t.0 (sym own ∙ (ap w.keeper (sym is_same) ∙ kn.strand.keeper)))) (λ _. refl))
               losses
@@ -468,7 +511,7 @@ module _ (shape : Shape) (slots pass : ℕ) (v : View) (b : Behind) (cs : List (
     views.given h e kept v,
     gives,
     tt,
-    gave_rule s r at_pass,
+    gave_rule s r at_pass v.lost (λ m among. inl among),
     record { hold = h; below = below; innermost = is_held; kept_is = kept_or_lost shape v h e kept b (r.knows pass v at_pass).shape_is may.records; after_is = refl },
   )
 
@@ -481,6 +524,14 @@ gives_at shape slots pass me b cs h below k e kept slots_are held at_lock is may
     (allows_of shape slots pass (me.0, (lock_number shape (lock_named shape k), b) ∷ cs) (lock_number shape (lock_named shape k)) (λ _. 0) (goes_by shape (Give h.cpu (lock_named shape k) (lists_of (told may.here)))) (λ _. Gives e kept (me.0, (lock_number shape (lock_named shape k), b) ∷ cs))
     (gives_back shape slots pass me.0 b cs (lock_named shape k) h below held is (at_lock ∙ sym num) e kept may))
 
+-- where the strand has no step more, no history is there
+none_recorded : (shape : Shape) (v : View) (h : Hold) (e : Entry) (b : Behind) → IsRecorded shape v h e v.kept b → lost_of b.history ≡ true
+none_recorded shape v h e b rec =
+    either_record b.history _ _ _ rec (λ lost _. lost) (λ x _ p. absurd (longer v.kept (views.kept_step shape h.lock (length h.log)) p.2))
+  where
+    longer : (steps : List StrandStep) (step : StrandStep) → steps ≡ steps ++ step ∷ [] → ⊥
+    longer steps step same = let counted = ap length same ∙ length-append steps (step ∷ []) in omega arith
+
 -- the same with no record, by some part of a CPU and a call
 pub gives_some : (shape : Shape) (slots pass : ℕ) (me : Seated) (b : Behind) (h : Hold) (below : List Hold) (k cpu call : ℕ) (part : Part) (notes : Notes) (notes_below : List Notes) → me.1 ≡ (k, b) ∷ rest me.1 → me.0.held ≡ h ∷ below → h.lock ≡ k → IsTrue (is_lock shape (lock_named shape k))
     → MayGive shape me.0 h (entry_by cpu call part) me.0.kept b → me.0.notes ≡ notes ∷ notes_below → NotesFit shape part notes → Allows (Rule shape) slots pass me k (λ _. 0) (λ _. GivesSome cpu call me)
@@ -488,11 +539,13 @@ gives_some shape slots pass me b h below k cpu call part notes notes_below slots
     let num = number_of_named shape k in
     let e : Entry = entry_by cpu call part in
     let kn = r.knows pass me.0 at_pass in
-    let rule = gave_rule shape slots pass me.0 b (rest me.1) (lock_named shape k) h below held is (at_lock ∙ sym num) e me.0.kept may s r at_pass in (
-      views.given h e me.0.kept me.0,
+    let rule = gave_rule shape slots pass me.0 b (rest me.1) (lock_named shape k) h below held is (at_lock ∙ sym num) e me.0.kept may s r at_pass (h.lock ∷ me.0.lost)
+    (λ m among. by_test h.lock m (λ t. cond t true (is_among m me.0.lost) ≡ true → (is_among m me.0.lost ≡ true) ⊎ ((m ≡ lock_number shape (lock_named shape k)) × (lost_of b.history ≡ true)))
+    (λ same _. inr (sym same ∙ (at_lock ∙ sym num), none_recorded shape me.0 h e b may.records)) (λ _ f. inl f) among) in (
+      views.losing h e me.0,
       gives,
       tt,
-      subst (λ (z : ℕ × List (ℕ × Behind)). Rule shape record { words = set s.words z.0 0; homes = put_back s.homes z.1; views = set s.views pass (views.given h e me.0.kept me.0) }) (λ i. (num i, (ap (λ (y : ℕ). (y, b) ∷ rest me.1) num ∙ sym slots_are) i)) rule.0,
+      subst (λ (z : ℕ × List (ℕ × Behind)). Rule shape record { words = set s.words z.0 0; homes = put_back s.homes z.1; views = set s.views pass (views.losing h e me.0) }) (λ i. (num i, (ap (λ (y : ℕ). (y, b) ∷ rest me.1) num ∙ sym slots_are) i)) rule.0,
       record {
         hold = h;
         below = below;

@@ -1,5 +1,5 @@
 -- A table at its opening keeps the rule, and its first pass is in no call.
-use Rattle.std.proofs.Common.{◌≡◌, ℕ, zero, suc, ◌<◌, Bool, true, false, ◌&&◌, cond, ltb, List, [], ◌∷◌, map, Option, None, Some, refl, ap, ◌∙◌, sym, subst, inr, arith}
+use Rattle.std.proofs.Common.{◌≡◌, ℕ, zero, suc, ◌<◌, ◌/◌, Bool, true, false, ◌&&◌, cond, ltb, List, [], ◌∷◌, map, Option, None, Some, refl, ap, ◌∙◌, sym, subst, inr, arith}
 use Rattle.std.proofs.lemmas.Bool.{lt-ltb}
 use Rattle.std.proofs.lemmas.List.{length-map}
 use mathlib.Core.Option.{some, some-ne-none, some-injective}
@@ -30,7 +30,7 @@ use Rattle.place_table.specs.declared.content.Content.{Content}
 use Rattle.place_table.specs.declared.view.View.{View}
 use Rattle.place_table.specs.Contents.{lists_of}
 use Rattle.place_table.specs.Views.{is_among, known_log, bit_seen, numbers_below, no_turns, no_bits, first_view}
-use Rattle.place_table.specs.Rules.{World, Rule, Knows, Reads, AtHome, home_word, bit_word, is_hand_of}
+use Rattle.place_table.specs.Rules.{World, Rule, Knows, Reads, AtHome, home_word, bit_word, is_hand_of, is_home_of}
 use Rattle.place_table.specs.Opening.{opening_words, IsFirstContent, IsFirstSlot, AreFirstSlots}
 use Rattle.place_table.proofs.FirstSlots.{not_common, no_local, no_global, no_set}
 use Rattle.place_table.proofs.FirstSpares.{hand_at_first}
@@ -111,6 +111,17 @@ owner_first : (shape : Shape) (e : ℕ) → e < shape.elements → (opening shap
 unfolding opening
 owner_first shape e real = ap (λ b. cond b (opening_owner shape shape.kind e) owners.Free) (lt-ltb e shape.elements real)
 
+-- no element is carried
+not_carried_first : (shape : Shape) (e c : ℕ) → false ≡ (is_home_of c ((opening shape).home e) && true)
+unfolding opening opening_home
+not_carried_first shape e c = either (ltb e shape.elements) shape.common (is_lru shape.kind)
+  where
+    either : (b common lru : Bool) → false ≡ (is_home_of c (cond b (cond common (homes.In Global) (cond lru (homes.In (CpuLru (e / (shape.elements / shape.cpus)))) homes.Unlisted)) homes.Unlisted) && true)
+    either true true lru = refl
+    either true false true = refl
+    either true false false = refl
+    either false common lru = refl
+
 -- The rule
 
 abbrev first_world : Shape → World
@@ -139,9 +150,11 @@ first_knows shape bounds = record {
   held = λ k. refl;
   ascends = tt;
   hands = λ e c few. hand_at_first shape bounds e c ∙ and_true (is_hand_of c ((opening shape).owner e));
+  carried = λ e c few. not_carried_first shape e c;
   known = λ k log is. known_first k (lock_count shape) log is;
   bits = λ e bit is. bit_first e shape.elements bit is;
   only = inr (λ c few. among c shape.cpus few);
+  losses = λ k among. absurd cc;
   strand = record { keeper = refl; numbered = omega arith; team = refl; steps_are = λ k. refl; kept_are = λ k within there kept. refl };
   past = tt;
   apart = refl;

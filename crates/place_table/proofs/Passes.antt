@@ -1,12 +1,13 @@
 -- From what the steps of a seat tell to what a caller with a pass knows.
-use Rattle.std.proofs.Common.{◌≡◌, ℕ, Bool, true, false, List, [], ◌∷◌, ◌++◌, length, Option, Some, None, MatchOption, sym, refl, ap, ◌∙◌, subst, inl, ⊎_elim}
-use Rattle.std.specs.Prelude.{Vec}
+use Rattle.std.proofs.Common.{◌≡◌, ℕ, Bool, true, false, List, [], ◌∷◌, ◌++◌, length, Option, Some, None, MatchOption, sym, refl, ap, ◌∙◌, subst, ⊎_elim, arith}
+use Rattle.std.specs.Prelude.{◌<◌, Vec, IfSome}
 use Rattle.std.specs.Global.{Global}
 use Rattle.atomic_table.specs.Table.{rest}
 use Rattle.map_types.specs.Stored.{Stored}
 use Rattle.map_types.specs.declared.attr.Shape.{Shape}
 use Rattle.map_types.specs.declared.kind.DomainId.{DomainId}
 use Rattle.map_types.specs.Creation.{IsShape}
+use Rattle.map_types.proofs.CreationLemmas.{bounds_of_shape}
 use Rattle.place_words.specs.declared.history.Entry.{Entry}
 use Rattle.place_words.specs.declared.history.Part.{Part}
 use Rattle.place_words.specs.declared.history.StrandStep.{StrandStep}
@@ -23,11 +24,13 @@ use Rattle.place_table.specs.declared.view.Hold.{Hold}
 use Rattle.place_table.specs.declared.view.Notes.{Notes}
 use Rattle.place_table.specs.declared.view.BitSeen.{BitSeen}
 use Rattle.place_table.specs.Rules.{KeptAs}
-use Rattle.place_table.specs.Views.{holding, given, holds_below, noted, owner_read}
+use Rattle.place_core.proofs.ElementLemmas.{by_test}
+use Rattle.place_table.specs.Contents.{IsSized}
+use Rattle.place_table.specs.Views.{is_among, holding, given, with_lost, losing, holds_below, noted, owner_read}
 use Rattle.place_table.specs.Recording.{IsLost, RecordsIn, Records, recorded_step, last_from, last_in, entry_given, no_entry}
 use Rattle.place_table.specs.Plays.{Seated, Took, Gives, GivesSome, entry_by, IsKeptOrLost, MayPut, MayGive, OwnerFits, SeesOwner}
 use Rattle.place_table.specs.TurnNotes.{NotesFit}
-use Rattle.place_table.specs.Passes.{PassView, TableView, Carries, IsPass, IsPassOf, with_view, without_content, entry_of, CanGive, Gave, GaveSome, SawOwner}
+use Rattle.place_table.specs.Passes.{PassView, TableView, Carries, IsPass, IsPassOf, with_view, without_content, entry_of, HasBegun, SparesDiffer, CanGive, Gave, GaveSome, SawOwner, spare_of}
 use Rattle.place_table.proofs.CodeLemmas.{one_owner, has_owner_code}
 use Rattle.place_table.proofs.Worlds.{some_is}
 
@@ -51,6 +54,8 @@ is_pass_taken v slots strand spares k cpu taken out pass took b slot left =
       strand_is = pass.strand_is;
       none_ended = pass.none_ended;
       spares_fit = pass.spares_fit;
+      within = pass.within;
+      hands_real = pass.hands_real;
     }
 
 -- what a pass carries for the lock that it took last
@@ -158,20 +163,30 @@ may_lose t lock p here part can key v key_is v_is = record {
 }
 
 -- a pass once its lock is given back
-pub is_pass_given : (v : View) (slots : List (ℕ × Behind)) (strand now : List StrandStep) (spares : List (Option Stored)) (entry : Entry) (kept : List StrandStep) (put after : Seated) → IsPass v slots strand spares
-    → put.0 ≡ v → rest put.1 ≡ rest slots → Gives entry kept put after → now ≡ kept → IsPass after.0 after.1 now spares
-is_pass_given v slots strand now spares entry kept put after pass put_is below_is gives now_is =
-    let after_is : after ≡ (given gives.hold entry kept v, rest slots) = gives.after_is ∙ (λ i. (given gives.hold entry kept (put_is i), below_is i)) in
+is_pass_back : (v : View) (slots : List (ℕ × Behind)) (strand now : List StrandStep) (spares : List (Option Stored)) (hold : Hold) (entry : Entry) (kept : List StrandStep) (lost : List ℕ) (after : Seated) → IsPass v slots strand spares
+    → after ≡ (with_lost lost (given hold entry kept v), rest slots) → now ≡ kept → IsPass after.0 after.1 now spares
+is_pass_back v slots strand now spares hold entry kept lost after pass after_is now_is =
     subst (λ (z : Seated). IsPass z.0 z.1 now spares) (sym after_is) record {
       carries = carries_below v.held slots pass.carries;
       strand_is = now_is;
       none_ended = pass.none_ended;
       spares_fit = pass.spares_fit;
+      within = pass.within;
+      hands_real = pass.hands_real;
     }
 
-pub gives_of_some : (cpu call : ℕ) (before after : Seated) (some : GivesSome cpu call before after) → Gives (entry_by cpu call some.part) before.0.kept before after
-gives_of_some cpu call before after some =
-    record { hold = some.hold; below = some.below; innermost = some.innermost; kept_is = inl refl; after_is = some.after_is }
+pub is_pass_given : (v : View) (slots : List (ℕ × Behind)) (strand now : List StrandStep) (spares : List (Option Stored)) (entry : Entry) (kept : List StrandStep) (put after : Seated) → IsPass v slots strand spares
+    → put.0 ≡ v → rest put.1 ≡ rest slots → Gives entry kept put after → now ≡ kept → IsPass after.0 after.1 now spares
+is_pass_given v slots strand now spares entry kept put after pass put_is below_is gives now_is =
+    let after_is : after ≡ (given gives.hold entry kept v, rest slots) = gives.after_is ∙ (λ i. (given gives.hold entry kept (put_is i), below_is i)) in
+    is_pass_back v slots strand now spares gives.hold entry kept v.lost after pass after_is now_is
+
+-- and the same without a part
+pub is_pass_lost : (v : View) (slots : List (ℕ × Behind)) (strand : List StrandStep) (spares : List (Option Stored)) (cpu call : ℕ) (put after : Seated) → IsPass v slots strand spares
+    → put.0 ≡ v → rest put.1 ≡ rest slots → GivesSome cpu call put after → IsPass after.0 after.1 strand spares
+is_pass_lost v slots strand spares cpu call put after pass put_is below_is gives =
+    let after_is : after ≡ (losing gives.hold (entry_by cpu call gives.part) v, rest slots) = gives.after_is ∙ (λ i. (losing gives.hold (entry_by cpu call gives.part) (put_is i), below_is i)) in
+    is_pass_back v slots strand strand spares gives.hold (entry_by cpu call gives.part) v.kept (gives.hold.lock ∷ v.lost) after pass after_is pass.strand_is
 
 pub gave_of : (before after : PassView) (part : Part) (entry : Entry) (kept : List StrandStep) (put given_seat : Seated) → put.0 ≡ before.view → entry ≡ entry_of before part → Gives entry kept put given_seat → after ≡ with_view before given_seat.0 → Gave before after part
 gave_of before after part entry kept put given_seat put_is entry_is gives after_is = record {
@@ -208,7 +223,7 @@ gave_some_of t lock before after here part can put given_seat behind k put_is sl
         may_put = may;
         notes_fit = subst (λ (z : Shape). NotesFit z some.part some.notes) shape_is some.notes_fit;
       };
-      after_is = after_is ∙ (ap (λ (z : Seated). with_view before z.0) some.after_is ∙ ap (λ (z : View). with_view before (given some.hold (entry_of before some.part) z.kept z)) put_is);
+      after_is = after_is ∙ (ap (λ (z : Seated). with_view before z.0) some.after_is ∙ ap (λ (z : View). with_view before (losing some.hold (entry_of before some.part) z)) put_is);
     }
   where
     same_head : {A : Type 0} {x y : A} {xs ys : List A} → x ∷ xs ≡ y ∷ ys → x ≡ y
@@ -217,7 +232,7 @@ gave_some_of t lock before after here part can put given_seat behind k put_is sl
 -- a pass that has made a note
 pub is_pass_noted : (v : View) (slots : List (ℕ × Behind)) (strand : List StrandStep) (spares : List (Option Stored)) (notes : List Notes) (bits : List BitSeen) (after : Seated) → IsPass v slots strand spares → after ≡ (noted notes bits v, slots) → IsPass after.0 after.1 strand spares
 is_pass_noted v slots strand spares notes bits after pass after_is =
-    subst (λ (z : Seated). IsPass z.0 z.1 strand spares) (sym after_is) record { carries = pass.carries; strand_is = pass.strand_is; none_ended = pass.none_ended; spares_fit = pass.spares_fit }
+    subst (λ (z : Seated). IsPass z.0 z.1 strand spares) (sym after_is) record { carries = pass.carries; strand_is = pass.strand_is; none_ended = pass.none_ended; spares_fit = pass.spares_fit; within = pass.within; hands_real = pass.hands_real }
 
 -- the owner that was read has a code
 pub read_has_code : (t : TableView) (e : ℕ) (before : PassView) (old new : Seated) (found : ℕ) → IsShape t.shape → IsPassOf t before → old.0 ≡ before.view → (sees : SeesOwner e old found new) → HasOwnerCode sees.owner
@@ -235,3 +250,25 @@ saw_owner t e before after old new found owner is of_table old_is sees has code 
       fits = subst (λ (z : Shape × View × Owner). OwnerFits z.0 z.1 e z.2) (λ i. (shape_is i, old_is i, same i)) sees.fits;
       after_is = after_is ∙ (ap (λ (z : Seated). with_view before z.0) sees.after_is ∙ (λ i. with_view before (owner_read e (same i) (old_is i))));
     }
+
+-- the CPU of a pass is one of the sixteen at most that a map has
+pub cpu_is_few : (t : TableView) (p : PassView) (cpu : ℕ) (v : View) → IsShape t.shape → IsPassOf t p → HasBegun p → cpu ≡ p.cpu → v ≡ p.view → ((c : ℕ) → is_among c v.cpus ≡ true → c < v.shape.cpus) → cpu < 16
+cpu_is_few t p cpu v is of_table begun cpu_is v_is within =
+    let bounds = bounds_of_shape t.shape is in
+    let has : is_among cpu v.cpus ≡ true = (λ i. is_among (cpu_is i) ((v_is i).cpus)) ∙ begun in
+    let shape_is : v.shape ≡ t.shape = ap (λ (w : View). w.shape) v_is ∙ of_table.1 in
+    let below : cpu < t.shape.cpus = subst (λ (s : Shape). cpu < s.cpus) shape_is (within cpu has) in
+    omega arith
+
+-- a pass with another spare for one CPU, or with none
+pub is_pass_spared : (v : View) (slots : List (ℕ × Behind)) (strand : List StrandStep) (cpu : ℕ) (spares now : List (Option Stored)) (found : Option Stored) → IsPass v slots strand spares → spare_of cpu now ≡ found → IfSome found (IsSized v.shape) → SparesDiffer cpu spares now → IsPass v slots strand now
+is_pass_spared v slots strand cpu spares now found pass here sized others = record {
+  carries = pass.carries;
+  strand_is = pass.strand_is;
+  none_ended = pass.none_ended;
+  spares_fit = λ c body kept. by_test c cpu (λ _. IsSized v.shape body)
+      (λ same. subst (λ (o : Option Stored). IfSome o (IsSized v.shape)) (sym here ∙ (ap (λ (z : ℕ). spare_of z now) (sym same) ∙ kept)) sized)
+      (λ other. pass.spares_fit c body (sym (others c other) ∙ kept));
+  within = pass.within;
+  hands_real = pass.hands_real;
+}

@@ -37,7 +37,7 @@ use Rattle.place_table.specs.Views.{is_among, hold_at, is_in_hand_of, bit_seen, 
 use Rattle.place_table.specs.Rules.{World, Rule, Knows, AreTagged, owner_word, home_word, bit_word}
 use Rattle.place_table.specs.Plays.{Seated, Marks, Clears, SeesBit, SeesOwner, SeesHome, OwnerFits}
 use Rattle.place_table.proofs.Locks.{allows_of, found_at, elements_there}
-use Rattle.place_table.proofs.Worlds.{by_bool, true_false, some_is, none_some, hold_of_is, has_mine, in_hand_is, own_hand, all_here, here_all, others, strand_stays, past_stays, tagged_stays, SameStrands, knows_none}
+use Rattle.place_table.proofs.Worlds.{by_bool, true_false, some_is, none_some, hold_of_is, has_mine, in_hand_is, own_hand, all_here, here_all, others, lock_still_lost, strand_stays, past_stays, tagged_stays, SameStrands, knows_none}
 
 -- with other notes a pass knows the same, and what it keeps of bits has to be so
 abbrev AreSo : World → List BitSeen → Type 0
@@ -106,9 +106,11 @@ module _ (shape : Shape) (s : State Behind View) (r : Rule shape s) (pass : ℕ)
               held = kn.held;
               ascends = kn.ascends;
               hands = kn.hands;
+              carried = kn.carried;
               known = kn.known;
               bits = learnt shape w pass v (put w.core.bit e b) e b kn (at_put w.core.bit e b (λ j y. j ≡ e → y ≡ b) e (λ _. refl) (λ n f. absurd (n f)) refl) (λ x other. at_put w.core.bit e b (λ j y. j ≢ e → y ≡ w.core.bit j) x (λ n. absurd (n refl)) (λ _ _. refl) other);
               only = only_all shape w pass v e b kn;
+              losses = λ k among. lock_still_lost shape w w' k (λ lo. lo) (kn.losses k among);
               strand = strand_stays shape w w' pass (w.current pass) v.cpus v.steps v.kept kn.strand.keeper (λ z. z) refl (λ _. refl) (λ _ z. z) kn.strand;
               past = past_stays shape w w' pass (w.past pass) v.ended same (λ _ _ _ _. refl) (λ _ z. z) kn.past;
               apart = kn.apart;
@@ -116,7 +118,7 @@ module _ (shape : Shape) (s : State Behind View) (r : Rule shape s) (pass : ℕ)
             })
             (λ t. let ku = r.knows j u t.1 in
             let no_more = knows_none shape w pass j u c ku (kn.within c cpu) mine t.0 in
-            others shape w w' j u same ku (λ _. refl) (λ _ _ _. refl) (λ _ _ _. refl) (λ _ z. z) ku.known (λ x bit f. absurd (none_some (sym (ap (bit_seen x) no_more.1) ∙ f))))
+            others shape w w' j u same ku (λ _. refl) (λ _ _ _. refl) (λ _ _ _. refl) (λ _ _ _. refl) (λ _ z. z) ku.known (λ x bit f. absurd (none_some (sym (ap (bit_seen x) no_more.1) ∙ f))))
             (at_set s.views pass j nv u h);
       }
 
@@ -153,9 +155,11 @@ module _ (shape : Shape) (s : State Behind View) (r : Rule shape s) (pass : ℕ)
                 held = kn.held;
                 ascends = kn.ascends;
                 hands = kn.hands;
+                carried = kn.carried;
                 known = kn.known;
                 bits = so;
                 only = only;
+                losses = kn.losses;
                 strand = kn.strand;
                 past = kn.past;
                 apart = kn.apart;
@@ -169,7 +173,7 @@ module _ (shape : Shape) (s : State Behind View) (r : Rule shape s) (pass : ℕ)
 
 -- Marks
 
-in_held_bucket : (shape : Shape) (s : State Behind View) (r : Rule shape s) (pass : ℕ) (v : View) (e bucket : ℕ) (hold : Hold) → get_elem? s.views pass ≡ some v → bucket < shape.buckets
+pub in_held_bucket : (shape : Shape) (s : State Behind View) (r : Rule shape s) (pass : ℕ) (v : View) (e bucket : ℕ) (hold : Hold) → get_elem? s.views pass ≡ some v → bucket < shape.buckets
     → hold_at (lock_number shape (Bucket bucket)) v.held ≡ Some hold → IsIn e hold.now.first → IsInHeldBucket shape r.world.core hold.cpu e bucket × (is_among hold.cpu v.cpus ≡ true)
 in_held_bucket shape s r pass v e bucket hold at_pass there found inside =
     let k : ℕ = lock_number shape (Bucket bucket) in
@@ -285,7 +289,7 @@ free_is e n (owners.Hand c) a here same some_there = absurd (none_of a same)
     none_of true same = let zero_is : n ≡ 0 = same in omega arith
     none_of false same = let zero_is : n ≡ 0 = same in omega arith
 
-owner_fits : (shape : Shape) (s : State Behind View) (r : Rule shape s) (pass : ℕ) (v : View) (e : ℕ) → get_elem? s.views pass ≡ some v → e < shape.elements → OwnerFits shape v e (r.world.core.owner e)
+pub owner_fits : (shape : Shape) (s : State Behind View) (r : Rule shape s) (pass : ℕ) (v : View) (e : ℕ) → get_elem? s.views pass ≡ some v → e < shape.elements → OwnerFits shape v e (r.world.core.owner e)
 owner_fits shape s r pass v e at_pass real =
     let w = r.world in let kn = r.knows pass v at_pass in record {
       in_held_bucket = λ bucket hold there found.

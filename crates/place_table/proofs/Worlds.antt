@@ -16,7 +16,7 @@ use Rattle.place_table.specs.declared.view.Hold.{Hold}
 use Rattle.place_table.specs.declared.view.Turned.{Turned}
 use Rattle.place_table.specs.declared.view.Ended.{Ended}
 use Rattle.place_table.specs.Views.{is_among, hold_at, is_in_hand_of, known_log, bit_seen, has_all_below}
-use Rattle.place_table.specs.Rules.{Tagged, entries, World, hold, hold_of, is_hand_of, IsAboveAll, turns_of, IsStrand, ArePast, IsTagged, AreTagged, Knows}
+use Rattle.place_table.specs.Rules.{Tagged, entries, World, hold, hold_of, is_hand_of, is_home_of, IsAboveAll, turns_of, IsStrand, ArePast, IsTagged, AreTagged, IsLostLock, Knows}
 
 -- the same of four functions that change at one place
 pub at_put4 : {A B C D : Type 0} (f : ℕ → A) (g : ℕ → B) (h : ℕ → C) (l : ℕ → D) (i : ℕ) (x : A) (y : B) (z : C) (u : D) (F : ℕ → A → B → C → D → Type 0) (j : ℕ)
@@ -210,26 +210,38 @@ pub tagged_more : (w : World) (n : ℕ) (log : List Tagged) (x : Tagged) → Are
 tagged_more w n [] x tagged last = (last, tt)
 tagged_more w n (y ∷ ys) x tagged last = (tagged.0, tagged_more w n ys x tagged.1 last)
 
+-- a record that is lost stays lost
+pub still_lost : (was is : Bool) → (is ≡ false → was ≡ false) → was ≡ true → is ≡ true
+still_lost was true found lost = refl
+still_lost was false found lost = true_false (sym lost ∙ found refl)
+
+pub lock_still_lost : (shape : Shape) (w w' : World) (k : ℕ) → (w'.lost k ≡ false → w.lost k ≡ false) → IsLostLock shape w k → IsLostLock shape w' k
+lock_still_lost shape w w' k found is =
+    record { below = is.below; there = is.there; lost = still_lost (w.lost k) (w'.lost k) found is.lost }
+
 -- THE FRAME. What a pass knows stays where its own locks, hands and strands do, and where what it keeps of turns and bits
 -- is still so.
 pub others : (shape : Shape) (w w' : World) (j : ℕ) (u : View) → SameStrands w w' → Knows shape w j u
     → ((k : ℕ) → hold_of j w'.whose k (w'.core.holder k) (w'.log k) (w'.core.lists k) (w'.lost k) ≡ hold_of j w.whose k (w.core.holder k) (w.log k) (w.core.lists k) (w.lost k))
     → ((e c : ℕ) → c < shape.cpus → (is_hand_of c (w'.core.owner e) && eqb (w'.whose c) j) ≡ (is_hand_of c (w.core.owner e) && eqb (w.whose c) j))
+    → ((e c : ℕ) → c < shape.cpus → (is_home_of c (w'.core.home e) && eqb (w'.whose c) j) ≡ (is_home_of c (w.core.home e) && eqb (w.whose c) j))
     → ((t k : ℕ) → w.keeper t ≡ j → turns_of t 0 (w'.log k) ≡ turns_of t 0 (w.log k))
     → ((k : ℕ) → w'.lost k ≡ false → w.lost k ≡ false)
     → ((k : ℕ) (log : List Entry) → known_log k u.known ≡ Some log → entries (w'.log k) ≡ log)
     → ((e : ℕ) (bit : Bool) → bit_seen e u.bits ≡ Some bit → w'.core.bit e ≡ bit)
     → Knows shape w' j u
-others shape w w' j u same kn holds hands turns losses known bits = record {
+others shape w w' j u same kn holds hands carried turns losses known bits = record {
   shape_is = kn.shape_is;
   cpus = λ c less. kn.cpus c less ∙ sym (ap (λ (z : ℕ). eqb z j) (same.whose c));
   within = kn.within;
   held = λ k. kn.held k ∙ sym (holds k);
   ascends = kn.ascends;
   hands = λ e c less. kn.hands e c less ∙ sym (hands e c less);
+  carried = λ e c less. kn.carried e c less ∙ sym (carried e c less);
   known = known;
   bits = bits;
   only = kn.only;
+  losses = λ k among. lock_still_lost shape w w' k (losses k) (kn.losses k among);
   strand = subst (λ (z : ℕ). IsStrand shape w' j z u.cpus u.steps u.kept) (sym (same.current j))
       (strand_stays shape w w' j (w.current j) u.cpus u.steps u.kept (same.keeper (w.current j) ∙ kn.strand.keeper) (λ less. subst (λ (n : ℕ). w.current j < n) (sym same.next) less) (same.team (w.current j))
       (λ k. turns (w.current j) k kn.strand.keeper) losses kn.strand);

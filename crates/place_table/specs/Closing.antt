@@ -1,5 +1,5 @@
 -- What a closed table leaves: each history leads to what lay under its lock, and the strand has every turn.
-use Rattle.std.specs.Prelude.{◌≡◌, ℕ, suc, ◌<◌, Bool, false, not, List, [], ◌∷◌, length, map, filter, Option, None, Some, slice_index_or, IsTrue}
+use Rattle.std.specs.Prelude.{◌≡◌, ℕ, suc, ◌<◌, Bool, true, false, not, List, [], ◌∷◌, length, map, filter, Option, None, Some, slice_index_or, IsTrue}
 use Rattle.std.specs.List.{range_with_len, list_any}
 use mathlib.Core.Option.{some}
 use lib.ListN.{get_elem?}
@@ -13,13 +13,13 @@ use Rattle.place_words.specs.declared.history.Strand.{Strand}
 use Rattle.place_words.specs.declared.history.StrandStep.{StrandStep}
 use Rattle.place_words.specs.Histories.{in_bucket, on_freelist, content, IsLegal}
 use Rattle.place_words.specs.Locks.{is_lock, lock_named, lock_number, lock_count}
-use Rattle.place_words.specs.Strands.{AreSharedOut}
+use Rattle.place_words.specs.Strands.{AreSharedOut, places_on}
 use Rattle.place_core.specs.State as cores
 use Rattle.place_core.specs.Places.{Placed}
 use Rattle.place_table.specs.declared.content.Behind.{Behind}
 use Rattle.place_table.specs.Contents.{lists_of}
-use Rattle.place_table.specs.Views.{is_in_hand_of, known_log, bit_seen}
-use Rattle.place_table.specs.Rules.{Reads, is_hand_of, turns_on}
+use Rattle.place_table.specs.Views.{is_among, is_in_hand_of, known_log, bit_seen}
+use Rattle.place_table.specs.Rules.{Reads, is_hand_of, turns_on, indexes}
 use Rattle.place_table.specs.Passes.{PassView}
 
 -- what is handed out
@@ -93,6 +93,10 @@ pub record IsClosed (shape : Shape) (pass : PassView) (closed : ClosedView) : Ty
   pub known : (k : ℕ) (turns : List Entry) → known_log k pass.view.known ≡ Some turns → log k ≡ turns
   pub bits : (e : ℕ) (bit : Bool) → bit_seen e pass.view.bits ≡ Some bit → core.bit e ≡ bit
   pub turns : (k : ℕ) → turns_on k pass.view.steps ≡ numbered 0 (log k)
+  -- of a lock whose record isn't lost each turn is recorded
+  pub recorded : (k : ℕ) → k < lock_count shape → IsTrue (has_lock shape k) → lost k ≡ false → places_on (lock_named shape k) pass.view.kept ≡ indexes (turns_on k pass.view.steps)
+  -- where the pass gave a lock back without a part, a record is lost
+  pub losses : (k : ℕ) → is_among k pass.view.lost ≡ true → closed.lost ≡ true
   -- what is handed out is this, and the turns that are recorded are shared out among the strands
   pub left : IsLeft shape log lost core.bit pass.view.kept pass.spares closed
   pub shared_out : (k : ℕ) → k < lock_count shape → IsTrue (has_lock shape k) → lost k ≡ false → AreSharedOut (lock_named shape k) closed.strands (log k)

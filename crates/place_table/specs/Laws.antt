@@ -1,5 +1,5 @@
 -- Each operation on a word of the table is the step of the core that has its name, and the rule holds before and after it.
-use Rattle.std.specs.Prelude.{◌≡◌, ◌≢◌, ℕ, ◌+◌, ◌<◌, ◌==◌, true, List, ◌∷◌, Some, IsTrue, length, slice_index}
+use Rattle.std.specs.Prelude.{◌≡◌, ◌≢◌, ℕ, ◌+◌, ◌<◌, ◌==◌, true, List, ◌∷◌, Some, IsTrue, IsFalse, length, slice_index}
 use mathlib.Core.Option.{some, none}
 use lib.ListN.{get_elem?}
 use prog.Atomic.{either}
@@ -10,19 +10,23 @@ use Rattle.map_types.specs.declared.kind.DomainId.{DomainId}
 use Rattle.map_types.specs.declared.kind.DomainId.TheVariants.{Bucket}
 use Rattle.place_words.specs.declared.history.Entry.{Entry}
 use Rattle.place_words.specs.declared.history.StrandStep.{StrandStep}
-use Rattle.place_words.specs.ElementLists.{IsIn}
+use Rattle.place_words.specs.declared.home.Home.{Home}
+use Rattle.place_words.specs.Codes.{home_code}
+use Rattle.place_words.specs.ElementLists.{IsIn, IsHead}
+use Rattle.map_types.specs.Kind.{is_lru}
 use Rattle.place_words.specs.Locks.{is_lock, lock_number, rank_of}
 use Rattle.place_core.specs.declared.step.Step.{Step}
-use Rattle.place_core.specs.declared.step.Step.TheVariants.{Take, Give, Mark, Clear, Glance}
+use Rattle.place_core.specs.declared.step.Step.TheVariants.{Take, Give, Claim, Settle, Attach, Detach, Rehome, Mark, Clear, Glance}
 use Rattle.place_core.specs.State as cores
+use Rattle.place_core.specs.State.{rows, is_bucket}
 use Rattle.place_core.specs.Steps.{CoreStep}
 use Rattle.place_table.specs.declared.content.Behind.{Behind}
 use Rattle.place_table.specs.declared.view.View.{View}
 use Rattle.place_table.specs.declared.view.Hold.{Hold}
 use Rattle.place_table.specs.Contents.{told, lists_of}
-use Rattle.place_table.specs.Views.{is_among, hold_at, is_in_hand_of}
+use Rattle.place_table.specs.Views.{is_among, hold_at, is_in_hand_of, claimed, settled, attached, detached}
 use Rattle.place_table.specs.Rules.{Rule, IsAboveAll, owner_word, home_word, bit_word}
-use Rattle.place_table.specs.Plays.{Seated, MayGive, Tries, Gives, Marks, Clears, SeesBit, SeesOwner, SeesHome}
+use Rattle.place_table.specs.Plays.{Seated, MayGive, Tries, Gives, Marks, Clears, SeesBit, SeesOwner, SeesHome, IsKnownHome, MayGoHome, Rehomes}
 
 -- A step on the word i, which becomes f of what it was, by a pass with this seat: whatever the table is then, if the rule
 -- holds, there are a view and an act of the seat after which the rule holds again, the core has gone on as it may, and this
@@ -75,3 +79,36 @@ GlanceIsStep =
     → StepsAs shape slots pass me (bit_word shape e) (λ n. n) (goes_by shape (Glance 0 e)) (SeesBit e me)
     × StepsAs shape slots pass me (owner_word shape e) (λ n. n) (goes_by shape (Glance 0 e)) (SeesOwner e me)
     × StepsAs shape slots pass me (home_word shape e) (λ n. n) (goes_by shape (Glance 0 e)) (SeesHome e me)
+
+-- The head of a lock's free list comes to the hand of the CPU that holds the lock, by a store of 1 and the CPU.
+abbrev pub ClaimIsStep : Type 0
+ClaimIsStep =
+    (shape : Shape) (slots pass : ℕ) (me : Seated) (e : ℕ) (lock : DomainId) (hold : Hold) → e < shape.elements → IsTrue (is_lock shape lock) → hold_at (lock_number shape lock) me.0.held ≡ Some hold → IsHead e hold.now.free
+    → StepsAs shape slots pass me (owner_word shape e) (λ _. 1 + hold.cpu) (goes_by shape (Claim hold.cpu e lock)) (λ _ after. after ≡ (claimed lock e hold.cpu me.0, me.1))
+
+-- It goes to the head of a lock's free list by a store of 0.
+abbrev pub SettleIsStep : Type 0
+SettleIsStep =
+    (shape : Shape) (slots pass : ℕ) (me : Seated) (e : ℕ) (lock : DomainId) (hold : Hold) → e < shape.elements → IsTrue (is_lock shape lock) → hold_at (lock_number shape lock) me.0.held ≡ Some hold → IsFalse (is_bucket lock)
+    → is_among hold.cpu me.0.cpus ≡ true → is_in_hand_of e hold.cpu me.0.hand ≡ true → (IsTrue (is_lru shape.kind) → IsIn e (rows hold.now))
+    → StepsAs shape slots pass me (owner_word shape e) (λ _. 0) (goes_by shape (Settle hold.cpu e lock)) (λ _ after. after ≡ (settled lock e hold.cpu me.0, me.1))
+
+-- It goes to the head of a bucket by a store of 32 and the bucket.
+abbrev pub AttachIsStep : Type 0
+AttachIsStep =
+    (shape : Shape) (slots pass : ℕ) (me : Seated) (e bucket : ℕ) (hold : Hold) → e < shape.elements → bucket < shape.buckets → hold_at (lock_number shape (Bucket bucket)) me.0.held ≡ Some hold
+    → is_among hold.cpu me.0.cpus ≡ true → is_in_hand_of e hold.cpu me.0.hand ≡ true
+    → StepsAs shape slots pass me (owner_word shape e) (λ _. 32 + bucket) (goes_by shape (Attach hold.cpu e bucket)) (λ _ after. after ≡ (attached bucket e hold.cpu me.0, me.1))
+
+-- An element of a bucket comes to the hand of the CPU that holds the bucket, by a store of 1 and the CPU.
+abbrev pub DetachIsStep : Type 0
+DetachIsStep =
+    (shape : Shape) (slots pass : ℕ) (me : Seated) (e bucket : ℕ) (hold : Hold) → bucket < shape.buckets → hold_at (lock_number shape (Bucket bucket)) me.0.held ≡ Some hold → IsIn e hold.now.first
+    → StepsAs shape slots pass me (owner_word shape e) (λ _. 1 + hold.cpu) (goes_by shape (Detach hold.cpu e bucket)) (λ _ after. after ≡ (detached bucket e hold.cpu me.0, me.1))
+
+-- The home of an element becomes another by a store of its code, and the element goes from the one's lists to the head of
+-- the other's.
+abbrev pub RehomeIsStep : Type 0
+RehomeIsStep =
+    (shape : Shape) (slots pass : ℕ) (me : Seated) (c e : ℕ) (from to : Home) → IsTrue shape.common → e < shape.elements → is_among c me.0.cpus ≡ true → IsKnownHome shape me.0 c e from → MayGoHome shape me.0 c e to
+    → StepsAs shape slots pass me (home_word shape e) (λ _. home_code to) (goes_by shape (Rehome c e to)) (λ _. Rehomes e to me)

@@ -1,5 +1,6 @@
 pub mod Closing
 pub mod Contents
+pub mod Known
 pub mod Laws
 pub mod Leaving
 pub mod Opening

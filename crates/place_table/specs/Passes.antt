@@ -1,5 +1,5 @@
 -- What a caller of the table knows of its pass: what each call asks, and what it leaves.
-use Rattle.std.specs.Prelude.{◌≡◌, ℕ, ◌<◌, Bool, true, false, List, [], ◌∷◌, ◌++◌, Option, None, Some, MatchOption, IsTrue, slice_index_or}
+use Rattle.std.specs.Prelude.{◌≡◌, ◌≢◌, ◌⊎◌, ℕ, ◌<◌, Bool, true, false, List, [], ◌∷◌, ◌++◌, Option, None, Some, MatchOption, IfSome, IsTrue, IsFalse, slice_index_or}
 use Rattle.atomic_table.specs.Seated.{TableId}
 use Rattle.map_types.specs.declared.attr.Shape.{Shape}
 use Rattle.map_types.specs.declared.kind.DomainId.{DomainId}
@@ -10,24 +10,27 @@ use Rattle.place_words.specs.declared.history.Entry.{Entry}
 use Rattle.place_words.specs.declared.history.Part.{Part}
 use Rattle.place_words.specs.declared.history.StrandStep.{StrandStep}
 use Rattle.place_words.specs.declared.owner.Owner.{Owner}
+use Rattle.place_words.specs.declared.owner.Owner.TheVariants.{Free}
 use Rattle.place_words.specs.declared.home.Home.{Home}
 use Rattle.place_words.specs.declared.home.Home.TheVariants.{Unlisted}
 use Rattle.map_types.specs.Kind.{is_lru}
 use Rattle.place_words.specs.Codes.{HasHomeCode}
-use Rattle.place_words.specs.ElementLists.{IsIn}
+use Rattle.place_words.specs.ElementLists.{IsIn, IsHead}
 use Rattle.place_words.specs.Histories.{content, IsLegal}
 use Rattle.place_words.specs.Locks.{lock_number, rank_of, is_lock}
+use Rattle.place_core.specs.State.{rows, is_bucket}
 use Rattle.place_core.specs.Places.{MayOwn}
 use Rattle.place_table.specs.declared.content.Content.{Content}
 use Rattle.place_table.specs.declared.content.Behind.{Behind}
 use Rattle.place_table.specs.declared.view.View.{View}
 use Rattle.place_table.specs.declared.view.Hold.{Hold}
+use Rattle.place_table.specs.declared.view.InHand.{InHand}
 use Rattle.place_table.specs.declared.view.Notes.{Notes}
 use Rattle.place_table.specs.declared.view.Turned.{Turned}
 use Rattle.place_table.specs.Contents.{told, lists_of, Fits, IsSized}
-use Rattle.place_table.specs.Views.{is_among, hold_at, is_in_hand_of, known_log, first_view, holding, given, cleared, bit_read, owner_read, home_read}
+use Rattle.place_table.specs.Views.{is_among, hold_at, is_in_hand_of, known_log, first_view, kept_step, holding, given, losing, cleared, bit_read, owner_read, home_read, rehomed}
 use Rattle.place_table.specs.Rules.{KeptAs, IsAboveAll}
-use Rattle.place_table.specs.Plays.{AreElements, MayPut, IsInnermost, IsKeptOrLost, IsKnownBit, OwnerFits}
+use Rattle.place_table.specs.Plays.{AreElements, IsApartFromHands, MayPut, IsInnermost, IsKeptOrLost, IsKnownBit, OwnerFits, IsKnownHome, MayGoHome, IsNoneListed}
 use Rattle.place_table.specs.TurnNotes.{NotesFit}
 
 -- What a pass is seen as: the table that it is of, its place among the table's passes, the CPU and the call of its last
@@ -60,10 +63,13 @@ without_content behind = record { content = None; history = behind.history }
 abbrev pub spare_of : ℕ → List (Option Stored) → Option Stored
 spare_of cpu spares = slice_index_or spares cpu None
 
--- a spare that is kept is in its CPU's hand, and has the sizes of the map
+-- a spare that is kept has the sizes of the map
 abbrev pub SparesFit : View → List (Option Stored) → Type 0
-SparesFit v spares =
-    (cpu : ℕ) (body : Stored) → spare_of cpu spares ≡ Some body → (is_in_hand_of body.element cpu v.hand ≡ true) × IsSized v.shape body
+SparesFit v spares = (cpu : ℕ) (body : Stored) → spare_of cpu spares ≡ Some body → IsSized v.shape body
+
+-- what is in hand is of the map
+abbrev pub HandsReal : Shape → List InHand → Type 0
+HandsReal shape hand = (e cpu : ℕ) → is_in_hand_of e cpu hand ≡ true → e < shape.elements
 
 -- what holds of each pass
 pub record IsPass (v : View) (slots : List (ℕ × Behind)) (strand : List StrandStep) (spares : List (Option Stored)) : Type 0 where
@@ -71,6 +77,9 @@ pub record IsPass (v : View) (slots : List (ℕ × Behind)) (strand : List Stran
   pub strand_is : strand ≡ v.kept
   pub none_ended : v.ended ≡ []
   pub spares_fit : SparesFit v spares
+  -- its CPUs are the map's, and so is what they have in hand
+  pub within : (cpu : ℕ) → is_among cpu v.cpus ≡ true → cpu < v.shape.cpus
+  pub hands_real : HandsReal v.shape v.hand
 
 abbrev pub IsPassOf : TableView → PassView → Type 0
 IsPassOf t p = (p.table ≡ t.id) × (p.view.shape ≡ t.shape)
@@ -82,10 +91,15 @@ HasBegun p = is_among p.cpu p.view.cpus ≡ true
 abbrev pub with_view : PassView → View → PassView
 with_view p v = record { table = p.table; seat = p.seat; cpu = p.cpu; call = p.call; view = v; spares = p.spares }
 
--- A pass is in no call: it holds no lock, and its CPUs have nothing in hand but spares, none of which is out.
+abbrev pub with_spares : PassView → List (Option Stored) → PassView
+with_spares p spares = record { table = p.table; seat = p.seat; cpu = p.cpu; call = p.call; view = p.view; spares = spares }
+
+-- A pass is in no call: it holds no lock, and its CPUs have nothing in hand but the spares that it keeps, none of which is
+-- out.
 pub record IsInNoCall (p : PassView) : Type 0 where
   pub holds_nothing : p.view.held ≡ []
   pub spares_only : (e cpu : ℕ) → is_among cpu p.view.cpus ≡ true → is_in_hand_of e cpu p.view.hand ≡ true → (body : Stored) × (spare_of cpu p.spares ≡ Some body) × (body.element ≡ e)
+  pub spares_in_hand : (cpu : ℕ) (body : Stored) → spare_of cpu p.spares ≡ Some body → is_in_hand_of body.element cpu p.view.hand ≡ true
   pub none_out : p.view.shape.kind ≡ Hash → (cpu : ℕ) → is_among cpu p.view.cpus ≡ true → (body : Stored) × (spare_of cpu p.spares ≡ Some body)
 
 -- the first pass of a table, which has all CPUs and knows all
@@ -116,6 +130,7 @@ pub record Takes (t : TableView) (lock : DomainId) (before after : PassView) (he
   pub fits : Fits t.shape lock here
   pub now : hold.now ≡ lists_of (told here)
   pub elements : AreElements t.shape hold.now
+  pub apart : IsApartFromHands before.view hold.now
   pub legal : IsLegal t.shape lock hold.log
   pub known : (log : List Entry) → known_log (lock_number t.shape lock) before.view.known ≡ Some log → hold.log ≡ log
 
@@ -154,17 +169,17 @@ CanGiveSome t lock p here = (part : Part) × CanGive t lock p here part
 abbrev pub MayGiveBack : TableView → DomainId → PassView → Content → Option Part → Type 0
 MayGiveBack t lock p here part = MatchOption part (CanGiveSome t lock p here) (λ given_part. CanGive t lock p here given_part)
 
--- and then nothing is recorded, and some part that could be given stands for it
+-- and then nothing is recorded, some part that could be given stands for it, and the pass knows that the record is lost
 pub record GaveSome (t : TableView) (lock : DomainId) (before after : PassView) (here : Content) : Type 0 where
   pub part : Part
   pub can : CanGive t lock before here part
-  pub after_is : after ≡ with_view before (given can.hold (entry_of before part) before.view.kept before.view)
+  pub after_is : after ≡ with_view before (losing can.hold (entry_of before part) before.view)
 
 abbrev pub GaveBack : TableView → DomainId → PassView → PassView → Content → Option Part → Type 0
 GaveBack t lock before after here part =
     MatchOption part (GaveSome t lock before after here) (λ given_part. Gave before after given_part)
 
--- mark asks for an element of a bucket that the CPU holds
+-- mark and detach ask for an element of a bucket that the CPU holds
 pub record CanMark (t : TableView) (e bucket : ℕ) (p : PassView) : Type 0 where
   pub of_table : IsPassOf t p
   pub begun : HasBegun p
@@ -174,6 +189,94 @@ pub record CanMark (t : TableView) (e bucket : ℕ) (p : PassView) : Type 0 wher
   pub held : hold_at (lock_number t.shape (Bucket bucket)) p.view.held ≡ Some hold
   pub cpu_is : hold.cpu ≡ p.cpu
   pub inside : IsIn e hold.now.first
+
+-- attach asks for an element in the CPU's hand, and for a bucket that the CPU holds
+pub record CanAttach (t : TableView) (e bucket : ℕ) (p : PassView) : Type 0 where
+  pub of_table : IsPassOf t p
+  pub begun : HasBegun p
+  pub hold : Hold
+  pub there : bucket < t.shape.buckets
+  pub held : hold_at (lock_number t.shape (Bucket bucket)) p.view.held ≡ Some hold
+  pub cpu_is : hold.cpu ≡ p.cpu
+  pub in_hand : is_in_hand_of e p.cpu p.view.hand ≡ true
+
+-- claim asks for the head of the free list of a lock that the CPU holds
+pub record CanClaim (t : TableView) (e : ℕ) (lock : DomainId) (p : PassView) : Type 0 where
+  pub of_table : IsPassOf t p
+  pub begun : HasBegun p
+  pub hold : Hold
+  pub real : e < t.shape.elements
+  pub there : IsTrue (is_lock t.shape lock)
+  pub held : hold_at (lock_number t.shape lock) p.view.held ≡ Some hold
+  pub cpu_is : hold.cpu ≡ p.cpu
+  pub head : IsHead e hold.now.free
+
+-- Settle asks for an element in the CPU's hand, and for a lock that the CPU holds and that has a free list. On a map that
+-- evicts the element is listed there.
+pub record CanSettle (t : TableView) (e : ℕ) (lock : DomainId) (p : PassView) : Type 0 where
+  pub of_table : IsPassOf t p
+  pub begun : HasBegun p
+  pub hold : Hold
+  pub there : IsTrue (is_lock t.shape lock)
+  pub held : hold_at (lock_number t.shape lock) p.view.held ≡ Some hold
+  pub cpu_is : hold.cpu ≡ p.cpu
+  pub has_free_list : IsFalse (is_bucket lock)
+  pub in_hand : is_in_hand_of e p.cpu p.view.hand ≡ true
+  pub listed : IsTrue (is_lru t.shape.kind) → IsIn e (rows hold.now)
+
+-- Rehome asks for an element and for a home where it may go, on a map whose CPUs share its lists. The pass knows the home
+-- that the element has: lists under a lock that the CPU holds, or the hand of the CPU, which carries it.
+pub record CanRehome (t : TableView) (e : ℕ) (to : Home) (p : PassView) : Type 0 where
+  pub of_table : IsPassOf t p
+  pub begun : HasBegun p
+  pub common : IsTrue t.shape.common
+  pub real : e < t.shape.elements
+  pub from : Home
+  pub home : IsKnownHome t.shape p.view p.cpu e from
+  pub goes : MayGoHome t.shape p.view p.cpu e to
+
+-- What it leaves: the element is gone from the home that it had, and each home that the pass knew it to have is this one.
+-- It is carried by the CPU, or at the head of a list of the lock that it went to. Its owner, which stays, tells which list:
+-- the free one where it is free, else pending or inactive.
+pub record Rehomed (t : TableView) (e : ℕ) (to : Home) (before after : PassView) : Type 0 where
+  pub from : Home
+  pub known : (home : Home) → IsKnownHome t.shape before.view before.cpu e home → home ≡ from
+  pub owner : Owner
+  pub fits : OwnerFits t.shape before.view e owner
+  pub listed : owner ≡ Free → IsNoneListed before.view e
+  pub after_is : after ≡ with_view before (rehomed from to owner e before.view)
+
+-- spares are those of a map of kind HASH
+pub record CanSpare (t : TableView) (p : PassView) : Type 0 where
+  pub of_table : IsPassOf t p
+  pub begun : HasBegun p
+  pub hash : t.shape.kind ≡ Hash
+
+-- only what is kept for one CPU differs
+abbrev pub SparesDiffer : ℕ → List (Option Stored) → List (Option Stored) → Type 0
+SparesDiffer cpu before after = (other : ℕ) → other ≢ cpu → spare_of other after ≡ spare_of other before
+
+-- the CPU's spare is handed out, where it isn't out
+pub record Spared (t : TableView) (before after : PassView) (body : Option Stored) : Type 0 where
+  pub body_is : body ≡ spare_of before.cpu before.spares
+  pub sized : IfSome body (IsSized t.shape)
+  pub out : spare_of before.cpu after.spares ≡ None
+  pub others : SparesDiffer before.cpu before.spares after.spares
+  pub after_is : after ≡ with_spares before after.spares
+
+-- the CPU's spare is out, and an element in its hand is to be it from now on
+pub record CanKeepSpare (t : TableView) (body : Stored) (p : PassView) : Type 0 where
+  pub of_table : IsPassOf t p
+  pub begun : HasBegun p
+  pub hash : t.shape.kind ≡ Hash
+  pub out : spare_of p.cpu p.spares ≡ None
+  pub in_hand : is_in_hand_of body.element p.cpu p.view.hand ≡ true
+  pub sized : IsSized t.shape body
+
+pub record KeptSpare (body : Stored) (before after : PassView) : Type 0 where
+  pub here : spare_of before.cpu after.spares ≡ Some body
+  pub others : SparesDiffer before.cpu before.spares after.spares
+  pub after_is : after ≡ with_spares before after.spares
 
 -- clear asks for an element in the CPU's hand, since a map that doesn't evict tells no home
 pub record CanClear (t : TableView) (e : ℕ) (p : PassView) : Type 0 where
@@ -205,18 +308,34 @@ pub record SawHome (t : TableView) (e : ℕ) (before after : PassView) (home : H
   pub plain : is_lru t.shape.kind ≡ false → home ≡ Unlisted
   pub after_is : after ≡ with_view before (home_read e home before.view)
 
--- What calls leave of a pass that move no element: the locks held, what was noted under them, the hands and the spares are
--- the same, and the strand has these turns more.
-pub record Went (before after : PassView) (more : List Turned) : Type 0 where
+-- Of these turns, in order, some are recorded behind what was recorded before.
+abbrev pub IsKeptOf : Shape → List Turned → List StrandStep → List StrandStep → Type 0
+IsKeptOf shape [] before after = after ≡ before
+IsKeptOf shape (step ∷ steps) before after =
+    IsKeptOf shape steps before after ⊎ IsKeptOf shape steps (before ++ kept_step shape step.lock step.index ∷ []) after
+
+-- What is left of a pass after calls: it is of its table, in its call and has its CPUs as before; its strand has these turns
+-- more, of which all or some are recorded; and it gave these locks back without a part.
+pub record Goes (before after : PassView) (more : List Turned) (lost : List ℕ) : Type 0 where
   pub table : after.table ≡ before.table
   pub seat : after.seat ≡ before.seat
   pub cpu : after.cpu ≡ before.cpu
   pub call : after.call ≡ before.call
-  pub spares : after.spares ≡ before.spares
   pub shape : after.view.shape ≡ before.view.shape
   pub cpus : after.view.cpus ≡ before.view.cpus
-  pub held : after.view.held ≡ before.view.held
-  pub hand : after.view.hand ≡ before.view.hand
-  pub notes : after.view.notes ≡ before.view.notes
   pub steps : after.view.steps ≡ before.view.steps ++ more
+  pub kept : IsKeptOf before.view.shape more before.view.kept after.view.kept
   pub ended : after.view.ended ≡ before.view.ended
+  pub lost_is : after.view.lost ≡ lost ++ before.view.lost
+
+-- and the same locks are held, with what was noted under them
+pub record Made (before after : PassView) (more : List Turned) (lost : List ℕ) : Type 0 where
+  pub goes : Goes before after more lost
+  pub held : after.view.held ≡ before.view.held
+  pub notes : after.view.notes ≡ before.view.notes
+
+-- and no element was moved
+pub record Went (before after : PassView) (more : List Turned) (lost : List ℕ) : Type 0 where
+  pub made : Made before after more lost
+  pub spares : after.spares ≡ before.spares
+  pub hand : after.view.hand ≡ before.view.hand

@@ -1,9 +1,10 @@
 -- What each step on a word tells of the pass that makes it.
-use Rattle.std.specs.Prelude.{◌≡◌, ◌≢◌, ◌⊎◌, ℕ, ◌<◌, ◌≤◌, ◌-◌, Bool, true, false, List, [], ◌∷◌, ◌++◌, length, Some, MatchOption}
+use Rattle.std.specs.Prelude.{◌≡◌, ◌≢◌, ◌⊎◌, ℕ, ◌<◌, ◌≤◌, ◌-◌, Bool, true, false, List, [], ◌∷◌, ◌++◌, length, Some, MatchOption, IsTrue, IsFalse}
 use Rattle.atomic_table.specs.Table as table
 use Rattle.atomic_table.specs.Table.{Me, rest}
 use Rattle.map_types.specs.declared.attr.Shape.{Shape}
-use Rattle.map_types.specs.declared.kind.DomainId.TheVariants.{Bucket}
+use Rattle.map_types.specs.declared.kind.DomainId.{DomainId}
+use Rattle.map_types.specs.declared.kind.DomainId.TheVariants.{Local, Global, CpuLru, Bucket, Freelist}
 use Rattle.map_types.specs.Kind.{is_lru}
 use Rattle.place_words.specs.declared.history.Entry.{Entry}
 use Rattle.place_words.specs.declared.history.Part.{Part}
@@ -11,21 +12,23 @@ use Rattle.place_words.specs.declared.history.StrandStep.{StrandStep}
 use Rattle.place_words.specs.declared.owner.Owner.{Owner}
 use Rattle.place_words.specs.declared.owner.Owner.TheVariants.{Free}
 use Rattle.place_words.specs.declared.home.Home.{Home}
-use Rattle.place_words.specs.declared.home.Home.TheVariants.{Unlisted}
+use Rattle.place_words.specs.declared.home.Home.TheVariants as homes
 use Rattle.place_words.specs.Codes.{owner_code, home_code, HasHomeCode}
 use Rattle.place_words.specs.ElementLists.{one, times, IsIn}
 use Rattle.place_words.specs.Histories.{content, content_after, Allows, IsLegal}
-use Rattle.place_words.specs.Locks.{lock_named, lock_number}
+use Rattle.place_words.specs.Locks.{is_lock, lock_named, lock_number}
 use Rattle.place_core.specs.declared.step.Lists.{Lists}
-use Rattle.place_core.specs.State.{rows}
+use Rattle.place_core.specs.State.{rows, is_bucket}
 use Rattle.place_core.specs.Places.{is_in_bucket, MayOwn}
+use Rattle.place_core.specs.Wholeness.{all_of}
 use Rattle.place_table.specs.declared.content.Content.{Content}
 use Rattle.place_table.specs.declared.content.Behind.{Behind}
 use Rattle.place_table.specs.declared.view.View.{View}
 use Rattle.place_table.specs.declared.view.Hold.{Hold}
+use Rattle.place_table.specs.declared.view.InHand.{InHand}
 use Rattle.place_table.specs.declared.view.Notes.{Notes}
 use Rattle.place_table.specs.Contents.{told, lists_of, Fits}
-use Rattle.place_table.specs.Views.{is_among, hold_at, is_in_hand_of, known_log, bit_seen, holding, given, kept_step, marked, cleared, bit_read, owner_read, home_read}
+use Rattle.place_table.specs.Views.{is_among, hold_at, is_in_hand_of, known_log, bit_seen, holding, given, losing, kept_step, moved, marked, cleared, bit_read, owner_read, home_read, rehomed}
 use Rattle.place_table.specs.Rules.{Reads, is_hand_of}
 use Rattle.place_table.specs.TurnNotes.{NotesFit}
 
@@ -40,6 +43,12 @@ pub record AreElements (shape : Shape) (lists : Lists) : Type 0 where
   pub free_real : (e : ℕ) → IsIn e lists.free → e < shape.elements
   pub rows_real : (e : ℕ) → IsIn e (rows lists) → e < shape.elements
 
+-- What is in the hand of a CPU of the pass is on no free list and in no bucket. On a map that evicts it may be listed.
+abbrev pub IsApartFromHands : View → Lists → Type 0
+IsApartFromHands v lists =
+    (e cpu : ℕ) → is_among cpu v.cpus ≡ true → is_in_hand_of e cpu v.hand ≡ true
+    → (times e lists.free ≡ 0) × (is_lru v.shape.kind ≡ false → times e (rows lists) ≡ 0)
+
 -- A lock was taken by a CPU: its slot, and what the pass knows of it from then on.
 pub record Took (k cpu : ℕ) (before after : Seated) : Type 0 where
   pub behind : Behind
@@ -50,6 +59,7 @@ pub record Took (k cpu : ℕ) (before after : Seated) : Type 0 where
   pub reads : Reads before.0.shape k hold.log hold.lost behind
   pub now : hold.now ≡ lists_of (content before.0.shape (lock_named before.0.shape k) hold.log)
   pub elements : AreElements before.0.shape hold.now
+  pub apart : IsApartFromHands before.0 hold.now
   pub legal : IsLegal before.0.shape (lock_named before.0.shape k) hold.log
   pub known : (log : List Entry) → known_log k before.0.known ≡ Some log → hold.log ≡ log
 
@@ -111,7 +121,11 @@ pub record GivesSome (cpu call : ℕ) (before after : Seated) : Type 0 where
   pub notes_below : List Notes
   pub notes_are : before.0.notes ≡ notes ∷ notes_below
   pub notes_fit : NotesFit before.0.shape part notes
-  pub after_is : after ≡ (given hold (entry_by cpu call part) before.0.kept before.0, rest before.1)
+  pub after_is : after ≡ (losing hold (entry_by cpu call part) before.0, rest before.1)
+
+-- other lists lie under a lock that is held, and other elements are in hand
+abbrev pub Moves : ℕ → Lists → List InHand → Seated → Seated → Type 0
+Moves k now hand before after = after ≡ (moved k now hand before.0, before.1)
 
 -- a bit was set
 abbrev pub Marks : ℕ → Seated → Seated → Type 0
@@ -156,5 +170,53 @@ pub record SeesHome (e : ℕ) (before : Seated) (found : ℕ) (after : Seated) :
   pub home : Home
   pub found_is : found ≡ home_code home
   pub has_code : HasHomeCode home
-  pub plain : is_lru before.0.shape.kind ≡ false → home ≡ Unlisted
+  pub plain : is_lru before.0.shape.kind ≡ false → home ≡ homes.Unlisted
   pub after_is : after ≡ (home_read e home before.0, before.1)
+
+-- the CPU holds the lock, as the pass knows
+pub record HoldsLock (shape : Shape) (v : View) (cpu : ℕ) (lock : DomainId) : Type 0 where
+  pub hold : Hold
+  pub there : IsTrue (is_lock shape lock)
+  pub held : hold_at (lock_number shape lock) v.held ≡ Some hold
+  pub cpu_is : hold.cpu ≡ cpu
+
+-- The home of an element, as the pass knows it: the element stands on the lists of a lock that the CPU holds, or the CPU
+-- carries it.
+abbrev pub IsKnownHome : Shape → View → ℕ → ℕ → Home → Type 0
+IsKnownHome shape v cpu e homes.Unlisted = ⊥
+IsKnownHome shape v cpu e (homes.In lock) =
+    (holds : HoldsLock shape v cpu lock) × IsFalse (is_bucket lock) × IsIn e (all_of holds.hold.now)
+IsKnownHome shape v cpu e (homes.Hand c) = (c ≡ cpu) × (is_in_hand_of e cpu v.carried ≡ true)
+
+-- it is free, as the pass knows
+pub record IsKnownFree (v : View) (e : ℕ) : Type 0 where
+  pub lock : ℕ
+  pub hold : Hold
+  pub held : hold_at lock v.held ≡ Some hold
+  pub inside : IsIn e hold.now.free
+
+-- Where it may go: to the lists of a lock that the CPU holds, or to its hand. To local lists goes only what is free or in
+-- the CPU's hand, to its hand only what is in it.
+abbrev pub MayGoHome : Shape → View → ℕ → ℕ → Home → Type 0
+MayGoHome shape v cpu e homes.Unlisted = ⊥
+MayGoHome shape v cpu e (homes.In (Local c)) =
+    HoldsLock shape v cpu (Local c) × (IsKnownFree v e ⊎ (is_in_hand_of e cpu v.hand ≡ true))
+MayGoHome shape v cpu e (homes.In Global) = HoldsLock shape v cpu Global
+MayGoHome shape v cpu e (homes.In (CpuLru c)) = ⊥
+MayGoHome shape v cpu e (homes.In (Bucket bucket)) = ⊥
+MayGoHome shape v cpu e (homes.In (Freelist c)) = ⊥
+MayGoHome shape v cpu e (homes.Hand c) = (c ≡ cpu) × (is_in_hand_of e cpu v.hand ≡ true)
+
+-- what the pass knows to be listed is not free
+abbrev pub IsNoneListed : View → ℕ → Type 0
+IsNoneListed v e = (k : ℕ) (hold : Hold) → hold_at k v.held ≡ Some hold → times e (rows hold.now) ≡ 0
+
+-- An element went to this home from the one that it had, and each home that the pass knew it to have is that one. Which of
+-- the lists it left and joined goes by its owner.
+pub record Rehomes (e : ℕ) (to : Home) (before after : Seated) : Type 0 where
+  pub from : Home
+  pub known : (cpu : ℕ) (home : Home) → is_among cpu before.0.cpus ≡ true → IsKnownHome before.0.shape before.0 cpu e home → home ≡ from
+  pub owner : Owner
+  pub fits : OwnerFits before.0.shape before.0 e owner
+  pub listed : owner ≡ Free → IsNoneListed before.0 e
+  pub after_is : after ≡ (rehomed from to owner e before.0, before.1)

@@ -9,6 +9,8 @@ use Rattle.map_types.specs.Creation.{IsShape}
 use Rattle.map_types.specs.Kind.{is_lru}
 use Rattle.place_words.specs.declared.history.Entry.{Entry}
 use Rattle.place_words.specs.declared.history.StrandStep.{StrandStep}
+use Rattle.place_words.specs.declared.home.Home.{Home}
+use Rattle.place_words.specs.declared.home.Home.TheVariants as homes
 use Rattle.place_words.specs.declared.owner.Owner.{Owner}
 use Rattle.place_words.specs.declared.owner.Owner.TheVariants as owners
 use Rattle.place_words.specs.Codes.{owner_code, home_code}
@@ -103,6 +105,11 @@ is_hand_of cpu owners.Free = false
 is_hand_of cpu (owners.Bucket bucket) = false
 is_hand_of cpu (owners.Hand c) = c == cpu
 
+abbrev pub is_home_of : ℕ → Home → Bool
+is_home_of cpu homes.Unlisted = false
+is_home_of cpu (homes.In lock) = false
+is_home_of cpu (homes.Hand c) = c == cpu
+
 -- Locks are taken in the order of their ranks: each lock held has a rank above those of the locks taken before it.
 abbrev pub IsAboveAll : Shape → ℕ → List Hold → Type 0
 IsAboveAll shape rank [] = Unit {0}
@@ -158,6 +165,12 @@ abbrev pub HaveNoSteps : List Ended → Type 0
 HaveNoSteps [] = Unit {0}
 HaveNoSteps (e ∷ es) = (e.steps ≡ []) × HaveNoSteps es
 
+-- a lock of the map, the record of whose turns is lost
+pub record IsLostLock (shape : Shape) (world : World) (k : ℕ) : Type 0 where
+  pub below : k < lock_count shape
+  pub there : IsTrue (is_lock shape (lock_named shape k))
+  pub lost : world.lost k ≡ true
+
 -- What a pass knows is so.
 pub record Knows (shape : Shape) (world : World) (pass : ℕ) (v : View) : Type 0 where
   pub shape_is : v.shape ≡ shape
@@ -169,10 +182,14 @@ pub record Knows (shape : Shape) (world : World) (pass : ℕ) (v : View) : Type 
   pub ascends : Ascends shape v.held
   -- the elements in the hands of its CPUs
   pub hands : (e c : ℕ) → c < shape.cpus → is_in_hand_of e c v.hand ≡ (is_hand_of c (world.core.owner e) && (world.whose c == pass))
+  -- those of them that are carried
+  pub carried : (e c : ℕ) → c < shape.cpus → is_in_hand_of e c v.carried ≡ (is_home_of c (world.core.home e) && (world.whose c == pass))
   -- what only a pass with all CPUs keeps: turns of locks and bits
   pub known : (k : ℕ) (log : List Entry) → known_log k v.known ≡ Some log → entries (world.log k) ≡ log
   pub bits : (e : ℕ) (bit : Bool) → bit_seen e v.bits ≡ Some bit → world.core.bit e ≡ bit
   pub only : ((v.known ≡ []) × (v.bits ≡ [])) ⊎ ((c : ℕ) → c < shape.cpus → is_among c v.cpus ≡ true)
+  -- the locks that it gave back without a part
+  pub losses : (k : ℕ) → is_among k v.lost ≡ true → IsLostLock shape world k
   -- its strands
   pub strand : IsStrand shape world pass (world.current pass) v.cpus v.steps v.kept
   pub past : ArePast shape world pass (world.past pass) v.ended

@@ -1,14 +1,20 @@
 -- What a pass knows, and how each step changes it.
 use Rattle.std.specs.Prelude.{ℕ, zero, suc, ◌==◌, Bool, true, false, ◌&&◌, List, [], ◌∷◌, ◌++◌, length, Option, None, Some, if◌then◌else◌}
 use Rattle.map_types.specs.declared.attr.Shape.{Shape}
+use Rattle.map_types.specs.declared.kind.DomainId.{DomainId}
+use Rattle.map_types.specs.declared.kind.DomainId.TheVariants.{Bucket}
 use Rattle.place_words.specs.declared.history.Entry.{Entry}
 use Rattle.place_words.specs.declared.history.StrandStep.{StrandStep}
 use Rattle.place_words.specs.declared.home.Home.{Home}
+use Rattle.place_words.specs.declared.home.Home.TheVariants as homes
 use Rattle.place_words.specs.declared.owner.Owner.{Owner}
-use Rattle.place_words.specs.Locks.{lock_count, lock_named}
+use Rattle.place_words.specs.Locks.{lock_count, lock_named, lock_number}
 use Rattle.place_words.specs.Openings.{opening_spares}
 use Rattle.map_types.specs.declared.kind.MapKind.{MapKind}
 use Rattle.map_types.specs.declared.kind.MapKind.TheVariants.{Hash, PercpuHash, LruHash, LruPercpuHash}
+use Rattle.place_core.specs.declared.step.Lists.{Lists}
+use Rattle.place_core.specs.State.{no_lists}
+use Rattle.place_core.specs.Steps.{with_free, without_free, with_row, without_row, left_by, joined_by}
 use Rattle.place_table.specs.declared.view.View.{View}
 use Rattle.place_table.specs.declared.view.Hold.{Hold}
 use Rattle.place_table.specs.declared.view.InHand.{InHand}
@@ -77,12 +83,14 @@ first_view shape = record {
   cpus = numbers_below shape.cpus;
   held = [];
   hand = first_hand shape.kind shape;
+  carried = [];
   notes = [];
   known = no_turns (lock_count shape);
   bits = no_bits shape.elements;
   steps = [];
   kept = [];
   ended = [];
+  lost = [];
 }
 
 abbrev pub no_notes : Notes
@@ -95,12 +103,14 @@ holding hold v = record {
   cpus = v.cpus;
   held = hold ∷ v.held;
   hand = v.hand;
+  carried = v.carried;
   notes = no_notes ∷ v.notes;
   known = v.known;
   bits = v.bits;
   steps = v.steps;
   kept = v.kept;
   ended = v.ended;
+  lost = v.lost;
 }
 
 abbrev pub holds_below : List Hold → List Hold
@@ -130,13 +140,35 @@ given hold entry kept v = record {
   cpus = v.cpus;
   held = holds_below v.held;
   hand = v.hand;
+  carried = v.carried;
   notes = notes_below v.notes;
   known = learned hold entry v;
   bits = v.bits;
   steps = v.steps ++ turned hold.lock (length hold.log) entry ∷ [];
   kept = kept;
   ended = v.ended;
+  lost = v.lost;
 }
+
+-- and without a part: the record of its turns is lost
+abbrev pub with_lost : List ℕ → View → View
+with_lost lost v = record {
+  shape = v.shape;
+  cpus = v.cpus;
+  held = v.held;
+  hand = v.hand;
+  carried = v.carried;
+  notes = v.notes;
+  known = v.known;
+  bits = v.bits;
+  steps = v.steps;
+  kept = v.kept;
+  ended = v.ended;
+  lost = lost;
+}
+
+abbrev pub losing : Hold → Entry → View → View
+losing hold entry v = with_lost (hold.lock ∷ v.lost) (given hold entry v.kept v)
 
 -- other notes and other bits known
 abbrev pub noted : List Notes → List BitSeen → View → View
@@ -145,12 +177,14 @@ noted notes bits v = record {
   cpus = v.cpus;
   held = v.held;
   hand = v.hand;
+  carried = v.carried;
   notes = notes;
   known = v.known;
   bits = bits;
   steps = v.steps;
   kept = v.kept;
   ended = v.ended;
+  lost = v.lost;
 }
 
 -- a note belongs to the lock taken last, and is dropped where none is held
@@ -193,3 +227,96 @@ owner_read e owner v = noted (with_owner_read e owner v.notes) v.bits v
 
 abbrev pub home_read : ℕ → Home → View → View
 home_read e home v = noted (with_home_read e home v.notes) v.bits v
+
+-- what lies under a lock that is held, as the pass knows it, and the locks held where other lists lie under one
+abbrev pub now_at : ℕ → List Hold → Lists
+now_at k [] = no_lists
+now_at k (hold ∷ holds) = if hold.lock == k then hold.now else now_at k holds
+
+abbrev pub with_now : ℕ → Lists → List Hold → List Hold
+with_now k now [] = []
+with_now k now (hold ∷ holds) =
+    if hold.lock == k then record { lock = hold.lock; cpu = hold.cpu; log = hold.log; now = now; lost = hold.lost } ∷ holds
+    else hold ∷ with_now k now holds
+
+-- an element comes to the hand of a CPU, or leaves it
+abbrev pub with_in_hand : ℕ → ℕ → List InHand → List InHand
+with_in_hand e cpu hand = record { element = e; cpu = cpu } ∷ hand
+
+abbrev pub without_in_hand : ℕ → ℕ → List InHand → List InHand
+without_in_hand e cpu [] = []
+without_in_hand e cpu (x ∷ xs) =
+    if (x.element == e) && (x.cpu == cpu) then without_in_hand e cpu xs else x ∷ without_in_hand e cpu xs
+
+-- other lists lie under locks that are held, and other elements are in hand or carried
+abbrev pub with_places : List Hold → List InHand → List InHand → View → View
+with_places held hand carried v = record {
+  shape = v.shape;
+  cpus = v.cpus;
+  held = held;
+  hand = hand;
+  carried = carried;
+  notes = v.notes;
+  known = v.known;
+  bits = v.bits;
+  steps = v.steps;
+  kept = v.kept;
+  ended = v.ended;
+  lost = v.lost;
+}
+
+-- other lists lie under one lock that is held, and other elements are in hand
+abbrev pub moved : ℕ → Lists → List InHand → View → View
+moved k now hand v = with_places (with_now k now v.held) hand v.carried v
+
+-- what the pass knows to lie under a lock of this name
+abbrev pub now_under : DomainId → View → Lists
+now_under lock v = now_at (lock_number v.shape lock) v.held
+
+-- the head of a lock's free list comes to a CPU's hand
+abbrev pub claimed : DomainId → ℕ → ℕ → View → View
+claimed lock e cpu v =
+    moved (lock_number v.shape lock) (with_row lock e (without_free e (now_under lock v))) (with_in_hand e cpu v.hand) v
+
+-- an element in a CPU's hand goes to the head of a lock's free list
+abbrev pub settled : DomainId → ℕ → ℕ → View → View
+settled lock e cpu v =
+    moved (lock_number v.shape lock) (with_free e (without_row e (now_under lock v))) (without_in_hand e cpu v.hand) v
+
+-- an element in a CPU's hand goes to the head of a bucket
+abbrev pub attached : ℕ → ℕ → ℕ → View → View
+attached bucket e cpu v =
+    moved (lock_number v.shape (Bucket bucket)) (with_row (Bucket bucket) e (now_under (Bucket bucket) v)) (without_in_hand e cpu v.hand) v
+
+-- an element of a bucket comes to a CPU's hand
+abbrev pub detached : ℕ → ℕ → ℕ → View → View
+detached bucket e cpu v =
+    moved (lock_number v.shape (Bucket bucket)) (without_row e (now_under (Bucket bucket) v)) (with_in_hand e cpu v.hand) v
+
+-- An element leaves a home or comes to one: the lists of a lock that is held, or the hand of a CPU that carries it.
+abbrev pub held_without : Shape → Home → Owner → ℕ → List Hold → List Hold
+held_without shape homes.Unlisted owner e held = held
+held_without shape (homes.In lock) owner e held =
+    with_now (lock_number shape lock) (left_by owner e (now_at (lock_number shape lock) held)) held
+held_without shape (homes.Hand cpu) owner e held = held
+
+abbrev pub held_with : Shape → Home → Owner → ℕ → List Hold → List Hold
+held_with shape homes.Unlisted owner e held = held
+held_with shape (homes.In lock) owner e held =
+    with_now (lock_number shape lock) (joined_by lock owner e (now_at (lock_number shape lock) held)) held
+held_with shape (homes.Hand cpu) owner e held = held
+
+abbrev pub carried_without : Home → ℕ → List InHand → List InHand
+carried_without homes.Unlisted e carried = carried
+carried_without (homes.In lock) e carried = carried
+carried_without (homes.Hand cpu) e carried = without_in_hand e cpu carried
+
+abbrev pub carried_with : Home → ℕ → List InHand → List InHand
+carried_with homes.Unlisted e carried = carried
+carried_with (homes.In lock) e carried = carried
+carried_with (homes.Hand cpu) e carried = with_in_hand e cpu carried
+
+-- an element of this owner goes from one home to the head of another
+abbrev pub rehomed : Home → Home → Owner → ℕ → View → View
+rehomed from to owner e v =
+    with_places (held_with v.shape to owner e (held_without v.shape from owner e v.held)) v.hand (carried_with to e (carried_without from e v.carried)) v

@@ -1,6 +1,6 @@
 //! Laws of the table.
 
-ghost use Rattle.place_table.specs.Laws.{TakeIsStep, GiveIsStep, MarkIsStep, ClearIsStep, GlanceIsStep};
+ghost use Rattle.place_table.specs.Laws.{TakeIsStep, GiveIsStep, ClaimIsStep, SettleIsStep, AttachIsStep, DetachIsStep, RehomeIsStep, MarkIsStep, ClearIsStep, GlanceIsStep};
 
 /// Each operation on a word of a table is the step of the core that has its name: whatever the table is when it happens,
 /// if the rule holds before it, it holds after it, and what the words and contents are read as has gone on by that step.
@@ -8,6 +8,11 @@ ghost use Rattle.place_table.specs.Laws.{TakeIsStep, GiveIsStep, MarkIsStep, Cle
 pub fn word_laws()
     ensures take { TakeIsStep }
     ensures give { GiveIsStep }
+    ensures claim { ClaimIsStep }
+    ensures settle { SettleIsStep }
+    ensures attach { AttachIsStep }
+    ensures detach { DetachIsStep }
+    ensures rehome { RehomeIsStep }
     ensures mark { MarkIsStep }
     ensures clear { ClearIsStep }
     ensures glance { GlanceIsStep }

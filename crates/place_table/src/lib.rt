@@ -6,11 +6,14 @@ mod close;
 mod closed;
 mod content;
 mod create;
+mod homes;
 mod kept;
 mod laws;
 mod left;
+mod owners;
 mod pass;
 mod rule;
+mod spares;
 mod steps;
 mod table;
 #[cfg(test)]
@@ -22,8 +25,8 @@ pub use content::{Behind, Content};
 pub use laws::word_laws;
 pub use pass::Pass;
 pub use rule::{
-    About, Caller, Clearing, Desk, Giving, Law, Losing, Marking, Place, ReadingBit, ReadingHome,
-    ReadingOwner, Trying, Turn,
+    About, Caller, Clearing, Deed, Desk, Giving, Law, Losing, Marking, Moving, Place, ReadingBit,
+    ReadingHome, ReadingOwner, Rehoming, Trying, Turn, Way,
 };
 pub use table::PlaceTable;
 pub use view::{BitSeen, Ended, Hold, HomeSeen, InHand, Known, Notes, OwnerSeen, Turned, View};

@@ -88,6 +88,70 @@ impl<N: Caller> Play<Behind, View> for Losing<N> {
     ghost then = { λ st me n after. GivesSome N.cpu N.call me after };
 }
 
+/// What lies under a lock once an element has moved, and what is in the hands of the pass then.
+pub trait Deed {
+    ghost use Rattle.std.specs.Prelude.{ℕ, List};
+    ghost use Rattle.place_core.specs.declared.step.Lists.{Lists};
+    ghost use Rattle.place_table.specs.declared.view.InHand.{InHand};
+
+    ghost lock: { ℕ };
+
+    ghost now: { Lists };
+
+    ghost hand: { List InHand };
+}
+
+impl Deed for Brand {
+    ghost use Rattle.std.specs.Prelude.{[]};
+    ghost use Rattle.place_core.specs.State.{no_lists};
+
+    ghost lock = { 0 };
+
+    ghost now = { no_lists };
+
+    ghost hand = { [] };
+}
+
+/// An element comes to a hand or leaves it.
+pub struct Moving<N> {
+    about: PhantomData<N>,
+}
+
+impl<N: Deed> Play<Behind, View> for Moving<N> {
+    ghost use Rattle.place_table.specs.Plays.{Moves};
+
+    ghost then = { λ st me n after. Moves N.lock N.now N.hand me after };
+}
+
+/// The element whose home changes, and its home from then on.
+pub trait Way {
+    ghost use Rattle.std.specs.Prelude.{ℕ};
+    ghost use Rattle.place_words.specs.declared.home.Home.{Home};
+
+    ghost element: { ℕ };
+
+    ghost to: { Home };
+}
+
+impl Way for Brand {
+    ghost use Rattle.place_words.specs.declared.home.Home.TheVariants as homes;
+
+    ghost element = { 0 };
+
+    ghost to = { homes.Unlisted };
+}
+
+/// The home of an element changes.
+pub struct Rehoming<N> {
+    about: PhantomData<N>,
+}
+
+impl<N: Way> Play<Behind, View> for Rehoming<N> {
+    ghost use Rattle.place_table.specs.Plays.{Rehomes};
+
+    ghost then = { λ st me n after. Rehomes N.element N.to me after };
+}
+
 /// The element that a step is about.
 pub trait About {
     ghost use Rattle.std.specs.Prelude.{ℕ};

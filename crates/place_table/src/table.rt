@@ -3,11 +3,13 @@
 ghost use Rattle.std.specs.Prelude.{◌≡◌, ◌+◌, ◌*◌, ◌<◌, ◌^◌, true, [], MatchOption, IsTrue, if◌then◌else◌};
 ghost use Rattle.map_types.specs.Kind.{is_lru};
 ghost use Rattle.place_words.specs.Locks.{lock_number, lock_count, is_lock};
-ghost use Rattle.place_table.specs.Views.{is_among, marked};
+ghost use Rattle.place_table.specs.Views.{is_among, claimed, settled, attached, detached, marked};
 ghost use Rattle.place_table.specs.Rules.{word_count, owner_word, home_word, bit_word};
-ghost use Rattle.place_table.specs.Passes.{IsPassOf, HasBegun, IsInNoCall, begun, with_view, CanTake, Takes, CanGive, CanGiveSome, MayGiveBack, Gave, GaveSome, GaveBack, CanMark, CanClear, CanLook, Cleared, SawBit, SawOwner, SawHome};
+ghost use Rattle.place_table.specs.Passes.{IsPassOf, HasBegun, IsInNoCall, begun, with_view, CanTake, Takes, CanGive, CanGiveSome, MayGiveBack, Gave, GaveSome, GaveBack, CanClaim, CanSettle, CanAttach, CanMark, CanRehome, Rehomed, CanClear, CanLook, Cleared, SawBit, SawOwner, SawHome};
 
 use crate::content::{Behind, Content};
+use crate::homes::rehome_word;
+use crate::owners::{attach_word, claim_word, detach_word, settle_word};
 use crate::pass::Pass;
 use crate::rule::Law;
 use crate::steps::{
@@ -67,7 +69,8 @@ impl PlaceTable {
     pub fn cpu_of(&self, pass: &Pass) -> u32
         requires table { IsPassOf self.now pass.now }
         requires begun { HasBegun pass.now }
-        ensures { result ≡ pass.now.cpu }
+        ensures value { result ≡ pass.now.cpu }
+        ensures within { result < self.now.shape.cpus }
     {
         pass.cpu
     }
@@ -158,6 +161,59 @@ impl PlaceTable {
             },
         );
         lose_lock::<Brand>(shared, &mut pass.seat, number, pass.cpu, pass.call);
+    }
+
+    /// Takes the head of a lock's free list into the hand of the CPU, which holds the lock.
+    pub fn claim(&self, pass: &mut Pass, element: u32, lock: DomainId)
+        requires { CanClaim self.now element lock pass.old }
+        ensures { pass.new ≡ with_view pass.old (claimed lock element pass.old.cpu pass.old.view) }
+    {
+        let desk = &self.table.shared;
+        let word = self.owner_word(element);
+        claim_word::<Brand>(desk, &mut pass.seat, element, word, lock, pass.cpu);
+    }
+
+    /// Puts an element from the CPU's hand to the head of the free list of a lock that the CPU holds.
+    pub fn settle(&self, pass: &mut Pass, element: u32, lock: DomainId)
+        requires { CanSettle self.now element lock pass.old }
+        ensures { pass.new ≡ with_view pass.old (settled lock element pass.old.cpu pass.old.view) }
+    {
+        let desk = &self.table.shared;
+        let cpu = pass.cpu;
+        let word = self.owner_word(element);
+        settle_word::<Brand>(desk, &mut pass.seat, element, word, lock, cpu);
+    }
+
+    /// Puts an element from the CPU's hand to the head of a bucket that the CPU holds.
+    pub fn attach(&self, pass: &mut Pass, element: u32, bucket: u32)
+        requires { CanAttach self.now element bucket pass.old }
+        ensures { pass.new ≡ with_view pass.old (attached bucket element pass.old.cpu pass.old.view) }
+    {
+        let desk = &self.table.shared;
+        let cpu = pass.cpu;
+        let word = self.owner_word(element);
+        attach_word::<Brand>(desk, &mut pass.seat, element, word, bucket, cpu);
+    }
+
+    /// Takes an element of a bucket that the CPU holds into the CPU's hand.
+    pub fn detach(&self, pass: &mut Pass, element: u32, bucket: u32)
+        requires { CanMark self.now element bucket pass.old }
+        ensures { pass.new ≡ with_view pass.old (detached bucket element pass.old.cpu pass.old.view) }
+    {
+        let desk = &self.table.shared;
+        let word = self.owner_word(element);
+        detach_word::<Brand>(desk, &mut pass.seat, element, word, bucket, pass.cpu);
+    }
+
+    /// Takes an element from its home to the head of another, on a map whose CPUs share its lists: a lock that the CPU holds,
+    /// or its hand.
+    pub fn rehome(&self, pass: &mut Pass, element: u32, to: Home)
+        requires { CanRehome self.now element to pass.old }
+        ensures { Rehomed self.now element to pass.old pass.new }
+    {
+        let desk = &self.table.shared;
+        let word = self.home_word(element);
+        rehome_word::<Brand>(desk, &mut pass.seat, element, word, to, pass.cpu);
     }
 
     /// Sets the bit of an element of a bucket that the CPU holds.

@@ -1,6 +1,6 @@
 //! Calls on a table, from its opening to its end.
 
-ghost use Rattle.std.specs.Prelude.{◌≡◌, [], ◌∷◌, IfOk, IfSome};
+ghost use Rattle.std.specs.Prelude.{◌≡◌, ℕ, List, [], ◌∷◌, IfOk, IfSome};
 ghost use Rattle.map_types.specs.Creation.{IsShape};
 ghost use Rattle.map_types.specs.declared.kind.DomainId.TheVariants as locks;
 ghost use Rattle.place_words.specs.Histories.{in_bucket, Allows, content_after};
@@ -39,7 +39,7 @@ fn turn<R: Wait>(rt: &R, table: &PlaceTable, pass: &mut Pass, bucket: u32, part:
     requires allowed { Allows table.now.shape pass.old.cpu part (in_bucket []) }
     requires same { content_after table.now.shape pass.old.cpu part (in_bucket []) ≡ in_bucket [] }
     requires notes { NotesFit table.now.shape part no_notes }
-    ensures { (step : turns.Turned) × Went pass.old pass.new (step ∷ []) }
+    ensures { (step : turns.Turned) × (lost : List ℕ) × Went pass.old pass.new (step ∷ []) lost }
 {
     let lock = DomainId::Bucket(bucket);
     let content = table.take(rt, pass, lock, &NoGate);
@@ -58,7 +58,7 @@ fn clear_in_hand(table: &PlaceTable, pass: &mut Pass, element: u32) -> Option<bo
     requires look { CanLook table.now element pass.old }
     requires begun { HasBegun pass.old }
     requires no_notes { pass.old.view.notes ≡ [] }
-    ensures { Went pass.old pass.new [] }
+    ensures { Went pass.old pass.new [] [] }
 {
     let cpu = table.cpu_of(pass);
     if table.owner_of(pass, element) == Owner::Hand(cpu) {

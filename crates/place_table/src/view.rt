@@ -75,6 +75,8 @@ pub struct View {
     /// The locks held, the last taken first.
     pub held: LinkedList<Hold>,
     pub hand: LinkedList<InHand>,
+    /// Those of them that are on no lock's lists, since a hand carries them from one lock's to another's.
+    pub carried: LinkedList<InHand>,
     /// Those of the locks held, in the same order.
     pub notes: LinkedList<Notes>,
     /// Empty unless the pass has all CPUs. What stands first of a lock or an element counts.
@@ -84,4 +86,6 @@ pub struct View {
     pub steps: LinkedList<Turned>,
     pub kept: LinkedList<StrandStep>,
     pub ended: LinkedList<Ended>,
+    /// The locks that the pass gave back without a part: the record of their turns is lost.
+    pub lost: LinkedList<u64>,
 }

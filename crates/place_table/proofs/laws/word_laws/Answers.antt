@@ -1,4 +1,6 @@
+use Rattle.place_table.proofs.HomeSteps.{rehomes_step}
 use Rattle.place_table.proofs.Locks.{tries, gives_back}
+use Rattle.place_table.proofs.OwnerSteps.{claims_step, settles_step, attaches_step, detaches_step}
 use Rattle.place_table.proofs.WordSteps.{marks_step, clears_step, sees_bit_step, sees_owner_step, sees_home_step}
 use Rattle.place_table.proofs.laws.word_laws.Goals as goal
 
@@ -6,6 +8,11 @@ pub returns : goal.returns
 returns c = record {
   take = λ shape slots pass me lock cpu has is above. tries shape slots pass me lock cpu has is above;
   give = λ shape slots pass v behind slots_below lock hold below innermost is at_lock entry kept may. gives_back shape slots pass v behind slots_below lock hold below innermost is at_lock entry kept may;
+  claim = λ shape slots pass me e lock hold real is found head. claims_step shape slots pass me e lock hold real is found head;
+  settle = λ shape slots pass me e lock hold real is found has_free_list has in_hand listed. settles_step shape slots pass me e lock hold real is found has_free_list has in_hand listed;
+  attach = λ shape slots pass me e bucket hold real there found has in_hand. attaches_step shape slots pass me e bucket hold real there found has in_hand;
+  detach = λ shape slots pass me e bucket hold there found inside. detaches_step shape slots pass me e bucket hold there found inside;
+  rehome = λ shape slots pass me c e from to common real has known may. rehomes_step shape slots pass me c e from to common real has known may;
   mark = λ shape slots pass me e bucket hold there found inside. marks_step shape slots pass me e bucket hold there found inside;
   clear = λ shape slots pass me e cpu real has in_hand. clears_step shape slots pass me e cpu real has in_hand;
   glance = λ shape slots pass me e real. (sees_bit_step shape slots pass me e real, sees_owner_step shape slots pass me e real, sees_home_step shape slots pass me e real);

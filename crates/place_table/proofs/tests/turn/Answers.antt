@@ -8,7 +8,7 @@ use Rattle.place_words.specs.Histories.{in_bucket, Allows, content_after}
 use Rattle.place_table.specs.declared.content.Content.TheVariants as contents
 use Rattle.place_table.specs.Contents.{told}
 use Rattle.place_table.specs.Passes.{PassView, Takes}
-use Rattle.place_table.proofs.Gives.{unchanged, taken_of_table, taken_begun, told_first}
+use Rattle.place_table.proofs.Gives.{unchanged, taken_of_table, taken_begun, told_first, went_some}
 use Rattle.place_table.proofs.tests.turn.Goals as goal
 
 empty : (bodies : List Stored) → length bodies ≡ 0 → bodies ≡ []
@@ -40,3 +40,14 @@ give-requires-2-after_bounds g c κs =
     let here = contents.Bucket c.in-Bucket.chain in
     let took : Takes t lock p q here = subst (Takes t lock p q) c.in-Bucket.is c.take-content.ensures in
     (parts.Bucket (First (first_key c.in-Bucket.chain.bodies)), told_first t c.args.bucket p q c.in-Bucket.chain took c.requires.can.of_table c.requires.can.begun c.requires.can.there)
+
+pub returns : goal.returns
+returns g c =
+    let t = c.args.table.now in
+    let lock = locks.Bucket c.args.bucket in
+    let p = c.args.pass.now in
+    let q = c.take-content.new.pass in
+    let here = contents.Bucket c.in-Bucket.chain in
+    let took : Takes t lock p q here = subst (Takes t lock p q) c.in-Bucket.is c.take-content.ensures in
+    let went = went_some t lock p q c.give-2.new.pass here here took c.give-2.ensures in
+    (went.0, went.1 ∷ [], went.2)

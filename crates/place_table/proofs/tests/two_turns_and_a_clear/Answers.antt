@@ -35,12 +35,12 @@ ready_begun t p q call is first after_is =
       holds_nothing = first.in_no_call.holds_nothing;
     }
 
-ready_went : (t : TableView) (p q : PassView) (more : List Turned) → IsReady t p → Went p q more → IsReady t q
-ready_went t p q more ready went = record {
-  of_table = (went.table ∙ ready.of_table.0, went.shape ∙ ready.of_table.1);
-  cpu_is = went.cpu ∙ ready.cpu_is;
-  has = ap (is_among 0) went.cpus ∙ ready.has;
-  holds_nothing = went.held ∙ ready.holds_nothing;
+ready_went : (t : TableView) (p q : PassView) (more : List Turned) (lost : List ℕ) → IsReady t p → Went p q more lost → IsReady t q
+ready_went t p q more lost ready went = record {
+  of_table = (went.made.goes.table ∙ ready.of_table.0, went.made.goes.shape ∙ ready.of_table.1);
+  cpu_is = went.made.goes.cpu ∙ ready.cpu_is;
+  has = ap (is_among 0) went.made.goes.cpus ∙ ready.has;
+  holds_nothing = went.made.held ∙ ready.holds_nothing;
 }
 
 has_begun : (t : TableView) (p : PassView) → IsReady t p → HasBegun p
@@ -77,7 +77,7 @@ turn-requires-clause-same g c = refl
 pub turn-requires-2-clause-can : goal.turn-requires-2-clause-can
 turn-requires-2-clause-can g c =
     let is = subst IsShape (sym c.in_ok-table.ensures.0) c.in_ok-shape.ensures in
-    can_take _ _ is (ready_went _ _ _ _ (ready_begun _ _ _ _ is c.in_ok-table.ensures.1 c.begin.ensures) c.turn.ensures.1)
+    can_take _ _ is (ready_went _ _ _ _ _ (ready_begun _ _ _ _ is c.in_ok-table.ensures.1 c.begin.ensures) c.turn.ensures.2)
 
 pub turn-requires-2-clause-allowed : goal.turn-requires-2-clause-allowed
 unfolding AllowsInBucket
@@ -90,10 +90,10 @@ turn-requires-2-clause-same g c = refl
 pub clear_in_hand-bit-requires-clause-begun : goal.clear_in_hand-bit-requires-clause-begun
 clear_in_hand-bit-requires-clause-begun g c =
     let is = subst IsShape (sym c.in_ok-table.ensures.0) c.in_ok-shape.ensures in
-    let ready = ready_went _ _ _ _ (ready_begun _ _ _ _ is c.in_ok-table.ensures.1 c.begin.ensures) c.turn.ensures.1 in
-    has_begun _ _ (ready_went _ _ _ _ ready c.turn-2.ensures.1)
+    let ready = ready_went _ _ _ _ _ (ready_begun _ _ _ _ is c.in_ok-table.ensures.1 c.begin.ensures) c.turn.ensures.2 in
+    has_begun _ _ (ready_went _ _ _ _ _ ready c.turn-2.ensures.2)
 
 pub close-requires-clause-all_cpus : goal.close-requires-clause-all_cpus
 close-requires-clause-all_cpus g c cpu less =
     let begun_cpus = ap (λ (z : PassView). is_among cpu z.view.cpus) c.begin.ensures in
-    ap (is_among cpu) c.clear_in_hand-bit.ensures.cpus ∙ (ap (is_among cpu) c.turn-2.ensures.1.cpus ∙ (ap (is_among cpu) c.turn.ensures.1.cpus ∙ (begun_cpus ∙ first_has _ _ cpu c.in_ok-table.ensures.1 less)))
+    ap (is_among cpu) c.clear_in_hand-bit.ensures.made.goes.cpus ∙ (ap (is_among cpu) c.turn-2.ensures.2.made.goes.cpus ∙ (ap (is_among cpu) c.turn.ensures.2.made.goes.cpus ∙ (begun_cpus ∙ first_has _ _ cpu c.in_ok-table.ensures.1 less)))

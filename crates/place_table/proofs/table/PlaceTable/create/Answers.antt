@@ -19,7 +19,7 @@ invariant_of-result c =
 
 pub invariant_of-result-in-Ok : goal.invariant_of-result-in-Ok
 invariant_of-result-in-Ok c =
-    first_is_pass c.args.shape.now c.in-Ok.seat.me.0 c.in-Ok.seat.me.1 c.new-in-Ok.result.items c.in_ok-spares.spares
+    first_is_pass c.args.shape.now (bounds_of_shape c.args.shape.now c.requires.shape) c.in-Ok.seat.me.0 c.in-Ok.seat.me.1 c.new-in-Ok.result.items c.in_ok-spares.spares
     (ap (λ (me : View × List (ℕ × Behind)). me.0) c.in-Ok.ensures.ok.4)
     (ap (λ (me : View × List (ℕ × Behind)). me.1) c.in-Ok.ensures.ok.4)
     c.new-in-Ok.ensures.items c.in_ok-spares.ensures

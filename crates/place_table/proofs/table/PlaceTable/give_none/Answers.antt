@@ -5,7 +5,7 @@ use Rattle.place_table.specs.declared.content.Behind.{Behind}
 use Rattle.place_table.specs.Passes.{PassView}
 use Rattle.place_table.specs.Plays.{MayGive, GivesSome, entry_by}
 use Rattle.place_table.specs.TurnNotes.{NotesFit}
-use Rattle.place_table.proofs.Passes.{slot_given, may_lose, is_pass_given, gives_of_some, gave_some_of}
+use Rattle.place_table.proofs.Passes.{slot_given, may_lose, is_pass_lost, gave_some_of}
 use Rattle.place_table.proofs.table.PlaceTable.give_none.Goals as goal
 
 pub exchange-requires : goal.exchange-requires
@@ -37,7 +37,7 @@ lose_lock-requires-clause-may c =
 pub invariant_of-pass : goal.invariant_of-pass
 invariant_of-pass c =
     let done = c.exchange.ensures in
-    is_pass_given _ c.pass.inside.seat.me.1 _ _ _ _ _ c.exchange.new.seat.me _ c.pass.invariant (ap (λ z. z.0) done.3) (ap (λ z. rest z.1) done.3) (gives_of_some _ _ _ _ c.lose_lock.ensures.gave) (c.pass.invariant.strand_is ∙ sym (ap (λ z. z.0.kept) done.3))
+    is_pass_lost _ c.pass.inside.seat.me.1 _ _ _ _ c.exchange.new.seat.me _ c.pass.invariant (ap (λ z. z.0) done.3) (ap (λ z. rest z.1) done.3) c.lose_lock.ensures.gave
 
 pub returns : goal.returns
 returns c =

@@ -1,0 +1,308 @@
+-- The step on a home word: an element goes from the lists of a lock, or from a hand that carries it, to others.
+use Rattle.std.proofs.Common.{◌≡◌, ◌≢◌, ℕ, ◌+◌, ◌<◌, ◌⊎◌, inl, inr, ⊎_elim, cond, Bool, true, false, List, get_or, set, sym, refl, ap, ◌∙◌, subst, arith, get_or-set_other, get_or-set_same}
+use Rattle.std.specs.Prelude.{◌&&◌, IsTrue, IsFalse, nat_lt}
+use Rattle.std.proofs.lemmas.Bool.{and_parts, eqb-true, and_right}
+use mathlib.Core.Option.{some}
+use lib.ListN.{get_elem?}
+use Rattle.atomic_table.specs.Table.{State, Allows, keeps, stepped}
+use Rattle.map_types.specs.declared.attr.Shape.{Shape}
+use Rattle.map_types.specs.declared.kind.DomainId.{DomainId}
+use Rattle.map_types.specs.declared.kind.DomainId.TheVariants.{Local, Global, CpuLru, Bucket, Freelist}
+use Rattle.map_types.specs.Kind.{is_lru}
+use Rattle.map_types.proofs.CreationLemmas.{bounds_of_shape}
+use Rattle.place_words.specs.declared.home.Home.{Home}
+use Rattle.place_words.specs.declared.home.Home.TheVariants as homes
+use Rattle.place_words.specs.declared.owner.Owner.{Owner}
+use Rattle.place_words.specs.declared.owner.Owner.TheVariants as owners
+use Rattle.place_words.specs.Codes.{home_code}
+use Rattle.place_words.specs.ElementLists.{put, times, one, IsIn}
+use Rattle.place_words.specs.Locks.{is_lock, lock_named, lock_number}
+use Rattle.place_words.specs.Openings.{is_free}
+use Rattle.place_words.proofs.LockLemmas.{named_by_number}
+use Rattle.place_core.specs.declared.step.Lists.{Lists}
+use Rattle.place_core.specs.declared.step.Step.TheVariants.{Rehome}
+use Rattle.place_core.specs.State.{rows, is_bucket}
+use Rattle.place_core.specs.Places.{lies, lies_at, has_row, home_of_place}
+use Rattle.place_core.specs.Steps.{Holds, left_by, joined_by, MayLeave, MayEnter, IsFreeOrInHand, CanRehome, after_leaving, after_joining}
+use Rattle.place_core.specs.Steps as steps
+use Rattle.place_core.specs.Wholeness.{all_of}
+use Rattle.place_core.proofs.ElementLemmas.{by_test, at_put, put_here, put_else, times_append}
+use Rattle.place_core.proofs.RowLemmas.{stands_where, free_is, lies_is, row_lies, no_row_free}
+use Rattle.place_core.proofs.StepLaws.{step_keeps_places, step_keeps_ranks}
+use Rattle.place_table.specs.declared.content.Behind.{Behind}
+use Rattle.place_table.specs.declared.view.View.{View}
+use Rattle.place_table.specs.declared.view.Hold.{Hold}
+use Rattle.place_table.specs.declared.view.InHand.{InHand}
+use Rattle.place_table.specs.Laws.{StepsAs, goes_by}
+use Rattle.place_table.specs.Views.{is_among, hold_at, is_in_hand_of, now_at, with_now, with_places, held_without, held_with, carried_without, carried_with}
+use Rattle.place_table.specs.Views as views
+use Rattle.place_table.specs.Rules.{World, Rule, Ascends, is_home_of, owner_word, home_word}
+use Rattle.place_table.specs.Passes.{PassView, TableView, Carries, IsPassOf, HasBegun, with_view, Rehomed}
+use Rattle.place_table.specs.Plays.{Seated, HoldsLock, IsKnownHome, IsKnownFree, MayGoHome, IsNoneListed, OwnerFits, Rehomes}
+use Rattle.place_table.proofs.Hands.{ascends_now, carries_now, AreInHands, comes_to_hand, leaves_hand, stays_in_hand, IsHomeOfPass}
+use Rattle.place_table.proofs.Locks.{allows_of}
+use Rattle.place_table.proofs.PlaceSteps.{IsHeldByPass, AreHeld, now_is, held_moved, place_rule, now_there, holds_there}
+use Rattle.place_table.proofs.WordSteps.{owner_fits}
+use Rattle.place_table.proofs.Worlds.{both_true, has_mine, in_hand_is}
+
+-- the home is a lock that a CPU of the pass holds, or the hand of one
+abbrev IsInReach : Shape → World → ℕ → Home → Type 0
+IsInReach shape w pass homes.Unlisted = Unit {0}
+IsInReach shape w pass (homes.In lock) = IsHeldByPass w pass (lock_number shape lock)
+IsInReach shape w pass (homes.Hand c) = w.whose c ≡ pass
+
+holds_in_reach : (shape : Shape) (w : World) (pass cpu : ℕ) (lock : DomainId) → w.whose cpu ≡ pass → Holds shape w.core cpu lock → IsHeldByPass w pass (lock_number shape lock)
+holds_in_reach shape w pass cpu lock mine holds = record { cpu = cpu; holder_is = holds.held; mine = mine }
+
+leaves_in_reach : (shape : Shape) (w : World) (pass cpu : ℕ) (home : Home) → w.whose cpu ≡ pass → MayLeave shape w.core cpu home → IsInReach shape w pass home
+leaves_in_reach shape w pass cpu homes.Unlisted mine may = absurd may
+leaves_in_reach shape w pass cpu (homes.In lock) mine may = holds_in_reach shape w pass cpu lock mine may
+leaves_in_reach shape w pass cpu (homes.Hand c) mine may = ap w.whose may ∙ mine
+
+enters_in_reach : (shape : Shape) (w : World) (pass cpu : ℕ) (owner : Owner) (home : Home) → w.whose cpu ≡ pass → MayEnter shape w.core cpu owner home → IsInReach shape w pass home
+enters_in_reach shape w pass cpu owner homes.Unlisted mine may = absurd may
+enters_in_reach shape w pass cpu owner (homes.In (Local c)) mine may = holds_in_reach shape w pass cpu (Local c) mine may.0
+enters_in_reach shape w pass cpu owner (homes.In Global) mine may = holds_in_reach shape w pass cpu Global mine may
+enters_in_reach shape w pass cpu owner (homes.In (CpuLru c)) mine may = absurd may
+enters_in_reach shape w pass cpu owner (homes.In (Bucket bucket)) mine may = absurd may
+enters_in_reach shape w pass cpu owner (homes.In (Freelist c)) mine may = absurd may
+enters_in_reach shape w pass cpu owner (homes.Hand c) mine may = ap w.whose may.0 ∙ mine
+
+reach_of_pass : (shape : Shape) (w : World) (pass : ℕ) (home : Home) → IsInReach shape w pass home → IsHomeOfPass w.whose pass home
+reach_of_pass shape w pass homes.Unlisted reach = tt
+reach_of_pass shape w pass (homes.In lock) reach = tt
+reach_of_pass shape w pass (homes.Hand c) reach = reach
+
+-- Lists under the locks, and what the pass knows of them
+
+module _ (shape : Shape) (w : World) (pass : ℕ) (owner : Owner) (e : ℕ) (lists : ℕ → Lists) where
+  under_left : (home : Home) → IsInReach shape w pass home → (k : ℕ) → (after_leaving shape home owner e lists k ≡ lists k) ⊎ IsHeldByPass w pass k
+  under_left homes.Unlisted reach k = inl refl
+  under_left (homes.In lock) reach k =
+      at_put lists (lock_number shape lock) (left_by owner e (lists (lock_number shape lock))) (λ j l. (l ≡ lists j) ⊎ IsHeldByPass w pass j) k (inr reach) (λ _. inl refl)
+  under_left (homes.Hand c) reach k = inl refl
+
+  under_joined : (home : Home) → IsInReach shape w pass home → (k : ℕ) → (after_joining shape home owner e lists k ≡ lists k) ⊎ IsHeldByPass w pass k
+  under_joined homes.Unlisted reach k = inl refl
+  under_joined (homes.In lock) reach k =
+      at_put lists (lock_number shape lock) (joined_by lock owner e (lists (lock_number shape lock))) (λ j l. (l ≡ lists j) ⊎ IsHeldByPass w pass j) k (inr reach) (λ _. inl refl)
+  under_joined (homes.Hand c) reach k = inl refl
+
+  held_left : (home : Home) (held : List Hold) → IsInReach shape w pass home → AreHeld w pass lists held → AreHeld w pass (after_leaving shape home owner e lists) (held_without shape home owner e held)
+  held_left homes.Unlisted held reach are = are
+  held_left (homes.In lock) held reach are =
+      let k : ℕ = lock_number shape lock in
+      subst (λ (l : Lists). AreHeld w pass (put lists k (left_by owner e (lists k))) (with_now k (left_by owner e l) held)) (sym (now_is w pass k lists held are reach))
+      (held_moved w pass k lists held (left_by owner e (lists k)) are reach)
+  held_left (homes.Hand c) held reach are = are
+
+  held_joined : (home : Home) (held : List Hold) → IsInReach shape w pass home → AreHeld w pass lists held → AreHeld w pass (after_joining shape home owner e lists) (held_with shape home owner e held)
+  held_joined homes.Unlisted held reach are = are
+  held_joined (homes.In lock) held reach are =
+      let k : ℕ = lock_number shape lock in
+      subst (λ (l : Lists). AreHeld w pass (put lists k (joined_by lock owner e (lists k))) (with_now k (joined_by lock owner e l) held)) (sym (now_is w pass k lists held are reach))
+      (held_moved w pass k lists held (joined_by lock owner e (lists k)) are reach)
+  held_joined (homes.Hand c) held reach are = are
+
+ascends_left : (shape : Shape) (home : Home) (owner : Owner) (e : ℕ) (held : List Hold) → Ascends shape held → Ascends shape (held_without shape home owner e held)
+ascends_left shape homes.Unlisted owner e held ascends = ascends
+ascends_left shape (homes.In lock) owner e held ascends = ascends_now shape _ _ held ascends
+ascends_left shape (homes.Hand c) owner e held ascends = ascends
+
+ascends_joined : (shape : Shape) (home : Home) (owner : Owner) (e : ℕ) (held : List Hold) → Ascends shape held → Ascends shape (held_with shape home owner e held)
+ascends_joined shape homes.Unlisted owner e held ascends = ascends
+ascends_joined shape (homes.In lock) owner e held ascends = ascends_now shape _ _ held ascends
+ascends_joined shape (homes.Hand c) owner e held ascends = ascends
+
+-- Elements that are carried
+
+module _ (cpus pass e : ℕ) (whose : ℕ → ℕ) (f g : ℕ → Home) (carried : List InHand) (others : (x : ℕ) → x ≢ e → g x ≡ f x) (are : AreInHands is_home_of cpus pass whose f carried) where
+  carried_left : (home : Home) → f e ≡ home → g e ≡ homes.Unlisted → AreInHands is_home_of cpus pass whose g (carried_without home e carried)
+  carried_left homes.Unlisted was is = stays_in_hand is_home_of cpus pass e 0 whose f g carried others are (λ c. ap (is_home_of c) was) (λ c. ap (is_home_of c) is)
+  carried_left (homes.In lock) was is = stays_in_hand is_home_of cpus pass e 0 whose f g carried others are (λ c. ap (is_home_of c) was) (λ c. ap (is_home_of c) is)
+  carried_left (homes.Hand cpu) was is = leaves_hand is_home_of cpus pass e cpu whose f g carried others are (λ c. ap (is_home_of c) was) (λ c. ap (is_home_of c) is)
+
+  carried_joined : (home : Home) → IsHomeOfPass whose pass home → f e ≡ homes.Unlisted → g e ≡ home → AreInHands is_home_of cpus pass whose g (carried_with home e carried)
+  carried_joined homes.Unlisted ours was is = stays_in_hand is_home_of cpus pass e 0 whose f g carried others are (λ c. ap (is_home_of c) was) (λ c. ap (is_home_of c) is)
+  carried_joined (homes.In lock) ours was is = stays_in_hand is_home_of cpus pass e 0 whose f g carried others are (λ c. ap (is_home_of c) was) (λ c. ap (is_home_of c) is)
+  carried_joined (homes.Hand cpu) ours was is = comes_to_hand is_home_of cpus pass e cpu whose f g carried others are ours (λ c. ap (is_home_of c) was) (λ c. ap (is_home_of c) is)
+
+-- What the pass knows, as it is so
+
+home_is_hand : (c : ℕ) (home : Home) → is_home_of c home ≡ true → home ≡ homes.Hand c
+home_is_hand c homes.Unlisted is = absurd cc
+home_is_hand c (homes.In lock) is = absurd cc
+home_is_hand c (homes.Hand d) is = ap homes.Hand (eqb-true d c is)
+
+module _ (shape : Shape) (s : State Behind View) (r : Rule shape s) (pass : ℕ) (v : View) (at_pass : get_elem? s.views pass ≡ some v) (c e : ℕ) (has : is_among c v.cpus ≡ true) (real : e < shape.elements) where
+  holds_known : (lock : DomainId) → HoldsLock shape v c lock → Holds shape r.world.core c lock
+  holds_known lock holds = subst (λ (n : ℕ). Holds shape r.world.core n lock) holds.cpu_is (holds_there shape s r pass v at_pass lock holds.hold holds.held holds.there)
+
+  -- an element on the lists of a lock lies there
+  lies_there : (lock : DomainId) → IsTrue (is_lock shape lock) → IsFalse (is_bucket lock) → IsIn e (all_of (r.world.core.lists (lock_number shape lock))) → r.placed.place e ≡ lies (lock_number shape lock)
+  lies_there lock is no_bucket inside =
+      let k : ℕ = lock_number shape lock in
+      let w = r.world in let p = r.placed.placed in
+      let both = times_append e (w.core.lists k).free (rows (w.core.lists k)) in
+      lies_is k (r.placed.place e)
+      (⊎_elim
+      (λ (free : 0 < times e (w.core.lists k).free). (and_parts (is_free (w.core.owner e)) (lies_at k (r.placed.place e)) (stands_where shape.elements e _ _ (p.free k e) free).stands).1)
+      (λ (listed : 0 < times e (rows (w.core.lists k))).
+      row_lies (is_lru shape.kind) lock (w.core.owner e) (lies_at k (r.placed.place e)) no_bucket
+      (subst (λ (d : DomainId). has_row (is_lru shape.kind) d (w.core.owner e) (lies_at k (r.placed.place e)) ≡ true) (named_by_number shape lock is) (stands_where shape.elements e _ _ (p.rows k e) listed).stands))
+      (one_of (times e (w.core.lists k).free) (times e (rows (w.core.lists k))) (omega arith)))
+    where
+      one_of : (m n : ℕ) → 0 < m + n → (0 < m) ⊎ (0 < n)
+      one_of m n some_there = by_test m 0 (λ _. (0 < m) ⊎ (0 < n)) (λ none. inr (omega arith)) (λ more. inl (omega arith))
+
+  pub home_known : (home : Home) → IsTrue (is_lru shape.kind) → IsKnownHome shape v c e home → r.world.core.home e ≡ home
+  home_known homes.Unlisted lru known = absurd known
+  home_known (homes.In lock) lru known =
+      let k : ℕ = lock_number shape lock in
+      let w = r.world in
+      let inside = subst (λ (l : Lists). IsIn e (all_of l)) (now_there shape s r pass v at_pass k known.0.hold known.0.held) known.2 in
+      let at = lies_there lock known.0.there known.1 inside in
+      r.placed.placed.homes e real ∙ (ap (home_of_place shape) at ∙ (ap (λ (b : Bool). cond b (homes.In (lock_named shape k)) homes.Unlisted) lru ∙ ap homes.In (named_by_number shape lock known.0.there)))
+  home_known (homes.Hand d) lru known =
+      let w = r.world in let kn = r.knows pass v at_pass in
+      home_is_hand c (w.core.home e) (both_true _ _ (sym (kn.carried e c (kn.within c has)) ∙ known.1)).0 ∙ ap homes.Hand (sym known.0)
+
+  owner_known : is_in_hand_of e c v.hand ≡ true → r.world.core.owner e ≡ owners.Hand c
+  owner_known in_hand = in_hand_is shape r.world pass v e c (r.knows pass v at_pass) has in_hand
+
+  free_known : IsKnownFree v e → r.world.core.owner e ≡ owners.Free
+  free_known known =
+      let w = r.world in
+      let inside : IsIn e (w.core.lists known.lock).free = subst (λ (l : Lists). IsIn e l.free) (now_there shape s r pass v at_pass known.lock known.hold known.held) known.inside in
+      free_is (w.core.owner e) (and_parts (is_free (w.core.owner e)) (lies_at known.lock (r.placed.place e)) (stands_where shape.elements e _ _ (r.placed.placed.free known.lock e) inside).stands).0
+
+  leaves_known : (home : Home) → IsKnownHome shape v c e home → MayLeave shape r.world.core c home
+  leaves_known homes.Unlisted known = absurd known
+  leaves_known (homes.In lock) known = holds_known lock known.0
+  leaves_known (homes.Hand d) known = known.0
+
+  enters_known : (home : Home) → MayGoHome shape v c e home → MayEnter shape r.world.core c (r.world.core.owner e) home
+  enters_known homes.Unlisted may = absurd may
+  enters_known (homes.In (Local d)) may = (
+    holds_known (Local d) may.0,
+    ⊎_elim
+        (λ (free : IsKnownFree v e). subst (IsFreeOrInHand c) (sym (free_known free)) tt)
+        (λ (in_hand : is_in_hand_of e c v.hand ≡ true). subst (IsFreeOrInHand c) (sym (owner_known in_hand)) refl)
+        may.1,
+  )
+  enters_known (homes.In Global) may = holds_known Global may
+  enters_known (homes.In (CpuLru d)) may = absurd may
+  enters_known (homes.In (Bucket bucket)) may = absurd may
+  enters_known (homes.In (Freelist d)) may = absurd may
+  enters_known (homes.Hand d) may = (may.0, owner_known may.1)
+
+  none_listed : r.world.core.owner e ≡ owners.Free → IsNoneListed v e
+  none_listed free k hold held =
+      let w = r.world in
+      ap (λ (l : Lists). times e (rows l)) (now_there shape s r pass v at_pass k hold held)
+      ∙ (r.placed.placed.rows k e ∙ (ap (λ (o : Owner). one (nat_lt e shape.elements && has_row (is_lru shape.kind) (lock_named shape k) o (lies_at k (r.placed.place e)))) free
+      ∙ (ap (λ (b : Bool). one (nat_lt e shape.elements && b)) (no_row_free (is_lru shape.kind) (lock_named shape k) (lies_at k (r.placed.place e))) ∙ ap one (and_right (nat_lt e shape.elements) false refl))))
+
+  -- the home is another from now on
+  home_rule : (to : Home) (cs : List (ℕ × Behind)) → (can : CanRehome shape r.world.core c e to)
+      → (after : Rule shape (stepped s (home_word shape e) (home_code to) pass cs (with_places (held_with shape to (r.world.core.owner e) e (held_without shape (r.world.core.home e) (r.world.core.owner e) e v.held)) v.hand (carried_with to e (carried_without (r.world.core.home e) e v.carried)) v) keeps))
+      × (after.world.core ≡ steps.rehomed shape r.world.core e to)
+  home_rule to cs can =
+      let i : ℕ = home_word shape e in let code : ℕ = home_code to in
+      let w = r.world in let kn = r.knows pass v at_pass in
+      let owner : Owner = w.core.owner e in let from : Home = w.core.home e in
+      let bounds = bounds_of_shape shape r.is_shape in
+      let mine = has_mine shape w pass v c kn has in
+      let left = leaves_in_reach shape w pass c from mine can.from_there in
+      let joined = enters_in_reach shape w pass c owner to mine can.to_there in
+      let away : ℕ → Lists = after_leaving shape from owner e w.core.lists in
+      let lists : ℕ → Lists = after_joining shape to owner e away in
+      let on_the_way : ℕ → Home = put w.core.home e homes.Unlisted in
+      place_rule shape s r pass v at_pass lists w.core.owner (put w.core.home e to) i code (held_with shape to owner e (held_without shape from owner e v.held)) v.hand (carried_with to e (carried_without from e v.carried)) cs (omega arith) (omega arith)
+      (λ x below. get_or-set_other s.words i (owner_word shape x) code 0 (λ y. omega arith) ∙ r.owner_words x below)
+      (λ x below. at_put w.core.home e to (λ j h. j < shape.elements → get_or (set s.words i code) (home_word shape j) 0 ≡ home_code h) x
+      (λ _. get_or-set_same s.words i code 0 (omega (arith, r.words)))
+      (λ ne below. get_or-set_other s.words i (home_word shape x) code 0 (λ y. ne (omega arith)) ∙ r.home_words x below) below)
+      record {
+        under = λ k. ⊎_elim
+            (λ (stays : lists k ≡ away k). ⊎_elim
+            (λ (stayed : away k ≡ w.core.lists k). inl (stays ∙ stayed))
+            (λ (by_pass : IsHeldByPass w pass k). inr by_pass)
+            (under_left shape w pass owner e w.core.lists from left k))
+            (λ (by_pass : IsHeldByPass w pass k). inr by_pass)
+            (under_joined shape w pass owner e away to joined k);
+        owners = λ _. inl refl;
+        homes = λ x. at_put w.core.home e to (λ j h. (h ≡ w.core.home j) ⊎ (IsHomeOfPass w.whose pass (w.core.home j) × IsHomeOfPass w.whose pass h)) x
+            (inr (reach_of_pass shape w pass from left, reach_of_pass shape w pass to joined)) (λ _. inl refl);
+        are_held = held_joined shape w pass owner e away to (held_without shape from owner e v.held) joined (held_left shape w pass owner e w.core.lists from v.held left kn.held);
+        ascends = ascends_joined shape to owner e (held_without shape from owner e v.held) (ascends_left shape from owner e v.held kn.ascends);
+        in_hands = kn.hands;
+        are_carried = carried_joined shape.cpus pass e w.whose on_the_way (put w.core.home e to) (carried_without from e v.carried) (λ x other. put_else w.core.home e to x other ∙ sym (put_else w.core.home e homes.Unlisted x other))
+            (carried_left shape.cpus pass e w.whose w.core.home on_the_way v.carried (λ x other. put_else w.core.home e homes.Unlisted x other) kn.carried from refl (put_here w.core.home e homes.Unlisted))
+            to (reach_of_pass shape w pass to joined) (put_here w.core.home e homes.Unlisted) (put_here w.core.home e to);
+        placed = step_keeps_places shape w.core (Rehome c e to) bounds can r.placed;
+        ranked = step_keeps_ranks shape w.core (Rehome c e to) can r.ranked;
+      }
+
+pub rehomes_step : (shape : Shape) (slots pass : ℕ) (me : Seated) (c e : ℕ) (from to : Home) → IsTrue shape.common → e < shape.elements → is_among c me.0.cpus ≡ true → IsKnownHome shape me.0 c e from → MayGoHome shape me.0 c e to
+    → StepsAs shape slots pass me (home_word shape e) (λ _. home_code to) (goes_by shape (Rehome c e to)) (λ _. Rehomes e to me)
+rehomes_step shape slots pass me c e from to common real has known may s r wide at_pass _ =
+    let v = me.0 in let w = r.world in let kn = r.knows pass v at_pass in
+    let bounds = bounds_of_shape shape r.is_shape in
+    let owner : Owner = w.core.owner e in
+    let evicts : IsTrue (is_lru shape.kind) = bounds.common_evicts common in
+    let is : w.core.home e ≡ from = home_known shape s r pass v at_pass c e has real from evicts known in
+    let can : CanRehome shape w.core c e to = record {
+      common = common;
+      is_cpu = kn.within c has;
+      real = real;
+      from_there = subst (MayLeave shape w.core c) (sym is) (leaves_known shape s r pass v at_pass c e has real from known);
+      to_there = enters_known shape s r pass v at_pass c e has real to may;
+    } in
+    let rule = home_rule shape s r pass v at_pass c e has real to me.1 can in (
+      with_places (held_with shape to owner e (held_without shape (w.core.home e) owner e v.held)) v.hand (carried_with to e (carried_without (w.core.home e) e v.carried)) v,
+      keeps,
+      tt,
+      (rule.0, record { enabled = can; changed = rule.1 }),
+      record {
+        from = w.core.home e;
+        known = λ cpu home mine at_home. sym (home_known shape s r pass v at_pass cpu e mine real home evicts (subst (λ (z : Shape). IsKnownHome z v cpu e home) kn.shape_is at_home));
+        owner = owner;
+        fits = subst (λ z. OwnerFits z v e owner) (sym kn.shape_is) (owner_fits shape s r pass v e at_pass real);
+        listed = none_listed shape s r pass v at_pass c e has real;
+        after_is = λ i. (with_places (held_with (sym kn.shape_is i) to owner e (held_without (sym kn.shape_is i) (w.core.home e) owner e v.held)) v.hand (carried_with to e (carried_without (w.core.home e) e v.carried)) v, me.1);
+      },
+    )
+
+-- at the word and the code that a caller has
+pub rehomes : (shape : Shape) (slots pass : ℕ) (me : Seated) (c e i code : ℕ) (from to : Home) → i ≡ home_word shape e → code ≡ home_code to → IsTrue shape.common → e < shape.elements → is_among c me.0.cpus ≡ true → IsKnownHome shape me.0 c e from → MayGoHome shape me.0 c e to
+    → Allows (Rule shape) slots pass me i (λ _. code) (λ _. Rehomes e to me)
+rehomes shape slots pass me c e i code from to i_is code_is common real has known may =
+    subst (λ (z : ℕ × ℕ). Allows (Rule shape) slots pass me z.0 (λ _. z.1) (λ _. Rehomes e to me)) (λ n. (sym i_is n, sym code_is n))
+    (allows_of shape slots pass me (home_word shape e) (λ _. home_code to) (goes_by shape (Rehome c e to)) (λ _. Rehomes e to me) (rehomes_step shape slots pass me c e from to common real has known may))
+
+-- the slots that the pass has
+pub carries_rehomed : (shape : Shape) (from to : Home) (owner : Owner) (e : ℕ) (held : List Hold) (slots : List (ℕ × Behind)) → Carries held slots → Carries (held_with shape to owner e (held_without shape from owner e held)) slots
+carries_rehomed shape from to owner e held slots carries = joined to (held_without shape from owner e held) (left from)
+  where
+    left : (from : Home) → Carries (held_without shape from owner e held) slots
+    left homes.Unlisted = carries
+    left (homes.In lock) = carries_now _ _ held slots carries
+    left (homes.Hand c) = carries
+
+    joined : (to : Home) (holds : List Hold) → Carries holds slots → Carries (held_with shape to owner e holds) slots
+    joined homes.Unlisted holds carries = carries
+    joined (homes.In lock) holds carries = carries_now _ _ holds slots carries
+    joined (homes.Hand c) holds carries = carries
+
+-- what a caller with a pass knows then
+pub rehomed_of : (t : TableView) (e : ℕ) (to : Home) (before after : PassView) (old new : Seated) → IsPassOf t before → HasBegun before → old.0 ≡ before.view → Rehomes e to old new → after ≡ with_view before new.0 → Rehomed t e to before after
+rehomed_of t e to before after old new of_table begun old_is moved after_is = record {
+  from = moved.from;
+  known = λ home. subst (λ (z : Shape × View). IsKnownHome z.0 z.1 before.cpu e home → home ≡ moved.from) (λ i. ((ap (λ (v : View). v.shape) old_is ∙ of_table.1) i, old_is i))
+      (moved.known before.cpu home (ap (λ (v : View). is_among before.cpu v.cpus) old_is ∙ begun));
+  owner = moved.owner;
+  fits = subst (λ (z : Shape × View). OwnerFits z.0 z.1 e moved.owner) (λ i. ((ap (λ (v : View). v.shape) old_is ∙ of_table.1) i, old_is i)) moved.fits;
+  listed = λ free. subst (λ (v : View). IsNoneListed v e) old_is (moved.listed free);
+  after_is = after_is ∙ (ap (λ (z : Seated). with_view before z.0) moved.after_is ∙ ap (λ (v : View). with_view before (views.rehomed moved.from to moved.owner e v)) old_is);
+}

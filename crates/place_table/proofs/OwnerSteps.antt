@@ -1,0 +1,199 @@
+-- The steps on an owner word: an element comes to a hand or leaves it, and what lies under a lock that is held changes.
+use Rattle.std.proofs.Common.{◌≡◌, ℕ, ◌+◌, ◌<◌, ◌⊎◌, inl, inr, true, List, get_or, set, sym, refl, ap, ◌∙◌, subst, arith, Some, get_or-set_other, get_or-set_same}
+use Rattle.std.specs.Prelude.{IsTrue, IsFalse}
+use Rattle.std.proofs.lemmas.Bool.{and_parts}
+use Rattle.std.proofs.lemmas.Bool.Decides.{nat_tests}
+use mathlib.Core.Option.{some}
+use lib.ListN.{get_elem?}
+use Rattle.atomic_table.specs.Table.{State, Act, Valid, Allows, keeps, stepped, carried_after}
+use Rattle.map_types.specs.declared.attr.Shape.{Shape}
+use Rattle.map_types.specs.declared.kind.DomainId.{DomainId}
+use Rattle.map_types.specs.declared.kind.DomainId.TheVariants.{Bucket}
+use Rattle.map_types.specs.Kind.{is_lru}
+use Rattle.map_types.proofs.CreationLemmas.{bounds_of_shape}
+use Rattle.place_words.specs.declared.owner.Owner.{Owner}
+use Rattle.place_words.specs.declared.owner.Owner.TheVariants as owners
+use Rattle.place_words.specs.Codes.{owner_code}
+use Rattle.place_words.specs.ElementLists.{put, IsIn, IsHead}
+use Rattle.place_words.specs.Locks.{is_lock, lock_number}
+use Rattle.place_words.specs.Openings.{is_free}
+use Rattle.place_core.specs.declared.step.Lists.{Lists}
+use Rattle.place_core.specs.declared.step.Step.{Step}
+use Rattle.place_core.specs.declared.step.Step.TheVariants.{Claim, Settle, Attach, Detach}
+use Rattle.place_core.specs.State.{rows, is_bucket}
+use Rattle.place_core.specs.Places.{Placed, lies_at}
+use Rattle.place_core.specs.Ranks.{Ranked}
+use Rattle.place_core.specs.Steps.{lists_under, with_free, without_free, with_row, without_row, with_owner, CanClaim, CanSettle, CanAttach, IsInHeldBucket, IsEnabled, after, CoreStep}
+use Rattle.place_core.proofs.ElementLemmas.{at_put, put_here, put_else}
+use Rattle.place_core.proofs.OwnerSteps.{was_inside}
+use Rattle.place_core.proofs.RowLemmas.{stands_where, free_is, head_is_in}
+use Rattle.place_core.proofs.StepLaws.{step_keeps_places, step_keeps_ranks}
+use Rattle.place_table.specs.declared.content.Behind.{Behind}
+use Rattle.place_table.specs.declared.view.View.{View}
+use Rattle.place_table.specs.declared.view.Hold.{Hold}
+use Rattle.place_table.specs.declared.view.InHand.{InHand}
+use Rattle.place_table.specs.Laws.{StepsAs, goes_by}
+use Rattle.place_table.specs.Views as views
+use Rattle.place_table.specs.Views.{is_among, hold_at, is_in_hand_of, now_at, now_under, with_now, with_in_hand, without_in_hand, moved}
+use Rattle.place_table.specs.Rules.{Rule, is_hand_of, owner_word, home_word}
+use Rattle.place_table.specs.Plays.{Seated}
+use Rattle.place_table.proofs.Hands.{ascends_now, AreInHands, comes_to_hand, leaves_hand, IsOwnerOfPass}
+use Rattle.place_table.proofs.Locks.{allows_of}
+use Rattle.place_table.proofs.PlaceSteps.{IsHeldByPass, now_is, held_moved, place_rule, held_there, by_pass_there, now_there, holds_there}
+use Rattle.place_table.proofs.WordSteps.{in_held_bucket}
+use Rattle.place_table.proofs.Worlds.{true_false, in_hand_is}
+
+module _ (shape : Shape) (s : State Behind View) (r : Rule shape s) (pass : ℕ) (v : View) (at_pass : get_elem? s.views pass ≡ some v) (lock : DomainId) (h : Hold) (found : hold_at (lock_number shape lock) v.held ≡ Some h)
+    (e : ℕ) (owner : Owner) (hand : List InHand) (cs : List (ℕ × Behind)) (real : e < shape.elements) (was : IsOwnerOfPass r.world.whose pass (r.world.core.owner e)) (is : IsOwnerOfPass r.world.whose pass owner)
+    (in_hands : AreInHands is_hand_of shape.cpus pass r.world.whose (put r.world.core.owner e owner) hand) where
+  -- the element has this owner from now on, and under the lock lies this
+  owner_rule : (now : Lists) → Placed shape (with_owner shape r.world.core e owner lock now) → Ranked shape (with_owner shape r.world.core e owner lock now)
+      → (after : Rule shape (stepped s (owner_word shape e) (owner_code owner) pass cs (moved (lock_number shape lock) now hand v) keeps)) × (after.world.core ≡ with_owner shape r.world.core e owner lock now)
+  owner_rule now placed ranked =
+      let i : ℕ = owner_word shape e in let k : ℕ = lock_number shape lock in let code : ℕ = owner_code owner in
+      let w = r.world in let kn = r.knows pass v at_pass in
+      let by_pass = by_pass_there shape s r pass v at_pass k h found in
+      place_rule shape s r pass v at_pass (put w.core.lists k now) (put w.core.owner e owner) w.core.home i code (with_now k now v.held) hand v.carried cs (omega arith) (omega arith)
+      (λ x below. at_put w.core.owner e owner (λ j o. j < shape.elements → get_or (set s.words i code) (owner_word shape j) 0 ≡ owner_code o) x
+      (λ _. get_or-set_same s.words i code 0 (omega (arith, r.words)))
+      (λ ne below. get_or-set_other s.words i (owner_word shape x) code 0 (λ y. ne (omega arith)) ∙ r.owner_words x below) below)
+      (λ x below. get_or-set_other s.words i (home_word shape x) code 0 (λ y. omega arith) ∙ r.home_words x below)
+      record {
+        under = λ m. at_put w.core.lists k now (λ j l. (l ≡ w.core.lists j) ⊎ IsHeldByPass w pass j) m (inr by_pass) (λ _. inl refl);
+        owners = λ x. at_put w.core.owner e owner (λ j o. (o ≡ w.core.owner j) ⊎ (IsOwnerOfPass w.whose pass (w.core.owner j) × IsOwnerOfPass w.whose pass o)) x (inr (was, is)) (λ _. inl refl);
+        homes = λ _. inl refl;
+        are_held = held_moved w pass k w.core.lists v.held now kn.held by_pass;
+        ascends = ascends_now shape k now v.held kn.ascends;
+        in_hands = in_hands;
+        are_carried = kn.carried;
+        placed = placed;
+        ranked = ranked;
+      }
+
+  -- a step of the core that does so
+  owner_step : (step : Step) (change : Lists → Lists) → IsEnabled shape r.world.core step → after shape r.world.core step ≡ with_owner shape r.world.core e owner lock (change (lists_under shape r.world.core lock))
+      → (nv : View) × (a : Act Behind) × Valid s.homes cs a × ((now : Rule shape (stepped s (owner_word shape e) (owner_code owner) pass cs nv a)) × CoreStep shape r.world.core step now.world.core)
+      × ◌≡◌ {A = Seated} (nv, carried_after cs a) (moved (lock_number v.shape lock) (change (now_under lock v)) hand v, cs)
+  owner_step step change can after_is =
+      let k : ℕ = lock_number shape lock in
+      let w = r.world in let kn = r.knows pass v at_pass in
+      let bounds = bounds_of_shape shape r.is_shape in
+      let rule = owner_rule (change (w.core.lists k)) (subst (Placed shape) after_is (step_keeps_places shape w.core step bounds can r.placed)) (subst (Ranked shape) after_is (step_keeps_ranks shape w.core step can r.ranked)) in
+      let told : w.core.lists k ≡ now_under lock v =
+      sym (now_is w pass k w.core.lists v.held kn.held (by_pass_there shape s r pass v at_pass k h found)) ∙ ap (λ (z : Shape). now_at (lock_number z lock) v.held) (sym kn.shape_is) in (
+        moved k (change (w.core.lists k)) hand v,
+        keeps,
+        tt,
+        (rule.0, record { enabled = can; changed = rule.1 ∙ sym after_is }),
+        (λ i. (moved (lock_number (sym kn.shape_is i) lock) (change (told i)) hand v, cs)),
+      )
+
+-- a step, at the word, the code and the view that a caller has
+at_caller : (shape : Shape) (slots pass : ℕ) (me : Seated) (i j code number : ℕ) (view told : View) → i ≡ j → code ≡ number → view ≡ told
+    → Allows (Rule shape) slots pass me j (λ _. number) (λ _ after. after ≡ (told, me.1)) → Allows (Rule shape) slots pass me i (λ _. code) (λ _ after. after ≡ (view, me.1))
+at_caller shape slots pass me i j code number view told i_is code_is view_is allows =
+    subst (λ (z : ℕ × ℕ × View). Allows (Rule shape) slots pass me z.0 (λ _. z.1) (λ _ after. after ≡ (z.2, me.1))) (λ n. (sym i_is n, sym code_is n, sym view_is n)) allows
+
+-- Claim
+
+pub claims_step : (shape : Shape) (slots pass : ℕ) (me : Seated) (e : ℕ) (lock : DomainId) (hold : Hold) → e < shape.elements → IsTrue (is_lock shape lock) → hold_at (lock_number shape lock) me.0.held ≡ Some hold → IsHead e hold.now.free
+    → StepsAs shape slots pass me (owner_word shape e) (λ _. 1 + hold.cpu) (goes_by shape (Claim hold.cpu e lock)) (λ _ after. after ≡ (views.claimed lock e hold.cpu me.0, me.1))
+claims_step shape slots pass me e lock hold real is found head s r wide at_pass _ =
+    let k : ℕ = lock_number shape lock in
+    let v = me.0 in let w = r.world in let kn = r.knows pass v at_pass in
+    let at = held_there shape s r pass v at_pass k hold found in
+    let first : IsHead e (w.core.lists k).free = subst (λ (z : Lists). IsHead e z.free) (now_there shape s r pass v at_pass k hold found) head in
+    let can : CanClaim shape w.core hold.cpu e lock = record { holds = holds_there shape s r pass v at_pass lock hold found is; real = real; head = first } in
+    let stands = stands_where shape.elements e _ _ (r.placed.placed.free k e) (head_is_in e _ first) in
+    let was : w.core.owner e ≡ owners.Free = free_is (w.core.owner e) (and_parts (is_free (w.core.owner e)) (lies_at k (r.placed.place e)) stands.stands).0 in
+    owner_step shape s r pass v at_pass lock hold found e (owners.Hand hold.cpu) (with_in_hand e hold.cpu v.hand) me.1 real (subst (IsOwnerOfPass w.whose pass) (sym was) tt) at.mine
+    (comes_to_hand is_hand_of shape.cpus pass e hold.cpu w.whose w.core.owner (put w.core.owner e (owners.Hand hold.cpu)) v.hand (λ x. put_else w.core.owner e (owners.Hand hold.cpu) x) kn.hands
+    at.mine (λ c. ap (is_hand_of c) was) (λ c. ap (is_hand_of c) (put_here w.core.owner e (owners.Hand hold.cpu))))
+    (Claim hold.cpu e lock) (λ l. with_row lock e (without_free e l)) can refl
+
+pub claims : (shape : Shape) (slots pass : ℕ) (me : Seated) (e c i code : ℕ) (lock : DomainId) (hold : Hold) (view : View) → i ≡ owner_word shape e → code ≡ 1 + c → hold.cpu ≡ c → view ≡ views.claimed lock e c me.0
+    → e < shape.elements → IsTrue (is_lock shape lock) → hold_at (lock_number shape lock) me.0.held ≡ Some hold → IsHead e hold.now.free
+    → Allows (Rule shape) slots pass me i (λ _. code) (λ _ after. after ≡ (view, me.1))
+claims shape slots pass me e c i code lock hold view i_is code_is cpu_is view_is real is found head =
+    at_caller shape slots pass me i _ code _ view _ i_is (code_is ∙ ap (λ (n : ℕ). 1 + n) (sym cpu_is)) (view_is ∙ ap (λ (n : ℕ). views.claimed lock e n me.0) (sym cpu_is))
+    (allows_of shape slots pass me (owner_word shape e) (λ _. 1 + hold.cpu) (goes_by shape (Claim hold.cpu e lock)) (λ _ after. after ≡ (views.claimed lock e hold.cpu me.0, me.1)) (claims_step shape slots pass me e lock hold real is found head))
+
+-- Settle
+
+pub settles_step : (shape : Shape) (slots pass : ℕ) (me : Seated) (e : ℕ) (lock : DomainId) (hold : Hold) → e < shape.elements → IsTrue (is_lock shape lock) → hold_at (lock_number shape lock) me.0.held ≡ Some hold → IsFalse (is_bucket lock)
+    → is_among hold.cpu me.0.cpus ≡ true → is_in_hand_of e hold.cpu me.0.hand ≡ true → (IsTrue (is_lru shape.kind) → IsIn e (rows hold.now))
+    → StepsAs shape slots pass me (owner_word shape e) (λ _. 0) (goes_by shape (Settle hold.cpu e lock)) (λ _ after. after ≡ (views.settled lock e hold.cpu me.0, me.1))
+settles_step shape slots pass me e lock hold real is found has_free_list has in_hand listed s r wide at_pass _ =
+    let v = me.0 in let w = r.world in let kn = r.knows pass v at_pass in
+    let at = held_there shape s r pass v at_pass (lock_number shape lock) hold found in
+    let was : w.core.owner e ≡ owners.Hand hold.cpu = in_hand_is shape w pass v e hold.cpu kn has in_hand in
+    let can : CanSettle shape w.core hold.cpu e lock = record {
+      holds = holds_there shape s r pass v at_pass lock hold found is;
+      has_free_list = has_free_list;
+      real = real;
+      in_hand = was;
+      listed = λ lru. subst (λ (z : Lists). IsIn e (rows z)) (now_there shape s r pass v at_pass (lock_number shape lock) hold found) (listed lru);
+    } in
+    owner_step shape s r pass v at_pass lock hold found e owners.Free (without_in_hand e hold.cpu v.hand) me.1 real (subst (IsOwnerOfPass w.whose pass) (sym was) at.mine) tt
+    (leaves_hand is_hand_of shape.cpus pass e hold.cpu w.whose w.core.owner (put w.core.owner e owners.Free) v.hand (λ x. put_else w.core.owner e owners.Free x) kn.hands
+    (λ c. ap (is_hand_of c) was) (λ c. ap (is_hand_of c) (put_here w.core.owner e owners.Free)))
+    (Settle hold.cpu e lock) (λ l. with_free e (without_row e l)) can refl
+
+pub settles : (shape : Shape) (slots pass : ℕ) (me : Seated) (e c i : ℕ) (lock : DomainId) (hold : Hold) (view : View) → i ≡ owner_word shape e → hold.cpu ≡ c → view ≡ views.settled lock e c me.0
+    → e < shape.elements → IsTrue (is_lock shape lock) → hold_at (lock_number shape lock) me.0.held ≡ Some hold → IsFalse (is_bucket lock)
+    → is_among c me.0.cpus ≡ true → is_in_hand_of e c me.0.hand ≡ true → (IsTrue (is_lru shape.kind) → IsIn e (rows hold.now))
+    → Allows (Rule shape) slots pass me i (λ _. 0) (λ _ after. after ≡ (view, me.1))
+settles shape slots pass me e c i lock hold view i_is cpu_is view_is real is found has_free_list has in_hand listed =
+    at_caller shape slots pass me i _ 0 0 view _ i_is refl (view_is ∙ ap (λ (n : ℕ). views.settled lock e n me.0) (sym cpu_is))
+    (allows_of shape slots pass me (owner_word shape e) (λ _. 0) (goes_by shape (Settle hold.cpu e lock)) (λ _ after. after ≡ (views.settled lock e hold.cpu me.0, me.1))
+    (settles_step shape slots pass me e lock hold real is found has_free_list (ap (λ (n : ℕ). is_among n me.0.cpus) cpu_is ∙ has) (ap (λ (n : ℕ). is_in_hand_of e n me.0.hand) cpu_is ∙ in_hand) listed))
+
+-- Attach
+
+pub attaches_step : (shape : Shape) (slots pass : ℕ) (me : Seated) (e bucket : ℕ) (hold : Hold) → e < shape.elements → bucket < shape.buckets → hold_at (lock_number shape (Bucket bucket)) me.0.held ≡ Some hold
+    → is_among hold.cpu me.0.cpus ≡ true → is_in_hand_of e hold.cpu me.0.hand ≡ true
+    → StepsAs shape slots pass me (owner_word shape e) (λ _. 32 + bucket) (goes_by shape (Attach hold.cpu e bucket)) (λ _ after. after ≡ (views.attached bucket e hold.cpu me.0, me.1))
+attaches_step shape slots pass me e bucket hold real there found has in_hand s r wide at_pass _ =
+    let lock : DomainId = Bucket bucket in
+    let v = me.0 in let w = r.world in let kn = r.knows pass v at_pass in
+    let at = held_there shape s r pass v at_pass (lock_number shape lock) hold found in
+    let is : IsTrue (is_lock shape lock) = grind (arith, nat_tests) in
+    let was : w.core.owner e ≡ owners.Hand hold.cpu = in_hand_is shape w pass v e hold.cpu kn has in_hand in
+    let can : CanAttach shape w.core hold.cpu e bucket =
+    record { holds = holds_there shape s r pass v at_pass lock hold found is; real = real; in_hand = was; not_carried = λ lru. true_false (sym lru ∙ r.plain) } in
+    owner_step shape s r pass v at_pass lock hold found e (owners.Bucket bucket) (without_in_hand e hold.cpu v.hand) me.1 real (subst (IsOwnerOfPass w.whose pass) (sym was) at.mine) tt
+    (leaves_hand is_hand_of shape.cpus pass e hold.cpu w.whose w.core.owner (put w.core.owner e (owners.Bucket bucket)) v.hand (λ x. put_else w.core.owner e (owners.Bucket bucket) x) kn.hands
+    (λ c. ap (is_hand_of c) was) (λ c. ap (is_hand_of c) (put_here w.core.owner e (owners.Bucket bucket))))
+    (Attach hold.cpu e bucket) (λ l. with_row lock e l) can refl
+
+pub attaches : (shape : Shape) (slots pass : ℕ) (me : Seated) (e bucket c i code : ℕ) (hold : Hold) (view : View) → i ≡ owner_word shape e → code ≡ 32 + bucket → hold.cpu ≡ c → view ≡ views.attached bucket e c me.0
+    → e < shape.elements → bucket < shape.buckets → hold_at (lock_number shape (Bucket bucket)) me.0.held ≡ Some hold → is_among c me.0.cpus ≡ true → is_in_hand_of e c me.0.hand ≡ true
+    → Allows (Rule shape) slots pass me i (λ _. code) (λ _ after. after ≡ (view, me.1))
+attaches shape slots pass me e bucket c i code hold view i_is code_is cpu_is view_is real there found has in_hand =
+    at_caller shape slots pass me i _ code _ view _ i_is code_is (view_is ∙ ap (λ (n : ℕ). views.attached bucket e n me.0) (sym cpu_is))
+    (allows_of shape slots pass me (owner_word shape e) (λ _. 32 + bucket) (goes_by shape (Attach hold.cpu e bucket)) (λ _ after. after ≡ (views.attached bucket e hold.cpu me.0, me.1))
+    (attaches_step shape slots pass me e bucket hold real there found (ap (λ (n : ℕ). is_among n me.0.cpus) cpu_is ∙ has) (ap (λ (n : ℕ). is_in_hand_of e n me.0.hand) cpu_is ∙ in_hand)))
+
+-- Detach
+
+pub detaches_step : (shape : Shape) (slots pass : ℕ) (me : Seated) (e bucket : ℕ) (hold : Hold) → bucket < shape.buckets → hold_at (lock_number shape (Bucket bucket)) me.0.held ≡ Some hold → IsIn e hold.now.first
+    → StepsAs shape slots pass me (owner_word shape e) (λ _. 1 + hold.cpu) (goes_by shape (Detach hold.cpu e bucket)) (λ _ after. after ≡ (views.detached bucket e hold.cpu me.0, me.1))
+detaches_step shape slots pass me e bucket hold there found inside s r wide at_pass _ =
+    let lock : DomainId = Bucket bucket in
+    let v = me.0 in let w = r.world in let kn = r.knows pass v at_pass in
+    let at = held_there shape s r pass v at_pass (lock_number shape lock) hold found in
+    let bounds = bounds_of_shape shape r.is_shape in
+    let can : IsInHeldBucket shape w.core hold.cpu e bucket = (in_held_bucket shape s r pass v e bucket hold at_pass there found inside).0 in
+    let was : w.core.owner e ≡ owners.Bucket bucket = was_inside shape w.core r.placed.place bounds r.placed.placed hold.cpu e bucket can in
+    owner_step shape s r pass v at_pass lock hold found e (owners.Hand hold.cpu) (with_in_hand e hold.cpu v.hand) me.1 can.real (subst (IsOwnerOfPass w.whose pass) (sym was) tt) at.mine
+    (comes_to_hand is_hand_of shape.cpus pass e hold.cpu w.whose w.core.owner (put w.core.owner e (owners.Hand hold.cpu)) v.hand (λ x. put_else w.core.owner e (owners.Hand hold.cpu) x) kn.hands
+    at.mine (λ c. ap (is_hand_of c) was) (λ c. ap (is_hand_of c) (put_here w.core.owner e (owners.Hand hold.cpu))))
+    (Detach hold.cpu e bucket) (λ l. without_row e l) can refl
+
+pub detaches : (shape : Shape) (slots pass : ℕ) (me : Seated) (e bucket c i code : ℕ) (hold : Hold) (view : View) → i ≡ owner_word shape e → code ≡ 1 + c → hold.cpu ≡ c → view ≡ views.detached bucket e c me.0
+    → bucket < shape.buckets → hold_at (lock_number shape (Bucket bucket)) me.0.held ≡ Some hold → IsIn e hold.now.first
+    → Allows (Rule shape) slots pass me i (λ _. code) (λ _ after. after ≡ (view, me.1))
+detaches shape slots pass me e bucket c i code hold view i_is code_is cpu_is view_is there found inside =
+    at_caller shape slots pass me i _ code _ view _ i_is (code_is ∙ ap (λ (n : ℕ). 1 + n) (sym cpu_is)) (view_is ∙ ap (λ (n : ℕ). views.detached bucket e n me.0) (sym cpu_is))
+    (allows_of shape slots pass me (owner_word shape e) (λ _. 1 + hold.cpu) (goes_by shape (Detach hold.cpu e bucket)) (λ _ after. after ≡ (views.detached bucket e hold.cpu me.0, me.1))
+    (detaches_step shape slots pass me e bucket hold there found inside))

@@ -1,0 +1,179 @@
+-- Elements change places: what lies under locks that CPUs of a pass hold changes, and so may the owners and the homes of
+-- elements that no other pass has in hand.
+use Rattle.std.proofs.Common.{◌≡◌, ℕ, ◌<◌, ◌≤◌, ◌⊎◌, ⊎_elim, eqb, List, length, get_or, set, sym, refl, ap, ◌∙◌, subst, arith, Option, Some, length-set, get_or-set_other}
+use Rattle.std.specs.Prelude.{◌&&◌, IsTrue}
+use mathlib.Core.Option.{some}
+use lib.ListN.{get_elem?}
+use Rattle.atomic_table.specs.Table.{State, keeps, stepped}
+use Rattle.atomic_table.proofs.Lists.{at_set}
+use Rattle.map_types.specs.declared.attr.Shape.{Shape}
+use Rattle.map_types.specs.declared.kind.DomainId.{DomainId}
+use Rattle.place_words.specs.declared.home.Home.{Home}
+use Rattle.place_words.specs.declared.owner.Owner.{Owner}
+use Rattle.place_words.specs.Codes.{owner_code, home_code}
+use Rattle.place_words.specs.ElementLists.{put}
+use Rattle.place_words.specs.Locks.{is_lock, lock_count, lock_number}
+use Rattle.place_core.specs.declared.step.Lists.{Lists}
+use Rattle.place_core.specs.State as cores
+use Rattle.place_core.specs.Places.{Placed}
+use Rattle.place_core.specs.Ranks.{Ranked}
+use Rattle.place_core.specs.Steps.{Holds}
+use Rattle.place_core.proofs.ElementLemmas.{at_put}
+use Rattle.place_table.specs.declared.content.Behind.{Behind}
+use Rattle.place_table.specs.declared.view.View.{View}
+use Rattle.place_table.specs.declared.view.Hold.{Hold}
+use Rattle.place_table.specs.declared.view.InHand.{InHand}
+use Rattle.place_table.specs.Views.{hold_at, now_at, with_now, with_places}
+use Rattle.place_table.specs.Rules.{World, Rule, Knows, AtHome, Ascends, entries, hold, hold_of, is_hand_of, is_home_of, owner_word, home_word, bit_word}
+use Rattle.place_table.proofs.Hands.{now_at_is, hold_at_now, hold_at_else, AreInHands, IsOwnerOfPass, IsHomeOfPass, not_their_owner, not_their_home}
+use Rattle.place_table.proofs.Worlds.{hold_of_mine, IsMineOrFree, hold_of_other, HoldIs, hold_of_is, others, lock_still_lost, strand_stays, past_stays, tagged_stays, SameStrands}
+
+-- a CPU of the pass holds the lock
+pub record IsHeldByPass (w : World) (pass k : ℕ) : Type 0 where
+  pub cpu : ℕ
+  pub holder_is : w.core.holder k ≡ Some cpu
+  pub mine : w.whose cpu ≡ pass
+
+-- these are the locks that a pass holds, where such lists lie under the locks
+abbrev pub AreHeld : World → ℕ → (ℕ → Lists) → List Hold → Type 0
+AreHeld w pass lists held = (k : ℕ) → hold_at k held ≡ hold_of pass w.whose k (w.core.holder k) (w.log k) (lists k) (w.lost k)
+
+-- a lock that is held, as the pass has it
+hold_there : (w : World) (pass k : ℕ) (lists : Lists) (by_pass : IsHeldByPass w pass k) → hold_of pass w.whose k (w.core.holder k) (w.log k) lists (w.lost k) ≡ Some (hold k by_pass.cpu (w.log k) lists (w.lost k))
+hold_there w pass k lists by_pass =
+    ap (λ (z : Option ℕ). hold_of pass w.whose k z (w.log k) lists (w.lost k)) by_pass.holder_is ∙ hold_of_mine w.whose pass k by_pass.cpu (w.log k) lists (w.lost k) by_pass.mine
+
+-- what the pass knows to lie under a lock does
+pub now_is : (w : World) (pass k : ℕ) (lists : ℕ → Lists) (held : List Hold) → AreHeld w pass lists held → IsHeldByPass w pass k → now_at k held ≡ lists k
+now_is w pass k lists held are by_pass = now_at_is k held (hold k by_pass.cpu (w.log k) (lists k) (w.lost k)) (are k ∙ hold_there w pass k (lists k) by_pass)
+
+-- the lists under one lock change
+pub held_moved : (w : World) (pass k : ℕ) (lists : ℕ → Lists) (held : List Hold) (now : Lists) → AreHeld w pass lists held → IsHeldByPass w pass k → AreHeld w pass (put lists k now) (with_now k now held)
+held_moved w pass k lists held now are by_pass m =
+    let h : Hold = hold k by_pass.cpu (w.log k) (lists k) (w.lost k) in
+    at_put lists k now (λ i l. hold_at i (with_now k now held) ≡ hold_of pass w.whose i (w.core.holder i) (w.log i) l (w.lost i)) m
+    (hold_at_now k now held h (are k ∙ hold_there w pass k (lists k) by_pass) ∙ sym (hold_there w pass k now by_pass))
+    (λ other. hold_at_else k m now held other ∙ are m)
+
+-- the core, with other places
+abbrev pub core_moved : World → (ℕ → Lists) → (ℕ → Owner) → (ℕ → Home) → cores.State
+core_moved w lists owner home = record { holder = w.core.holder; lists = lists; owner = owner; home = home; bit = w.core.bit }
+
+-- What a step shows that changes places, and what the pass knows then.
+pub record MovesPlaces (shape : Shape) (w : World) (pass : ℕ) (lists : ℕ → Lists) (owner : ℕ → Owner) (home : ℕ → Home) (held : List Hold) (hand carried : List InHand) : Type 0 where
+  pub under : (k : ℕ) → (lists k ≡ w.core.lists k) ⊎ IsHeldByPass w pass k
+  pub owners : (e : ℕ) → (owner e ≡ w.core.owner e) ⊎ (IsOwnerOfPass w.whose pass (w.core.owner e) × IsOwnerOfPass w.whose pass (owner e))
+  pub homes : (e : ℕ) → (home e ≡ w.core.home e) ⊎ (IsHomeOfPass w.whose pass (w.core.home e) × IsHomeOfPass w.whose pass (home e))
+  pub are_held : AreHeld w pass lists held
+  pub ascends : Ascends shape held
+  pub in_hands : AreInHands is_hand_of shape.cpus pass w.whose owner hand
+  pub are_carried : AreInHands is_home_of shape.cpus pass w.whose home carried
+  pub placed : Placed shape (core_moved w lists owner home)
+  pub ranked : Ranked shape (core_moved w lists owner home)
+
+module _ (shape : Shape) (s : State Behind View) (r : Rule shape s) (pass : ℕ) (v : View) (at_pass : get_elem? s.views pass ≡ some v) (lists : ℕ → Lists) (owner : ℕ → Owner) (home : ℕ → Home) where
+  moved_world : World → World
+  moved_world w = record {
+    core = core_moved w lists owner home;
+    log = w.log;
+    lost = w.lost;
+    whose = w.whose;
+    keeper = w.keeper;
+    team = w.team;
+    current = w.current;
+    past = w.past;
+    next = w.next;
+  }
+
+  -- the word i becomes n
+  pub place_rule : (i n : ℕ) (held : List Hold) (hand carried : List InHand) (cs : List (ℕ × Behind)) → lock_count shape ≤ i → i < bit_word shape 0
+      → ((e : ℕ) → e < shape.elements → get_or (set s.words i n) (owner_word shape e) 0 ≡ owner_code (owner e))
+      → ((e : ℕ) → e < shape.elements → get_or (set s.words i n) (home_word shape e) 0 ≡ home_code (home e))
+      → MovesPlaces shape r.world pass lists owner home held hand carried
+      → (after : Rule shape (stepped s i n pass cs (with_places held hand carried v) keeps)) × (after.world.core ≡ core_moved r.world lists owner home)
+  unfolding moved_world
+  place_rule i n held hand carried cs above below owner_words home_words moves =
+      let w = r.world in let w' : World = moved_world w in
+      let kn = r.knows pass v at_pass in
+      let nv : View = with_places held hand carried v in
+      let same : SameStrands w w' = record { keeper = λ _. refl; team = λ _. refl; next = refl; current = λ _. refl; past = λ _. refl; whose = λ _. refl } in (
+        record {
+          world = w';
+          is_shape = r.is_shape;
+          plain = r.plain;
+          words = length-set s.words i n ∙ r.words;
+          slots = r.slots;
+          lock_words = λ k real. get_or-set_other s.words i k n 0 (λ y. omega arith) ∙ r.lock_words k real;
+          owner_words = owner_words;
+          home_words = home_words;
+          bit_words = λ e real. get_or-set_other s.words i (bit_word shape e) n 0 (λ y. omega arith) ∙ r.bit_words e real;
+          placed = moves.placed;
+          ranked = moves.ranked;
+          legal = r.legal;
+          homes = λ k real there. ⊎_elim
+              (λ (stays : lists k ≡ w.core.lists k). subst (λ (l : Lists). AtHome shape k (w.core.holder k) (entries (w.log k)) l (w.lost k) (get_elem? s.homes k)) (sym stays) (r.homes k real there))
+              (λ (by_pass : IsHeldByPass w pass k). subst (λ (z : Option ℕ). AtHome shape k z (entries (w.log k)) (w.core.lists k) (w.lost k) (get_elem? s.homes k) → AtHome shape k z (entries (w.log k)) (lists k) (w.lost k) (get_elem? s.homes k)) (sym by_pass.holder_is) (λ z. z) (r.homes k real there))
+              (moves.under k);
+          seated = λ c less. subst (λ (z : ℕ). w.whose c < z) (sym (length-set s.views pass nv)) (r.seated c less);
+          tagged = λ k. tagged_stays w w' (length s.views) (length (set s.views pass nv)) (w.log k) (sym (length-set s.views pass nv)) same (r.tagged k);
+          knows = λ j u f. ⊎_elim
+              (λ t. subst (λ (z : ℕ × View). Knows shape w' z.0 z.1) (λ i. (sym t.0 i, t.1 i)) record {
+                shape_is = kn.shape_is;
+                cpus = kn.cpus;
+                within = kn.within;
+                held = moves.are_held;
+                ascends = moves.ascends;
+                hands = moves.in_hands;
+                carried = moves.are_carried;
+                known = kn.known;
+                bits = kn.bits;
+                only = kn.only;
+                losses = λ k among. lock_still_lost shape w w' k (λ lo. lo) (kn.losses k among);
+                strand = strand_stays shape w w' pass (w.current pass) v.cpus v.steps v.kept kn.strand.keeper (λ z. z) refl (λ _. refl) (λ _ z. z) kn.strand;
+                past = past_stays shape w w' pass (w.past pass) v.ended same (λ _ _ _ _. refl) (λ _ z. z) kn.past;
+                apart = kn.apart;
+                idle = kn.idle;
+              })
+              (λ t. let ku = r.knows j u t.1 in others shape w w' j u same ku
+              (λ k. ⊎_elim
+              (λ (stays : lists k ≡ w.core.lists k). ap (λ (l : Lists). hold_of j w.whose k (w.core.holder k) (w.log k) l (w.lost k)) stays)
+              (λ (by_pass : IsHeldByPass w pass k).
+              let mine : IsMineOrFree w.whose pass (w.core.holder k) = subst (IsMineOrFree w.whose pass) (sym by_pass.holder_is) by_pass.mine in
+              hold_of_other w.whose pass j k (w.core.holder k) (w.log k) (lists k) (w.lost k) mine t.0 ∙ sym (hold_of_other w.whose pass j k (w.core.holder k) (w.log k) (w.core.lists k) (w.lost k) mine t.0))
+              (moves.under k))
+              (λ e c _. ⊎_elim
+              (λ (stays : owner e ≡ w.core.owner e). ap (λ (o : Owner). is_hand_of c o && eqb (w.whose c) j) stays)
+              (λ (ours : IsOwnerOfPass w.whose pass (w.core.owner e) × IsOwnerOfPass w.whose pass (owner e)). not_their_owner w.whose pass j c (owner e) ours.1 t.0 ∙ sym (not_their_owner w.whose pass j c (w.core.owner e) ours.0 t.0))
+              (moves.owners e))
+              (λ e c _. ⊎_elim
+              (λ (stays : home e ≡ w.core.home e). ap (λ (h : Home). is_home_of c h && eqb (w.whose c) j) stays)
+              (λ (ours : IsHomeOfPass w.whose pass (w.core.home e) × IsHomeOfPass w.whose pass (home e)). not_their_home w.whose pass j c (home e) ours.1 t.0 ∙ sym (not_their_home w.whose pass j c (w.core.home e) ours.0 t.0))
+              (moves.homes e))
+              (λ _ _ _. refl)
+              (λ _ z. z)
+              ku.known
+              ku.bits)
+              (at_set s.views pass j nv u f);
+        },
+        refl,
+      )
+
+-- a lock that the pass knows to be held
+module _ (shape : Shape) (s : State Behind View) (r : Rule shape s) (pass : ℕ) (v : View) (at_pass : get_elem? s.views pass ≡ some v) (k : ℕ) (h : Hold) (found : hold_at k v.held ≡ Some h) where
+  pub held_there : HoldIs r.world.whose pass k (r.world.core.holder k) (r.world.log k) (r.world.core.lists k) (r.world.lost k) h
+  held_there =
+      let w = r.world in let kn = r.knows pass v at_pass in
+      hold_of_is w.whose pass k (w.core.holder k) (w.log k) (w.core.lists k) (w.lost k) h (sym (kn.held k) ∙ found)
+
+  pub by_pass_there : IsHeldByPass r.world pass k
+  by_pass_there = record { cpu = h.cpu; holder_is = held_there.holder_is; mine = held_there.mine }
+
+  -- what the pass knows to lie there does
+  pub now_there : h.now ≡ r.world.core.lists k
+  now_there = ap (λ (z : Hold). z.now) held_there.hold_is
+
+pub holds_there : (shape : Shape) (s : State Behind View) (r : Rule shape s) (pass : ℕ) (v : View) (at_pass : get_elem? s.views pass ≡ some v) (lock : DomainId) (h : Hold) → hold_at (lock_number shape lock) v.held ≡ Some h
+    → IsTrue (is_lock shape lock) → Holds shape r.world.core h.cpu lock
+holds_there shape s r pass v at_pass lock h found is =
+    let at = held_there shape s r pass v at_pass (lock_number shape lock) h found in
+    record { is_cpu = r.ranked.within h.cpu (lock_number shape lock) at.holder_is; is_lock = is; held = at.holder_is }

@@ -1,0 +1,50 @@
+//! The step on the home of an element, by the seat of a pass: it goes from the lists of a lock, or from a hand that carries
+//! it, to others.
+
+ghost use Rattle.std.specs.Prelude.{◌≡◌, ◌<◌, true, IsTrue};
+ghost use Rattle.place_words.specs.declared.home.Home as homes;
+ghost use Rattle.place_words.specs.Codes.{home_code};
+ghost use Rattle.place_table.specs.Views.{is_among};
+ghost use Rattle.place_table.specs.Rules.{word_count, home_word};
+ghost use Rattle.place_table.specs.Plays.{IsKnownHome, MayGoHome, Rehomes};
+
+use crate::rule::{Desk, Place, Rehoming, Way};
+use map_types::DomainId;
+use place_words::Home;
+
+/// The number by which a home is kept, for any home.
+fn code_of(home: Home) -> u64
+    ensures { result ≡ home_code home }
+{
+    match home {
+        Home::Hand(cpu) => 1 + cpu as u64,
+        Home::In(DomainId::Local(cpu)) => 32 + cpu as u64,
+        Home::In(DomainId::Global) => 64,
+        Home::In(DomainId::CpuLru(cpu)) => 96 + cpu as u64,
+        Home::Unlisted | Home::In(DomainId::Bucket(_) | DomainId::Freelist(_)) => 0,
+    }
+}
+
+/// Takes an element from the home that it has to the head of another, on a map whose CPUs share its lists.
+pub(crate) fn rehome_word<N: Way>(
+    desk: &Desk,
+    seat: &mut Place,
+    element: u32,
+    word: usize,
+    to: Home,
+    cpu: u32,
+)
+    requires table { seat.old.table_id ≡ desk.now.table_id }
+    requires words { (desk.now.table_id.words ≡ word_count desk.now.key) × (word ≡ home_word desk.now.key element) }
+    requires way { (N.element ≡ element) × (N.to ≡ to) }
+    requires element { IsTrue desk.now.key.common × (element < desk.now.key.elements) }
+    requires cpu { is_among cpu seat.old.me.0.cpus ≡ true }
+    requires home { (from : homes.Home) × IsKnownHome desk.now.key seat.old.me.0 cpu element from }
+    requires goes { MayGoHome desk.now.key seat.old.me.0 cpu element to }
+    ensures seat { (seat.new.table_id ≡ seat.old.table_id) × (seat.new.id ≡ seat.old.id) }
+    ensures rehomed { Rehomes element to seat.old.me seat.new.me }
+{
+    let _ = element;
+    let _ = cpu;
+    desk.store::<Rehoming<N>>(seat, word, code_of(to));
+}
