@@ -1,0 +1,46 @@
+-- What is in the hands of a pass while an element of its bucket is on its way to a freelist.
+use Rattle.std.proofs.Common.{◌≡◌, ℕ, ◌<◌, true, false, List, sym, refl, ap, ◌∙◌, subst, arith, Some}
+use Rattle.map_types.specs.declared.attr.Shape.{Shape}
+use Rattle.map_types.specs.Kind.{is_lru}
+use Rattle.map_types.specs.Stored.{Stored}
+use Rattle.place_words.specs.Bodies.{present, numbers}
+use Rattle.place_words.specs.ElementLists.{times, IsIn}
+use Rattle.place_words.proofs.BucketLaws.{present_is_in}
+use Rattle.place_core.specs.declared.step.Lists.{Lists}
+use Rattle.place_core.specs.State.{rows}
+use Rattle.place_core.proofs.ElementLemmas.{by_test}
+use Rattle.place_table.specs.declared.view.InHand.{InHand}
+use Rattle.place_table.specs.Passes.{PassView, TableView}
+use Rattle.place_table.specs.Views.{is_among, is_in_hand_of, with_in_hand, without_in_hand}
+use Rattle.place_table.proofs.Entries.{append_nil}
+use Rattle.place_table.proofs.Hands.{in_hand_less, in_hand_more_else, in_hand_less_else}
+use Rattle.place_table.proofs.Worlds.{by_bool}
+use Rattle.hash_ops.specs.Under.{InBucket}
+
+-- what comes to a hand where it wasn't, and leaves it again, leaves all hands as they were
+pub hand_back : (e cpu : ℕ) (hand : List InHand) → is_in_hand_of e cpu hand ≡ false → (x c : ℕ) → is_in_hand_of x c (without_in_hand e cpu (with_in_hand e cpu hand)) ≡ is_in_hand_of x c hand
+hand_back e cpu hand none x c =
+    let here : is_in_hand_of e cpu (without_in_hand e cpu (with_in_hand e cpu hand)) ≡ is_in_hand_of e cpu hand = in_hand_less e cpu (with_in_hand e cpu hand) ∙ sym none in
+    let else : (x ≡ e → c ≡ cpu → ⊥) → is_in_hand_of x c (without_in_hand e cpu (with_in_hand e cpu hand)) ≡ is_in_hand_of x c hand =
+    λ other. in_hand_less_else x c e cpu (with_in_hand e cpu hand) other ∙ in_hand_more_else x c e cpu hand other in
+    by_test x e (λ _. is_in_hand_of x c (without_in_hand e cpu (with_in_hand e cpu hand)) ≡ is_in_hand_of x c hand)
+    (λ same. by_test c cpu (λ _. is_in_hand_of x c (without_in_hand e cpu (with_in_hand e cpu hand)) ≡ is_in_hand_of x c hand)
+    (λ mine. (λ i. is_in_hand_of (same i) (mine i) (without_in_hand e cpu (with_in_hand e cpu hand))) ∙ (here ∙ (λ i. is_in_hand_of (sym same i) (sym mine i) hand)))
+    (λ other. else (λ _ mine. other mine)))
+    (λ other. else (λ same _. other same))
+
+-- the element of a key of the bucket lies there, is one of the map's and is in no hand
+module _ (t : TableView) (bucket : ℕ) (q : PassView) (bodies : List Stored) (b : InBucket t bucket q bodies) (key : List ℕ) (body : Stored) (found : present key bodies ≡ Some body) where
+  pub lies_there : IsIn body.element (rows b.hold.now)
+  lies_there = subst (λ (l : Lists). IsIn body.element (rows l)) (sym b.now) (subst (λ (l : List ℕ). IsIn body.element l) (sym (append_nil (numbers bodies))) (present_is_in key bodies body found))
+
+  pub is_real : body.element < t.shape.elements
+  is_real = b.elements.rows_real body.element lies_there
+
+  pub not_in_hand : is_lru t.shape.kind ≡ false → (cpu : ℕ) → is_among cpu q.view.cpus ≡ true → is_in_hand_of body.element cpu q.view.hand ≡ false
+  not_in_hand plain cpu mine =
+      by_bool (is_in_hand_of body.element cpu q.view.hand) (λ z. z ≡ false)
+      (λ in_hand.
+      let none : times body.element (rows b.hold.now) ≡ 0 = (b.apart body.element cpu mine in_hand).1 (ap (λ (s : Shape). is_lru s.kind) b.of_table.1 ∙ plain) in
+      absurd (omega (arith, none, lies_there)))
+      (λ _. refl)

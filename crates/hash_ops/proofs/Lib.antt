@@ -1,0 +1,12 @@
+pub mod Added
+pub mod BucketTurns
+pub mod Ends
+pub mod FreeTurns
+pub mod Gone
+pub mod HandLemmas
+pub mod Looks
+pub mod Pops
+pub mod Pushes
+pub mod Replaced
+pub mod Turning
+pub mod Under

@@ -1,0 +1,114 @@
+-- A push puts an element on a freelist, which has room for it.
+use Rattle.std.proofs.Common.{◌≡◌, ℕ, zero, suc, ◌<◌, ◌≤◌, cond, List, [], ◌∷◌, length, sym, refl, ap, ◌∙◌, subst, arith}
+use Rattle.std.specs.Prelude.{IsTrue}
+use Rattle.std.proofs.lemmas.List.{length-map}
+use Rattle.std.proofs.lemmas.List.Elements.{All-cons}
+use Rattle.map_types.specs.declared.kind.DomainId.TheVariants.{Freelist}
+use Rattle.map_types.specs.Stored.{Stored}
+use Rattle.cpu_freelist.specs.Stack.{FreelistView}
+use Rattle.place_words.specs.declared.free_part.FreePart.TheVariants as turns
+use Rattle.place_words.specs.declared.history.Part.{Part}
+use Rattle.place_words.specs.declared.history.Part.TheVariants as parts
+use Rattle.place_words.specs.Bodies.{numbers}
+use Rattle.place_words.specs.ElementLists.{times}
+use Rattle.place_words.specs.Histories.{on_freelist}
+use Rattle.place_words.specs.Locks.{is_lock, lock_number}
+use Rattle.place_words.specs.Traces.{on_freelist_of}
+use Rattle.place_core.specs.declared.step.Lists.{Lists}
+use Rattle.place_core.specs.State.{rows}
+use Rattle.place_core.specs.Steps.{with_free, without_row}
+use Rattle.place_core.specs.Totals.{sum_below}
+use Rattle.place_core.proofs.ElementLemmas.{by_test}
+use Rattle.place_core.proofs.TotalLemmas.{length_counts}
+use Rattle.place_table.specs.declared.content.Content.TheVariants as contents
+use Rattle.place_table.specs.Contents.{IsSized}
+use Rattle.place_table.specs.Passes.{PassView, TableView, Takes, CanGive, Gave, Goes, with_view}
+use Rattle.place_table.specs.Views.{no_notes, now_under, settled, moved, without_in_hand}
+use Rattle.place_table.proofs.Gives.{taken_of_table, taken_begun}
+use Rattle.place_table.proofs.Going.{given_turn, goes_moved, goes_of_table, goes_begun, learns_nothing}
+use Rattle.hash_ops.specs.Free.{CanPush, Pushed}
+use Rattle.hash_ops.proofs.FreeTurns.{with_top, free_is, number_is, no_marks, reached_once, turn_is}
+use Rattle.hash_ops.proofs.Turning.{IsUnder, under_taken, under_now, under_moved, can_give}
+
+-- a freelist whose numbers are distinct and the map's has room for one that isn't on it
+
+sum_few : (n : ℕ) (f : ℕ → ℕ) → ((e : ℕ) → f e ≤ 1) → sum_below n f ≤ n
+sum_few zero f few = omega arith
+sum_few (suc n) f few =
+    let rest = sum_few n f few in
+    let last = few n in
+    omega arith
+
+pub few_of : (n : ℕ) (xs : List ℕ) → ((x : ℕ) → times x xs ≤ 1) → ((x : ℕ) → 0 < times x xs → x < n) → length xs ≤ n
+few_of n xs once below =
+    let counts = length_counts n xs none in
+    let few = sum_few n (λ x. times x xs) once in
+    omega arith
+  where
+    none : (x : ℕ) → n ≤ x → times x xs ≡ 0
+    none x past = by_zero (times x xs) (below x)
+      where
+        by_zero : (m : ℕ) → (0 < m → x < n) → m ≡ 0
+        by_zero zero real = refl
+        by_zero (suc m) real = absurd (omega (arith, real (omega arith)))
+
+room_for : (n e : ℕ) (xs : List ℕ) → e < n → times e xs ≡ 0 → ((x : ℕ) → times x xs ≤ 1) → ((x : ℕ) → 0 < times x xs → x < n) → length xs < n
+room_for n e xs real absent once below =
+    few_of n (e ∷ xs)
+    (λ x. by_test e x (λ b. cond b (suc (times x xs)) (times x xs) ≤ 1) (λ is. let gone : times x xs ≡ 0 = subst (λ (z : ℕ). times z xs ≡ 0) is absent in omega arith) (λ _. once x))
+    (λ x. by_test e x (λ b. 0 < cond b (suc (times x xs)) (times x xs) → x < n) (λ is _. subst (λ (z : ℕ). z < n) is real) (λ _ there. below x there))
+
+module _ {t : TableView} {cpu : ℕ} {p q : PassView} {f : FreelistView} {body : Stored} (took : Takes t (Freelist cpu) p q (contents.Freelist f)) (can : CanPush t body p) where
+  pub push_room : length f.bodies < f.room
+  push_room =
+      let free = free_is t cpu p q f took in
+      let absent : times body.element (numbers f.bodies) ≡ 0 = ap (times body.element) (sym free) ∙ (took.apart body.element p.cpu can.can.begun can.in_hand).0 in
+      let once : (e : ℕ) → times e (numbers f.bodies) ≤ 1 = subst (λ (l : List ℕ). (e : ℕ) → times e l ≤ 1) free took.elements.free_once in
+      let real : (e : ℕ) → 0 < times e (numbers f.bodies) → e < t.shape.elements = subst (λ (l : List ℕ). (e : ℕ) → 0 < times e l → e < t.shape.elements) free took.elements.free_real in
+      let few = room_for t.shape.elements body.element (numbers f.bodies) can.real absent once real in
+      let long = length-map f.bodies (λ (b : Stored). b.element) in
+      let room = took.fits.1 in
+      omega arith
+
+  module _ {r : PassView} {new : FreelistView} {e : ℕ} (is_there : IsTrue (is_lock t.shape (Freelist cpu))) (same : e ≡ body.element) (settled_is : r ≡ with_view q (settled (Freelist cpu) e q.cpu q.view)) (on_top : new ≡ with_top body f) where
+    -- what lies under the lock once it is free
+    under_pushed : IsUnder p r took.hold (with_free e (without_row e took.hold.now)) no_notes
+    under_pushed =
+        let here = contents.Freelist f in
+        let k : ℕ = lock_number q.view.shape (Freelist cpu) in
+        let number : took.hold.lock ≡ k = number_is t cpu p q here took can.can.of_table in
+        let before = under_taken t (Freelist cpu) p q here took in
+        under_moved p q r took.hold took.hold.now (with_free e (without_row e took.hold.now)) no_notes k (without_in_hand e q.cpu q.view.hand) before number
+        (settled_is ∙ ap (λ (now : Lists). with_view q (moved k (with_free e (without_row e now)) (without_in_hand e q.cpu q.view.hand) q.view)) (under_now p q took.hold took.hold.now no_notes k before number))
+
+    goes_pushed : Goes q r [] []
+    goes_pushed = goes_moved (lock_number q.view.shape (Freelist cpu)) (with_free e (without_row e (now_under (Freelist cpu) q.view))) (without_in_hand e q.cpu q.view.hand) q r settled_is
+
+    pub can_give_pushed : CanGive t (Freelist cpu) r (contents.Freelist new) (parts.Free (turns.Pushed e))
+    can_give_pushed =
+        let here = contents.Freelist f in
+        let given : CanGive t (Freelist cpu) r (contents.Freelist (with_top body f)) (parts.Free (turns.Pushed e)) =
+        can_give t (Freelist cpu) p q r here (contents.Freelist (with_top body f)) (parts.Free (turns.Pushed e)) (with_free e (without_row e took.hold.now)) no_notes took
+        under_pushed
+        (goes_of_table t q r [] [] goes_pushed (taken_of_table t (Freelist cpu) p q here took can.can.of_table))
+        (goes_begun q r [] [] goes_pushed (taken_begun t (Freelist cpu) p q here took can.can.begun))
+        is_there
+        (All-cons (IsSized t.shape) body f.bodies can.sized took.fits.0, took.fits.1)
+        tt
+        (ap (λ (x : ℕ). on_freelist (x ∷ numbers f.bodies)) (sym same))
+        (λ x. λ i. times x (sym same i ∷ sym (free_is t cpu p q f took) i))
+        (λ x. ap (λ (l : Lists). times x (rows (without_row e l))) (sym took.now))
+        (no_marks t.shape (turns.Pushed e)) in
+        subst (λ (z : FreelistView). CanGive t (Freelist cpu) r (contents.Freelist z) (parts.Free (turns.Pushed e))) (sym on_top) given
+
+    pub pushed_once : (s : PassView) → cpu ≡ p.cpu → cpu < t.shape.cpus → Gave r s (parts.Free (turns.Pushed e)) → Pushed t body p s
+    pushed_once s mine within gave =
+        let here = contents.Freelist f in
+        let part : Part = parts.Free (turns.Pushed e) in
+        let now : Lists = with_free e (without_row e took.hold.now) in
+        let learns = learns_nothing t.shape q.view r.view (ap (λ (z : PassView). z.view.known) settled_is) (ap (λ (z : PassView). z.view.cpus) settled_is) (ap (λ (z : PassView). z.view.shape) settled_is) in record {
+          step = given_turn r gave.hold part;
+          reached = reached_once t cpu p q r s here (contents.Freelist new) part now took within goes_pushed (ap (λ (z : PassView). z.spares) settled_is) (ap (λ (z : PassView). z.view.bits) settled_is) learns under_pushed can_give_pushed gave;
+          turn = turn_is t cpu p q r s here (turns.Pushed e) now took is_there under_pushed gave ∙ (λ i. on_freelist_of (mine i) (turns.Pushed (same i)));
+          hand = ap (λ (z : PassView). z.view.hand) gave.after_is ∙ (ap (λ (z : PassView). z.view.hand) settled_is ∙ (ap (λ (z : PassView). without_in_hand e z.cpu z.view.hand) took.after_is ∙ ap (λ (x : ℕ). without_in_hand x p.cpu p.view.hand) same));
+        }

@@ -1,0 +1,101 @@
+-- A turn with calls inside it: from its take and what lies under the lock to its give, and what is left of the pass then.
+use Rattle.std.proofs.Common.{◌≡◌, ℕ, cond, List, [], ◌∷◌, ◌++◌, sym, refl, ap, ◌∙◌, subst}
+use Rattle.std.specs.Prelude.{IsTrue}
+use Rattle.map_types.specs.declared.kind.DomainId.{DomainId}
+use Rattle.place_words.specs.declared.history.Part.{Part}
+use Rattle.place_words.specs.ElementLists.{times}
+use Rattle.place_words.specs.Histories.{content, content_after, Allows}
+use Rattle.place_words.specs.Locks.{is_lock, lock_named, lock_number}
+use Rattle.place_words.proofs.LockLemmas.{named_by_number}
+use Rattle.place_core.specs.declared.step.Lists.{Lists}
+use Rattle.place_core.specs.State.{rows}
+use Rattle.place_core.proofs.ElementLemmas.{by_test}
+use Rattle.place_table.specs.declared.content.Content.{Content}
+use Rattle.place_table.specs.declared.view.Hold.{Hold}
+use Rattle.place_table.specs.declared.view.InHand.{InHand}
+use Rattle.place_table.specs.declared.view.Notes.{Notes}
+use Rattle.place_table.specs.declared.view.Turned.{Turned}
+use Rattle.place_table.specs.Contents.{told, lists_of, Fits}
+use Rattle.place_table.specs.Known.{Learns}
+use Rattle.place_table.specs.Passes.{PassView, TableView, IsPassOf, HasBegun, Takes, CanGive, Gave, Goes, Made, with_view, entry_of}
+use Rattle.place_table.specs.TurnNotes.{NotesFit}
+use Rattle.place_table.specs.Views.{no_notes, now_at, with_now, moved, learned, holds_below, notes_below}
+use Rattle.place_table.proofs.Entries.{append_nil}
+use Rattle.place_table.proofs.Going.{AreElsewhere, given_turn, goes_on, goes_took, goes_gave, learns_turn, same_head}
+use Rattle.place_table.proofs.Hands.{with_lists}
+
+-- The lock of this hold was taken by p and is still the one that r took last: these lists lie under it, with these notes.
+pub record IsUnder (p r : PassView) (hold : Hold) (now : Lists) (notes : Notes) : Type 0 where
+  pub held : r.view.held ≡ with_lists now hold ∷ p.view.held
+  pub notes_are : r.view.notes ≡ notes ∷ p.view.notes
+
+pub under_taken : (t : TableView) (lock : DomainId) (p q : PassView) (here : Content) (took : Takes t lock p q here) → IsUnder p q took.hold took.hold.now no_notes
+under_taken t lock p q here took = record {
+  held = ap (λ (z : PassView). z.view.held) took.after_is;
+  notes_are = ap (λ (z : PassView). z.view.notes) took.after_is;
+}
+
+-- the lists under it, as a step reads them, and others after the step
+pub under_now : (p r : PassView) (hold : Hold) (now : Lists) (notes : Notes) (k : ℕ) → IsUnder p r hold now notes → hold.lock ≡ k → now_at k r.view.held ≡ now
+under_now p r hold now notes k under is =
+    ap (now_at k) under.held
+    ∙ by_test hold.lock k (λ b. cond b now (now_at k p.view.held) ≡ now) (λ _. refl) (λ other. absurd (other is))
+
+pub under_moved : (p q r : PassView) (hold : Hold) (now later : Lists) (notes : Notes) (k : ℕ) (hand : List InHand) → IsUnder p q hold now notes → hold.lock ≡ k → r ≡ with_view q (moved k later hand q.view) → IsUnder p r hold later notes
+under_moved p q r hold now later notes k hand under is after_is = record {
+  held = ap (λ (z : PassView). z.view.held) after_is ∙ (ap (with_now k later) under.held
+      ∙ by_test hold.lock k (λ b. cond b (with_lists later hold ∷ p.view.held) (with_lists now hold ∷ with_now k later p.view.held) ≡ with_lists later hold ∷ p.view.held) (λ _. refl) (λ other. absurd (other is)));
+  notes_are = ap (λ (z : PassView). z.view.notes) after_is ∙ under.notes_are;
+}
+
+-- What was taken may be given back as something else: by a part that leads there, with the elements that lie there now.
+pub can_give : (t : TableView) (lock : DomainId) (p q r : PassView) (here back : Content) (part : Part) (now : Lists) (notes : Notes) (took : Takes t lock p q here) → IsUnder p r took.hold now notes
+    → IsPassOf t r → HasBegun r → IsTrue (is_lock t.shape lock) → Fits t.shape lock back → Allows t.shape r.cpu part (told here) → told back ≡ content_after t.shape r.cpu part (told here)
+    → ((e : ℕ) → times e (lists_of (told back)).free ≡ times e now.free) → ((e : ℕ) → times e (rows (lists_of (told back))) ≡ times e (rows now)) → NotesFit t.shape part notes → CanGive t lock r back part
+can_give t lock p q r here back part now notes took under of_table begun there fits allowed leads same_free same_rows notes_fit =
+    let named : lock_named t.shape took.hold.lock ≡ lock = ap (lock_named t.shape) took.lock_is ∙ named_by_number t.shape lock there in
+    let told_there : told here ≡ content t.shape (lock_named t.shape took.hold.lock) took.hold.log = took.told_is ∙ ap (λ (d : DomainId). content t.shape d took.hold.log) (sym named) in record {
+      of_table = of_table;
+      begun = begun;
+      hold = with_lists now took.hold;
+      below = p.view.held;
+      innermost = under.held;
+      notes = notes;
+      notes_below = p.view.notes;
+      notes_are = under.notes_are;
+      there = there;
+      lock_is = took.lock_is;
+      may_put = record {
+        cpu = begun;
+        told_is = leads ∙ ap (content_after t.shape r.cpu part) told_there;
+        fits = subst (λ (d : DomainId). Fits t.shape d back) (sym named) fits;
+        allowed = subst (Allows t.shape r.cpu part) told_there allowed;
+        same_free = same_free;
+        same_rows = same_rows;
+      };
+      notes_fit = notes_fit;
+    }
+
+-- the hold that was given back is that of the take
+pub given_hold : (p r s : PassView) (hold : Hold) (now : Lists) (notes : Notes) (part : Part) (gave : Gave r s part) → IsUnder p r hold now notes → gave.hold ≡ with_lists now hold
+given_hold p r s hold now notes part gave under = same_head (sym gave.innermost ∙ under.held)
+
+-- from the take to the give, with these turns between them
+pub turn_made : (t : TableView) (lock : DomainId) (p q r s : PassView) (here : Content) (inner : List Turned) (lost : List ℕ) (part : Part) (now : Lists) (notes : Notes) (took : Takes t lock p q here) → Goes q r inner lost
+    → IsUnder p r took.hold now notes → (gave : Gave r s part) → Made p s (inner ++ given_turn r gave.hold part ∷ []) lost
+turn_made t lock p q r s here inner lost part now notes took goes under gave = record {
+  goes = goes_on p r s inner (given_turn r gave.hold part ∷ []) lost [] (subst (Goes p r inner) (append_nil lost) (goes_on p q r [] inner [] lost (goes_took t lock p q here took) goes)) (goes_gave r s part gave);
+  held = ap (λ (z : PassView). z.view.held) gave.after_is ∙ ap holds_below under.held;
+  notes = ap (λ (z : PassView). z.view.notes) gave.after_is ∙ ap notes_below under.notes_are;
+}
+
+pub turn_learns : (t : TableView) (lock : DomainId) (p q r s : PassView) (here back : Content) (inner : List Turned) (part : Part) (now : Lists) (notes : Notes) (took : Takes t lock p q here) → IsUnder p r took.hold now notes
+    → CanGive t lock r back part → AreElsewhere (lock_number t.shape lock) inner → Learns t.shape q.view r.view inner → (gave : Gave r s part) → Learns t.shape p.view s.view (inner ++ given_turn r gave.hold part ∷ [])
+turn_learns t lock p q r s here back inner part now notes took under can apart learns gave =
+    let taken : can.hold ≡ with_lists now took.hold = same_head (sym can.innermost ∙ under.held) in
+    let same : can.hold ≡ gave.hold = taken ∙ sym (given_hold p r s took.hold now notes part gave under) in
+    subst (λ (h : Hold). Learns t.shape p.view s.view (inner ++ given_turn r h part ∷ [])) same
+    (learns_turn t lock p q r here back inner part s.view took can
+    (λ log known. ap (λ (h : Hold). h.log) taken ∙ took.known log known) apart learns
+    (ap (λ (z : PassView). z.view.known) gave.after_is ∙ ap (λ (h : Hold). learned h (entry_of r part) r.view) (sym same))
+    (ap (λ (z : PassView). z.view.cpus) gave.after_is) (ap (λ (z : PassView). z.view.shape) gave.after_is))

@@ -1,0 +1,528 @@
+-- What a call does while it holds the bucket of its key, up to where it gives it back.
+use Rattle.std.proofs.Common.{◌≡◌, ◌≢◌, ℕ, ◌<◌, cond, true, false, List, [], ◌∷◌, ◌++◌, length, map, get_or, inr, ⊎_elim, sym, refl, ap, ◌∙◌, subst, arith, Option, Some, None}
+use Rattle.std.specs.Prelude.{◌&&◌, ◌≤◌, not, zero, suc, slice_get, IsTrue, IfSome, All}
+use Rattle.std.proofs.lemmas.Option.{slice_get_cases}
+use Rattle.std.proofs.lemmas.List.Elements.{All-nil, All-cons, All-append}
+use Rattle.std.proofs.lemmas.Bool.{lt-ltb}
+use Rattle.std.proofs.lemmas.List.{map-append}
+use Rattle.map_types.specs.declared.attr.Shape.{Shape}
+use Rattle.map_types.specs.declared.call.Verb.{Verb}
+use Rattle.map_types.specs.declared.call.Verb.TheVariants as verbs
+use Rattle.map_types.specs.declared.kind.Side.{Side}
+use Rattle.map_types.specs.declared.kind.DomainId.{DomainId}
+use Rattle.map_types.specs.declared.kind.DomainId.TheVariants.{Bucket, Freelist}
+use Rattle.map_types.specs.declared.reply.Reply.{Reply}
+use Rattle.map_types.specs.Creation.{IsShape}
+use Rattle.map_types.specs.Kind.{is_lru}
+use Rattle.map_types.specs.Stored.{Stored}
+use Rattle.percpu_values.specs.BodyList.{BodyList}
+use Rattle.bucket_chain.specs.Turns.{IsTurn}
+use Rattle.place_words.specs.declared.bucket_part.BucketPart.{BucketPart}
+use Rattle.place_words.specs.declared.bucket_part.BucketPart.TheVariants.{Update}
+use Rattle.place_words.specs.declared.bucket_part.Put.{Put}
+use Rattle.place_words.specs.declared.history.Part.{Part}
+use Rattle.place_words.specs.declared.history.Part.TheVariants as parts
+use Rattle.place_words.specs.declared.history.StrandStep.{StrandStep}
+use Rattle.place_words.specs.Bodies.{numbers}
+use Rattle.place_words.specs.Buckets.{bucket_marks}
+use Rattle.place_words.specs.ElementLists.{times, IsIn}
+use Rattle.place_words.specs.Histories.{in_bucket, content, content_after, Allows}
+use Rattle.place_words.specs.Locks.{is_lock, lock_named, lock_number, rank_of}
+use Rattle.place_words.specs.Traces.{Turn, IsTrace, LooksFor, reply_of_put, bucket_of_key, on_bucket_of, spare_after}
+use Rattle.place_words.proofs.LockLemmas.{named_by_number}
+use Rattle.place_core.specs.declared.step.Lists.{Lists}
+use Rattle.place_core.specs.State.{rows}
+use Rattle.place_core.specs.Steps.{with_row, without_row}
+use Rattle.place_core.proofs.ElementLemmas.{by_test}
+use Rattle.place_table.specs.declared.content.Content.{Content}
+use Rattle.place_table.specs.declared.content.Content.TheVariants as contents
+use Rattle.place_table.specs.declared.view.View.{View}
+use Rattle.place_table.specs.declared.view.Hold.{Hold}
+use Rattle.place_table.specs.declared.view.InHand.{InHand}
+use Rattle.place_table.specs.declared.view.Notes.{Notes}
+use Rattle.place_table.specs.declared.view.Turned.{Turned}
+use Rattle.place_table.specs.Contents.{told, lists_of, Fits, IsSized}
+use Rattle.place_table.specs.Known.{Learns, turn_of, IsBy}
+use Rattle.place_table.specs.Passes.{PassView, TableView, IsInNoCall, SparesDiffer, CanAttach, CanMark, Takes, CanGive, GaveSome, GaveBack, MayGiveBack, Goes, spare_of, with_view, with_spares, entry_of}
+use Rattle.place_table.specs.Plays.{IsApartFromHands}
+use Rattle.place_table.specs.Rules.{IsAboveAll}
+use Rattle.place_table.specs.TurnNotes.{BucketNotesFit}
+use Rattle.place_table.specs.Views.{is_among, hold_at, now_at, now_under, attached, detached, with_in_hand, without_in_hand, is_in_hand_of, known_log, holding, given, with_lost, moved, with_now, no_notes, notes_below, holds_below}
+use Rattle.place_table.proofs.Going.{goes_on, goes_nowhere, goes_took, goes_moved, goes_spared, goes_gave, goes_gave_some, goes_of_table, goes_begun, given_turn, same_head, learns_on, learns_nothing, learns_took, learns_given, AreElsewhere}
+use Rattle.place_table.proofs.Entries.{append_nil}
+use Rattle.place_table.proofs.Worlds.{by_bool, some_is, none_some, hold_at_first}
+use Rattle.place_table.proofs.Hands.{now_at_is}
+use Rattle.hash_ops.proofs.BucketTurns.{IsTurnWith}
+use Rattle.hash_ops.specs.Calls.{CanCall, Leaves, Called, CalledWhole, spare_element, element_of}
+use Rattle.hash_ops.specs.Free.{CanReach, Reached, AreOnFreelists}
+use Rattle.hash_ops.specs.declared.parts.Given.{Given}
+use Rattle.hash_ops.specs.Under.{InBucket, HasItsSpares, Enters, Finished, Answered, AnsweredWhole, Gives}
+
+-- Entering
+
+-- a map has a lock for each of its buckets
+pub bucket_there : (shape : Shape) (bucket : ℕ) → bucket < shape.buckets → IsTrue (is_lock shape (Bucket bucket))
+bucket_there shape bucket there = lt-ltb bucket shape.buckets there
+
+pub freelist_there : (shape : Shape) (cpu : ℕ) → is_lru shape.kind ≡ false → cpu < shape.cpus → IsTrue (is_lock shape (Freelist cpu))
+freelist_there shape cpu plain few = (λ i. not (plain i) && lt-ltb cpu shape.cpus few i)
+
+pub enters : (t : TableView) (bucket : ℕ) (p q : PassView) (chain : BodyList) → CanCall t p → bucket < t.shape.buckets → p.cpu < t.shape.cpus → Takes t (Bucket bucket) p q (contents.Bucket chain) → Enters t bucket p q chain
+enters t bucket p q chain can there few took =
+    let is = bucket_there t.shape bucket there in
+    let goes = goes_took t (Bucket bucket) p q (contents.Bucket chain) took in
+    let view : q.view ≡ holding took.hold p.view = ap (λ (z : PassView). z.view) took.after_is in
+    record {
+      took = took;
+      inside = record {
+        of_table = goes_of_table t p q [] [] goes can.of_table;
+        begun = goes_begun p q [] [] goes can.begun;
+        there = there;
+        cpu_there = subst (λ (c : ℕ). c < t.shape.cpus) (sym goes.cpu) few;
+        hold = took.hold;
+        below = p.view.notes;
+        held = ap (λ (v : View). v.held) view ∙ ap (λ (l : List Hold). took.hold ∷ l) can.in_no_call.holds_nothing;
+        notes = ap (λ (v : View). v.notes) view;
+        lock_is = took.lock_is;
+        cpu_is = took.cpu_is ∙ sym goes.cpu;
+        content_is = took.told_is;
+        now = took.now;
+        elements = took.elements;
+        apart = subst (λ (v : View). IsApartFromHands v took.hold.now) (sym view) took.apart;
+        sized = took.fits;
+        known = λ log is_known. took.known log (ap (λ (n : ℕ). known_log n p.view.known) (sym took.lock_is) ∙ (ap (λ (v : View). known_log took.hold.lock v.known) (sym view) ∙ is_known));
+      };
+      spares = record {
+        spares_only = λ e cpu has in_hand.
+            let x = can.in_no_call.spares_only e cpu (ap (λ (v : View). is_among cpu v.cpus) (sym view) ∙ has) (ap (λ (v : View). is_in_hand_of e cpu v.hand) (sym view) ∙ in_hand) in
+            (x.0, ap (λ (z : PassView). spare_of cpu z.spares) took.after_is ∙ x.1, x.2);
+        spares_in_hand = λ cpu body kept. ap (λ (v : View). is_in_hand_of body.element cpu v.hand) view ∙ can.in_no_call.spares_in_hand cpu body (ap (λ (z : PassView). spare_of cpu z.spares) (sym took.after_is) ∙ kept);
+        none_out = λ kind cpu has.
+            let x = can.in_no_call.none_out (ap (λ (v : View). v.shape.kind) (sym view) ∙ kind) cpu (ap (λ (v : View). is_among cpu v.cpus) (sym view) ∙ has) in
+            (x.0, ap (λ (z : PassView). spare_of cpu z.spares) took.after_is ∙ x.1);
+      };
+    }
+
+-- Under the bucket
+
+abbrev pub hold_with : Hold → Lists → Hold
+hold_with hold now = record { lock = hold.lock; cpu = hold.cpu; log = hold.log; now = now; lost = hold.lost }
+
+-- From where the bucket was taken: these turns of other locks were made, and this lies in the bucket now.
+pub record Under (t : TableView) (hold : Hold) (below : List Notes) (q r : PassView) (now : Lists) (inner : List Turned) : Type 0 where
+  pub goes : Goes q r inner []
+  pub held : r.view.held ≡ hold_with hold now ∷ []
+  pub notes : r.view.notes ≡ no_notes ∷ below
+  pub bits : r.view.bits ≡ q.view.bits
+  pub by_call : All (IsBy q.cpu q.call) inner
+  pub elsewhere : AreElsewhere hold.lock inner
+  pub learns : Learns t.shape q.view r.view inner
+
+pub under_nothing : (t : TableView) (bucket : ℕ) (q : PassView) (bodies : List Stored) (b : InBucket t bucket q bodies) → Under t b.hold b.below q q b.hold.now []
+under_nothing t bucket q bodies b = record {
+  goes = goes_nowhere q;
+  held = b.held;
+  notes = b.notes;
+  bits = refl;
+  by_call = All-nil (IsBy q.cpu q.call);
+  elsewhere = tt;
+  learns = learns_nothing t.shape q.view q.view refl refl refl;
+}
+
+-- an element was moved there
+pub under_moved : (t : TableView) (hold : Hold) (below : List Notes) (q r s : PassView) (now then : Lists) (inner : List Turned) (k : ℕ) (hand : List InHand) → Under t hold below q r now inner → k ≡ hold.lock → s ≡ with_view r (moved k then hand r.view) → Under t hold below q s then inner
+under_moved t hold below q r s now then inner k hand u k_is is = record {
+  goes = subst (λ (l : List Turned). Goes q s l []) (append_nil inner) (goes_on q r s inner [] [] [] u.goes (goes_moved k then hand r s is));
+  held = ap (λ (z : PassView). z.view.held) is ∙ (ap (with_now k then) u.held
+      ∙ by_test hold.lock k (λ b. cond b (record { lock = hold.lock; cpu = hold.cpu; log = hold.log; now = then; lost = hold.lost } ∷ []) (hold_with hold now ∷ []) ≡ hold_with hold then ∷ []) (λ _. refl) (λ other. absurd (other (sym k_is))));
+  notes = ap (λ (z : PassView). z.view.notes) is ∙ u.notes;
+  bits = ap (λ (z : PassView). z.view.bits) is ∙ u.bits;
+  by_call = u.by_call;
+  elsewhere = u.elsewhere;
+  learns = subst (λ (l : List Turned). Learns t.shape q.view s.view l) (append_nil inner)
+      (learns_on t.shape q.view r.view s.view inner [] u.learns (learns_nothing t.shape r.view s.view (ap (λ (z : PassView). z.view.known) is) (ap (λ (z : PassView). z.view.cpus) is) (ap (λ (z : PassView). z.view.shape) is)));
+}
+
+-- a spare was handed out or kept
+pub under_spared : (t : TableView) (hold : Hold) (below : List Notes) (q r s : PassView) (now : Lists) (inner : List Turned) → Under t hold below q r now inner → s ≡ with_spares r s.spares → Under t hold below q s now inner
+under_spared t hold below q r s now inner u is = record {
+  goes = subst (λ (l : List Turned). Goes q s l []) (append_nil inner) (goes_on q r s inner [] [] [] u.goes (goes_spared r s is));
+  held = ap (λ (z : PassView). z.view.held) is ∙ u.held;
+  notes = ap (λ (z : PassView). z.view.notes) is ∙ u.notes;
+  bits = ap (λ (z : PassView). z.view.bits) is ∙ u.bits;
+  by_call = u.by_call;
+  elsewhere = u.elsewhere;
+  learns = subst (λ (v : View). Learns t.shape q.view v inner) (sym (ap (λ (z : PassView). z.view) is)) u.learns;
+}
+
+-- freelists were looked at
+elsewhere_more : (k : ℕ) (first second : List Turned) → AreElsewhere k first → AreElsewhere k second → AreElsewhere k (first ++ second)
+elsewhere_more k [] second one other = other
+elsewhere_more k (step ∷ steps) second one other = (one.0, elsewhere_more k steps second one.1 other)
+
+not_here : (shape : Shape) (bucket cpu : ℕ) → bucket < shape.buckets → cpu < shape.cpus → is_lru shape.kind ≡ false → lock_number shape (Freelist cpu) ≢ lock_number shape (Bucket bucket)
+not_here shape bucket cpu there few plain same =
+    let first = named_by_number shape (Bucket bucket) (bucket_there shape bucket there) in
+    let second = named_by_number shape (Freelist cpu) (freelist_there shape cpu plain few) in
+    bucket_is_no_freelist bucket cpu (sym first ∙ (ap (lock_named shape) (sym same) ∙ second))
+  where
+    bucket_is_no_freelist : (bucket cpu : ℕ) → Bucket bucket ≡ Freelist cpu → ⊥
+    bucket_is_no_freelist bucket cpu e = cc
+
+pub elsewhere_on_freelists : (shape : Shape) (bucket k : ℕ) (steps : List Turned) → bucket < shape.buckets → is_lru shape.kind ≡ false → k ≡ lock_number shape (Bucket bucket) → AreOnFreelists shape steps → AreElsewhere k steps
+elsewhere_on_freelists shape bucket k [] there plain k_is on = tt
+elsewhere_on_freelists shape bucket k (step ∷ steps) there plain k_is on =
+    let first = on 0 step (omega arith) in (
+      (λ same. not_here shape bucket first.0 there first.1 plain (sym first.2 ∙ (same ∙ k_is))),
+      elsewhere_on_freelists shape bucket k steps there plain k_is (λ n d less. on (suc n) d (omega arith)),
+    )
+
+pub under_reached : (t : TableView) (bucket : ℕ) (q r s : PassView) (bodies : List Stored) (b : InBucket t bucket q bodies) (now : Lists) (inner steps : List Turned) → is_lru t.shape.kind ≡ false → Under t b.hold b.below q r now inner → Reached t r s steps → Under t b.hold b.below q s now (inner ++ steps)
+under_reached t bucket q r s bodies b now inner steps plain u reached = record {
+  goes = goes_on q r s inner steps [] [] u.goes reached.goes;
+  held = reached.held ∙ u.held;
+  notes = reached.notes ∙ u.notes;
+  bits = reached.bits ∙ u.bits;
+  by_call = All-append (IsBy q.cpu q.call) inner steps u.by_call (subst (λ (z : ℕ × ℕ). All (IsBy z.0 z.1) steps) (λ i. (u.goes.cpu i, u.goes.call i)) reached.by_call);
+  elsewhere = elsewhere_more b.hold.lock inner steps u.elsewhere (elsewhere_on_freelists t.shape bucket b.hold.lock steps b.there plain b.lock_is reached.on_freelists);
+  learns = learns_on t.shape q.view r.view s.view inner steps u.learns reached.learns;
+}
+
+-- freelists may be taken there
+pub may_reach : (t : TableView) (bucket : ℕ) (q r : PassView) (bodies : List Stored) (b : InBucket t bucket q bodies) (now : Lists) (inner : List Turned) → Under t b.hold b.below q r now inner → CanReach t r
+may_reach t bucket q r bodies b now inner u = record {
+  of_table = goes_of_table t q r inner [] u.goes b.of_table;
+  begun = goes_begun q r inner [] u.goes b.begun;
+  above = subst (IsAboveAll t.shape (rank_of (Freelist 0))) (sym u.held)
+      (subst (λ (d : DomainId). rank_of d < rank_of (Freelist 0)) (sym (ap (lock_named t.shape) b.lock_is ∙ named_by_number t.shape (Bucket bucket) (bucket_there t.shape bucket b.there))) (let low : 3 < 4 = omega arith in low), tt);
+}
+
+-- Giving back
+
+-- a part of a map that doesn't evict sets no bit
+no_marks : (shape : Shape) (part : BucketPart) → is_lru shape.kind ≡ false → [] ≡ cond (is_lru shape.kind) (bucket_marks part) []
+no_marks shape part plain = sym (ap (λ b. cond b (bucket_marks part) []) plain)
+
+pub can_give : (t : TableView) (bucket : ℕ) (q r : PassView) (bodies : List Stored) (b : InBucket t bucket q bodies) (now : Lists) (inner : List Turned) (back : BodyList) (part : BucketPart) → is_lru t.shape.kind ≡ false → Under t b.hold b.below q r now inner
+    → IsTurn t.shape q.cpu part bodies back.bodies → All (IsSized t.shape) back.bodies → ((x : ℕ) → times x (numbers back.bodies) ≡ times x (rows now)) → now.free ≡ [] → BucketNotesFit part no_notes
+    → CanGive t (Bucket bucket) r (contents.Bucket back) (parts.Bucket part)
+can_give t bucket q r bodies b now inner back part plain u turn sized counted no_free fits =
+    let is = bucket_there t.shape bucket b.there in
+    let named : lock_named t.shape b.hold.lock ≡ Bucket bucket = ap (lock_named t.shape) b.lock_is ∙ named_by_number t.shape (Bucket bucket) is in
+    let begun = goes_begun q r inner [] u.goes b.begun in
+    let found : in_bucket bodies ≡ content t.shape (lock_named t.shape b.hold.lock) b.hold.log = b.content_is ∙ ap (λ (d : DomainId). content t.shape d b.hold.log) (sym named) in
+    record {
+      of_table = goes_of_table t q r inner [] u.goes b.of_table;
+      begun = begun;
+      hold = hold_with b.hold now;
+      below = [];
+      innermost = u.held;
+      notes = no_notes;
+      notes_below = b.below;
+      notes_are = u.notes;
+      there = is;
+      lock_is = b.lock_is;
+      may_put = record {
+        cpu = begun;
+        told_is = ap in_bucket turn.left ∙ (ap (λ (c : ℕ). content_after t.shape c (parts.Bucket part) (in_bucket bodies)) (sym u.goes.cpu) ∙ ap (content_after t.shape r.cpu (parts.Bucket part)) found);
+        fits = subst (λ (d : DomainId). Fits t.shape d (contents.Bucket back)) (sym named) sized;
+        allowed = subst (Allows t.shape r.cpu (parts.Bucket part)) found (subst (λ (c : ℕ). Allows t.shape c (parts.Bucket part) (in_bucket bodies)) (sym u.goes.cpu) turn.allowed);
+        same_free = λ e. ap (times e) (sym no_free);
+        same_rows = λ e. ap (times e) (append_nil (numbers back.bodies)) ∙ counted e;
+      };
+      notes_fit = record { marks_are = no_marks t.shape part plain; no_clears = refl; seen = fits };
+    }
+
+-- whether memory for the entry was found or not
+pub may_give_back : (t : TableView) (lock : DomainId) (r : PassView) (here : Content) (part : Part) (found : Option Part) → CanGive t lock r here part → IfSome found (λ x. x ≡ part) → MayGiveBack t lock r here found
+may_give_back t lock r here part None can is = (part, can)
+may_give_back t lock r here part (Some x) can is = subst (CanGive t lock r here) (sym is) can
+
+-- What is left once the bucket is given back: one turn more, which is this one where its record isn't lost.
+pub record Left (t : TableView) (bucket : ℕ) (q r s : PassView) (inner : List Turned) (part : Part) : Type 0 where
+  pub last : Turned
+  pub lost : List ℕ
+  pub goes : Goes q s (inner ++ last ∷ []) lost
+  pub held : s.view.held ≡ []
+  pub notes : s.view.notes ≡ notes_below q.view.notes
+  pub bits : s.view.bits ≡ q.view.bits
+  pub by_call : All (IsBy q.cpu q.call) (inner ++ last ∷ [])
+  pub learns : Learns t.shape q.view s.view (inner ++ last ∷ [])
+  pub hand : s.view.hand ≡ r.view.hand
+  pub spares : s.spares ≡ r.spares
+  pub told : lost ≡ [] → turn_of t.shape last ≡ record { lock = Bucket bucket; part = part }
+
+left_by : (t : TableView) (bucket : ℕ) (q r s : PassView) (bodies : List Stored) (b : InBucket t bucket q bodies) (now : Lists) (inner : List Turned) (back : Content) (part stands : Part) (lost : List ℕ) (kept : List StrandStep) → Under t b.hold b.below q r now inner
+    → (can : CanGive t (Bucket bucket) r back stands) → Goes r s (given_turn r can.hold stands ∷ []) lost → s ≡ with_view r (with_lost (lost ++ r.view.lost) (given can.hold (entry_of r stands) kept r.view)) → (lost ≡ [] → stands ≡ part) → Left t bucket q r s inner part
+left_by t bucket q r s bodies b now inner back part stands lost kept u can goes is told =
+    let hold_is : can.hold ≡ hold_with b.hold now = same_head (sym can.innermost ∙ u.held) in
+    let last : Turned = given_turn r can.hold stands in
+    record {
+      last = last;
+      lost = lost;
+      goes = subst (λ (l : List ℕ). Goes q s (inner ++ last ∷ []) l) (append_nil lost) (goes_on q r s inner (last ∷ []) [] lost u.goes goes);
+      held = ap (λ (z : PassView). z.view.held) is ∙ ap holds_below u.held;
+      notes = ap (λ (z : PassView). z.view.notes) is ∙ (ap notes_below u.notes ∙ sym (ap notes_below b.notes));
+      bits = ap (λ (z : PassView). z.view.bits) is ∙ u.bits;
+      by_call = All-append (IsBy q.cpu q.call) inner (last ∷ []) u.by_call (All-cons (IsBy q.cpu q.call) last [] (u.goes.cpu, u.goes.call) (All-nil (IsBy q.cpu q.call)));
+      learns = learns_given t (Bucket bucket) q r back inner stands s.view can
+          (λ log known. ap (λ (h : Hold). h.log) hold_is ∙ b.known log (ap (λ (n : ℕ). known_log n q.view.known) b.lock_is ∙ known))
+          (subst (λ (n : ℕ). AreElsewhere n inner) b.lock_is u.elsewhere) u.learns
+          (ap (λ (z : PassView). z.view.known) is) (ap (λ (z : PassView). z.view.cpus) is) (ap (λ (z : PassView). z.view.shape) is);
+      hand = ap (λ (z : PassView). z.view.hand) is;
+      spares = ap (λ (z : PassView). z.spares) is;
+      told = λ none_lost. (λ i. record { lock = named i; part = told none_lost i });
+    }
+  where
+    named : lock_named t.shape can.hold.lock ≡ Bucket bucket
+    named = ap (lock_named t.shape) can.lock_is ∙ named_by_number t.shape (Bucket bucket) (bucket_there t.shape bucket b.there)
+
+cons_is_not : (x : ℕ) (xs : List ℕ) → x ∷ xs ≡ [] → ⊥
+cons_is_not x xs e = cc
+
+pub left : (t : TableView) (bucket : ℕ) (q r s : PassView) (bodies : List Stored) (b : InBucket t bucket q bodies) (now : Lists) (inner : List Turned) (back : Content) (part : Part) (found : Option Part) → Under t b.hold b.below q r now inner
+    → CanGive t (Bucket bucket) r back part → IfSome found (λ x. x ≡ part) → GaveBack t (Bucket bucket) r s back found → Left t bucket q r s inner part
+left t bucket q r s bodies b now inner back part None u can is gave =
+    left_by t bucket q r s bodies b now inner back part gave.part (gave.can.hold.lock ∷ []) r.view.kept u gave.can (goes_gave_some t (Bucket bucket) r s back gave) gave.after_is (λ none_lost. absurd (cons_is_not _ _ none_lost))
+left t bucket q r s bodies b now inner back part (Some x) u can is gave =
+    let hold_is : gave.hold ≡ can.hold = same_head (sym gave.innermost ∙ can.innermost) in
+    let recorded : Goes r s (given_turn r can.hold part ∷ []) [] = subst (λ (z : Hold × Part). Goes r s (given_turn r z.0 z.1 ∷ []) []) (λ i. (hold_is i, is i)) (goes_gave r s x gave) in
+    left_by t bucket q r s bodies b now inner back part part [] gave.kept u can recorded (gave.after_is ∙ (λ i. with_view r (given (hold_is i) (entry_of r (is i)) gave.kept r.view))) (λ _. refl)
+
+-- a part was given
+pub left_whole : (t : TableView) (bucket : ℕ) (q r s : PassView) (bodies : List Stored) (b : InBucket t bucket q bodies) (now : Lists) (inner : List Turned) (back : Content) (part found : Part) → Under t b.hold b.below q r now inner
+    → CanGive t (Bucket bucket) r back part → found ≡ part → GaveBack t (Bucket bucket) r s back (Some found) → (l : Left t bucket q r s inner part) × (l.lost ≡ [])
+unfolding left left_by
+left_whole t bucket q r s bodies b now inner back part found u can is gave = (left t bucket q r s bodies b now inner back part (Some found) u can is gave, refl)
+
+-- no part was given: the turn that is lost
+pub left_forgotten : (t : TableView) (bucket : ℕ) (q s : PassView) (bodies : List Stored) (b : InBucket t bucket q bodies) (back : Content) (part : Part) (gave : GaveSome t (Bucket bucket) q s back)
+    → (l : Left t bucket q q s [] part) × (l.last ≡ given_turn q gave.can.hold gave.part) × (l.lost ≡ gave.can.hold.lock ∷ [])
+unfolding left_by
+left_forgotten t bucket q s bodies b back part gave =
+    (left_by t bucket q q s bodies b b.hold.now [] back part gave.part (gave.can.hold.lock ∷ []) q.view.kept (under_nothing t bucket q bodies b) gave.can (goes_gave_some t (Bucket bucket) q s back gave) gave.after_is (λ none_lost. absurd (cons_is_not _ _ none_lost)), refl, refl)
+
+-- Answers
+
+-- a pass whose hands hold the same, and whose spares are the same, is in no call
+pub idle_same : (q s : PassView) → HasItsSpares q → s.view.held ≡ [] → s.view.cpus ≡ q.view.cpus → s.view.shape ≡ q.view.shape → s.spares ≡ q.spares → ((e c : ℕ) → is_in_hand_of e c s.view.hand ≡ is_in_hand_of e c q.view.hand) → IsInNoCall s
+idle_same q s has held cpus shape spares hand = record {
+  holds_nothing = held;
+  spares_only = λ e cpu mine in_hand.
+      let x = has.spares_only e cpu (ap (is_among cpu) (sym cpus) ∙ mine) (sym (hand e cpu) ∙ in_hand) in
+      (x.0, ap (spare_of cpu) spares ∙ x.1, x.2);
+  spares_in_hand = λ cpu body kept. hand body.element cpu ∙ has.spares_in_hand cpu body (ap (spare_of cpu) (sym spares) ∙ kept);
+  none_out = λ kind cpu mine.
+      let x = has.none_out (ap (λ (z : Shape). z.kind) (sym shape) ∙ kind) cpu (ap (is_among cpu) (sym cpus) ∙ mine) in
+      (x.0, ap (spare_of cpu) spares ∙ x.1);
+}
+
+-- what is left from where the call began
+pub leaves_of : (t : TableView) (bucket : ℕ) (p q s : PassView) (chain : BodyList) (steps : List Turned) (lost : List ℕ) → Takes t (Bucket bucket) p q (contents.Bucket chain) → p.view.held ≡ [] → Finished t q s steps lost → Leaves t p s steps lost
+leaves_of t bucket p q s chain steps lost took none_held f =
+    let first = goes_took t (Bucket bucket) p q (contents.Bucket chain) took in
+    record {
+      made = record {
+        goes = subst (λ (l : List ℕ). Goes p s steps l) (append_nil lost) (goes_on p q s [] steps [] lost first f.goes);
+        held = f.in_no_call.holds_nothing ∙ sym none_held;
+        notes = f.notes ∙ ap (λ (z : PassView). notes_below z.view.notes) took.after_is;
+      };
+      in_no_call = f.in_no_call;
+      by_call = subst (λ (z : PassView). All (IsBy z.cpu z.call) steps) took.after_is f.by_call;
+      other_spares = subst (λ (z : PassView). SparesDiffer z.cpu z.spares s.spares) took.after_is f.other_spares;
+      bits = f.bits ∙ ap (λ (z : PassView). z.view.bits) took.after_is;
+      learns = learns_on t.shape p.view q.view s.view [] steps (learns_took t (Bucket bucket) p q (contents.Bucket chain) took) f.learns;
+    }
+
+-- the bucket was given back after these turns, and spares stay
+pub answered_same : (t : TableView) (bucket : ℕ) (q r s : PassView) (verb : Verb) (reply : Reply) (inner : List Turned) (part : Part) (turns : List Turn) → HasItsSpares q → (l : Left t bucket q r s inner part) → r.spares ≡ q.spares
+    → ((e c : ℕ) → is_in_hand_of e c r.view.hand ≡ is_in_hand_of e c q.view.hand) → map (turn_of t.shape) inner ≡ turns
+    → IsTrace t.shape q.cpu (spare_element q) verb (turns ++ record { lock = Bucket bucket; part = part } ∷ []) reply
+    → spare_element q ≡ spare_after (spare_element q) (turns ++ record { lock = Bucket bucket; part = part } ∷ []) → Answered t q s verb reply
+answered_same t bucket q r s verb reply inner part turns has l spares hand turns_are trace spare =
+    let steps : List Turned = inner ++ l.last ∷ [] in
+    let whole : l.lost ≡ [] → map (turn_of t.shape) steps ≡ turns ++ record { lock = Bucket bucket; part = part } ∷ [] =
+    λ none_lost. map-append (turn_of t.shape) inner (l.last ∷ []) ∙ (λ i. turns_are i ++ l.told none_lost i ∷ []) in
+    let same_spares : s.spares ≡ q.spares = l.spares ∙ spares in
+    record {
+      steps = steps;
+      lost = l.lost;
+      finished = record {
+        goes = l.goes;
+        notes = l.notes;
+        bits = l.bits;
+        in_no_call = idle_same q s has l.held l.goes.cpus l.goes.shape same_spares (λ e c. ap (is_in_hand_of e c) l.hand ∙ hand e c);
+        by_call = l.by_call;
+        other_spares = λ other _. ap (spare_of other) same_spares;
+        learns = l.learns;
+      };
+      trace = λ none_lost. subst (λ (ts : List Turn). IsTrace t.shape q.cpu (spare_element q) verb ts reply) (sym (whole none_lost)) trace;
+      spare = λ none_lost. (λ i. element_of (spare_of (l.goes.cpu i) (same_spares i))) ∙ (spare ∙ ap (spare_after (spare_element q)) (sym (whole none_lost)));
+    }
+
+-- and no record was lost
+pub answered_whole : (t : TableView) (bucket : ℕ) (q r s : PassView) (verb : Verb) (reply : Reply) (inner : List Turned) (part : Part) (turns : List Turn) → HasItsSpares q → (l : Left t bucket q r s inner part) → l.lost ≡ [] → r.spares ≡ q.spares
+    → ((e c : ℕ) → is_in_hand_of e c r.view.hand ≡ is_in_hand_of e c q.view.hand) → map (turn_of t.shape) inner ≡ turns
+    → IsTrace t.shape q.cpu (spare_element q) verb (turns ++ record { lock = Bucket bucket; part = part } ∷ []) reply
+    → spare_element q ≡ spare_after (spare_element q) (turns ++ record { lock = Bucket bucket; part = part } ∷ []) → AnsweredWhole t q s verb reply
+unfolding answered_same
+answered_whole t bucket q r s verb reply inner part turns has l whole spares hand turns_are trace spare =
+    (answered_same t bucket q r s verb reply inner part turns has l spares hand turns_are trace spare, whole)
+
+-- from where the bucket was taken to where the call began
+pub called_of : (t : TableView) (bucket : ℕ) (p q s : PassView) (chain : BodyList) (verb : Verb) (reply : Reply) → Enters t bucket p q chain → p.view.held ≡ [] → Answered t q s verb reply → Called t p s verb reply
+called_of t bucket p q s chain verb reply enters none_held answered =
+    let took = enters.took in
+    let f = answered.finished in
+    record {
+      steps = answered.steps;
+      lost = answered.lost;
+      leaves = leaves_of t bucket p q s chain answered.steps answered.lost took none_held f;
+      trace = λ none_lost. subst (λ (z : PassView). IsTrace t.shape z.cpu (spare_element z) verb (map (turn_of t.shape) answered.steps) reply) took.after_is (answered.trace none_lost);
+      spare = λ none_lost. subst (λ (z : PassView). spare_element s ≡ spare_after (spare_element z) (map (turn_of t.shape) answered.steps)) took.after_is (answered.spare none_lost);
+    }
+
+pub called_whole : (t : TableView) (bucket : ℕ) (p q s : PassView) (chain : BodyList) (verb : Verb) (reply : Reply) → Enters t bucket p q chain → p.view.held ≡ [] → AnsweredWhole t q s verb reply → CalledWhole t p s verb reply
+unfolding called_of
+called_whole t bucket p q s chain verb reply enters none_held answered = (called_of t bucket p q s chain verb reply enters none_held answered.0, answered.1)
+
+-- Turns that leave the bucket as it is
+
+pub rows_taken : (bodies : List Stored) (now : Lists) → now ≡ lists_of (in_bucket bodies) → (x : ℕ) → times x (numbers bodies) ≡ times x (rows now)
+rows_taken bodies now is x = sym (ap (λ (l : Lists). times x (rows l)) is ∙ ap (times x) (append_nil (numbers bodies)))
+
+pub can_same : (t : TableView) (bucket : ℕ) (q : PassView) (chain : BodyList) (part : BucketPart) → is_lru t.shape.kind ≡ false → InBucket t bucket q chain.bodies → IsTurnWith t.shape q.cpu part chain.bodies chain.bodies (numbers chain.bodies) → BucketNotesFit part no_notes
+    → CanGive t (Bucket bucket) q (contents.Bucket chain) (parts.Bucket part)
+can_same t bucket q chain part plain b turn fits =
+    can_give t bucket q q chain.bodies b b.hold.now [] chain part plain (under_nothing t bucket q chain.bodies b) turn.turn turn.sized (rows_taken chain.bodies b.hold.now b.now) (ap (λ (l : Lists). l.free) b.now) fits
+
+pub may_same : (t : TableView) (bucket : ℕ) (q : PassView) (chain : BodyList) (part : BucketPart) (found : Option Part) → is_lru t.shape.kind ≡ false → InBucket t bucket q chain.bodies → IsTurnWith t.shape q.cpu part chain.bodies chain.bodies (numbers chain.bodies) → BucketNotesFit part no_notes → IfSome found (λ x. x ≡ parts.Bucket part)
+    → MayGiveBack t (Bucket bucket) q (contents.Bucket chain) found
+may_same t bucket q chain part found plain b turn fits is =
+    may_give_back t (Bucket bucket) q (contents.Bucket chain) (parts.Bucket part) found (can_same t bucket q chain part plain b turn fits) is
+
+pub answered_turn : (t : TableView) (bucket : ℕ) (q s : PassView) (chain : BodyList) (verb : Verb) (reply : Reply) (part : BucketPart) (found : Option Part) → is_lru t.shape.kind ≡ false → (b : InBucket t bucket q chain.bodies) → HasItsSpares q → IsTurnWith t.shape q.cpu part chain.bodies chain.bodies (numbers chain.bodies) → BucketNotesFit part no_notes
+    → IfSome found (λ x. x ≡ parts.Bucket part) → GaveBack t (Bucket bucket) q s (contents.Bucket chain) found
+    → IsTrace t.shape q.cpu (spare_element q) verb (record { lock = Bucket bucket; part = parts.Bucket part } ∷ []) reply
+    → spare_element q ≡ spare_after (spare_element q) (record { lock = Bucket bucket; part = parts.Bucket part } ∷ []) → Answered t q s verb reply
+answered_turn t bucket q s chain verb reply part found plain b has turn fits is gave trace spare =
+    let l = left t bucket q q s chain.bodies b b.hold.now [] (contents.Bucket chain) (parts.Bucket part) found (under_nothing t bucket q chain.bodies b) (can_same t bucket q chain part plain b turn fits) is gave in
+    answered_same t bucket q q s verb reply [] (parts.Bucket part) [] has l refl (λ _ _. refl) refl trace spare
+
+-- the map of a call
+pub is_plain_of : (inside t : TableView) → inside ≡ t → IsShape inside.shape × (is_lru inside.shape.kind ≡ false) → is_lru t.shape.kind ≡ false
+is_plain_of inside t is inv = subst (λ (z : TableView). is_lru z.shape.kind ≡ false) is inv.1
+
+pub is_shape_of : (inside t : TableView) → inside ≡ t → IsShape inside.shape × (is_lru inside.shape.kind ≡ false) → IsShape t.shape
+is_shape_of inside t is inv = subst (λ (z : TableView). IsShape z.shape) is inv.0
+
+-- a turn of the bucket of a key, as traces tell it
+pub on_bucket : (shape : Shape) (bucket : ℕ) (key : List ℕ) (part : BucketPart) → bucket ≡ bucket_of_key shape key → record { lock = Bucket bucket; part = parts.Bucket part } ∷ [] ≡ on_bucket_of shape key part ∷ []
+on_bucket shape bucket key part is i = record { lock = Bucket (is i); part = parts.Bucket part } ∷ []
+
+-- what stands at a place has the sizes of the map
+pub sized_at : (shape : Shape) (bodies : List Stored) (place : ℕ) (body : Stored) → All (IsSized shape) bodies → slice_get bodies place ≡ Some body → IsSized shape body
+sized_at shape bodies place body all at =
+    ⊎_elim
+    (λ (x : (found : Stored) × (place < length bodies) × (slice_get bodies place ≡ Some found) × (get_or bodies place found ≡ found)).
+    subst (IsSized shape) (x.3 ∙ some_is (sym x.2 ∙ at)) (all place x.0 x.1))
+    (λ (x : (length bodies ≤ place) × (slice_get bodies place ≡ None)). absurd (none_some (sym x.1 ∙ at)))
+    (slice_get_cases bodies place).1
+
+-- The bucket that is held
+
+same_shape : (t : TableView) (bucket : ℕ) (q r : PassView) (bodies : List Stored) (b : InBucket t bucket q bodies) (now : Lists) (inner : List Turned) → Under t b.hold b.below q r now inner → r.view.shape ≡ t.shape
+same_shape t bucket q r bodies b now inner u = u.goes.shape ∙ b.of_table.1
+
+number_here : (t : TableView) (bucket : ℕ) (q r : PassView) (bodies : List Stored) (b : InBucket t bucket q bodies) (now : Lists) (inner : List Turned) → Under t b.hold b.below q r now inner → lock_number r.view.shape (Bucket bucket) ≡ b.hold.lock
+number_here t bucket q r bodies b now inner u = ap (λ (s : Shape). lock_number s (Bucket bucket)) (same_shape t bucket q r bodies b now inner u) ∙ sym b.lock_is
+
+pub held_here : (t : TableView) (bucket : ℕ) (q r : PassView) (bodies : List Stored) (b : InBucket t bucket q bodies) (now : Lists) (inner : List Turned) → Under t b.hold b.below q r now inner → hold_at (lock_number t.shape (Bucket bucket)) r.view.held ≡ Some (hold_with b.hold now)
+held_here t bucket q r bodies b now inner u =
+    (ap (λ (k : ℕ). hold_at k r.view.held) (sym b.lock_is) ∙ ap (hold_at b.hold.lock) u.held) ∙ hold_at_first (hold_with b.hold now) []
+
+now_here : (t : TableView) (bucket : ℕ) (q r : PassView) (bodies : List Stored) (b : InBucket t bucket q bodies) (now : Lists) (inner : List Turned) → Under t b.hold b.below q r now inner → now_under (Bucket bucket) r.view ≡ now
+now_here t bucket q r bodies b now inner u =
+    ap (λ (s : Shape). now_at (lock_number s (Bucket bucket)) r.view.held) (same_shape t bucket q r bodies b now inner u)
+    ∙ now_at_is (lock_number t.shape (Bucket bucket)) r.view.held (hold_with b.hold now) (held_here t bucket q r bodies b now inner u)
+
+-- an element came there, or left
+pub under_attached : (t : TableView) (bucket : ℕ) (q r s : PassView) (bodies : List Stored) (b : InBucket t bucket q bodies) (now : Lists) (inner : List Turned) (e cpu : ℕ) → Under t b.hold b.below q r now inner → s ≡ with_view r (attached bucket e cpu r.view) → Under t b.hold b.below q s (with_row (Bucket bucket) e now) inner
+under_attached t bucket q r s bodies b now inner e cpu u is =
+    subst (λ (l : Lists). Under t b.hold b.below q s (with_row (Bucket bucket) e l) inner) (now_here t bucket q r bodies b now inner u)
+    (under_moved t b.hold b.below q r s now (with_row (Bucket bucket) e (now_under (Bucket bucket) r.view)) inner (lock_number r.view.shape (Bucket bucket)) (without_in_hand e cpu r.view.hand) u (number_here t bucket q r bodies b now inner u) is)
+
+pub under_detached : (t : TableView) (bucket : ℕ) (q r s : PassView) (bodies : List Stored) (b : InBucket t bucket q bodies) (now : Lists) (inner : List Turned) (e cpu : ℕ) → Under t b.hold b.below q r now inner → s ≡ with_view r (detached bucket e cpu r.view) → Under t b.hold b.below q s (without_row e now) inner
+under_detached t bucket q r s bodies b now inner e cpu u is =
+    subst (λ (l : Lists). Under t b.hold b.below q s (without_row e l) inner) (now_here t bucket q r bodies b now inner u)
+    (under_moved t b.hold b.below q r s now (without_row e (now_under (Bucket bucket) r.view)) inner (lock_number r.view.shape (Bucket bucket)) (with_in_hand e cpu r.view.hand) u (number_here t bucket q r bodies b now inner u) is)
+
+-- what these steps ask
+pub can_attach : (t : TableView) (bucket : ℕ) (q r : PassView) (bodies : List Stored) (b : InBucket t bucket q bodies) (now : Lists) (inner : List Turned) (e : ℕ) → Under t b.hold b.below q r now inner → is_in_hand_of e r.cpu r.view.hand ≡ true → CanAttach t e bucket r
+can_attach t bucket q r bodies b now inner e u in_hand = record {
+  of_table = goes_of_table t q r inner [] u.goes b.of_table;
+  begun = goes_begun q r inner [] u.goes b.begun;
+  hold = hold_with b.hold now;
+  there = b.there;
+  held = held_here t bucket q r bodies b now inner u;
+  cpu_is = b.cpu_is ∙ sym u.goes.cpu;
+  in_hand = in_hand;
+}
+
+pub can_detach : (t : TableView) (bucket : ℕ) (q r : PassView) (bodies : List Stored) (b : InBucket t bucket q bodies) (now : Lists) (inner : List Turned) (e : ℕ) → Under t b.hold b.below q r now inner → IsIn e now.first → e < t.shape.elements → CanMark t e bucket r
+can_detach t bucket q r bodies b now inner e u inside real = record {
+  of_table = goes_of_table t q r inner [] u.goes b.of_table;
+  begun = goes_begun q r inner [] u.goes b.begun;
+  hold = hold_with b.hold now;
+  real = real;
+  there = b.there;
+  held = held_here t bucket q r bodies b now inner u;
+  cpu_is = b.cpu_is ∙ sym u.goes.cpu;
+  inside = inside;
+}
+
+-- the elements of the bucket
+pub first_taken : (t : TableView) (bucket : ℕ) (q : PassView) (bodies : List Stored) (b : InBucket t bucket q bodies) → b.hold.now ≡ record { free = []; first = numbers bodies; second = []; cursor = None }
+first_taken t bucket q bodies b = b.now
+
+pub body_inside : (bodies : List Stored) (place : ℕ) (body : Stored) → slice_get bodies place ≡ Some body → IsIn body.element (numbers bodies)
+body_inside [] place body is = absurd (none_some is)
+body_inside (one ∷ others) zero body is =
+    by_test one.element body.element (λ b. 0 < cond b (suc (times body.element (numbers others))) (times body.element (numbers others))) (λ _. omega arith) (λ other. absurd (other (ap (λ (s : Stored). s.element) (some_is is))))
+body_inside (one ∷ others) (suc place) body is =
+    let later : 0 < times body.element (numbers others) = body_inside others place body is in
+    by_test one.element body.element (λ b. 0 < cond b (suc (times body.element (numbers others))) (times body.element (numbers others))) (λ _. omega arith) (λ _. later)
+
+pub body_real : (t : TableView) (bucket : ℕ) (q : PassView) (bodies : List Stored) (b : InBucket t bucket q bodies) (e : ℕ) → IsIn e (numbers bodies) → e < t.shape.elements
+body_real t bucket q bodies b e inside = b.elements.rows_real e (subst (λ (n : ℕ). 0 < n) (rows_taken bodies b.hold.now b.now e) inside)
+
+pub not_in_hand : (t : TableView) (bucket : ℕ) (q : PassView) (bodies : List Stored) (b : InBucket t bucket q bodies) (e cpu : ℕ) → is_lru t.shape.kind ≡ false → is_among cpu q.view.cpus ≡ true → IsIn e (numbers bodies) → is_in_hand_of e cpu q.view.hand ≡ false
+not_in_hand t bucket q bodies b e cpu plain mine inside =
+    by_bool (is_in_hand_of e cpu q.view.hand) (λ x. is_in_hand_of e cpu q.view.hand ≡ x → x ≡ false)
+    (λ _ in_hand. let none = (b.apart e cpu mine in_hand).1 (ap (λ (s : Shape). is_lru s.kind) b.of_table.1 ∙ plain) in let counted = rows_taken bodies b.hold.now b.now e in absurd (omega arith))
+    (λ _ _. refl) refl
+
+-- Turns that leave the elements of the bucket
+
+pub can_kept : (t : TableView) (bucket : ℕ) (q : PassView) (bodies : List Stored) (back : BodyList) (part : BucketPart) → is_lru t.shape.kind ≡ false → InBucket t bucket q bodies → IsTurnWith t.shape q.cpu part bodies back.bodies (numbers bodies) → BucketNotesFit part no_notes
+    → CanGive t (Bucket bucket) q (contents.Bucket back) (parts.Bucket part)
+can_kept t bucket q bodies back part plain b turn fits =
+    can_give t bucket q q bodies b b.hold.now [] back part plain (under_nothing t bucket q bodies b) turn.turn turn.sized (λ x. turn.counts x ∙ rows_taken bodies b.hold.now b.now x) (ap (λ (l : Lists). l.free) b.now) fits
+
+pub answered_kept : (t : TableView) (bucket : ℕ) (q s : PassView) (bodies : List Stored) (back : BodyList) (verb : Verb) (reply : Reply) (part : BucketPart) (found : Part) → is_lru t.shape.kind ≡ false → (b : InBucket t bucket q bodies) → HasItsSpares q → IsTurnWith t.shape q.cpu part bodies back.bodies (numbers bodies) → BucketNotesFit part no_notes
+    → found ≡ parts.Bucket part → GaveBack t (Bucket bucket) q s (contents.Bucket back) (Some found)
+    → IsTrace t.shape q.cpu (spare_element q) verb (record { lock = Bucket bucket; part = parts.Bucket part } ∷ []) reply
+    → spare_element q ≡ spare_after (spare_element q) (record { lock = Bucket bucket; part = parts.Bucket part } ∷ []) → AnsweredWhole t q s verb reply
+answered_kept t bucket q s bodies back verb reply part found plain b has turn fits is gave trace spare =
+    let l = left_whole t bucket q q s bodies b b.hold.now [] (contents.Bucket back) (parts.Bucket part) found (under_nothing t bucket q bodies b) (can_kept t bucket q bodies back part plain b turn fits) is gave in
+    answered_whole t bucket q q s verb reply [] (parts.Bucket part) [] has l.0 l.1 refl (λ _ _. refl) refl trace spare
+
+-- the entry of an update, by what the caller gave
+pub update_entry : (t : TableView) (bucket : ℕ) (side : Side) (flags : ℕ) (key value : List ℕ) (given : Given) (put : Put) (found : Part) → Gives t bucket side flags key value given → found ≡ parts.Bucket (Update side flags given.key given.value None put) → found ≡ parts.Bucket (Update side flags key value None put)
+update_entry t bucket side flags key value given put found gives is = is ∙ (λ i. parts.Bucket (Update side flags (gives.key_copied i) (gives.value_copied i) None put))
+
+-- the trace of an update
+pub update_trace : (t : TableView) (bucket cpu : ℕ) (spare : Option ℕ) (side : Side) (flags : ℕ) (key value : List ℕ) (given : Given) (put : Put) (looks : List Turn) → Gives t bucket side flags key value given → LooksFor t.shape cpu spare put looks
+    → IsTrace t.shape cpu spare (verbs.Update side flags key value) (looks ++ record { lock = Bucket bucket; part = parts.Bucket (Update side flags key value None put) } ∷ []) (reply_of_put put)
+update_trace t bucket cpu spare side flags key value given put looks gives looked =
+    inr (gives.flags_known, record { put = put; looks = looks; looks_are = looked; turns_are = ap (λ (l : List Turn). looks ++ l) (on_bucket t.shape bucket key (Update side flags key value None put) gives.bucket_is); reply_is = refl })

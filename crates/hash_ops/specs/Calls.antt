@@ -1,0 +1,97 @@
+-- What each call on a map leaves of its pass: the turns that it adds to the pass's strand are a trace of the call, with the
+-- answer that it gives.
+use Rattle.std.specs.Prelude.{◌≡◌, ℕ, ◌≤◌, List, [], ◌∷◌, length, map, All, Option, None, Some, Result, Ok, Err}
+use Rattle.map_types.specs.declared.call.Verb.{Verb}
+use Rattle.map_types.specs.declared.call.Verb.TheVariants.{Update}
+use Rattle.map_types.specs.declared.kind.DomainId.TheVariants.{Bucket}
+use Rattle.map_types.specs.declared.kind.Side.{Side}
+use Rattle.map_types.specs.declared.refusal.Absent.{Absent}
+use Rattle.map_types.specs.declared.refusal.Errno.TheVariants as errnos
+use Rattle.map_types.specs.declared.reply.Reply.{Reply}
+use Rattle.map_types.specs.declared.reply.Reply.TheVariants.{Done, Value, Refused}
+use Rattle.map_types.specs.Stored.{Stored}
+use Rattle.percpu_values.specs.BodyList.{BodyList}
+use Rattle.place_words.specs.Traces.{bucket_of_key, IsTrace, spare_after}
+use Rattle.place_words.specs.declared.history.Part.{Part}
+use Rattle.place_table.specs.declared.content.Content.TheVariants as contents
+use Rattle.place_table.specs.declared.view.Hold.{Hold}
+use Rattle.place_table.specs.declared.view.Turned.{Turned}
+use Rattle.place_table.specs.Known.{Learns}
+pub use Rattle.place_table.specs.Known.{turn_of, IsBy}
+use Rattle.place_table.specs.Passes.{PassView, TableView, IsPassOf, HasBegun, IsInNoCall, SparesDiffer, Takes, GaveSome, Made, spare_of, entry_of}
+use Rattle.place_table.specs.Views.{turned}
+use Rattle.hash_ops.specs.declared.map.PlainRefusal.{PlainRefusal}
+use Rattle.hash_ops.specs.declared.map.PlainRefusal.TheVariants as refusals
+
+-- a call asks that its pass is of the map, has begun, and is in no other call
+pub record CanCall (t : TableView) (p : PassView) : Type 0 where
+  pub of_table : IsPassOf t p
+  pub begun : HasBegun p
+  pub in_no_call : IsInNoCall p
+
+-- the element of the spare that a pass keeps for its CPU
+abbrev pub element_of : Option Stored → Option ℕ
+element_of None = None
+element_of (Some body) = Some body.element
+
+abbrev pub spare_element : PassView → Option ℕ
+spare_element p = element_of (spare_of p.cpu p.spares)
+
+-- What a call leaves, whatever it answers: these turns were made by its CPU in it, and the record of these locks is lost by
+-- it; the pass is in no call; only the spare of its CPU may be another; it knows no more and no less of bits; and where all
+-- turns were known, they are again.
+pub record Leaves (t : TableView) (before after : PassView) (steps : List Turned) (lost : List ℕ) : Type 0 where
+  pub made : Made before after steps lost
+  pub in_no_call : IsInNoCall after
+  pub by_call : All (IsBy before.cpu before.call) steps
+  pub other_spares : SparesDiffer before.cpu before.spares after.spares
+  pub bits : after.view.bits ≡ before.view.bits
+  pub learns : Learns t.shape before.view after.view steps
+
+-- The turns are a trace of the call with this reply, and nothing else; the CPU's spare is then the one that they leave.
+-- Nothing is said of the turns of a call that lost the record of a lock.
+pub record Called (t : TableView) (before after : PassView) (verb : Verb) (reply : Reply) : Type 0 where
+  pub steps : List Turned
+  pub lost : List ℕ
+  pub leaves : Leaves t before after steps lost
+  pub trace : lost ≡ [] → IsTrace t.shape before.cpu (spare_element before) verb (map (turn_of t.shape) steps) reply
+  pub spare : lost ≡ [] → spare_element after ≡ spare_after (spare_element before) (map (turn_of t.shape) steps)
+
+-- what a lookup or a take answers, and what a delete does
+abbrev pub reply_of_value : Result (Unit {0}) Absent → List ℕ → Reply
+reply_of_value (Ok done) value = Value value
+reply_of_value (Err absent) value = Refused errnos.Enoent
+
+abbrev pub reply_of_done : Result (Unit {0}) Absent → Reply
+reply_of_done (Ok done) = Done
+reply_of_done (Err absent) = Refused errnos.Enoent
+
+-- the same, and no record was lost
+abbrev pub CalledWhole : TableView → PassView → PassView → Verb → Reply → Type 0
+CalledWhole t before after verb reply = (called : Called t before after verb reply) × (called.lost ≡ [])
+
+-- the turn of a lock that was given back without an entry
+abbrev pub lost_turn : PassView → Hold → Part → Turned
+lost_turn p hold part = turned hold.lock (length hold.log) (entry_of p part)
+
+-- Where an update found no memory, it took the key's bucket and gave it back with the bodies that lay there, without an entry:
+-- the record of that bucket's turns is lost.
+pub record FoundNoMemory (t : TableView) (bucket : ℕ) (before after : PassView) : Type 0 where
+  pub between : PassView
+  pub taken : BodyList
+  pub back : BodyList
+  pub took : Takes t (Bucket bucket) before between (contents.Bucket taken)
+  pub same : back.bodies ≡ taken.bodies
+  pub gave : GaveSome t (Bucket bucket) between after (contents.Bucket back)
+  pub leaves : Leaves t before after (lost_turn between gave.can.hold gave.part ∷ []) (gave.can.hold.lock ∷ [])
+  pub spares_stay : after.spares ≡ before.spares
+
+-- What an update answers. Unknown flags are refused before anything is looked at. Each answer but that no memory was found comes
+-- with the whole record.
+abbrev pub Updates : TableView → PassView → PassView → Side → ℕ → List ℕ → List ℕ → Result (Unit {0}) PlainRefusal → Type 0
+Updates t before after side flags key value (Ok done) = CalledWhole t before after (Update side flags key value) Done
+Updates t before after side flags key value (Err refusals.Einval) = (after ≡ before) × CalledWhole t before after (Update side flags key value) (Refused errnos.Einval)
+Updates t before after side flags key value (Err refusals.Enoent) = CalledWhole t before after (Update side flags key value) (Refused errnos.Enoent)
+Updates t before after side flags key value (Err refusals.Eexist) = CalledWhole t before after (Update side flags key value) (Refused errnos.Eexist)
+Updates t before after side flags key value (Err refusals.E2big) = CalledWhole t before after (Update side flags key value) (Refused errnos.E2big)
+Updates t before after side flags key value (Err refusals.NoMemory) = (flags ≤ 2) × FoundNoMemory t (bucket_of_key t.shape key) before after

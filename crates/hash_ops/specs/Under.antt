@@ -1,0 +1,120 @@
+-- A call from where it holds the bucket of its key to its end.
+use Rattle.std.specs.Prelude.{◌≡◌, ℕ, ◌<◌, ◌≤◌, true, List, [], ◌∷◌, length, map, slice_get, All, Some, Result, Ok, Err}
+use Rattle.map_types.specs.declared.call.Verb.{Verb}
+use Rattle.map_types.specs.declared.kind.DomainId.TheVariants.{Bucket}
+use Rattle.map_types.specs.declared.kind.MapKind.TheVariants.{Hash}
+use Rattle.map_types.specs.declared.refusal.Errno.TheVariants as errnos
+use Rattle.map_types.specs.declared.reply.Reply.{Reply}
+use Rattle.map_types.specs.declared.reply.Reply.TheVariants.{Done, Refused}
+use Rattle.map_types.specs.declared.kind.Side.{Side}
+use Rattle.map_types.specs.Stored.{Stored}
+use Rattle.map_types.specs.ValueLen.{value_len_of}
+use Rattle.percpu_values.specs.BodyList.{BodyList}
+use Rattle.bucket_chain.specs.Places.{place_of_key, key_at}
+use Rattle.place_words.specs.declared.history.Entry.{Entry}
+use Rattle.place_words.specs.Bodies.{present}
+use Rattle.place_words.specs.Histories.{in_bucket, content}
+use Rattle.place_words.specs.Locks.{lock_number}
+use Rattle.place_words.specs.Traces.{bucket_of_key, IsTrace, spare_after}
+use Rattle.place_table.specs.declared.content.Content.TheVariants as contents
+use Rattle.place_table.specs.declared.view.Hold.{Hold}
+use Rattle.place_table.specs.declared.view.Notes.{Notes}
+use Rattle.place_table.specs.declared.view.Turned.{Turned}
+use Rattle.place_table.specs.Contents.{lists_of, IsSized}
+use Rattle.place_table.specs.Known.{Learns}
+use Rattle.place_table.specs.Passes.{PassView, TableView, IsPassOf, HasBegun, IsInNoCall, SparesDiffer, Takes, GaveSome, Goes, spare_of}
+use Rattle.place_table.specs.Plays.{AreElements, IsApartFromHands}
+use Rattle.place_table.specs.Views.{is_among, is_in_hand_of, known_log, no_notes, notes_below}
+use Rattle.hash_ops.specs.Calls.{turn_of, IsBy, spare_element, lost_turn}
+use Rattle.hash_ops.specs.declared.map.PlainRefusal.{PlainRefusal}
+use Rattle.hash_ops.specs.declared.parts.Given.{Given}
+use Rattle.hash_ops.specs.declared.map.PlainRefusal.TheVariants as refusals
+
+-- The pass holds this bucket alone, in which these bodies lie as its turns left them.
+pub record InBucket (t : TableView) (bucket : ℕ) (q : PassView) (bodies : List Stored) : Type 0 where
+  pub of_table : IsPassOf t q
+  pub begun : HasBegun q
+  pub there : bucket < t.shape.buckets
+  pub cpu_there : q.cpu < t.shape.cpus
+  pub hold : Hold
+  pub below : List Notes
+  pub held : q.view.held ≡ hold ∷ []
+  pub notes : q.view.notes ≡ no_notes ∷ below
+  pub lock_is : hold.lock ≡ lock_number t.shape (Bucket bucket)
+  pub cpu_is : hold.cpu ≡ q.cpu
+  pub content_is : in_bucket bodies ≡ content t.shape (Bucket bucket) hold.log
+  pub now : hold.now ≡ lists_of (in_bucket bodies)
+  pub elements : AreElements t.shape hold.now
+  pub apart : IsApartFromHands q.view hold.now
+  pub sized : All (IsSized t.shape) bodies
+  pub known : (log : List Entry) → known_log hold.lock q.view.known ≡ Some log → hold.log ≡ log
+
+-- its CPUs have nothing in hand but the spares that it keeps, none of which is out
+pub record HasItsSpares (q : PassView) : Type 0 where
+  pub spares_only : (e cpu : ℕ) → is_among cpu q.view.cpus ≡ true → is_in_hand_of e cpu q.view.hand ≡ true → (body : Stored) × (spare_of cpu q.spares ≡ Some body) × (body.element ≡ e)
+  pub spares_in_hand : (cpu : ℕ) (body : Stored) → spare_of cpu q.spares ≡ Some body → is_in_hand_of body.element cpu q.view.hand ≡ true
+  pub none_out : q.view.shape.kind ≡ Hash → (cpu : ℕ) → is_among cpu q.view.cpus ≡ true → (body : Stored) × (spare_of cpu q.spares ≡ Some body)
+
+-- a pass in no call has taken a bucket
+pub record Enters (t : TableView) (bucket : ℕ) (p q : PassView) (chain : BodyList) : Type 0 where
+  pub took : Takes t (Bucket bucket) p q (contents.Bucket chain)
+  pub inside : InBucket t bucket q chain.bodies
+  pub spares : HasItsSpares q
+
+-- the key stands at this place, in this body
+pub record IsAt (key : List ℕ) (place : ℕ) (bodies : List Stored) : Type 0 where
+  pub body : Stored
+  pub present_is : present key bodies ≡ Some body
+  pub body_is : slice_get bodies place ≡ Some body
+  pub place_is : place_of_key key bodies ≡ Some place
+  pub below : place < length bodies
+  pub key_is : key_at place bodies ≡ key
+
+-- The bucket was given back after these turns: the pass is in no call, and what else it knows is as before.
+pub record Finished (t : TableView) (q s : PassView) (steps : List Turned) (lost : List ℕ) : Type 0 where
+  pub goes : Goes q s steps lost
+  pub notes : s.view.notes ≡ notes_below q.view.notes
+  pub bits : s.view.bits ≡ q.view.bits
+  pub in_no_call : IsInNoCall s
+  pub by_call : All (IsBy q.cpu q.call) steps
+  pub other_spares : SparesDiffer q.cpu q.spares s.spares
+  pub learns : Learns t.shape q.view s.view steps
+
+-- and the turns are a trace of the call with this reply, where no record was lost
+pub record Answered (t : TableView) (q s : PassView) (verb : Verb) (reply : Reply) : Type 0 where
+  pub steps : List Turned
+  pub lost : List ℕ
+  pub finished : Finished t q s steps lost
+  pub trace : lost ≡ [] → IsTrace t.shape q.cpu (spare_element q) verb (map (turn_of t.shape) steps) reply
+  pub spare : lost ≡ [] → spare_element s ≡ spare_after (spare_element q) (map (turn_of t.shape) steps)
+
+-- the same, and no record was lost
+abbrev pub AnsweredWhole : TableView → PassView → PassView → Verb → Reply → Type 0
+AnsweredWhole t q s verb reply = (answered : Answered t q s verb reply) × (answered.lost ≡ [])
+
+-- The bucket was given back with the bodies that lay there, without an entry, so that the record of its turns is lost.
+pub record Forgot (t : TableView) (bucket : ℕ) (q s : PassView) (bodies : List Stored) : Type 0 where
+  pub back : BodyList
+  pub same : back.bodies ≡ bodies
+  pub gave : GaveSome t (Bucket bucket) q s (contents.Bucket back)
+  pub finished : Finished t q s (lost_turn q gave.can.hold gave.part ∷ []) (gave.can.hold.lock ∷ [])
+  pub spares_stay : s.spares ≡ q.spares
+
+-- an update in its bucket
+abbrev pub UpdateEnds : TableView → ℕ → PassView → PassView → List Stored → Verb → Result (Unit {0}) PlainRefusal → Type 0
+UpdateEnds t bucket q s bodies verb (Ok done) = AnsweredWhole t q s verb Done
+UpdateEnds t bucket q s bodies verb (Err refusals.Einval) = ⊥
+UpdateEnds t bucket q s bodies verb (Err refusals.Enoent) = AnsweredWhole t q s verb (Refused errnos.Enoent)
+UpdateEnds t bucket q s bodies verb (Err refusals.Eexist) = AnsweredWhole t q s verb (Refused errnos.Eexist)
+UpdateEnds t bucket q s bodies verb (Err refusals.E2big) = AnsweredWhole t q s verb (Refused errnos.E2big)
+UpdateEnds t bucket q s bodies verb (Err refusals.NoMemory) = Forgot t bucket q s bodies
+
+-- What an update gives: a key of the bucket and a value of its side, flags that are known, and copies of key and value for its
+-- entry.
+pub record Gives (t : TableView) (bucket : ℕ) (side : Side) (flags : ℕ) (key value : List ℕ) (given : Given) : Type 0 where
+  pub bucket_is : bucket ≡ bucket_of_key t.shape key
+  pub key_sized : length key ≡ t.shape.key_size
+  pub value_sized : length value ≡ value_len_of t.shape side
+  pub flags_known : flags ≤ 2
+  pub key_copied : given.key ≡ key
+  pub value_copied : given.value ≡ value

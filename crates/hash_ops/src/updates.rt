@@ -1,0 +1,280 @@
+//! Updates in a key's bucket.
+
+ghost use Rattle.std.specs.Prelude.{◌≡◌, ◌≢◌, ◌<◌, ◌≤◌, ◌^◌, IsTrue, Ok, Err, false, None, Some, length, slice_get};
+ghost use Rattle.map_types.specs.declared.call.Verb.TheVariants as verbs;
+ghost use Rattle.map_types.specs.declared.refusal.Errno.TheVariants as errnos;
+ghost use Rattle.map_types.specs.declared.reply.Reply.TheVariants as replies;
+ghost use Rattle.map_types.specs.Kind.{is_percpu};
+ghost use Rattle.map_types.specs.ValueLen.{value_len_of};
+ghost use Rattle.place_words.specs.Bodies.{present};
+ghost use Rattle.place_words.specs.Traces.{bucket_of_key};
+ghost use Rattle.hash_ops.specs.declared.map.PlainRefusal.TheVariants as refusals;
+ghost use Rattle.hash_ops.specs.Under.{InBucket, HasItsSpares, IsAt, Gives, AnsweredWhole, Forgot, UpdateEnds};
+
+use crate::buckets::body_at;
+use crate::map::{PlainMap, PlainRefusal};
+use crate::parts::Given;
+use crate::values::{fill_body, write_value};
+use bucket_chain::Chain;
+use map_types::{DomainId, Gate, Side};
+use place_table::{Content, Pass};
+use place_words::Put;
+use std::alloc::Global;
+use std::sync::Wait;
+
+/// The flag of an update that refuses a present key.
+const BPF_NOEXIST: u32 = 1;
+
+/// The flag of an update that refuses an absent key.
+const BPF_EXIST: u32 = 2;
+
+impl PlainMap {
+    /// Updates a key in its bucket, by flags that are known: a present key is refused, written in place or given the spare
+    /// element, and an absent one is refused or gets an element that is popped, as in the kernel's `htab_map_update_elem` and
+    /// `__htab_percpu_map_update_elem`.
+    pub(crate) fn update_in<R: Wait, G: Gate>(
+        &self,
+        rt: &R,
+        alloc: Global,
+        pass: &mut Pass,
+        bucket: u32,
+        chain: Chain,
+        side: Side,
+        flags: u32,
+        key: &[u8],
+        value: &[u8],
+        given: Given,
+        gate: &G,
+    ) -> Result<(), PlainRefusal>
+        requires inside { InBucket self.now bucket pass.old chain.bodies }
+        requires spares { HasItsSpares pass.old }
+        requires gives { Gives self.now bucket side flags key.now value.now given }
+        ensures { UpdateEnds self.now bucket pass.old pass.new chain.bodies (verbs.Update side flags key.now value.now) result }
+    {
+        match chain.find(key) {
+            Some(place) => {
+                self.update_present(
+                    pass, bucket, chain, place, side, flags, key, value, given, gate,
+                )
+            }
+            None => {
+                self.update_absent(
+                    rt, alloc, pass, bucket, chain, side, flags, key, value, given, gate,
+                )
+            }
+        }
+    }
+
+    /// An update of a key that is present.
+    fn update_present<G: Gate>(
+        &self,
+        pass: &mut Pass,
+        bucket: u32,
+        chain: Chain,
+        place: u32,
+        side: Side,
+        flags: u32,
+        key: &[u8],
+        value: &[u8],
+        given: Given,
+        gate: &G,
+    ) -> Result<(), PlainRefusal>
+        requires inside { InBucket self.now bucket pass.old chain.bodies }
+        requires spares { HasItsSpares pass.old }
+        requires gives { Gives self.now bucket side flags key.now value.now given }
+        requires at { IsAt key.now place chain.bodies }
+        ensures { UpdateEnds self.now bucket pass.old pass.new chain.bodies (verbs.Update side flags key.now value.now) result }
+    {
+        if flags == BPF_NOEXIST {
+            let part = given.updated(side, flags, Put::Exists);
+            self.table.give(
+                pass,
+                DomainId::Bucket(bucket),
+                Content::Bucket(chain),
+                Some(part),
+                gate,
+            );
+            return Err(PlainRefusal::Eexist);
+        }
+        if self.table.shape().kind.is_percpu() {
+            self.write(
+                pass, bucket, chain, place, side, flags, key, value, given, gate,
+            );
+            return Ok(());
+        }
+        self.replace(
+            pass, bucket, chain, place, side, flags, key, value, given, gate,
+        );
+        Ok(())
+    }
+
+    /// An update of a key that is absent.
+    fn update_absent<R: Wait, G: Gate>(
+        &self,
+        rt: &R,
+        alloc: Global,
+        pass: &mut Pass,
+        bucket: u32,
+        mut chain: Chain,
+        side: Side,
+        flags: u32,
+        key: &[u8],
+        value: &[u8],
+        given: Given,
+        gate: &G,
+    ) -> Result<(), PlainRefusal>
+        requires inside { InBucket self.now bucket pass.old chain.bodies }
+        requires spares { HasItsSpares pass.old }
+        requires gives { Gives self.now bucket side flags key.now value.now given }
+        requires absent { present key.now chain.bodies ≡ None }
+        ensures { UpdateEnds self.now bucket pass.old pass.new chain.bodies (verbs.Update side flags key.now value.now) result }
+    {
+        let lock = DomainId::Bucket(bucket);
+        if flags == BPF_EXIST {
+            let part = given.updated(side, flags, Put::Absent);
+            self.table
+                .give(pass, lock, Content::Bucket(chain), Some(part), gate);
+            return Err(PlainRefusal::Enoent);
+        }
+        if chain.reserve_one(alloc).is_err() {
+            self.forget(pass, bucket, chain, gate);
+            return Err(PlainRefusal::NoMemory);
+        }
+        self.add(
+            rt, pass, bucket, chain, side, flags, key, value, given, gate,
+        )
+    }
+
+    /// Adds an absent key, where a freelist gives an element for it. The chain has room for one.
+    fn add<R: Wait, G: Gate>(
+        &self,
+        rt: &R,
+        pass: &mut Pass,
+        bucket: u32,
+        mut chain: Chain,
+        side: Side,
+        flags: u32,
+        key: &[u8],
+        value: &[u8],
+        given: Given,
+        gate: &G,
+    ) -> Result<(), PlainRefusal>
+        requires inside { InBucket self.now bucket pass.old chain.bodies }
+        requires spares { HasItsSpares pass.old }
+        requires gives { Gives self.now bucket side flags key.now value.now given }
+        requires absent { present key.now chain.bodies ≡ None }
+        requires adds { flags ≢ 2 }
+        requires room { 1 ≤ chain.spare }
+        ensures { UpdateEnds self.now bucket pass.old pass.new chain.bodies (verbs.Update side flags key.now value.now) result }
+    {
+        let lock = DomainId::Bucket(bucket);
+        let cpu = self.table.cpu_of(pass);
+        let Some(mut body) = self.pop(rt, pass, gate) else {
+            let part = given.updated(side, flags, Put::Full);
+            self.table
+                .give(pass, lock, Content::Bucket(chain), Some(part), gate);
+            return Err(PlainRefusal::E2big);
+        };
+        fill_body(self.table.shape(), side, cpu, &mut body, key, value);
+        let element = body.body().element();
+        self.table.attach(pass, element, bucket);
+        chain.add_head(body);
+        let part = given.updated(side, flags, Put::Added(element));
+        self.table
+            .give(pass, lock, Content::Bucket(chain), Some(part), gate);
+        Ok(())
+    }
+
+    /// Gives a bucket back as it was taken, with no entry.
+    pub(crate) fn forget<G: Gate>(&self, pass: &mut Pass, bucket: u32, chain: Chain, gate: &G)
+        requires inside { InBucket self.now bucket pass.old chain.bodies }
+        requires spares { HasItsSpares pass.old }
+        ensures { Forgot self.now bucket pass.old pass.new chain.bodies }
+    {
+        self.table.give(
+            pass,
+            DomainId::Bucket(bucket),
+            Content::Bucket(chain),
+            None,
+            gate,
+        );
+    }
+
+    /// Writes the value of a present key in place.
+    fn write<G: Gate>(
+        &self,
+        pass: &mut Pass,
+        bucket: u32,
+        mut chain: Chain,
+        place: u32,
+        side: Side,
+        flags: u32,
+        key: &[u8],
+        value: &[u8],
+        given: Given,
+        gate: &G,
+    )
+        requires inside { InBucket self.now bucket pass.old chain.bodies }
+        requires spares { HasItsSpares pass.old }
+        requires gives { Gives self.now bucket side flags key.now value.now given }
+        requires at { IsAt key.now place chain.bodies }
+        requires percpu { IsTrue (is_percpu self.now.shape.kind) }
+        requires replaces { flags ≢ 1 }
+        ensures { AnsweredWhole self.now pass.old pass.new (verbs.Update side flags key.now value.now) replies.Done }
+    {
+        let cpu = self.table.cpu_of(pass);
+        let element = body_at(&chain, place).element();
+        write_value(self.table.shape(), side, cpu, &mut chain, place, key, value);
+        let part = given.updated(side, flags, Put::Written(element));
+        self.table.give(
+            pass,
+            DomainId::Bucket(bucket),
+            Content::Bucket(chain),
+            Some(part),
+            gate,
+        );
+    }
+
+    /// Puts the CPU's spare element in the place of a present key's, which becomes the spare.
+    fn replace<G: Gate>(
+        &self,
+        pass: &mut Pass,
+        bucket: u32,
+        mut chain: Chain,
+        place: u32,
+        side: Side,
+        flags: u32,
+        key: &[u8],
+        value: &[u8],
+        given: Given,
+        gate: &G,
+    )
+        requires inside { InBucket self.now bucket pass.old chain.bodies }
+        requires spares { HasItsSpares pass.old }
+        requires gives { Gives self.now bucket side flags key.now value.now given }
+        requires at { IsAt key.now place chain.bodies }
+        requires single { is_percpu self.now.shape.kind ≡ false }
+        requires replaces { flags ≢ 1 }
+        ensures { AnsweredWhole self.now pass.old pass.new (verbs.Update side flags key.now value.now) replies.Done }
+    {
+        let cpu = self.table.cpu_of(pass);
+        let Some(mut body) = self.table.spare(pass) else {
+            unreachable!()
+        };
+        fill_body(self.table.shape(), side, cpu, &mut body, key, value);
+        let new = body.body().element();
+        self.table.attach(pass, new, bucket);
+        let spare = chain.replace_head(place, body);
+        let old = spare.body().element();
+        self.table.detach(pass, old, bucket);
+        self.table.keep_spare(pass, spare);
+        let part = given.updated(side, flags, Put::Replaced { new, old });
+        self.table.give(
+            pass,
+            DomainId::Bucket(bucket),
+            Content::Bucket(chain),
+            Some(part),
+            gate,
+        );
+    }
+}
