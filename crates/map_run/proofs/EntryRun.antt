@@ -10,7 +10,8 @@ use Rattle.place_words.specs.declared.finals.Finals.{Finals}
 use Rattle.map_run.specs.EachOnce.{EachOnce}
 use Rattle.map_run.specs.Entries.{Entry, answered, answers_from, entries_after}
 use Rattle.map_run.specs.Laws.{lists_before, entries_before}
-use Rattle.map_run.specs.Serial.{opening, after_call, replies_from, lists_after, serial}
+use Rattle.map_run.specs.Serial.{opening, after_call, replies_from, lists_after}
+use Rattle.map_run.specs.Runs.{serial}
 use Rattle.map_run.specs.Served.{is_built_kind, IsServedCall, IsServed}
 use Rattle.map_run.specs.Soundness.{HasLists}
 use Rattle.map_run.proofs.EntrySteps.{Agrees, agrees_opening, agrees_step}

@@ -1,22 +1,36 @@
-mod Io
-pub mod EachOnceSteps
-pub mod EachOnceOpening
-pub mod EachOnceRun
-pub mod EntryLemmas
-pub mod EntrySteps
-pub mod EntryRun
-pub mod AnswerLaws
-pub mod ServedLemmas
-pub mod StackLemmas
-mod WordLemmasCommand
-mod WordLemmasTurns
-mod WordLemmasShapes
-mod WordLemmasWalk
-mod WordLemmasCounts
-mod WordLemmas
 mod BodyLemmas
 mod ChainLemmas
+mod Io
 mod PlainLemmas
+mod WordLemmas
+mod WordLemmasCommand
+mod WordLemmasCounts
+mod WordLemmasShapes
+mod WordLemmasTurns
+mod WordLemmasWalk
+pub mod AnswerLaws
 pub mod BucketLaws
-pub mod StayLaws
+pub mod CallTurns
+pub mod Closing
+pub mod EachOnceOpening
+pub mod EachOnceRun
+pub mod EachOnceSteps
+pub mod EntryLemmas
+pub mod EntryRun
+pub mod EntrySteps
+pub mod HistoryTurns
+pub mod OneCall
+pub mod OpeningTurns
+pub mod RecordLaws
+pub mod RingTurns
+pub mod SerialCalls
 pub mod SerialLaws
+pub mod SerialRun
+pub mod ServedLemmas
+pub mod SoundRun
+pub mod StackLemmas
+pub mod StayLaws
+pub mod TraceLaws
+pub mod TurnLemmas
+pub mod TurnLocks
+pub mod TurnSteps

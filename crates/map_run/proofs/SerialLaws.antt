@@ -1,62 +1,29 @@
 -- The laws of a run in serial order.
-use Rattle.std.proofs.Common.{◌≡◌, ◌≢◌, ◌↔◌, ℕ, true, List, [], ◌∷◌, take, Option, Some, None, option_map, slice_get, All, refl, ap, sym, subst}
-use Rattle.std.specs.List.{AllByRecursion}
-use Rattle.std.proofs.lemmas.List.Elements.{recursion_from_All, All-take}
-use Rattle.map_types.specs.Shape.{HasBounds}
+use Rattle.std.proofs.Common.{◌≡◌, ◌≢◌, ◌↔◌, ℕ, List, Option, Some, None, option_map, slice_get, All, refl, ap, sym, subst}
+use Rattle.std.specs.Prelude.{IsTrue}
 use Rattle.map_types.specs.Stored.{Stored}
 use Rattle.map_types.specs.declared.attr.Shape.{Shape}
-use Rattle.map_types.specs.declared.call.Call.{Call}
+use Rattle.map_types.specs.declared.kind.DomainId.{DomainId}
 use Rattle.map_types.specs.declared.refusal.Errno.TheVariants.{E2big, Enomem}
 use Rattle.map_types.specs.declared.reply.Reply.{Reply}
 use Rattle.map_types.specs.declared.reply.Reply.TheVariants.{Refused}
 use Rattle.map_script.specs.declared.script.Script.{Script}
 use Rattle.place_words.specs.declared.finals.Finals.{Finals}
 use Rattle.place_words.specs.Bodies.{present}
-use Rattle.map_run.specs.Entries.{Entry, entry_of, answers_from}
+use Rattle.place_words.specs.Histories.{opening_content}
+use Rattle.place_words.specs.Locks.{is_lock}
+use Rattle.map_run.specs.Entries.{Entry, entry_of}
 use Rattle.map_run.specs.Laws.{lists_before, entries_before, Sees, FindsNoRoom, SerialLaws}
-use Rattle.map_run.specs.Record.{EachAnswered}
-use Rattle.map_run.specs.Serial.{opening, bucket_at, after_call, lists_after, serial}
-use Rattle.map_run.specs.Served.{is_built_kind, IsServedCall, IsServed}
-use Rattle.map_run.specs.Soundness.{IsSound}
+use Rattle.map_run.specs.Serial.{opening, bucket_at}
+use Rattle.map_run.specs.Served.{IsServed}
+use Rattle.map_run.specs.Turns.{lies}
+use Rattle.map_run.proofs.RecordLaws.{calls_served, plain_replies, serial_is_record}
+use Rattle.map_run.proofs.SoundRun.{sound_run}
 use Rattle.map_run.proofs.StayLaws.{finals_are, lookups_stay, refusals_stay}
-use Rattle.map_run.proofs.AnswerLaws.{each_answered, too_big, never_enomem}
-use Rattle.map_run.proofs.BucketLaws.{buckets_opening, buckets_step}
-use Rattle.map_run.proofs.EachOnceOpening.{each_once_opening}
-use Rattle.map_run.proofs.EachOnceRun.{each_once_step, each_once_run}
-use Rattle.map_run.proofs.EntryRun.{agrees_run, plain_run}
+use Rattle.map_run.proofs.AnswerLaws.{too_big, never_enomem}
+use Rattle.map_run.proofs.EachOnceRun.{each_once_run}
+use Rattle.map_run.proofs.EntryRun.{agrees_run}
 use Rattle.map_run.proofs.EntrySteps.{Agrees, Have, look_ups, entry_hits}
-
--- Soundness
-
-sound_opening : (shape : Shape) → HasBounds shape → is_built_kind shape.kind ≡ true → IsSound shape (opening shape)
-sound_opening shape bounds built =
-    let whole = each_once_opening shape bounds built in
-    let keys = buckets_opening shape in
-    record { lengths = whole.0; each_once = whole.1; each_bucket = keys.0; no_lru_lists = keys.1 }
-
-sound_step : (shape : Shape) (call : Call) (lists : Finals) → HasBounds shape → is_built_kind shape.kind ≡ true → IsServedCall shape call → IsSound shape lists → IsSound shape (after_call shape call.cpu call.verb lists).0
-sound_step shape call lists bounds built served sound =
-    let whole = each_once_step shape shape.elements call lists bounds built served sound.lengths sound.each_once in
-    let keys = buckets_step shape call lists bounds built served sound.lengths sound.each_bucket sound.no_lru_lists in
-    record { lengths = whole.0; each_once = whole.1; each_bucket = keys.0; no_lru_lists = keys.1 }
-
-sound_calls : (shape : Shape) (calls : List Call) (lists : Finals) → HasBounds shape → is_built_kind shape.kind ≡ true → AllByRecursion (IsServedCall shape) calls → IsSound shape lists → IsSound shape (lists_after shape lists calls)
-sound_calls shape [] lists bounds built served sound = sound
-sound_calls shape (call ∷ calls) lists bounds built served sound =
-    sound_calls shape calls (after_call shape call.cpu call.verb lists).0 bounds built served.1 (sound_step shape call lists bounds built served.0 sound)
-
-sound_from_opening : (shape : Shape) (calls : List Call) → HasBounds shape → is_built_kind shape.kind ≡ true → All (IsServedCall shape) calls → IsSound shape (lists_after shape (opening shape) calls)
-sound_from_opening shape calls bounds built served =
-    sound_calls shape calls (opening shape) bounds built (recursion_from_All (IsServedCall shape) calls served) (sound_opening shape bounds built)
-
--- Before each call of a script the lists are sound.
-pub sound_run : (script : Script) → IsServed script → (n : ℕ) → IsSound script.shape (lists_before script n)
-sound_run script served n =
-    sound_from_opening script.shape (take n script.calls) served.bounds served.kind (All-take (IsServedCall script.shape) n script.calls served.calls)
-
--- So they are at the end.
-pub sound_end : (script : Script) → IsServed script → IsSound script.shape (lists_after script.shape (opening script.shape) script.calls)
-sound_end script served = sound_from_opening script.shape script.calls served.bounds served.kind served.calls
 
 -- What is seen
 
@@ -83,24 +50,13 @@ seen_run script served n =
 
 -- All laws
 
-plain_replies : (script : Script) → IsServed script → (serial script).replies ≡ answers_from script.shape [] script.calls
-plain_replies script served = plain_run script served (each_once_run script served)
-
-calls_served : (script : Script) → IsServed script → AllByRecursion (IsServedCall script.shape) script.calls
-calls_served script served = recursion_from_All (IsServedCall script.shape) script.calls served.calls
-
-finals_sound : (script : Script) → IsServed script → IsSound script.shape (serial script).finals
-unfolding serial
-finals_sound script served = sound_end script served
-
-pub serial_laws : (script : Script) → IsServed script → SerialLaws script
-serial_laws script served =
+-- What lies under the locks of the new map is what their histories open with.
+pub serial_laws : (script : Script) → IsServed script
+    → ((lock : DomainId) → IsTrue (is_lock script.shape lock) → lies (opening script.shape) lock ≡ opening_content script.shape lock) → SerialLaws script
+serial_laws script served opens =
     let plain = plain_replies script served in
     record {
-      is_record = record {
-        replies = subst (EachAnswered script.shape script.calls) (sym plain) (each_answered script.shape script.calls served.bounds served.kind (calls_served script served));
-        finals = finals_sound script served;
-      };
+      is_record = serial_is_record script served opens;
       sound = sound_run script served;
       finals = finals_are script;
       lookups_stay = lookups_stay script;

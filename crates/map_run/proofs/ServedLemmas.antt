@@ -9,7 +9,7 @@ use Rattle.map_types.specs.declared.call.Verb.TheVariants.{Lookup, Update, Delet
 use Rattle.map_types.proofs.CreationLemmas.{bounds_of_shape}
 use Rattle.map_script.specs.declared.script.Script.{Script}
 use Rattle.map_script.specs.declared.script.Form.TheVariants.{Calls}
-use Rattle.map_script.specs.WellFormed.{HasSizes, IsCallOn}
+use Rattle.map_script.specs.WellFormed.{HasSizes, IsCallOn, IsWellFormed}
 use Rattle.map_script.proofs.WellFormedLemmas.{IsWellFormed-read_as}
 use Rattle.map_run.specs.Served.{is_built_kind, is_built_verb, is_built, IsScript, IsServedVerb, IsServedCall, IsServed}
 
@@ -35,9 +35,12 @@ calls_served shape (call ∷ calls) built are =
     All-cons (IsServedCall shape) call calls (record { cpu = are.0.cpu; verb = verb_served shape call.verb each.0 are.0.sizes })
     (calls_served shape calls each.1 are.1)
 
+pub well_formed : (script : Script) → IsScript script → IsWellFormed script
+well_formed script is = IsWellFormed-read_as Calls is.0 script is.1
+
 pub IsServed-from_script : (script : Script) → IsScript script → is_built script ≡ true → IsServed script
 IsServed-from_script script is built =
-    let like = IsWellFormed-read_as Calls is.0 script is.1 in
+    let like = well_formed script is in
     let parts = both_hold (is_built_kind script.shape.kind) (list_all (λ call. is_built_verb call.verb) script.calls) built in
     record {
       kind = parts.0;

@@ -158,13 +158,13 @@ pushed_lengths cpu element stacks within = length-set stacks cpu (element ∷ st
 -- ---- spares
 
 -- one more spare, and the rest
-abbrev with_spare : ℕ → List ℕ × List (List ℕ) → List ℕ × List (List ℕ)
+abbrev pub with_spare : ℕ → List ℕ × List (List ℕ) → List ℕ × List (List ℕ)
 with_spare spare rest = (spare ∷ rest.0, rest.1)
 
-spares_next : (n : ℕ) (stacks : List (List ℕ)) (top : ℕ × List (List ℕ)) → popped 0 stacks ≡ Some top → spares_popped (suc n) stacks ≡ with_spare top.0 (spares_popped n top.1)
+pub spares_next : (n : ℕ) (stacks : List (List ℕ)) (top : ℕ × List (List ℕ)) → popped 0 stacks ≡ Some top → spares_popped (suc n) stacks ≡ with_spare top.0 (spares_popped n top.1)
 spares_next n stacks top is = ap (λ o. unwrap_or (option_map (λ (t : ℕ × List (List ℕ)). with_spare t.0 (spares_popped n t.1)) o) ([], stacks)) is
 
-spares_end : (n : ℕ) (stacks : List (List ℕ)) → popped 0 stacks ≡ None → spares_popped n stacks ≡ ([], stacks)
+pub spares_end : (n : ℕ) (stacks : List (List ℕ)) → popped 0 stacks ≡ None → spares_popped n stacks ≡ ([], stacks)
 spares_end zero stacks is = refl
 spares_end (suc n) stacks is = ap (λ o. unwrap_or (option_map (λ (t : ℕ × List (List ℕ)). with_spare t.0 (spares_popped n t.1)) o) ([], stacks)) is
 

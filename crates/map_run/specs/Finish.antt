@@ -14,9 +14,11 @@ use Rattle.map_script.specs.declared.refusal.ScriptRefusal.TheVariants.{Fault, C
 use Rattle.map_script.specs.declared.script.Form.TheVariants.{Calls}
 use Rattle.map_script.specs.Reading.{read_as}
 use Rattle.map_script.specs.CauseName.{cause_name}
+use Rattle.place_table.specs.Closing.{ClosedView}
 use Rattle.map_run.specs.Reads.{Takes, TakesAll}
 use Rattle.map_run.specs.Laws.{SerialLaws}
-use Rattle.map_run.specs.Serial.{serial}
+use Rattle.map_run.specs.Record.{IsCopyOf}
+use Rattle.map_run.specs.Runs.{serial}
 use Rattle.map_run.specs.Served.{is_built}
 use Rattle.map_run.specs.Text.{report}
 use Rattle.map_run.specs.Words.{are_words, options_of}
@@ -73,6 +75,13 @@ abbrev pub kept_of : Ending → Option RunRecord
 kept_of (Ran options script) = Some (serial script)
 kept_of _ = None
 
+-- what the table left of which the record was made, exactly where a record is kept
+abbrev pub IsKeptFrom : Option RunRecord → Option ClosedView → Type 0
+IsKeptFrom None None = ⊤
+IsKeptFrom (Some kept) (Some closed) = IsCopyOf kept closed
+IsKeptFrom None (Some closed) = ⊥
+IsKeptFrom (Some kept) None = ⊥
+
 -- an input was read to its end, and isn't too long
 pub record IsInput (before after : Option (List ℕ)) (input : List ℕ) : Type 0 where
   pub all : TakesAll before after input
@@ -109,9 +118,10 @@ abbrev pub IsDelivered : ℕ → List ℕ → ℕ → Option Written → Option 
 IsDelivered due text status before after rose =
     ((status ≡ due) × AddsWhole before after text) ⊎ ((status ≡ 4) × AddsPrefix before after text × rose)
 
--- An ending was delivered, with what is kept of the run.
+-- An ending was delivered, with what is kept of the run and what its table left.
 pub record Ends (ending : Ending) (before after : Option Written) (rose : Type 0) (finish : Finish) : Type 0 where
   pub kept : finish.kept ≡ kept_of ending
+  pub closed : IsKeptFrom finish.kept finish.closed
   pub delivered : IsDelivered (status_of ending) (text_due ending) finish.status before after rose
 
 -- how a run ended, by which endings it may have, and from what a sink tells before to what it tells after

@@ -1,8 +1,9 @@
 -- The freelists of a map that doesn't evict: a stack of free elements for each CPU, top first. The rules are those of the
 -- kernel's `pcpu_freelist_populate`, `__pcpu_freelist_pop` and `__pcpu_freelist_push`.
-use Rattle.std.specs.Prelude.{ℕ, zero, suc, ◌-◌, ◌==◌, not, List, [], ◌∷◌, ◌++◌, length, map, reverse, drop, find, slice_index, slice_index_or, slice_set, Option, option_map, unwrap_or}
+use Rattle.std.specs.Prelude.{ℕ, zero, suc, ◌==◌, not, List, [], ◌∷◌, length, map, reverse, drop, find, slice_index, slice_index_or, slice_set, Option, option_map, unwrap_or}
 use Rattle.std.specs.List.{range_with_len}
 use Rattle.place_words.specs.Shares.{share_first, share_count}
+pub use Rattle.place_words.specs.Traces.{ring}
 
 -- a CPU's share of the elements: each is pushed in order, so the greatest is on top
 abbrev pub opening_stack : ℕ → ℕ → ℕ → List ℕ
@@ -14,11 +15,7 @@ opening_stacks elements cpus = map (opening_stack elements cpus) (range_with_len
 abbrev pub stack_at : List (List ℕ) → ℕ → List ℕ
 stack_at stacks cpu = slice_index_or stacks cpu []
 
--- the CPUs in the order in which one of them looks at their stacks: from its own upwards, wrapping
-abbrev pub ring : ℕ → ℕ → List ℕ
-ring cpu cpus = range_with_len cpu (cpus - cpu) ++ range_with_len 0 cpu
-
--- the first CPU in this order whose stack isn't empty
+-- the first CPU in ring order whose stack isn't empty
 abbrev pub first_not_empty : ℕ → List (List ℕ) → Option ℕ
 first_not_empty cpu stacks = find (λ c. not (length (stack_at stacks c) == 0)) (ring cpu (length stacks))
 

@@ -15,7 +15,8 @@ use Rattle.place_words.specs.Bodies.{present}
 use Rattle.map_run.specs.EachOnce.{in_buckets}
 use Rattle.map_run.specs.Entries.{Entry, entry_of, answers_from, entries_after}
 use Rattle.map_run.specs.Record.{IsRecord}
-use Rattle.map_run.specs.Serial.{opening, bucket_at, lists_after, serial}
+use Rattle.map_run.specs.Runs.{serial}
+use Rattle.map_run.specs.Serial.{opening, bucket_at, lists_after}
 use Rattle.map_run.specs.Soundness.{IsSound}
 
 -- the lists of the map before the call of an index, and its entries as its user sees them

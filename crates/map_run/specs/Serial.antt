@@ -15,12 +15,11 @@ use Rattle.map_types.specs.declared.refusal.Errno.TheVariants.{Enoent, E2big, Ee
 use Rattle.map_types.specs.declared.reply.Reply.{Reply}
 use Rattle.map_types.specs.declared.reply.Reply.TheVariants.{Done, Value, Refused}
 use Rattle.map_types.specs.Kind.{is_percpu}
-use Rattle.map_types.specs.Sides.{value_read, values_written, new_values}
+use Rattle.map_types.specs.Sides.{value_read, values_written}
 use Rattle.map_types.specs.Stored.{Stored}
-use Rattle.map_script.specs.declared.script.Script.{Script}
 use Rattle.place_words.specs.declared.finals.Finals.{Finals}
-use Rattle.map_run.specs.declared.record.RunRecord.{RunRecord}
 use Rattle.place_words.specs.Bodies.{present, without_key}
+pub use Rattle.place_words.specs.Buckets.{new_stored}
 use Rattle.map_run.specs.Buckets.{bucket_of_key, with_in_place}
 use Rattle.map_run.specs.Freelists.{opening_stacks, spares_popped, popped, pushed}
 
@@ -52,11 +51,6 @@ with_bucket shape lists key bucket = record lists { buckets = slice_set lists.bu
 abbrev pub value_or_absent : Shape → Side → ℕ → Option Stored → Reply
 value_or_absent shape side cpu None = Refused Enoent
 value_or_absent shape side cpu (Some stored) = Value (value_read shape side cpu stored.values)
-
--- an element that is new in its bucket, into which a side writes a value on a CPU
-abbrev pub new_stored : Shape → Side → ℕ → ℕ → List ℕ → List ℕ → Stored
-new_stored shape side cpu element key value =
-    record { element = element; key = key; values = new_values shape side cpu value }
 
 -- A present key of a map that has spares: the CPU's spare is the new element, at the bucket's head, and the old one
 -- becomes the spare.
@@ -116,10 +110,3 @@ replies_from shape lists (call ∷ calls) =
 abbrev pub lists_after : Shape → Finals → List Call → Finals
 lists_after shape lists [] = lists
 lists_after shape lists (call ∷ calls) = lists_after shape (after_call shape call.cpu call.verb lists).0 calls
-
--- the record of the run of a script in serial order
-unfoldable pub serial : Script → RunRecord
-serial script = record {
-  replies = replies_from script.shape (opening script.shape) script.calls;
-  finals = lists_after script.shape (opening script.shape) script.calls;
-}

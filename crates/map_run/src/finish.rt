@@ -30,11 +30,16 @@ fn end_with_line<K: Sink>(sink: &mut K, status: u8, line: &[u8]) -> Finish
         Ok(()) => status,
         Err(_) => 4,
     };
-    Finish { status, kept: None }
+    Finish {
+        status,
+        kept: None,
+        closed: None,
+    }
 }
 
 /// Runs a script and ends with its report.
-fn end_with_run<K: Sink>(
+fn end_with_run<R: Wait, K: Sink>(
+    rt: &R,
     alloc: Global,
     options: Options,
     input: &[u8],
@@ -46,7 +51,7 @@ fn end_with_run<K: Sink>(
     ensures { Finishes (HasInput options input.now) (K.written sink.old) (K.written sink.new)
         (Rose (K.faults sink.old) (K.faults sink.new)) result }
 {
-    let Ok(kept) = run_serial(alloc, script) else {
+    let Ok((kept, closed)) = run_serial(rt, alloc, script) else {
         return end_with_line(sink, 5, b"bpfmap: memory\n");
     };
     let Ok(text) = report_of(alloc, script, &kept, options) else {
@@ -59,6 +64,7 @@ fn end_with_run<K: Sink>(
     Finish {
         status,
         kept: Some(kept),
+        closed: Some(closed),
     }
 }
 
@@ -118,7 +124,8 @@ fn end_with_refusal<K: Sink>(input: &[u8], sink: &mut K, why: CreateRefusal) -> 
 }
 
 /// Ends a run whose input is a script.
-fn end_with_script<K: Sink>(
+fn end_with_script<R: Wait, K: Sink>(
+    rt: &R,
     alloc: Global,
     options: Options,
     input: &[u8],
@@ -132,17 +139,23 @@ fn end_with_script<K: Sink>(
     if !is_built(script) {
         return end_with_line(sink, 8, b"bpfmap: not built\n");
     }
-    end_with_run(alloc, options, input, script, sink)
+    end_with_run(rt, alloc, options, input, script, sink)
 }
 
 /// Ends a run whose input was read to its end.
-fn end_with_input<K: Sink>(alloc: Global, options: Options, input: &[u8], sink: &mut K) -> Finish
+fn end_with_input<R: Wait, K: Sink>(
+    rt: &R,
+    alloc: Global,
+    options: Options,
+    input: &[u8],
+    sink: &mut K,
+) -> Finish
     requires { length input.now ≤ 16777216 }
     ensures { Finishes (HasInput options input.now) (K.written sink.old) (K.written sink.new)
         (Rose (K.faults sink.old) (K.faults sink.new)) result }
 {
     match read_script(alloc, input, Form::Calls) {
-        Ok(script) => end_with_script(alloc, options, input, &script, sink),
+        Ok(script) => end_with_script(rt, alloc, options, input, &script, sink),
         Err(ScriptRefusal::Fault { line, cause }) => end_with_fault(
             alloc, input, sink, line, cause,
         ),
@@ -152,7 +165,8 @@ fn end_with_input<K: Sink>(alloc: Global, options: Options, input: &[u8], sink: 
 }
 
 /// Ends a run from its words on.
-fn end_with_words<S: Source, K: Sink>(
+fn end_with_words<R: Wait, S: Source, K: Sink>(
+    rt: &R,
     alloc: Global,
     words: &[String],
     source: &mut S,
@@ -164,14 +178,15 @@ fn end_with_words<S: Source, K: Sink>(
     ensures unread { are_words (map string_bytes words.now) ≡ false → source.new ≡ source.old }
 {
     match options_of(alloc, words) {
-        Ok(options) => end_with_source(alloc, options, source, sink),
+        Ok(options) => end_with_source(rt, alloc, options, source, sink),
         Err(WordsStop::Other) => end_with_line(sink, 2, b"bpfmap: words\n"),
         Err(WordsStop::NoMemory) => end_with_line(sink, 5, b"bpfmap: memory\n"),
     }
 }
 
 /// Ends a run whose words are good.
-fn end_with_source<S: Source, K: Sink>(
+fn end_with_source<R: Wait, S: Source, K: Sink>(
+    rt: &R,
     alloc: Global,
     options: Options,
     source: &mut S,
@@ -182,7 +197,7 @@ fn end_with_source<S: Source, K: Sink>(
         (Rose (K.faults sink.old) (K.faults sink.new)) result }
 {
     match read_all(alloc, source) {
-        Ok(input) => end_with_input(alloc, options, input.as_slice(), sink),
+        Ok(input) => end_with_input(rt, alloc, options, input.as_slice(), sink),
         Err(ReadStop::Failed) => end_with_line(sink, 3, b"bpfmap: read\n"),
         Err(ReadStop::TooLong) => end_with_line(sink, 7, b"bpfmap: too long\n"),
         Err(ReadStop::NoMemory) => end_with_line(sink, 5, b"bpfmap: memory\n"),
@@ -209,9 +224,10 @@ fn end_with_source<S: Source, K: Sink>(
 /// | 8 | exactly where the input is a script whose run isn't built | `bpfmap: not built` |
 ///
 /// Status 4 replaces the one whose report or line could not be written, and status 5 may come in the place of any other. The
-/// record of the run is kept exactly where its report was due: with status 0, and with 4 in the place of it.
+/// record of the run is kept, with what its table left, exactly where its report was due: with status 0, and with 4 in the
+/// place of it.
 pub fn bpfmap<R: Threads + Wait + Sync, S: Source, K: Sink, G: Gate>(
-    _rt: &R,
+    rt: &R,
     alloc: Global,
     words: &[String],
     source: &mut S,
@@ -231,5 +247,5 @@ pub fn bpfmap<R: Threads + Wait + Sync, S: Source, K: Sink, G: Gate>(
     // With other words nothing is read.
     ensures unread { are_words (map string_bytes words.now) ≡ false → source.new ≡ source.old }
 {
-    end_with_words(alloc, words, source, sink)
+    end_with_words(rt, alloc, words, source, sink)
 }

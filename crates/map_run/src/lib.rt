@@ -1,12 +1,12 @@
 //! Runs scripts of calls on maps, and prints what they answered.
 #![tactic(auto)]
 
-mod bodies;
-mod buckets;
 mod delivery;
 mod dump;
 mod finish;
 mod memory;
+mod one_call;
+#[cfg(test)]
 mod plain;
 mod reading;
 mod record;
@@ -14,7 +14,6 @@ mod serial;
 mod served;
 mod sink;
 mod source;
-mod stacks;
 #[cfg(test)]
 mod tests;
 mod text;

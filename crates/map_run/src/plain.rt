@@ -1,4 +1,4 @@
-//! A hash map that doesn't evict, as it is run in serial order.
+//! Runs in serial order on plain lists, as specs/Serial.antt has them, with which tests compare the runs over the shared table.
 
 ghost use Rattle.std.specs.Prelude.{◌≡◌, ◌<◌, IfOk, OnOk, IsTrue, length};
 ghost use Rattle.map_types.specs.Shape.{HasBounds};
@@ -6,15 +6,21 @@ ghost use Rattle.map_types.specs.ValueLen.{value_len_of};
 ghost use Rattle.place_words.specs.Bodies.{present};
 ghost use Rattle.map_run.specs.Buckets.{bucket_of_key};
 ghost use Rattle.map_run.specs.Serial.{bucket_at, deleted, opening, after_call, spare_count, value_or_absent};
-ghost use Rattle.map_run.specs.Served.{is_built_kind, IsServedCall};
+ghost use Rattle.map_run.specs.Runs.{serial};
+ghost use Rattle.map_run.specs.Served.{is_built_kind, IsServed, IsServedCall};
 
-use crate::bodies::value_of;
-use crate::buckets::{add_in, body_in, buckets_of, empty_buckets, replace_in, take_in, write_in};
-use crate::stacks::{opening_stacks, pop, pop_spares, push, top_first};
+mod bodies;
+mod buckets;
+mod stacks;
+
+use bodies::value_of;
 use bucket_chain::Chain;
+use buckets::{add_in, body_in, buckets_of, empty_buckets, replace_in, take_in, write_in};
 use key_hash::{bucket_of, jhash};
+use map_script::Script;
 use map_types::{Call, Errno, List, MapKind, NoMemory, Reply, Shape, Side, Verb};
 use place_words::Finals;
+use stacks::{opening_stacks, pop, pop_spares, push, top_first};
 use std::alloc::Global;
 use std::marker::Model;
 
@@ -24,9 +30,25 @@ const BPF_NOEXIST: u32 = 1;
 /// The flag of an update that refuses an absent key.
 const BPF_EXIST: u32 = 2;
 
+/// Runs the calls of a script one after another. It gives their replies, and what the map holds at the end.
+#[tactic(auto, unfolding(crate::specs::Runs::serial))]
+pub(crate) fn run_plain(alloc: Global, script: &Script) -> Result<(List<Reply>, Finals), NoMemory>
+    requires { IsServed script.now }
+    ensures replies { IfOk result (λ left. left.0 ≡ (serial script.now).replies) }
+    ensures finals { IfOk result (λ left. left.1 ≡ (serial script.now).finals) }
+{
+    let mut map = ListMap::open(alloc, &script.shape)?;
+    let mut replies = Vec::with_capacity(alloc, script.calls.len())?;
+    for call in script.calls.as_slice() {
+        replies.push(map.call(alloc, call)?)?;
+    }
+    let finals = map.finals(alloc)?;
+    Ok((List::of(replies), finals))
+}
+
 /// A hash map that doesn't evict, whose calls are run one after another.
 #[derive(Drop)]
-pub(crate) struct PlainMap {
+struct ListMap {
     shape: Shape,
     buckets: Vec<Chain>,
     /// The free elements of each CPU, with the top at the end.
@@ -35,9 +57,9 @@ pub(crate) struct PlainMap {
     spares: Vec<u32>,
 }
 
-impl Model for PlainMap {
-    ghost use Rattle.map_run.specs.Plain.{PlainState, plain_lists, stacks_of};
-    ghost use Rattle.map_run.specs.PlainFields.{IsPlain};
+impl Model for ListMap {
+    ghost use Rattle.std.specs.Prelude.{vec_len};
+    ghost use Rattle.map_run.specs.Plain.{PlainState, plain_lists, stacks_of, IsPlain};
 
     ghost Value = { PlainState };
 
@@ -46,12 +68,12 @@ impl Model for PlainMap {
       lists = plain_lists m.buckets.items (stacks_of m.freelists.items) m.spares.items;
     } };
 
-    ghost invariant = { IsPlain };
+    ghost invariant = { λ m. IsPlain m.shape m.buckets.items (vec_len m.buckets) (vec_len m.freelists) (vec_len m.spares) };
 }
 
-impl PlainMap {
+impl ListMap {
     /// A new map: each element is on the freelist of its CPU, and on HASH CPU 0 pops one as the spare of each CPU.
-    pub(crate) fn open(alloc: Global, shape: &Shape) -> Result<PlainMap, NoMemory>
+    fn open(alloc: Global, shape: &Shape) -> Result<ListMap, NoMemory>
         requires kind { IsTrue (is_built_kind shape.now.kind) }
         requires bounds { HasBounds shape.now }
         ensures lists { IfOk result (λ map. map.lists ≡ opening shape.now) }
@@ -60,7 +82,7 @@ impl PlainMap {
         let buckets = empty_buckets(alloc, shape.buckets)?;
         let mut freelists = opening_stacks(alloc, shape.elements, shape.cpus)?;
         let spares = pop_spares(alloc, &mut freelists, spare_count(shape))?;
-        Ok(PlainMap {
+        Ok(ListMap {
             shape: *shape,
             buckets,
             freelists,
@@ -71,7 +93,7 @@ impl PlainMap {
     /// Runs a call that is served, and gives its answer. Each verb's rule is that of the kernel function for its kind and
     /// side, as specs/Serial.antt names them. After an error the map is to be given up.
     #[tactic(auto, unfolding(crate::specs::Serial::after_call))]
-    pub(crate) fn call(&mut self, alloc: Global, call: &Call) -> Result<Reply, NoMemory>
+    fn call(&mut self, alloc: Global, call: &Call) -> Result<Reply, NoMemory>
         requires served { IsServedCall self.old.shape call.now }
         ensures exact { IfOk result (λ reply.
             (self.new.lists, reply) ≡ after_call self.old.shape call.now.cpu call.now.verb self.old.lists) }
@@ -96,7 +118,7 @@ impl PlainMap {
     }
 
     /// What the map holds.
-    pub(crate) fn finals(&self, alloc: Global) -> Result<Finals, NoMemory>
+    fn finals(&self, alloc: Global) -> Result<Finals, NoMemory>
         ensures { IfOk result (λ finals. finals ≡ self.now.lists) }
     {
         Ok(Finals {

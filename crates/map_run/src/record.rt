@@ -1,7 +1,8 @@
 //! What is kept of a run, and how it ended.
 
 use map_types::{List, Reply};
-use place_words::Finals;
+use place_table::Closed;
+use place_words::{Finals, LockHistory, Strand};
 
 /// How a report is written, and what it has beside the replies.
 #[derive(Clone, Copy, Debug, PartialEq, Eq)]
@@ -19,6 +20,10 @@ pub struct Options {
 pub struct RunRecord {
     /// The answer to each call, in the script's order.
     pub replies: List<Reply>,
+    /// What happened under each lock of the map, in the order of the locks: buckets by number, then freelists by CPU.
+    pub histories: List<LockHistory>,
+    /// The turns of the CPUs in the order in which they gave the locks back. In serial order all CPUs are in one strand.
+    pub strands: List<Strand>,
     /// What the map holds at the end.
     pub finals: Finals,
 }
@@ -30,4 +35,6 @@ pub struct Finish {
     pub status: u8,
     /// The record of the run, exactly where its report was due: with status 0, and with 4 in the place of it.
     pub kept: Option<RunRecord>,
+    /// What the run's table left when it was closed, exactly where the record is there.
+    pub closed: Option<Closed>,
 }

@@ -1,43 +1,158 @@
 //! A run in serial order.
 
-ghost use Rattle.std.specs.Prelude.{◌≡◌, IsTrue, IfOk};
+ghost use Rattle.std.specs.Prelude.{◌≡◌, ◌≤◌, false, [], All, IsTrue, IfOk, length};
+ghost use Rattle.std.specs.List.{range_with_len};
+ghost use Rattle.map_types.specs.Creation.{IsShape};
+ghost use Rattle.map_run.specs.Going.{HaveRun};
 ghost use Rattle.map_run.specs.Laws.{SerialLaws};
-ghost use Rattle.map_run.specs.Serial.{serial};
-ghost use Rattle.map_run.specs.Served.{is_built, IsScript, IsServed};
+ghost use Rattle.map_run.specs.Record.{IsCopyOf};
+ghost use Rattle.map_run.specs.Runs.{serial, record_left, strand_left};
+ghost use Rattle.map_run.specs.Served.{is_built, is_built_kind, IsScript, IsServed, IsServedCall};
 
 use crate::RunRecord;
-use crate::plain::PlainMap;
+use crate::one_call::run_call;
+use hash_ops::PlainMap;
 use map_script::Script;
-use map_types::{List, NoMemory};
+use map_types::{Call, List, NoMemory, Reply};
+use place_table::{Closed, Pass};
+use place_words::{LockHistory, Strand};
 use std::alloc::Global;
+use std::sync::Wait;
 
-/// Runs the calls of a script one after another, on a new map, and keeps their replies and what the map holds at the
-/// end. It fails only where memory does.
+/// Runs the calls of a script one after another, on a new map over the shared table, by one pass that has all CPUs. What is
+/// kept are the replies, what happened under each lock, and what the map holds at the end; beside it stands what the closed
+/// table left. It fails only where memory does.
 ///
 /// The script is one that `read_script` gives, and its run is built. The rules are those of the kernel functions
 /// that specs/Serial.antt names.
-pub fn run_serial(alloc: Global, script: &Script) -> Result<RunRecord, NoMemory>
+pub fn run_serial<R: Wait>(
+    rt: &R,
+    alloc: Global,
+    script: &Script,
+) -> Result<(RunRecord, Closed), NoMemory>
     requires script { IsScript script.now }
     requires built { IsTrue (is_built script.now) }
-    ensures record { IfOk result (λ kept. kept ≡ serial script.now) }
+    ensures record { IfOk result (λ kept. kept.0 ≡ serial script.now) }
     ensures laws { SerialLaws script.now }
+    ensures closed { IfOk result (λ kept. IsCopyOf kept.0 kept.1) }
 {
-    run_calls(alloc, script)
+    run_script(rt, alloc, script)
 }
 
-/// Runs the calls of a script whose run is built.
-#[tactic(auto, unfolding(crate::specs::Serial::serial))]
-fn run_calls(alloc: Global, script: &Script) -> Result<RunRecord, NoMemory>
-    requires { IsServed script.now }
-    ensures record { IfOk result (λ kept. kept ≡ serial script.now) }
+/// Runs the calls of a script whose run is built, and closes the map.
+fn run_script<R: Wait>(
+    rt: &R,
+    alloc: Global,
+    script: &Script,
+) -> Result<(RunRecord, Closed), NoMemory>
+    requires shape { IsShape script.now.shape }
+    requires served { IsServed script.now }
+    requires few { length script.now.calls ≤ 200000 }
+    ensures record { IfOk result (λ kept. kept.0 ≡ serial script.now) }
+    ensures closed { IfOk result (λ kept. IsCopyOf kept.0 kept.1) }
 {
-    let mut map = PlainMap::open(alloc, &script.shape)?;
-    let mut replies = Vec::with_capacity(alloc, script.calls.len())?;
-    for call in script.calls.as_slice() {
-        replies.push(map.call(alloc, call)?)?;
+    let (map, mut pass) = PlainMap::create(alloc, &script.shape)?;
+    let replies = run_calls(rt, alloc, &map, &mut pass, script.calls.as_slice())?;
+    let closed = map.close(pass)?;
+    keep(alloc, script.shape.cpus, replies, closed)
+}
+
+/// Runs calls one after another, each on its CPU. They are numbered from 1.
+fn run_calls<R: Wait>(
+    rt: &R,
+    alloc: Global,
+    map: &PlainMap,
+    pass: &mut Pass,
+    calls: &[Call],
+) -> Result<Vec<Reply>, NoMemory>
+    requires shape { IsShape map.now.shape }
+    requires built { IsTrue (is_built_kind map.now.shape.kind) }
+    requires calls { All (IsServedCall map.now.shape) calls.now }
+    requires few { length calls.now ≤ 200000 }
+    requires first { HaveRun map.now [] pass.old [] }
+    ensures { IfOk result (λ replies. HaveRun map.now calls.now pass.new replies.items) }
+{
+    let mut replies = Vec::with_capacity(alloc, calls.len())?;
+    let mut number = 0;
+    for call in calls {
+        number += 1;
+        replies.push(run_call(rt, alloc, map, pass, number, call)?)?;
     }
+    Ok(replies)
+}
+
+/// The record of a run whose calls were answered so, and what its table left. Where the record of a lock is lost there is none.
+fn keep(
+    alloc: Global,
+    cpus: u32,
+    replies: Vec<Reply>,
+    closed: Closed,
+) -> Result<(RunRecord, Closed), NoMemory>
+    ensures { IfOk result (λ kept. (kept.0 ≡ record_left cpus replies.items closed) × (kept.1 ≡ closed) × (closed.lost ≡ false)) }
+{
+    if closed.lost() {
+        return Err(NoMemory);
+    }
+    let kept = record_of(alloc, cpus, replies, &closed)?;
+    Ok((kept, closed))
+}
+
+/// The record of a run whose calls were answered so, and whose table left this.
+fn record_of(
+    alloc: Global,
+    cpus: u32,
+    replies: Vec<Reply>,
+    closed: &Closed,
+) -> Result<RunRecord, NoMemory>
+    ensures { IfOk result (λ kept. kept ≡ record_left cpus replies.items closed.now) }
+{
+    let mut strands = Vec::with_capacity(alloc, 1)?;
+    strands.push(strand_of(alloc, cpus, closed.strands().as_slice())?)?;
     Ok(RunRecord {
         replies: List::of(replies),
-        finals: map.finals(alloc)?,
+        histories: List::of(histories_of(alloc, closed.histories().as_slice())?),
+        strands: List::of(strands),
+        finals: closed.finals().copy(alloc)?,
     })
 }
+
+/// The strand that is there, or one of all CPUs that has no step.
+fn strand_of(alloc: Global, cpus: u32, strands: &[Strand]) -> Result<Strand, NoMemory>
+    ensures { IfOk result (λ strand. strand ≡ strand_left cpus strands.now) }
+{
+    match strands.first() {
+        Some(strand) => strand.copy(alloc),
+        None => no_steps(alloc, cpus),
+    }
+}
+
+/// A strand of all CPUs that has no step.
+fn no_steps(alloc: Global, cpus: u32) -> Result<Strand, NoMemory>
+    ensures { IfOk result (λ strand. strand ≡ strand_left cpus []) }
+{
+    Ok(Strand {
+        cpus: List::of(all_cpus(alloc, cpus)?),
+        steps: List::of(Vec::new(alloc)),
+    })
+}
+
+/// The numbers of all CPUs.
+fn all_cpus(alloc: Global, cpus: u32) -> Result<Vec<u32>, NoMemory>
+    ensures { IfOk result (λ numbers. numbers.items ≡ range_with_len 0 cpus) }
+{
+    Ok((0..cpus).collect(alloc)?)
+}
+
+/// Copies of histories.
+fn histories_of(alloc: Global, histories: &[LockHistory]) -> Result<Vec<LockHistory>, NoMemory>
+    ensures { IfOk result (λ copies. copies.items ≡ histories.now) }
+{
+    let mut copies = Vec::with_capacity(alloc, histories.len())?;
+    for history in histories {
+        copies.push(history.copy(alloc)?)?;
+    }
+    Ok(copies)
+}
+
+#[cfg(test)]
+mod tests;

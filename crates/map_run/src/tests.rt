@@ -86,7 +86,7 @@ fn scripts_are_run(rt: HostRuntime) -> Result<(), Fail> {
 }
 
 /// Words, a script behind its version line, and its report.
-const RUNS: [(&str, &str, &str); 12] = [
+pub(crate) const RUNS: [(&str, &str, &str); 12] = [
     // No calls: one element on the freelist, and one spare.
     (
         "serial --dump",

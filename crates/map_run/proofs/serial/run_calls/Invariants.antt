@@ -1,10 +1,10 @@
-use Rattle.std.proofs.Common.{◌≡◌, ◌++◌, drop}
-use Rattle.map_run.specs.Serial.{opening, replies_from, lists_after}
+use Rattle.std.proofs.Common.{◌≡◌, take}
+use Rattle.map_run.specs.Going.{HaveRun}
 use Rattle.map_run.proofs.serial.run_calls.Given as goal
 
--- the replies so far, and those of the calls that are left, are the replies of all, and the map goes on to the same end
+-- the calls so far were run
 abbrev pub invariant-loop-call : goal.invariant-loop-call
-invariant-loop-call l =
-    (l.map.shape ≡ l.script.shape)
-    × (l.replies.items ++ replies_from l.script.shape l.map.lists (drop l.call-index l.script.calls) ≡ replies_from l.script.shape (opening l.script.shape) l.script.calls)
-    × (lists_after l.script.shape l.map.lists (drop l.call-index l.script.calls) ≡ lists_after l.script.shape (opening l.script.shape) l.script.calls)
+invariant-loop-call g l = record {
+  count : l.number ≡ l.call-index;
+  run : HaveRun l.map (take l.call-index l.calls) l.pass l.replies.items;
+}

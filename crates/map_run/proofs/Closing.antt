@@ -1,0 +1,270 @@
+-- What a table leaves that is closed after a serial run: the record of the run.
+use Rattle.std.proofs.Common.{◌≡◌, ◌≢◌, ℕ, zero, suc, ◌+◌, ◌<◌, ◌≤◌, ◌⊎◌, Bool, true, false, not, ◌||◌, ◌&&◌, cond, eqb, List, [], ◌∷◌, ◌++◌, length, map, Option, Some, None, refl, ap, sym, ◌∙◌, inl, inr, arith, append-nil, append_assoc}
+use Rattle.std.specs.Prelude.{IsTrue, All, filter, option_map, slice_get}
+use Rattle.std.specs.List.{list_any, range_with_len}
+use Rattle.std.proofs.lemmas.Bool.{cases_eq, lt-ltb}
+use Rattle.std.proofs.lemmas.List.{ext_get_or}
+use Rattle.std.proofs.lemmas.List.Elements.{All-head, All-tail}
+use Rattle.std.proofs.lemmas.Option.{none-some, same_Some}
+use Rattle.map_types.specs.declared.attr.Shape.{Shape}
+use Rattle.map_types.specs.declared.kind.DomainId.{DomainId}
+use Rattle.map_types.specs.declared.kind.DomainId.TheVariants.{Bucket, Freelist}
+use Rattle.map_types.specs.declared.kind.MapKind.{MapKind}
+use Rattle.map_types.specs.declared.kind.MapKind.TheVariants.{Hash, PercpuHash, LruHash, LruPercpuHash}
+use Rattle.map_types.specs.Kind.{is_lru}
+use Rattle.map_types.specs.Shape.{HasBounds}
+use Rattle.map_types.specs.Stored.{Stored}
+use Rattle.place_words.specs.declared.finals.Finals.{Finals}
+use Rattle.place_words.specs.declared.history.Entry.{Entry}
+use Rattle.place_words.specs.declared.history.StrandStep.{StrandStep}
+use Rattle.place_words.specs.Histories.{in_bucket, on_freelist, content}
+use Rattle.place_words.specs.Locks.{is_lock, is_same_lock, lock_named, lock_number, lock_count}
+use Rattle.place_words.specs.Strands.{places_on}
+use Rattle.place_words.proofs.LockLemmas.{number_of_named, number_within, one_number, same_lock, other_lock}
+use Rattle.place_core.proofs.ElementLemmas.{by_test}
+use Rattle.place_table.specs.declared.view.Turned.{Turned}
+use Rattle.place_table.specs.Closing.{ClosedView, IsClosed, has_lock, history_of, strands_of, spare_numbers}
+use Rattle.place_table.specs.Passes.{PassView, IsKeptOf, spare_of}
+use Rattle.place_table.specs.Rules.{turns_on, indexes}
+use Rattle.place_table.specs.Views.{bit_seen, kept_step, no_bits}
+use Rattle.map_run.specs.Going.{Going}
+use Rattle.map_run.specs.Served.{is_built_kind}
+use Rattle.map_run.specs.Soundness.{IsSound}
+use Rattle.map_run.specs.Turns.{Happened, lies, entries_on, history_on, histories_of_turns, steps_from}
+
+-- What is handed out is what happened in the run, and what it leads to.
+pub record IsLeftBy (shape : Shape) (lists : Finals) (turns : List Happened) (closed : ClosedView) : Type 0 where
+  pub histories : closed.histories ≡ histories_of_turns shape turns
+  pub strands : closed.strands ≡ strands_of shape (steps_from [] turns)
+  pub finals : closed.finals ≡ lists
+
+-- Recorded steps
+
+-- two numbers name one lock where they are one
+same_number : (shape : Shape) (j k : ℕ) → is_same_lock (lock_named shape j) (lock_named shape k) ≡ eqb j k
+same_number shape j k =
+    by_test j k (λ b. is_same_lock (lock_named shape j) (lock_named shape k) ≡ b)
+    (λ is. ap (λ (m : ℕ). is_same_lock (lock_named shape m) (lock_named shape k)) is ∙ same_lock (lock_named shape k))
+    (λ other. other_lock (lock_named shape j) (lock_named shape k) (λ is. other (one_number shape j k is)))
+
+places_more : (lock : DomainId) (before : List StrandStep) (step : StrandStep) → length (places_on lock (before ++ step ∷ [])) ≡ length (places_on lock before) + cond (is_same_lock step.lock lock) 1 0
+places_more lock [] step = by (is_same_lock step.lock lock)
+  where
+    by : (b : Bool) → length (cond b (step.index ∷ []) []) ≡ 0 + cond b 1 0
+    by true = omega arith
+    by false = omega arith
+places_more lock (first ∷ before) step = by (is_same_lock first.lock lock) (places_more lock before step)
+  where
+    by : (b : Bool) → length (places_on lock (before ++ step ∷ [])) ≡ length (places_on lock before) + cond (is_same_lock step.lock lock) 1 0
+        → length (cond b (first.index ∷ places_on lock (before ++ step ∷ [])) (places_on lock (before ++ step ∷ []))) ≡ length (cond b (first.index ∷ places_on lock before) (places_on lock before)) + cond (is_same_lock step.lock lock) 1 0
+    by true rest = omega arith
+    by false rest = rest
+
+turns_more : (k : ℕ) (step : Turned) (steps : List Turned) → length (turns_on k (step ∷ steps)) ≡ cond (eqb step.lock k) 1 0 + length (turns_on k steps)
+turns_more k step steps = by (eqb step.lock k)
+  where
+    by : (b : Bool) → length (cond b ((step.index, step.entry) ∷ turns_on k steps) (turns_on k steps)) ≡ cond b 1 0 + length (turns_on k steps)
+    by true = omega arith
+    by false = omega arith
+
+counts_one : (k : ℕ) → cond {A = ℕ} (eqb k k) 1 0 ≡ 1
+counts_one k = by_test k k (λ b. cond {A = ℕ} b 1 0 ≡ 1) (λ _. refl) (λ other. absurd (other refl))
+
+-- one step more that is recorded, on each lock
+kept_more : (shape : Shape) (k : ℕ) (step : Turned) (before : List StrandStep)
+    → length (places_on (lock_named shape k) (before ++ kept_step shape step.lock step.index ∷ [])) ≡ length (places_on (lock_named shape k) before) + cond (eqb step.lock k) 1 0
+kept_more shape k step before =
+    places_more (lock_named shape k) before (kept_step shape step.lock step.index)
+    ∙ ap (λ (b : Bool). length (places_on (lock_named shape k) before) + cond b 1 0) (same_number shape step.lock k)
+
+-- on no lock more is recorded than happened
+kept_few : (shape : Shape) (k : ℕ) (steps : List Turned) (before after : List StrandStep) → IsKeptOf shape steps before after
+    → length (places_on (lock_named shape k) after) ≤ length (places_on (lock_named shape k) before) + length (turns_on k steps)
+kept_few shape k [] before after kept = let same = ap (λ (l : List StrandStep). length (places_on (lock_named shape k) l)) kept in omega arith
+kept_few shape k (step ∷ steps) before after (inl dropped) =
+    let rest = kept_few shape k steps before after dropped in
+    let turns = turns_more k step steps in
+    omega arith
+kept_few shape k (step ∷ steps) before after (inr more) =
+    let rest = kept_few shape k steps (before ++ kept_step shape step.lock step.index ∷ []) after more in
+    let turns = turns_more k step steps in
+    let places = kept_more shape k step before in
+    omega arith
+
+abbrev IsReal : Shape → Turned → Type 0
+IsReal shape step = (step.lock < lock_count shape) × IsTrue (is_lock shape (lock_named shape step.lock))
+
+-- so where on each lock as much is recorded, every step is
+kept_all : (shape : Shape) (steps : List Turned) (before after : List StrandStep) → IsKeptOf shape steps before after → All (IsReal shape) steps
+    → ((k : ℕ) → k < lock_count shape → IsTrue (is_lock shape (lock_named shape k)) → length (places_on (lock_named shape k) before) + length (turns_on k steps) ≤ length (places_on (lock_named shape k) after))
+    → after ≡ before ++ map (λ (step : Turned). kept_step shape step.lock step.index) steps
+kept_all shape [] before after kept real enough = kept ∙ sym (append-nil before)
+kept_all shape (step ∷ steps) before after (inl dropped) real enough =
+    let here = All-head (IsReal shape) step steps real in
+    let few = kept_few shape step.lock steps before after dropped in
+    let many = enough step.lock here.0 here.1 in
+    let turns = turns_more step.lock step steps in
+    let one = counts_one step.lock in
+    absurd (omega arith)
+kept_all shape (step ∷ steps) before after (inr more) real enough =
+    let first : StrandStep = kept_step shape step.lock step.index in
+    kept_all shape steps (before ++ first ∷ []) after more (All-tail (IsReal shape) step steps real)
+    (λ k below there.
+    let many = enough k below there in
+    let turns = turns_more k step steps in
+    let places = kept_more shape k step before in
+    omega arith)
+    ∙ append_assoc before (first ∷ []) (map (λ (step : Turned). kept_step shape step.lock step.index) steps)
+
+-- Locks of which no record is lost
+
+or_left : (b c : Bool) → (b || c) ≡ false → b ≡ false
+or_left true c none = none
+or_left false c none = refl
+
+or_right : (b c : Bool) → (b || c) ≡ false → c ≡ false
+or_right true c none = cc
+or_right false c none = none
+
+none_of : (has lost : ℕ → Bool) (a n k : ℕ) → list_any lost (filter has (range_with_len a n)) ≡ false → a ≤ k → k < a + n → has k ≡ true → lost k ≡ false
+none_of has lost a zero k none low high there = absurd (omega arith)
+none_of has lost a (suc n) k none low high there = by (has a) refl none (cases_eq a k) (none_of has lost (a + 1) n k)
+  where
+    by : (b : Bool) → has a ≡ b → list_any lost (cond b (a ∷ filter has (range_with_len (a + 1) n)) (filter has (range_with_len (a + 1) n))) ≡ false → (a ≡ k) ⊎ (a ≢ k)
+        → (list_any lost (filter has (range_with_len (a + 1) n)) ≡ false → a + 1 ≤ k → k < a + 1 + n → has k ≡ true → lost k ≡ false) → lost k ≡ false
+    by true is none (inl here) rest = ap lost (sym here) ∙ or_left (lost a) _ none
+    by false is none (inl here) rest = cc
+    by true is none (inr other) rest = rest (or_right (lost a) _ none) (omega arith) (omega arith) there
+    by false is none (inr other) rest = rest none (omega arith) (omega arith) there
+
+-- what is made of each of them is the same
+made_of_all : {A : Type 0} (has lost : ℕ → Bool) (f g : ℕ → A) (a n : ℕ) → ((k : ℕ) → a ≤ k → k < a + n → has k ≡ true → (lost k ≡ false) × (f k ≡ g k))
+    → map f (filter (λ k. not (lost k)) (filter has (range_with_len a n))) ≡ map g (filter has (range_with_len a n))
+made_of_all has lost f g a zero each = refl
+made_of_all has lost f g a (suc n) each = by (has a) refl (made_of_all has lost f g (a + 1) n (λ k low high there. each k (omega arith) (omega arith) there))
+  where
+    rest : List ℕ
+    rest = filter has (range_with_len (a + 1) n)
+
+    by : (b : Bool) → has a ≡ b → map f (filter (λ k. not (lost k)) rest) ≡ map g rest → map f (filter (λ k. not (lost k)) (cond b (a ∷ rest) rest)) ≡ map g (cond b (a ∷ rest) rest)
+    by true is same =
+        let here = each a (omega arith) (omega arith) is in
+        ap (λ b. map f (cond (not b) (a ∷ filter (λ k. not (lost k)) rest) (filter (λ k. not (lost k)) rest))) here.0 ∙ (λ i. here.1 i ∷ same i)
+    by false is same = same
+
+-- Lists at the end
+
+none_pass : (test : ℕ → Bool) (a n : ℕ) → ((e : ℕ) → a ≤ e → e < a + n → test e ≡ false) → filter test (range_with_len a n) ≡ []
+none_pass test a zero fails = refl
+none_pass test a (suc n) fails =
+    ap (λ b. cond b (a ∷ filter test (range_with_len (a + 1) n)) (filter test (range_with_len (a + 1) n))) (fails a (omega arith) (omega arith))
+    ∙ none_pass test (a + 1) n (λ e low high. fails e (omega arith) (omega arith))
+
+no_bit : (e n : ℕ) → e < n → bit_seen e (no_bits n) ≡ Some false
+no_bit e zero real = absurd (omega arith)
+no_bit e (suc n) real = by_test n e (λ b. cond b (Some false) (bit_seen e (no_bits n)) ≡ Some false) (λ _. refl) (λ other. no_bit e n (omega arith))
+
+abbrev number_in : Option Stored → Option ℕ
+number_in spare = option_map (λ (body : Stored). body.element) spare
+
+spares_listed : (spares : List (Option Stored)) (numbers : List ℕ) → ((cpu : ℕ) → number_in (spare_of cpu spares) ≡ slice_get numbers cpu) → spare_numbers spares ≡ numbers
+spares_listed [] [] each = refl
+spares_listed [] (number ∷ numbers) each = absurd (none-some number (each 0))
+spares_listed (None ∷ spares) [] each = spares_listed spares [] (λ cpu. each (suc cpu))
+spares_listed (None ∷ spares) (number ∷ numbers) each = absurd (none-some number (each 0))
+spares_listed (Some body ∷ spares) [] each = absurd (none-some body.element (sym (each 0)))
+spares_listed (Some body ∷ spares) (number ∷ numbers) each =
+    let here : body.element ≡ number = same_Some body.element number (each 0) in
+    let rest : spare_numbers spares ≡ numbers = spares_listed spares numbers (λ cpu. each (suc cpu)) in
+    λ i. here i ∷ rest i
+
+one_finals : (a b : Finals) → a.buckets ≡ b.buckets → a.freelists ≡ b.freelists → a.spares ≡ b.spares → a.sets ≡ b.sets → a.locals ≡ b.locals → a.marked ≡ b.marked → a ≡ b
+one_finals a b buckets freelists spares sets locals marked =
+    λ i. record { buckets = buckets i; freelists = freelists i; spares = spares i; sets = sets i; locals = locals i; marked = marked i }
+
+one_bucket : (a b : List Stored) → in_bucket a ≡ in_bucket b → a ≡ b
+one_bucket a b same = cc
+
+one_freelist : (a b : List ℕ) → on_freelist a ≡ on_freelist b → a ≡ b
+one_freelist a b same = cc
+
+length_indexes : (turns : List (ℕ × Entry)) → length (indexes turns) ≡ length turns
+length_indexes [] = refl
+length_indexes (turn ∷ turns) = ap suc (length_indexes turns)
+
+plain_kind : (kind : MapKind) → IsTrue (is_built_kind kind) → is_lru kind ≡ false
+plain_kind Hash built = refl
+plain_kind PercpuHash built = refl
+plain_kind LruHash built = cc
+plain_kind LruPercpuHash built = cc
+
+module _ (shape : Shape) (lists : Finals) (turns : List Happened) (p : PassView) (closed : ClosedView) (built : IsTrue (is_built_kind shape.kind)) (sound : IsSound shape lists) (going : Going shape lists turns p) (ends : IsClosed shape p closed) where
+  -- the turns of each lock of the map, by its name and by its number
+  log_of : (lock : DomainId) → IsTrue (is_lock shape lock) → ends.log (lock_number shape lock) ≡ entries_on lock turns
+  log_of lock there =
+      ends.known (lock_number shape lock) (going.logs (lock_number shape lock)) (going.knows.each (lock_number shape lock) (number_within shape lock there)) ∙ going.entries lock there
+
+  log_at : (k : ℕ) → IsTrue (has_lock shape k) → ends.log k ≡ entries_on (lock_named shape k) turns
+  log_at k there = ap ends.log (sym (number_of_named shape k)) ∙ log_of (lock_named shape k) there
+
+  lies_there : (lock : DomainId) → IsTrue (is_lock shape lock) → content shape lock (ends.log (lock_number shape lock)) ≡ lies lists lock
+  lies_there lock there = ap (content shape lock) (log_of lock there) ∙ going.contents lock there
+
+  none_lost : closed.lost ≡ false → (k : ℕ) → k < lock_count shape → IsTrue (has_lock shape k) → ends.lost k ≡ false
+  none_lost whole k below there =
+      none_of (has_lock shape) ends.lost 0 (lock_count shape) k (sym ends.left.lost_is ∙ whole) (omega arith) (omega arith) there
+
+  histories_are : closed.lost ≡ false → closed.histories ≡ histories_of_turns shape turns
+  histories_are whole =
+      ends.left.histories_are
+      ∙ made_of_all (has_lock shape) ends.lost (history_of shape ends.log) (history_on shape turns) 0 (lock_count shape)
+      (λ k low high there. (none_lost whole k (omega arith) there, λ i. record { lock = lock_named shape k; entries = log_at k there i }))
+
+  strands_are : closed.lost ≡ false → IsKeptOf shape p.view.steps [] p.view.kept → closed.strands ≡ strands_of shape (steps_from [] turns)
+  strands_are whole kept =
+      ends.left.strands_are
+      ∙ ap (strands_of shape)
+      (kept_all shape p.view.steps [] p.view.kept kept going.real
+      (λ k below there.
+      let same = ap length (ends.recorded k below there (none_lost whole k below there)) in
+      let count = length_indexes (turns_on k p.view.steps) in
+      omega arith)
+      ∙ going.steps)
+
+  buckets_are : closed.finals.buckets ≡ lists.buckets
+  buckets_are =
+      let counted = ends.left.buckets_counted in
+      ext_get_or [] closed.finals.buckets lists.buckets (counted ∙ sym sound.lengths.buckets)
+      (λ bucket within.
+      let real : bucket < shape.buckets = omega arith in
+      one_bucket _ _ (ends.left.buckets_are bucket real ∙ lies_there (Bucket bucket) (lt-ltb bucket shape.buckets real)))
+
+  freelists_are : closed.finals.freelists ≡ lists.freelists
+  freelists_are =
+      let counted = ends.left.freelists_counted in
+      ext_get_or [] closed.finals.freelists lists.freelists (counted ∙ sym sound.lengths.freelists)
+      (λ cpu within.
+      let real : cpu < shape.cpus = omega arith in
+      one_freelist _ _ (ends.left.freelists_are cpu real ∙ lies_there (Freelist cpu) (λ i. not (plain_kind shape.kind built i) && lt-ltb cpu shape.cpus real i)))
+
+  marked_are : p.view.bits ≡ no_bits shape.elements → closed.finals.marked ≡ lists.marked
+  marked_are bits =
+      ends.left.marked_are
+      ∙ (none_pass ends.core.bit 0 shape.elements (λ e low real. ends.bits e false (ap (bit_seen e) bits ∙ no_bit e shape.elements (omega arith)))
+      ∙ sym sound.no_lru_lists.marked)
+
+  finals_are : p.view.bits ≡ no_bits shape.elements → closed.finals ≡ lists
+  finals_are bits =
+      one_finals closed.finals lists buckets_are freelists_are
+      (ends.left.spares_are ∙ spares_listed p.spares lists.spares going.spares)
+      (ends.left.no_sets ∙ sym sound.no_lru_lists.sets) (ends.left.no_locals ∙ sym sound.no_lru_lists.locals) (marked_are bits)
+
+-- The histories, the strand and the lists of a table that is closed after some calls of a serial run, no record of which is
+-- lost, are those of the run.
+pub left_by : (shape : Shape) (lists : Finals) (turns : List Happened) (p : PassView) (closed : ClosedView) → HasBounds shape → IsTrue (is_built_kind shape.kind) → IsSound shape lists → Going shape lists turns p → IsClosed shape p closed → closed.lost ≡ false
+    → p.view.bits ≡ no_bits shape.elements → IsKeptOf shape p.view.steps [] p.view.kept → IsLeftBy shape lists turns closed
+left_by shape lists turns p closed bounds built sound going ends whole bits kept = record {
+  histories = histories_are shape lists turns p closed built sound going ends whole;
+  strands = strands_are shape lists turns p closed built sound going ends whole kept;
+  finals = finals_are shape lists turns p closed built sound going ends bits;
+}

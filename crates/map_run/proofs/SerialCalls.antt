@@ -1,0 +1,237 @@
+-- A serial run over the shared table: what its pass knows before the first call, after one call more, and what the closed table
+-- leaves at the end.
+use Rattle.std.proofs.Common.{◌≡◌, ℕ, suc, ◌+◌, ◌<◌, true, false, not, cond, List, [], ◌∷◌, ◌++◌, length, get_or, map, take, Option, Some, None, option_map, slice_get, All, refl, ap, sym, ◌∙◌, subst, arith}
+use Rattle.std.specs.Prelude.{IsTrue, filter}
+use Rattle.std.specs.List.{range_with_len}
+use Rattle.std.proofs.lemmas.Bool.{ne_eqb}
+use Rattle.std.proofs.lemmas.List.Elements.{All-get_or, All-take}
+use Rattle.std.proofs.lemmas.Option.{slice_get_read}
+use Rattle.map_types.specs.declared.attr.Shape.{Shape}
+use Rattle.map_types.specs.declared.call.Call.{Call}
+use Rattle.map_types.specs.declared.kind.MapKind.{MapKind}
+use Rattle.map_types.specs.declared.kind.MapKind.TheVariants.{Hash, PercpuHash, LruHash, LruPercpuHash}
+use Rattle.map_types.specs.declared.reply.Reply.{Reply}
+use Rattle.map_types.specs.Creation.{IsShape}
+use Rattle.map_types.specs.Shape.{HasBounds}
+use Rattle.map_types.specs.Stored.{Stored}
+use Rattle.map_types.proofs.CreationLemmas.{bounds_of_shape}
+use Rattle.map_script.specs.declared.script.Script.{Script}
+use Rattle.place_words.specs.declared.finals.Finals.{Finals}
+use Rattle.place_words.specs.declared.history.Strand.{Strand}
+use Rattle.place_words.specs.declared.history.StrandStep.{StrandStep}
+use Rattle.place_words.specs.Traces.{IsTrace, spare_after}
+use Rattle.place_core.proofs.ElementLemmas.{by_test}
+use Rattle.place_table.specs.declared.view.Turned.{Turned}
+use Rattle.place_table.specs.declared.view.View.{View}
+use Rattle.place_table.specs.Closing.{ClosedView, IsClosed, strands_of}
+use Rattle.place_table.specs.Known.{turn_of}
+use Rattle.place_table.specs.Opening.{first_spares}
+use Rattle.place_table.specs.Passes.{PassView, TableView, spare_of, begun, Goes, IsFirstPass, IsInNoCall, IsKeptOf}
+use Rattle.place_table.specs.Views.{is_among}
+use Rattle.place_table.proofs.Gives.{first_has}
+use Rattle.place_table.proofs.Going.{goes_of_table, kept_on}
+use Rattle.hash_ops.specs.Calls.{Called, element_of, spare_element}
+use Rattle.map_run.specs.declared.record.RunRecord.{RunRecord}
+use Rattle.map_run.specs.Going.{Going, HaveRun, IsBetweenCalls}
+use Rattle.map_run.specs.Record.{has_step, IsCopyOf}
+use Rattle.map_run.specs.Runs.{serial, record_left, strand_left}
+use Rattle.map_run.specs.Serial.{opening, after_call, replies_from, lists_after}
+use Rattle.map_run.specs.Served.{is_built_kind, IsServed, IsServedCall}
+use Rattle.map_run.specs.Soundness.{IsSound}
+use Rattle.map_run.specs.Turns.{Happened, happened, call_turns, turns_from, histories_of_turns, steps_from, strand_of_turns}
+use Rattle.map_run.proofs.Closing.{left_by}
+use Rattle.map_run.proofs.OneCall.{going_on}
+use Rattle.map_run.proofs.OpeningTurns.{opening_lies, opening_spares_are, no_opening_spares}
+use Rattle.map_run.proofs.SerialRun.{going_first, lists_next, replies_next, turns_next}
+use Rattle.map_run.proofs.SoundRun.{sound_from_opening}
+
+-- A call begins
+
+in_no_call_begun : (p : PassView) (cpu number : ℕ) → IsInNoCall p → IsInNoCall (begun p cpu number)
+in_no_call_begun p cpu number idle = record {
+  holds_nothing = idle.holds_nothing;
+  spares_only = idle.spares_only;
+  spares_in_hand = idle.spares_in_hand;
+  none_out = idle.none_out;
+}
+
+between_begun : (t : TableView) (p : PassView) (cpu number : ℕ) → IsBetweenCalls t p → IsBetweenCalls t (begun p cpu number)
+between_begun t p cpu number between = record {
+  of_table = between.of_table;
+  all_cpus = between.all_cpus;
+  in_no_call = in_no_call_begun p cpu number between.in_no_call;
+  bits = between.bits;
+  kept = between.kept;
+}
+
+going_begun : (shape : Shape) (lists : Finals) (turns : List Happened) (p : PassView) (cpu number : ℕ) → Going shape lists turns p → Going shape lists turns (begun p cpu number)
+going_begun shape lists turns p cpu number going = record {
+  logs = going.logs;
+  knows = going.knows;
+  entries = going.entries;
+  contents = going.contents;
+  spares = going.spares;
+  steps = going.steps;
+  real = going.real;
+}
+
+-- One call more
+
+nothing_left : (first second : List ℕ) → first ++ second ≡ [] → (first ≡ []) × (second ≡ [])
+nothing_left [] second none = (refl, none)
+nothing_left (x ∷ first) second none = cc
+
+between_more : (t : TableView) (p q : PassView) (steps : List Turned) (lost : List ℕ) → IsBetweenCalls t p → Goes p q steps lost → IsInNoCall q → q.view.bits ≡ p.view.bits → IsBetweenCalls t q
+between_more t p q steps lost between goes idle bits = record {
+  of_table = goes_of_table t p q steps lost goes between.of_table;
+  all_cpus = λ cpu real. ap (is_among cpu) goes.cpus ∙ between.all_cpus cpu real;
+  in_no_call = idle;
+  bits = bits ∙ between.bits;
+  kept = subst (λ (made : List Turned). IsKeptOf t.shape made [] q.view.kept) (sym goes.steps)
+      (kept_on t.shape p.view.steps steps [] p.view.kept q.view.kept between.kept
+      (subst (λ (shape : Shape). IsKeptOf shape steps p.view.kept q.view.kept) between.of_table.1 goes.kept));
+}
+
+element_is : (spare : Option Stored) → element_of spare ≡ option_map (λ (body : Stored). body.element) spare
+element_is None = refl
+element_is (Some body) = refl
+
+module _ (t : TableView) (calls : List Call) (n : ℕ) (call : Call) (p q : PassView) (number : ℕ) (reply : Reply) (replies : List Reply)
+    (shape_is : IsShape t.shape) (built : IsTrue (is_built_kind t.shape.kind)) (served : All (IsServedCall t.shape) calls)
+    (at : slice_get calls n ≡ Some call) (own : IsServedCall t.shape call) (count : number ≡ suc n)
+    (run : HaveRun t (take n calls) p replies) (called : Called t (begun p call.cpu number) q call.verb reply) where
+  abbrev lists : Finals
+  lists = lists_after t.shape (opening t.shape) (take n calls)
+
+  abbrev turns : List Happened
+  turns = turns_from t.shape (opening t.shape) 1 (take n calls)
+
+  none_lost : q.view.lost ≡ [] → (called.lost ≡ []) × (p.view.lost ≡ [])
+  none_lost none = nothing_left called.lost p.view.lost (sym called.leaves.made.goes.lost_is ∙ none)
+
+  sound : IsSound t.shape lists
+  sound = sound_from_opening t.shape (take n calls) (bounds_of_shape t.shape shape_is) built (All-take (IsServedCall t.shape) n calls served)
+
+  on : q.view.lost ≡ [] → Going t.shape (after_call t.shape call.cpu call.verb lists).0 (turns ++ map (happened call.cpu number) (call_turns t.shape call.cpu call.verb lists)) q × (reply ≡ (after_call t.shape call.cpu call.verb lists).1)
+  on none =
+      let begins : PassView = begun p call.cpu number in
+      let steps : List Turned = called.steps in
+      let left = none_lost none in
+      let before : spare_element begins ≡ option_map (λ (body : Stored). body.element) (spare_of call.cpu p.spares) = element_is (spare_of call.cpu p.spares) in
+      let after : spare_element q ≡ option_map (λ (body : Stored). body.element) (spare_of call.cpu q.spares) =
+      element_is (spare_of q.cpu q.spares) ∙ ap (λ (cpu : ℕ). option_map (λ (body : Stored). body.element) (spare_of cpu q.spares)) called.leaves.made.goes.cpu in
+      going_on t.shape lists turns begins q call.cpu number call.verb reply steps built (bounds_of_shape t.shape shape_is) sound own
+      (going_begun t.shape lists turns p call.cpu number (run.going left.1)) called.leaves.made.goes.steps called.leaves.learns called.leaves.by_call
+      (subst (λ (spare : Option ℕ). IsTrace t.shape call.cpu spare call.verb (map (turn_of t.shape) steps) reply) before (called.trace left.0))
+      (sym after ∙ called.spare left.0 ∙ ap (λ (spare : Option ℕ). spare_after spare (map (turn_of t.shape) steps)) before)
+      called.leaves.other_spares
+
+  turns_are : turns ++ map (happened call.cpu number) (call_turns t.shape call.cpu call.verb lists) ≡ turns_from t.shape (opening t.shape) 1 (take (suc n) calls)
+  turns_are =
+      let same : number ≡ 1 + n = omega arith in
+      ap (λ (k : ℕ). turns ++ map (happened call.cpu k) (call_turns t.shape call.cpu call.verb lists)) same
+      ∙ sym (turns_next t.shape (opening t.shape) 1 calls n call at)
+
+  run_more : HaveRun t (take (suc n) calls) q (replies ++ reply ∷ [])
+  run_more = record {
+    between = between_more t (begun p call.cpu number) q called.steps called.lost (between_begun t p call.cpu number run.between) called.leaves.made.goes called.leaves.in_no_call called.leaves.bits;
+    going = λ none. subst (λ (after : Finals). Going t.shape after (turns_from t.shape (opening t.shape) 1 (take (suc n) calls)) q) (sym (lists_next t.shape (opening t.shape) calls n call at))
+        (subst (λ (all : List Happened). Going t.shape (after_call t.shape call.cpu call.verb lists).0 all q) turns_are (on none).0);
+    answered = λ none. (λ i. run.answered (none_lost none).1 i ++ (on none).1 i ∷ []) ∙ sym (replies_next t.shape (opening t.shape) calls n call at);
+  }
+
+pub run_next : (t : TableView) (calls : List Call) (n : ℕ) (call : Call) (p q : PassView) (number : ℕ) (reply : Reply) (replies after : List Reply)
+    → IsShape t.shape → IsTrue (is_built_kind t.shape.kind) → All (IsServedCall t.shape) calls → n < length calls → call ≡ get_or calls n call → number ≡ n + 1
+    → HaveRun t (take n calls) p replies → Called t (begun p call.cpu number) q call.verb reply → after ≡ replies ++ reply ∷ [] → HaveRun t (take (n + 1) calls) q after
+run_next t calls n call p q number reply replies after shape_is built served within is count run called pushed =
+    let at : slice_get calls n ≡ Some call = slice_get_read calls (length calls) n call refl within is in
+    let own : IsServedCall t.shape call = subst (IsServedCall t.shape) (sym is) (All-get_or (IsServedCall t.shape) calls n call within served) in
+    let next : suc n ≡ n + 1 = omega arith in
+    subst (λ (k : ℕ). HaveRun t (take k calls) q after) next
+    (subst (HaveRun t (take (suc n) calls) q) (sym pushed) (run_more t calls n call p q number reply replies shape_is built served at own (count ∙ sym next) run called))
+
+-- Before the first call
+
+spares_open : (shape : Shape) (kind : MapKind) → HasBounds shape → IsTrue (is_built_kind kind) → shape.kind ≡ kind → (opening shape).spares ≡ first_spares kind shape
+spares_open shape Hash bounds built is = opening_spares_are shape bounds is
+spares_open shape PercpuHash bounds built is = no_opening_spares shape is
+spares_open shape LruHash bounds built is = cc
+spares_open shape LruPercpuHash bounds built is = cc
+
+pub run_first : (t : TableView) (p : PassView) → IsShape t.shape → IsTrue (is_built_kind t.shape.kind) → IsFirstPass t p → HaveRun t [] p []
+run_first t p shape_is built first =
+    let bounds = bounds_of_shape t.shape shape_is in
+    let view = first.view_is in
+    record {
+      between = record {
+        of_table = (first.table_is, ap (λ (v : View). v.shape) view);
+        all_cpus = λ cpu real. first_has t p cpu first real;
+        in_no_call = first.in_no_call;
+        bits = ap (λ (v : View). v.bits) view;
+        kept = subst (λ (v : View). IsKeptOf t.shape v.steps [] v.kept) (sym view) refl;
+      };
+      going = λ none. going_first t p first (opening_lies t.shape bounds built) (spares_open t.shape t.shape.kind bounds built refl);
+      answered = λ none. refl;
+    }
+
+-- At the end
+
+-- where no record is lost, the pass knew of none
+no_losses : (shape : Shape) (p : PassView) (closed : ClosedView) (lost : List ℕ) → p.view.lost ≡ lost → IsClosed shape p closed → closed.lost ≡ false → p.view.lost ≡ []
+no_losses shape p closed [] is ends whole = is
+no_losses shape p closed (k ∷ lost) is ends whole =
+    let there : is_among k (k ∷ lost) ≡ true = by_test k k (λ b. cond b true (is_among k lost) ≡ true) (λ _. refl) (λ other. absurd (other refl)) in
+    let told : closed.lost ≡ true = ends.losses k (ap (is_among k) is ∙ there) in
+    cc
+
+strand_is : (shape : Shape) (steps : List StrandStep) → strand_left shape.cpus (strands_of shape steps) ≡ record { cpus = range_with_len 0 shape.cpus; steps = steps }
+strand_is shape [] = refl
+strand_is shape (step ∷ steps) = refl
+
+strands_there : (shape : Shape) (steps : List StrandStep) → filter has_step (strand_left shape.cpus (strands_of shape steps) ∷ []) ≡ strands_of shape steps
+strands_there shape [] = refl
+strands_there shape (step ∷ steps) =
+    let strand : Strand = record { cpus = range_with_len 0 shape.cpus; steps = step ∷ steps } in
+    ap (λ b. cond (not b) (strand ∷ []) []) (ne_eqb (suc (length steps)) 0 (λ is. omega arith))
+
+pub is_copy : (shape other : Shape) (p : PassView) (kept : RunRecord) (closed back : ClosedView) (replies : List Reply) → IsClosed shape p closed → shape ≡ other
+    → (kept ≡ record_left other.cpus replies closed) × (back ≡ closed) × (closed.lost ≡ false) → IsCopyOf kept back
+is_copy shape other p kept closed back replies ends same is =
+    let copy : IsCopyOf (record_left shape.cpus replies closed) closed = record {
+      histories = refl;
+      strands = subst (λ (strands : List Strand). filter has_step (strand_left shape.cpus strands ∷ []) ≡ strands) (sym ends.left.strands_are) (strands_there shape p.view.kept);
+      finals = refl;
+      whole = is.2;
+    } in
+    subst (IsCopyOf kept) (sym is.1)
+    (subst (λ (k : RunRecord). IsCopyOf k closed) (sym (is.0 ∙ ap (λ (s : Shape). record_left s.cpus replies closed) (sym same))) copy)
+
+-- the record of these calls, as `serial` has it
+abbrev ran : Shape → List Call → RunRecord
+ran shape calls =
+    let turns : List Happened = turns_from shape (opening shape) 1 calls in
+    record {
+      replies = replies_from shape (opening shape) calls;
+      histories = histories_of_turns shape turns;
+      strands = strand_of_turns shape turns ∷ [];
+      finals = lists_after shape (opening shape) calls;
+    }
+
+all_ran : (t : TableView) (calls : List Call) (p : PassView) (closed : ClosedView) (replies : List Reply) → IsShape t.shape → IsTrue (is_built_kind t.shape.kind) → All (IsServedCall t.shape) calls
+    → HaveRun t calls p replies → IsClosed t.shape p closed → closed.lost ≡ false → record_left t.shape.cpus replies closed ≡ ran t.shape calls
+all_ran t calls p closed replies shape_is built served run ends whole =
+    let lists : Finals = lists_after t.shape (opening t.shape) calls in
+    let turns : List Happened = turns_from t.shape (opening t.shape) 1 calls in
+    let bounds = bounds_of_shape t.shape shape_is in
+    let none = no_losses t.shape p closed p.view.lost refl ends whole in
+    let left = left_by t.shape lists turns p closed bounds built (sound_from_opening t.shape calls bounds built served) (run.going none) ends whole run.between.bits run.between.kept in
+    let strand : strand_left t.shape.cpus closed.strands ≡ strand_of_turns t.shape turns = ap (strand_left t.shape.cpus) left.strands ∙ strand_is t.shape (steps_from [] turns) in
+    λ i. record { replies = run.answered none i; histories = left.histories i; strands = strand i ∷ []; finals = left.finals i }
+
+pub run_end : (script : Script) (t : TableView) (p : PassView) (closed : ClosedView) (replies : List Reply) → t.shape ≡ script.shape → IsShape t.shape → IsServed script
+    → HaveRun t script.calls p replies → IsClosed t.shape p closed → closed.lost ≡ false → record_left script.shape.cpus replies closed ≡ serial script
+unfolding serial
+run_end script t p closed replies same shape_is served run ends whole =
+    subst (λ (shape : Shape). record_left shape.cpus replies closed ≡ ran shape script.calls) same
+    (all_ran t script.calls p closed replies shape_is (subst (λ (shape : Shape). IsTrue (is_built_kind shape.kind)) (sym same) served.kind)
+    (subst (λ (shape : Shape). All (IsServedCall shape) script.calls) (sym same) served.calls) run ends whole)

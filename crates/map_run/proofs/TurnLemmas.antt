@@ -1,0 +1,70 @@
+-- Rows of turns: parts of a row, contents that are alike, and freelists that are found empty.
+use Rattle.std.proofs.Common.{◌≡◌, ℕ, Bool, true, false, cond, List, [], ◌∷◌, ◌++◌, refl, ap, ◌∙◌, subst}
+use Rattle.std.proofs.Math.Path.{fun_ext}
+use Rattle.map_types.specs.declared.attr.Shape.{Shape}
+use Rattle.map_types.specs.declared.kind.DomainId.{DomainId}
+use Rattle.map_types.specs.declared.kind.DomainId.TheVariants.{Freelist}
+use Rattle.place_words.specs.declared.free_part.FreePart.TheVariants.{FoundEmpty}
+use Rattle.place_words.specs.declared.history.Part.TheVariants as parts
+use Rattle.place_words.specs.Histories.{Content, in_bucket, on_freelist, untold, content_after}
+use Rattle.place_words.specs.Locks.{is_same_lock}
+use Rattle.place_words.specs.Traces.{Turn, on_freelist_of, found_empty, after_turn, after_turns, AreAllowed}
+
+-- Parts of a row
+
+-- turns that are allowed one after another: the first of them are, and from what they leave on the others
+pub allowed_both : (shape : Shape) (cpu : ℕ) (contents : DomainId → Content) (first second : List Turn)
+    → AreAllowed shape cpu contents (first ++ second) → AreAllowed shape cpu contents first × AreAllowed shape cpu (after_turns shape cpu contents first) second
+allowed_both shape cpu contents [] second allowed = (tt, allowed)
+allowed_both shape cpu contents (turn ∷ first) second allowed =
+    let later = allowed_both shape cpu (after_turn shape cpu contents turn) first second allowed.1 in
+    ((allowed.0, later.0), later.1)
+
+-- and what they leave is what the others leave after the first
+pub after_both : (shape : Shape) (cpu : ℕ) (contents : DomainId → Content) (first second : List Turn)
+    → after_turns shape cpu contents (first ++ second) ≡ after_turns shape cpu (after_turns shape cpu contents first) second
+after_both shape cpu contents [] second = refl
+after_both shape cpu contents (turn ∷ first) second = after_both shape cpu (after_turn shape cpu contents turn) first second
+
+-- Contents that are alike
+
+-- where the same lies under each lock, the same turns are allowed
+pub follows_congruent : (shape : Shape) (cpu : ℕ) (c d : DomainId → Content) → ((lock : DomainId) → c lock ≡ d lock)
+    → (turns : List Turn) → AreAllowed shape cpu c turns → AreAllowed shape cpu d turns
+follows_congruent shape cpu c d alike turns allowed =
+    subst (λ (contents : DomainId → Content). AreAllowed shape cpu contents turns) (fun_ext alike) allowed
+
+-- and they leave the same under each lock
+pub after_congruent : (shape : Shape) (cpu : ℕ) (c d : DomainId → Content) → ((lock : DomainId) → c lock ≡ d lock)
+    → (turns : List Turn) (lock : DomainId) → after_turns shape cpu c turns lock ≡ after_turns shape cpu d turns lock
+after_congruent shape cpu c d alike turns lock =
+    ap (λ (contents : DomainId → Content). after_turns shape cpu contents turns lock) (fun_ext alike)
+
+-- Freelists that are found empty
+
+-- such a turn leaves what lies there
+empty_leaves : (shape : Shape) (cpu : ℕ) (content : Content) → content_after shape cpu (parts.Free FoundEmpty) content ≡ content
+empty_leaves shape cpu (in_bucket bodies) = refl
+empty_leaves shape cpu (on_freelist stack) = refl
+empty_leaves shape cpu untold = refl
+
+either_same : (b : Bool) (x y : Content) → x ≡ y → cond b x y ≡ y
+either_same true x y same = same
+either_same false x y same = refl
+
+pub after_empty_one : (shape : Shape) (cpu giver : ℕ) (contents : DomainId → Content)
+    → after_turn shape cpu contents (on_freelist_of giver FoundEmpty) ≡ contents
+after_empty_one shape cpu giver contents =
+    fun_ext (λ lock. either_same (is_same_lock (Freelist giver) lock) _ _ (empty_leaves shape cpu (contents lock)))
+
+after_empties : (shape : Shape) (cpu : ℕ) (cpus : List ℕ) (contents : DomainId → Content)
+    → after_turns shape cpu contents (found_empty cpus) ≡ contents
+after_empties shape cpu [] contents = refl
+after_empties shape cpu (giver ∷ cpus) contents =
+    after_empties shape cpu cpus (after_turn shape cpu contents (on_freelist_of giver FoundEmpty)) ∙ after_empty_one shape cpu giver contents
+
+-- and so do many
+pub after_empty : (shape : Shape) (cpu : ℕ) (contents : DomainId → Content) (cpus : List ℕ) (lock : DomainId)
+    → after_turns shape cpu contents (found_empty cpus) lock ≡ contents lock
+after_empty shape cpu contents cpus lock =
+    ap (λ (after : DomainId → Content). after lock) (after_empties shape cpu cpus contents)

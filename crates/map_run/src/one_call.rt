@@ -1,0 +1,158 @@
+//! One call of a run in serial order.
+
+ghost use Rattle.std.specs.Prelude.{◌≡◌, IfOk, length};
+ghost use Rattle.map_types.specs.declared.call.Verb.TheVariants as verbs;
+ghost use Rattle.map_types.specs.Creation.{IsShape};
+ghost use Rattle.map_types.specs.ValueLen.{value_len_of};
+ghost use Rattle.place_table.specs.Passes.{begun};
+ghost use Rattle.hash_ops.specs.Calls.{CanCall, Called, reply_of_value};
+ghost use Rattle.map_run.specs.Going.{IsBetweenCalls};
+ghost use Rattle.map_run.specs.Served.{IsServedCall};
+
+use hash_ops::{PlainMap, PlainRefusal};
+use map_types::{Absent, Call, Errno, List, NoGate, NoMemory, Reply, Side, Verb, value_len};
+use place_table::Pass;
+use std::alloc::Global;
+use std::sync::Wait;
+
+/// Runs a call of this number on its CPU, and gives its answer.
+pub(crate) fn run_call<R: Wait>(
+    rt: &R,
+    alloc: Global,
+    map: &PlainMap,
+    pass: &mut Pass,
+    number: u32,
+    call: &Call,
+) -> Result<Reply, NoMemory>
+    requires shape { IsShape map.now.shape }
+    requires between { IsBetweenCalls map.now pass.old }
+    requires served { IsServedCall map.now.shape call.now }
+    ensures { IfOk result (λ reply. Called map.now (begun pass.old call.now.cpu number) pass.new call.now.verb reply) }
+{
+    map.table().begin(pass, call.cpu, number);
+    match &call.verb {
+        Verb::Lookup { side, key } => look_up(rt, alloc, map, pass, *side, key.as_slice()),
+        Verb::Update {
+            side,
+            flags,
+            key,
+            value,
+        } => update(
+            rt,
+            alloc,
+            map,
+            pass,
+            *side,
+            *flags,
+            key.as_slice(),
+            value.as_slice(),
+        ),
+        Verb::Delete { key } => delete(rt, map, pass, key.as_slice()),
+        Verb::Take { key } => take(rt, alloc, map, pass, key.as_slice()),
+        // A script that is run has no such call.
+        Verb::Next { .. }
+        | Verb::BatchRead { .. }
+        | Verb::BatchUpdate { .. }
+        | Verb::BatchDelete { .. } => unreachable!(),
+    }
+}
+
+/// Answers what a side reads of a key.
+fn look_up<R: Wait>(
+    rt: &R,
+    alloc: Global,
+    map: &PlainMap,
+    pass: &mut Pass,
+    side: Side,
+    key: &[u8],
+) -> Result<Reply, NoMemory>
+    requires shape { IsShape map.now.shape }
+    requires can { CanCall map.now pass.old }
+    requires key { length key.now ≡ map.now.shape.key_size }
+    ensures { IfOk result (λ reply. Called map.now pass.old pass.new (verbs.Lookup side key.now) reply) }
+{
+    let mut out = room_for(alloc, map, side)?;
+    let got = map.lookup(rt, pass, side, key, out.as_mut_slice(), &NoGate);
+    Ok(value_reply(got, out))
+}
+
+/// Updates a key.
+fn update<R: Wait>(
+    rt: &R,
+    alloc: Global,
+    map: &PlainMap,
+    pass: &mut Pass,
+    side: Side,
+    flags: u32,
+    key: &[u8],
+    value: &[u8],
+) -> Result<Reply, NoMemory>
+    requires can { CanCall map.now pass.old }
+    requires key { length key.now ≡ map.now.shape.key_size }
+    requires value { length value.now ≡ value_len_of map.now.shape side }
+    ensures { IfOk result (λ reply. Called map.now pass.old pass.new (verbs.Update side flags key.now value.now) reply) }
+{
+    match map.update(rt, alloc, pass, side, flags, key, value, &NoGate) {
+        Ok(()) => Ok(Reply::Done),
+        Err(PlainRefusal::Einval) => Ok(Reply::Refused(Errno::Einval)),
+        Err(PlainRefusal::Enoent) => Ok(Reply::Refused(Errno::Enoent)),
+        Err(PlainRefusal::Eexist) => Ok(Reply::Refused(Errno::Eexist)),
+        Err(PlainRefusal::E2big) => Ok(Reply::Refused(Errno::E2big)),
+        Err(PlainRefusal::NoMemory) => Err(NoMemory),
+    }
+}
+
+/// Deletes a key.
+fn delete<R: Wait>(rt: &R, map: &PlainMap, pass: &mut Pass, key: &[u8]) -> Result<Reply, NoMemory>
+    requires can { CanCall map.now pass.old }
+    requires key { length key.now ≡ map.now.shape.key_size }
+    ensures { IfOk result (λ reply. Called map.now pass.old pass.new (verbs.Delete key.now) reply) }
+{
+    match map.delete(rt, pass, key, &NoGate) {
+        Ok(()) => Ok(Reply::Done),
+        Err(Absent) => Ok(Reply::Refused(Errno::Enoent)),
+    }
+}
+
+/// Answers what the system call reads of a key, and deletes it.
+fn take<R: Wait>(
+    rt: &R,
+    alloc: Global,
+    map: &PlainMap,
+    pass: &mut Pass,
+    key: &[u8],
+) -> Result<Reply, NoMemory>
+    requires shape { IsShape map.now.shape }
+    requires can { CanCall map.now pass.old }
+    requires key { length key.now ≡ map.now.shape.key_size }
+    ensures { IfOk result (λ reply. Called map.now pass.old pass.new (verbs.Take key.now) reply) }
+{
+    let mut out = room_for(alloc, map, Side::Sys)?;
+    let got = map.take_key(rt, pass, key, out.as_mut_slice(), &NoGate);
+    Ok(value_reply(got, out))
+}
+
+/// The answer of a lookup or a take, which left this value where the key was there.
+fn value_reply(got: Result<(), Absent>, value: Vec<u8>) -> Reply
+    ensures { result ≡ reply_of_value got value.items }
+{
+    match got {
+        Ok(()) => Reply::Value(List::of(value)),
+        Err(Absent) => Reply::Refused(Errno::Enoent),
+    }
+}
+
+/// Room for a value of a side.
+fn room_for(alloc: Global, map: &PlainMap, side: Side) -> Result<Vec<u8>, NoMemory>
+    requires { IsShape map.now.shape }
+    ensures { IfOk result (λ bytes. length bytes.items ≡ value_len_of map.now.shape side) }
+{
+    zeros(alloc, value_len(map.table().shape(), side))
+}
+
+/// So many zeros.
+fn zeros(alloc: Global, count: u32) -> Result<Vec<u8>, NoMemory>
+    ensures { IfOk result (λ bytes. length bytes.items ≡ count) }
+{
+    Ok(vec![in alloc; 0; count as usize]?)
+}
