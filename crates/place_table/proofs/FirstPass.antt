@@ -1,22 +1,26 @@
 -- The first pass of a table is in no call, and keeps the spares that it has in hand.
-use Rattle.std.proofs.Common.{◌≡◌, ℕ, ◌+◌, ◌<◌, ◌≤◌, true, List, [], length, get_or, Option, None, Some, refl, ap, ◌∙◌, sym, subst, arith, ⊎_elim}
-use Rattle.std.specs.Prelude.{MatchOption}
+use Rattle.std.proofs.Common.{◌≡◌, ℕ, ◌+◌, ◌<◌, ◌≤◌, Bool, true, List, [], length, get_or, Option, None, Some, refl, ap, ◌∙◌, sym, subst, arith, ⊎_elim}
+use Rattle.std.specs.Prelude.{MatchOption, Vec}
+use Rattle.std.specs.Global.{Global}
 use Rattle.std.proofs.lemmas.Bool.{cases_lt}
+use Rattle.std.proofs.lemmas.List.Elements.{All-nil}
 use Rattle.map_types.specs.declared.attr.Shape.{Shape}
 use Rattle.map_types.specs.declared.kind.MapKind.{MapKind}
-use Rattle.map_types.specs.declared.kind.MapKind.TheVariants.{Hash}
+use Rattle.map_types.specs.declared.kind.MapKind.TheVariants.{Hash, PercpuHash, LruHash, LruPercpuHash}
 use Rattle.map_types.specs.Shape.{HasBounds}
 use Rattle.map_types.specs.Stored.{Stored}
 use Rattle.place_words.specs.declared.history.StrandStep.{StrandStep}
+use Rattle.place_words.specs.Openings.{opening_spares}
 use Rattle.place_table.specs.declared.content.Behind.{Behind}
+use Rattle.place_table.specs.declared.strands.Finished.{Finished}
 use Rattle.place_table.specs.declared.view.View.{View}
 use Rattle.place_table.specs.declared.view.InHand.{InHand}
 use Rattle.place_table.specs.Contents.{IsSized}
-use Rattle.place_table.specs.Views.{is_among, is_in_hand_of, spares_from, first_hand, first_view}
-use Rattle.place_table.specs.Passes.{PassView, TableView, spare_of, SparesFit, IsPass, IsInNoCall, IsFirstPass}
+use Rattle.place_table.specs.Views.{is_among, is_in_hand_of, numbers_below, spares_from, first_hand, first_view}
+use Rattle.place_table.specs.Passes.{PassView, TableView, spare_of, flags_of, SparesFit, HasCpusOf, IsPass, IsInNoCall, IsFirstPass}
 use Rattle.place_table.specs.Opening.{first_spares, AreBodiesOf}
 use Rattle.place_table.proofs.FirstSpares.{hand_past, spares_count, hand_is_spares, spare_in_hand, spare_at_place}
-use Rattle.place_table.proofs.Opens.{among_below}
+use Rattle.place_table.proofs.Opens.{among, among_below}
 use Rattle.place_table.proofs.Worlds.{true_false}
 
 -- the body that stands at a CPU's place
@@ -70,11 +74,25 @@ first_real shape bounds e cpu in_hand =
     (λ (past : shape.elements ≤ e). true_false (sym in_hand ∙ hand_past shape shape.kind bounds e cpu past))
     (cases_lt e shape.elements)
 
-pub first_is_pass : (shape : Shape) → HasBounds shape → (v : View) (slots : List (ℕ × Behind)) (strand : List StrandStep) (spares : List (Option Stored)) → v ≡ first_view shape → slots ≡ [] → strand ≡ [] → AreBodiesOf shape (first_spares shape.kind shape) spares → IsPass v slots strand spares
-first_is_pass shape bounds v slots strand spares is none no_steps are =
-    subst (λ (w : View). IsPass w slots strand spares) (sym is)
-    (subst (λ (xs : List (ℕ × Behind)). IsPass (first_view shape) xs strand spares) (sym none)
-    record { carries = tt; strand_is = no_steps; none_ended = refl; spares_fit = first_spares_fit shape spares are; within = λ cpu has. among_below cpu shape.cpus has; hands_real = λ e cpu in_hand. first_real shape bounds e cpu in_hand })
+-- what is in hand at first is in the hand of a CPU of the map
+first_mine : (shape : Shape) → HasBounds shape → (e cpu : ℕ) → is_in_hand_of e cpu (first_hand shape.kind shape) ≡ true → cpu < shape.cpus
+first_mine shape bounds e cpu in_hand = go shape.kind refl in_hand
+  where
+    go : (kind : MapKind) → shape.kind ≡ kind → is_in_hand_of e cpu (first_hand kind shape) ≡ true → cpu < shape.cpus
+    go Hash hash is =
+        let found = spare_in_hand e cpu 0 (opening_spares shape) is in
+        let within = found.1 in let place = found.2 in
+        omega (arith, spares_count shape bounds hash)
+    go PercpuHash hash is = true_false (sym is)
+    go LruHash hash is = true_false (sym is)
+    go LruPercpuHash hash is = true_false (sym is)
+
+pub first_is_pass : (shape : Shape) → HasBounds shape → (v : View) (slots : List (ℕ × Behind)) (strand : List StrandStep) (spares : List (Option Stored)) (flags : List Bool) (ended : Vec Finished Global) → v ≡ first_view shape → slots ≡ [] → strand ≡ [] → AreBodiesOf shape (first_spares shape.kind shape) spares
+    → flags ≡ flags_of (numbers_below shape.cpus) → ended.items ≡ [] → IsPass v slots strand spares flags (Some ended)
+first_is_pass shape bounds v slots strand spares flags ended is none no_steps are all_cpus none_ended =
+    subst (λ (w : View). IsPass w slots strand spares flags (Some ended)) (sym is)
+    (subst (λ (xs : List (ℕ × Behind)). IsPass (first_view shape) xs strand spares flags (Some ended)) (sym none)
+    record { carries = tt; strand_is = no_steps; cpus_are = all_cpus; ended_are = none_ended; spares_fit = first_spares_fit shape spares are; within = λ cpu has. among_below cpu shape.cpus has; ended_within = All-nil (HasCpusOf shape); hands_real = λ e cpu in_hand. (first_real shape bounds e cpu in_hand, among cpu shape.cpus (first_mine shape bounds e cpu in_hand)) })
 
 pub is_first_pass : (t : TableView) (p : PassView) → HasBounds t.shape → p.table ≡ t.id → p.view ≡ first_view t.shape → AreBodiesOf t.shape (first_spares t.shape.kind t.shape) p.spares → IsFirstPass t p
 is_first_pass t p bounds of_table is are =

@@ -1,6 +1,7 @@
 -- The locks that a pass holds and the elements in its hands, as one element moves.
 use Rattle.std.proofs.Common.{◌≡◌, ◌≢◌, ℕ, ◌<◌, eqb, cond, Bool, true, false, List, [], ◌∷◌, sym, refl, ap, ◌∙◌, subst, Option, Some}
-use Rattle.std.specs.Prelude.{◌&&◌}
+use Rattle.std.specs.Prelude.{◌&&◌, Vec}
+use Rattle.std.specs.Global.{Global}
 use Rattle.map_types.specs.Stored.{Stored}
 use Rattle.map_types.specs.declared.attr.Shape.{Shape}
 use Rattle.place_words.specs.declared.history.StrandStep.{StrandStep}
@@ -14,11 +15,12 @@ use Rattle.place_core.proofs.ElementLemmas.{by_test}
 use Rattle.place_table.specs.declared.content.Behind.{Behind}
 use Rattle.place_table.specs.declared.view.Hold.{Hold}
 use Rattle.place_table.specs.declared.view.InHand.{InHand}
+use Rattle.place_table.specs.declared.strands.Finished.{Finished}
 use Rattle.place_table.specs.declared.view.View.{View}
 use Rattle.place_table.specs.Passes.{Carries, HandsReal, IsPass}
 use Rattle.place_table.specs.Plays.{Seated}
 use Rattle.place_table.specs.Rules.{is_hand_of, is_home_of, IsAboveAll, Ascends}
-use Rattle.place_table.specs.Views.{hold_at, is_in_hand_of, now_at, with_now, with_in_hand, without_in_hand, with_places}
+use Rattle.place_table.specs.Views.{is_among, hold_at, is_in_hand_of, now_at, with_now, with_in_hand, without_in_hand, with_places}
 use Rattle.place_table.proofs.Worlds.{by_bool, some_is, none_some}
 
 -- Locks that are held
@@ -174,15 +176,17 @@ not_their_home whose pass j c homes.Unlisted ours other = refl
 not_their_home whose pass j c (homes.In lock) ours other = refl
 not_their_home whose pass j c (homes.Hand d) ours other = not_their_cpu whose pass j c d ours other
 
--- what is in hand is the map's, also with one of the map's elements more, or with one less
-pub real_with : (shape : Shape) (e cpu : ℕ) (hand : List InHand) → HandsReal shape hand → e < shape.elements → HandsReal shape (with_in_hand e cpu hand)
-real_with shape e cpu hand all real x c in_hand =
-    by_test e x (λ b. cond (b && eqb cpu c) true (is_in_hand_of x c hand) ≡ true → x < shape.elements)
-    (λ same _. subst (λ (y : ℕ). y < shape.elements) same real)
+-- what is in hand is the map's and in these CPUs' hands, also with one of the map's elements more, or with one less
+pub real_with : (shape : Shape) (cpus : List ℕ) (e cpu : ℕ) (hand : List InHand) → HandsReal shape cpus hand → e < shape.elements → is_among cpu cpus ≡ true → HandsReal shape cpus (with_in_hand e cpu hand)
+real_with shape cpus e cpu hand all real mine x c in_hand =
+    by_test e x (λ b. cond (b && eqb cpu c) true (is_in_hand_of x c hand) ≡ true → (x < shape.elements) × (is_among c cpus ≡ true))
+    (λ same. by_test cpu c (λ b. cond (true && b) true (is_in_hand_of x c hand) ≡ true → (x < shape.elements) × (is_among c cpus ≡ true))
+    (λ own _. (subst (λ (y : ℕ). y < shape.elements) same real, subst (λ (d : ℕ). is_among d cpus ≡ true) own mine))
+    (λ _ f. all x c f))
     (λ _ f. all x c f) in_hand
 
-pub real_without : (shape : Shape) (e cpu : ℕ) (hand : List InHand) → HandsReal shape hand → HandsReal shape (without_in_hand e cpu hand)
-real_without shape e cpu hand all x c in_hand = all x c (was_in_hand e cpu x c hand in_hand)
+pub real_without : (shape : Shape) (cpus : List ℕ) (e cpu : ℕ) (hand : List InHand) → HandsReal shape cpus hand → HandsReal shape cpus (without_in_hand e cpu hand)
+real_without shape cpus e cpu hand all x c in_hand = all x c (was_in_hand e cpu x c hand in_hand)
   where
     was_in_hand : (e cpu x c : ℕ) (hand : List InHand) → is_in_hand_of x c (without_in_hand e cpu hand) ≡ true → is_in_hand_of x c hand ≡ true
     was_in_hand e cpu x c [] is = is
@@ -197,14 +201,16 @@ real_without shape e cpu hand all x c in_hand = all x c (was_in_hand e cpu x c h
         or_true false f = f
 
 -- a pass whose elements have moved
-pub is_pass_moved : (v : View) (slots : List (ℕ × Behind)) (strand : List StrandStep) (spares : List (Option Stored)) (held : List Hold) (hand carried : List InHand) (after : Seated) → IsPass v slots strand spares
-    → Carries held slots → HandsReal v.shape hand → after ≡ (with_places held hand carried v, slots) → IsPass after.0 after.1 strand spares
-is_pass_moved v slots strand spares held hand carried after pass carries real after_is =
-    subst (λ (z : Seated). IsPass z.0 z.1 strand spares) (sym after_is) record {
+pub is_pass_moved : {flags : List Bool} {ended : Option (Vec Finished Global)} (v : View) (slots : List (ℕ × Behind)) (strand : List StrandStep) (spares : List (Option Stored)) (held : List Hold) (hand carried : List InHand) (after : Seated) → IsPass v slots strand spares flags ended
+    → Carries held slots → HandsReal v.shape v.cpus hand → after ≡ (with_places held hand carried v, slots) → IsPass after.0 after.1 strand spares flags ended
+is_pass_moved {flags} {ended} v slots strand spares held hand carried after pass carries real after_is =
+    subst (λ (z : Seated). IsPass z.0 z.1 strand spares flags ended) (sym after_is) record {
       carries = carries;
       strand_is = pass.strand_is;
-      none_ended = pass.none_ended;
+      cpus_are = pass.cpus_are;
+      ended_are = pass.ended_are;
       spares_fit = pass.spares_fit;
       within = pass.within;
+      ended_within = pass.ended_within;
       hands_real = real;
     }

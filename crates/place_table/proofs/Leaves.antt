@@ -1,8 +1,8 @@
 -- What is left of the slots of a closed table.
-use Rattle.std.proofs.Common.{◌≡◌, ℕ, zero, suc, ◌+◌, ◌-◌, ◌<◌, Bool, true, false, cond, List, [], ◌∷◌, ◌++◌, length, get_or, take, drop, map, nat_lt, sym, refl, ap, ◌∙◌, add-one, append-nil, subst, ◌==◌, arith, Option, Some, None, Vec, Global}
+use Rattle.std.proofs.Common.{◌≡◌, ℕ, zero, suc, ◌+◌, ◌-◌, ◌<◌, ◌≤◌, Bool, true, false, cond, List, [], ◌∷◌, ◌++◌, length, get_or, take, drop, map, nat_lt, sym, refl, ap, ◌∙◌, add-one, append-nil, subst, arith, Option, Some, None, Vec, Global}
 use mathlib.Core.Option.{some, some-injective, some-ne-none}
 use lib.ListN.{get_elem?}
-use Rattle.std.specs.Prelude.{not, filter, slice_get, slice_range, All, ◌||◌, ◌&&◌}
+use Rattle.std.specs.Prelude.{IsTrue, not, filter, slice_get, slice_range, All, ◌||◌, ◌&&◌}
 use Rattle.std.specs.List.{range_with_len, list_any}
 use Rattle.std.proofs.lemmas.List.{take_more, map-append, get_or_default, get_or-map, get_or-take, get_or-drop, length-map, length-take-le, length-drop}
 use Rattle.std.proofs.lemmas.List.Elements.{filter-append}
@@ -16,15 +16,16 @@ use Rattle.map_types.specs.Kind.{is_lru}
 use Rattle.map_types.specs.Stored.{Stored}
 use Rattle.place_words.specs.declared.history.Entry.{Entry}
 use Rattle.place_words.specs.declared.history.LockHistory.{LockHistory}
-use Rattle.place_words.specs.declared.history.StrandStep.{StrandStep}
 use Rattle.place_words.specs.Histories.{in_bucket, on_freelist, content}
 use Rattle.place_words.specs.Locks.{is_lock, lock_named, lock_number, lock_count, first_bucket, first_freelist}
 use Rattle.place_words.proofs.LockLemmas.{named_by_number, number_within}
+use Rattle.place_core.proofs.ElementLemmas.{by_test}
 use Rattle.place_table.specs.declared.content.Behind.{Behind}
 use Rattle.place_table.specs.declared.content.Content.{Content}
 use Rattle.place_table.specs.declared.content.Content.TheVariants as lying
 use Rattle.place_table.specs.Contents.{told, Fits}
-use Rattle.place_table.specs.Closing.{AreSlots, has_lock, history_of, strands_of, spare_numbers}
+use Rattle.place_table.specs.Closing.{AreSlots, has_lock, all_locks, history_of, spare_numbers}
+use Rattle.place_table.proofs.Worlds.{by_bool}
 use Rattle.place_table.specs.Leaving.{Logs, bodies_in, numbers_in, HasSizedBodies, IsHistory, HaveHistories, AreContents, AreKept}
 
 -- one body more of a copy
@@ -126,21 +127,25 @@ history_at shape log lost histories k n history told counted same within at ther
     let here : get_or histories n None ≡ history = ap (λ (i : ℕ). get_or histories i None) same ∙ get_or_default histories k None history within ∙ sym at in
     subst (IsHistory (lost n) (log n)) here (told n (omega arith) there)
 
--- ---- strands and spares
+-- a lock of the map whose record is lost is one of all
+any_between : (test lost : ℕ → Bool) (k a n : ℕ) → a ≤ k → k < a + n → test k ≡ true → lost k ≡ true → list_any lost (filter test (range_with_len a n)) ≡ true
+any_between test lost k a zero from_there under has is = absurd (omega arith)
+any_between test lost k a (suc n) from_there under has is =
+    by_test a k (λ _. list_any lost (filter test (range_with_len a (suc n))) ≡ true)
+    (λ same. (λ i. list_any lost (cond ((ap test same ∙ has) i) (a ∷ filter test (range_with_len (a + 1) n)) (filter test (range_with_len (a + 1) n))))
+    ∙ (λ i. (ap lost same ∙ is) i || list_any lost (filter test (range_with_len (a + 1) n))))
+    (λ other. by_bool (test a) (λ b. list_any lost (cond b (a ∷ filter test (range_with_len (a + 1) n)) (filter test (range_with_len (a + 1) n))) ≡ true)
+    (λ _. either_true (lost a) _ (any_between test lost k (a + 1) n (omega arith) (omega arith) has is))
+    (λ _. any_between test lost k (a + 1) n (omega arith) (omega arith) has is))
+  where
+    either_true : (x y : Bool) → y ≡ true → (x || y) ≡ true
+    either_true true y e = refl
+    either_true false y e = e
 
-not_empty : (n : ℕ) → (n == 0) ≡ false → 0 < n
-not_empty n is = grind (arith, nat_tests)
+pub any_of : (shape : Shape) (lost : ℕ → Bool) (k : ℕ) → k < lock_count shape → IsTrue (has_lock shape k) → lost k ≡ true → list_any lost (all_locks shape) ≡ true
+any_of shape lost k below there_is is = any_between (has_lock shape) lost k 0 (lock_count shape) (omega arith) (omega arith) there_is is
 
-some_steps : (shape : Shape) (steps : List StrandStep) → 0 < length steps → strands_of shape steps ≡ record { cpus = range_with_len 0 shape.cpus; steps = steps } ∷ []
-some_steps shape [] more = absurd (omega arith)
-some_steps shape (step ∷ steps) more = refl
-
--- a strand of all steps, where there is one
-pub strand_made : (shape : Shape) (steps given : List StrandStep) (cpus : List ℕ) (n : ℕ) → n ≡ length steps → (n == 0) ≡ false → cpus ≡ range_with_len 0 shape.cpus → given ≡ steps → record { cpus = cpus; steps = given } ∷ [] ≡ strands_of shape steps
-strand_made shape steps given cpus n counted more all same =
-    ap (λ (cs : List ℕ). record { cpus = cs; steps = given } ∷ []) all
-    ∙ ap (λ (ss : List StrandStep). record { cpus = range_with_len 0 shape.cpus; steps = ss } ∷ []) same
-    ∙ sym (some_steps shape steps (let above = not_empty n more in omega arith))
+-- ---- spares
 
 spare_numbers-append : (xs ys : List (Option Stored)) → spare_numbers (xs ++ ys) ≡ spare_numbers xs ++ spare_numbers ys
 spare_numbers-append [] ys = refl

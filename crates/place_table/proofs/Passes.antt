@@ -19,6 +19,7 @@ use Rattle.place_core.specs.Places.{MayOwn}
 use Rattle.place_table.specs.declared.content.Behind.{Behind}
 use Rattle.place_table.specs.declared.content.Content.{Content}
 use Rattle.place_table.specs.declared.steps.Recorded.{Recorded}
+use Rattle.place_table.specs.declared.strands.Finished.{Finished}
 use Rattle.place_table.specs.declared.view.View.{View}
 use Rattle.place_table.specs.declared.view.Hold.{Hold}
 use Rattle.place_table.specs.declared.view.Notes.{Notes}
@@ -44,17 +45,19 @@ unfolding first_behind
 same_behind slots k a b below others one other = ap (first_behind a) (sym one ∙ other)
 
 -- a pass once a lock is taken and its content is out
-pub is_pass_taken : (v : View) (slots : List (ℕ × Behind)) (strand : List StrandStep) (spares : List (Option Stored)) (k cpu : ℕ) (taken out : Seated) → IsPass v slots strand spares → Took k cpu (v, slots) taken
-    → (b : Behind) → taken.1 ≡ (k, b) ∷ rest taken.1 → out ≡ (taken.0, (k, without_content b) ∷ rest taken.1) → IsPass out.0 out.1 strand spares
-is_pass_taken v slots strand spares k cpu taken out pass took b slot left =
+pub is_pass_taken : {flags : List Bool} {ended : Option (Vec Finished Global)} (v : View) (slots : List (ℕ × Behind)) (strand : List StrandStep) (spares : List (Option Stored)) (k cpu : ℕ) (taken out : Seated) → IsPass v slots strand spares flags ended → Took k cpu (v, slots) taken
+    → (b : Behind) → taken.1 ≡ (k, b) ∷ rest taken.1 → out ≡ (taken.0, (k, without_content b) ∷ rest taken.1) → IsPass out.0 out.1 strand spares flags ended
+is_pass_taken {flags} {ended} v slots strand spares k cpu taken out pass took b slot left =
     let b_is : b ≡ took.behind = same_behind taken.1 k b took.behind (rest taken.1) slots slot (ap (λ (z : Seated). z.1) took.after_is) in
     let out_is : out ≡ (holding took.hold v, (k, without_content took.behind) ∷ slots) = left ∙ (λ i. ((took.after_is i).0, (k, without_content (b_is i)) ∷ rest (took.after_is i).1)) in
-    subst (λ (z : Seated). IsPass z.0 z.1 strand spares) (sym out_is) record {
+    subst (λ (z : Seated). IsPass z.0 z.1 strand spares flags ended) (sym out_is) record {
       carries = (sym took.lock, refl, took.reads.kept, pass.carries);
       strand_is = pass.strand_is;
-      none_ended = pass.none_ended;
+      cpus_are = pass.cpus_are;
+      ended_are = pass.ended_are;
       spares_fit = pass.spares_fit;
       within = pass.within;
+      ended_within = pass.ended_within;
       hands_real = pass.hands_real;
     }
 
@@ -163,27 +166,29 @@ may_lose t lock p here part can key v key_is v_is = record {
 }
 
 -- a pass once its lock is given back
-is_pass_back : (v : View) (slots : List (ℕ × Behind)) (strand now : List StrandStep) (spares : List (Option Stored)) (hold : Hold) (entry : Entry) (kept : List StrandStep) (lost : List ℕ) (after : Seated) → IsPass v slots strand spares
-    → after ≡ (with_lost lost (given hold entry kept v), rest slots) → now ≡ kept → IsPass after.0 after.1 now spares
-is_pass_back v slots strand now spares hold entry kept lost after pass after_is now_is =
-    subst (λ (z : Seated). IsPass z.0 z.1 now spares) (sym after_is) record {
+is_pass_back : {flags : List Bool} {ended : Option (Vec Finished Global)} (v : View) (slots : List (ℕ × Behind)) (strand now : List StrandStep) (spares : List (Option Stored)) (hold : Hold) (entry : Entry) (kept : List StrandStep) (lost : List ℕ) (after : Seated) → IsPass v slots strand spares flags ended
+    → after ≡ (with_lost lost (given hold entry kept v), rest slots) → now ≡ kept → IsPass after.0 after.1 now spares flags ended
+is_pass_back {flags} {ended} v slots strand now spares hold entry kept lost after pass after_is now_is =
+    subst (λ (z : Seated). IsPass z.0 z.1 now spares flags ended) (sym after_is) record {
       carries = carries_below v.held slots pass.carries;
       strand_is = now_is;
-      none_ended = pass.none_ended;
+      cpus_are = pass.cpus_are;
+      ended_are = pass.ended_are;
       spares_fit = pass.spares_fit;
       within = pass.within;
+      ended_within = pass.ended_within;
       hands_real = pass.hands_real;
     }
 
-pub is_pass_given : (v : View) (slots : List (ℕ × Behind)) (strand now : List StrandStep) (spares : List (Option Stored)) (entry : Entry) (kept : List StrandStep) (put after : Seated) → IsPass v slots strand spares
-    → put.0 ≡ v → rest put.1 ≡ rest slots → Gives entry kept put after → now ≡ kept → IsPass after.0 after.1 now spares
+pub is_pass_given : {flags : List Bool} {ended : Option (Vec Finished Global)} (v : View) (slots : List (ℕ × Behind)) (strand now : List StrandStep) (spares : List (Option Stored)) (entry : Entry) (kept : List StrandStep) (put after : Seated) → IsPass v slots strand spares flags ended
+    → put.0 ≡ v → rest put.1 ≡ rest slots → Gives entry kept put after → now ≡ kept → IsPass after.0 after.1 now spares flags ended
 is_pass_given v slots strand now spares entry kept put after pass put_is below_is gives now_is =
     let after_is : after ≡ (given gives.hold entry kept v, rest slots) = gives.after_is ∙ (λ i. (given gives.hold entry kept (put_is i), below_is i)) in
     is_pass_back v slots strand now spares gives.hold entry kept v.lost after pass after_is now_is
 
 -- and the same without a part
-pub is_pass_lost : (v : View) (slots : List (ℕ × Behind)) (strand : List StrandStep) (spares : List (Option Stored)) (cpu call : ℕ) (put after : Seated) → IsPass v slots strand spares
-    → put.0 ≡ v → rest put.1 ≡ rest slots → GivesSome cpu call put after → IsPass after.0 after.1 strand spares
+pub is_pass_lost : {flags : List Bool} {ended : Option (Vec Finished Global)} (v : View) (slots : List (ℕ × Behind)) (strand : List StrandStep) (spares : List (Option Stored)) (cpu call : ℕ) (put after : Seated) → IsPass v slots strand spares flags ended
+    → put.0 ≡ v → rest put.1 ≡ rest slots → GivesSome cpu call put after → IsPass after.0 after.1 strand spares flags ended
 is_pass_lost v slots strand spares cpu call put after pass put_is below_is gives =
     let after_is : after ≡ (losing gives.hold (entry_by cpu call gives.part) v, rest slots) = gives.after_is ∙ (λ i. (losing gives.hold (entry_by cpu call gives.part) (put_is i), below_is i)) in
     is_pass_back v slots strand strand spares gives.hold (entry_by cpu call gives.part) v.kept (gives.hold.lock ∷ v.lost) after pass after_is pass.strand_is
@@ -230,9 +235,9 @@ gave_some_of t lock before after here part can put given_seat behind k put_is sl
     same_head e = cc
 
 -- a pass that has made a note
-pub is_pass_noted : (v : View) (slots : List (ℕ × Behind)) (strand : List StrandStep) (spares : List (Option Stored)) (notes : List Notes) (bits : List BitSeen) (after : Seated) → IsPass v slots strand spares → after ≡ (noted notes bits v, slots) → IsPass after.0 after.1 strand spares
-is_pass_noted v slots strand spares notes bits after pass after_is =
-    subst (λ (z : Seated). IsPass z.0 z.1 strand spares) (sym after_is) record { carries = pass.carries; strand_is = pass.strand_is; none_ended = pass.none_ended; spares_fit = pass.spares_fit; within = pass.within; hands_real = pass.hands_real }
+pub is_pass_noted : {flags : List Bool} {ended : Option (Vec Finished Global)} (v : View) (slots : List (ℕ × Behind)) (strand : List StrandStep) (spares : List (Option Stored)) (notes : List Notes) (bits : List BitSeen) (after : Seated) → IsPass v slots strand spares flags ended → after ≡ (noted notes bits v, slots) → IsPass after.0 after.1 strand spares flags ended
+is_pass_noted {flags} {ended} v slots strand spares notes bits after pass after_is =
+    subst (λ (z : Seated). IsPass z.0 z.1 strand spares flags ended) (sym after_is) record { carries = pass.carries; strand_is = pass.strand_is; cpus_are = pass.cpus_are; ended_are = pass.ended_are; spares_fit = pass.spares_fit; within = pass.within; ended_within = pass.ended_within; hands_real = pass.hands_real }
 
 -- the owner that was read has a code
 pub read_has_code : (t : TableView) (e : ℕ) (before : PassView) (old new : Seated) (found : ℕ) → IsShape t.shape → IsPassOf t before → old.0 ≡ before.view → (sees : SeesOwner e old found new) → HasOwnerCode sees.owner
@@ -261,14 +266,16 @@ cpu_is_few t p cpu v is of_table begun cpu_is v_is within =
     omega arith
 
 -- a pass with another spare for one CPU, or with none
-pub is_pass_spared : (v : View) (slots : List (ℕ × Behind)) (strand : List StrandStep) (cpu : ℕ) (spares now : List (Option Stored)) (found : Option Stored) → IsPass v slots strand spares → spare_of cpu now ≡ found → IfSome found (IsSized v.shape) → SparesDiffer cpu spares now → IsPass v slots strand now
+pub is_pass_spared : {flags : List Bool} {ended : Option (Vec Finished Global)} (v : View) (slots : List (ℕ × Behind)) (strand : List StrandStep) (cpu : ℕ) (spares now : List (Option Stored)) (found : Option Stored) → IsPass v slots strand spares flags ended → spare_of cpu now ≡ found → IfSome found (IsSized v.shape) → SparesDiffer cpu spares now → IsPass v slots strand now flags ended
 is_pass_spared v slots strand cpu spares now found pass here sized others = record {
   carries = pass.carries;
   strand_is = pass.strand_is;
-  none_ended = pass.none_ended;
+  cpus_are = pass.cpus_are;
+  ended_are = pass.ended_are;
   spares_fit = λ c body kept. by_test c cpu (λ _. IsSized v.shape body)
       (λ same. subst (λ (o : Option Stored). IfSome o (IsSized v.shape)) (sym here ∙ (ap (λ (z : ℕ). spare_of z now) (sym same) ∙ kept)) sized)
       (λ other. pass.spares_fit c body (sym (others c other) ∙ kept));
   within = pass.within;
+  ended_within = pass.ended_within;
   hands_real = pass.hands_real;
 }

@@ -1,5 +1,5 @@
--- What a closed table leaves: each history leads to what lay under its lock, and the strand has every turn.
-use Rattle.std.specs.Prelude.{◌≡◌, ℕ, suc, ◌<◌, Bool, true, false, not, List, [], ◌∷◌, length, map, filter, Option, None, Some, slice_index_or, IsTrue}
+-- What a closed table leaves: each history leads to what lay under its lock, and each turn is a step of one strand.
+use Rattle.std.specs.Prelude.{◌≡◌, ℕ, suc, ◌<◌, ◌==◌, Bool, true, false, not, All, List, [], ◌∷◌, length, map, filter, Option, None, Some, slice_get, slice_index_or, IsTrue, if◌then◌else◌}
 use Rattle.std.specs.List.{range_with_len, list_any}
 use mathlib.Core.Option.{some}
 use lib.ListN.{get_elem?}
@@ -10,15 +10,15 @@ use Rattle.place_words.specs.declared.finals.Finals.{Finals}
 use Rattle.place_words.specs.declared.history.Entry.{Entry}
 use Rattle.place_words.specs.declared.history.LockHistory.{LockHistory}
 use Rattle.place_words.specs.declared.history.Strand.{Strand}
-use Rattle.place_words.specs.declared.history.StrandStep.{StrandStep}
 use Rattle.place_words.specs.Histories.{in_bucket, on_freelist, content, IsLegal}
 use Rattle.place_words.specs.Locks.{is_lock, lock_named, lock_number, lock_count}
 use Rattle.place_words.specs.Strands.{AreSharedOut, places_on}
 use Rattle.place_core.specs.State as cores
 use Rattle.place_core.specs.Places.{Placed}
 use Rattle.place_table.specs.declared.content.Behind.{Behind}
-use Rattle.place_table.specs.Contents.{lists_of}
-use Rattle.place_table.specs.Views.{is_among, is_in_hand_of, known_log, bit_seen}
+use Rattle.place_table.specs.Contents.{lists_of, IsSized}
+use Rattle.place_table.specs.declared.view.Ended.{Ended}
+use Rattle.place_table.specs.Views.{is_among, is_in_hand_of, known_log, bit_seen, all_strands, is_recorded}
 use Rattle.place_table.specs.Rules.{Reads, is_hand_of, turns_on, indexes}
 use Rattle.place_table.specs.Passes.{PassView}
 
@@ -48,22 +48,24 @@ history_of shape log k = record { lock = lock_named shape k; entries = log k }
 abbrev pub histories_of : Shape → (ℕ → List Entry) → (ℕ → Bool) → List LockHistory
 histories_of shape log lost = map (history_of shape log) (filter (λ k. not (lost k)) (all_locks shape))
 
--- the one strand, of all CPUs, where it has a step
-abbrev pub strands_of : Shape → List StrandStep → List Strand
-strands_of shape [] = []
-strands_of shape (step ∷ steps) = record { cpus = range_with_len 0 shape.cpus; steps = step ∷ steps } ∷ []
+-- the strands a step of which is recorded, in order, each with its CPUs ascending
+abbrev pub strand_told : Shape → Ended → Strand
+strand_told shape strand = record { cpus = filter (λ cpu. is_among cpu strand.cpus) (range_with_len 0 shape.cpus); steps = strand.kept }
 
--- the elements of the spares that are kept, by CPU
+abbrev pub strands_told : Shape → List Ended → List Strand
+strands_told shape strands = map (strand_told shape) (filter is_recorded strands)
+
+-- the elements of the spares that are kept, in the order of their CPUs
 abbrev pub spare_numbers : List (Option Stored) → List ℕ
 spare_numbers [] = []
 spare_numbers (None ∷ spares) = spare_numbers spares
 spare_numbers (Some body ∷ spares) = body.element ∷ spare_numbers spares
 
--- what is handed out of the turns, the bits, the recorded steps and the spares
-pub record IsLeft (shape : Shape) (log : ℕ → List Entry) (lost : ℕ → Bool) (bit : ℕ → Bool) (kept : List StrandStep) (spares : List (Option Stored)) (closed : ClosedView) : Type 0 where
+-- what is handed out of the turns, the bits, the strands and the spares
+pub record IsLeft (shape : Shape) (log : ℕ → List Entry) (lost : ℕ → Bool) (bit : ℕ → Bool) (strands_lost : Bool) (strands : List Ended) (spares : List (Option Stored)) (closed : ClosedView) : Type 0 where
   pub histories_are : closed.histories ≡ histories_of shape log lost
   pub lost_is : closed.lost ≡ list_any lost (all_locks shape)
-  pub strands_are : closed.strands ≡ strands_of shape kept
+  pub strands_are : closed.strands ≡ (if strands_lost then [] else strands_told shape strands)
   pub buckets_counted : length closed.finals.buckets ≡ shape.buckets
   pub buckets_are : (bucket : ℕ) → bucket < shape.buckets → in_bucket (slice_index_or closed.finals.buckets bucket []) ≡ content shape (Bucket bucket) (log (lock_number shape (Bucket bucket)))
   pub freelists_counted : length closed.finals.freelists ≡ shape.cpus
@@ -78,6 +80,21 @@ abbrev pub numbered : ℕ → List Entry → List (ℕ × Entry)
 numbered place [] = []
 numbered place (entry ∷ entries) = (place, entry) ∷ numbered (suc place) entries
 
+-- of some turns with their places those that belong to this strand, by its place among the strands
+abbrev pub turns_by : (ℕ → ℕ) → ℕ → List (ℕ × Entry) → List (ℕ × Entry)
+turns_by strand_at n [] = []
+turns_by strand_at n (turn ∷ turns) =
+    if strand_at turn.0 == n then turn ∷ turns_by strand_at n turns else turns_by strand_at n turns
+
+-- The turns of a lock are those of the strands: each is a turn of exactly one strand, which has the CPU of the entry, and each
+-- strand has its turns in order.
+pub record AreTurnsOf (k : ℕ) (strands : List Ended) (log : List Entry) : Type 0 where
+  -- of a place in the history: the strand, by its place among them
+  pub strand_at : ℕ → ℕ
+  pub within : (place : ℕ) → place < length log → strand_at place < length strands
+  pub has_cpu : (place : ℕ) (entry : Entry) (strand : Ended) → slice_get log place ≡ Some entry → slice_get strands (strand_at place) ≡ Some strand → is_among entry.cpu strand.cpus ≡ true
+  pub turns : (n : ℕ) (strand : Ended) → slice_get strands n ≡ Some strand → turns_on k strand.steps ≡ turns_by strand_at n (numbered 0 log)
+
 -- What a closed table was: the turns of its locks, and who had what.
 pub record IsClosed (shape : Shape) (pass : PassView) (closed : ClosedView) : Type 0 where
   pub log : ℕ → List Entry
@@ -89,14 +106,21 @@ pub record IsClosed (shape : Shape) (pass : PassView) (closed : ClosedView) : Ty
   pub placed : Placed shape core
   pub lies : (k : ℕ) → k < lock_count shape → IsTrue (has_lock shape k) → core.lists k ≡ lists_of (content shape (lock_named shape k) (log k))
   pub hands : (e c : ℕ) → c < shape.cpus → is_hand_of c (core.owner e) ≡ is_in_hand_of e c pass.view.hand
-  -- what the pass knew is so, and every turn is a step of its strand
+  -- and what the pass has in hand is an element of the map, in the hand of one of its CPUs
+  pub in_hand : (e c : ℕ) → is_in_hand_of e c pass.view.hand ≡ true → (e < shape.elements) × (c < shape.cpus)
+  pub sized : (bucket : ℕ) → bucket < shape.buckets → All (IsSized shape) (slice_index_or closed.finals.buckets bucket [])
+  -- what the pass knew is so, and every turn is one of its strands
   pub known : (k : ℕ) (turns : List Entry) → known_log k pass.view.known ≡ Some turns → log k ≡ turns
   pub bits : (e : ℕ) (bit : Bool) → bit_seen e pass.view.bits ≡ Some bit → core.bit e ≡ bit
-  pub turns : (k : ℕ) → turns_on k pass.view.steps ≡ numbered 0 (log k)
+  pub turns : (k : ℕ) → AreTurnsOf k (all_strands pass.view) (log k)
   -- of a lock whose record isn't lost each turn is recorded
-  pub recorded : (k : ℕ) → k < lock_count shape → IsTrue (has_lock shape k) → lost k ≡ false → places_on (lock_named shape k) pass.view.kept ≡ indexes (turns_on k pass.view.steps)
+  pub recorded : (n : ℕ) (strand : Ended) → slice_get (all_strands pass.view) n ≡ Some strand
+      → (k : ℕ) → k < lock_count shape → IsTrue (has_lock shape k) → lost k ≡ false → places_on (lock_named shape k) strand.kept ≡ indexes (turns_on k strand.steps)
+  -- whether strands that had ended are lost, and with them the record of every lock
+  pub strands_lost : Bool
+  pub all_lost : strands_lost ≡ true → (k : ℕ) → lost k ≡ true
   -- where the pass gave a lock back without a part, a record is lost
   pub losses : (k : ℕ) → is_among k pass.view.lost ≡ true → closed.lost ≡ true
   -- what is handed out is this, and the turns that are recorded are shared out among the strands
-  pub left : IsLeft shape log lost core.bit pass.view.kept pass.spares closed
+  pub left : IsLeft shape log lost core.bit strands_lost (all_strands pass.view) pass.spares closed
   pub shared_out : (k : ℕ) → k < lock_count shape → IsTrue (has_lock shape k) → lost k ≡ false → AreSharedOut (lock_named shape k) closed.strands (log k)

@@ -1,5 +1,5 @@
 -- Each operation on a word of the table is the step of the core that has its name, and the rule holds before and after it.
-use Rattle.std.specs.Prelude.{◌≡◌, ◌≢◌, ℕ, ◌+◌, ◌<◌, ◌==◌, true, List, ◌∷◌, Some, IsTrue, IsFalse, length, slice_index}
+use Rattle.std.specs.Prelude.{◌≡◌, ◌≢◌, ℕ, ◌+◌, ◌<◌, ◌==◌, true, List, [], ◌∷◌, ◌++◌, Some, IsTrue, IsFalse, length, slice_index, slice_set}
 use mathlib.Core.Option.{some, none}
 use lib.ListN.{get_elem?}
 use prog.Atomic.{either}
@@ -24,7 +24,7 @@ use Rattle.place_table.specs.declared.content.Behind.{Behind}
 use Rattle.place_table.specs.declared.view.View.{View}
 use Rattle.place_table.specs.declared.view.Hold.{Hold}
 use Rattle.place_table.specs.Contents.{told, lists_of}
-use Rattle.place_table.specs.Views.{is_among, hold_at, is_in_hand_of, claimed, settled, attached, detached}
+use Rattle.place_table.specs.Views.{is_among, hold_at, is_in_hand_of, claimed, settled, attached, detached, split_from, split_off, joined, spent}
 use Rattle.place_table.specs.Rules.{Rule, IsAboveAll, owner_word, home_word, bit_word}
 use Rattle.place_table.specs.Plays.{Seated, MayGive, Tries, Gives, Marks, Clears, SeesBit, SeesOwner, SeesHome, IsKnownHome, MayGoHome, Rehomes}
 
@@ -112,3 +112,16 @@ abbrev pub RehomeIsStep : Type 0
 RehomeIsStep =
     (shape : Shape) (slots pass : ℕ) (me : Seated) (c e : ℕ) (from to : Home) → IsTrue shape.common → e < shape.elements → is_among c me.0.cpus ≡ true → IsKnownHome shape me.0 c e from → MayGoHome shape me.0 c e to
     → StepsAs shape slots pass me (home_word shape e) (λ _. home_code to) (goes_by shape (Rehome c e to)) (λ _. Rehomes e to me)
+
+-- A CPU is split off, and passes are joined: no step of the core is made, and the rule holds again.
+abbrev pub SplitIsNoStep : Type 0
+SplitIsNoStep =
+    (shape : Shape) (pass c : ℕ) (v : View) → is_among c v.cpus ≡ true → v.held ≡ []
+    → (s : table.State Behind View) (r : Rule shape s) → get_elem? s.views pass ≡ some v
+    → (after : Rule shape record { words = s.words; homes = s.homes; views = slice_set s.views pass (split_from c v) ++ split_off c v ∷ [] }) × (after.world.core ≡ r.world.core)
+
+abbrev pub JoinIsNoStep : Type 0
+JoinIsNoStep =
+    (shape : Shape) (pass other : ℕ) (v u : View) → v.held ≡ [] → u.held ≡ [] → ¬ (other ≡ pass)
+    → (s : table.State Behind View) (r : Rule shape s) → get_elem? s.views pass ≡ some v → get_elem? (slice_set s.views pass (joined v u)) other ≡ some u
+    → (after : Rule shape record { words = s.words; homes = s.homes; views = slice_set (slice_set s.views pass (joined v u)) other (spent u.shape) }) × (after.world.core ≡ r.world.core)

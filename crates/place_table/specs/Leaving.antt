@@ -1,5 +1,5 @@
 -- What the slots of a closed table leave.
-use Rattle.std.specs.Prelude.{◌≡◌, ℕ, ◌<◌, Bool, true, false, not, List, [], map, filter, Option, None, Some, MatchOption, All, Vec, slice_index_or}
+use Rattle.std.specs.Prelude.{◌≡◌, ℕ, ◌<◌, Bool, true, false, not, List, [], map, filter, Option, None, Some, MatchOption, All, Vec, slice_index_or, ◌||◌, if◌then◌else◌}
 use Rattle.std.specs.Global.{Global}
 use Rattle.std.specs.List.{range_with_len, list_any}
 use Rattle.map_types.specs.declared.attr.Shape.{Shape}
@@ -7,12 +7,15 @@ use Rattle.map_types.specs.Stored.{Stored}
 use Rattle.cpu_freelist.specs.Stack.{numbers}
 use Rattle.place_words.specs.declared.history.Entry.{Entry}
 use Rattle.place_words.specs.declared.history.LockHistory.{LockHistory}
+use Rattle.place_words.specs.declared.history.Strand.{Strand}
 use Rattle.place_words.specs.Histories.{content}
 use Rattle.place_words.specs.Locks.{lock_named, lock_count}
 use Rattle.place_table.specs.declared.content.Content.{Content}
 use Rattle.place_table.specs.declared.content.Content.TheVariants.{Bucket, Freelist}
 use Rattle.place_table.specs.Contents.{told, Fits, IsSized}
-use Rattle.place_table.specs.Closing.{has_lock, history_of}
+use Rattle.place_table.specs.declared.strands.Finished.{Finished}
+use Rattle.place_table.specs.declared.view.Ended.{Ended}
+use Rattle.place_table.specs.Closing.{ClosedView, has_lock, history_of, strands_told, IsLeft}
 
 -- of each lock by number its turns
 abbrev pub Logs : Type 0
@@ -51,3 +54,18 @@ AreContents shape log contents =
 pub record AreKept (shape : Shape) (log : Logs) (lost : ℕ → Bool) (n : ℕ) (kept : List LockHistory) (some_lost : Bool) : Type 0 where
   pub kept_are : kept ≡ map (history_of shape log) (filter (λ k. not (lost k)) (filter (has_lock shape) (range_with_len 0 n)))
   pub lost_is : some_lost ≡ list_any lost (filter (has_lock shape) (range_with_len 0 n))
+
+-- a strand that was kept, with its CPUs ascending
+abbrev pub finished_told : Shape → Finished → Strand
+finished_told shape strand = record { cpus = filter (λ cpu. slice_index_or strand.cpus cpu false) (range_with_len 0 shape.cpus); steps = strand.steps }
+
+-- the histories and strands that are handed out, and whether a record is lost; where the strands are lost, so is every record
+pub record AreTold (shape : Shape) (log : Logs) (lost : ℕ → Bool) (strands : List Ended) (kept : List LockHistory) (told : List Strand) (some_lost : Bool) : Type 0 where
+  pub strands_lost : Bool
+  pub are_kept : AreKept shape log (λ k. strands_lost || lost k) (lock_count shape) kept some_lost
+  pub told_are : told ≡ (if strands_lost then [] else strands_told shape strands)
+
+-- and with them all that is handed out
+pub record WasLeft (shape : Shape) (log : Logs) (lost bit : ℕ → Bool) (strands : List Ended) (spares : List (Option Stored)) (closed : ClosedView) : Type 0 where
+  pub strands_lost : Bool
+  pub left : IsLeft shape log (λ k. strands_lost || lost k) bit strands_lost strands spares closed

@@ -1,5 +1,7 @@
 -- What a caller of the table knows of its pass: what each call asks, and what it leaves.
-use Rattle.std.specs.Prelude.{◌≡◌, ◌≢◌, ◌⊎◌, ℕ, ◌<◌, Bool, true, false, List, [], ◌∷◌, ◌++◌, Option, None, Some, MatchOption, IfSome, IsTrue, IsFalse, slice_index_or}
+use Rattle.std.specs.Prelude.{◌≡◌, ◌≢◌, ◌⊎◌, ℕ, ◌<◌, Bool, true, false, List, [], ◌∷◌, ◌++◌, map, filter, Option, None, Some, MatchOption, IfSome, IsTrue, IsFalse, All, Vec, slice_index_or}
+use Rattle.std.specs.Global.{Global}
+use Rattle.std.specs.List.{range_with_len}
 use Rattle.atomic_table.specs.Seated.{TableId}
 use Rattle.map_types.specs.declared.attr.Shape.{Shape}
 use Rattle.map_types.specs.declared.kind.DomainId.{DomainId}
@@ -22,13 +24,15 @@ use Rattle.place_core.specs.State.{rows, is_bucket}
 use Rattle.place_core.specs.Places.{MayOwn}
 use Rattle.place_table.specs.declared.content.Content.{Content}
 use Rattle.place_table.specs.declared.content.Behind.{Behind}
+use Rattle.place_table.specs.declared.strands.Finished.{Finished}
 use Rattle.place_table.specs.declared.view.View.{View}
 use Rattle.place_table.specs.declared.view.Hold.{Hold}
 use Rattle.place_table.specs.declared.view.InHand.{InHand}
 use Rattle.place_table.specs.declared.view.Notes.{Notes}
 use Rattle.place_table.specs.declared.view.Turned.{Turned}
+use Rattle.place_table.specs.declared.view.Ended.{Ended}
 use Rattle.place_table.specs.Contents.{told, lists_of, Fits, IsSized}
-use Rattle.place_table.specs.Views.{is_among, hold_at, is_in_hand_of, known_log, first_view, kept_step, holding, given, losing, cleared, bit_read, owner_read, home_read, rehomed}
+use Rattle.place_table.specs.Views.{is_among, hold_at, is_in_hand_of, known_log, first_view, kept_step, holding, given, losing, cleared, bit_read, owner_read, home_read, rehomed, is_recorded, split_from, split_off, joined}
 use Rattle.place_table.specs.Rules.{KeptAs, IsAboveAll}
 use Rattle.place_table.specs.Plays.{AreElements, IsApartFromHands, MayPut, IsInnermost, IsKeptOrLost, IsKnownBit, OwnerFits, IsKnownHome, MayGoHome, IsNoneListed}
 use Rattle.place_table.specs.TurnNotes.{NotesFit}
@@ -67,19 +71,37 @@ spare_of cpu spares = slice_index_or spares cpu None
 abbrev pub SparesFit : View → List (Option Stored) → Type 0
 SparesFit v spares = (cpu : ℕ) (body : Stored) → spare_of cpu spares ≡ Some body → IsSized v.shape body
 
--- what is in hand is of the map
-abbrev pub HandsReal : Shape → List InHand → Type 0
-HandsReal shape hand = (e cpu : ℕ) → is_in_hand_of e cpu hand ≡ true → e < shape.elements
+-- what is in hand is of the map, and in the hand of one of these CPUs
+abbrev pub HandsReal : Shape → List ℕ → List InHand → Type 0
+HandsReal shape cpus hand = (e cpu : ℕ) → is_in_hand_of e cpu hand ≡ true → (e < shape.elements) × (is_among cpu cpus ≡ true)
+
+-- for each CPU that a map may have, whether it is among these
+unfoldable pub flags_of : List ℕ → List Bool
+flags_of cpus = map (λ cpu. is_among cpu cpus) (range_with_len 0 16)
+
+-- Of the strands that have ended those are kept a step of which is recorded, with its CPUs and these steps; or no list of them
+-- is there, since memory for one wasn't found.
+abbrev pub finished_of : Ended → Finished
+finished_of strand = record { cpus = flags_of strand.cpus; steps = strand.kept }
+
+abbrev pub AreFinished : List Ended → Option (Vec Finished Global) → Type 0
+AreFinished strands kept = MatchOption kept (Unit {0}) (λ v. v.items ≡ map finished_of (filter is_recorded strands))
+
+-- the CPUs of a strand are the map's
+abbrev pub HasCpusOf : Shape → Ended → Type 0
+HasCpusOf shape strand = (cpu : ℕ) → is_among cpu strand.cpus ≡ true → cpu < shape.cpus
 
 -- what holds of each pass
-pub record IsPass (v : View) (slots : List (ℕ × Behind)) (strand : List StrandStep) (spares : List (Option Stored)) : Type 0 where
+pub record IsPass (v : View) (slots : List (ℕ × Behind)) (strand : List StrandStep) (spares : List (Option Stored)) (cpus : List Bool) (ended : Option (Vec Finished Global)) : Type 0 where
   pub carries : Carries v.held slots
   pub strand_is : strand ≡ v.kept
-  pub none_ended : v.ended ≡ []
+  pub cpus_are : cpus ≡ flags_of v.cpus
+  pub ended_are : AreFinished v.ended ended
   pub spares_fit : SparesFit v spares
-  -- its CPUs are the map's, and so is what they have in hand
+  -- its CPUs are the map's, and so are those of its strands, and what is in their hands
   pub within : (cpu : ℕ) → is_among cpu v.cpus ≡ true → cpu < v.shape.cpus
-  pub hands_real : HandsReal v.shape v.hand
+  pub ended_within : All (HasCpusOf v.shape) v.ended
+  pub hands_real : HandsReal v.shape v.cpus v.hand
 
 abbrev pub IsPassOf : TableView → PassView → Type 0
 IsPassOf t p = (p.table ≡ t.id) × (p.view.shape ≡ t.shape)
@@ -339,3 +361,45 @@ pub record Went (before after : PassView) (more : List Turned) (lost : List ℕ)
   pub made : Made before after more lost
   pub spares : after.spares ≡ before.spares
   pub hand : after.view.hand ≡ before.view.hand
+
+-- split asks for a CPU that the pass has, in no call
+pub record CanSplit (t : TableView) (cpu : ℕ) (p : PassView) : Type 0 where
+  pub of_table : IsPassOf t p
+  pub has_cpu : is_among cpu p.view.cpus ≡ true
+  pub in_no_call : IsInNoCall p
+
+-- What it leaves: the new pass has the CPU, its hand and its spare, and all strands, which have ended; the other CPUs, their
+-- hands and spares stay. Both are in no call. `after` differs from `before` in its view and its spares alone.
+pub record Split (cpu : ℕ) (before after off : PassView) : Type 0 where
+  pub after_is : after ≡ with_spares (with_view before (split_from cpu before.view)) after.spares
+  pub spare_gone : spare_of cpu after.spares ≡ None
+  pub spares_stay : SparesDiffer cpu before.spares after.spares
+  pub table : off.table ≡ before.table
+  pub view_is : off.view ≡ split_off cpu before.view
+  pub spare_is : spare_of cpu off.spares ≡ spare_of cpu before.spares
+  pub no_others : (other : ℕ) → other ≢ cpu → spare_of other off.spares ≡ None
+  pub in_no_call : IsInNoCall after
+  pub off_in_no_call : IsInNoCall off
+
+-- no CPU is among both
+abbrev pub AreApart : List ℕ → List ℕ → Type 0
+AreApart cpus others = (cpu : ℕ) → is_among cpu cpus ≡ true → is_among cpu others ≡ false
+
+-- join asks for two passes of the table that are in no call
+pub record CanJoin (t : TableView) (p other : PassView) : Type 0 where
+  pub of_table : IsPassOf t p
+  pub other_of_table : IsPassOf t other
+  pub in_no_call : IsInNoCall p
+  pub other_in_no_call : IsInNoCall other
+
+-- the first of two spares that is there
+abbrev pub either_spare : Option Stored → Option Stored → Option Stored
+either_spare (Some body) other = Some body
+either_spare None other = other
+
+-- What it leaves: the pass has the CPUs of both, their hands and spares, and the strands of both, which have ended. Where no CPU
+-- is in both, as is always so, it is in no call. `after` differs from `before` in its view and its spares alone.
+pub record Joined (before other after : PassView) : Type 0 where
+  pub after_is : after ≡ with_spares (with_view before (joined before.view other.view)) after.spares
+  pub spares_are : (cpu : ℕ) → spare_of cpu after.spares ≡ either_spare (spare_of cpu before.spares) (spare_of cpu other.spares)
+  pub in_no_call : AreApart before.view.cpus other.view.cpus → IsInNoCall after

@@ -1,5 +1,5 @@
 -- What a pass knows, and how each step changes it.
-use Rattle.std.specs.Prelude.{ℕ, zero, suc, ◌==◌, Bool, true, false, ◌&&◌, List, [], ◌∷◌, ◌++◌, length, Option, None, Some, if◌then◌else◌}
+use Rattle.std.specs.Prelude.{ℕ, zero, suc, ◌==◌, Bool, true, false, not, ◌&&◌, List, [], ◌∷◌, ◌++◌, length, Option, None, Some, if◌then◌else◌}
 use Rattle.map_types.specs.declared.attr.Shape.{Shape}
 use Rattle.map_types.specs.declared.kind.DomainId.{DomainId}
 use Rattle.map_types.specs.declared.kind.DomainId.TheVariants.{Bucket}
@@ -22,6 +22,7 @@ use Rattle.place_table.specs.declared.view.Notes.{Notes}
 use Rattle.place_table.specs.declared.view.Known.{Known}
 use Rattle.place_table.specs.declared.view.Turned.{Turned}
 use Rattle.place_table.specs.declared.view.BitSeen.{BitSeen}
+use Rattle.place_table.specs.declared.view.Ended.{Ended}
 
 abbrev pub is_among : ℕ → List ℕ → Bool
 is_among n [] = false
@@ -320,3 +321,99 @@ carried_with (homes.Hand cpu) e carried = with_in_hand e cpu carried
 abbrev pub rehomed : Home → Home → Owner → ℕ → View → View
 rehomed from to owner e v =
     with_places (held_with v.shape to owner e (held_without v.shape from owner e v.held)) v.hand (carried_with to e (carried_without from e v.carried)) v
+
+-- the CPUs of a pass without one
+abbrev pub without_cpu : ℕ → List ℕ → List ℕ
+without_cpu cpu [] = []
+without_cpu cpu (c ∷ cs) = if c == cpu then without_cpu cpu cs else c ∷ without_cpu cpu cs
+
+-- of elements in hand those in the hand of a CPU, and those in other hands
+abbrev pub in_hand_of : ℕ → List InHand → List InHand
+in_hand_of cpu [] = []
+in_hand_of cpu (x ∷ xs) = if x.cpu == cpu then x ∷ in_hand_of cpu xs else in_hand_of cpu xs
+
+abbrev pub in_other_hands : ℕ → List InHand → List InHand
+in_other_hands cpu [] = []
+in_other_hands cpu (x ∷ xs) = if x.cpu == cpu then in_other_hands cpu xs else x ∷ in_other_hands cpu xs
+
+-- the current strand of a pass, as one that has ended, and all its strands in order, this one last
+abbrev pub current_strand : View → Ended
+current_strand v = record { cpus = v.cpus; steps = v.steps; kept = v.kept }
+
+abbrev pub all_strands : View → List Ended
+all_strands v = v.ended ++ current_strand v ∷ []
+
+-- a step of the strand is recorded
+abbrev pub is_recorded : Ended → Bool
+is_recorded strand = not (length strand.kept == 0)
+
+-- A CPU is split off. What stays: the other CPUs, with what is in their hands, and a new strand. What only a pass with all CPUs
+-- knows is known no more.
+abbrev pub split_from : ℕ → View → View
+split_from cpu v = record {
+  shape = v.shape;
+  cpus = without_cpu cpu v.cpus;
+  held = [];
+  hand = in_other_hands cpu v.hand;
+  carried = in_other_hands cpu v.carried;
+  notes = [];
+  known = [];
+  bits = [];
+  steps = [];
+  kept = [];
+  ended = [];
+  lost = v.lost;
+}
+
+-- What is split off: the CPU, with what is in its hand, a new strand, and the strand that was under way, which ends, with all
+-- that had ended before it.
+abbrev pub split_off : ℕ → View → View
+split_off cpu v = record {
+  shape = v.shape;
+  cpus = cpu ∷ [];
+  held = [];
+  hand = in_hand_of cpu v.hand;
+  carried = in_hand_of cpu v.carried;
+  notes = [];
+  known = [];
+  bits = [];
+  steps = [];
+  kept = [];
+  ended = all_strands v;
+  lost = v.lost;
+}
+
+-- A pass takes in another's CPUs, with what is in their hands. The strands of both end, and a new one begins. What only a pass
+-- with all CPUs knows is known no more.
+abbrev pub joined : View → View → View
+joined v other = record {
+  shape = v.shape;
+  cpus = v.cpus ++ other.cpus;
+  held = [];
+  hand = v.hand ++ other.hand;
+  carried = v.carried ++ other.carried;
+  notes = [];
+  known = [];
+  bits = [];
+  steps = [];
+  kept = [];
+  ended = all_strands v ++ all_strands other;
+  lost = v.lost ++ other.lost;
+}
+
+-- what is left of the other
+abbrev pub spent : Shape → View
+spent shape = record {
+  shape = shape;
+  cpus = [];
+  held = [];
+  hand = [];
+  carried = [];
+  notes = [];
+  known = [];
+  bits = [];
+  steps = [];
+  kept = [];
+  ended = [];
+  lost = [];
+}

@@ -12,6 +12,7 @@ use crate::closed::Closed;
 use crate::content::{Behind, Content};
 use crate::left::left;
 use crate::pass::Pass;
+use crate::strands::finish;
 use crate::table::PlaceTable;
 use map_types::{List, NoMemory, Numbers};
 use place_words::Entry;
@@ -19,7 +20,7 @@ use std::alloc::Global;
 
 impl PlaceTable {
     /// Closes a table whose one pass has all CPUs and is in no call, and hands out what is left. Where there is no memory
-    /// for that, the table and the pass are gone.
+    /// for that, the table and the pass are gone. Where memory for a strand was not found, the record of every lock is lost.
     pub fn close(self, pass: Pass) -> Result<Closed, NoMemory>
         requires table { IsPassOf self pass }
         requires all_cpus { (c : ℕ) → c < self.shape.cpus → is_among c pass.view.cpus ≡ true }
@@ -35,7 +36,9 @@ impl PlaceTable {
             seat,
             cpu: _,
             call: _,
+            cpus,
             strand,
+            ended,
             spares,
         } = pass;
         let count = table.slot_count();
@@ -46,7 +49,8 @@ impl PlaceTable {
         let marked = marked_in(alloc, &closed, first_bit, shape.elements);
         empty_out(&mut closed, &mut contents, &mut histories, count);
         closed.free();
-        left(alloc, &shape, contents, histories, marked?, strand, &spares)
+        let ended = finish(ended, &cpus, strand);
+        left(alloc, &shape, contents, histories, marked?, ended, &spares)
     }
 }
 

@@ -12,6 +12,7 @@ ghost use Rattle.place_table.specs.Opening.{opening_words, IsFirstContent, IsFir
 ghost use Rattle.place_table.specs.Passes.{IsFirstPass};
 
 use crate::content::{Behind, Content};
+use crate::cpus::first_cpus;
 use crate::pass::Pass;
 use crate::table::PlaceTable;
 use atomic_table::Table;
@@ -47,7 +48,9 @@ impl PlaceTable {
                     seat,
                     cpu: shape.cpus,
                     call: 0,
+                    cpus: first_cpus(shape.cpus),
                     strand: Vec::new(alloc),
+                    ended: Some(Vec::new(alloc)),
                     spares,
                 },
             )),
@@ -183,7 +186,7 @@ fn first_slots(alloc: Global, shape: &Shape, owners: &[Owner]) -> Result<Vec<Beh
 }
 
 /// No body for any CPU.
-fn no_bodies() -> [Option<BoxedBody>; 16]
+pub(crate) fn no_bodies() -> [Option<BoxedBody>; 16]
     ensures { result ≡ replicate 16 None }
 {
     [

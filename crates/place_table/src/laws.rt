@@ -1,10 +1,11 @@
 //! Laws of the table.
 
-ghost use Rattle.place_table.specs.Laws.{TakeIsStep, GiveIsStep, ClaimIsStep, SettleIsStep, AttachIsStep, DetachIsStep, RehomeIsStep, MarkIsStep, ClearIsStep, GlanceIsStep};
+ghost use Rattle.place_table.specs.Laws.{TakeIsStep, GiveIsStep, ClaimIsStep, SettleIsStep, AttachIsStep, DetachIsStep, RehomeIsStep, MarkIsStep, ClearIsStep, GlanceIsStep, SplitIsNoStep, JoinIsNoStep};
 
 /// Each operation on a word of a table is the step of the core that has its name: whatever the table is when it happens,
 /// if the rule holds before it, it holds after it, and what the words and contents are read as has gone on by that step.
-/// A try of a lock that somebody holds changes nothing.
+/// A try of a lock that somebody holds changes nothing. Splitting a pass and joining two is no step of the core, and the
+/// rule holds before and after it.
 pub fn word_laws()
     ensures take { TakeIsStep }
     ensures give { GiveIsStep }
@@ -16,4 +17,6 @@ pub fn word_laws()
     ensures mark { MarkIsStep }
     ensures clear { ClearIsStep }
     ensures glance { GlanceIsStep }
+    ensures split { SplitIsNoStep }
+    ensures join { JoinIsNoStep }
 {}

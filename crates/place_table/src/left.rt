@@ -1,50 +1,56 @@
 //! What a closed table leaves, read of its slots.
 
-ghost use Rattle.std.specs.Prelude.{◌≡◌, ℕ, ◌+◌, Bool, true, false, All, IfOk, OnOk, drop, filter, length, map, slice_range};
+ghost use Rattle.std.specs.Prelude.{◌≡◌, ◌≤◌, ℕ, ◌+◌, Bool, List, true, false, All, IfOk, OnOk, drop, filter, length, map, slice_index_or, slice_range};
 ghost use Rattle.std.specs.List.{range_with_len};
 ghost use Rattle.cpu_freelist.specs.Stack.{numbers};
 ghost use Rattle.map_types.specs.Creation.{IsShape};
 ghost use Rattle.map_types.specs.Kind.{is_lru};
 ghost use Rattle.place_words.specs.Locks.{lock_count, first_bucket, first_freelist};
-ghost use Rattle.place_table.specs.Closing.{has_lock, strands_of, spare_numbers, IsLeft};
-ghost use Rattle.place_table.specs.Leaving.{Logs, bodies_in, numbers_in, HasSizedBodies, IsHistory, HaveHistories, AreContents, AreKept};
+ghost use Rattle.place_table.specs.declared.view.Ended.{Ended};
+ghost use Rattle.place_table.specs.Closing.{has_lock, spare_numbers};
+ghost use Rattle.place_table.specs.Leaving.{Logs, bodies_in, numbers_in, HasSizedBodies, IsHistory, HaveHistories, AreContents, AreKept, finished_told, AreTold, WasLeft};
+ghost use Rattle.place_table.specs.Passes.{AreFinished};
 
 use crate::closed::Closed;
 use crate::content::Content;
 use crate::kept::bucket_copy;
+use crate::strands::Finished;
 use cpu_freelist::Freelist;
 use map_types::{List, NoMemory, Numbers, Shape};
 use percpu_values::BoxedBody;
-use place_words::{Entry, Finals, Kept, LockHistory, Strand, StrandStep, is_lock, lock_named};
+use place_words::{Entry, Finals, Kept, LockHistory, Strand, is_lock, lock_named};
 use std::alloc::Global;
 
-/// What is left of what lay in the slots, contents and histories apart, beside the marked elements, the recorded steps and
-/// the spares.
+/// What is left of what lay in the slots, contents and histories apart, beside the marked elements, the strands and the
+/// spares.
 pub(crate) fn left(
     alloc: Global,
     shape: &Shape,
     contents: Vec<Option<Content>>,
     histories: Vec<Option<Vec<Entry>>>,
     marked: Numbers,
-    steps: Vec<StrandStep>,
+    ended: Option<Vec<Finished>>,
     spares: &[Option<BoxedBody>],
 ) -> Result<Closed, NoMemory>
     requires shape { IsShape shape.now }
     requires plain { is_lru shape.now.kind ≡ false }
     requires counted { (length contents.items ≡ lock_count shape.now) × (length histories.items ≡ lock_count shape.now) }
     requires sized { All (HasSizedBodies shape.now) (slice_range contents.items (first_bucket shape.now) (first_freelist shape.now)) }
-    ensures { (log : Logs) (lost bit : ℕ → Bool) → AreContents shape.now log contents.items → HaveHistories shape.now log lost histories.items
-        → marked ≡ filter bit (range_with_len 0 shape.now.elements) → IfOk result (λ closed. IsLeft shape.now log lost bit steps.items spares.now closed) }
+    ensures { (log : Logs) (lost bit : ℕ → Bool) (strands : List Ended) → AreContents shape.now log contents.items → HaveHistories shape.now log lost histories.items
+        → marked ≡ filter bit (range_with_len 0 shape.now.elements) → AreFinished strands ended → IfOk result (λ closed. WasLeft shape.now log lost bit strands spares.now closed) }
 {
     let first_bucket = 2 * shape.cpus as usize + 1;
     let first_freelist = first_bucket + shape.buckets as usize;
     let buckets = buckets_left(alloc, shape, &contents[first_bucket..first_freelist])?;
     let freelists = freelists_left(alloc, contents, first_freelist)?;
-    let Histories { kept, lost } = histories_left(alloc, shape, histories)?;
-    let strands = strands_left(alloc, shape, steps)?;
+    let Turns {
+        histories,
+        strands,
+        lost,
+    } = turns_left(alloc, shape, histories, ended)?;
     let spares = spares_left(alloc, spares)?;
     Ok(Closed {
-        histories: List::of(kept),
+        histories,
         strands,
         finals: Finals {
             buckets: List::of(buckets),
@@ -125,6 +131,41 @@ fn numbers_left(alloc: Global, mut freelist: Freelist) -> Result<Numbers, NoMemo
     Ok(List::of(elements))
 }
 
+/// The turns that are handed out: the histories whose record isn't lost, the strands, and whether a record is lost.
+#[derive(Drop)]
+struct Turns {
+    histories: List<LockHistory>,
+    strands: List<Strand>,
+    lost: bool,
+}
+
+/// The histories of all locks that the map has, with the strands. Where no strands were kept, every record is lost.
+fn turns_left(
+    alloc: Global,
+    shape: &Shape,
+    histories: Vec<Option<Vec<Entry>>>,
+    ended: Option<Vec<Finished>>,
+) -> Result<Turns, NoMemory>
+    requires shape { IsShape shape.now }
+    requires counted { length histories.items ≡ lock_count shape.now }
+    ensures { (log : Logs) (lost : ℕ → Bool) (strands : List Ended) → HaveHistories shape.now log lost histories.items → AreFinished strands ended
+        → IfOk result (λ turns. AreTold shape.now log lost strands turns.histories turns.strands turns.lost) }
+{
+    let Some(ended) = ended else {
+        return Ok(Turns {
+            histories: List::of(Vec::new(alloc)),
+            strands: List::of(Vec::new(alloc)),
+            lost: true,
+        });
+    };
+    let Histories { kept, lost } = histories_left(alloc, shape, histories)?;
+    Ok(Turns {
+        histories: List::of(kept),
+        strands: strands_left(alloc, shape, ended)?,
+        lost,
+    })
+}
+
 /// The histories whose record isn't lost, and whether one is.
 #[derive(Drop)]
 struct Histories {
@@ -182,22 +223,46 @@ impl Histories {
     }
 }
 
-/// The strand of all CPUs, if it has a step.
+/// The strands that were kept.
 fn strands_left(
     alloc: Global,
     shape: &Shape,
-    steps: Vec<StrandStep>,
+    ended: Vec<Finished>,
 ) -> Result<List<Strand>, NoMemory>
-    ensures { IfOk result (λ strands. strands ≡ strands_of shape.now steps.items) }
+    requires few { shape.now.cpus ≤ 16 }
+    ensures { IfOk result (λ strands. strands ≡ map (finished_told shape.now) ended.items) }
 {
-    if steps.is_empty() {
-        return Ok(List::of(Vec::new(alloc)));
+    let mut strands = Vec::with_capacity(alloc, ended.len())?;
+    for strand in ended {
+        strands.push(strand_left(alloc, shape, strand)?)?;
     }
-    let strand = Strand {
-        cpus: List::of((0..shape.cpus).collect(alloc)?),
-        steps: List::of(steps),
-    };
-    Ok(List::of(vec![in alloc; strand]?))
+    Ok(List::of(strands))
+}
+
+/// A strand that was kept.
+fn strand_left(alloc: Global, shape: &Shape, strand: Finished) -> Result<Strand, NoMemory>
+    requires few { shape.now.cpus ≤ 16 }
+    ensures { IfOk result (λ told. told ≡ finished_told shape.now strand) }
+{
+    let Finished { cpus, steps } = strand;
+    Ok(Strand {
+        cpus: cpus_left(alloc, shape.cpus, &cpus)?,
+        steps,
+    })
+}
+
+/// The CPUs below this number whose flag is set.
+fn cpus_left(alloc: Global, count: u32, flags: &[bool; 16]) -> Result<Numbers, NoMemory>
+    requires few { count ≤ 16 }
+    ensures { IfOk result (λ cpus. cpus ≡ filter (λ cpu. slice_index_or flags.now cpu false) (range_with_len 0 count)) }
+{
+    let mut cpus = Vec::new(alloc);
+    for cpu in 0..count {
+        if flags[cpu as usize] {
+            cpus.push(cpu)?;
+        }
+    }
+    Ok(List::of(cpus))
 }
 
 /// The elements of the spares that are kept, by CPU.

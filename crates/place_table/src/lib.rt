@@ -5,6 +5,7 @@
 mod close;
 mod closed;
 mod content;
+mod cpus;
 mod create;
 mod homes;
 mod kept;
@@ -14,7 +15,9 @@ mod owners;
 mod pass;
 mod rule;
 mod spares;
+mod split;
 mod steps;
+mod strands;
 mod table;
 #[cfg(test)]
 mod tests;
@@ -25,8 +28,8 @@ pub use content::{Behind, Content};
 pub use laws::word_laws;
 pub use pass::Pass;
 pub use rule::{
-    About, Caller, Clearing, Deed, Desk, Giving, Law, Losing, Marking, Moving, Place, ReadingBit,
-    ReadingHome, ReadingOwner, Rehoming, Trying, Turn, Way,
+    About, Caller, Clearing, Cut, Cutting, Deed, Desk, Giving, Law, Losing, Marking, Merge,
+    Merging, Moving, Place, ReadingBit, ReadingHome, ReadingOwner, Rehoming, Trying, Turn, Way,
 };
 pub use table::PlaceTable;
 pub use view::{BitSeen, Ended, Hold, HomeSeen, InHand, Known, Notes, OwnerSeen, Turned, View};

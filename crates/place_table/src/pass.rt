@@ -1,6 +1,7 @@
-//! What one worker has of the table: its seat, its call, the steps of its strand that are recorded, and its spares.
+//! What one worker has of the table: its seat, its call, its CPUs, the steps of its strands that are recorded, and its spares.
 
 use crate::rule::Place;
+use crate::strands::Finished;
 use percpu_values::BoxedBody;
 use place_words::StrandStep;
 use std::marker::Model;
@@ -11,7 +12,10 @@ pub struct Pass {
     pub(crate) seat: Place,
     pub(crate) cpu: u32,
     pub(crate) call: u32,
+    pub(crate) cpus: [bool; 16],
     pub(crate) strand: Vec<StrandStep>,
+    /// The strands that have ended, none once memory for one wasn't found.
+    pub(crate) ended: Option<Vec<Finished>>,
     pub(crate) spares: [Option<BoxedBody>; 16],
 }
 
@@ -22,5 +26,5 @@ impl Model for Pass {
 
     ghost view = { λ p. record { table = p.seat.table_id; seat = p.seat.id; cpu = p.cpu; call = p.call; view = p.seat.me.0; spares = p.spares } };
 
-    ghost invariant = { λ p. IsPass p.seat.me.0 p.seat.me.1 p.strand.items p.spares };
+    ghost invariant = { λ p. IsPass p.seat.me.0 p.seat.me.1 p.strand.items p.spares p.cpus p.ended };
 }

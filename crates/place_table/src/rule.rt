@@ -2,7 +2,7 @@
 
 use crate::content::Behind;
 use crate::view::View;
-use atomic_table::{Play, Seat, Shared, TableRule};
+use atomic_table::{Join, Play, Seat, Shared, Split, TableRule};
 use map_types::Shape;
 use std::marker::{Brand, PhantomData};
 
@@ -216,4 +216,55 @@ impl<N: About> Play<Behind, View> for ReadingHome<N> {
     ghost use Rattle.place_table.specs.Plays.{SeesHome};
 
     ghost then = { λ st me n after. SeesHome N.element me n after };
+}
+
+/// The CPU that is split off.
+pub trait Cut {
+    ghost use Rattle.std.specs.Prelude.{ℕ};
+
+    ghost cpu: { ℕ };
+}
+
+impl Cut for Brand {
+    ghost cpu = { 0 };
+}
+
+/// A CPU is split off to a new pass.
+pub struct Cutting<N> {
+    about: PhantomData<N>,
+}
+
+impl<N: Cut> Split<View> for Cutting<N> {
+    ghost use Rattle.place_table.specs.Views.{split_from, split_off};
+
+    ghost left = { λ v. split_from N.cpu v };
+
+    ghost right = { λ v. split_off N.cpu v };
+}
+
+/// The shape of the table two of whose passes are joined, which what is left of the other has too.
+pub trait Merge {
+    ghost use Rattle.map_types.specs.declared.attr.Shape.{Shape};
+
+    ghost shape: { Shape };
+}
+
+impl Merge for Brand {
+    ghost use Rattle.std.specs.Prelude.{false};
+    ghost use Rattle.map_types.specs.declared.kind.MapKind.TheVariants.{Hash};
+
+    ghost shape = { record { kind = Hash; cpus = 0; capacity = 0; elements = 0; buckets = 0; key_size = 0; value_size = 0; seed = 0; common = false } };
+}
+
+/// A pass takes in another.
+pub struct Merging<N> {
+    about: PhantomData<N>,
+}
+
+impl<N: Merge> Join<View> for Merging<N> {
+    ghost use Rattle.place_table.specs.Views.{joined, spent};
+
+    ghost both = { λ v other. joined v other };
+
+    ghost spent = { spent N.shape };
 }

@@ -11,7 +11,7 @@ ghost use Rattle.place_table.specs.declared.content.Content.{Content};
 ghost use Rattle.place_table.specs.declared.view.Hold.{Hold};
 ghost use Rattle.place_words.specs.declared.history.Part as history;
 ghost use Rattle.place_table.specs.declared.view.Notes.{Notes};
-ghost use Rattle.place_table.specs.Views.{is_among, hold_at, is_in_hand_of, kept_step};
+ghost use Rattle.place_table.specs.Views.{is_among, hold_at, is_in_hand_of, kept_step, split_from, split_off, joined};
 ghost use Rattle.place_table.specs.Rules.{word_count, owner_word, home_word, bit_word, IsAboveAll};
 ghost use Rattle.place_table.specs.Plays.{Took, MayGive, IsInnermost, Gives, GivesSome, entry_by, Marks, Clears, SeesBit, SeesOwner, SeesHome};
 ghost use Rattle.place_table.specs.Recording.{Records, entry_given};
@@ -20,8 +20,8 @@ ghost use Rattle.place_table.specs.TurnNotes.{NotesFit};
 
 use crate::content::{Behind, Content};
 use crate::rule::{
-    About, Caller, Clearing, Desk, Giving, Losing, Marking, Place, ReadingBit, ReadingHome,
-    ReadingOwner, Trying, Turn,
+    About, Caller, Clearing, Cut, Cutting, Desk, Giving, Losing, Marking, Merge, Merging, Place,
+    ReadingBit, ReadingHome, ReadingOwner, Trying, Turn,
 };
 use map_types::DomainId;
 use place_words::{Entry, StrandStep};
@@ -229,4 +229,31 @@ pub(crate) fn read_home<N: About>(desk: &Desk, seat: &mut Place, element: u32, w
 {
     let _ = element;
     desk.load::<ReadingHome<N>>(seat, word)
+}
+
+/// Splits a CPU off to a new seat, at which all strands go on that end here.
+pub(crate) fn cut_seat<N: Cut>(desk: &Desk, seat: &mut Place, cpu: u32) -> Place
+    requires table { seat.old.table_id ≡ desk.now.table_id }
+    requires words { 0 < desk.now.table_id.words }
+    requires cpu { (is_among cpu seat.old.me.0.cpus ≡ true) × (N.cpu ≡ cpu) }
+    requires idle { seat.old.me.0.held ≡ [] }
+    ensures seat { (seat.new.table_id ≡ seat.old.table_id) × (seat.new.id ≡ seat.old.id) × (result.table_id ≡ seat.old.table_id) }
+    ensures left { seat.new.me ≡ (split_from cpu seat.old.me.0, seat.old.me.1) }
+    ensures right { result.me ≡ (split_off cpu seat.old.me.0, []) }
+{
+    let _ = cpu;
+    desk.split_seat::<Cutting<N>>(seat)
+}
+
+/// Takes in another seat, which carries nothing.
+pub(crate) fn merge_seat<N: Merge>(desk: &Desk, seat: &mut Place, other: Place)
+    requires table { (seat.old.table_id ≡ desk.now.table_id) × (other.table_id ≡ desk.now.table_id) }
+    requires words { 0 < desk.now.table_id.words }
+    requires slots { other.me.1 ≡ [] }
+    requires idle { (seat.old.me.0.held ≡ []) × (other.me.0.held ≡ []) }
+    requires shape { N.shape ≡ other.me.0.shape }
+    ensures seat { (seat.new.table_id ≡ seat.old.table_id) × (seat.new.id ≡ seat.old.id) }
+    ensures joined { seat.new.me ≡ (joined seat.old.me.0 other.me.0, seat.old.me.1) }
+{
+    desk.join_seat::<Merging<N>>(seat, other);
 }

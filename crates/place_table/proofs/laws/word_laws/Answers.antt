@@ -2,6 +2,8 @@ use Rattle.place_table.proofs.HomeSteps.{rehomes_step}
 use Rattle.place_table.proofs.Locks.{tries, gives_back}
 use Rattle.place_table.proofs.OwnerSteps.{claims_step, settles_step, attaches_step, detaches_step}
 use Rattle.place_table.proofs.WordSteps.{marks_step, clears_step, sees_bit_step, sees_owner_step, sees_home_step}
+use Rattle.place_table.proofs.Joins.{joins_no_step}
+use Rattle.place_table.proofs.Splits.{splits_no_step}
 use Rattle.place_table.proofs.laws.word_laws.Goals as goal
 
 pub returns : goal.returns
@@ -16,4 +18,6 @@ returns c = record {
   mark = λ shape slots pass me e bucket hold there found inside. marks_step shape slots pass me e bucket hold there found inside;
   clear = λ shape slots pass me e cpu real has in_hand. clears_step shape slots pass me e cpu real has in_hand;
   glance = λ shape slots pass me e real. (sees_bit_step shape slots pass me e real, sees_owner_step shape slots pass me e real, sees_home_step shape slots pass me e real);
+  split = λ shape pass c v has no_lock s r at. splits_no_step shape pass c v has no_lock s r at;
+  join = λ shape pass other v u no_lock nor_lock apart s r at there. joins_no_step shape pass other v u apart no_lock nor_lock s r at there;
 }

@@ -1,7 +1,8 @@
-use Rattle.std.proofs.Common.{◌≡◌, ℕ, ◌∙◌, ap, get_or, length, arith}
+use Rattle.std.proofs.Common.{◌≡◌, ℕ, ◌∙◌, ◌++◌, ◌∷◌, [], ap, get_or, length, arith}
 use Rattle.std.proofs.lemmas.List.{length-map}
 use Rattle.std.specs.Slots.{slots_items}
 use Rattle.place_table.specs.Rules.{word_count}
+use Rattle.place_table.specs.Views.{current_strand}
 use Rattle.place_table.specs.Passes.{PassView, TableView}
 use Rattle.place_table.proofs.Closes.{at_its_end, if_closed}
 use Rattle.place_table.proofs.Leaves.{buckets_sized, contents_apart, histories_apart}
@@ -13,7 +14,7 @@ left-requires-clause-sized c =
     let view = ap (λ (p : PassView). p.view) c.pass.view_is in
     let slots = slots_items c.close_with-closed.result.slots in
     let e = at_its_end c.self.inside.shape c.self.inside.table.shared.key c.args.self.shape (slots_items c.close_with-closed.result.words) slots c.pass.inside.seat.id c.pass.inside.seat.me.0 c.args.pass.view
-    c.self.invariant.0 table view c.close_with-closed.ensures.values.2 c.requires.all_cpus c.requires.in_no_call.holds_nothing c.pass.invariant.none_ended in
+    c.self.invariant.0 table view c.close_with-closed.ensures.values.2 c.requires.all_cpus c.requires.in_no_call.holds_nothing in
     buckets_sized c.self.inside.shape e.log c.empty_out.new.contents.items
     (contents_apart c.self.inside.shape e.log e.lost slots c.empty_out.new.contents.items e.slots_are c.empty_out.ensures.contents)
     (ap length c.empty_out.ensures.contents ∙ length-map slots (λ behind. behind.content) ∙ e.slots_are.counted)
@@ -22,13 +23,15 @@ pub returns : goal.returns
 returns c =
     let table : c.self.inside.shape ≡ c.args.self.shape = ap (λ (t : TableView). t.shape) c.self.view_is in
     let view = ap (λ (p : PassView). p.view) c.pass.view_is in
+    let v = c.pass.inside.seat.me.0 in
     let words = slots_items c.close_with-closed.result.words in
     let slots = slots_items c.close_with-closed.result.slots in
-    let e = at_its_end c.self.inside.shape c.self.inside.table.shared.key c.args.self.shape words slots c.pass.inside.seat.id c.pass.inside.seat.me.0 c.args.pass.view
-    c.self.invariant.0 table view c.close_with-closed.ensures.values.2 c.requires.all_cpus c.requires.in_no_call.holds_nothing c.pass.invariant.none_ended in
+    let e = at_its_end c.self.inside.shape c.self.inside.table.shared.key c.args.self.shape words slots c.pass.inside.seat.id v c.args.pass.view
+    c.self.invariant.0 table view c.close_with-closed.ensures.values.2 c.requires.all_cpus c.requires.in_no_call.holds_nothing in
     let contents = contents_apart c.self.inside.shape e.log e.lost slots c.empty_out.new.contents.items e.slots_are c.empty_out.ensures.contents in
     let histories = histories_apart c.self.inside.shape e.log e.lost slots c.empty_out.new.histories.items e.slots_are c.empty_out.ensures.histories in
     let all_words : c.word_count.result ≡ word_count c.self.inside.shape = c.word_count.ensures ∙ c.self.invariant.1 in
     let marked = c.in_ok-marked.ensures e.core.bit (λ n less. ap (λ (i : ℕ). get_or words i 0) (omega (arith, all_words)) ∙ e.bit_words n less) in
-    if_closed c.self.inside.shape c.args.self.shape _ c.args.pass words slots c.pass.inside.strand.items c.left.result e c.pass.invariant.strand_is table c.pass.view_is
-    (c.left.ensures e.log e.lost e.core.bit contents histories marked)
+    let finished = c.finish-ended.ensures v.ended (current_strand v) c.pass.invariant.ended_are c.pass.invariant.cpus_are c.pass.invariant.strand_is in
+    if_closed c.self.inside.shape c.args.self.shape _ c.args.pass words slots c.left.result e c.pass.invariant.hands_real c.pass.invariant.ended_within c.pass.invariant.within table c.pass.view_is
+    (c.left.ensures e.log e.lost e.core.bit (v.ended ++ current_strand v ∷ []) contents histories marked finished)

@@ -1,4 +1,4 @@
-use Rattle.std.proofs.Common.{refl, ap, ◌∙◌, ◌≡◌, ℕ, List, length}
+use Rattle.std.proofs.Common.{refl, ap, ◌∙◌, ◌≡◌, ℕ, List, length, arith}
 use Rattle.map_types.proofs.CreationLemmas.{bounds_of_shape}
 use Rattle.place_table.specs.declared.content.Behind.{Behind}
 use Rattle.place_table.specs.declared.view.View.{View}
@@ -7,6 +7,9 @@ use Rattle.place_table.proofs.FirstPass.{first_is_pass, is_first_pass}
 use Rattle.place_table.proofs.FirstWords.{length_words}
 use Rattle.place_table.proofs.Opens.{opens}
 use Rattle.place_table.proofs.table.PlaceTable.create.Goals as goal
+
+pub first_cpus-requires : goal.first_cpus-requires
+first_cpus-requires c = let bounds = bounds_of_shape c.args.shape.now c.requires.shape in omega arith
 
 pub new-requires : goal.new-requires
 new-requires c =
@@ -19,10 +22,10 @@ invariant_of-result c =
 
 pub invariant_of-result-in-Ok : goal.invariant_of-result-in-Ok
 invariant_of-result-in-Ok c =
-    first_is_pass c.args.shape.now (bounds_of_shape c.args.shape.now c.requires.shape) c.in-Ok.seat.me.0 c.in-Ok.seat.me.1 c.new-in-Ok.result.items c.in_ok-spares.spares
+    first_is_pass c.args.shape.now (bounds_of_shape c.args.shape.now c.requires.shape) c.in-Ok.seat.me.0 c.in-Ok.seat.me.1 c.new-in-Ok.result.items c.in_ok-spares.spares c.first_cpus.result c.new-in-Ok-2.result
     (ap (λ (me : View × List (ℕ × Behind)). me.0) c.in-Ok.ensures.ok.4)
     (ap (λ (me : View × List (ℕ × Behind)). me.1) c.in-Ok.ensures.ok.4)
-    c.new-in-Ok.ensures.items c.in_ok-spares.ensures
+    c.new-in-Ok.ensures.items c.in_ok-spares.ensures c.first_cpus.ensures c.new-in-Ok-2.ensures.items
 
 pub returns-in-Ok : goal.returns-in-Ok
 returns-in-Ok c = (

@@ -1,0 +1,46 @@
+use Rattle.std.proofs.Common.{◌≡◌, true, Option, refl, ap, sym, subst, ◌∙◌}
+use Rattle.std.specs.Prelude.{Vec}
+use Rattle.std.specs.Global.{Global}
+use Rattle.map_types.specs.Creation.{IsShape}
+use Rattle.place_table.specs.declared.strands.Finished.{Finished}
+use Rattle.place_table.specs.Views.{is_among, current_strand}
+use Rattle.place_table.specs.Passes.{PassView, TableView, AreFinished}
+use Rattle.place_table.proofs.Parted.{split_few, split_of, is_pass_left, is_pass_off}
+use Rattle.place_table.proofs.table.PlaceTable.split.Goals as goal
+
+pub drop_cpu-requires : goal.drop_cpu-requires
+drop_cpu-requires c =
+    let is : IsShape c.args.self.now.shape = subst IsShape (ap (λ (t : TableView). t.shape) c.self.view_is) c.self.invariant.2 in
+    split_few c.args.self.now c.args.pass.now c.args.cpu c.pass.inside.seat.me.0 is c.requires.of_table c.requires.has_cpu (ap (λ (z : PassView). z.view) c.pass.view_is) c.pass.invariant.within
+
+pub one_cpu-requires : goal.one_cpu-requires
+one_cpu-requires c =
+    let is : IsShape c.args.self.now.shape = subst IsShape (ap (λ (t : TableView). t.shape) c.self.view_is) c.self.invariant.2 in
+    split_few c.args.self.now c.args.pass.now c.args.cpu c.pass.inside.seat.me.0 is c.requires.of_table c.requires.has_cpu (ap (λ (z : PassView). z.view) c.pass.view_is) c.pass.invariant.within
+
+pub split_spares-requires : goal.split_spares-requires
+split_spares-requires c =
+    let is : IsShape c.args.self.now.shape = subst IsShape (ap (λ (t : TableView). t.shape) c.self.view_is) c.self.invariant.2 in
+    split_few c.args.self.now c.args.pass.now c.args.cpu c.pass.inside.seat.me.0 is c.requires.of_table c.requires.has_cpu (ap (λ (z : PassView). z.view) c.pass.view_is) c.pass.invariant.within
+
+pub invariant_of-pass : goal.invariant_of-pass
+invariant_of-pass c =
+    let no_lock = ap (λ (z : PassView). z.view.held) c.pass.view_is ∙ c.requires.in_no_call.holds_nothing in
+    is_pass_left c.args.cpu c.pass.invariant _ _ _ _ _ _ no_lock c.cut_seat-seat.ensures.left (ap (λ z. z.items) c.replace-steps.ensures.after ∙ c.new.ensures.items) (c.drop_cpu.ensures c.pass.inside.seat.me.0.cpus c.pass.invariant.cpus_are)
+    c.replace-ended.ensures.after c.new-2.ensures.items c.split_spares.ensures.gone c.split_spares.ensures.stay
+
+pub invariant_of-result : goal.invariant_of-result
+invariant_of-result c =
+    let v = c.pass.inside.seat.me.0 in
+    let has : is_among c.args.cpu v.cpus ≡ true = ap (λ (z : PassView). is_among c.args.cpu z.view.cpus) c.pass.view_is ∙ c.requires.has_cpu in
+    let ended = subst (λ (o : Option (Vec Finished Global)). AreFinished v.ended o) (sym c.replace-ended.ensures.value) c.pass.invariant.ended_are in
+    is_pass_off c.args.cpu c.pass.invariant _ _ _ _ _ has c.cut_seat-seat.ensures.right c.new-3.ensures.items c.one_cpu.ensures
+    (c.finish-ended.ensures v.ended (current_strand v) ended c.pass.invariant.cpus_are (ap (λ z. z.items) c.replace-steps.ensures.value ∙ c.pass.invariant.strand_is))
+    c.split_spares.ensures.taken c.split_spares.ensures.no_others
+
+pub returns : goal.returns
+returns c =
+    let before : PassView = record { table = c.pass.inside.seat.table_id; seat = c.pass.inside.seat.id; cpu = c.pass.inside.cpu; call = c.pass.inside.call; view = c.pass.inside.seat.me.0; spares = c.pass.inside.spares } in
+    let seat = c.cut_seat-seat.ensures.seat in
+    split_of c.args.self.now c.args.cpu c.args.pass.now before _ _ _ _ _ c.pass.view_is c.requires seat.0 seat.1 (ap (λ z. z.0) c.cut_seat-seat.ensures.left) c.split_spares.ensures.gone c.split_spares.ensures.stay
+    seat.2 (ap (λ z. z.0) c.cut_seat-seat.ensures.right) c.split_spares.ensures.taken c.split_spares.ensures.no_others
