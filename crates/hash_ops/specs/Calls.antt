@@ -1,6 +1,6 @@
 -- What each call on a map leaves of its pass: the turns that it adds to the pass's strand are a trace of the call, with the
 -- answer that it gives.
-use Rattle.std.specs.Prelude.{◌≡◌, ℕ, ◌≤◌, List, [], ◌∷◌, length, map, All, Option, None, Some, Result, Ok, Err}
+use Rattle.std.specs.Prelude.{◌≡◌, ℕ, ◌<◌, ◌≤◌, List, [], ◌∷◌, length, map, All, Option, None, Some, Result, Ok, Err}
 use Rattle.map_types.specs.declared.call.Verb.{Verb}
 use Rattle.map_types.specs.declared.call.Verb.TheVariants.{Update}
 use Rattle.map_types.specs.declared.kind.DomainId.TheVariants.{Bucket}
@@ -85,6 +85,15 @@ pub record FoundNoMemory (t : TableView) (bucket : ℕ) (before after : PassView
   pub gave : GaveSome t (Bucket bucket) between after (contents.Bucket back)
   pub leaves : Leaves t before after (lost_turn between gave.can.hold gave.part ∷ []) (gave.can.hold.lock ∷ [])
   pub spares_stay : after.spares ≡ before.spares
+
+-- Under which flags an update is refused so: EINVAL for flags that aren't known, EEXIST only under BPF_NOEXIST (1), ENOENT only
+-- under BPF_EXIST (2), and E2BIG only where a key may be added.
+abbrev pub MayRefuse : ℕ → PlainRefusal → Type 0
+MayRefuse flags refusals.Einval = 2 < flags
+MayRefuse flags refusals.Enoent = flags ≡ 2
+MayRefuse flags refusals.Eexist = flags ≡ 1
+MayRefuse flags refusals.E2big = flags < 2
+MayRefuse flags refusals.NoMemory = flags ≤ 2
 
 -- What an update answers. Unknown flags are refused before anything is looked at. Each answer but that no memory was found comes
 -- with the whole record.

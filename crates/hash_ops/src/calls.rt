@@ -4,7 +4,7 @@ ghost use Rattle.std.specs.Prelude.{◌≡◌, IfErr, length};
 ghost use Rattle.map_types.specs.declared.call.Verb.TheVariants as verbs;
 ghost use Rattle.map_types.specs.declared.kind.Side.TheVariants.{Sys};
 ghost use Rattle.map_types.specs.ValueLen.{value_len_of};
-ghost use Rattle.hash_ops.specs.Calls.{CanCall, Called, Updates, reply_of_value, reply_of_done};
+ghost use Rattle.hash_ops.specs.Calls.{CanCall, Called, MayRefuse, Updates, reply_of_value, reply_of_done};
 
 use crate::map::{PlainMap, PlainRefusal};
 use crate::parts::Given;
@@ -62,7 +62,8 @@ impl PlainMap {
         requires can { CanCall self.now pass.old }
         requires key { length key.now ≡ self.now.shape.key_size }
         requires value { length value.now ≡ value_len_of self.now.shape side }
-        ensures { Updates self.now pass.old pass.new side flags key.now value.now result }
+        ensures updates { Updates self.now pass.old pass.new side flags key.now value.now result }
+        ensures refuses { IfErr result (MayRefuse flags) }
     {
         if flags > GREATEST_FLAG {
             return Err(PlainRefusal::Einval);

@@ -8,7 +8,7 @@ use map_types::{
     Absent, CreateAttr, DomainId, MapKind, NoGate, Shape, Side, check_attr, value_len,
 };
 use place_table::{Closed, Pass};
-use place_words::{BucketPart, Entry, FreePart, Part, Put};
+use place_words::{BucketPart, Entry, Finals, FreePart, LockHistory, Part, Put};
 use std::alloc::Global;
 use std::marker::Model;
 use std::process::Abort;
@@ -29,6 +29,16 @@ fn least_shape(kind: MapKind) -> Result<Shape, Fail>
         cpus: 2,
     };
     Ok(check_attr(&attr)?)
+}
+
+/// A call of a key and a value of a byte each.
+#[derive(Clone, Copy)]
+enum Ask {
+    Lookup(u8),
+    /// With its flags.
+    Update(u32, u8, u8),
+    Delete(u8),
+    Take(u8),
 }
 
 /// A map with its one pass, which has all CPUs and is in no call.
@@ -61,24 +71,43 @@ impl Opened {
         Ok(Opened { map, pass })
     }
 
-    /// A call begins on a CPU.
+    /// A call of this number begins on a CPU.
     fn begin<R: Abort>(&mut self, rt: &R, cpu: u32, call: u32) {
         assert!(rt; cpu < self.map.table().shape().cpus);
         self.map.table().begin(&mut self.pass, cpu, call);
     }
 
-    /// A lookup on the CPU of the call.
-    fn lookup<R: Abort + Wait>(
+    /// A call of this number on a CPU: what it reads, or why it is refused.
+    fn answer<R: Abort + Wait>(
         &mut self,
         rt: &R,
-        side: Side,
-        key: &[u8],
-        out: &mut [u8],
-    ) -> Result<(), Absent> {
+        alloc: Global,
+        cpu: u32,
+        call: u32,
+        ask: Ask,
+    ) -> Result<Option<u8>, PlainRefusal> {
+        self.begin(rt, cpu, call);
+        match ask {
+            Ask::Lookup(key) => self.lookup(rt, &[key]),
+            Ask::Update(flags, key, value) => self.update(rt, alloc, flags, &[key], &[value]),
+            Ask::Delete(key) => self.delete(rt, &[key]),
+            Ask::Take(key) => self.take_key(rt, &[key]),
+        }
+    }
+
+    /// A program's lookup.
+    fn lookup<R: Abort + Wait>(&mut self, rt: &R, key: &[u8]) -> Result<Option<u8>, PlainRefusal> {
         let shape = self.map.table().shape();
         assert_eq!(rt; key.len(), shape.key_size as usize);
-        assert_eq!(rt; out.len(), value_len(shape, side) as usize);
-        self.map.lookup(rt, &mut self.pass, side, key, out, &NoGate)
+        assert_eq!(rt; value_len(shape, Side::Prog), 1);
+        let mut out = [0];
+        match self
+            .map
+            .lookup(rt, &mut self.pass, Side::Prog, key, &mut out, &NoGate)
+        {
+            Ok(()) => Ok(Some(out[0])),
+            Err(Absent) => Err(PlainRefusal::Enoent),
+        }
     }
 
     /// A program's update.
@@ -89,7 +118,7 @@ impl Opened {
         flags: u32,
         key: &[u8],
         value: &[u8],
-    ) -> Result<(), PlainRefusal> {
+    ) -> Result<Option<u8>, PlainRefusal> {
         let shape = self.map.table().shape();
         assert_eq!(rt; key.len(), shape.key_size as usize);
         assert_eq!(rt; value.len(), value_len(shape, Side::Prog) as usize);
@@ -102,13 +131,17 @@ impl Opened {
             key,
             value,
             &NoGate,
-        )
+        )?;
+        Ok(None)
     }
 
     /// A delete.
-    fn delete<R: Abort + Wait>(&mut self, rt: &R, key: &[u8]) -> Result<(), Absent> {
+    fn delete<R: Abort + Wait>(&mut self, rt: &R, key: &[u8]) -> Result<Option<u8>, PlainRefusal> {
         assert_eq!(rt; key.len(), self.map.table().shape().key_size as usize);
-        self.map.delete(rt, &mut self.pass, key, &NoGate)
+        match self.map.delete(rt, &mut self.pass, key, &NoGate) {
+            Ok(()) => Ok(None),
+            Err(Absent) => Err(PlainRefusal::Enoent),
+        }
     }
 
     /// A lookup and delete in one.
@@ -116,12 +149,18 @@ impl Opened {
         &mut self,
         rt: &R,
         key: &[u8],
-        out: &mut [u8],
-    ) -> Result<(), Absent> {
+    ) -> Result<Option<u8>, PlainRefusal> {
         let shape = self.map.table().shape();
         assert_eq!(rt; key.len(), shape.key_size as usize);
-        assert_eq!(rt; out.len(), value_len(shape, Side::Sys) as usize);
-        self.map.take_key(rt, &mut self.pass, key, out, &NoGate)
+        assert_eq!(rt; value_len(shape, Side::Sys), 1);
+        let mut out = [0];
+        match self
+            .map
+            .take_key(rt, &mut self.pass, key, &mut out, &NoGate)
+        {
+            Ok(()) => Ok(Some(out[0])),
+            Err(Absent) => Err(PlainRefusal::Enoent),
+        }
     }
 
     /// The end.
@@ -131,83 +170,35 @@ impl Opened {
     }
 }
 
+/// Calls on the least map with the CPU of each, and what each has to answer.
+const CALLS: [(u32, Ask, Result<Option<u8>, PlainRefusal>); 13] = [
+    (0, Ask::Update(0, 1, 0xaa), Ok(None)),
+    (0, Ask::Lookup(1), Ok(Some(0xaa))),
+    (0, Ask::Update(1, 1, 0xbb), Err(PlainRefusal::Eexist)),
+    (0, Ask::Update(3, 1, 0xbb), Err(PlainRefusal::Einval)),
+    (0, Ask::Update(2, 2, 0xbb), Err(PlainRefusal::Enoent)),
+    // Of the three elements one is in the bucket, and two are spares.
+    (0, Ask::Update(0, 2, 0xbb), Err(PlainRefusal::E2big)),
+    // A spare is free for a present key.
+    (1, Ask::Update(2, 1, 0xcc), Ok(None)),
+    (0, Ask::Lookup(1), Ok(Some(0xcc))),
+    (1, Ask::Delete(1), Ok(None)),
+    (1, Ask::Delete(1), Err(PlainRefusal::Enoent)),
+    (0, Ask::Update(1, 2, 0xdd), Ok(None)),
+    (0, Ask::Take(2), Ok(Some(0xdd))),
+    (0, Ask::Take(2), Err(PlainRefusal::Enoent)),
+];
+
 #[test]
 fn calls_answer(rt: HostRuntime) -> Result<(), Fail> {
     let mut map = Opened::least(&rt, rt.alloc(), MapKind::Hash)?;
-    let mut out = [0];
-    map.begin(&rt, 0, 1);
-    assert_eq!(rt; map.update(&rt, rt.alloc(), 0, &[1], &[0xaa]), Ok(()));
-    map.begin(&rt, 0, 2);
-    assert_eq!(rt; map.lookup(&rt, Side::Sys, &[1], &mut out), Ok(()));
-    assert_eq!(rt; out, [0xaa]);
-    map.begin(&rt, 0, 3);
-    assert_eq!(rt;
-        map.update(&rt, rt.alloc(), 1, &[1], &[0xbb]),
-        Err(PlainRefusal::Eexist)
-    );
-    map.begin(&rt, 0, 4);
-    assert_eq!(rt;
-        map.update(&rt, rt.alloc(), 3, &[1], &[0xbb]),
-        Err(PlainRefusal::Einval)
-    );
-    map.begin(&rt, 0, 5);
-    assert_eq!(rt;
-        map.update(&rt, rt.alloc(), 2, &[2], &[0xbb]),
-        Err(PlainRefusal::Enoent)
-    );
-    // Of the three elements one is in the bucket, and two are spares.
-    map.begin(&rt, 0, 6);
-    assert_eq!(rt;
-        map.update(&rt, rt.alloc(), 0, &[2], &[0xbb]),
-        Err(PlainRefusal::E2big)
-    );
-    // A spare is free for a present key.
-    map.begin(&rt, 1, 7);
-    assert_eq!(rt; map.update(&rt, rt.alloc(), 2, &[1], &[0xcc]), Ok(()));
-    map.begin(&rt, 0, 8);
-    assert_eq!(rt; map.lookup(&rt, Side::Prog, &[1], &mut out), Ok(()));
-    assert_eq!(rt; out, [0xcc]);
-    map.begin(&rt, 1, 9);
-    assert_eq!(rt; map.delete(&rt, &[1]), Ok(()));
-    map.begin(&rt, 1, 10);
-    assert_eq!(rt; map.delete(&rt, &[1]), Err(Absent));
-    map.begin(&rt, 0, 11);
-    assert_eq!(rt; map.update(&rt, rt.alloc(), 1, &[2], &[0xdd]), Ok(()));
-    map.begin(&rt, 0, 12);
-    assert_eq!(rt; map.take_key(&rt, &[2], &mut out), Ok(()));
-    assert_eq!(rt; out, [0xdd]);
-    map.begin(&rt, 0, 13);
-    assert_eq!(rt; map.take_key(&rt, &[2], &mut out), Err(Absent));
+    for call in 0..CALLS.len() {
+        let (cpu, ask, answer) = CALLS[call];
+        let got = map.answer(&rt, rt.alloc(), cpu, call as u32, ask);
+        assert_eq!(rt; got, answer, "call {call}");
+    }
     let closed = map.close()?;
     assert!(rt; !closed.lost());
-    assert_eq!(rt; closed.histories().len(), 3);
-    Ok(())
-}
-
-#[test]
-fn each_cpu_has_its_value(rt: HostRuntime) -> Result<(), Fail> {
-    let mut map = Opened::least(&rt, rt.alloc(), MapKind::PercpuHash)?;
-    let mut out = [0];
-    map.begin(&rt, 0, 1);
-    assert_eq!(rt; map.update(&rt, rt.alloc(), 0, &[1], &[0xaa]), Ok(()));
-    // The value of the other CPU is zero.
-    map.begin(&rt, 1, 2);
-    assert_eq!(rt; map.lookup(&rt, Side::Prog, &[1], &mut out), Ok(()));
-    assert_eq!(rt; out, [0]);
-    map.begin(&rt, 1, 3);
-    assert_eq!(rt; map.update(&rt, rt.alloc(), 0, &[1], &[0xbb]), Ok(()));
-    map.begin(&rt, 0, 4);
-    assert_eq!(rt; map.lookup(&rt, Side::Prog, &[1], &mut out), Ok(()));
-    assert_eq!(rt; out, [0xaa]);
-    let mut both = [1; 16];
-    map.begin(&rt, 0, 5);
-    assert_eq!(rt; map.lookup(&rt, Side::Sys, &[1], &mut both), Ok(()));
-    assert_eq!(rt;
-        both,
-        [0xaa, 0, 0, 0, 0, 0, 0, 0, 0xbb, 0, 0, 0, 0, 0, 0, 0]
-    );
-    map.begin(&rt, 0, 6);
-    assert_eq!(rt; map.delete(&rt, &[1]), Ok(()));
     Ok(())
 }
 
@@ -258,40 +249,75 @@ fn is_free(part: &Part, did: FreePart) -> bool {
     }
 }
 
+/// The bucket: element 2 comes and goes.
+fn is_bucket(history: &LockHistory) -> bool {
+    match history.entries.as_slice() {
+        [first, second] => {
+            history.lock == DomainId::Bucket(0)
+                && is_by(first, 1)
+                && is_added(&first.part)
+                && is_by(second, 2)
+                && is_gone(&second.part)
+        }
+        _ => false,
+    }
+}
+
+/// The freelist of CPU 0 was found empty, and is given element 2.
+fn is_own(history: &LockHistory) -> bool {
+    match history.entries.as_slice() {
+        [first, second] => {
+            history.lock == DomainId::Freelist(0)
+                && is_by(first, 1)
+                && is_free(&first.part, FreePart::FoundEmpty)
+                && is_by(second, 2)
+                && is_free(&second.part, FreePart::Pushed(2))
+        }
+        _ => false,
+    }
+}
+
+/// The freelist of CPU 1, from which element 2 came.
+fn is_other(history: &LockHistory) -> bool {
+    match history.entries.as_slice() {
+        [only] => {
+            history.lock == DomainId::Freelist(1)
+                && is_by(only, 1)
+                && is_free(&only.part, FreePart::Popped(2))
+        }
+        _ => false,
+    }
+}
+
+/// Element 2 is on the freelist of CPU 0, and elements 1 and 0 are the spares.
+fn has_changed_stacks(finals: &Finals) -> bool {
+    match finals.freelists.as_slice() {
+        [own, other] => {
+            own.as_slice() == [2].as_slice()
+                && other.is_empty()
+                && finals.spares.as_slice() == [1, 0].as_slice()
+        }
+        _ => false,
+    }
+}
+
 #[test]
 fn element_changes_stacks(rt: HostRuntime) -> Result<(), Fail> {
     let mut map = Opened::least(&rt, rt.alloc(), MapKind::Hash)?;
-    map.begin(&rt, 0, 1);
-    assert_eq!(rt; map.update(&rt, rt.alloc(), 0, &[1], &[0xaa]), Ok(()));
-    map.begin(&rt, 0, 2);
-    assert_eq!(rt; map.delete(&rt, &[1]), Ok(()));
+    let added = map.answer(&rt, rt.alloc(), 0, 1, Ask::Update(0, 1, 0xaa));
+    assert_eq!(rt; added, Ok(None));
+    let gone = map.answer(&rt, rt.alloc(), 0, 2, Ask::Delete(1));
+    assert_eq!(rt; gone, Ok(None));
     let closed = map.close()?;
     assert!(rt; !closed.lost());
-    let histories = closed.histories().as_slice();
-    assert_eq!(rt; histories.len(), 3);
-    // The bucket: element 2 comes and goes.
-    assert_eq!(rt; histories[0].lock, DomainId::Bucket(0));
-    let entries = histories[0].entries.as_slice();
-    assert_eq!(rt; entries.len(), 2);
-    assert!(rt; is_by(&entries[0], 1) && is_added(&entries[0].part));
-    assert!(rt; is_by(&entries[1], 2) && is_gone(&entries[1].part));
-    // The freelist of CPU 0 was found empty, and is given the element.
-    assert_eq!(rt; histories[1].lock, DomainId::Freelist(0));
-    let entries = histories[1].entries.as_slice();
-    assert_eq!(rt; entries.len(), 2);
-    assert!(rt; is_by(&entries[0], 1) && is_free(&entries[0].part, FreePart::FoundEmpty));
-    assert!(rt; is_by(&entries[1], 2) && is_free(&entries[1].part, FreePart::Pushed(2)));
-    // It came from the freelist of CPU 1.
-    assert_eq!(rt; histories[2].lock, DomainId::Freelist(1));
-    let entries = histories[2].entries.as_slice();
-    assert_eq!(rt; entries.len(), 1);
-    assert!(rt; is_by(&entries[0], 1) && is_free(&entries[0].part, FreePart::Popped(2)));
-    // Elements 1 and 0 are the spares.
-    let finals = closed.finals();
-    assert_eq!(rt; finals.freelists.len(), 2);
-    assert_eq!(rt; finals.freelists.as_slice()[0].as_slice(), [2].as_slice());
-    assert!(rt; finals.freelists.as_slice()[1].is_empty());
-    assert_eq!(rt; finals.spares.as_slice(), [1, 0].as_slice());
+    let [bucket, own, other] = closed.histories().as_slice() else {
+        assert!(rt; false, "three histories");
+        return Ok(());
+    };
+    assert!(rt; is_bucket(bucket));
+    assert!(rt; is_own(own));
+    assert!(rt; is_other(other));
+    assert!(rt; has_changed_stacks(closed.finals()));
     Ok(())
 }
 

@@ -1,6 +1,6 @@
 //! Updates in a key's bucket.
 
-ghost use Rattle.std.specs.Prelude.{◌≡◌, ◌≢◌, ◌<◌, ◌≤◌, ◌^◌, IsTrue, Ok, Err, false, None, Some, length, slice_get};
+ghost use Rattle.std.specs.Prelude.{◌≡◌, ◌≢◌, ◌<◌, ◌≤◌, ◌^◌, IsTrue, IfErr, Ok, Err, false, None, Some, length, slice_get};
 ghost use Rattle.map_types.specs.declared.call.Verb.TheVariants as verbs;
 ghost use Rattle.map_types.specs.declared.refusal.Errno.TheVariants as errnos;
 ghost use Rattle.map_types.specs.declared.reply.Reply.TheVariants as replies;
@@ -9,6 +9,7 @@ ghost use Rattle.map_types.specs.ValueLen.{value_len_of};
 ghost use Rattle.place_words.specs.Bodies.{present};
 ghost use Rattle.place_words.specs.Traces.{bucket_of_key};
 ghost use Rattle.hash_ops.specs.declared.map.PlainRefusal.TheVariants as refusals;
+ghost use Rattle.hash_ops.specs.Calls.{MayRefuse};
 ghost use Rattle.hash_ops.specs.Under.{InBucket, HasItsSpares, IsAt, Gives, AnsweredWhole, Forgot, UpdateEnds};
 
 use crate::buckets::body_at;
@@ -49,7 +50,8 @@ impl PlainMap {
         requires inside { InBucket self.now bucket pass.old chain.bodies }
         requires spares { HasItsSpares pass.old }
         requires gives { Gives self.now bucket side flags key.now value.now given }
-        ensures { UpdateEnds self.now bucket pass.old pass.new chain.bodies (verbs.Update side flags key.now value.now) result }
+        ensures ends { UpdateEnds self.now bucket pass.old pass.new chain.bodies (verbs.Update side flags key.now value.now) result }
+        ensures refuses { IfErr result (MayRefuse flags) }
     {
         match chain.find(key) {
             Some(place) => {
@@ -83,7 +85,8 @@ impl PlainMap {
         requires spares { HasItsSpares pass.old }
         requires gives { Gives self.now bucket side flags key.now value.now given }
         requires at { IsAt key.now place chain.bodies }
-        ensures { UpdateEnds self.now bucket pass.old pass.new chain.bodies (verbs.Update side flags key.now value.now) result }
+        ensures ends { UpdateEnds self.now bucket pass.old pass.new chain.bodies (verbs.Update side flags key.now value.now) result }
+        ensures refuses { IfErr result (MayRefuse flags) }
     {
         if flags == BPF_NOEXIST {
             let part = given.updated(side, flags, Put::Exists);
@@ -127,7 +130,8 @@ impl PlainMap {
         requires spares { HasItsSpares pass.old }
         requires gives { Gives self.now bucket side flags key.now value.now given }
         requires absent { present key.now chain.bodies ≡ None }
-        ensures { UpdateEnds self.now bucket pass.old pass.new chain.bodies (verbs.Update side flags key.now value.now) result }
+        ensures ends { UpdateEnds self.now bucket pass.old pass.new chain.bodies (verbs.Update side flags key.now value.now) result }
+        ensures refuses { IfErr result (MayRefuse flags) }
     {
         let lock = DomainId::Bucket(bucket);
         if flags == BPF_EXIST {
@@ -165,7 +169,8 @@ impl PlainMap {
         requires absent { present key.now chain.bodies ≡ None }
         requires adds { flags ≢ 2 }
         requires room { 1 ≤ chain.spare }
-        ensures { UpdateEnds self.now bucket pass.old pass.new chain.bodies (verbs.Update side flags key.now value.now) result }
+        ensures ends { UpdateEnds self.now bucket pass.old pass.new chain.bodies (verbs.Update side flags key.now value.now) result }
+        ensures refuses { IfErr result (MayRefuse flags) }
     {
         let lock = DomainId::Bucket(bucket);
         let cpu = self.table.cpu_of(pass);

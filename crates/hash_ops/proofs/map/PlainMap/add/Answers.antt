@@ -34,8 +34,8 @@ give-requires-after_bounds g c κs within =
     subst (λ (z : TableView × Part). CanGive z.0 (locks.Bucket a.bucket) c.pop.new.pass (contents.Bucket a.chain) z.1) (λ i. (sym c.self.view_is i, sym part_is i))
     (can_give_full t a.bucket q c.pop.new.pass a.chain b plain a.side a.flags a.key.now a.value.now popped turn)
 
-pub returns-in_default : goal.returns-in_default
-returns-in_default g c =
+pub returns-in_default-clause-ends : goal.returns-in_default-clause-ends
+returns-in_default-clause-ends g c =
     let a = c.args in
     let t = a.self.now in
     let q = a.pass.now in
@@ -95,8 +95,8 @@ give-requires-2-after_bounds g c κs within =
     subst (λ (z : TableView × Part). CanGive z.0 (locks.Bucket a.bucket) c.attach.new.pass (contents.Bucket back) z.1) (λ i. (sym c.self.view_is i, sym part_is i))
     (can_give_added t a.bucket q c.pop.new.pass bodies b plain was popped e e_is c.attach.new.pass c.attach.ensures back a.side a.flags a.key.now a.value.now turn)
 
-pub returns : goal.returns
-returns g c =
+pub returns-clause-ends : goal.returns-clause-ends
+returns-clause-ends g c =
     let a = c.args in
     let t = a.self.now in
     let q = a.pass.now in

@@ -20,8 +20,8 @@ give-requires-after_bounds g c κs within =
     subst (λ (z : TableView × Part). CanGive z.0 (locks.Bucket a.bucket) q (contents.Bucket a.chain) z.1) (λ i. (sym c.self.view_is i, sym part_is i))
     (can_kept t a.bucket q a.chain.bodies a.chain (Update a.side a.flags a.key.now a.value.now None puts.Exists) (is_plain_of _ _ c.self.view_is c.self.invariant) c.requires.inside turn tt)
 
-pub returns-then-flags-eq-BPF_NOEXIST : goal.returns-then-flags-eq-BPF_NOEXIST
-returns-then-flags-eq-BPF_NOEXIST g c =
+pub returns-then-flags-eq-BPF_NOEXIST-clause-ends : goal.returns-then-flags-eq-BPF_NOEXIST-clause-ends
+returns-then-flags-eq-BPF_NOEXIST-clause-ends g c =
     let t = c.args.self.now in
     let q = c.args.pass.now in
     let a = c.args in
