@@ -20,7 +20,7 @@ use Rattle.map_types.specs.declared.reply.Reply.TheVariants.{Done, Refused}
 use Rattle.percpu_values.proofs.SideLemmas.{HaveSizes, length-value_read, HaveSizes-written, HaveSizes-new}
 use Rattle.map_run.specs.Entries.{Entry, has_key, entry_of, read, values_put, put, refusal, unless, taken_out, answered, answers_from, entries_after}
 use Rattle.map_run.specs.Laws.{FindsNoRoom}
-use Rattle.map_run.specs.Record.{MayAnswer, EachAnswered}
+use Rattle.map_report.specs.Record.{MayAnswer, EachAnswered}
 use Rattle.map_run.specs.Served.{is_built_kind, IsServedVerb, IsServedCall}
 
 -- the values of an entry have the map's sizes

@@ -6,7 +6,7 @@ use Rattle.map_types.specs.ValueLen.{value_len_of}
 use Rattle.map_types.specs.Sides.{part_count}
 use Rattle.map_types.specs.Stored.{HasSizes}
 use Rattle.percpu_values.proofs.SideLemmas.{HaveSizes-new}
-use Rattle.map_run.specs.Serial.{new_stored}
+use Rattle.map_report.specs.Serial.{new_stored}
 
 -- a new body has the sizes
 pub new_stored_sized : (shape : Shape) (side : Side) (cpu element : ℕ) (key value : List ℕ) → length key ≡ shape.key_size → length value ≡ value_len_of shape side → HasSizes shape.key_size (part_count shape) shape.value_size (new_stored shape side cpu element key value)

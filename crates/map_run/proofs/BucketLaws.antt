@@ -20,11 +20,11 @@ use Rattle.map_types.specs.declared.reply.Reply.TheVariants.{Done}
 use Rattle.percpu_values.proofs.SideLemmas.{HaveSizes-written, HaveSizes-new}
 use Rattle.place_words.specs.declared.finals.Finals.{Finals}
 use Rattle.place_words.specs.Bodies.{present, without_key}
-use Rattle.map_run.specs.Buckets.{bucket_of_key, with_in_place}
-use Rattle.map_run.specs.Freelists.{popped, pushed}
-use Rattle.map_run.specs.Serial.{opening, bucket_at, new_stored, replaced, written, added, updated, deleted, after_call}
+use Rattle.map_report.specs.Buckets.{bucket_of_key, with_in_place}
+use Rattle.map_report.specs.Freelists.{popped, pushed}
+use Rattle.map_report.specs.Serial.{opening, bucket_at, new_stored, replaced, written, added, updated, deleted, after_call}
 use Rattle.map_run.specs.Served.{is_built_kind, IsServedVerb, IsServedCall}
-use Rattle.map_run.specs.Soundness.{HasLists, IsBucket, HasNoLruLists}
+use Rattle.map_report.specs.Soundness.{HasLists, IsBucket, HasNoLruLists}
 use Rattle.place_words.proofs.Splits.{find_passes, find_splits, none_passes}
 use Rattle.place_words.proofs.BucketLaws.{distinct_cut, key_cut}
 

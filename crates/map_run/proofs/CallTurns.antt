@@ -31,12 +31,12 @@ use Rattle.place_words.specs.Traces.{Turn, on_bucket_of, pushes, element_gone, r
 use Rattle.place_words.proofs.BucketLaws.{key_gone}
 use Rattle.place_words.proofs.RowLemmas.{by_test}
 use Rattle.place_words.proofs.Splits.{find_passes, find_splits}
-use Rattle.map_run.specs.Buckets.{bucket_of_key, with_in_place}
-use Rattle.map_run.specs.Freelists.{stack_at, first_not_empty, popped_at, popped, pushed}
-use Rattle.map_run.specs.Serial.{has_spares, bucket_at, value_or_absent, new_stored, replaced, written, added, updated, deleted, after_call}
+use Rattle.map_report.specs.Buckets.{bucket_of_key, with_in_place}
+use Rattle.map_report.specs.Freelists.{stack_at, first_not_empty, popped_at, popped, pushed}
+use Rattle.map_report.specs.Serial.{has_spares, bucket_at, value_or_absent, new_stored, replaced, written, added, updated, deleted, after_call}
 use Rattle.map_run.specs.Served.{is_built_kind, IsServedVerb, IsServedCall}
-use Rattle.map_run.specs.Soundness.{IsSound}
-use Rattle.map_run.specs.Turns.{lies, spare_at, pop_turns, got_of, put_popped, update_turns, call_turns, DoesTurns}
+use Rattle.map_report.specs.Soundness.{IsSound}
+use Rattle.map_report.specs.Turns.{lies, spare_at, pop_turns, got_of, put_popped, update_turns, call_turns, DoesTurns}
 use Rattle.map_run.proofs.EachOnceRun.{bucket_within, spares_unless_percpu}
 use Rattle.map_run.proofs.RingTurns.{lists_popped, pop_traced, none_traced, pop_allowed, pop_leaves, pop_spare}
 use Rattle.map_run.proofs.TurnSteps.{after_more, allowed_more, spare_more, bucket_leaves, bucket_stays, freelist_leaves}

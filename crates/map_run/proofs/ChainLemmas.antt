@@ -19,7 +19,7 @@ use Rattle.bucket_chain.specs.Places.{place_of_key, values_at, with_values_at}
 use Rattle.bucket_chain.proofs.Found.{position_some, find_some, key_found}
 use Rattle.bucket_chain.proofs.Keys.{written_is, values_at-is}
 use Rattle.place_words.specs.Bodies.{present, without_key}
-use Rattle.map_run.specs.Buckets.{with_in_place}
+use Rattle.map_report.specs.Buckets.{with_in_place}
 
 -- the body of the key stands at its place
 pub stands_at : (key : List ℕ) (bodies : List Stored) (place : ℕ) (old d : Stored) → place_of_key key bodies ≡ Some place → present key bodies ≡ Some old → get_or bodies place d ≡ old

@@ -1,8 +1,8 @@
 -- What a table leaves that is closed after a serial run: the record of the run.
-use Rattle.std.proofs.Common.{◌≡◌, ◌≢◌, ℕ, zero, suc, ◌+◌, ◌<◌, ◌≤◌, ◌⊎◌, Bool, true, false, not, ◌||◌, ◌&&◌, cond, eqb, List, [], ◌∷◌, ◌++◌, length, map, Option, Some, None, refl, ap, sym, ◌∙◌, inl, inr, arith, append-nil, append_assoc}
+use Rattle.std.proofs.Common.{◌≡◌, ℕ, zero, suc, ◌+◌, ◌<◌, ◌≤◌, Bool, true, false, not, ◌&&◌, cond, eqb, List, [], ◌∷◌, ◌++◌, length, map, Option, Some, None, refl, ap, sym, ◌∙◌, inl, inr, arith, append-nil, append_assoc}
 use Rattle.std.specs.Prelude.{IsTrue, All, filter, option_map, slice_get}
-use Rattle.std.specs.List.{list_any, range_with_len}
-use Rattle.std.proofs.lemmas.Bool.{cases_eq, lt-ltb}
+use Rattle.std.specs.List.{range_with_len}
+use Rattle.std.proofs.lemmas.Bool.{lt-ltb}
 use Rattle.std.proofs.lemmas.List.{ext_get_or}
 use Rattle.std.proofs.lemmas.List.Elements.{All-head, All-tail}
 use Rattle.std.proofs.lemmas.Option.{none-some, same_Some}
@@ -22,15 +22,17 @@ use Rattle.place_words.specs.Locks.{is_lock, is_same_lock, lock_named, lock_numb
 use Rattle.place_words.specs.Strands.{places_on}
 use Rattle.place_words.proofs.LockLemmas.{number_of_named, number_within, one_number, same_lock, other_lock}
 use Rattle.place_core.proofs.ElementLemmas.{by_test}
+use Rattle.place_table.specs.declared.view.Ended.{Ended}
 use Rattle.place_table.specs.declared.view.Turned.{Turned}
-use Rattle.place_table.specs.Closing.{ClosedView, IsClosed, has_lock, history_of, strands_of, spare_numbers}
+use Rattle.place_table.specs.Closing.{ClosedView, IsClosed, has_lock, history_of, spare_numbers}
 use Rattle.place_table.specs.Passes.{PassView, IsKeptOf, spare_of}
 use Rattle.place_table.specs.Rules.{turns_on, indexes}
-use Rattle.place_table.specs.Views.{bit_seen, kept_step, no_bits}
+use Rattle.place_table.specs.Views.{is_among, all_strands, bit_seen, current_strand, kept_step, no_bits}
 use Rattle.map_run.specs.Going.{Going}
 use Rattle.map_run.specs.Served.{is_built_kind}
-use Rattle.map_run.specs.Soundness.{IsSound}
-use Rattle.map_run.specs.Turns.{Happened, lies, entries_on, history_on, histories_of_turns, steps_from}
+use Rattle.map_report.specs.Soundness.{IsSound}
+use Rattle.map_report.specs.Turns.{Happened, lies, entries_on, history_on, histories_of_turns, steps_from}
+use Rattle.map_run.proofs.Whole.{none_pass, none_lost, strands_of, strands_are_told, told_of_one}
 
 -- What is handed out is what happened in the run, and what it leads to.
 pub record IsLeftBy (shape : Shape) (lists : Finals) (turns : List Happened) (closed : ClosedView) : Type 0 where
@@ -41,7 +43,7 @@ pub record IsLeftBy (shape : Shape) (lists : Finals) (turns : List Happened) (cl
 -- Recorded steps
 
 -- two numbers name one lock where they are one
-same_number : (shape : Shape) (j k : ℕ) → is_same_lock (lock_named shape j) (lock_named shape k) ≡ eqb j k
+pub same_number : (shape : Shape) (j k : ℕ) → is_same_lock (lock_named shape j) (lock_named shape k) ≡ eqb j k
 same_number shape j k =
     by_test j k (λ b. is_same_lock (lock_named shape j) (lock_named shape k) ≡ b)
     (λ is. ap (λ (m : ℕ). is_same_lock (lock_named shape m) (lock_named shape k)) is ∙ same_lock (lock_named shape k))
@@ -91,11 +93,11 @@ kept_few shape k (step ∷ steps) before after (inr more) =
     let places = kept_more shape k step before in
     omega arith
 
-abbrev IsReal : Shape → Turned → Type 0
+abbrev pub IsReal : Shape → Turned → Type 0
 IsReal shape step = (step.lock < lock_count shape) × IsTrue (is_lock shape (lock_named shape step.lock))
 
 -- so where on each lock as much is recorded, every step is
-kept_all : (shape : Shape) (steps : List Turned) (before after : List StrandStep) → IsKeptOf shape steps before after → All (IsReal shape) steps
+pub kept_all : (shape : Shape) (steps : List Turned) (before after : List StrandStep) → IsKeptOf shape steps before after → All (IsReal shape) steps
     → ((k : ℕ) → k < lock_count shape → IsTrue (is_lock shape (lock_named shape k)) → length (places_on (lock_named shape k) before) + length (turns_on k steps) ≤ length (places_on (lock_named shape k) after))
     → after ≡ before ++ map (λ (step : Turned). kept_step shape step.lock step.index) steps
 kept_all shape [] before after kept real enough = kept ∙ sym (append-nil before)
@@ -116,29 +118,10 @@ kept_all shape (step ∷ steps) before after (inr more) real enough =
     omega arith)
     ∙ append_assoc before (first ∷ []) (map (λ (step : Turned). kept_step shape step.lock step.index) steps)
 
--- Locks of which no record is lost
-
-or_left : (b c : Bool) → (b || c) ≡ false → b ≡ false
-or_left true c none = none
-or_left false c none = refl
-
-or_right : (b c : Bool) → (b || c) ≡ false → c ≡ false
-or_right true c none = cc
-or_right false c none = none
-
-none_of : (has lost : ℕ → Bool) (a n k : ℕ) → list_any lost (filter has (range_with_len a n)) ≡ false → a ≤ k → k < a + n → has k ≡ true → lost k ≡ false
-none_of has lost a zero k none low high there = absurd (omega arith)
-none_of has lost a (suc n) k none low high there = by (has a) refl none (cases_eq a k) (none_of has lost (a + 1) n k)
-  where
-    by : (b : Bool) → has a ≡ b → list_any lost (cond b (a ∷ filter has (range_with_len (a + 1) n)) (filter has (range_with_len (a + 1) n))) ≡ false → (a ≡ k) ⊎ (a ≢ k)
-        → (list_any lost (filter has (range_with_len (a + 1) n)) ≡ false → a + 1 ≤ k → k < a + 1 + n → has k ≡ true → lost k ≡ false) → lost k ≡ false
-    by true is none (inl here) rest = ap lost (sym here) ∙ or_left (lost a) _ none
-    by false is none (inl here) rest = cc
-    by true is none (inr other) rest = rest (or_right (lost a) _ none) (omega arith) (omega arith) there
-    by false is none (inr other) rest = rest none (omega arith) (omega arith) there
+-- Histories
 
 -- what is made of each of them is the same
-made_of_all : {A : Type 0} (has lost : ℕ → Bool) (f g : ℕ → A) (a n : ℕ) → ((k : ℕ) → a ≤ k → k < a + n → has k ≡ true → (lost k ≡ false) × (f k ≡ g k))
+pub made_of_all : {A : Type 0} (has lost : ℕ → Bool) (f g : ℕ → A) (a n : ℕ) → ((k : ℕ) → a ≤ k → k < a + n → has k ≡ true → (lost k ≡ false) × (f k ≡ g k))
     → map f (filter (λ k. not (lost k)) (filter has (range_with_len a n))) ≡ map g (filter has (range_with_len a n))
 made_of_all has lost f g a zero each = refl
 made_of_all has lost f g a (suc n) each = by (has a) refl (made_of_all has lost f g (a + 1) n (λ k low high there. each k (omega arith) (omega arith) there))
@@ -154,20 +137,14 @@ made_of_all has lost f g a (suc n) each = by (has a) refl (made_of_all has lost 
 
 -- Lists at the end
 
-none_pass : (test : ℕ → Bool) (a n : ℕ) → ((e : ℕ) → a ≤ e → e < a + n → test e ≡ false) → filter test (range_with_len a n) ≡ []
-none_pass test a zero fails = refl
-none_pass test a (suc n) fails =
-    ap (λ b. cond b (a ∷ filter test (range_with_len (a + 1) n)) (filter test (range_with_len (a + 1) n))) (fails a (omega arith) (omega arith))
-    ∙ none_pass test (a + 1) n (λ e low high. fails e (omega arith) (omega arith))
-
 no_bit : (e n : ℕ) → e < n → bit_seen e (no_bits n) ≡ Some false
 no_bit e zero real = absurd (omega arith)
 no_bit e (suc n) real = by_test n e (λ b. cond b (Some false) (bit_seen e (no_bits n)) ≡ Some false) (λ _. refl) (λ other. no_bit e n (omega arith))
 
-abbrev number_in : Option Stored → Option ℕ
+abbrev pub number_in : Option Stored → Option ℕ
 number_in spare = option_map (λ (body : Stored). body.element) spare
 
-spares_listed : (spares : List (Option Stored)) (numbers : List ℕ) → ((cpu : ℕ) → number_in (spare_of cpu spares) ≡ slice_get numbers cpu) → spare_numbers spares ≡ numbers
+pub spares_listed : (spares : List (Option Stored)) (numbers : List ℕ) → ((cpu : ℕ) → number_in (spare_of cpu spares) ≡ slice_get numbers cpu) → spare_numbers spares ≡ numbers
 spares_listed [] [] each = refl
 spares_listed [] (number ∷ numbers) each = absurd (none-some number (each 0))
 spares_listed (None ∷ spares) [] each = spares_listed spares [] (λ cpu. each (suc cpu))
@@ -182,23 +159,23 @@ one_finals : (a b : Finals) → a.buckets ≡ b.buckets → a.freelists ≡ b.fr
 one_finals a b buckets freelists spares sets locals marked =
     λ i. record { buckets = buckets i; freelists = freelists i; spares = spares i; sets = sets i; locals = locals i; marked = marked i }
 
-one_bucket : (a b : List Stored) → in_bucket a ≡ in_bucket b → a ≡ b
+pub one_bucket : (a b : List Stored) → in_bucket a ≡ in_bucket b → a ≡ b
 one_bucket a b same = cc
 
-one_freelist : (a b : List ℕ) → on_freelist a ≡ on_freelist b → a ≡ b
+pub one_freelist : (a b : List ℕ) → on_freelist a ≡ on_freelist b → a ≡ b
 one_freelist a b same = cc
 
-length_indexes : (turns : List (ℕ × Entry)) → length (indexes turns) ≡ length turns
+pub length_indexes : (turns : List (ℕ × Entry)) → length (indexes turns) ≡ length turns
 length_indexes [] = refl
 length_indexes (turn ∷ turns) = ap suc (length_indexes turns)
 
-plain_kind : (kind : MapKind) → IsTrue (is_built_kind kind) → is_lru kind ≡ false
+pub plain_kind : (kind : MapKind) → IsTrue (is_built_kind kind) → is_lru kind ≡ false
 plain_kind Hash built = refl
 plain_kind PercpuHash built = refl
 plain_kind LruHash built = cc
 plain_kind LruPercpuHash built = cc
 
-module _ (shape : Shape) (lists : Finals) (turns : List Happened) (p : PassView) (closed : ClosedView) (built : IsTrue (is_built_kind shape.kind)) (sound : IsSound shape lists) (going : Going shape lists turns p) (ends : IsClosed shape p closed) where
+module _ (shape : Shape) (lists : Finals) (turns : List Happened) (p : PassView) (closed : ClosedView) (bounds : HasBounds shape) (built : IsTrue (is_built_kind shape.kind)) (sound : IsSound shape lists) (going : Going shape lists turns p) (ends : IsClosed shape p closed) where
   -- the turns of each lock of the map, by its name and by its number
   log_of : (lock : DomainId) → IsTrue (is_lock shape lock) → ends.log (lock_number shape lock) ≡ entries_on lock turns
   log_of lock there =
@@ -210,23 +187,22 @@ module _ (shape : Shape) (lists : Finals) (turns : List Happened) (p : PassView)
   lies_there : (lock : DomainId) → IsTrue (is_lock shape lock) → content shape lock (ends.log (lock_number shape lock)) ≡ lies lists lock
   lies_there lock there = ap (content shape lock) (log_of lock there) ∙ going.contents lock there
 
-  none_lost : closed.lost ≡ false → (k : ℕ) → k < lock_count shape → IsTrue (has_lock shape k) → ends.lost k ≡ false
-  none_lost whole k below there =
-      none_of (has_lock shape) ends.lost 0 (lock_count shape) k (sym ends.left.lost_is ∙ whole) (omega arith) (omega arith) there
-
   histories_are : closed.lost ≡ false → closed.histories ≡ histories_of_turns shape turns
   histories_are whole =
       ends.left.histories_are
       ∙ made_of_all (has_lock shape) ends.lost (history_of shape ends.log) (history_on shape turns) 0 (lock_count shape)
-      (λ k low high there. (none_lost whole k (omega arith) there, λ i. record { lock = lock_named shape k; entries = log_at k there i }))
+      (λ k low high there. (none_lost shape p closed ends whole k (omega arith) there, λ i. record { lock = lock_named shape k; entries = log_at k there i }))
 
-  strands_are : closed.lost ≡ false → IsKeptOf shape p.view.steps [] p.view.kept → closed.strands ≡ strands_of shape (steps_from [] turns)
-  strands_are whole kept =
-      ends.left.strands_are
+  strands_are : closed.lost ≡ false → p.view.ended ≡ [] → ((cpu : ℕ) → cpu < shape.cpus → is_among cpu p.view.cpus ≡ true) → IsKeptOf shape p.view.steps [] p.view.kept
+      → closed.strands ≡ strands_of shape (steps_from [] turns)
+  strands_are whole none all kept =
+      let only : slice_get (all_strands p.view) 0 ≡ Some (current_strand p.view) = ap (λ (strands : List Ended). slice_get (strands ++ current_strand p.view ∷ []) 0) none in
+      strands_are_told shape p closed ends whole bounds
+      ∙ told_of_one shape p.view none all
       ∙ ap (strands_of shape)
       (kept_all shape p.view.steps [] p.view.kept kept going.real
       (λ k below there.
-      let same = ap length (ends.recorded k below there (none_lost whole k below there)) in
+      let same = ap length (ends.recorded 0 (current_strand p.view) only k below there (none_lost shape p closed ends whole k below there)) in
       let count = length_indexes (turns_on k p.view.steps) in
       omega arith)
       ∙ going.steps)
@@ -262,9 +238,9 @@ module _ (shape : Shape) (lists : Finals) (turns : List Happened) (p : PassView)
 -- The histories, the strand and the lists of a table that is closed after some calls of a serial run, no record of which is
 -- lost, are those of the run.
 pub left_by : (shape : Shape) (lists : Finals) (turns : List Happened) (p : PassView) (closed : ClosedView) → HasBounds shape → IsTrue (is_built_kind shape.kind) → IsSound shape lists → Going shape lists turns p → IsClosed shape p closed → closed.lost ≡ false
-    → p.view.bits ≡ no_bits shape.elements → IsKeptOf shape p.view.steps [] p.view.kept → IsLeftBy shape lists turns closed
-left_by shape lists turns p closed bounds built sound going ends whole bits kept = record {
-  histories = histories_are shape lists turns p closed built sound going ends whole;
-  strands = strands_are shape lists turns p closed built sound going ends whole kept;
-  finals = finals_are shape lists turns p closed built sound going ends bits;
+    → p.view.bits ≡ no_bits shape.elements → p.view.ended ≡ [] → ((cpu : ℕ) → cpu < shape.cpus → is_among cpu p.view.cpus ≡ true) → IsKeptOf shape p.view.steps [] p.view.kept → IsLeftBy shape lists turns closed
+left_by shape lists turns p closed bounds built sound going ends whole bits none all kept = record {
+  histories = histories_are shape lists turns p closed bounds built sound going ends whole;
+  strands = strands_are shape lists turns p closed bounds built sound going ends whole none all kept;
+  finals = finals_are shape lists turns p closed bounds built sound going ends bits;
 }

@@ -13,12 +13,12 @@ use Rattle.map_types.specs.declared.attr.Shape.{Shape}
 use Rattle.map_types.specs.declared.kind.MapKind.{MapKind}
 use Rattle.map_types.specs.declared.kind.MapKind.TheVariants.{Hash, PercpuHash, LruHash, LruPercpuHash}
 use Rattle.place_words.specs.declared.finals.Finals.{Finals}
-use Rattle.map_run.specs.EachOnce.{EachOnce, elements_of, in_buckets, on_freelists}
+use Rattle.map_report.specs.EachOnce.{EachOnce, elements_of, in_buckets, on_freelists}
 use Rattle.place_words.specs.Shares.{share_first, share_count}
-use Rattle.map_run.specs.Freelists.{opening_stack, opening_stacks, stack_at, ring, first_not_empty, popped_at, popped, spares_popped}
-use Rattle.map_run.specs.Serial.{has_spares, spare_count, opening}
+use Rattle.map_report.specs.Freelists.{opening_stack, opening_stacks, stack_at, ring, first_not_empty, popped_at, popped, spares_popped}
+use Rattle.map_report.specs.Serial.{has_spares, spare_count, opening}
 use Rattle.map_run.specs.Served.{is_built_kind}
-use Rattle.map_run.specs.Soundness.{HasLists}
+use Rattle.map_report.specs.Soundness.{HasLists}
 use Rattle.map_run.proofs.EachOnceSteps.{permutes_same, numbers, IsPop, popped_is, none_there}
 use Rattle.place_words.proofs.Splits.{find_misses}
 

@@ -23,13 +23,13 @@ use Rattle.map_types.specs.declared.reply.Reply.TheVariants.{Done}
 use Rattle.map_script.specs.declared.script.Script.{Script}
 use Rattle.place_words.specs.declared.finals.Finals.{Finals}
 use Rattle.place_words.specs.Bodies.{present, without_key}
-use Rattle.map_run.specs.Buckets.{bucket_of_key, with_in_place}
-use Rattle.map_run.specs.EachOnce.{EachOnce, on_freelists}
-use Rattle.map_run.specs.Freelists.{popped}
+use Rattle.map_report.specs.Buckets.{bucket_of_key, with_in_place}
+use Rattle.map_report.specs.EachOnce.{EachOnce, on_freelists}
+use Rattle.map_report.specs.Freelists.{popped}
 use Rattle.map_run.specs.Laws.{lists_before}
-use Rattle.map_run.specs.Serial.{has_spares, spare_count, opening, bucket_at, new_stored, replaced, written, added, updated, deleted, after_call, lists_after}
+use Rattle.map_report.specs.Serial.{has_spares, spare_count, opening, bucket_at, new_stored, replaced, written, added, updated, deleted, after_call, lists_after}
 use Rattle.map_run.specs.Served.{is_built_kind, IsServedCall, IsServed}
-use Rattle.map_run.specs.Soundness.{HasLists}
+use Rattle.map_report.specs.Soundness.{HasLists}
 use Rattle.map_run.proofs.EachOnceOpening.{each_once_moved, each_once_opening}
 use Rattle.map_run.proofs.EachOnceSteps.{IsPop, popped_is, pushed_permutes, added_permutes, grown_permutes, taken_permutes, written_permutes, spare_there, spare_set, stays, comes_in, goes_out, changes_places}
 

@@ -11,7 +11,7 @@ use Rattle.std.proofs.lemmas.Option.{none-some, same_Some}
 use Rattle.bucket_chain.proofs.Reversed.{remove-set}
 use Rattle.place_words.proofs.Splits.{find_passes, find_splits}
 use Rattle.map_types.specs.Stored.{Stored}
-use Rattle.map_run.specs.Freelists.{stack_at, first_not_empty, popped_at, popped, pushed}
+use Rattle.map_report.specs.Freelists.{stack_at, first_not_empty, popped_at, popped, pushed}
 
 -- Orders
 

@@ -7,13 +7,13 @@ use Rattle.map_types.specs.declared.attr.Shape.{Shape}
 use Rattle.map_types.specs.declared.call.Call.{Call}
 use Rattle.map_script.specs.declared.script.Script.{Script}
 use Rattle.place_words.specs.declared.finals.Finals.{Finals}
-use Rattle.map_run.specs.EachOnce.{EachOnce}
+use Rattle.map_report.specs.EachOnce.{EachOnce}
 use Rattle.map_run.specs.Entries.{Entry, answered, answers_from, entries_after}
 use Rattle.map_run.specs.Laws.{lists_before, entries_before}
-use Rattle.map_run.specs.Serial.{opening, after_call, replies_from, lists_after}
-use Rattle.map_run.specs.Runs.{serial}
+use Rattle.map_report.specs.Serial.{opening, after_call, replies_from, lists_after}
+use Rattle.map_report.specs.Runs.{serial}
 use Rattle.map_run.specs.Served.{is_built_kind, IsServedCall, IsServed}
-use Rattle.map_run.specs.Soundness.{HasLists}
+use Rattle.map_report.specs.Soundness.{HasLists}
 use Rattle.map_run.proofs.EntrySteps.{Agrees, agrees_opening, agrees_step}
 
 -- from any lists and entries that agree

@@ -29,13 +29,13 @@ use Rattle.map_types.specs.declared.reply.Reply.{Reply}
 use Rattle.map_types.specs.declared.reply.Reply.TheVariants.{Done, Value, Refused}
 use Rattle.place_words.specs.declared.finals.Finals.{Finals}
 use Rattle.place_words.specs.Bodies.{present, without_key}
-use Rattle.map_run.specs.Buckets.{bucket_of_key}
-use Rattle.map_run.specs.EachOnce.{on_freelists, EachOnce}
+use Rattle.map_report.specs.Buckets.{bucket_of_key}
+use Rattle.map_report.specs.EachOnce.{on_freelists, EachOnce}
 use Rattle.map_run.specs.Entries.{Entry, entry_of, without, read, values_put, refusal, unless, taken_out, answered}
-use Rattle.map_run.specs.Freelists.{stack_at, ring, first_not_empty, popped_at, popped}
-use Rattle.map_run.specs.Serial.{has_spares, spare_count, opening, bucket_at, value_or_absent, new_stored, replaced, written, added, updated, deleted, after_call}
+use Rattle.map_report.specs.Freelists.{stack_at, ring, first_not_empty, popped_at, popped}
+use Rattle.map_report.specs.Serial.{has_spares, spare_count, opening, bucket_at, value_or_absent, new_stored, replaced, written, added, updated, deleted, after_call}
 use Rattle.map_run.specs.Served.{is_built_kind, IsServedVerb, IsServedCall}
-use Rattle.map_run.specs.Soundness.{HasLists}
+use Rattle.map_report.specs.Soundness.{HasLists}
 use Rattle.map_run.proofs.EntryLemmas.{hits, both, Turned, taken_first, taken_all, taken_none, put_in, Finds, finds}
 
 -- the values that a key has in a bucket, and those that it has in entries

@@ -1,6 +1,6 @@
 -- Turns of a run as histories of locks and as steps that name their places there.
 use Rattle.std.proofs.Common.{◌≡◌, ℕ, zero, suc, ◌+◌, ◌<◌, ◌≤◌, Bool, true, false, cond, eqb, List, [], ◌∷◌, ◌++◌, length, map, Some, refl, ap, sym, ◌∙◌, subst, arith, length-append, append-nil, append_assoc}
-use Rattle.std.specs.Prelude.{◌||◌, IsTrue, filter, slice_get, if◌then◌else◌}
+use Rattle.std.specs.Prelude.{◌||◌, IsTrue, MatchBool, filter, slice_get, if◌then◌else◌}
 use Rattle.std.specs.List.{AllByRecursion, range_with_len}
 use Rattle.std.proofs.lemmas.Bool.{both_ways, ne_eqb, or_from}
 use Rattle.map_types.specs.declared.attr.Shape.{Shape}
@@ -13,13 +13,18 @@ use Rattle.place_words.specs.Strands.{places_on}
 use Rattle.place_words.specs.Traces.{Turn, after_turn, after_turns, AreAllowed}
 use Rattle.place_words.proofs.LockLemmas.{named_by_number, number_within, one_lock, same_lock}
 use Rattle.place_words.proofs.RowLemmas.{by_test}
-use Rattle.map_run.specs.Record.{has_cpu, places_by, entries_of, Name}
-use Rattle.map_run.specs.Turns.{Happened, happened, entries_on, history_on, histories_of_turns, steps_from}
+use Rattle.map_report.specs.Record.{has_cpu, places_by, entries_of, Name}
+use Rattle.map_report.specs.Turns.{Happened, happened, entries_on, history_on, histories_of_turns, steps_from}
 
 -- a test, by cases
 pub by_bool : (b : Bool) (F : Bool → Type 0) → (b ≡ true → F true) → (b ≡ false → F false) → F b
 by_bool true F hit miss = hit refl
 by_bool false F hit miss = miss refl
+
+-- what holds where it passes
+pub matched : (b : Bool) (P Q : Type 0) → b ≡ true → P → MatchBool b P Q
+matched true P Q is p = p
+matched false P Q is p = cc
 
 -- CPUs
 

@@ -5,6 +5,7 @@ mod PlainLemmas
 mod WordLemmas
 mod WordLemmasCommand
 mod WordLemmasCounts
+mod WordLemmasRows
 mod WordLemmasShapes
 mod WordLemmasTurns
 mod WordLemmasWalk
@@ -34,3 +35,13 @@ pub mod TraceLaws
 pub mod TurnLemmas
 pub mod TurnLocks
 pub mod TurnSteps
+pub mod Whole
+pub mod RaceLists
+pub mod RaceStrands
+pub mod RaceKept
+pub mod RaceCalls
+pub mod RaceFinals
+pub mod RaceHistories
+pub mod RaceRecord
+pub mod Joining
+pub mod Workers

@@ -25,10 +25,10 @@ use Rattle.place_table.specs.Known.{FollowsOn, FollowOn, Learns, log_after, logs
 use Rattle.place_table.specs.Passes.{PassView, spare_of, SparesDiffer}
 use Rattle.place_table.specs.Views.{kept_step}
 use Rattle.map_run.specs.Going.{Going}
-use Rattle.map_run.specs.Serial.{after_call}
+use Rattle.map_report.specs.Serial.{after_call}
 use Rattle.map_run.specs.Served.{is_built_kind, IsServedCall}
-use Rattle.map_run.specs.Soundness.{IsSound}
-use Rattle.map_run.specs.Turns.{Happened, happened, lies, spare_at, call_turns, entries_on, steps_from, DoesTurns}
+use Rattle.map_report.specs.Soundness.{IsSound}
+use Rattle.map_report.specs.Turns.{Happened, happened, lies, spare_at, call_turns, entries_on, steps_from, DoesTurns}
 use Rattle.map_run.proofs.CallTurns.{none_evicts, does_turns}
 use Rattle.map_run.proofs.TraceLaws.{one_trace}
 

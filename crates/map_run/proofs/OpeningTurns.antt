@@ -25,11 +25,11 @@ use Rattle.place_words.specs.Locks.{is_lock}
 use Rattle.place_words.specs.Openings.{opening_stack, opening_spares, opening_owner, opening_free, spare_owner, is_free}
 use Rattle.place_words.specs.Shares.{share_first, share_count, pushed_from}
 use Rattle.place_core.proofs.ElementLemmas.{by_test, times_append, times_cons_same}
-use Rattle.map_run.specs.Freelists.{stack_at, ring, first_not_empty, popped_at, popped, spares_popped}
-use Rattle.map_run.specs.Freelists as lists
-use Rattle.map_run.specs.Serial.{has_spares, opening}
+use Rattle.map_report.specs.Freelists.{stack_at, ring, first_not_empty, popped_at, popped, spares_popped}
+use Rattle.map_report.specs.Freelists as lists
+use Rattle.map_report.specs.Serial.{has_spares, opening}
 use Rattle.map_run.specs.Served.{is_built_kind}
-use Rattle.map_run.specs.Turns.{lies}
+use Rattle.map_report.specs.Turns.{lies}
 use Rattle.map_run.proofs.EachOnceOpening.{opening_stacks_permute}
 use Rattle.map_run.proofs.StackLemmas.{has_top, with_spare, spares_next, spares_end}
 

@@ -21,13 +21,13 @@ use Rattle.map_types.specs.declared.reply.Reply.{Reply}
 use Rattle.map_types.specs.declared.reply.Reply.TheVariants.{Done, Refused}
 use Rattle.place_words.specs.declared.finals.Finals.{Finals}
 use Rattle.place_words.specs.Bodies.{present, without_key}
-use Rattle.map_run.specs.Buckets.{bucket_of_key, with_in_place}
-use Rattle.map_run.specs.Freelists.{opening_stacks, popped, pushed, spares_popped}
+use Rattle.map_report.specs.Buckets.{bucket_of_key, with_in_place}
+use Rattle.map_report.specs.Freelists.{opening_stacks, popped, pushed, spares_popped}
 use Rattle.map_run.specs.Plain.{plain_lists}
 use Rattle.map_run.specs.Served.{is_built_kind}
 use Rattle.map_run.proofs.ChainLemmas.{All-without_key}
 use Rattle.map_run.proofs.EachOnceRun.{spares_unless_percpu}
-use Rattle.map_run.specs.Serial.{opening, spare_count, after_call, updated, written, replaced, added, deleted, bucket_at, new_stored}
+use Rattle.map_report.specs.Serial.{opening, spare_count, after_call, updated, written, replaced, added, deleted, bucket_at, new_stored}
 
 -- a key that has a place is there, and one that has none isn't
 pub found_there : (key : List ℕ) (bodies : List Stored) (place : ℕ) → place_of_key key bodies ≡ Some place → (old : Stored) × (present key bodies ≡ Some old)

@@ -1,9 +1,8 @@
 -- What a run in serial order keeps is a record of its script.
-use Rattle.std.proofs.Common.{◌≡◌, ℕ, zero, suc, ◌<◌, Bool, true, false, nat_lt, All, List, [], ◌∷◌, ◌++◌, map, Some, Option, refl, ap, sym, ◌∙◌, subst, arith, append_assoc}
-use Rattle.std.specs.Prelude.{◌&&◌, ◌==◌, IsTrue, MatchBool, filter, slice_get, if◌then◌else◌}
+use Rattle.std.proofs.Common.{◌≡◌, ℕ, zero, suc, ◌<◌, true, All, List, [], ◌∷◌, ◌++◌, map, Some, Option, refl, ap, sym, ◌∙◌, subst, arith, append_assoc}
+use Rattle.std.specs.Prelude.{◌==◌, IsTrue, filter, slice_get, if◌then◌else◌}
 use Rattle.std.specs.List.{AllByRecursion, range_with_len}
-use Rattle.std.proofs.lemmas.Bool.{ltb-true, ltb-false}
-use Rattle.std.proofs.lemmas.List.Elements.{All-from_recursion, recursion_from_All}
+use Rattle.std.proofs.lemmas.List.Elements.{All-from_recursion, All-nil, recursion_from_All}
 use Rattle.std.proofs.lemmas.Option.{same_Some, none-some}
 use Rattle.map_types.specs.Shape.{HasBounds}
 use Rattle.map_types.specs.declared.attr.Shape.{Shape}
@@ -21,19 +20,20 @@ use Rattle.place_words.specs.Strands.{places_on}
 use Rattle.place_words.specs.Traces.{Turn, IsTrace, spare_after}
 use Rattle.place_words.proofs.RowLemmas.{by_test}
 use Rattle.map_run.specs.Entries.{answers_from}
-use Rattle.map_run.specs.Record.{EachAnswered, has_cpu, places_by, entries_of, IsConcatenation, IsRecord}
-use Rattle.map_run.specs.Runs.{turns_of_script, serial}
-use Rattle.map_run.specs.Serial.{opening, after_call, replies_from, lists_after}
+use Rattle.map_report.specs.Record.{EachAnswered, has_cpu, places_by, entries_of, IsConcatenation, HasElements, IsRecord}
+use Rattle.map_report.specs.Runs.{turns_of_script, serial}
+use Rattle.map_report.specs.Serial.{opening, after_call, replies_from, lists_after}
 use Rattle.map_run.specs.Served.{is_built_kind, IsServedCall, IsServed}
-use Rattle.map_run.specs.Soundness.{IsSound}
-use Rattle.map_run.specs.Turns.{Happened, happened, lies, spare_at, call_turns, DoesTurns, turns_from, entries_on, histories_of_turns, steps_from, strand_of_turns}
+use Rattle.map_report.specs.Soundness.{IsSound}
+use Rattle.map_report.specs.Turns.{Happened, happened, lies, spare_at, call_turns, DoesTurns, turns_from, entries_on, histories_of_turns, steps_from, strand_of_turns}
 use Rattle.map_run.proofs.AnswerLaws.{each_answered}
 use Rattle.map_run.proofs.CallTurns.{does_turns}
 use Rattle.map_run.proofs.EachOnceRun.{each_once_run}
 use Rattle.map_run.proofs.EntryRun.{plain_run}
-use Rattle.map_run.proofs.HistoryTurns.{by_bool, has_from, has_none, entries_append, entries_hold, locks_kept, each_history, told, steps_append, places_from, steps_name, replayed_append, allowed_append, none_allowed, none_replayed, call_replayed, call_allowed}
+use Rattle.map_run.proofs.HistoryTurns.{matched, has_from, entries_append, entries_hold, locks_kept, each_history, told, steps_append, places_from, steps_name, replayed_append, allowed_append, none_allowed, none_replayed, call_replayed, call_allowed}
 use Rattle.map_run.proofs.SoundRun.{sound_opening, sound_step, sound_end}
 use Rattle.map_run.proofs.TurnLocks.{OnLocks, all_append, trace_real}
+use Rattle.map_run.proofs.Whole.{all_pass}
 
 -- Calls of a run
 
@@ -106,12 +106,6 @@ all_cpus shape = range_with_len 0 shape.cpus
 in_all : (shape : Shape) (cpu : ℕ) → cpu < shape.cpus → has_cpu cpu (all_cpus shape) ≡ true
 in_all shape cpu within = has_from cpu 0 shape.cpus (omega arith) (omega arith)
 
-has_within : (shape : Shape) (cpu : ℕ) → has_cpu cpu (all_cpus shape) ≡ nat_lt cpu shape.cpus
-has_within shape cpu =
-    by_bool (nat_lt cpu shape.cpus) (λ b. has_cpu cpu (all_cpus shape) ≡ b)
-    (λ below. has_from cpu 0 shape.cpus (omega arith) (omega (arith, ltb-true cpu shape.cpus below)))
-    (λ past. has_none cpu 0 shape.cpus (omega (arith, ltb-false cpu shape.cpus past)))
-
 abbrev OnCpus : Shape → List Happened → Type 0
 OnCpus shape turns = AllByRecursion (λ (turn : Happened). turn.1.cpu < shape.cpus) turns
 
@@ -131,10 +125,6 @@ all_there shape [] within = tt
 all_there shape (turn ∷ turns) within = (in_all shape turn.1.cpu within.0, all_there shape turns within.1)
 
 -- its calls
-
-matched : (b : Bool) (P Q : Type 0) → b ≡ true → P → MatchBool b P Q
-matched true P Q is p = p
-matched false P Q is p = cc
 
 -- the spares after a call's turns are those of the lists after the call
 spares_after : (shape : Shape) (call : Call) (lists : Finals) (spares : ℕ → Option ℕ) → IsMade shape call lists → ((cpu : ℕ) → spares cpu ≡ spare_at lists cpu)
@@ -220,12 +210,8 @@ module _ (script : Script) (served : IsServed script)
   only P it zero other is = subst (P 0) (same_Some strand other is) it
   only P it (suc n) other is = absurd (none-some other is)
 
-  cpus_of : (n : ℕ) (other : Strand) → slice_get (strand ∷ []) n ≡ Some other → (cpu : ℕ) → has_cpu cpu other.cpus ≡ (nat_lt cpu shape.cpus && (0 == n))
-  cpus_of = only (λ n other. (cpu : ℕ) → has_cpu cpu other.cpus ≡ (nat_lt cpu shape.cpus && (0 == n))) (λ cpu. has_within shape cpu ∙ and_true (nat_lt cpu shape.cpus))
-    where
-      and_true : (b : Bool) → b ≡ (b && true)
-      and_true true = refl
-      and_true false = refl
+  cpus_of : (n : ℕ) (other : Strand) → slice_get (strand ∷ []) n ≡ Some other → other.cpus ≡ filter (λ cpu. 0 == n) (range_with_len 0 shape.cpus)
+  cpus_of = only (λ n other. other.cpus ≡ filter (λ cpu. 0 == n) (range_with_len 0 shape.cpus)) (sym (all_pass (λ cpu. 0 == 0) 0 shape.cpus (λ cpu low high. refl)))
 
   steps_of : (n : ℕ) (other : Strand) → slice_get (strand ∷ []) n ≡ Some other → (lock : DomainId) → IsTrue (is_lock shape lock)
       → places_on lock other.steps ≡ places_by other.cpus 0 (entries_of (histories_of_turns shape turns) lock)
@@ -239,6 +225,16 @@ module _ (script : Script) (served : IsServed script)
   calls_of = only (λ n other. IsConcatenation shape (histories_of_turns shape turns) other.cpus 1 script.calls (replies_from shape (opening shape) script.calls)
       (spare_at (opening shape)) (spare_at (lists_after shape (opening shape) script.calls)) other.steps)
       (run_calls shape (histories_of_turns shape turns) script.calls (opening shape) 1 [] (spare_at (opening shape)) made (λ cpu. refl) (told shape turns))
+
+-- the lists of a serial run have each element once, and set no bit
+elements_of_sound : (shape : Shape) (lists : Finals) → IsSound shape lists → HasElements shape lists
+elements_of_sound shape lists sound = record {
+  lengths = sound.lengths;
+  each_once = sound.each_once;
+  no_sets = sound.no_lru_lists.sets;
+  no_locals = sound.no_lru_lists.locals;
+  marked = subst (All (λ (element : ℕ). element < shape.elements)) (sym sound.no_lru_lists.marked) (All-nil _);
+}
 
 -- What is kept is a record of the script.
 pub serial_is_record : (script : Script) → IsServed script → ((lock : DomainId) → IsTrue (is_lock script.shape lock) → lies (opening script.shape) lock ≡ opening_content script.shape lock) → IsRecord script (serial script)
@@ -256,5 +252,5 @@ serial_is_record script served opens = record {
   calls = calls_of script served opens;
   replies = all_answered script served;
   contents = leads_to script served opens;
-  finals = sound_end script served;
+  finals = elements_of_sound script.shape (lists_after script.shape (opening script.shape) script.calls) (sound_end script served);
 }

@@ -15,8 +15,8 @@ use Rattle.place_words.specs.Freelists.{without_top}
 use Rattle.place_words.specs.Histories.{Content, in_bucket, on_freelist, untold, content_after}
 use Rattle.place_words.specs.Traces.{Pops, ring, on_freelist_of, found_empty, after_turn, after_turns, AreAllowed, spare_after}
 use Rattle.place_words.proofs.Splits.{find_passes, find_splits}
-use Rattle.map_run.specs.Freelists.{stack_at, first_not_empty, popped_at}
-use Rattle.map_run.specs.Turns.{lies, pop_turns}
+use Rattle.map_report.specs.Freelists.{stack_at, first_not_empty, popped_at}
+use Rattle.map_report.specs.Turns.{lies, pop_turns}
 use Rattle.map_run.proofs.EachOnceSteps.{some_there, none_there, stack_within}
 use Rattle.map_run.proofs.TurnSteps.{after_more, allowed_more, spare_more, after_same, freelist_leaves}
 
@@ -63,7 +63,7 @@ after_empty shape cpu contents [] = refl
 after_empty shape cpu contents (owner ∷ owners) =
     ap (λ c. after_turns shape cpu c (found_empty owners)) (empty_stays shape cpu contents owner) ∙ after_empty shape cpu contents owners
 
-spare_empty : (spare : Option ℕ) (owners : List ℕ) → spare_after spare (found_empty owners) ≡ spare
+pub spare_empty : (spare : Option ℕ) (owners : List ℕ) → spare_after spare (found_empty owners) ≡ spare
 spare_empty spare [] = refl
 spare_empty spare (owner ∷ owners) = spare_empty spare owners
 

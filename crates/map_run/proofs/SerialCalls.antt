@@ -1,6 +1,6 @@
 -- A serial run over the shared table: what its pass knows before the first call, after one call more, and what the closed table
 -- leaves at the end.
-use Rattle.std.proofs.Common.{◌≡◌, ℕ, suc, ◌+◌, ◌<◌, true, false, not, cond, List, [], ◌∷◌, ◌++◌, length, get_or, map, take, Option, Some, None, option_map, slice_get, All, refl, ap, sym, ◌∙◌, subst, arith}
+use Rattle.std.proofs.Common.{◌≡◌, ℕ, suc, ◌+◌, ◌<◌, false, not, cond, List, [], ◌∷◌, ◌++◌, length, get_or, map, take, Option, Some, None, option_map, slice_get, All, refl, ap, sym, ◌∙◌, subst, arith}
 use Rattle.std.specs.Prelude.{IsTrue, filter}
 use Rattle.std.specs.List.{range_with_len}
 use Rattle.std.proofs.lemmas.Bool.{ne_eqb}
@@ -20,10 +20,9 @@ use Rattle.place_words.specs.declared.finals.Finals.{Finals}
 use Rattle.place_words.specs.declared.history.Strand.{Strand}
 use Rattle.place_words.specs.declared.history.StrandStep.{StrandStep}
 use Rattle.place_words.specs.Traces.{IsTrace, spare_after}
-use Rattle.place_core.proofs.ElementLemmas.{by_test}
 use Rattle.place_table.specs.declared.view.Turned.{Turned}
 use Rattle.place_table.specs.declared.view.View.{View}
-use Rattle.place_table.specs.Closing.{ClosedView, IsClosed, strands_of}
+use Rattle.place_table.specs.Closing.{ClosedView, IsClosed}
 use Rattle.place_table.specs.Known.{turn_of}
 use Rattle.place_table.specs.Opening.{first_spares}
 use Rattle.place_table.specs.Passes.{PassView, TableView, spare_of, begun, Goes, IsFirstPass, IsInNoCall, IsKeptOf}
@@ -31,19 +30,21 @@ use Rattle.place_table.specs.Views.{is_among}
 use Rattle.place_table.proofs.Gives.{first_has}
 use Rattle.place_table.proofs.Going.{goes_of_table, kept_on}
 use Rattle.hash_ops.specs.Calls.{Called, element_of, spare_element}
-use Rattle.map_run.specs.declared.record.RunRecord.{RunRecord}
+use Rattle.map_report.specs.declared.record.RunRecord.{RunRecord}
 use Rattle.map_run.specs.Going.{Going, HaveRun, IsBetweenCalls}
-use Rattle.map_run.specs.Record.{has_step, IsCopyOf}
-use Rattle.map_run.specs.Runs.{serial, record_left, strand_left}
-use Rattle.map_run.specs.Serial.{opening, after_call, replies_from, lists_after}
+use Rattle.map_run.specs.Copies.{has_step, IsCopyOf}
+use Rattle.map_report.specs.Runs.{serial}
+use Rattle.map_run.specs.Copies.{record_left, strand_left}
+use Rattle.map_report.specs.Serial.{opening, after_call, replies_from, lists_after}
 use Rattle.map_run.specs.Served.{is_built_kind, IsServed, IsServedCall}
-use Rattle.map_run.specs.Soundness.{IsSound}
-use Rattle.map_run.specs.Turns.{Happened, happened, call_turns, turns_from, histories_of_turns, steps_from, strand_of_turns}
+use Rattle.map_report.specs.Soundness.{IsSound}
+use Rattle.map_report.specs.Turns.{Happened, happened, call_turns, turns_from, histories_of_turns, steps_from, strand_of_turns}
 use Rattle.map_run.proofs.Closing.{left_by}
 use Rattle.map_run.proofs.OneCall.{going_on}
 use Rattle.map_run.proofs.OpeningTurns.{opening_lies, opening_spares_are, no_opening_spares}
 use Rattle.map_run.proofs.SerialRun.{going_first, lists_next, replies_next, turns_next}
 use Rattle.map_run.proofs.SoundRun.{sound_from_opening}
+use Rattle.map_run.proofs.Whole.{strands_of, strands_are_told, told_of_one, no_losses}
 
 -- A call begins
 
@@ -61,6 +62,7 @@ between_begun t p cpu number between = record {
   all_cpus = between.all_cpus;
   in_no_call = in_no_call_begun p cpu number between.in_no_call;
   bits = between.bits;
+  ended = between.ended;
   kept = between.kept;
 }
 
@@ -87,12 +89,13 @@ between_more t p q steps lost between goes idle bits = record {
   all_cpus = λ cpu real. ap (is_among cpu) goes.cpus ∙ between.all_cpus cpu real;
   in_no_call = idle;
   bits = bits ∙ between.bits;
+  ended = goes.ended ∙ between.ended;
   kept = subst (λ (made : List Turned). IsKeptOf t.shape made [] q.view.kept) (sym goes.steps)
       (kept_on t.shape p.view.steps steps [] p.view.kept q.view.kept between.kept
       (subst (λ (shape : Shape). IsKeptOf shape steps p.view.kept q.view.kept) between.of_table.1 goes.kept));
 }
 
-element_is : (spare : Option Stored) → element_of spare ≡ option_map (λ (body : Stored). body.element) spare
+pub element_is : (spare : Option Stored) → element_of spare ≡ option_map (λ (body : Stored). body.element) spare
 element_is None = refl
 element_is (Some body) = refl
 
@@ -168,6 +171,7 @@ run_first t p shape_is built first =
         all_cpus = λ cpu real. first_has t p cpu first real;
         in_no_call = first.in_no_call;
         bits = ap (λ (v : View). v.bits) view;
+        ended = ap (λ (v : View). v.ended) view;
         kept = subst (λ (v : View). IsKeptOf t.shape v.steps [] v.kept) (sym view) refl;
       };
       going = λ none. going_first t p first (opening_lies t.shape bounds built) (spares_open t.shape t.shape.kind bounds built refl);
@@ -175,14 +179,6 @@ run_first t p shape_is built first =
     }
 
 -- At the end
-
--- where no record is lost, the pass knew of none
-no_losses : (shape : Shape) (p : PassView) (closed : ClosedView) (lost : List ℕ) → p.view.lost ≡ lost → IsClosed shape p closed → closed.lost ≡ false → p.view.lost ≡ []
-no_losses shape p closed [] is ends whole = is
-no_losses shape p closed (k ∷ lost) is ends whole =
-    let there : is_among k (k ∷ lost) ≡ true = by_test k k (λ b. cond b true (is_among k lost) ≡ true) (λ _. refl) (λ other. absurd (other refl)) in
-    let told : closed.lost ≡ true = ends.losses k (ap (is_among k) is ∙ there) in
-    cc
 
 strand_is : (shape : Shape) (steps : List StrandStep) → strand_left shape.cpus (strands_of shape steps) ≡ record { cpus = range_with_len 0 shape.cpus; steps = steps }
 strand_is shape [] = refl
@@ -194,12 +190,14 @@ strands_there shape (step ∷ steps) =
     let strand : Strand = record { cpus = range_with_len 0 shape.cpus; steps = step ∷ steps } in
     ap (λ b. cond (not b) (strand ∷ []) []) (ne_eqb (suc (length steps)) 0 (λ is. omega arith))
 
-pub is_copy : (shape other : Shape) (p : PassView) (kept : RunRecord) (closed back : ClosedView) (replies : List Reply) → IsClosed shape p closed → shape ≡ other
-    → (kept ≡ record_left other.cpus replies closed) × (back ≡ closed) × (closed.lost ≡ false) → IsCopyOf kept back
-is_copy shape other p kept closed back replies ends same is =
-    let copy : IsCopyOf (record_left shape.cpus replies closed) closed = record {
+pub is_copy : (t : TableView) (shape : Shape) (calls : List Call) (p : PassView) (kept : RunRecord) (closed back : ClosedView) (replies : List Reply) → t.shape ≡ shape → IsShape t.shape → HaveRun t calls p replies → IsClosed t.shape p closed
+    → (kept ≡ record_left shape.cpus replies closed) × (back ≡ closed) × (closed.lost ≡ false) → IsCopyOf kept back
+is_copy t shape calls p kept closed back replies same shape_is run ends is =
+    let told : closed.strands ≡ strands_of t.shape p.view.kept =
+    strands_are_told t.shape p closed ends is.2 (bounds_of_shape t.shape shape_is) ∙ told_of_one t.shape p.view run.between.ended run.between.all_cpus in
+    let copy : IsCopyOf (record_left t.shape.cpus replies closed) closed = record {
       histories = refl;
-      strands = subst (λ (strands : List Strand). filter has_step (strand_left shape.cpus strands ∷ []) ≡ strands) (sym ends.left.strands_are) (strands_there shape p.view.kept);
+      strands = subst (λ (strands : List Strand). filter has_step (strand_left t.shape.cpus strands ∷ []) ≡ strands) (sym told) (strands_there t.shape p.view.kept);
       finals = refl;
       whole = is.2;
     } in
@@ -223,8 +221,8 @@ all_ran t calls p closed replies shape_is built served run ends whole =
     let lists : Finals = lists_after t.shape (opening t.shape) calls in
     let turns : List Happened = turns_from t.shape (opening t.shape) 1 calls in
     let bounds = bounds_of_shape t.shape shape_is in
-    let none = no_losses t.shape p closed p.view.lost refl ends whole in
-    let left = left_by t.shape lists turns p closed bounds built (sound_from_opening t.shape calls bounds built served) (run.going none) ends whole run.between.bits run.between.kept in
+    let none = no_losses t.shape p closed ends whole in
+    let left = left_by t.shape lists turns p closed bounds built (sound_from_opening t.shape calls bounds built served) (run.going none) ends whole run.between.bits run.between.ended run.between.all_cpus run.between.kept in
     let strand : strand_left t.shape.cpus closed.strands ≡ strand_of_turns t.shape turns = ap (strand_left t.shape.cpus) left.strands ∙ strand_is t.shape (steps_from [] turns) in
     λ i. record { replies = run.answered none i; histories = left.histories i; strands = strand i ∷ []; finals = left.finals i }
 

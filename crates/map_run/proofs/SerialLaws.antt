@@ -14,9 +14,9 @@ use Rattle.place_words.specs.Histories.{opening_content}
 use Rattle.place_words.specs.Locks.{is_lock}
 use Rattle.map_run.specs.Entries.{Entry, entry_of}
 use Rattle.map_run.specs.Laws.{lists_before, entries_before, Sees, FindsNoRoom, SerialLaws}
-use Rattle.map_run.specs.Serial.{opening, bucket_at}
+use Rattle.map_report.specs.Serial.{opening, bucket_at}
 use Rattle.map_run.specs.Served.{IsServed}
-use Rattle.map_run.specs.Turns.{lies}
+use Rattle.map_report.specs.Turns.{lies}
 use Rattle.map_run.proofs.RecordLaws.{calls_served, plain_replies, serial_is_record}
 use Rattle.map_run.proofs.SoundRun.{sound_run}
 use Rattle.map_run.proofs.StayLaws.{finals_are, lookups_stay, refusals_stay}

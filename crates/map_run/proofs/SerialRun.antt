@@ -27,8 +27,8 @@ use Rattle.place_table.proofs.FirstSpares.{hand_is_spares, spare_in_hand}
 use Rattle.place_table.proofs.Opens.{among}
 use Rattle.place_table.proofs.Worlds.{all_here}
 use Rattle.map_run.specs.Going.{Going}
-use Rattle.map_run.specs.Serial.{opening, after_call, replies_from, lists_after}
-use Rattle.map_run.specs.Turns.{Happened, happened, lies, call_turns, turns_from}
+use Rattle.map_report.specs.Serial.{opening, after_call, replies_from, lists_after}
+use Rattle.map_report.specs.Turns.{Happened, happened, lies, call_turns, turns_from}
 
 -- One call more
 

@@ -8,9 +8,9 @@ use Rattle.map_types.specs.declared.call.Call.{Call}
 use Rattle.map_script.specs.declared.script.Script.{Script}
 use Rattle.place_words.specs.declared.finals.Finals.{Finals}
 use Rattle.map_run.specs.Laws.{lists_before}
-use Rattle.map_run.specs.Serial.{opening, after_call, lists_after}
+use Rattle.map_report.specs.Serial.{opening, after_call, lists_after}
 use Rattle.map_run.specs.Served.{is_built_kind, IsServedCall, IsServed}
-use Rattle.map_run.specs.Soundness.{IsSound}
+use Rattle.map_report.specs.Soundness.{IsSound}
 use Rattle.map_run.proofs.BucketLaws.{buckets_opening, buckets_step}
 use Rattle.map_run.proofs.EachOnceOpening.{each_once_opening}
 use Rattle.map_run.proofs.EachOnceRun.{each_once_step}

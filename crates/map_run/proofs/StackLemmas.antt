@@ -11,7 +11,7 @@ use Rattle.std.proofs.lemmas.List.{get_or-map, length-append, length-map, length
 use Rattle.std.proofs.lemmas.List.Folds.{find-append, concat-append}
 use Rattle.std.proofs.lemmas.List.FromFn.{length-map-range_with_len, length-range_with_len, map-range_with_len_more}
 use Rattle.place_words.specs.Shares.{share_first, share_count}
-use Rattle.map_run.specs.Freelists.{opening_stack, opening_stacks, stack_at, first_not_empty, popped_at, popped, pushed, spares_popped}
+use Rattle.map_report.specs.Freelists.{opening_stack, opening_stacks, stack_at, first_not_empty, popped_at, popped, pushed, spares_popped}
 use Rattle.map_run.specs.Plain.{stacks_of}
 
 -- ---- what is found

@@ -16,10 +16,10 @@ use Rattle.map_types.specs.declared.reply.Reply.TheVariants.{Done, Refused}
 use Rattle.map_script.specs.declared.script.Script.{Script}
 use Rattle.place_words.specs.declared.finals.Finals.{Finals}
 use Rattle.place_words.specs.Bodies.{present}
-use Rattle.map_run.specs.Freelists.{popped}
+use Rattle.map_report.specs.Freelists.{popped}
 use Rattle.map_run.specs.Laws.{IsLookup, lists_before}
-use Rattle.map_run.specs.Serial.{opening, bucket_at, value_or_absent, added, updated, deleted, after_call, replies_from, lists_after}
-use Rattle.map_run.specs.Runs.{serial}
+use Rattle.map_report.specs.Serial.{opening, bucket_at, value_or_absent, added, updated, deleted, after_call, replies_from, lists_after}
+use Rattle.map_report.specs.Runs.{serial}
 
 -- a call that is refused leaves the lists
 abbrev Stays : Errno → Finals → Finals × Reply → Type 0

@@ -49,10 +49,10 @@ freelist_there LruHash cpu cpus built within = cc
 freelist_there LruPercpuHash cpu cpus built within = cc
 
 -- the CPUs of a ring
-abbrev AllBelow : ℕ → List ℕ → Type 0
+abbrev pub AllBelow : ℕ → List ℕ → Type 0
 AllBelow bound xs = AllByRecursion (λ x. x < bound) xs
 
-range_below : (bound start count : ℕ) → start + count ≤ bound → AllBelow bound (range_with_len start count)
+pub range_below : (bound start count : ℕ) → start + count ≤ bound → AllBelow bound (range_with_len start count)
 range_below bound start zero fits = tt
 range_below bound start (suc count) fits = (omega arith, range_below bound (start + 1) count (omega arith))
 

@@ -1,144 +1,245 @@
--- The words that pass are those in which the mode stands once and the option at most once.
-use Rattle.std.proofs.Common.{◌≡◌, ◌<◌, ◌∙◌, ◌+◌, ◌==◌, ◌&&◌, ◌||◌, refl, sym, ap₂, arith, subst, ℕ, Bool, true, false, cond, codes, nat_le, count_by, List, [], ◌∷◌}
+-- Words in which the mode stands once and each option at most once, read word by word.
+use Rattle.std.proofs.Common.{◌≡◌, ◌<◌, ◌∙◌, ⊎_elim, ◌+◌, ◌==◌, ◌&&◌, ◌||◌, not, refl, ap, ap₂, arith, subst, ℕ, Bool, true, false, cond, codes, nat_le, count_by, List, [], ◌∷◌}
 use Rattle.std.specs.List.{list_all, after_first, before_first}
 use Rattle.std.proofs.Math.Bool.{and-false}
 use Rattle.std.proofs.lemmas.Bool.Decides.{nat_tests}
 use Rattle.std.proofs.lemmas.List.Sums.{sum_by-cons}
 use Rattle.clap.specs.Walk.{Text}
-use Rattle.map_run.specs.Words.{are_arguments, is_mode, is_dump, is_end_of_options}
-use Rattle.map_run.proofs.WordLemmasShapes.{before-cons_no, before-cons_yes, after-cons_no, after-cons_yes}
-use Rattle.map_run.proofs.WordLemmasWalk.{is_dashes, is_option, is_serial, reads, reads_behind, reads_dump, reads_end, reads_mode, reads_none, reads_other}
+use Rattle.map_run.specs.Words.{are_arguments, is_end_of_options, is_mode, is_option, mode_word}
+use Rattle.map_run.specs.declared.words.Mode.{Mode}
+use Rattle.map_run.specs.declared.words.Mode.TheVariants.{Serial, Race}
+use Rattle.map_run.proofs.WordLemmasCommand.{Flag, history, dump, json, flag_is, flag_word, flags_apart, is_flag}
+use Rattle.map_run.proofs.WordLemmasRows.{with_flag}
+use Rattle.map_run.proofs.WordLemmasShapes.{after-cons_no, after-cons_yes, before-cons_no, before-cons_yes}
 
 abbrev one : Bool → ℕ
 one b = cond b 1 0
 
+-- each flag passes
+abbrev each : (Flag → Bool) → Bool
+each test = test history && (test dump && (test json && true))
+
 abbrev is_argument : Text → Bool
-is_argument word = is_mode word || is_dump word
+is_argument word = is_mode word || is_option word
 
-abbrev counts_pass : ℕ → ℕ → Bool
-counts_pass modes dumps = modes == 1 && nat_le dumps 1
+-- the mode comes to stand once, where one was met or none, and each option at most once
+abbrev counts_pass : Bool → (Flag → Bool) → List Text → Bool
+counts_pass m seen words = (one m + count_by is_mode words) == 1 && each (λ f. nat_le (one (seen f) + count_by (is_flag f) words) 1)
 
--- the words that may follow a mode and options that were met
-abbrev may_follow : Bool → Bool → List Text → Bool
-may_follow m d words = list_all is_argument (before_first is_end_of_options words) && list_all is_mode (after_first is_end_of_options words)
-    && counts_pass (one m + count_by is_mode words) (one d + count_by is_dump words)
+abbrev are_in_place : Bool → List Text → Bool
+are_in_place true words = list_all is_mode words
+are_in_place false words = list_all is_argument (before_first is_end_of_options words) && list_all is_mode (after_first is_end_of_options words)
 
-abbrev may_follow_behind : Bool → Bool → List Text → Bool
-may_follow_behind m d words = list_all is_mode words && counts_pass (one m + count_by is_mode words) (one d + count_by is_dump words)
+-- the words pass, where a mode or none and these options were met before them, and `--` was met or not
+unfoldable pub passes : Bool → (Flag → Bool) → Bool → List Text → Bool
+passes m seen behind words = are_in_place behind words && counts_pass m seen words
+
+-- ---- tests of flags
+
+each_is : (a b : Flag → Bool) → ((f : Flag) → a f ≡ b f) → each a ≡ each b
+each_is a b same = rw (same history, same dump, same json) refl
+
+each_passes : (test : Flag → Bool) → ((f : Flag) → test f ≡ true) → each test ≡ true
+each_passes test all = rw (all history, all dump, all json) refl
+
+each_fails : (test : Flag → Bool) (f : Flag) → test f ≡ false → each test ≡ false
+each_fails test history e = rw e refl
+each_fails test dump e = rw e (and-false (test history))
+each_fails test json e = rw (e, and-false (test dump)) (and-false (test history))
+
+-- ---- counts
 
 counted : (p : Text → Bool) (word : Text) (words : List Text) → count_by p (word ∷ words) ≡ one (p word) + count_by p words
 counted p word words = sum_by-cons (λ w. one (p w)) word words
 
-two_modes : (modes dumps : ℕ) → 1 < modes → counts_pass modes dumps ≡ false
-two_modes modes dumps h = let no : (modes == 1) ≡ false = grind (arith, nat_tests) in rw no refl
+same_counts : (m after : Bool) (seen now : Flag → Bool) (words left : List Text) → one m + count_by is_mode words ≡ one after + count_by is_mode left
+    → ((f : Flag) → one (seen f) + count_by (is_flag f) words ≡ one (now f) + count_by (is_flag f) left) → counts_pass m seen words ≡ counts_pass after now left
+same_counts m after seen now words left modes flags =
+    ap₂ (λ (n : ℕ) (b : Bool). n == 1 && b) modes
+    (each_is (λ f. nat_le (one (seen f) + count_by (is_flag f) words) 1) (λ f. nat_le (one (now f) + count_by (is_flag f) left) 1) (λ f. ap (λ n. nat_le n 1) (flags f)))
 
-two_dumps : (modes dumps : ℕ) → 1 < dumps → counts_pass modes dumps ≡ false
-two_dumps modes dumps h = let no : nat_le dumps 1 ≡ false = grind (arith, nat_tests) in rw no (and-false (modes == 1))
+two_modes : (n : ℕ) → 1 < n → (n == 1) ≡ false
+two_modes n h = grind (arith, nat_tests)
 
-both_false : (a b c : Bool) → c ≡ false → (a && b && c) ≡ false
-both_false true true c e = e
-both_false true false c e = refl
-both_false false b c e = refl
+two_uses : (n : ℕ) → 1 < n → nat_le n 1 ≡ false
+two_uses n h = grind (arith, nat_tests)
 
-regroup : (a b c : Bool) → (a && (b && c)) ≡ (a && b && c)
-regroup true b c = refl
-regroup false b c = refl
-
--- ---- behind `--`
-
-mode_behind : (m d : Bool) (words : List Text) → ((m d : Bool) → reads m d true words ≡ may_follow_behind m d words) → reads m d true (codes "serial" ∷ words) ≡ may_follow_behind m d (codes "serial" ∷ words)
-mode_behind false d words h =
-    let modes : 1 + count_by is_mode words ≡ 0 + count_by is_mode (codes "serial" ∷ words) = omega (arith, counted is_mode (codes "serial") words) in
-    let dumps : one d + count_by is_dump words ≡ one d + count_by is_dump (codes "serial" ∷ words) = omega (arith, counted is_dump (codes "serial") words) in
-    reads_mode false d (codes "serial") words true refl ∙ h true d ∙ ap₂ (λ (x y : ℕ). list_all is_mode words && counts_pass x y) modes dumps
-mode_behind true d words h =
-    let two : 1 < 1 + count_by is_mode (codes "serial" ∷ words) = omega (arith, counted is_mode (codes "serial") words) in
-    reads_mode true d (codes "serial") words true refl ∙ sym (both_false true (list_all is_mode words) _ (two_modes _ _ two))
-
-reads_on_behind : (words : List Text) (m d : Bool) → reads m d true words ≡ may_follow_behind m d words
-reads_on_behind [] false d = reads_none false d true
-reads_on_behind [] true false = reads_none true false true
-reads_on_behind [] true true = reads_none true true true
-reads_on_behind (word ∷ words) m d = by_mode (is_mode word) refl (reads_on_behind words)
+-- a word that is neither a mode nor an option
+other_counts : (m : Bool) (seen : Flag → Bool) (word : Text) (words : List Text) → is_mode word ≡ false → ((f : Flag) → is_flag f word ≡ false)
+    → counts_pass m seen (word ∷ words) ≡ counts_pass m seen words
+other_counts m seen word words no_mode no_flag = same_counts m m seen seen (word ∷ words) words (by_test is_mode no_mode (one m)) (λ f. by_test (is_flag f) (no_flag f) (one (seen f)))
   where
-    by_mode : (b : Bool) → is_mode word ≡ b → ((m d : Bool) → reads m d true words ≡ may_follow_behind m d words) → reads m d true (word ∷ words) ≡ may_follow_behind m d (word ∷ words)
-    by_mode true e h = subst (λ w. reads m d true (w ∷ words) ≡ may_follow_behind m d (w ∷ words)) (is_serial word e) (mode_behind m d words h)
-    by_mode false e h = reads_behind m d word words e ∙ rw e refl
+    by_test : (p : Text → Bool) → p word ≡ false → (n : ℕ) → n + count_by p (word ∷ words) ≡ n + count_by p words
+    by_test p e n =
+        let more : count_by p (word ∷ words) ≡ one false + count_by p words = counted p word words ∙ ap (λ b. one b + count_by p words) e in
+        omega (arith, more)
 
--- ---- before it
+mode_is : (m : Mode) → is_mode (mode_word m) ≡ true
+mode_is Serial = refl
+mode_is Race = refl
 
-front : (m d : Bool) (word : Text) (words : List Text) → is_end_of_options word ≡ false
-    → may_follow m d (word ∷ words) ≡ ((is_argument word && list_all is_argument (before_first is_end_of_options words)) && list_all is_mode (after_first is_end_of_options words)
-    && counts_pass (one m + (one (is_mode word) + count_by is_mode words)) (one d + (one (is_dump word) + count_by is_dump words)))
-front m d word words e =
-    ap₂ (λ (before after : List Text). list_all is_argument before && list_all is_mode after && counts_pass (one m + count_by is_mode (word ∷ words)) (one d + count_by is_dump (word ∷ words)))
+pub mode_is_no_flag : (m : Mode) (f : Flag) → is_flag f (mode_word m) ≡ false
+mode_is_no_flag Serial history = refl
+mode_is_no_flag Serial dump = refl
+mode_is_no_flag Serial json = refl
+mode_is_no_flag Race history = refl
+mode_is_no_flag Race dump = refl
+mode_is_no_flag Race json = refl
+
+pub flag_is_no_mode : (f : Flag) → is_mode (flag_word f) ≡ false
+flag_is_no_mode history = refl
+flag_is_no_mode dump = refl
+flag_is_no_mode json = refl
+
+pub dashes_are_no_flag : (f : Flag) → is_flag f (codes "--") ≡ false
+dashes_are_no_flag history = refl
+dashes_are_no_flag dump = refl
+dashes_are_no_flag json = refl
+
+mode_counts : (m : Bool) (seen : Flag → Bool) (k : Mode) (words : List Text) → counts_pass m seen (mode_word k ∷ words) ≡ (not m && counts_pass true seen words)
+mode_counts m seen k words = go m
+  where
+    more : count_by is_mode (mode_word k ∷ words) ≡ 1 + count_by is_mode words
+    more = counted is_mode (mode_word k) words ∙ ap (λ b. one b + count_by is_mode words) (mode_is k)
+
+    uses : (f : Flag) → one (seen f) + count_by (is_flag f) (mode_word k ∷ words) ≡ one (seen f) + count_by (is_flag f) words
+    uses f =
+        let same : count_by (is_flag f) (mode_word k ∷ words) ≡ 0 + count_by (is_flag f) words =
+        counted (is_flag f) (mode_word k) words ∙ ap (λ b. one b + count_by (is_flag f) words) (mode_is_no_flag k f) in
+        omega (arith, same)
+
+    go : (m : Bool) → counts_pass m seen (mode_word k ∷ words) ≡ (not m && counts_pass true seen words)
+    go false = same_counts false true seen seen (mode_word k ∷ words) words (omega (arith, more)) uses
+    go true = ap (λ b. b && each (λ f. nat_le (one (seen f) + count_by (is_flag f) (mode_word k ∷ words)) 1)) (two_modes (1 + count_by is_mode (mode_word k ∷ words)) (omega (arith, more)))
+
+flag_counts : (m : Bool) (seen : Flag → Bool) (f : Flag) (words : List Text) → counts_pass m seen (flag_word f ∷ words) ≡ (not (seen f) && counts_pass m (with_flag f seen) words)
+flag_counts m seen f words = go (seen f) refl
+  where
+    modes : one m + count_by is_mode (flag_word f ∷ words) ≡ one m + count_by is_mode words
+    modes =
+        let same : count_by is_mode (flag_word f ∷ words) ≡ 0 + count_by is_mode words =
+        counted is_mode (flag_word f) words ∙ ap (λ b. one b + count_by is_mode words) (flag_is_no_mode f) in
+        omega (arith, same)
+
+    more : count_by (is_flag f) (flag_word f ∷ words) ≡ 1 + count_by (is_flag f) words
+    more = counted (is_flag f) (flag_word f) words ∙ ap (λ b. one b + count_by (is_flag f) words) (flag_is f)
+
+    Used : Flag → Type 0
+    Used g = one (seen g) + count_by (is_flag g) (flag_word f ∷ words) ≡ one (with_flag f seen g) + count_by (is_flag g) words
+
+    itself : seen f ≡ false → Used f
+    itself e =
+        let before : one (seen f) ≡ 0 = ap one e in
+        let after : one (with_flag f seen f) ≡ 1 = ap (λ b. one (b || seen f)) (flag_is f) in
+        omega (arith, more, before, after)
+
+    apart : (g : Flag) → is_flag g (flag_word f) ≡ false → Used g
+    apart g e =
+        let same : count_by (is_flag g) (flag_word f ∷ words) ≡ 0 + count_by (is_flag g) words =
+        counted (is_flag g) (flag_word f) words ∙ ap (λ b. one b + count_by (is_flag g) words) e in
+        let after : one (with_flag f seen g) ≡ one (seen g) = ap (λ b. one (b || seen g)) e in
+        omega (arith, same, after)
+
+    uses : seen f ≡ false → (g : Flag) → Used g
+    uses e g = ⊎_elim (λ is. subst Used is (itself e)) (λ other. apart g other.0) (flags_apart f g)
+
+    go : (b : Bool) → seen f ≡ b → counts_pass m seen (flag_word f ∷ words) ≡ (not b && counts_pass m (with_flag f seen) words)
+    go false e = same_counts m m seen (with_flag f seen) (flag_word f ∷ words) words modes (uses e)
+    go true e =
+        let before : one (seen f) ≡ 1 = ap one e in
+        let two : nat_le (one (seen f) + count_by (is_flag f) (flag_word f ∷ words)) 1 ≡ false = two_uses _ (omega (arith, more, before)) in
+        ap (λ b. (one m + count_by is_mode (flag_word f ∷ words)) == 1 && b) (each_fails (λ g. nat_le (one (seen g) + count_by (is_flag g) (flag_word f ∷ words)) 1) f two)
+        ∙ and-false ((one m + count_by is_mode (flag_word f ∷ words)) == 1)
+
+-- ---- where the words stand
+
+in_place_mode : (behind : Bool) (k : Mode) (words : List Text) → are_in_place behind (mode_word k ∷ words) ≡ are_in_place behind words
+in_place_mode true Serial words = refl
+in_place_mode true Race words = refl
+in_place_mode false Serial words =
+    ap₂ (λ (before after : List Text). list_all is_argument before && list_all is_mode after)
+    (before-cons_no is_end_of_options (codes "serial") words refl) (after-cons_no is_end_of_options (codes "serial") words refl)
+in_place_mode false Race words =
+    ap₂ (λ (before after : List Text). list_all is_argument before && list_all is_mode after)
+    (before-cons_no is_end_of_options (codes "race") words refl) (after-cons_no is_end_of_options (codes "race") words refl)
+
+in_place_open : (word : Text) (words : List Text) → is_end_of_options word ≡ false → are_in_place false (word ∷ words) ≡ (is_argument word && are_in_place false words)
+in_place_open word words e =
+    ap₂ (λ (before after : List Text). list_all is_argument before && list_all is_mode after)
     (before-cons_no is_end_of_options word words e) (after-cons_no is_end_of_options word words e)
-    ∙ ap₂ (λ (modes dumps : ℕ). (is_argument word && list_all is_argument (before_first is_end_of_options words)) && list_all is_mode (after_first is_end_of_options words)
-    && counts_pass (one m + modes) (one d + dumps))
-    (counted is_mode word words) (counted is_dump word words)
-
-abbrev Follows : List Text → Type 0
-Follows words = (m d : Bool) → reads m d false words ≡ may_follow m d words
-
-mode_front : (m d : Bool) (words : List Text) → Follows words → reads m d false (codes "serial" ∷ words) ≡ may_follow m d (codes "serial" ∷ words)
-mode_front false d words h =
-    let modes : 1 + count_by is_mode words ≡ 0 + (1 + count_by is_mode words) = omega arith in
-    let dumps : one d + count_by is_dump words ≡ one d + (0 + count_by is_dump words) = omega arith in
-    reads_mode false d (codes "serial") words false refl ∙ h true d
-    ∙ ap₂ (λ (x y : ℕ). list_all is_argument (before_first is_end_of_options words) && list_all is_mode (after_first is_end_of_options words) && counts_pass x y) modes dumps
-    ∙ sym (front false d (codes "serial") words refl)
-mode_front true d words h =
-    let two : 1 < 1 + (1 + count_by is_mode words) = omega arith in
-    reads_mode true d (codes "serial") words false refl
-    ∙ sym (both_false (list_all is_argument (before_first is_end_of_options words)) (list_all is_mode (after_first is_end_of_options words)) _ (two_modes _ (one d + (0 + count_by is_dump words)) two))
-    ∙ sym (front true d (codes "serial") words refl)
-
-dump_front : (m d : Bool) (words : List Text) → Follows words → reads m d false (codes "--dump" ∷ words) ≡ may_follow m d (codes "--dump" ∷ words)
-dump_front m false words h =
-    let modes : one m + count_by is_mode words ≡ one m + (0 + count_by is_mode words) = omega arith in
-    let dumps : 1 + count_by is_dump words ≡ 0 + (1 + count_by is_dump words) = omega arith in
-    reads_dump m false (codes "--dump") words refl refl ∙ h m true
-    ∙ ap₂ (λ (x y : ℕ). list_all is_argument (before_first is_end_of_options words) && list_all is_mode (after_first is_end_of_options words) && counts_pass x y) modes dumps
-    ∙ sym (front m false (codes "--dump") words refl)
-dump_front m true words h =
-    let two : 1 < 1 + (1 + count_by is_dump words) = omega arith in
-    reads_dump m true (codes "--dump") words refl refl
-    ∙ sym (both_false (list_all is_argument (before_first is_end_of_options words)) (list_all is_mode (after_first is_end_of_options words)) _ (two_dumps (one m + (0 + count_by is_mode words)) _ two))
-    ∙ sym (front m true (codes "--dump") words refl)
-
-end_front : (m d : Bool) (words : List Text) → reads m d false (codes "--" ∷ words) ≡ may_follow m d (codes "--" ∷ words)
-end_front m d words =
-    let modes : one m + count_by is_mode words ≡ one m + count_by is_mode (codes "--" ∷ words) = omega (arith, counted is_mode (codes "--") words) in
-    let dumps : one d + count_by is_dump words ≡ one d + count_by is_dump (codes "--" ∷ words) = omega (arith, counted is_dump (codes "--") words) in
-    reads_end m d (codes "--") words refl refl refl ∙ reads_on_behind words m d ∙ ap₂ (λ (x y : ℕ). list_all is_mode words && counts_pass x y) modes dumps
-    ∙ ap₂ (λ (before after : List Text). list_all is_argument before && list_all is_mode after && counts_pass (one m + count_by is_mode (codes "--" ∷ words)) (one d + count_by is_dump (codes "--" ∷ words)))
-    (sym (before-cons_yes is_end_of_options (codes "--") words refl)) (sym (after-cons_yes is_end_of_options (codes "--") words refl))
-
-other_front : (m d : Bool) (word : Text) (words : List Text) → is_mode word ≡ false → is_dump word ≡ false → is_end_of_options word ≡ false → reads m d false (word ∷ words) ≡ may_follow m d (word ∷ words)
-other_front m d word words e f g = reads_other m d word words e f g ∙ rw (e, f) refl ∙ sym (front m d word words g)
-
-reads_on : (words : List Text) → Follows words
-reads_on [] false d = reads_none false d false
-reads_on [] true false = reads_none true false false
-reads_on [] true true = reads_none true true false
-reads_on (word ∷ words) m d = by_mode (is_mode word) refl (reads_on words)
+    ∙ regroup (is_argument word) (list_all is_argument (before_first is_end_of_options words)) (list_all is_mode (after_first is_end_of_options words))
   where
-    by_end : (b : Bool) → is_end_of_options word ≡ b → is_dump word ≡ false → is_mode word ≡ false → reads m d false (word ∷ words) ≡ may_follow m d (word ∷ words)
-    by_end true g f e = subst (λ w. reads m d false (w ∷ words) ≡ may_follow m d (w ∷ words)) (is_dashes word g) (end_front m d words)
-    by_end false g f e = other_front m d word words e f g
+    regroup : (a b c : Bool) → (a && b && c) ≡ (a && (b && c))
+    regroup true b c = refl
+    regroup false b c = refl
 
-    by_dump : (b : Bool) → is_dump word ≡ b → is_mode word ≡ false → Follows words → reads m d false (word ∷ words) ≡ may_follow m d (word ∷ words)
-    by_dump true f e h = subst (λ w. reads m d false (w ∷ words) ≡ may_follow m d (w ∷ words)) (is_option word f) (dump_front m d words h)
-    by_dump false f e h = by_end (is_end_of_options word) refl f e
+in_place_flag : (f : Flag) (words : List Text) → are_in_place false (flag_word f ∷ words) ≡ are_in_place false words
+in_place_flag history words = in_place_open (codes "--history") words refl
+in_place_flag dump words = in_place_open (codes "--dump") words refl
+in_place_flag json words = in_place_open (codes "--json") words refl
 
-    by_mode : (b : Bool) → is_mode word ≡ b → Follows words → reads m d false (word ∷ words) ≡ may_follow m d (word ∷ words)
-    by_mode true e h = subst (λ w. reads m d false (w ∷ words) ≡ may_follow m d (w ∷ words)) (is_serial word e) (mode_front m d words h)
-    by_mode false e h = by_dump (is_dump word) refl e h
+in_place_end : (words : List Text) → are_in_place false (codes "--" ∷ words) ≡ are_in_place true words
+in_place_end words =
+    ap₂ (λ (before after : List Text). list_all is_argument before && list_all is_mode after)
+    (before-cons_yes is_end_of_options (codes "--") words refl) (after-cons_yes is_end_of_options (codes "--") words refl)
 
-pub reads_arguments : (words : List Text) → reads false false false words ≡ are_arguments words
-reads_arguments words =
-    let modes : 0 + count_by is_mode words ≡ count_by is_mode words = omega arith in
-    let dumps : 0 + count_by is_dump words ≡ count_by is_dump words = omega arith in
-    reads_on words false false
-    ∙ ap₂ (λ (x y : ℕ). list_all is_argument (before_first is_end_of_options words) && list_all is_mode (after_first is_end_of_options words) && counts_pass x y) modes dumps
-    ∙ regroup (list_all is_argument (before_first is_end_of_options words) && list_all is_mode (after_first is_end_of_options words)) (count_by is_mode words == 1) (nat_le (count_by is_dump words) 1)
+-- ---- word by word
+
+guard_first : (a b c : Bool) → (a && (b && c)) ≡ (b && (a && c))
+guard_first true b c = refl
+guard_first false true c = refl
+guard_first false false c = refl
+
+module _ (m : Bool) (seen : Flag → Bool) where
+  pub passes_none : (behind : Bool) → passes m seen behind [] ≡ m
+  unfolding passes
+  passes_none behind = rw (in_place behind, each_passes (λ f. nat_le (one (seen f) + 0) 1) (λ f. few (seen f))) (once m)
+    where
+      in_place : (behind : Bool) → are_in_place behind [] ≡ true
+      in_place true = refl
+      in_place false = refl
+
+      few : (b : Bool) → nat_le (one b + 0) 1 ≡ true
+      few true = refl
+      few false = refl
+
+      once : (m : Bool) → (true && ((one m + 0) == 1 && true)) ≡ m
+      once true = refl
+      once false = refl
+
+  module _ (words : List Text) where
+    pub passes_mode : (behind : Bool) (k : Mode) → passes m seen behind (mode_word k ∷ words) ≡ (not m && passes true seen behind words)
+    unfolding passes
+    passes_mode behind k = ap₂ ◌&&◌ (in_place_mode behind k words) (mode_counts m seen k words) ∙ guard_first (are_in_place behind words) (not m) (counts_pass true seen words)
+
+    pub passes_flag : (f : Flag) → passes m seen false (flag_word f ∷ words) ≡ (not (seen f) && passes m (with_flag f seen) false words)
+    unfolding passes
+    passes_flag f = ap₂ ◌&&◌ (in_place_flag f words) (flag_counts m seen f words) ∙ guard_first (are_in_place false words) (not (seen f)) (counts_pass m (with_flag f seen) words)
+
+    pub passes_end : passes m seen false (codes "--" ∷ words) ≡ passes m seen true words
+    unfolding passes
+    passes_end = ap₂ ◌&&◌ (in_place_end words) (other_counts m seen (codes "--") words refl dashes_are_no_flag)
+
+    pub passes_behind : (word : Text) → is_mode word ≡ false → passes m seen true (word ∷ words) ≡ false
+    unfolding passes
+    passes_behind word e = ap (λ b. (b && list_all is_mode words) && counts_pass m seen (word ∷ words)) e
+
+    pub passes_other : (word : Text) → is_mode word ≡ false → is_option word ≡ false → is_end_of_options word ≡ false → passes m seen false (word ∷ words) ≡ false
+    unfolding passes
+    passes_other word no_mode no_option no_end =
+        ap (λ b. b && counts_pass m seen (word ∷ words)) (in_place_open word words no_end ∙ ap₂ (λ (a b : Bool). (a || b) && are_in_place false words) no_mode no_option)
+
+abbrev pub no_flags : Flag → Bool
+no_flags f = false
+
+pub passes_arguments : (words : List Text) → passes false no_flags false words ≡ are_arguments words
+unfolding passes
+passes_arguments words =
+    let none : (p : Text → Bool) → 0 + count_by p words ≡ count_by p words = λ p. omega arith in
+    ap₂ (λ (n : ℕ) (b : Bool). are_in_place false words && (n == 1 && b)) (none is_mode)
+    (each_is (λ f. nat_le (0 + count_by (is_flag f) words) 1) (λ f. nat_le (count_by (is_flag f) words) 1) (λ f. ap (λ n. nat_le n 1) (none (is_flag f))))
+    ∙ regroup (are_in_place false words) (count_by is_mode words == 1) (each (λ f. nat_le (count_by (is_flag f) words) 1))
+  where
+    regroup : (a b c : Bool) → (a && (b && c)) ≡ (a && b && c)
+    regroup true b c = refl
+    regroup false b c = refl

@@ -1,5 +1,5 @@
 -- What a word looks like to the command.
-use Rattle.std.proofs.Common.{◌≡◌, ◌==◌, ◌∙◌, ◌+◌, ◌⊎◌, inl, inr, refl, sym, ap, arith, ℕ, suc, Bool, true, false, true≢false, not, codes, List, [], ◌∷◌, take, drop, Option, Some, None, cond}
+use Rattle.std.proofs.Common.{◌≡◌, ◌==◌, ◌∙◌, ◌+◌, ◌⊎◌, inl, inr, ⊎_elim, refl, sym, ap, arith, ℕ, suc, Bool, true, false, true≢false, not, codes, List, [], ◌∷◌, take, drop, Option, Some, None, cond}
 use Rattle.std.specs.Prelude.{chars, slice_get, option_and_then, if◌then◌else◌}
 use Rattle.std.specs.Str.{bytes_eq}
 use Rattle.std.specs.Option.{option_map_or}
@@ -10,9 +10,11 @@ use Rattle.clap.specs.Walk.{Row, Text, bundle_met, idle, long_or_other, short_or
 use Rattle.clap.specs.Faults.{bundle_fault, flags_fault, flag_word_fault, long_fault, word_fault}
 use Rattle.clap.specs.Lexer.{has_byte, long_of, long_of_rest, name_and_value, short_of, strip_byte}
 use Rattle.clap.specs.declared.builder.value_parser.ValueParser.{ValueParser}
-use Rattle.map_run.specs.Words.{is_dump, is_end_of_options}
-use Rattle.map_run.proofs.WordLemmasCommand.{held_by, rules, shape, none}
-use Rattle.map_run.proofs.WordLemmasTurns.{IsValue, IsRefused, Waits}
+use Rattle.map_run.specs.Words.{is_end_of_options, is_option, mode_word}
+use Rattle.map_run.specs.declared.words.Mode.{Mode}
+use Rattle.map_run.specs.declared.words.Mode.TheVariants.{Serial, Race}
+use Rattle.map_run.proofs.WordLemmasCommand.{Flag, history, dump, json, Waits, built_flag, flag_name, flag_word, held_by, none, rules, shape}
+use Rattle.map_run.proofs.WordLemmasTurns.{IsValue, IsRefused}
 
 -- ---- cutting at the first element that passes
 
@@ -79,10 +81,36 @@ long_alone word name e = go (strip_byte 45 word) refl e
     go None one e = absurd (none≢some _ e)
     go (Some rest) one e = stripped 45 word rest one ∙ ap (λ r. 45 ∷ r) (further rest (strip_byte 45 rest) refl e)
 
-dump_alone : (word : Text) (name : Text) → long_of word ≡ Some (name, None) → bytes_eq (codes "dump") name ≡ true → is_dump word ≡ true
-dump_alone word name e same =
-    let at : codes "dump" ≡ name = (bytes_eq-Decides (codes "dump") name).0 same in
-    (bytes_eq-Decides word (codes "--dump")).1 (long_alone word name e ∙ ap (λ n. 45 ∷ 45 ∷ n) (sym at))
+-- an option's word is one
+option_word : (f : Flag) → is_option (flag_word f) ≡ true
+option_word history = refl
+option_word dump = refl
+option_word json = refl
+
+flag_alone : (word : Text) (f : Flag) → long_of word ≡ Some (flag_name f, None) → is_option word ≡ true
+flag_alone word f e = ap is_option (long_alone word (flag_name f) e) ∙ option_word f
+
+-- an option of the command by its long name
+by_long_name : (p : ValueParser) (name : Text) → ((f : Flag) × ((flag_name f ≡ name) × (arg_by_long (rules p) name ≡ Some (built_flag f)))) ⊎ (arg_by_long (rules p) name ≡ None)
+by_long_name p name = by_history (bytes_eq (codes "history") name) refl
+  where
+    at : (f : Flag) → bytes_eq (flag_name f) name ≡ true → flag_name f ≡ name
+    at f e = (bytes_eq-Decides (flag_name f) name).0 e
+
+    Named : Type 0
+    Named = ((f : Flag) × ((flag_name f ≡ name) × (arg_by_long (rules p) name ≡ Some (built_flag f)))) ⊎ (arg_by_long (rules p) name ≡ None)
+
+    by_json : (b : Bool) → bytes_eq (codes "json") name ≡ b → bytes_eq (codes "history") name ≡ false → bytes_eq (codes "dump") name ≡ false → Named
+    by_json true e h d = inl (json, (at json e, rw (h, d, e) refl))
+    by_json false e h d = inr (rw (h, d, e) refl)
+
+    by_dump : (b : Bool) → bytes_eq (codes "dump") name ≡ b → bytes_eq (codes "history") name ≡ false → Named
+    by_dump true e h = inl (dump, (at dump e, rw (h, e) refl))
+    by_dump false e h = by_json (bytes_eq (codes "json") name) refl h e
+
+    by_history : (b : Bool) → bytes_eq (codes "history") name ≡ b → Named
+    by_history true e = inl (history, (at history e, rw e refl))
+    by_history false e = by_dump (bytes_eq (codes "dump") name) refl e
 
 -- ---- a word before `--` is refused or is a value
 
@@ -95,14 +123,21 @@ module _ (p : ValueParser) (word : Text) (open_word : is_end_of_options word ≡
   met_is rows waits position =
       ap (λ b. if b then (held_by rows waits, trailing position) else long_or_other (rules p) idle word (long_of word) (held_by rows waits)) open_word
 
-  long_refused : (name : Text) (v : Option Text) → long_of word ≡ Some (name, v) → is_dump word ≡ false → IsRefused p word
-  long_refused name v long other rows waits = ap none (fault_is rows waits ∙ ap (λ o. flag_word_fault (rules p) false o word (held_by rows waits)) long) ∙ go (bytes_eq (codes "dump") name) refl v long
+  long_refused : (name : Text) (v : Option Text) → long_of word ≡ Some (name, v) → is_option word ≡ false → IsRefused p word
+  long_refused name v long other rows waits =
+      ap none (fault_is rows waits ∙ ap (λ o. flag_word_fault (rules p) false o word (held_by rows waits)) long)
+      ∙ ⊎_elim (λ named. at_flag named.0 v named.1.1 (long ∙ ap (λ n. Some (n, v)) (sym named.1.0))) at_none (by_long_name p name)
     where
-      go : (b : Bool) → bytes_eq (codes "dump") name ≡ b → (v : Option Text) → long_of word ≡ Some (name, v)
+      at_none : arg_by_long (rules p) name ≡ None → none (long_fault (rules p) false (arg_by_long (rules p) name) v (held_by rows waits)) ≡ false
+      at_none e = ap (λ o. none (long_fault (rules p) false o v (held_by rows waits))) e
+
+      with_text : (f : Flag) (text : Text) → none (long_fault (rules p) false (Some (built_flag f)) (Some text) (held_by rows waits)) ≡ false
+      with_text f text = refl
+
+      at_flag : (f : Flag) (v : Option Text) → arg_by_long (rules p) name ≡ Some (built_flag f) → long_of word ≡ Some (flag_name f, v)
           → none (long_fault (rules p) false (arg_by_long (rules p) name) v (held_by rows waits)) ≡ false
-      go true same None long = absurd (true≢false (sym (dump_alone word name long same) ∙ other))
-      go true same (Some text) long = rw same refl
-      go false same v long = rw same refl
+      at_flag f None e long = absurd (true≢false (sym (flag_alone word f long) ∙ other))
+      at_flag f (Some text) e long = ap (λ o. none (long_fault (rules p) false o (Some text) (held_by rows waits))) e ∙ with_text f text
 
   -- a word that is no long option
   short_fault_is : long_of word ≡ None → (rows : List Row) (waits : Waits)
@@ -139,7 +174,7 @@ module _ (p : ValueParser) (word : Text) (open_word : is_end_of_options word ≡
   short_refused x y xs long short first rows waits =
       ap none (short_fault_is long rows waits ∙ ap (λ o. option_map_or (λ flags. bundle_fault (rules p) false flags (held_by rows waits)) o []) short) ∙ rw first refl
 
-  pub told_apart : is_dump word ≡ false → IsRefused p word ⊎ IsValue p false word
+  pub told_apart : is_option word ≡ false → IsRefused p word ⊎ IsValue p false word
   told_apart other = by_long (long_of word) refl
     where
       by_char : (x : ℕ) (xs : Text) (o : Option ℕ) → long_of word ≡ None → short_of word ≡ Some (x ∷ xs) → slice_get (chars (x ∷ xs)) 0 ≡ o → IsRefused p word ⊎ IsValue p false word
@@ -155,5 +190,6 @@ module _ (p : ValueParser) (word : Text) (open_word : is_end_of_options word ≡
       by_long None long = by_short (short_of word) long refl
       by_long (Some q) long = inl (long_refused q.0 q.1 long other)
 
-pub mode_is_value : (p : ValueParser) → IsValue p false (codes "serial")
-mode_is_value p rows waits = (λ position. refl, refl)
+pub mode_is_value : (p : ValueParser) (m : Mode) → IsValue p false (mode_word m)
+mode_is_value p Serial rows waits = (λ position. refl, refl)
+mode_is_value p Race rows waits = (λ position. refl, refl)

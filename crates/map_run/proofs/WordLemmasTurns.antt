@@ -1,14 +1,15 @@
 -- What each word does where the walk stands.
-use Rattle.std.proofs.Common.{◌≡◌, refl, ap, ap₂, ℕ, Bool, true, false, true≢false, codes, List, [], ◌∷◌, Option, Some, None}
-use Rattle.clap.specs.Walk.{Held, Row, Step, Text, after_step, idle, value, walked, word_met}
+use Rattle.std.proofs.Common.{◌≡◌, ◌∙◌, ◌++◌, refl, ap, ap₂, ℕ, Bool, true, false, true≢false, codes, List, [], ◌∷◌, None}
+use Rattle.clap.specs.Walk.{Held, Row, Step, Text, after_step, has_row, idle, settled, value, walked, with_values, without, word_met}
+use Rattle.clap.specs.Values.{reading_of}
 use Rattle.clap.specs.Kinds.{Kinds, or_else}
 use Rattle.clap.specs.Faults.{step_fault, turn_fault, word_fault}
 use Rattle.clap.specs.ValueTests.{accepts}
 use Rattle.clap.specs.declared.builder.value_parser.ValueParser.{ValueParser}
-use Rattle.map_run.proofs.WordLemmasCommand.{Stage, unread, met, past, walk_at, walk_by, held_by, dump_rows, rules, shape, none}
-
-abbrev pub Waits : Type 0
-Waits = Option (Text × List Text)
+use Rattle.clap.specs.declared.builder.value_parser.Reading.TheVariants as reading
+use Rattle.clap.specs.declared.parser.matches.ValueSource.TheVariants.{CommandLine}
+use Rattle.map_run.proofs.WordLemmasCommand.{Flag, history, dump, json, Waits, flag_name, flag_row, flag_word, for_mode, held_by, mode_row, none, rules, shape, walk_by}
+use Rattle.map_run.proofs.WordLemmasRows.{found, has_none, used_first}
 
 -- the word goes to a positional
 abbrev pub IsValue : ValueParser → Bool → Text → Type 0
@@ -20,7 +21,7 @@ IsValue p trailing word = (rows : List Row) (waits : Waits) →
 abbrev pub IsRefused : ValueParser → Text → Type 0
 IsRefused p word = (rows : List Row) (waits : Waits) → none (word_fault (shape p) [] false idle word (held_by rows waits)) ≡ false
 
-pub fails_first : (a b : Kinds) → none a ≡ false → none (or_else a b) ≡ false
+fails_first : (a b : Kinds) → none a ≡ false → none (or_else a b) ≡ false
 fails_first [] b h = absurd (true≢false h)
 fails_first (k ∷ ks) b h = refl
 
@@ -31,80 +32,121 @@ value_behind p word rows waits = (λ position. refl, refl)
 
 -- ---- a value
 
-value_fault : (p : ValueParser) (trailing : Bool) (word : Text) (rows : List Row) (waits : Waits) (position : ℕ) → IsValue p trailing word
-    → turn_fault (shape p) [] (walk_by (held_by rows waits) position trailing) word ≡ step_fault (shape p) position (held_by rows waits) value
-value_fault p trailing word rows waits position is =
-    ap₂ (λ (kinds : Kinds) (m : Held × Step). or_else kinds (step_fault (shape p) position m.0 m.1)) (is rows waits).1 ((is rows waits).0 position)
+module _ (p : ValueParser) (rows : List Row) (trailing : Bool) (word : Text) (is : IsValue p trailing word) where
+  value_fault : (waits : Waits) (position : ℕ) → turn_fault (shape p) [] (walk_by rows waits position trailing) word ≡ step_fault (shape p) position (held_by rows waits) value
+  value_fault waits position =
+      ap₂ (λ (kinds : Kinds) (m : Held × Step). or_else kinds (step_fault (shape p) position m.0 m.1)) (is rows waits).1 ((is rows waits).0 position)
 
-value_walk : (p : ValueParser) (trailing : Bool) (word : Text) (rows : List Row) (waits : Waits) (position : ℕ) → IsValue p trailing word
-    → walked (rules p) [] (walk_by (held_by rows waits) position trailing) word ≡ after_step (rules p) word (walk_by (held_by rows waits) position trailing) (held_by rows waits) value
-unfolding walked
-value_walk p trailing word rows waits position is =
-    ap (λ (m : Held × Step). after_step (rules p) word (walk_by (held_by rows waits) position trailing) m.0 m.1) ((is rows waits).0 position)
+  value_walk : (waits : Waits) (position : ℕ)
+      → walked (rules p) [] (walk_by rows waits position trailing) word ≡ after_step (rules p) word (walk_by rows waits position trailing) (held_by rows waits) value
+  unfolding walked
+  value_walk waits position =
+      ap (λ (m : Held × Step). after_step (rules p) word (walk_by rows waits position trailing) m.0 m.1) ((is rows waits).0 position)
 
-pub first_value_fault : (p : ValueParser) (d trailing : Bool) (word : Text) → IsValue p trailing word → turn_fault (shape p) [] (walk_at p (unread d) trailing) word ≡ []
-first_value_fault p d trailing word is = value_fault p trailing word (dump_rows d) None 1 is
+  pub first_value_fault : turn_fault (shape p) [] (walk_by rows None 1 trailing) word ≡ []
+  first_value_fault = value_fault None 1
 
-pub first_value_walk : (p : ValueParser) (d trailing : Bool) (word : Text) → IsValue p trailing word
-    → walked (rules p) [] (walk_at p (unread d) trailing) word ≡ walk_at p (met d word) trailing
-first_value_walk p d false word is = value_walk p false word (dump_rows d) None 1 is
-first_value_walk p d true word is = value_walk p true word (dump_rows d) None 1 is
+  pub second_value : (waits : Waits) → none (turn_fault (shape p) [] (walk_by rows waits 2 trailing) word) ≡ false
+  second_value waits = ap none (value_fault waits 2)
 
-pub second_value : (p : ValueParser) (d trailing : Bool) (first word : Text) → IsValue p trailing word → none (turn_fault (shape p) [] (walk_at p (met d first) trailing) word) ≡ false
-second_value p d trailing first word is = ap none (value_fault p trailing word (dump_rows d) (Some (codes "mode", first ∷ [])) 2 is)
-
-pub later_value : (p : ValueParser) (trailing : Bool) (first word : Text) → IsValue p trailing word → none (turn_fault (shape p) [] (walk_at p (past first) trailing) word) ≡ false
-later_value p trailing first word is = ap none (value_fault p trailing word _ None 2 is)
+pub first_value_walk : (p : ValueParser) (rows : List Row) (trailing : Bool) (word : Text) → IsValue p trailing word
+    → walked (rules p) [] (walk_by rows None 1 trailing) word ≡ walk_by rows (for_mode word) 2 trailing
+first_value_walk p rows false word is = value_walk p rows false word is None 1
+first_value_walk p rows true word is = value_walk p rows true word is None 1
 
 -- ---- a word that is refused
 
-pub refused_turn : (p : ValueParser) (stage : Stage) (word : Text) → IsRefused p word → none (turn_fault (shape p) [] (walk_at p stage false) word) ≡ false
-refused_turn p (unread d) word is = fails_first _ _ (is (dump_rows d) None)
-refused_turn p (met d first) word is = fails_first _ _ (is (dump_rows d) (Some (codes "mode", first ∷ [])))
-refused_turn p (past first) word is = fails_first _ _ (is _ None)
+pub refused_turn : (p : ValueParser) (rows : List Row) (waits : Waits) (position : ℕ) (word : Text) → IsRefused p word
+    → none (turn_fault (shape p) [] (walk_by rows waits position false) word) ≡ false
+refused_turn p rows waits position word is = fails_first _ _ (is rows waits)
 
--- ---- `--dump`
+-- ---- an option where nothing waits
 
-pub first_dump_fault : (p : ValueParser) → turn_fault (shape p) [] (walk_at p (unread false) false) (codes "--dump") ≡ []
-first_dump_fault p = refl
+module _ (p : ValueParser) (rows : List Row) (position : ℕ) where
+  pub flag_passes : (f : Flag) → has_row (flag_name f) rows ≡ false → turn_fault (shape p) [] (walk_by rows None position false) (flag_word f) ≡ []
+  flag_passes history e = rw e refl
+  flag_passes dump e = rw e refl
+  flag_passes json e = rw e refl
 
-pub first_dump_walk : (p : ValueParser) → walked (rules p) [] (walk_at p (unread false) false) (codes "--dump") ≡ walk_at p (unread true) false
+  pub flag_repeats : (f : Flag) → has_row (flag_name f) rows ≡ true → none (turn_fault (shape p) [] (walk_by rows None position false) (flag_word f)) ≡ false
+  flag_repeats history e = rw e refl
+  flag_repeats dump e = rw e refl
+  flag_repeats json e = rw e refl
+
+-- the rows with the flag's
+abbrev rows_with : Flag → List Row → List Row
+rows_with f rows = with_values (flag_name f) reading.AsWritten CommandLine (codes "true" ∷ []) (without (flag_name f) rows)
+
+rows_with_is : (f : Flag) (rows : List Row) → found (flag_name f) rows ≡ None → rows_with f rows ≡ rows ++ flag_row f ∷ []
+rows_with_is f rows e = used_first (flag_name f) reading.AsWritten (codes "true" ∷ []) rows e
+
+pub flag_walk : (p : ValueParser) (rows : List Row) (position : ℕ) (f : Flag) → found (flag_name f) rows ≡ None
+    → walked (rules p) [] (walk_by rows None position false) (flag_word f) ≡ walk_by (rows ++ flag_row f ∷ []) None position false
 unfolding walked
-first_dump_walk p = refl
-
-pub second_dump : (p : ValueParser) → none (turn_fault (shape p) [] (walk_at p (unread true) false) (codes "--dump")) ≡ false
-second_dump p = refl
-
-pub later_dump : (p : ValueParser) (first : Text) → none (turn_fault (shape p) [] (walk_at p (past first) false) (codes "--dump")) ≡ false
-later_dump p first = refl
-
-pub dump_settles : (p : ValueParser) (first : Text) → accepts false p first ≡ true → turn_fault (shape p) [] (walk_at p (met false first) false) (codes "--dump") ≡ []
-dump_settles p first e = rw e refl
-
-pub dump_refuses : (p : ValueParser) (d : Bool) (first : Text) → accepts false p first ≡ false → none (turn_fault (shape p) [] (walk_at p (met d first) false) (codes "--dump")) ≡ false
-dump_refuses p false first e = rw e refl
-dump_refuses p true first e = rw e refl
-
-pub dump_settles_walk : (p : ValueParser) (first : Text) → walked (rules p) [] (walk_at p (met false first) false) (codes "--dump") ≡ walk_at p (past first) false
-unfolding walked
-dump_settles_walk p first = refl
-
-pub dump_repeats : (p : ValueParser) (first : Text) → none (turn_fault (shape p) [] (walk_at p (met true first) false) (codes "--dump")) ≡ false
-dump_repeats p first = go (accepts false p first) refl
+flag_walk p rows position f e = goes f ∙ ap (λ rs. walk_by rs None position false) (rows_with_is f rows e)
   where
-    go : (b : Bool) → accepts false p first ≡ b → none (turn_fault (shape p) [] (walk_at p (met true first) false) (codes "--dump")) ≡ false
-    go true e = rw e refl
-    go false e = rw e refl
+    goes : (f : Flag) → walked (rules p) [] (walk_by rows None position false) (flag_word f) ≡ walk_by (rows_with f rows) None position false
+    goes history = refl
+    goes dump = refl
+    goes json = refl
+
+-- ---- an option where a word for the mode waits
+
+-- the rows with that of the mode
+abbrev rows_settled : ValueParser → Text → List Row → List Row
+rows_settled p word rows = with_values (codes "mode") (reading_of p) CommandLine (word ∷ []) (without (codes "mode") rows)
+
+pub settled_is : (p : ValueParser) (word : Text) (rows : List Row) → found (codes "mode") rows ≡ None
+    → settled (rules p) (held_by rows (for_mode word)) ≡ held_by (rows ++ mode_row p word ∷ []) None
+settled_is p word rows e = ap (λ rs. held_by rs None) (used_first (codes "mode") (reading_of p) (word ∷ []) rows e)
+
+module _ (p : ValueParser) (word : Text) (rows : List Row) (absent : found (codes "mode") rows ≡ None) where
+  settled_rows_are : rows_settled p word rows ≡ rows ++ mode_row p word ∷ []
+  settled_rows_are = used_first (codes "mode") (reading_of p) (word ∷ []) rows absent
+
+  no_mode_row : has_row (codes "mode") rows ≡ false
+  no_mode_row = has_none (codes "mode") rows absent
+
+  pub settling_flag_passes : (f : Flag) → accepts false p word ≡ true → has_row (flag_name f) (rows ++ mode_row p word ∷ []) ≡ false
+      → turn_fault (shape p) [] (walk_by rows (for_mode word) 2 false) (flag_word f) ≡ []
+  settling_flag_passes f good first = goes f (ap (has_row (flag_name f)) settled_rows_are ∙ first)
+    where
+      goes : (f : Flag) → has_row (flag_name f) (rows_settled p word rows) ≡ false → turn_fault (shape p) [] (walk_by rows (for_mode word) 2 false) (flag_word f) ≡ []
+      goes history e = rw (no_mode_row, good, e) refl
+      goes dump e = rw (no_mode_row, good, e) refl
+      goes json e = rw (no_mode_row, good, e) refl
+
+  pub settling_flag_repeats : (f : Flag) → accepts false p word ≡ true → has_row (flag_name f) (rows ++ mode_row p word ∷ []) ≡ true
+      → none (turn_fault (shape p) [] (walk_by rows (for_mode word) 2 false) (flag_word f)) ≡ false
+  settling_flag_repeats f good again = goes f (ap (has_row (flag_name f)) settled_rows_are ∙ again)
+    where
+      goes : (f : Flag) → has_row (flag_name f) (rows_settled p word rows) ≡ true → none (turn_fault (shape p) [] (walk_by rows (for_mode word) 2 false) (flag_word f)) ≡ false
+      goes history e = rw (no_mode_row, good, e) refl
+      goes dump e = rw (no_mode_row, good, e) refl
+      goes json e = rw (no_mode_row, good, e) refl
+
+  pub settling_flag_refuses : (f : Flag) → accepts false p word ≡ false → none (turn_fault (shape p) [] (walk_by rows (for_mode word) 2 false) (flag_word f)) ≡ false
+  settling_flag_refuses history bad = rw (no_mode_row, bad) refl
+  settling_flag_refuses dump bad = rw (no_mode_row, bad) refl
+  settling_flag_refuses json bad = rw (no_mode_row, bad) refl
+
+  pub settling_flag_walk : (f : Flag) → found (flag_name f) (rows ++ mode_row p word ∷ []) ≡ None
+      → walked (rules p) [] (walk_by rows (for_mode word) 2 false) (flag_word f) ≡ walk_by ((rows ++ mode_row p word ∷ []) ++ flag_row f ∷ []) None 2 false
+  unfolding walked
+  settling_flag_walk f e =
+      goes f ∙ ap (λ rs. walk_by (rows_with f rs) None 2 false) settled_rows_are ∙ ap (λ rs. walk_by rs None 2 false) (rows_with_is f (rows ++ mode_row p word ∷ []) e)
+    where
+      goes : (f : Flag) → walked (rules p) [] (walk_by rows (for_mode word) 2 false) (flag_word f) ≡ walk_by (rows_with f (rows_settled p word rows)) None 2 false
+      goes history = refl
+      goes dump = refl
+      goes json = refl
 
 -- ---- `--`
 
-pub end_walk : (p : ValueParser) (stage : Stage) → walked (rules p) [] (walk_at p stage false) (codes "--") ≡ walk_at p stage true
+pub end_walk : (p : ValueParser) (rows : List Row) (waits : Waits) (position : ℕ)
+    → walked (rules p) [] (walk_by rows waits position false) (codes "--") ≡ walk_by rows waits position true
 unfolding walked
-end_walk p (unread d) = refl
-end_walk p (met d first) = refl
-end_walk p (past first) = refl
+end_walk p rows waits position = refl
 
-pub end_fault : (p : ValueParser) (stage : Stage) → turn_fault (shape p) [] (walk_at p stage false) (codes "--") ≡ []
-end_fault p (unread d) = refl
-end_fault p (met d first) = refl
-end_fault p (past first) = refl
+pub end_fault : (p : ValueParser) (rows : List Row) (waits : Waits) (position : ℕ) → turn_fault (shape p) [] (walk_by rows waits position false) (codes "--") ≡ []
+end_fault p rows waits position = refl

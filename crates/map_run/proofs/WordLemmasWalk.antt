@@ -1,31 +1,36 @@
 -- The walk over the words, and what it comes to at their end.
-use Rattle.std.proofs.Common.{◌≡◌, ◌∙◌, ◌&&◌, ◌||◌, ⊎_elim, refl, sym, ap, subst, Bool, true, false, true≢false, not, codes, List, [], ◌∷◌, Option, Some}
-use Rattle.std.specs.Prelude.{fold, if◌then◌else◌}
-use Rattle.std.specs.List.{list_any}
+use Rattle.std.proofs.Common.{◌≡◌, ◌∙◌, ◌++◌, ◌&&◌, ◌||◌, ⊎_elim, refl, sym, ap, ap₂, subst, Bool, true, false, true≢false, not, codes, is_some, List, [], ◌∷◌, Option, Some, None}
+use Rattle.std.specs.Prelude.{fold, if◌then◌else◌, option_and_then, option_map}
 use Rattle.std.proofs.Math.Bool.{or-false}
-use Rattle.std.proofs.lemmas.Slice.Eq.{bytes_eq-Decides}
-use Rattle.clap.specs.Walk.{Held, Text, Walk, finished, one_of, settled, walked}
+use Rattle.clap.specs.Walk.{Held, Row, Rule, Text, Walk, finished, first_of, has_row, is_empty, one_of, row_text, settled, walked, with_default}
 use Rattle.clap.specs.Kinds.{Kinds, or_else}
 use Rattle.clap.specs.Values.{bool_text}
 use Rattle.clap.specs.ValueTests.{accepts}
-use Rattle.clap.specs.Faults.{check_fault, defaults_fault, settle_fault, turn_fault, walk_fault}
+use Rattle.clap.specs.Faults.{check_fault, default_fault, defaults_fault, given_default_fault, settle_fault, turn_fault, walk_fault}
 use Rattle.clap.specs.declared.builder.value_parser.ValueParser.{ValueParser}
-use Rattle.map_run.specs.Words.{is_mode, is_dump, is_end_of_options}
-use Rattle.map_run.proofs.WordLemmasCommand.{Stage, unread, met, past, has_dump, has_mode, is_good, none, rules, shape, walk_at}
-use Rattle.map_run.proofs.WordLemmasTurns.{IsValue, value_behind, first_value_fault, first_value_walk, second_value, later_value, refused_turn, first_dump_fault, first_dump_walk, second_dump, later_dump, dump_settles, dump_refuses, dump_settles_walk, dump_repeats, end_walk, end_fault}
-use Rattle.map_run.proofs.WordLemmasShapes.{told_apart, mode_is_value}
+use Rattle.map_run.specs.Words.{is_mode, is_option, is_end_of_options, mode_word, stands}
+use Rattle.map_run.specs.declared.words.Mode.{Mode}
+use Rattle.map_run.specs.declared.words.Mode.TheVariants.{Serial, Race}
+use Rattle.map_run.proofs.WordLemmasCommand.{Flag, history, dump, json, Kind, a_mode, an_option, another, dashes, kind_of_word, Stage, unread, met, past, built_flag, built_mode, checked, default_row, flag_name, flag_row, flag_word, for_mode, has_mode, held_by, is_flag, is_race, mode_row, none, races, rules, shape, walk_at, walk_by}
+use Rattle.map_run.proofs.WordLemmasRows.{AreRows, defaulted, flag_added, flag_has_row, found, has_none, mode_added, mode_has_no_default, no_flag_row, not_found, or_row, with_flag}
+use Rattle.map_run.proofs.WordLemmasTurns.{IsRefused, IsValue, end_fault, end_walk, first_value_fault, first_value_walk, flag_passes, flag_repeats, flag_walk, refused_turn, second_value, settled_is, settling_flag_passes, settling_flag_refuses, settling_flag_repeats, settling_flag_walk, value_behind}
+use Rattle.map_run.proofs.WordLemmasShapes.{mode_is_value, told_apart}
+use Rattle.map_run.proofs.WordLemmasCounts.{dashes_are_no_flag, flag_is_no_mode, mode_is_no_flag, passes, passes_behind, passes_end, passes_flag, passes_mode, passes_none, passes_other}
 
 -- the kinds of what is left to do at the end of the words
-abbrev pub last_fault : ValueParser → Held → Kinds
-last_fault p h = or_else (settle_fault (rules p) false h) (or_else (defaults_fault (settled (rules p) h).rows (rules p)) (check_fault (shape p) (finished (rules p) h) false))
+abbrev rows_fault : ValueParser → List Row → Kinds
+rows_fault p rows = or_else (defaults_fault rows (rules p)) (check_fault (shape p) (fold with_default rows (rules p)) false)
+
+abbrev last_fault : ValueParser → Held → Kinds
+last_fault p h = or_else (settle_fault (rules p) false h) (rows_fault p (settled (rules p) h).rows)
 
 -- the kinds from some place of the walk on
 unfoldable pub rest_fault : ValueParser → Walk → List Text → Kinds
 rest_fault p w words = or_else (walk_fault (shape p) [] w words) (last_fault p (fold (walked (rules p) []) w words).held)
 
--- what the flag reads at the end
-unfoldable pub dump_read : ValueParser → Walk → List Text → Option Text
-dump_read p w words = one_of (codes "dump") (finished (rules p) (fold (walked (rules p) []) w words).held)
+-- the rows at the end
+unfoldable pub rows_left : ValueParser → Walk → List Text → List Row
+rows_left p w words = finished (rules p) (fold (walked (rules p) []) w words).held
 
 -- ---- a turn
 
@@ -44,211 +49,327 @@ rest_fails : (p : ValueParser) (w : Walk) (word : Text) (words : List Text) → 
 unfolding rest_fault walk_fault
 rest_fails p w word words e = fails_both _ _ _ e
 
-dump_on : (p : ValueParser) (w : Walk) (word : Text) (words : List Text) → dump_read p w (word ∷ words) ≡ dump_read p (walked (rules p) [] w word) words
-unfolding dump_read
-dump_on p w word words = refl
+rows_on : (p : ValueParser) (w : Walk) (word : Text) (words : List Text) → rows_left p w (word ∷ words) ≡ rows_left p (walked (rules p) [] w word) words
+unfolding rows_left
+rows_on p w word words = refl
 
 -- ---- the end of the words
 
-unread_end : (p : ValueParser) (d trailing : Bool) → none (rest_fault p (walk_at p (unread d) trailing) []) ≡ false
-unfolding rest_fault walk_fault defaults_fault
-unread_end p false trailing = refl
-unread_end p true trailing = refl
+both_none : (a b : Kinds) → a ≡ [] → b ≡ [] → or_else a b ≡ []
+both_none a b e f = ap₂ or_else e f
 
-met_end : (p : ValueParser) (d trailing : Bool) (word : Text) → accepts false p word ≡ true → none (rest_fault p (walk_at p (met d word) trailing) []) ≡ true
-unfolding rest_fault walk_fault defaults_fault
-met_end p false trailing word e = rw e refl
-met_end p true trailing word e = rw e refl
-
-met_end_bad : (p : ValueParser) (d trailing : Bool) (word : Text) → accepts false p word ≡ false → none (rest_fault p (walk_at p (met d word) trailing) []) ≡ false
-unfolding rest_fault walk_fault defaults_fault
-met_end_bad p false trailing word e = rw e refl
-met_end_bad p true trailing word e = rw e refl
-
-past_end : (p : ValueParser) (trailing : Bool) (word : Text) → none (rest_fault p (walk_at p (past word) trailing) []) ≡ true
-unfolding rest_fault walk_fault defaults_fault
-past_end p trailing word = refl
-
-dump_end : (p : ValueParser) (stage : Stage) (trailing : Bool) → dump_read p (walk_at p stage trailing) [] ≡ Some (bool_text (has_dump stage))
-unfolding dump_read
-dump_end p (unread false) trailing = refl
-dump_end p (unread true) trailing = refl
-dump_end p (met false word) trailing = refl
-dump_end p (met true word) trailing = refl
-dump_end p (past word) trailing = refl
-
--- ---- which words pass
-
--- the words pass, where a mode or the option was met before them, or `--`
-pub reads : Bool → Bool → Bool → List Text → Bool
-reads m d trailing [] = m
-reads m d trailing (word ∷ words) =
-    if is_mode word then not m && reads true d trailing words
-    else (if trailing then false
-    else (if is_dump word then not d && reads m true false words
-    else is_end_of_options word && reads m d true words))
-
-pub reads_none : (m d trailing : Bool) → reads m d trailing [] ≡ m
-unfolding reads
-reads_none m d trailing = refl
-
-module _ (m d : Bool) (word : Text) (words : List Text) where
-  pub reads_mode : (trailing : Bool) → is_mode word ≡ true → reads m d trailing (word ∷ words) ≡ (not m && reads true d trailing words)
-  unfolding reads
-  reads_mode trailing e = rw e refl
-
-  pub reads_behind : is_mode word ≡ false → reads m d true (word ∷ words) ≡ false
-  unfolding reads
-  reads_behind e = rw e refl
-
-  pub reads_dump : is_mode word ≡ false → is_dump word ≡ true → reads m d false (word ∷ words) ≡ (not d && reads m true false words)
-  unfolding reads
-  reads_dump e f = rw (e, f) refl
-
-  pub reads_end : is_mode word ≡ false → is_dump word ≡ false → is_end_of_options word ≡ true → reads m d false (word ∷ words) ≡ reads m d true words
-  unfolding reads
-  reads_end e f g = rw (e, f, g) refl
-
-  pub reads_other : is_mode word ≡ false → is_dump word ≡ false → is_end_of_options word ≡ false → reads m d false (word ∷ words) ≡ false
-  unfolding reads
-  reads_other e f g = rw (e, f, g) refl
-
--- ---- the walk meets it
-
-pub is_serial : (word : Text) → is_mode word ≡ true → codes "serial" ≡ word
-is_serial word e = sym ((bytes_eq-Decides word (codes "serial")).0 e)
-
-pub is_option : (word : Text) → is_dump word ≡ true → codes "--dump" ≡ word
-is_option word e = sym ((bytes_eq-Decides word (codes "--dump")).0 e)
-
-pub is_dashes : (word : Text) → is_end_of_options word ≡ true → codes "--" ≡ word
-is_dashes word e = sym ((bytes_eq-Decides word (codes "--")).0 e)
-
--- no kind comes exactly where the words pass, and then the flag tells whether the option stands among them
-abbrev pub Meets : ValueParser → Stage → Bool → List Text → Type 0
-Meets p stage trailing words = (none (rest_fault p (walk_at p stage trailing) words) ≡ reads (has_mode stage) (has_dump stage) trailing words)
-    × (reads (has_mode stage) (has_dump stage) trailing words ≡ true → dump_read p (walk_at p stage trailing) words ≡ Some (bool_text (has_dump stage || list_any is_dump words)))
-
-goes_on : (p : ValueParser) (stage after : Stage) (trailing behind : Bool) (word : Text) (words : List Text) → turn_fault (shape p) [] (walk_at p stage trailing) word ≡ []
-    → walked (rules p) [] (walk_at p stage trailing) word ≡ walk_at p after behind
-    → reads (has_mode stage) (has_dump stage) trailing (word ∷ words) ≡ reads (has_mode after) (has_dump after) behind words
-    → (has_dump stage || list_any is_dump (word ∷ words)) ≡ (has_dump after || list_any is_dump words)
-    → Meets p after behind words → Meets p stage trailing (word ∷ words)
-goes_on p stage after trailing behind word words fault walk reading any h = (
-  ap none (rest_on p (walk_at p stage trailing) word words fault ∙ ap (λ w. rest_fault p w words) walk) ∙ h.0 ∙ sym reading,
-  λ passes. dump_on p (walk_at p stage trailing) word words ∙ ap (λ w. dump_read p w words) walk ∙ h.1 (sym reading ∙ passes) ∙ ap (λ b. Some (bool_text b)) (sym any),
-)
-
-wrong : (p : ValueParser) (stage : Stage) (trailing : Bool) (words : List Text) → none (rest_fault p (walk_at p stage trailing) words) ≡ false
-    → reads (has_mode stage) (has_dump stage) trailing words ≡ false → Meets p stage trailing words
-wrong p stage trailing words fault reading = (fault ∙ sym reading, λ passes. absurd (true≢false (sym passes ∙ reading)))
-
-stops : (p : ValueParser) (stage : Stage) (trailing : Bool) (word : Text) (words : List Text) → none (turn_fault (shape p) [] (walk_at p stage trailing) word) ≡ false
-    → reads (has_mode stage) (has_dump stage) trailing (word ∷ words) ≡ false → Meets p stage trailing (word ∷ words)
-stops p stage trailing word words fault reading = wrong p stage trailing (word ∷ words) (rest_fails p (walk_at p stage trailing) word words fault) reading
-
--- a mode that doesn't pass is refused at last
-abbrev BadRest : ValueParser → List Text → Type 0
-BadRest p words = (d trailing : Bool) (first : Text) → accepts false p first ≡ false → none (rest_fault p (walk_at p (met d first) trailing) words) ≡ false
-
-bad_turn : (p : ValueParser) (word : Text) (words : List Text) → BadRest p words → BadRest p (word ∷ words)
-bad_turn p word words h d true first bad = rest_fails p (walk_at p (met d first) true) word words (second_value p d true first word (value_behind p word))
-bad_turn p word words h d false first bad = by_dump (is_dump word) refl
+flag_default_fault : (rows : List Row) (f : Flag) → default_fault rows (built_flag f) ≡ []
+flag_default_fault rows f = go (has_row (flag_name f) rows) f
   where
-    by_kind : is_end_of_options word ≡ false → is_dump word ≡ false → none (rest_fault p (walk_at p (met d first) false) (word ∷ words)) ≡ false
-    by_kind e f = rest_fails p (walk_at p (met d first) false) word words
-        (⊎_elim (λ is. refused_turn p (met d first) word is) (λ is. second_value p d false first word is) (told_apart p word e f))
+    go : (b : Bool) (f : Flag) → (if b || is_empty (built_flag f).defaults then [] else given_default_fault (built_flag f) (built_flag f).defaults) ≡ []
+    go true f = refl
+    go false f = refl
 
-    by_end : (b : Bool) → is_end_of_options word ≡ b → is_dump word ≡ false → none (rest_fault p (walk_at p (met d first) false) (word ∷ words)) ≡ false
-    by_end true e f = subst (λ x. none (rest_fault p (walk_at p (met d first) false) (x ∷ words)) ≡ false) (is_dashes word e)
-        (ap none (rest_on p (walk_at p (met d first) false) (codes "--") words (end_fault p (met d first)) ∙ ap (λ w. rest_fault p w words) (end_walk p (met d first)))
-        ∙ h d true first bad)
-    by_end false e f = by_kind e f
+mode_default_fault : (p : ValueParser) (rows : List Row) → default_fault rows (built_mode p) ≡ []
+mode_default_fault p rows = go (has_row (codes "mode") rows)
+  where
+    go : (b : Bool) → (if b || is_empty (built_mode p).defaults then [] else given_default_fault (built_mode p) (built_mode p).defaults) ≡ []
+    go true = refl
+    go false = refl
 
-    by_dump : (b : Bool) → is_dump word ≡ b → none (rest_fault p (walk_at p (met d first) false) (word ∷ words)) ≡ false
-    by_dump true e = rest_fails p (walk_at p (met d first) false) word words
-        (subst (λ x. none (turn_fault (shape p) [] (walk_at p (met d first) false) x) ≡ false) (is_option word e) (dump_refuses p d first bad))
-    by_dump false e = by_end (is_end_of_options word) refl e
+abbrev NoneFaults : List Rule → Type 0
+NoneFaults rest = (rows : List Row) → defaults_fault rows rest ≡ []
 
-bad_rest : (p : ValueParser) (words : List Text) → BadRest p words
-bad_rest p [] d trailing first bad = met_end_bad p d trailing first bad
-bad_rest p (word ∷ words) d trailing first bad = bad_turn p word words (bad_rest p words) d trailing first bad
+no_fault_first : (a : Rule) (rest : List Rule) → ((rows : List Row) → default_fault rows a ≡ []) → NoneFaults rest → NoneFaults (a ∷ rest)
+unfolding defaults_fault
+no_fault_first a rest first h rows = both_none (default_fault rows a) (defaults_fault (with_default rows a) rest) (first rows) (h (with_default rows a))
 
-module _ (p : ValueParser) (accepted : (text : Text) → accepts false p text ≡ is_mode text) where
-  at_end : (stage : Stage) (trailing : Bool) → is_good stage ≡ true → none (rest_fault p (walk_at p stage trailing) []) ≡ has_mode stage
-  at_end (unread d) trailing good = unread_end p d trailing
-  at_end (met d first) trailing good = met_end p d trailing first (accepted first ∙ good)
-  at_end (past first) trailing good = past_end p trailing first
+no_fault_last : NoneFaults []
+unfolding defaults_fault
+no_fault_last rows = refl
 
-  no_words : (stage : Stage) (trailing : Bool) → is_good stage ≡ true → Meets p stage trailing []
-  no_words stage trailing good = (
-    at_end stage trailing good ∙ sym (reads_none (has_mode stage) (has_dump stage) trailing),
-    λ passes. dump_end p stage trailing ∙ ap (λ b. Some (bool_text b)) (sym (or-false (has_dump stage))),
+no_default_fault : (p : ValueParser) → NoneFaults (rules p)
+no_default_fault p =
+    let last = no_fault_first (built_flag json) [] (λ rows. flag_default_fault rows json) no_fault_last in
+    let flags = no_fault_first (built_flag history) _ (λ rows. flag_default_fault rows history) (no_fault_first (built_flag dump) _ (λ rows. flag_default_fault rows dump) last) in
+    no_fault_first (built_mode p) _ (mode_default_fault p) flags
+
+-- the row of an id, after the defaults
+abbrev or_defaults : Option Row → Text → Option Row
+or_defaults o id = or_row (or_row (or_row o id (default_row history)) id (default_row dump)) id (default_row json)
+
+found_last : (p : ValueParser) (id : Text) (rows : List Row) → found id (fold with_default rows (rules p)) ≡ or_defaults (found id rows) id
+found_last p id rows =
+    defaulted id _ json ∙ ap (λ o. or_row o id (default_row json)) (defaulted id _ dump)
+    ∙ ap (λ o. or_row (or_row o id (default_row dump)) id (default_row json)) (defaulted id _ history)
+    ∙ ap (λ rs. or_defaults (found id rs) id) (mode_has_no_default p rows)
+
+mode_last : (p : ValueParser) (rows : List Row) → found (codes "mode") (fold with_default rows (rules p)) ≡ found (codes "mode") rows
+mode_last p rows = found_last p (codes "mode") rows ∙ go (found (codes "mode") rows)
+  where
+    go : (o : Option Row) → or_defaults o (codes "mode") ≡ o
+    go None = refl
+    go (Some r) = refl
+
+module _ {p : ValueParser} {rows : List Row} {seen : Flag → Bool} {mode : Option Mode} (are : AreRows p rows seen mode) where
+  ends : none (rows_fault p rows) ≡ is_some mode
+  ends = ap (λ kinds. none (or_else kinds (check_fault (shape p) (fold with_default rows (rules p)) false))) (no_default_fault p rows)
+      ∙ go mode (mode_last p rows ∙ are.mode_is)
+    where
+      go : (mode : Option Mode) → found (codes "mode") (fold with_default rows (rules p)) ≡ option_map (λ m. mode_row p (mode_word m)) mode
+          → none (check_fault (shape p) (fold with_default rows (rules p)) false) ≡ is_some mode
+      go None e = rw e refl
+      go (Some m) e = rw e refl
+
+  flag_read : (f : Flag) → one_of (flag_name f) (fold with_default rows (rules p)) ≡ Some (bool_text (seen f))
+  flag_read f = ap (option_and_then row_text) (found_last p (flag_name f) rows ∙ ap (λ o. or_defaults o (flag_name f)) (are.flags f)) ∙ go f (seen f)
+    where
+      go : (f : Flag) (b : Bool) → option_and_then row_text (or_defaults (if b then Some (flag_row f) else None) (flag_name f)) ≡ Some (bool_text b)
+      go history true = refl
+      go history false = refl
+      go dump true = refl
+      go dump false = refl
+      go json true = refl
+      go json false = refl
+
+mode_read : {p : ValueParser} {rows : List Row} {seen : Flag → Bool} {m : Mode} → AreRows p rows seen (Some m) → first_of (codes "mode") (fold with_default rows (rules p)) ≡ Some (mode_word m)
+mode_read {p} {rows} are = rw (mode_last p rows ∙ are.mode_is) refl
+
+-- the word that waits for the mode
+module _ (p : ValueParser) (word : Text) (rows : List Row) (absent : found (codes "mode") rows ≡ None) where
+  settling_passes : accepts false p word ≡ true → settle_fault (rules p) false (held_by rows (for_mode word)) ≡ []
+  settling_passes good = rw (has_none (codes "mode") rows absent, good) refl
+
+  settling_refuses : accepts false p word ≡ false → none (settle_fault (rules p) false (held_by rows (for_mode word))) ≡ false
+  settling_refuses bad = rw (has_none (codes "mode") rows absent, bad) refl
+
+-- ---- the words pass, and what was read
+
+abbrev mode_by : Bool → Mode
+mode_by b = if b then Race else Serial
+
+-- what the rows at the end say of these flags and of this mode
+pub record Reads (p : ValueParser) (rows : List Row) (flags : Flag → Bool) (race : Bool) : Type 0 where
+  pub flag_is : (f : Flag) → one_of (flag_name f) rows ≡ Some (bool_text (flags f))
+  pub mode_is : first_of (codes "mode") rows ≡ Some (mode_word (mode_by race))
+
+abbrev flags_by : (Flag → Bool) → List Text → Flag → Bool
+flags_by seen words f = seen f || stands (flag_word f) words
+
+abbrev race_by : Bool → List Text → Bool
+race_by race words = race || stands (mode_word Race) words
+
+-- no kind comes exactly where the words pass, and then each option and the mode is read
+abbrev pub Meets : ValueParser → List Row → Stage → (Flag → Bool) → Bool → List Text → Type 0
+Meets p rows stage seen behind words = (none (rest_fault p (walk_at rows stage behind) words) ≡ passes (has_mode stage) seen behind words)
+    × (passes (has_mode stage) seen behind words ≡ true → Reads p (rows_left p (walk_at rows stage behind) words) (flags_by seen words) (race_by (races stage) words))
+
+or_shift : (a b c : Bool) → ((a || b) || c) ≡ (b || (a || c))
+or_shift true true c = refl
+or_shift true false c = refl
+or_shift false b c = refl
+
+same_reads : {p : ValueParser} {rows now : List Row} {flags read : Flag → Bool} {race races : Bool} → rows ≡ now → ((f : Flag) → flags f ≡ read f) → race ≡ races
+    → Reads p now flags race → Reads p rows read races
+same_reads same flags_same race_same h = record {
+  flag_is = λ f. ap (one_of (flag_name f)) same ∙ h.flag_is f ∙ ap (λ b. Some (bool_text b)) (flags_same f);
+  mode_is = ap (first_of (codes "mode")) same ∙ h.mode_is ∙ ap (λ b. Some (mode_word (mode_by b))) race_same;
+}
+
+module _ (p : ValueParser) (rows now : List Row) (stage after : Stage) (seen next : Flag → Bool) (behind later : Bool) (word : Text) (words : List Text) where
+  goes_on : turn_fault (shape p) [] (walk_at rows stage behind) word ≡ [] → walked (rules p) [] (walk_at rows stage behind) word ≡ walk_at now after later
+      → passes (has_mode stage) seen behind (word ∷ words) ≡ passes (has_mode after) next later words
+      → ((f : Flag) → flags_by next words f ≡ flags_by seen (word ∷ words) f) → race_by (races after) words ≡ race_by (races stage) (word ∷ words)
+      → Meets p now after next later words → Meets p rows stage seen behind (word ∷ words)
+  goes_on fault walk passing flags race h = (
+    ap none (rest_on p (walk_at rows stage behind) word words fault ∙ ap (λ w. rest_fault p w words) walk) ∙ h.0 ∙ sym passing,
+    λ passed. same_reads (rows_on p (walk_at rows stage behind) word words ∙ ap (λ w. rows_left p w words) walk) flags race (h.1 (sym passing ∙ passed)),
   )
 
-  -- a mode, which may come first alone
-  mode_turn : (stage : Stage) (trailing : Bool) (words : List Text) → ((after : Stage) (behind : Bool) → is_good after ≡ true → Meets p after behind words)
-      → IsValue p trailing (codes "serial") → Meets p stage trailing (codes "serial" ∷ words)
-  mode_turn (unread d) trailing words h is =
-      goes_on p (unread d) (met d (codes "serial")) trailing trailing (codes "serial") words (first_value_fault p d trailing (codes "serial") is)
-      (first_value_walk p d trailing (codes "serial") is) (reads_mode false d (codes "serial") words trailing refl) refl (h (met d (codes "serial")) trailing refl)
-  mode_turn (met d first) trailing words h is =
-      stops p (met d first) trailing (codes "serial") words (second_value p d trailing first (codes "serial") is) (reads_mode true d (codes "serial") words trailing refl)
-  mode_turn (past first) trailing words h is =
-      stops p (past first) trailing (codes "serial") words (later_value p trailing first (codes "serial") is) (reads_mode true true (codes "serial") words trailing refl)
+module _ (p : ValueParser) (rows : List Row) (stage : Stage) (seen : Flag → Bool) (behind : Bool) where
+  wrong : (words : List Text) → none (rest_fault p (walk_at rows stage behind) words) ≡ false → passes (has_mode stage) seen behind words ≡ false → Meets p rows stage seen behind words
+  wrong words fault passing = (fault ∙ sym passing, λ passed. absurd (true≢false (sym passed ∙ passing)))
 
-  -- a value that is no mode
-  value_turn : (stage : Stage) (trailing : Bool) (word : Text) (words : List Text) → IsValue p trailing word → is_mode word ≡ false
-      → reads (has_mode stage) (has_dump stage) trailing (word ∷ words) ≡ false → Meets p stage trailing (word ∷ words)
-  value_turn (unread d) trailing word words is bad reading = wrong p (unread d) trailing (word ∷ words)
-      (ap none (rest_on p (walk_at p (unread d) trailing) word words (first_value_fault p d trailing word is) ∙ ap (λ w. rest_fault p w words) (first_value_walk p d trailing word is))
-      ∙ bad_rest p words d trailing word (accepted word ∙ bad)) reading
-  value_turn (met d first) trailing word words is bad reading = stops p (met d first) trailing word words (second_value p d trailing first word is) reading
-  value_turn (past first) trailing word words is bad reading = stops p (past first) trailing word words (later_value p trailing first word is) reading
+  stops : (word : Text) (words : List Text) → none (turn_fault (shape p) [] (walk_at rows stage behind) word) ≡ false → passes (has_mode stage) seen behind (word ∷ words) ≡ false
+      → Meets p rows stage seen behind (word ∷ words)
+  stops word words fault passing = wrong (word ∷ words) (rest_fails p (walk_at rows stage behind) word words fault) passing
 
-  dump_turn : (stage : Stage) (words : List Text) → is_good stage ≡ true → ((after : Stage) (behind : Bool) → is_good after ≡ true → Meets p after behind words)
-      → Meets p stage false (codes "--dump" ∷ words)
-  dump_turn (unread false) words good h =
-      goes_on p (unread false) (unread true) false false (codes "--dump") words (first_dump_fault p) (first_dump_walk p) (reads_dump false false (codes "--dump") words refl refl) refl (h (unread true) false refl)
-  dump_turn (unread true) words good h = stops p (unread true) false (codes "--dump") words (second_dump p) (reads_dump false true (codes "--dump") words refl refl)
-  dump_turn (met false first) words good h =
-      goes_on p (met false first) (past first) false false (codes "--dump") words (dump_settles p first (accepted first ∙ good)) (dump_settles_walk p first)
-      (reads_dump true false (codes "--dump") words refl refl) refl (h (past first) false good)
-  dump_turn (met true first) words good h = stops p (met true first) false (codes "--dump") words (dump_repeats p first) (reads_dump true true (codes "--dump") words refl refl)
-  dump_turn (past first) words good h = stops p (past first) false (codes "--dump") words (later_dump p first) (reads_dump true true (codes "--dump") words refl refl)
+-- ---- a word for the mode that is none is refused at last
 
-  end_turn : (stage : Stage) (words : List Text) → is_good stage ≡ true → ((after : Stage) (behind : Bool) → is_good after ≡ true → Meets p after behind words)
-      → Meets p stage false (codes "--" ∷ words)
-  end_turn stage words good h =
-      goes_on p stage stage false true (codes "--") words (end_fault p stage) (end_walk p stage) (reads_end (has_mode stage) (has_dump stage) (codes "--") words refl refl refl) refl (h stage true good)
+module _ (p : ValueParser) (rows : List Row) (absent : found (codes "mode") rows ≡ None) (first : Text) (bad : accepts false p first ≡ false) where
+  abbrev Refuses : Bool → List Text → Type 0
+  Refuses behind words = none (rest_fault p (walk_by rows (for_mode first) 2 behind) words) ≡ false
 
-  open_turn : (stage : Stage) (word : Text) (words : List Text) → is_good stage ≡ true → ((after : Stage) (behind : Bool) → is_good after ≡ true → Meets p after behind words)
-      → is_mode word ≡ false → Meets p stage false (word ∷ words)
-  open_turn stage word words good h no_mode = by_dump (is_dump word) refl
+  refused_none : (behind : Bool) → Refuses behind []
+  unfolding rest_fault walk_fault
+  refused_none behind = go (settle_fault (rules p) false (held_by rows (for_mode first))) (settling_refuses p first rows absent bad)
     where
-      by_end : (b : Bool) → is_end_of_options word ≡ b → is_dump word ≡ false → Meets p stage false (word ∷ words)
-      by_end true e f = subst (λ x. Meets p stage false (x ∷ words)) (is_dashes word e) (end_turn stage words good h)
-      by_end false e f =
-          let reading : reads (has_mode stage) (has_dump stage) false (word ∷ words) ≡ false = reads_other (has_mode stage) (has_dump stage) word words no_mode f e in
-          ⊎_elim (λ is. stops p stage false word words (refused_turn p stage word is) reading) (λ is. value_turn stage false word words is no_mode reading) (told_apart p word e f)
+      go : (kinds : Kinds) → none kinds ≡ false → none (or_else kinds (rows_fault p (settled (rules p) (held_by rows (for_mode first))).rows)) ≡ false
+      go [] e = absurd (true≢false e)
+      go (k ∷ ks) e = refl
 
-      by_dump : (b : Bool) → is_dump word ≡ b → Meets p stage false (word ∷ words)
-      by_dump true e = subst (λ x. Meets p stage false (x ∷ words)) (is_option word e) (dump_turn stage words good h)
-      by_dump false e = by_end (is_end_of_options word) refl e
+  by_turn : (behind : Bool) (word : Text) (words : List Text) → none (turn_fault (shape p) [] (walk_by rows (for_mode first) 2 behind) word) ≡ false → Refuses behind (word ∷ words)
+  by_turn behind word words e = rest_fails p (walk_by rows (for_mode first) 2 behind) word words e
 
-  turn : (stage : Stage) (trailing : Bool) (word : Text) (words : List Text) → is_good stage ≡ true → ((after : Stage) (behind : Bool) → is_good after ≡ true → Meets p after behind words)
-      → Meets p stage trailing (word ∷ words)
-  turn stage true word words good h = by_mode (is_mode word) refl
+  by_value : (behind : Bool) (word : Text) (words : List Text) → IsValue p behind word → Refuses behind (word ∷ words)
+  by_value behind word words is = by_turn behind word words (second_value p rows behind word is (for_mode first))
+
+  refused_rest : (behind : Bool) (words : List Text) → Refuses behind words
+  refused_rest behind [] = refused_none behind
+  refused_rest true (word ∷ words) = by_value true word words (value_behind p word)
+  refused_rest false (word ∷ words) = go (kind_of_word word) (refused_rest true words)
     where
-      by_mode : (b : Bool) → is_mode word ≡ b → Meets p stage true (word ∷ words)
-      by_mode true e = subst (λ x. Meets p stage true (x ∷ words)) (is_serial word e) (mode_turn stage true words h (value_behind p (codes "serial")))
-      by_mode false e = value_turn stage true word words (value_behind p word) e (reads_behind (has_mode stage) (has_dump stage) word words e)
-  turn stage false word words good h = by_mode (is_mode word) refl
-    where
-      by_mode : (b : Bool) → is_mode word ≡ b → Meets p stage false (word ∷ words)
-      by_mode true e = subst (λ x. Meets p stage false (x ∷ words)) (is_serial word e) (mode_turn stage false words h (mode_is_value p))
-      by_mode false e = open_turn stage word words good h e
+      go : Kind word → Refuses true words → Refuses false (word ∷ words)
+      go (a_mode m e) h = subst (λ w. Refuses false (w ∷ words)) e (by_value false (mode_word m) words (mode_is_value p m))
+      go (an_option f e) h = subst (λ w. Refuses false (w ∷ words)) e (by_turn false (flag_word f) words (settling_flag_refuses p first rows absent f bad))
+      go (dashes e) h = subst (λ w. Refuses false (w ∷ words)) e
+          (ap none (rest_on p (walk_by rows (for_mode first) 2 false) (codes "--") words (end_fault p rows (for_mode first) 2) ∙ ap (λ w. rest_fault p w words) (end_walk p rows (for_mode first) 2)) ∙ h)
+      go (another no_mode no_option no_end) h = ⊎_elim (λ is. by_turn false word words (refused_turn p rows (for_mode first) 2 word is)) (λ is. by_value false word words is) (told_apart p word no_end no_option)
 
-  pub meets : (words : List Text) (stage : Stage) (trailing : Bool) → is_good stage ≡ true → Meets p stage trailing words
-  meets [] stage trailing good = no_words stage trailing good
-  meets (word ∷ words) stage trailing good = turn stage trailing word words good (meets words)
+-- ---- the walk
+
+mode_stands : (m : Mode) (words : List Text) → race_by (is_race m) words ≡ race_by false (mode_word m ∷ words)
+mode_stands Serial words = refl
+mode_stands Race words = refl
+
+flag_is_no_race : (f : Flag) (words : List Text) → stands (mode_word Race) words ≡ stands (mode_word Race) (flag_word f ∷ words)
+flag_is_no_race history words = refl
+flag_is_no_race dump words = refl
+flag_is_no_race json words = refl
+
+-- a word that is none of the option's, before these
+passed_over : (f : Flag) (word : Text) (words : List Text) → is_flag f word ≡ false → stands (flag_word f) words ≡ stands (flag_word f) (word ∷ words)
+passed_over f word words e = ap (λ b. b || stands (flag_word f) words) (sym e)
+
+-- the walk over these words meets the definition, wherever it stands before them
+abbrev MeetsAll : ValueParser → List Text → Type 0
+MeetsAll p words = (rows : List Row) (stage : Stage) (seen : Flag → Bool) (behind : Bool) → AreRows p rows seen (checked stage) → Meets p rows stage seen behind words
+
+module _ (p : ValueParser) (accepted : (text : Text) → accepts false p text ≡ is_mode text) where
+  good : (m : Mode) → accepts false p (mode_word m) ≡ true
+  good Serial = accepted (codes "serial")
+  good Race = accepted (codes "race")
+
+  read_last : {rows : List Row} {seen : Flag → Bool} {m : Mode} → AreRows p rows seen (Some m) → Reads p (fold with_default rows (rules p)) (flags_by seen []) (race_by (is_race m) [])
+  read_last {rows} {seen} {m} are = record {
+    flag_is = λ f. flag_read are f ∙ ap (λ b. Some (bool_text b)) (sym (or-false (seen f)));
+    mode_is = mode_read are ∙ ap (λ k. Some (mode_word k)) (named m);
+  }
+    where
+      named : (m : Mode) → m ≡ mode_by (is_race m || false)
+      named Serial = refl
+      named Race = refl
+
+  no_words : MeetsAll p []
+  unfolding rest_fault walk_fault rows_left
+  no_words rows unread seen behind are = wrong p rows unread seen behind [] (ends are) (passes_none false seen behind)
+  no_words rows (met m) seen behind are =
+      let now = mode_added are m in
+      let settles = settled_is p (mode_word m) rows are.mode_is in (
+        ap (λ kinds. none (or_else kinds (rows_fault p (settled (rules p) (held_by rows (for_mode (mode_word m)))).rows))) (settling_passes p (mode_word m) rows are.mode_is (good m))
+            ∙ ap (λ h. none (rows_fault p h.rows)) settles ∙ ends now ∙ sym (passes_none true seen behind),
+        λ passed. same_reads (ap (λ h. fold with_default h.rows (rules p)) settles) (λ f. refl) refl (read_last now),
+      )
+  no_words rows (past m) seen behind are = (ends are ∙ sym (passes_none true seen behind), λ passed. read_last are)
+
+  module _ (words : List Text) (h : MeetsAll p words) (rows : List Row) (seen : Flag → Bool) where
+    -- a mode, which may come where none was met
+    mode_turn : (stage : Stage) (behind : Bool) (m : Mode) → AreRows p rows seen (checked stage) → IsValue p behind (mode_word m) → Meets p rows stage seen behind (mode_word m ∷ words)
+    mode_turn unread behind m are is =
+        goes_on p rows rows unread (met m) seen seen behind behind (mode_word m) words (first_value_fault p rows behind (mode_word m) is) (first_value_walk p rows behind (mode_word m) is)
+        (passes_mode false seen words behind m) (λ f. ap (λ b. seen f || b) (passed_over f (mode_word m) words (mode_is_no_flag m f))) (mode_stands m words) (h rows (met m) seen behind are)
+    mode_turn (met k) behind m are is =
+        stops p rows (met k) seen behind (mode_word m) words (second_value p rows behind (mode_word m) is (for_mode (mode_word k))) (passes_mode true seen words behind m)
+    mode_turn (past k) behind m are is = stops p rows (past k) seen behind (mode_word m) words (second_value p rows behind (mode_word m) is None) (passes_mode true seen words behind m)
+
+    -- a value that is no mode
+    value_turn : (stage : Stage) (behind : Bool) (word : Text) → AreRows p rows seen (checked stage) → IsValue p behind word → is_mode word ≡ false
+        → passes (has_mode stage) seen behind (word ∷ words) ≡ false → Meets p rows stage seen behind (word ∷ words)
+    value_turn unread behind word are is no_mode passing = wrong p rows unread seen behind (word ∷ words)
+        (ap none (rest_on p (walk_at rows unread behind) word words (first_value_fault p rows behind word is) ∙ ap (λ w. rest_fault p w words) (first_value_walk p rows behind word is))
+        ∙ refused_rest p rows are.mode_is word (accepted word ∙ no_mode) behind words) passing
+    value_turn (met k) behind word are is no_mode passing = stops p rows (met k) seen behind word words (second_value p rows behind word is (for_mode (mode_word k))) passing
+    value_turn (past k) behind word are is no_mode passing = stops p rows (past k) seen behind word words (second_value p rows behind word is None) passing
+
+    flag_stands : (f g : Flag) → flags_by (with_flag f seen) words g ≡ flags_by seen (flag_word f ∷ words) g
+    flag_stands f g = or_shift (is_flag g (flag_word f)) (seen g) (stands (flag_word g) words)
+
+    race_stands : (stage : Stage) (f : Flag) → race_by (races stage) words ≡ race_by (races stage) (flag_word f ∷ words)
+    race_stands stage f = ap (λ b. races stage || b) (flag_is_no_race f words)
+
+    passes_first : (m : Bool) (f : Flag) → seen f ≡ false → passes m seen false (flag_word f ∷ words) ≡ passes m (with_flag f seen) false words
+    passes_first m f e = passes_flag m seen words f ∙ ap (λ b. not b && passes m (with_flag f seen) false words) e
+
+    passes_again : (m : Bool) (f : Flag) → seen f ≡ true → passes m seen false (flag_word f ∷ words) ≡ false
+    passes_again m f e = passes_flag m seen words f ∙ ap (λ b. not b && passes m (with_flag f seen) false words) e
+
+    -- an option that wasn't met
+    new_flag : (stage : Stage) (f : Flag) → AreRows p rows seen (checked stage) → seen f ≡ false → Meets p rows stage seen false (flag_word f ∷ words)
+    new_flag unread f are e =
+        goes_on p rows (rows ++ flag_row f ∷ []) unread unread seen (with_flag f seen) false false (flag_word f) words (flag_passes p rows 1 f (no_flag_row are f e))
+        (flag_walk p rows 1 f (not_found are f e)) (passes_first false f e) (flag_stands f) (race_stands unread f) (h _ unread (with_flag f seen) false (flag_added are f e))
+    new_flag (met m) f are e =
+        let now = mode_added are m in
+        goes_on p rows ((rows ++ mode_row p (mode_word m) ∷ []) ++ flag_row f ∷ []) (met m) (past m) seen (with_flag f seen) false false (flag_word f) words
+        (settling_flag_passes p (mode_word m) rows are.mode_is f (good m) (no_flag_row now f e)) (settling_flag_walk p (mode_word m) rows are.mode_is f (not_found now f e))
+        (passes_first true f e) (flag_stands f) (race_stands (met m) f) (h _ (past m) (with_flag f seen) false (flag_added now f e))
+    new_flag (past m) f are e =
+        goes_on p rows (rows ++ flag_row f ∷ []) (past m) (past m) seen (with_flag f seen) false false (flag_word f) words (flag_passes p rows 2 f (no_flag_row are f e))
+        (flag_walk p rows 2 f (not_found are f e)) (passes_first true f e) (flag_stands f) (race_stands (past m) f) (h _ (past m) (with_flag f seen) false (flag_added are f e))
+
+    -- one that was
+    old_flag : (stage : Stage) (f : Flag) → AreRows p rows seen (checked stage) → seen f ≡ true → Meets p rows stage seen false (flag_word f ∷ words)
+    old_flag unread f are e = stops p rows unread seen false (flag_word f) words (flag_repeats p rows 1 f (flag_has_row are f e)) (passes_again false f e)
+    old_flag (met m) f are e =
+        stops p rows (met m) seen false (flag_word f) words (settling_flag_repeats p (mode_word m) rows are.mode_is f (good m) (flag_has_row (mode_added are m) f e)) (passes_again true f e)
+    old_flag (past m) f are e = stops p rows (past m) seen false (flag_word f) words (flag_repeats p rows 2 f (flag_has_row are f e)) (passes_again true f e)
+
+    flag_turn : (stage : Stage) (f : Flag) → AreRows p rows seen (checked stage) → Meets p rows stage seen false (flag_word f ∷ words)
+    flag_turn stage f are = go (seen f) refl
+      where
+        go : (b : Bool) → seen f ≡ b → Meets p rows stage seen false (flag_word f ∷ words)
+        go true e = old_flag stage f are e
+        go false e = new_flag stage f are e
+
+    end_turn : (stage : Stage) → AreRows p rows seen (checked stage) → Meets p rows stage seen false (codes "--" ∷ words)
+    end_turn stage are = goes_on p rows rows stage stage seen seen false true (codes "--") words (fault stage) (walk stage) (passes_end (has_mode stage) seen words)
+        (λ f. ap (λ b. seen f || b) (passed_over f (codes "--") words (dashes_are_no_flag f))) refl (h rows stage seen true are)
+      where
+        fault : (stage : Stage) → turn_fault (shape p) [] (walk_at rows stage false) (codes "--") ≡ []
+        fault unread = end_fault p rows None 1
+        fault (met m) = end_fault p rows (for_mode (mode_word m)) 2
+        fault (past m) = end_fault p rows None 2
+
+        walk : (stage : Stage) → walked (rules p) [] (walk_at rows stage false) (codes "--") ≡ walk_at rows stage true
+        walk unread = end_walk p rows None 1
+        walk (met m) = end_walk p rows (for_mode (mode_word m)) 2
+        walk (past m) = end_walk p rows None 2
+
+    other_turn : (stage : Stage) (word : Text) → AreRows p rows seen (checked stage) → is_mode word ≡ false → is_option word ≡ false → is_end_of_options word ≡ false
+        → Meets p rows stage seen false (word ∷ words)
+    other_turn stage word are no_mode no_option no_end =
+        let passing = passes_other (has_mode stage) seen words word no_mode no_option no_end in
+        ⊎_elim (λ is. stops p rows stage seen false word words (refused stage is) passing) (λ is. value_turn stage false word are is no_mode passing) (told_apart p word no_end no_option)
+      where
+        refused : (stage : Stage) → IsRefused p word → none (turn_fault (shape p) [] (walk_at rows stage false) word) ≡ false
+        refused unread is = refused_turn p rows None 1 word is
+        refused (met m) is = refused_turn p rows (for_mode (mode_word m)) 2 word is
+        refused (past m) is = refused_turn p rows None 2 word is
+
+    turn : (stage : Stage) (behind : Bool) (word : Text) → AreRows p rows seen (checked stage) → Meets p rows stage seen behind (word ∷ words)
+    turn stage true word are = by_kind (kind_of_word word)
+      where
+        other : is_mode word ≡ false → Meets p rows stage seen true (word ∷ words)
+        other e = value_turn stage true word are (value_behind p word) e (passes_behind (has_mode stage) seen words word e)
+
+        by_kind : Kind word → Meets p rows stage seen true (word ∷ words)
+        by_kind (a_mode m is) = subst (λ w. Meets p rows stage seen true (w ∷ words)) is (mode_turn stage true m are (value_behind p (mode_word m)))
+        by_kind (an_option f is) = other (ap is_mode (sym is) ∙ flag_is_no_mode f)
+        by_kind (dashes is) = other (ap is_mode (sym is))
+        by_kind (another no_mode no_option no_end) = other no_mode
+    turn stage false word are = by_kind (kind_of_word word)
+      where
+        by_kind : Kind word → Meets p rows stage seen false (word ∷ words)
+        by_kind (a_mode m is) = subst (λ w. Meets p rows stage seen false (w ∷ words)) is (mode_turn stage false m are (mode_is_value p m))
+        by_kind (an_option f is) = subst (λ w. Meets p rows stage seen false (w ∷ words)) is (flag_turn stage f are)
+        by_kind (dashes is) = subst (λ w. Meets p rows stage seen false (w ∷ words)) is (end_turn stage are)
+        by_kind (another no_mode no_option no_end) = other_turn stage word are no_mode no_option no_end
+
+  pub meets : (words : List Text) → MeetsAll p words
+  meets [] rows stage seen behind are = no_words rows stage seen behind are
+  meets (word ∷ words) rows stage seen behind are = turn words (meets words) rows seen stage behind word are

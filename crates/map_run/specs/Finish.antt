@@ -1,9 +1,12 @@
 -- How a run of the program ends: its status, what it writes, and what it keeps.
 use Rattle.std.specs.Prelude.{◌≡◌, ℕ, ◌≤◌, ◌⊎◌, false, List, ◌++◌, length, Option, Some, None, Result, Ok, Err, IsTrue, codes, decimal, nat_le, if◌then◌else◌, ⊤}
 use Rattle.map_run.specs.declared.record.Finish.{Finish}
-use Rattle.map_run.specs.declared.record.Options.{Options}
+use Rattle.map_report.specs.declared.record.Options.{Options}
+use Rattle.map_run.specs.declared.words.Asked.{Asked}
+use Rattle.map_run.specs.declared.words.Mode.{Mode}
+use Rattle.map_run.specs.declared.words.Mode.TheVariants.{Serial, Race}
 use Rattle.map_script.specs.declared.script.Script.{Script}
-use Rattle.map_run.specs.declared.record.RunRecord.{RunRecord}
+use Rattle.map_report.specs.declared.record.RunRecord.{RunRecord}
 use Rattle.map_types.specs.declared.refusal.CreateRefusal.{CreateRefusal}
 use Rattle.map_types.specs.declared.refusal.CreateRefusal.TheVariants.{Einval, Enotsupp, Limit}
 use Rattle.map_types.specs.declared.refusal.Limit.{Limit as Bound}
@@ -17,11 +20,13 @@ use Rattle.map_script.specs.CauseName.{cause_name}
 use Rattle.place_table.specs.Closing.{ClosedView}
 use Rattle.map_run.specs.Reads.{Takes, TakesAll}
 use Rattle.map_run.specs.Laws.{SerialLaws}
-use Rattle.map_run.specs.Record.{IsCopyOf}
-use Rattle.map_run.specs.Runs.{serial}
+use Rattle.map_run.specs.Copies.{IsCopyOf}
+use Rattle.map_report.specs.Runs.{serial}
 use Rattle.map_run.specs.Served.{is_built}
-use Rattle.map_run.specs.Text.{report}
-use Rattle.map_run.specs.Words.{are_words, options_of}
+use Rattle.map_report.specs.Json.{json}
+use Rattle.map_report.specs.Text.{report}
+use Rattle.map_run.specs.Words.{are_words, asked_of}
+use Rattle.map_run.specs.Work.{IsRaceRecord}
 use Rattle.map_run.specs.Writes.{Written, AddsWhole, AddsPrefix}
 
 -- how a run ends, before anything is written
@@ -33,11 +38,11 @@ pub data Ending : Type 0 where
   Refused : CreateRefusal → Ending
   NotBuilt : Ending
   OutOfMemory : Ending
-  Ran : Options → Script → Ending
+  Ran : Options → Script → RunRecord → Ending
 
 -- the status that it has
 abbrev pub status_of : Ending → ℕ
-status_of (Ran options script) = 0
+status_of (Ran options script kept) = 0
 status_of (Faulty line cause) = 1
 status_of BadWords = 2
 status_of ReadFault = 3
@@ -59,9 +64,13 @@ refusal_name Einval = codes "einval"
 refusal_name Enotsupp = codes "enotsupp"
 refusal_name (Limit limit) = codes "limit " ++ limit_name limit
 
--- what is to be written: the report of a run in serial order, or a line
+-- what is written of a run: its report in lines, or as a JSON object where that is asked for
+abbrev pub out : Options → Script → RunRecord → List ℕ
+out options script kept = if options.json then json script kept options else report script kept options
+
+-- what is to be written: what a run kept, or a line
 abbrev pub text_due : Ending → List ℕ
-text_due (Ran options script) = report script (serial script) options
+text_due (Ran options script kept) = out options script kept
 text_due (Faulty line cause) = codes "bpfmap: line " ++ decimal line ++ codes ": " ++ cause_name cause ++ codes "\n"
 text_due BadWords = codes "bpfmap: words\n"
 text_due ReadFault = codes "bpfmap: read\n"
@@ -72,7 +81,7 @@ text_due NotBuilt = codes "bpfmap: not built\n"
 
 -- what is kept of the run
 abbrev pub kept_of : Ending → Option RunRecord
-kept_of (Ran options script) = Some (serial script)
+kept_of (Ran options script kept) = Some kept
 kept_of _ = None
 
 -- what the table left of which the record was made, exactly where a record is kept
@@ -87,11 +96,17 @@ pub record IsInput (before after : Option (List ℕ)) (input : List ℕ) : Type 
   pub all : TakesAll before after input
   pub short : length input ≤ 16777216
 
--- Which endings an input has that was read to its end, where these options are asked for. A script that ran has the laws
--- of such runs.
-abbrev pub HasInput : Options → List ℕ → Ending → Type 0
-HasInput asked input (Ran options script) =
-    (options ≡ asked) × (read_as Calls input ≡ Ok script) × IsTrue (is_built script) × SerialLaws script
+-- What is kept of a script that ran in a mode. In serial order it is that of the calls one after another on plain lists, and
+-- the laws of such runs hold. In a race it is a record of the script with a strand for each CPU, in whatever order the CPUs'
+-- steps fell.
+abbrev pub RanAs : Mode → Script → RunRecord → Type 0
+RanAs Serial script kept = (kept ≡ serial script) × SerialLaws script
+RanAs Race script kept = IsRaceRecord script kept
+
+-- Which endings an input has that was read to its end, where this is asked for.
+abbrev pub HasInput : Asked → List ℕ → Ending → Type 0
+HasInput asked input (Ran options script kept) =
+    (options ≡ asked.options) × (read_as Calls input ≡ Ok script) × IsTrue (is_built script) × RanAs asked.mode script kept
 HasInput asked input (Faulty line cause) = read_as Calls input ≡ Err (Fault line cause)
 HasInput asked input (Refused why) = read_as Calls input ≡ Err (Create why)
 HasInput asked input NotBuilt = (script : Script) × (read_as Calls input ≡ Ok script) × (is_built script ≡ false)
@@ -100,7 +115,7 @@ HasInput asked input _ = ⊥
 
 -- Which endings good words have, by what a source tells is left before and after, and by whether its count of faults
 -- rose.
-abbrev pub HasSource : Options → Option (List ℕ) → Option (List ℕ) → Type 0 → Ending → Type 0
+abbrev pub HasSource : Asked → Option (List ℕ) → Option (List ℕ) → Type 0 → Ending → Type 0
 HasSource asked before after rose BadWords = ⊥
 HasSource asked before after rose ReadFault = rose
 HasSource asked before after rose TooLong = (bytes : List ℕ) × Takes before after bytes × (length bytes ≡ 16777217)
@@ -111,7 +126,7 @@ HasSource asked before after rose ending = (input : List ℕ) × IsInput before 
 abbrev pub HasCause : List (List ℕ) → Option (List ℕ) → Option (List ℕ) → Type 0 → Ending → Type 0
 HasCause words before after rose BadWords = (are_words words ≡ false) × (after ≡ before)
 HasCause words before after rose OutOfMemory = ⊤
-HasCause words before after rose ending = IsTrue (are_words words) × HasSource (options_of words) before after rose ending
+HasCause words before after rose ending = IsTrue (are_words words) × HasSource (asked_of words) before after rose ending
 
 -- The text is written whole and flushed with the status that is due, or a prefix of it with status 4 and a fault.
 abbrev pub IsDelivered : ℕ → List ℕ → ℕ → Option Written → Option Written → Type 0 → Type 0

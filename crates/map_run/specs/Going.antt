@@ -13,8 +13,8 @@ use Rattle.place_table.specs.declared.view.Turned.{Turned}
 use Rattle.place_table.specs.Known.{KnowsAll}
 use Rattle.place_table.specs.Passes.{PassView, TableView, spare_of, IsInNoCall, IsKeptOf, IsPassOf}
 use Rattle.place_table.specs.Views.{is_among, kept_step, no_bits}
-use Rattle.map_run.specs.Serial.{opening, lists_after, replies_from}
-use Rattle.map_run.specs.Turns.{Happened, lies, spare_at, turns_from, entries_on, steps_from}
+use Rattle.map_report.specs.Serial.{opening, lists_after, replies_from}
+use Rattle.map_report.specs.Turns.{Happened, lies, spare_at, turns_from, entries_on, steps_from}
 
 -- What a pass with all CPUs knows after some calls of a serial run: the turns of all locks are those that happened, and lead to these lists.
 pub record Going (shape : Shape) (lists : Finals) (turns : List Happened) (p : PassView) : Type 0 where
@@ -26,13 +26,14 @@ pub record Going (shape : Shape) (lists : Finals) (turns : List Happened) (p : P
   pub steps : map (λ (step : Turned). kept_step shape step.lock step.index) p.view.steps ≡ steps_from [] turns
   pub real : All (λ (step : Turned). (step.lock < lock_count shape) × IsTrue (is_lock shape (lock_named shape step.lock))) p.view.steps
 
--- A pass of the table between two calls of such a run: it has all CPUs, is in no call, and knows of no bit that is set; of its
--- turns, in order, some or all are recorded.
+-- A pass of the table between two calls of such a run: it has all CPUs, is in no call, and knows of no bit that is set; it has
+-- one strand, and of its turns, in order, some or all are recorded.
 pub record IsBetweenCalls (t : TableView) (p : PassView) : Type 0 where
   pub of_table : IsPassOf t p
   pub all_cpus : (cpu : ℕ) → cpu < t.shape.cpus → is_among cpu p.view.cpus ≡ true
   pub in_no_call : IsInNoCall p
   pub bits : p.view.bits ≡ no_bits t.shape.elements
+  pub ended : p.view.ended ≡ []
   pub kept : IsKeptOf t.shape p.view.steps [] p.view.kept
 
 -- These calls were run from the table's opening on, and answered so. Nothing is said of what they did and answered where the

@@ -12,12 +12,12 @@ use Rattle.map_types.specs.Stored.{Stored}
 use Rattle.map_script.specs.declared.script.Script.{Script}
 use Rattle.place_words.specs.declared.finals.Finals.{Finals}
 use Rattle.place_words.specs.Bodies.{present}
-use Rattle.map_run.specs.EachOnce.{in_buckets}
+use Rattle.map_report.specs.EachOnce.{in_buckets}
 use Rattle.map_run.specs.Entries.{Entry, entry_of, answers_from, entries_after}
-use Rattle.map_run.specs.Record.{IsRecord}
-use Rattle.map_run.specs.Runs.{serial}
-use Rattle.map_run.specs.Serial.{opening, bucket_at, lists_after}
-use Rattle.map_run.specs.Soundness.{IsSound}
+use Rattle.map_report.specs.Record.{IsRecord}
+use Rattle.map_report.specs.Runs.{serial}
+use Rattle.map_report.specs.Serial.{opening, bucket_at, lists_after}
+use Rattle.map_report.specs.Soundness.{IsSound}
 
 -- the lists of the map before the call of an index, and its entries as its user sees them
 abbrev pub lists_before : Script → ℕ → Finals

@@ -6,7 +6,7 @@ use Rattle.map_types.specs.Stored.{HasSizes}
 use Rattle.map_types.specs.declared.attr.Shape.{Shape}
 use Rattle.percpu_values.specs.BodyList.{BodyList}
 use Rattle.place_words.specs.declared.finals.Finals.{Finals}
-use Rattle.map_run.specs.Serial.{spare_count}
+use Rattle.map_report.specs.Serial.{spare_count}
 use Rattle.map_run.specs.Served.{is_built_kind}
 
 -- what it is, and what it holds

@@ -1,23 +1,28 @@
 //! The top call: from the words and the input to what is written.
 
-ghost use Rattle.std.specs.Prelude.{◌≡◌, ◌≤◌, ◌++◌, ℕ, List, Some, None, false, length, map, codes, decimal, IfOk, IfSome, IsTrue, string_bytes};
-ghost use Rattle.map_run.specs.Finish.{Ending, refusal_name, kept_of, status_of, text_due, Ends, Finishes, HasCause, HasInput, HasSource, IsStatus, status_due};
+ghost use Rattle.std.specs.Prelude.{◌≡◌, ◌≤◌, ◌++◌, ℕ, List, Some, None, false, length, map, codes, decimal, IfOk, IfSome, OnOk, IsTrue, string_bytes};
+ghost use Rattle.map_run.specs.Copies.{IsCopyOf};
+ghost use Rattle.map_run.specs.declared.words.Asked.{Asked};
+ghost use Rattle.map_run.specs.Finish.{Ending, out, RanAs, refusal_name, kept_of, status_of, text_due, Ends, Finishes, HasCause, HasInput, HasSource, IsStatus, status_due};
 ghost use Rattle.map_script.specs.CauseName.{cause_name};
 ghost use Rattle.map_script.specs.Reading.{read_as};
 ghost use Rattle.map_run.specs.Reads.{Rose};
-ghost use Rattle.map_run.specs.Served.{is_built};
+ghost use Rattle.map_run.specs.Served.{is_built, IsScript};
 ghost use Rattle.map_run.specs.Words.{are_words};
 
 use crate::delivery::deliver;
+use crate::race::run_race;
 use crate::reading::{ReadStop, read_all};
 use crate::serial::run_serial;
 use crate::served::is_built;
-use crate::text::{push_labelled, report_of};
-use crate::words::{WordsStop, options_of};
-use crate::{Finish, Options, Sink, Source};
+use crate::words::{Asked, Mode, WordsStop, asked_of};
+use crate::{Finish, Options, RunRecord, Sink, Source};
+use map_report::{json_of, text_of};
 use map_script::{Cause, Form, Script, ScriptRefusal, read_script};
-use map_types::{CreateRefusal, Gate, Limit};
+use map_types::{CreateRefusal, Gate, Limit, NoMemory};
+use place_table::Closed;
 use std::alloc::{AllocError, Global};
+use std::io::Write;
 use std::sync::Wait;
 use std::thread::Threads;
 
@@ -37,24 +42,60 @@ fn end_with_line<K: Sink>(sink: &mut K, status: u8, line: &[u8]) -> Finish
     }
 }
 
-/// Runs a script and ends with its report.
-fn end_with_run<R: Wait, K: Sink>(
+/// Runs a script in the mode that is asked for.
+fn run_in<R: Threads + Wait + Sync, G: Gate>(
     rt: &R,
     alloc: Global,
+    mode: Mode,
+    script: &Script,
+    gate: &G,
+) -> Result<(RunRecord, Closed), NoMemory>
+    requires script { IsScript script.now }
+    requires built { IsTrue (is_built script.now) }
+    ensures ran { IfOk result (λ kept. RanAs mode script.now kept.0) }
+    ensures closed { IfOk result (λ kept. IsCopyOf kept.0 kept.1) }
+{
+    match mode {
+        Mode::Serial => run_serial(rt, alloc, script),
+        Mode::Race => run_race(rt, alloc, script, gate),
+    }
+}
+
+/// What is written of a run.
+fn text_in(
+    alloc: Global,
     options: Options,
+    script: &Script,
+    kept: &RunRecord,
+) -> Result<Vec<u8>, NoMemory>
+    ensures { IfOk result (λ text. text.items ≡ out options script.now kept.now) }
+{
+    if options.json {
+        json_of(alloc, script, kept, options)
+    } else {
+        text_of(alloc, script, kept, options)
+    }
+}
+
+/// Runs a script and ends with its report.
+fn end_with_run<R: Threads + Wait + Sync, K: Sink, G: Gate>(
+    rt: &R,
+    alloc: Global,
+    asked: Asked,
     input: &[u8],
     script: &Script,
     sink: &mut K,
+    gate: &G,
 ) -> Finish
     requires read { read_as Form.Calls input.now ≡ Ok script.now }
     requires built { IsTrue (is_built script.now) }
-    ensures { Finishes (HasInput options input.now) (K.written sink.old) (K.written sink.new)
+    ensures { Finishes (HasInput asked input.now) (K.written sink.old) (K.written sink.new)
         (Rose (K.faults sink.old) (K.faults sink.new)) result }
 {
-    let Ok((kept, closed)) = run_serial(rt, alloc, script) else {
+    let Ok((kept, closed)) = run_in(rt, alloc, asked.mode, script, gate) else {
         return end_with_line(sink, 5, b"bpfmap: memory\n");
     };
-    let Ok(text) = report_of(alloc, script, &kept, options) else {
+    let Ok(text) = text_in(alloc, asked.options, script, &kept) else {
         return end_with_line(sink, 5, b"bpfmap: memory\n");
     };
     let status = match deliver(sink, text.as_slice()) {
@@ -89,11 +130,22 @@ fn fault_line(alloc: Global, line: u32, cause: Cause) -> Result<Vec<u8>, AllocEr
         ≡ codes "bpfmap: line " ++ decimal line ++ codes ": " ++ cause_name cause ++ codes "\n") }
 {
     let mut text = Vec::new(alloc);
-    push_labelled(&mut text, b"bpfmap: line ", line as usize)?;
+    text.extend_from_slice(b"bpfmap: line ")?;
+    push_number(&mut text, line)?;
     text.extend_from_slice(b": ")?;
     text.extend_from_slice(cause.name().as_bytes())?;
     text.extend_from_slice(b"\n")?;
     Ok(text)
+}
+
+/// Adds a number in decimal digits.
+fn push_number(text: &mut Vec<u8>, number: u32) -> Result<(), AllocError>
+    ensures { OnOk result (text.new.items ≡ text.old.items ++ decimal number) }
+{
+    match write!(text, "{number}") {
+        Ok(()) => Ok(()),
+        Err(_) => Err(AllocError),
+    }
 }
 
 /// Ends a run whose script has a fault.
@@ -105,7 +157,7 @@ fn end_with_fault<K: Sink>(
     cause: Cause,
 ) -> Finish
     requires { read_as Form.Calls input.now ≡ Err (ScriptRefusal.Fault line cause) }
-    ensures { (asked : Options) → Finishes (HasInput asked input.now) (K.written sink.old) (K.written sink.new)
+    ensures { (asked : Asked) → Finishes (HasInput asked input.now) (K.written sink.old) (K.written sink.new)
         (Rose (K.faults sink.old) (K.faults sink.new)) result }
 {
     let Ok(text) = fault_line(alloc, line, cause) else {
@@ -117,45 +169,47 @@ fn end_with_fault<K: Sink>(
 /// Ends a run whose script has a map that can't be created.
 fn end_with_refusal<K: Sink>(input: &[u8], sink: &mut K, why: CreateRefusal) -> Finish
     requires { read_as Form.Calls input.now ≡ Err (ScriptRefusal.Create why) }
-    ensures { (asked : Options) → Finishes (HasInput asked input.now) (K.written sink.old) (K.written sink.new)
+    ensures { (asked : Asked) → Finishes (HasInput asked input.now) (K.written sink.old) (K.written sink.new)
         (Rose (K.faults sink.old) (K.faults sink.new)) result }
 {
     end_with_line(sink, 6, refusal_line(why).as_bytes())
 }
 
 /// Ends a run whose input is a script.
-fn end_with_script<R: Wait, K: Sink>(
+fn end_with_script<R: Threads + Wait + Sync, K: Sink, G: Gate>(
     rt: &R,
     alloc: Global,
-    options: Options,
+    asked: Asked,
     input: &[u8],
     script: &Script,
     sink: &mut K,
+    gate: &G,
 ) -> Finish
     requires { read_as Form.Calls input.now ≡ Ok script.now }
-    ensures { Finishes (HasInput options input.now) (K.written sink.old) (K.written sink.new)
+    ensures { Finishes (HasInput asked input.now) (K.written sink.old) (K.written sink.new)
         (Rose (K.faults sink.old) (K.faults sink.new)) result }
 {
     if !is_built(script) {
         return end_with_line(sink, 8, b"bpfmap: not built\n");
     }
-    end_with_run(rt, alloc, options, input, script, sink)
+    end_with_run(rt, alloc, asked, input, script, sink, gate)
 }
 
 /// Ends a run whose input was read to its end.
-fn end_with_input<R: Wait, K: Sink>(
+fn end_with_input<R: Threads + Wait + Sync, K: Sink, G: Gate>(
     rt: &R,
     alloc: Global,
-    options: Options,
+    asked: Asked,
     input: &[u8],
     sink: &mut K,
+    gate: &G,
 ) -> Finish
     requires { length input.now ≤ 16777216 }
-    ensures { Finishes (HasInput options input.now) (K.written sink.old) (K.written sink.new)
+    ensures { Finishes (HasInput asked input.now) (K.written sink.old) (K.written sink.new)
         (Rose (K.faults sink.old) (K.faults sink.new)) result }
 {
     match read_script(alloc, input, Form::Calls) {
-        Ok(script) => end_with_script(rt, alloc, options, input, &script, sink),
+        Ok(script) => end_with_script(rt, alloc, asked, input, &script, sink, gate),
         Err(ScriptRefusal::Fault { line, cause }) => end_with_fault(
             alloc, input, sink, line, cause,
         ),
@@ -165,39 +219,41 @@ fn end_with_input<R: Wait, K: Sink>(
 }
 
 /// Ends a run from its words on.
-fn end_with_words<R: Wait, S: Source, K: Sink>(
+fn end_with_words<R: Threads + Wait + Sync, S: Source, K: Sink, G: Gate>(
     rt: &R,
     alloc: Global,
     words: &[String],
     source: &mut S,
     sink: &mut K,
+    gate: &G,
 ) -> Finish
     ensures finish { Finishes (HasCause (map string_bytes words.now) (S.left source.old) (S.left source.new)
         (Rose (S.faults source.old) (S.faults source.new))) (K.written sink.old) (K.written sink.new)
         (Rose (K.faults sink.old) (K.faults sink.new)) result }
     ensures unread { are_words (map string_bytes words.now) ≡ false → source.new ≡ source.old }
 {
-    match options_of(alloc, words) {
-        Ok(options) => end_with_source(rt, alloc, options, source, sink),
+    match asked_of(alloc, words) {
+        Ok(asked) => end_with_source(rt, alloc, asked, source, sink, gate),
         Err(WordsStop::Other) => end_with_line(sink, 2, b"bpfmap: words\n"),
         Err(WordsStop::NoMemory) => end_with_line(sink, 5, b"bpfmap: memory\n"),
     }
 }
 
 /// Ends a run whose words are good.
-fn end_with_source<R: Wait, S: Source, K: Sink>(
+fn end_with_source<R: Threads + Wait + Sync, S: Source, K: Sink, G: Gate>(
     rt: &R,
     alloc: Global,
-    options: Options,
+    asked: Asked,
     source: &mut S,
     sink: &mut K,
+    gate: &G,
 ) -> Finish
-    ensures { Finishes (HasSource options (S.left source.old) (S.left source.new)
+    ensures { Finishes (HasSource asked (S.left source.old) (S.left source.new)
         (Rose (S.faults source.old) (S.faults source.new))) (K.written sink.old) (K.written sink.new)
         (Rose (K.faults sink.old) (K.faults sink.new)) result }
 {
     match read_all(alloc, source) {
-        Ok(input) => end_with_input(rt, alloc, options, input.as_slice(), sink),
+        Ok(input) => end_with_input(rt, alloc, asked, input.as_slice(), sink, gate),
         Err(ReadStop::Failed) => end_with_line(sink, 3, b"bpfmap: read\n"),
         Err(ReadStop::TooLong) => end_with_line(sink, 7, b"bpfmap: too long\n"),
         Err(ReadStop::NoMemory) => end_with_line(sink, 5, b"bpfmap: memory\n"),
@@ -206,10 +262,12 @@ fn end_with_source<R: Wait, S: Source, K: Sink>(
 
 /// Runs the program: reads a script to its end, runs it in the mode that the words name, and writes its report.
 ///
-/// The words are the program's name, which is not looked at, then `serial` once and `--dump` at most once, in any order.
-/// One `--` may stand among them, after which no option follows. A script whose run is built is run in serial order, and
-/// with `--dump` the report says what the map holds at the end. The status says how it ended, and what was written is the
-/// report or one line:
+/// The words are the program's name, which is not looked at, then the mode once, `serial` or `race`, and each of
+/// `--history`, `--dump` and `--json` at most once, in any order. One `--` may stand among them, after which no option
+/// follows. A script whose run is built is run: in mode `serial` its calls one after another, in mode `race` the calls of
+/// each CPU in a thread of their own, whose worker passes the gate at each of its points. With `--history` the report says
+/// what happened under each lock, with `--dump` what the map holds at the end, and with `--json` it is a JSON object. The
+/// status says how it ended, and what was written is the report or one line:
 ///
 /// | status | comes | written |
 /// |---|---|---|
@@ -232,7 +290,7 @@ pub fn bpfmap<R: Threads + Wait + Sync, S: Source, K: Sink, G: Gate>(
     words: &[String],
     source: &mut S,
     sink: &mut K,
-    _gate: &G,
+    gate: &G,
 ) -> Finish
     // How it ended, why, what was written, and what is kept.
     ensures finish { Finishes (HasCause (map string_bytes words.now) (S.left source.old) (S.left source.new)
@@ -247,5 +305,5 @@ pub fn bpfmap<R: Threads + Wait + Sync, S: Source, K: Sink, G: Gate>(
     // With other words nothing is read.
     ensures unread { are_words (map string_bytes words.now) ≡ false → source.new ≡ source.old }
 {
-    end_with_words(rt, alloc, words, source, sink)
+    end_with_words(rt, alloc, words, source, sink, gate)
 }

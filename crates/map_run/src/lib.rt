@@ -2,12 +2,14 @@
 #![tactic(auto)]
 
 mod delivery;
-mod dump;
 mod finish;
+mod hold;
 mod memory;
 mod one_call;
 #[cfg(test)]
 mod plain;
+mod queue;
+mod race;
 mod reading;
 mod record;
 mod serial;
@@ -16,13 +18,15 @@ mod sink;
 mod source;
 #[cfg(test)]
 mod tests;
-mod text;
 mod words;
+mod worker;
 
 pub use finish::bpfmap;
+pub use hold::{Hold, HoldGate};
+pub use map_report::{Finals, Kept, LocalFinal, Options, RunRecord, SetFinal};
 pub use memory::{MemSink, MemSource};
-pub use place_words::{Finals, Kept, LocalFinal, SetFinal};
-pub use record::{Finish, Options, RunRecord};
+pub use race::run_race;
+pub use record::Finish;
 pub use serial::run_serial;
 pub use served::is_built;
 pub use sink::Sink;

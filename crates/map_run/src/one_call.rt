@@ -1,37 +1,42 @@
-//! One call of a run in serial order.
+//! One call of a run.
 
-ghost use Rattle.std.specs.Prelude.{◌≡◌, IfOk, length};
+ghost use Rattle.std.specs.Prelude.{◌≡◌, true, IfOk, length};
 ghost use Rattle.map_types.specs.declared.call.Verb.TheVariants as verbs;
 ghost use Rattle.map_types.specs.Creation.{IsShape};
 ghost use Rattle.map_types.specs.ValueLen.{value_len_of};
-ghost use Rattle.place_table.specs.Passes.{begun};
+ghost use Rattle.place_table.specs.Passes.{begun, IsInNoCall, IsPassOf};
+ghost use Rattle.place_table.specs.Views.{is_among};
 ghost use Rattle.hash_ops.specs.Calls.{CanCall, Called, reply_of_value};
-ghost use Rattle.map_run.specs.Going.{IsBetweenCalls};
+ghost use Rattle.map_report.specs.Record.{MayAnswer};
 ghost use Rattle.map_run.specs.Served.{IsServedCall};
 
 use hash_ops::{PlainMap, PlainRefusal};
-use map_types::{Absent, Call, Errno, List, NoGate, NoMemory, Reply, Side, Verb, value_len};
+use map_types::{Absent, Call, Errno, Gate, List, NoMemory, Reply, Side, Verb, value_len};
 use place_table::Pass;
 use std::alloc::Global;
 use std::sync::Wait;
 
 /// Runs a call of this number on its CPU, and gives its answer.
-pub(crate) fn run_call<R: Wait>(
+pub(crate) fn run_call<R: Wait, G: Gate>(
     rt: &R,
     alloc: Global,
     map: &PlainMap,
     pass: &mut Pass,
     number: u32,
     call: &Call,
+    gate: &G,
 ) -> Result<Reply, NoMemory>
     requires shape { IsShape map.now.shape }
-    requires between { IsBetweenCalls map.now pass.old }
+    requires table { IsPassOf map.now pass.old }
+    requires has_cpu { is_among call.now.cpu pass.old.view.cpus ≡ true }
+    requires in_no_call { IsInNoCall pass.old }
     requires served { IsServedCall map.now.shape call.now }
-    ensures { IfOk result (λ reply. Called map.now (begun pass.old call.now.cpu number) pass.new call.now.verb reply) }
+    ensures answers { IfOk result (λ reply. MayAnswer map.now.shape call.now.verb reply) }
+    ensures called { IfOk result (λ reply. Called map.now (begun pass.old call.now.cpu number) pass.new call.now.verb reply) }
 {
     map.table().begin(pass, call.cpu, number);
     match &call.verb {
-        Verb::Lookup { side, key } => look_up(rt, alloc, map, pass, *side, key.as_slice()),
+        Verb::Lookup { side, key } => look_up(rt, alloc, map, pass, *side, key.as_slice(), gate),
         Verb::Update {
             side,
             flags,
@@ -46,9 +51,10 @@ pub(crate) fn run_call<R: Wait>(
             *flags,
             key.as_slice(),
             value.as_slice(),
+            gate,
         ),
-        Verb::Delete { key } => delete(rt, map, pass, key.as_slice()),
-        Verb::Take { key } => take(rt, alloc, map, pass, key.as_slice()),
+        Verb::Delete { key } => delete(rt, map, pass, key.as_slice(), gate),
+        Verb::Take { key } => take(rt, alloc, map, pass, key.as_slice(), gate),
         // A script that is run has no such call.
         Verb::Next { .. }
         | Verb::BatchRead { .. }
@@ -58,26 +64,28 @@ pub(crate) fn run_call<R: Wait>(
 }
 
 /// Answers what a side reads of a key.
-fn look_up<R: Wait>(
+fn look_up<R: Wait, G: Gate>(
     rt: &R,
     alloc: Global,
     map: &PlainMap,
     pass: &mut Pass,
     side: Side,
     key: &[u8],
+    gate: &G,
 ) -> Result<Reply, NoMemory>
     requires shape { IsShape map.now.shape }
     requires can { CanCall map.now pass.old }
     requires key { length key.now ≡ map.now.shape.key_size }
-    ensures { IfOk result (λ reply. Called map.now pass.old pass.new (verbs.Lookup side key.now) reply) }
+    ensures answers { IfOk result (λ reply. MayAnswer map.now.shape (verbs.Lookup side key.now) reply) }
+    ensures called { IfOk result (λ reply. Called map.now pass.old pass.new (verbs.Lookup side key.now) reply) }
 {
     let mut out = room_for(alloc, map, side)?;
-    let got = map.lookup(rt, pass, side, key, out.as_mut_slice(), &NoGate);
+    let got = map.lookup(rt, pass, side, key, out.as_mut_slice(), gate);
     Ok(value_reply(got, out))
 }
 
 /// Updates a key.
-fn update<R: Wait>(
+fn update<R: Wait, G: Gate>(
     rt: &R,
     alloc: Global,
     map: &PlainMap,
@@ -86,13 +94,15 @@ fn update<R: Wait>(
     flags: u32,
     key: &[u8],
     value: &[u8],
+    gate: &G,
 ) -> Result<Reply, NoMemory>
     requires can { CanCall map.now pass.old }
     requires key { length key.now ≡ map.now.shape.key_size }
     requires value { length value.now ≡ value_len_of map.now.shape side }
-    ensures { IfOk result (λ reply. Called map.now pass.old pass.new (verbs.Update side flags key.now value.now) reply) }
+    ensures answers { IfOk result (λ reply. MayAnswer map.now.shape (verbs.Update side flags key.now value.now) reply) }
+    ensures called { IfOk result (λ reply. Called map.now pass.old pass.new (verbs.Update side flags key.now value.now) reply) }
 {
-    match map.update(rt, alloc, pass, side, flags, key, value, &NoGate) {
+    match map.update(rt, alloc, pass, side, flags, key, value, gate) {
         Ok(()) => Ok(Reply::Done),
         Err(PlainRefusal::Einval) => Ok(Reply::Refused(Errno::Einval)),
         Err(PlainRefusal::Enoent) => Ok(Reply::Refused(Errno::Enoent)),
@@ -103,32 +113,41 @@ fn update<R: Wait>(
 }
 
 /// Deletes a key.
-fn delete<R: Wait>(rt: &R, map: &PlainMap, pass: &mut Pass, key: &[u8]) -> Result<Reply, NoMemory>
+fn delete<R: Wait, G: Gate>(
+    rt: &R,
+    map: &PlainMap,
+    pass: &mut Pass,
+    key: &[u8],
+    gate: &G,
+) -> Result<Reply, NoMemory>
     requires can { CanCall map.now pass.old }
     requires key { length key.now ≡ map.now.shape.key_size }
-    ensures { IfOk result (λ reply. Called map.now pass.old pass.new (verbs.Delete key.now) reply) }
+    ensures answers { IfOk result (λ reply. MayAnswer map.now.shape (verbs.Delete key.now) reply) }
+    ensures called { IfOk result (λ reply. Called map.now pass.old pass.new (verbs.Delete key.now) reply) }
 {
-    match map.delete(rt, pass, key, &NoGate) {
+    match map.delete(rt, pass, key, gate) {
         Ok(()) => Ok(Reply::Done),
         Err(Absent) => Ok(Reply::Refused(Errno::Enoent)),
     }
 }
 
 /// Answers what the system call reads of a key, and deletes it.
-fn take<R: Wait>(
+fn take<R: Wait, G: Gate>(
     rt: &R,
     alloc: Global,
     map: &PlainMap,
     pass: &mut Pass,
     key: &[u8],
+    gate: &G,
 ) -> Result<Reply, NoMemory>
     requires shape { IsShape map.now.shape }
     requires can { CanCall map.now pass.old }
     requires key { length key.now ≡ map.now.shape.key_size }
-    ensures { IfOk result (λ reply. Called map.now pass.old pass.new (verbs.Take key.now) reply) }
+    ensures answers { IfOk result (λ reply. MayAnswer map.now.shape (verbs.Take key.now) reply) }
+    ensures called { IfOk result (λ reply. Called map.now pass.old pass.new (verbs.Take key.now) reply) }
 {
     let mut out = room_for(alloc, map, Side::Sys)?;
-    let got = map.take_key(rt, pass, key, out.as_mut_slice(), &NoGate);
+    let got = map.take_key(rt, pass, key, out.as_mut_slice(), gate);
     Ok(value_reply(got, out))
 }
 

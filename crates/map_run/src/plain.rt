@@ -4,9 +4,9 @@ ghost use Rattle.std.specs.Prelude.{◌≡◌, ◌<◌, IfOk, OnOk, IsTrue, leng
 ghost use Rattle.map_types.specs.Shape.{HasBounds};
 ghost use Rattle.map_types.specs.ValueLen.{value_len_of};
 ghost use Rattle.place_words.specs.Bodies.{present};
-ghost use Rattle.map_run.specs.Buckets.{bucket_of_key};
-ghost use Rattle.map_run.specs.Serial.{bucket_at, deleted, opening, after_call, spare_count, value_or_absent};
-ghost use Rattle.map_run.specs.Runs.{serial};
+ghost use Rattle.map_report.specs.Buckets.{bucket_of_key};
+ghost use Rattle.map_report.specs.Serial.{bucket_at, deleted, opening, after_call, spare_count, value_or_absent};
+ghost use Rattle.map_report.specs.Runs.{serial};
 ghost use Rattle.map_run.specs.Served.{is_built_kind, IsServed, IsServedCall};
 
 mod bodies;
@@ -31,7 +31,7 @@ const BPF_NOEXIST: u32 = 1;
 const BPF_EXIST: u32 = 2;
 
 /// Runs the calls of a script one after another. It gives their replies, and what the map holds at the end.
-#[tactic(auto, unfolding(crate::specs::Runs::serial))]
+#[tactic(auto, unfolding(map_report::specs::Runs::serial))]
 pub(crate) fn run_plain(alloc: Global, script: &Script) -> Result<(List<Reply>, Finals), NoMemory>
     requires { IsServed script.now }
     ensures replies { IfOk result (λ left. left.0 ≡ (serial script.now).replies) }
@@ -92,7 +92,7 @@ impl ListMap {
 
     /// Runs a call that is served, and gives its answer. Each verb's rule is that of the kernel function for its kind and
     /// side, as specs/Serial.antt names them. After an error the map is to be given up.
-    #[tactic(auto, unfolding(crate::specs::Serial::after_call))]
+    #[tactic(auto, unfolding(map_report::specs::Serial::after_call))]
     fn call(&mut self, alloc: Global, call: &Call) -> Result<Reply, NoMemory>
         requires served { IsServedCall self.old.shape call.now }
         ensures exact { IfOk result (λ reply.
@@ -220,7 +220,7 @@ impl ListMap {
     }
 
     /// Answers the value of a key that is present, as the system call reads it, and deletes it.
-    #[tactic(auto, unfolding(crate::specs::Serial::after_call))]
+    #[tactic(auto, unfolding(map_report::specs::Serial::after_call))]
     fn take(&mut self, alloc: Global, cpu: u32, key: &[u8]) -> Result<Reply, NoMemory>
         requires cpu { cpu < self.old.shape.cpus }
         requires key { length key.now ≡ self.old.shape.key_size }

@@ -5,15 +5,16 @@ ghost use Rattle.std.specs.List.{range_with_len};
 ghost use Rattle.map_types.specs.Creation.{IsShape};
 ghost use Rattle.map_run.specs.Going.{HaveRun};
 ghost use Rattle.map_run.specs.Laws.{SerialLaws};
-ghost use Rattle.map_run.specs.Record.{IsCopyOf};
-ghost use Rattle.map_run.specs.Runs.{serial, record_left, strand_left};
+ghost use Rattle.map_run.specs.Copies.{IsCopyOf};
+ghost use Rattle.map_report.specs.Runs.{serial};
+ghost use Rattle.map_run.specs.Copies.{record_left, strand_left};
 ghost use Rattle.map_run.specs.Served.{is_built, is_built_kind, IsScript, IsServed, IsServedCall};
 
 use crate::RunRecord;
 use crate::one_call::run_call;
 use hash_ops::PlainMap;
 use map_script::Script;
-use map_types::{Call, List, NoMemory, Reply};
+use map_types::{Call, List, NoGate, NoMemory, Reply};
 use place_table::{Closed, Pass};
 use place_words::{LockHistory, Strand};
 use std::alloc::Global;
@@ -76,7 +77,7 @@ fn run_calls<R: Wait>(
     let mut number = 0;
     for call in calls {
         number += 1;
-        replies.push(run_call(rt, alloc, map, pass, number, call)?)?;
+        replies.push(run_call(rt, alloc, map, pass, number, call, &NoGate)?)?;
     }
     Ok(replies)
 }
@@ -144,7 +145,10 @@ fn all_cpus(alloc: Global, cpus: u32) -> Result<Vec<u32>, NoMemory>
 }
 
 /// Copies of histories.
-fn histories_of(alloc: Global, histories: &[LockHistory]) -> Result<Vec<LockHistory>, NoMemory>
+pub(crate) fn histories_of(
+    alloc: Global,
+    histories: &[LockHistory],
+) -> Result<Vec<LockHistory>, NoMemory>
     ensures { IfOk result (λ copies. copies.items ≡ histories.now) }
 {
     let mut copies = Vec::with_capacity(alloc, histories.len())?;

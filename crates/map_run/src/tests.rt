@@ -1,8 +1,9 @@
 //! The top call over a source and a sink in memory.
 
-use crate::{MemSink, MemSource, bpfmap};
-use map_types::{List, NoGate};
+use crate::{Hold, HoldGate, MemSink, MemSource, bpfmap};
+use map_types::{DomainId, Gate, List, NoGate, Point};
 use std::alloc::{AllocError, Global};
+use std::process::Abort;
 use std::sync::Wait;
 use std::test::Fail;
 use std::thread::Threads;
@@ -25,7 +26,7 @@ struct Left {
 }
 
 /// Which calls fail, and how many bytes a call takes at most.
-#[derive(Clone, Copy)]
+#[derive(Clone, Copy, Debug)]
 struct Faults {
     read: Option<u32>,
     write: Option<u32>,
@@ -55,6 +56,18 @@ fn run<R: Threads + Wait + Sync>(
     input: Vec<u8>,
     faults: Faults,
 ) -> Result<Left, Fail> {
+    run_past(rt, alloc, line, input, faults, &NoGate)
+}
+
+/// Runs the words of a line over an input, with a gate that workers pass.
+fn run_past<R: Threads + Wait + Sync, G: Gate>(
+    rt: &R,
+    alloc: Global,
+    line: &str,
+    input: Vec<u8>,
+    faults: Faults,
+    gate: &G,
+) -> Result<Left, Fail> {
     let limit = faults.piece_limit.max(1);
     let mut words = Vec::new(alloc);
     words.push(String::from_str(alloc, "bpfmap")?)?;
@@ -65,7 +78,7 @@ fn run<R: Threads + Wait + Sync>(
     let mut sink = MemSink::of(alloc, listed(alloc, faults.write)?, limit, faults.room).map_err(
         |_| AllocError,
     )?;
-    let finish = bpfmap(rt, alloc, words.as_slice(), &mut source, &mut sink, &NoGate);
+    let finish = bpfmap(rt, alloc, words.as_slice(), &mut source, &mut sink, gate);
     Ok(Left {
         status: finish.status,
         kept: finish.kept.map(|kept| kept.replies.len()),
@@ -74,14 +87,49 @@ fn run<R: Threads + Wait + Sync>(
     })
 }
 
+/// What a run has to leave: what is written, its status, and how many replies are kept.
+#[derive(Clone, Copy)]
+struct Due<'a> {
+    written: &'a [u8],
+    status: u8,
+    kept: Option<usize>,
+}
+
+/// What the first script leaves.
+const WHOLE: Due<'static> = Due {
+    written: FIRST_REPORT,
+    status: 0,
+    kept: Some(4),
+};
+
+/// What it leaves where a read fails.
+const NOT_READ: Due<'static> = Due {
+    written: b"bpfmap: read\n",
+    status: 3,
+    kept: None,
+};
+
+/// Runs a line of words over an input, compares what it leaves, and answers how many bytes of the input are left.
+fn ends<R: Abort + Threads + Wait + Sync>(
+    rt: &R,
+    alloc: Global,
+    line: &str,
+    input: &[u8],
+    faults: Faults,
+    due: Due,
+) -> Result<usize, Fail> {
+    let left = run(rt, alloc, line, input.to_vec(alloc)?, faults)?;
+    assert_eq!(rt; left.sink.written(), due.written, "{line} {faults:?}");
+    assert_eq!(rt; (left.status, left.kept), (due.status, due.kept));
+    Ok(left.unread)
+}
+
 #[test]
 fn scripts_are_run(rt: HostRuntime) -> Result<(), Fail> {
     let alloc = rt.alloc();
     let left = run(&rt, alloc, "serial", FIRST.to_vec(alloc)?, NO_FAULTS)?;
-    assert_eq!(rt; left.sink.written(), FIRST_REPORT);
     assert_eq!(rt; left.sink.flushed(), FIRST_REPORT.len());
-    assert_eq!(rt; left.status, 0);
-    assert_eq!(rt; left.kept, Some(4));
+    ends(&rt, alloc, "serial", FIRST, NO_FAULTS, WHOLE)?;
     Ok(())
 }
 
@@ -159,28 +207,167 @@ pub(crate) const RUNS: [(&str, &str, &str); 12] = [
     ),
 ];
 
+/// The same of races, of histories and of JSON. Each race has one report, whatever its threads do.
+const REPORTS: [(&str, &str, &str); 6] = [
+    (
+        "race",
+        "map hash key 1 value 2 max 2 cpus 1\n0 update any 01 1122\n0 lookup 01\n0 delete 01\n0 lookup 01",
+        "map hash capacity 2 elements 3 buckets 2\n1 ok\n2 ok 1122\n3 ok\n4 enoent\nend\n",
+    ),
+    (
+        "serial --json",
+        "map hash key 1 value 2 max 2 cpus 1\n0 update any 01 1122\n0 lookup 01\n0 delete 01\n0 lookup 01",
+        "{\"map\":\"map hash capacity 2 elements 3 buckets 2\",\"replies\":[\"ok\",\"ok 1122\",\"ok\",\"enoent\"]}\n",
+    ),
+    // A pop finds the own freelist empty, and the element comes back to it.
+    (
+        "--history serial",
+        "map hash key 1 value 1 max 1 cpus 2\n0 update any 01 aa\n0 delete 01",
+        "map hash capacity 1 elements 3 buckets 1\n1 ok\n2 ok\nlock bucket 0 2\n0 1 update prog 0 01 aa offer - added 2\n0 2 delete 01 gone 2\nlock freelist 0 2\n0 1 empty\n0 2 push 2\nlock freelist 1 1\n0 1 pop 2\nstrand 0,1 5\nat freelist 0 0\nat freelist 1 0\nat bucket 0 0\nat freelist 0 1\nat bucket 0 1\nend\n",
+    ),
+    // A run without a turn has a strand.
+    (
+        "serial --history",
+        "map percpu_hash key 1 value 1 max 1 cpus 3",
+        "map percpu_hash capacity 1 elements 1 buckets 1\nstrand 0,1,2 0\nend\n",
+    ),
+    // A CPU without a step has an empty strand.
+    (
+        "race --history",
+        "map hash key 1 value 1 max 1 cpus 2\n0 lookup 01",
+        "map hash capacity 1 elements 3 buckets 1\n1 enoent\nlock bucket 0 1\n0 1 lookup prog 01 none\nstrand 0 1\nat bucket 0 0\nstrand 1 0\nend\n",
+    ),
+    // Two CPUs that meet under no lock.
+    (
+        "race --history --dump",
+        "map percpu_hash key 1 value 1 max 2 cpus 2\n0 update any 01 a1\n1 update any 03 b1\n0 lookup 01\n1 delete 03",
+        "map percpu_hash capacity 2 elements 2 buckets 2\n1 ok\n2 ok\n3 ok a1\n4 ok\nlock bucket 0 2\n1 2 update prog 0 03 b1 offer - added 1\n1 4 delete 03 gone 1\nlock bucket 1 2\n0 1 update prog 0 01 a1 offer - added 0\n0 3 lookup prog 01 got 0 a1\nlock freelist 0 1\n0 1 pop 0\nlock freelist 1 2\n1 2 pop 1\n1 4 push 1\nstrand 0 3\nat freelist 0 0\nat bucket 1 0\nat bucket 1 1\nstrand 1 4\nat freelist 1 0\nat bucket 0 0\nat freelist 1 1\nat bucket 0 1\nbucket 1 0 01 a1 00\nfreelist 0\nfreelist 1 1\nend\n",
+    ),
+];
+
+#[test]
+fn modes_and_options_have_their_reports(rt: HostRuntime) -> Result<(), Fail> {
+    let alloc = rt.alloc();
+    for (words, script, report) in REPORTS {
+        let input = format!(in alloc; "bpfmap 1\n{script}\n")?;
+        let due = Due {
+            written: report.as_bytes(),
+            status: 0,
+            kept: Some(calls_of(script)),
+        };
+        ends(&rt, alloc, words, input.as_bytes(), NO_FAULTS, due)?;
+    }
+    Ok(())
+}
+
+/// More yields than a worker needs to get anywhere.
+const MANY: u32 = 100_000_000;
+
+/// Scripts of two updates of keys in two buckets, one on each CPU, and their report.
+const TWO_UPDATES: [(&str, &str); 2] = [
+    (
+        "bpfmap 1\nmap hash key 1 value 2 max 4 cpus 2\n0 update any 01 0000\n1 update any 03 0000\n",
+        "map hash capacity 4 elements 6 buckets 4\n1 ok\n2 ok\nend\n",
+    ),
+    (
+        "bpfmap 1\nmap percpu_hash key 1 value 2 max 4 cpus 2\n0 update any 01 0000\n1 update any 03 0000\n",
+        "map percpu_hash capacity 4 elements 4 buckets 4\n1 ok\n2 ok\nend\n",
+    ),
+];
+
+/// CPU 0 is held with its bucket until the other CPU is at a point.
+fn held_with_bucket(until: Point) -> Hold {
+    Hold {
+        cpu: 0,
+        at: Point::Took(DomainId::Bucket(3)),
+        until_cpu: 1,
+        until,
+    }
+}
+
+/// Runs the two updates in a race with these holds, and tells whether one was missed.
+fn race_of_two<R: Threads + Wait + Abort + Sync>(
+    rt: &R,
+    alloc: Global,
+    updates: (&str, &str),
+    holds: Vec<Hold>,
+    turns: u32,
+) -> Result<bool, Fail> {
+    let gate = HoldGate::of(rt, alloc, List::of(holds), turns).map_err(|_| AllocError)?;
+    let input = updates.0.as_bytes().to_vec(alloc)?;
+    let left = run_past(rt, alloc, "race", input, NO_FAULTS, &gate)?;
+    assert_eq!(rt; left.sink.written(), updates.1.as_bytes());
+    assert_eq!(rt; left.status, 0);
+    Ok(gate.missed())
+}
+
+// A CPU that holds a bucket doesn't keep another from its call on another bucket.
+#[test]
+fn race_holds_one(rt: HostRuntime) -> Result<(), Fail> {
+    let alloc = rt.alloc();
+    let holds = vec![in alloc; held_with_bucket(Point::Done(2))]?;
+    let missed = race_of_two(&rt, alloc, TWO_UPDATES[0], holds, MANY)?;
+    assert!(rt; !missed);
+    Ok(())
+}
+
+// A hold that waits for what never comes ends, and tells so.
+#[test]
+fn race_misses_hold(rt: HostRuntime) -> Result<(), Fail> {
+    let alloc = rt.alloc();
+    let holds = vec![in alloc; held_with_bucket(Point::Done(3))]?;
+    let missed = race_of_two(&rt, alloc, TWO_UPDATES[0], holds, 1000)?;
+    assert!(rt; missed);
+    Ok(())
+}
+
+// Two calls are under way at once: each of two CPUs is held until the other is at a point inside its call.
+#[test]
+fn race_needs_two(rt: HostRuntime) -> Result<(), Fail> {
+    let alloc = rt.alloc();
+    for updates in TWO_UPDATES {
+        let begins_late = Hold {
+            cpu: 1,
+            at: Point::Begin(2),
+            until_cpu: 0,
+            until: Point::Took(DomainId::Bucket(3)),
+        };
+        let holds = vec![in alloc; held_with_bucket(Point::Done(2)), begins_late]?;
+        let missed = race_of_two(&rt, alloc, updates, holds, MANY)?;
+        assert!(rt; !missed);
+    }
+    Ok(())
+}
+
+/// How many calls a script has behind its map line.
+fn calls_of(script: &str) -> usize {
+    script.bytes().filter(|byte| *byte == b'\n').count()
+}
+
 #[test]
 fn runs_have_their_reports(rt: HostRuntime) -> Result<(), Fail> {
     let alloc = rt.alloc();
     for (words, script, report) in RUNS {
-        let script = format!(in alloc; "bpfmap 1\n{script}\n")?;
-        let input = script.as_bytes().to_vec(alloc)?;
-        let left = run(&rt, alloc, words, input, NO_FAULTS)?;
-        assert_eq!(rt; left.sink.written(), report.as_bytes());
-        assert_eq!(rt; left.status, 0);
+        let input = format!(in alloc; "bpfmap 1\n{script}\n")?;
+        let due = Due {
+            written: report.as_bytes(),
+            status: 0,
+            kept: Some(calls_of(script)),
+        };
+        ends(&rt, alloc, words, input.as_bytes(), NO_FAULTS, due)?;
     }
     Ok(())
 }
 
 #[test]
 fn other_words_read_nothing(rt: HostRuntime) -> Result<(), Fail> {
-    let alloc = rt.alloc();
-    let left = run(&rt, alloc, "frob", FIRST.to_vec(alloc)?, NO_FAULTS)?;
-    assert_eq!(rt; left.sink.written(), b"bpfmap: words\n".as_slice());
-    assert_eq!(rt;
-        (left.status, left.kept, left.unread),
-        (2, None, FIRST.len())
-    );
+    let due = Due {
+        written: b"bpfmap: words\n",
+        status: 2,
+        kept: None,
+    };
+    let unread = ends(&rt, rt.alloc(), "frob", FIRST, NO_FAULTS, due)?;
+    assert_eq!(rt; unread, FIRST.len());
     Ok(())
 }
 
@@ -293,115 +480,151 @@ const INPUTS: [(&str, &str, u8); 23] = [
 
 #[test]
 fn inputs_have_their_status(rt: HostRuntime) -> Result<(), Fail> {
-    let alloc = rt.alloc();
     for (input, line, status) in INPUTS {
-        let input = input.as_bytes().to_vec(alloc)?;
-        let left = run(&rt, alloc, "serial", input, NO_FAULTS)?;
-        assert_eq!(rt; left.sink.written(), line.as_bytes());
-        assert_eq!(rt; (left.status, left.kept), (status, None));
-    }
-
-    let whole = Faults {
-        piece_limit: u32::MAX,
-        ..NO_FAULTS
-    };
-    let left = run(
-        &rt,
-        alloc,
-        "serial",
-        vec![in alloc; b'#'; 16_777_216]?,
-        whole,
-    )?;
-    assert_eq!(rt;
-        left.sink.written(),
-        b"bpfmap: line 1: version\n".as_slice()
-    );
-    assert_eq!(rt; (left.status, left.unread), (1, 0));
-
-    // No byte is read behind the one that is too many: the 257th read gives it, and the next one would fail.
-    for (bytes, unread) in [(16_777_217usize, 0usize), (16_777_218, 1)] {
-        let failing = Faults {
-            read: Some(257),
-            ..whole
+        let due = Due {
+            written: line.as_bytes(),
+            status,
+            kept: None,
         };
-        let left = run(&rt, alloc, "serial", vec![in alloc; b'#'; bytes]?, failing)?;
-        assert_eq!(rt; left.sink.written(), b"bpfmap: too long\n".as_slice());
-        assert_eq!(rt; (left.status, left.unread), (7, unread));
+        ends(&rt, rt.alloc(), "serial", input.as_bytes(), NO_FAULTS, due)?;
     }
     Ok(())
 }
 
-// Each read of the first script fails in turn.
+/// So many bytes in one piece, of whose reads the one with this number fails, end in a line. It answers how many are left.
+fn long_input<R: Abort + Threads + Wait + Sync>(
+    rt: &R,
+    alloc: Global,
+    bytes: usize,
+    read: Option<u32>,
+    written: &[u8],
+    status: u8,
+) -> Result<usize, Fail> {
+    let input = vec![in alloc; b'#'; bytes]?;
+    let faults = Faults {
+        read,
+        piece_limit: u32::MAX,
+        ..NO_FAULTS
+    };
+    let left = run(rt, alloc, "serial", input, faults)?;
+    assert_eq!(rt; left.sink.written(), written);
+    assert_eq!(rt; (left.status, left.kept), (status, None));
+    Ok(left.unread)
+}
+
+// No byte is read behind the one that is too many: the 257th read gives it, and the next one would fail.
 #[test]
-fn each_read_fails(rt: HostRuntime) -> Result<(), Fail> {
+fn longest_input_is_read(rt: HostRuntime) -> Result<(), Fail> {
     let alloc = rt.alloc();
-    for piece_limit in [1u32, 7, 64] {
-        let reads = (FIRST.len() as u32).div_ceil(piece_limit) + 1;
-        for call in 0..reads {
-            let faults = Faults {
-                read: Some(call),
-                piece_limit,
-                ..NO_FAULTS
-            };
-            let left = run(&rt, alloc, "serial", FIRST.to_vec(alloc)?, faults)?;
-            assert_eq!(rt;
-                left.sink.written(),
-                b"bpfmap: read\n".as_slice(),
-                "read {call} of {piece_limit} bytes"
-            );
-            assert_eq!(rt; (left.status, left.kept), (3, None));
-        }
+    let fault = b"bpfmap: line 1: version\n";
+    let longest = long_input(&rt, alloc, 16_777_216, None, fault, 1)?;
+    assert_eq!(rt; longest, 0);
+    let long = b"bpfmap: too long\n";
+    let longer = long_input(&rt, alloc, 16_777_217, Some(257), long, 7)?;
+    assert_eq!(rt; longer, 0);
+    let still_longer = long_input(&rt, alloc, 16_777_218, Some(257), long, 7)?;
+    assert_eq!(rt; still_longer, 1);
+    Ok(())
+}
+
+/// Each read of the first script fails in turn, in pieces of so many bytes. There is no read after the end.
+fn reads_fail<R: Abort + Threads + Wait + Sync>(
+    rt: &R,
+    alloc: Global,
+    piece_limit: u32,
+    reads: u32,
+) -> Result<(), Fail> {
+    for call in 0..reads {
         let faults = Faults {
-            read: Some(reads),
+            read: Some(call),
             piece_limit,
             ..NO_FAULTS
         };
-        let left = run(&rt, alloc, "serial", FIRST.to_vec(alloc)?, faults)?;
-        assert_eq!(rt; left.status, 0, "no read after the end");
+        ends(rt, alloc, "serial", FIRST, faults, NOT_READ)?;
+    }
+    let faults = Faults {
+        read: Some(reads),
+        piece_limit,
+        ..NO_FAULTS
+    };
+    ends(rt, alloc, "serial", FIRST, faults, WHOLE)?;
+    Ok(())
+}
+
+#[test]
+fn each_read_fails(rt: HostRuntime) -> Result<(), Fail> {
+    for piece_limit in [1, 7, 64] {
+        let reads = (FIRST.len() as u32).div_ceil(piece_limit) + 1;
+        reads_fail(&rt, rt.alloc(), piece_limit, reads)?;
     }
     Ok(())
+}
+
+/// A write of the first script's report fails, after pieces of so many bytes.
+fn write_fails<R: Abort + Threads + Wait + Sync>(
+    rt: &R,
+    alloc: Global,
+    call: u32,
+    piece_limit: u32,
+) -> Result<(), Fail> {
+    let faults = Faults {
+        write: Some(call),
+        piece_limit,
+        ..NO_FAULTS
+    };
+    let due = Due {
+        written: first_bytes((call as usize).saturating_mul(piece_limit as usize)),
+        status: 4,
+        kept: Some(4),
+    };
+    ends(rt, alloc, "serial", FIRST, faults, due)?;
+    Ok(())
+}
+
+/// So many bytes of the first script's report, or all.
+fn first_bytes(count: usize) -> &'static [u8] {
+    &FIRST_REPORT[..count.min(FIRST_REPORT.len())]
 }
 
 // Each write of the first report and its flush fail in turn.
 #[test]
 fn each_write_fails(rt: HostRuntime) -> Result<(), Fail> {
-    let alloc = rt.alloc();
-    for piece_limit in [1u32, 7, 64] {
+    for piece_limit in [1, 7, 64] {
         let writes = (FIRST_REPORT.len() as u32).div_ceil(piece_limit);
         for call in 0..writes + 1 {
-            let faults = Faults {
-                write: Some(call),
-                piece_limit,
-                ..NO_FAULTS
-            };
-            let left = run(&rt, alloc, "serial", FIRST.to_vec(alloc)?, faults)?;
-            let prefix = FIRST_REPORT.len().min((call * piece_limit) as usize);
-            assert_eq!(rt;
-                left.sink.written(),
-                &FIRST_REPORT[..prefix],
-                "write {call} of {piece_limit} bytes"
-            );
-            assert_eq!(rt; (left.status, left.kept), (4, Some(4)));
+            write_fails(&rt, rt.alloc(), call, piece_limit)?;
         }
     }
+    Ok(())
+}
 
-    // A sink that has room for a prefix of the report, and one that fails under a line.
+#[test]
+fn full_sink_has_a_prefix(rt: HostRuntime) -> Result<(), Fail> {
     let full = Faults {
         room: 5,
         ..NO_FAULTS
     };
-    let left = run(&rt, alloc, "serial", FIRST.to_vec(alloc)?, full)?;
-    assert_eq!(rt; left.sink.written(), b"map h".as_slice());
-    assert_eq!(rt; (left.status, left.kept), (4, Some(4)));
+    let due = Due {
+        written: b"map h",
+        status: 4,
+        kept: Some(4),
+    };
+    ends(&rt, rt.alloc(), "serial", FIRST, full, due)?;
+    Ok(())
+}
+
+#[test]
+fn sink_fails_under_a_line(rt: HostRuntime) -> Result<(), Fail> {
     let broken = Faults {
         write: Some(0),
         ..NO_FAULTS
     };
-    let left = run(&rt, alloc, "frob", FIRST.to_vec(alloc)?, broken)?;
-    assert_eq!(rt; left.sink.written(), b"".as_slice());
-    assert_eq!(rt;
-        (left.status, left.kept, left.unread),
-        (4, None, FIRST.len())
-    );
+    let due = Due {
+        written: b"",
+        status: 4,
+        kept: None,
+    };
+    let unread = ends(&rt, rt.alloc(), "frob", FIRST, broken, due)?;
+    assert_eq!(rt; unread, FIRST.len());
     Ok(())
 }

@@ -1,9 +1,9 @@
 //! The command words, read by clap as those of one command.
 
 ghost use Rattle.std.specs.Prelude.{◌≡◌, ◌⊎◌, Some, false, codes, map, IfErr, IfOk, IsErrOf, IsTrue, string_bytes};
-ghost use Rattle.clap.specs.Words.{found_of, kind_of, one_text};
+ghost use Rattle.clap.specs.Words.{first_value, found_of, kind_of, new_rule, one_text, rule_of};
 ghost use Rattle.clap.specs.Values.{bool_text};
-ghost use Rattle.map_run.specs.Words.{are_words, options_of};
+ghost use Rattle.map_run.specs.Words.{are_words, mode_of, mode_word, options_of};
 
 use crate::Options;
 use clap::error::ErrorKind;
@@ -11,6 +11,22 @@ use clap::{Arg, ArgAction, ArgMatches, Command, Error};
 #[cfg(test)]
 use std::alloc::AllocError;
 use std::alloc::Global;
+
+/// In which order the calls of a script are made.
+#[derive(Clone, Copy, Debug, PartialEq, Eq)]
+pub enum Mode {
+    /// One after another, as they stand in the script.
+    Serial,
+    /// Each CPU's calls by a thread of its own.
+    Race,
+}
+
+/// What the command words ask for.
+#[derive(Clone, Copy, Debug, PartialEq, Eq)]
+pub(crate) struct Asked {
+    pub(crate) mode: Mode,
+    pub(crate) options: Options,
+}
 
 /// Why command words aren't taken.
 #[derive(Clone, Copy, Debug, PartialEq, Eq)]
@@ -21,39 +37,57 @@ pub(crate) enum WordsStop {
     NoMemory,
 }
 
-static MODES: [&str; 1] = ["serial"];
+static MODES: [&str; 2] = ["serial", "race"];
 
-/// What clap makes of the words. The command has one positional and one flag, and neither `--help` nor `--version`.
+/// An option that is given or not.
+fn flag<'a>(alloc: Global, name: &'a str) -> Arg<'a>
+    ensures rule { rule_of result ≡ record (new_rule name.now) { long = Some name.now; action = Some ArgAction.SetTrue } }
+    ensures local { result.global ≡ false }
+{
+    Arg::new(alloc, name).long(name).action(ArgAction::SetTrue)
+}
+
+/// What clap makes of the words. The command has one positional and three flags, and neither `--help` nor `--version`.
 fn matches_of<'a>(alloc: Global, words: &'a [String]) -> Result<ArgMatches<'a>, Error>
-    ensures taken { IfOk result (λ m. IsTrue (are_words (map string_bytes words.now))
-        × (one_text (found_of m) (codes "dump") ≡ Some (bool_text (options_of (map string_bytes words.now)).dump))) }
+    ensures taken { IfOk result (λ m. IsTrue (are_words (map string_bytes words.now))) }
+    ensures options { IfOk result (λ m. let options = options_of (map string_bytes words.now) in
+        (one_text (found_of m) (codes "history") ≡ Some (bool_text options.history))
+        × (one_text (found_of m) (codes "dump") ≡ Some (bool_text options.dump))
+        × (one_text (found_of m) (codes "json") ≡ Some (bool_text options.json))) }
+    ensures mode { IfOk result (λ m. first_value (found_of m) (codes "mode") ≡ Some (mode_word (mode_of (map string_bytes words.now)))) }
     ensures other { IfErr result (λ e. (kind_of e ≡ ErrorKind.OutOfMemory) ⊎ (are_words (map string_bytes words.now) ≡ false)) }
 {
     let mode = Arg::new(alloc, "mode")
         .required(true)
         .value_parser(MODES.as_slice());
-    let dump = Arg::new(alloc, "dump")
-        .long("dump")
-        .action(ArgAction::SetTrue);
     let command = Command::new(alloc, "bpfmap")
         .disable_help_flag(true)
         .disable_version_flag(true)
         .arg(mode)?
-        .arg(dump)?;
+        .arg(flag(alloc, "history"))?
+        .arg(flag(alloc, "dump"))?
+        .arg(flag(alloc, "json"))?;
     command.try_get_matches_from(words)
 }
 
-/// What the command words ask for: the program's name, which is not looked at, then `serial` once and `--dump` at most
-/// once, in any order. One `--` may stand, after which no option follows.
-pub(crate) fn options_of(alloc: Global, words: &[String]) -> Result<Options, WordsStop>
-    ensures taken { IfOk result (λ options. IsTrue (are_words (map string_bytes words.now)) × (options ≡ options_of (map string_bytes words.now))) }
+/// What the command words ask for: the program's name, which is not looked at, then `serial` or `race` once and each of
+/// `--history`, `--dump` and `--json` at most once, in any order. One `--` may stand, after which no option follows.
+pub(crate) fn asked_of(alloc: Global, words: &[String]) -> Result<Asked, WordsStop>
+    ensures taken { IfOk result (λ asked. IsTrue (are_words (map string_bytes words.now))
+        × (asked.options ≡ options_of (map string_bytes words.now)) × (asked.mode ≡ mode_of (map string_bytes words.now))) }
     ensures other { IsErrOf result WordsStop.Other → are_words (map string_bytes words.now) ≡ false }
 {
     match matches_of(alloc, words) {
-        Ok(matches) => Ok(Options {
-            history: false,
-            dump: matches.get_flag("dump"),
-            json: false,
+        Ok(matches) => Ok(Asked {
+            mode: match matches.get_str("mode") {
+                Some("race") => Mode::Race,
+                _ => Mode::Serial,
+            },
+            options: Options {
+                history: matches.get_flag("history"),
+                dump: matches.get_flag("dump"),
+                json: matches.get_flag("json"),
+            },
         }),
         Err(error) => match error.kind() {
             ErrorKind::OutOfMemory => Err(WordsStop::NoMemory),
@@ -63,29 +97,47 @@ pub(crate) fn options_of(alloc: Global, words: &[String]) -> Result<Options, Wor
 }
 
 #[cfg(test)]
-fn options_in(alloc: Global, line: &str) -> Result<Result<Options, WordsStop>, AllocError> {
+fn asked_in(alloc: Global, line: &str) -> Result<Result<Asked, WordsStop>, AllocError> {
     let mut words = Vec::new(alloc);
     for word in line.split(' ') {
         words.push(String::from_str(alloc, word)?)?;
     }
-    Ok(options_of(alloc, words.as_slice()))
+    Ok(asked_of(alloc, words.as_slice()))
 }
 
 #[cfg(test)]
-fn with_dump(dump: bool) -> Options {
-    Options {
-        history: false,
+fn asks(mode: Mode, history: bool, dump: bool, json: bool) -> Result<Asked, WordsStop> {
+    let options = Options {
+        history,
         dump,
-        json: false,
-    }
+        json,
+    };
+    Ok(Asked { mode, options })
 }
 
 #[test]
 fn reads_words(rt: HostRuntime) {
-    let plain = options_in(rt.alloc(), "bpfmap serial").expect(&rt, "memory");
-    assert!(rt; plain == Ok(with_dump(false)));
-    let dumped = options_in(rt.alloc(), "bpfmap --dump -- serial").expect(&rt, "memory");
-    assert!(rt; dumped == Ok(with_dump(true)));
-    let other = options_in(rt.alloc(), "bpfmap serial --dump=x").expect(&rt, "memory");
-    assert!(rt; other == Err(WordsStop::Other));
+    let serial = asked_in(rt.alloc(), "bpfmap serial").expect(&rt, "memory");
+    assert!(rt; serial == asks(Mode::Serial, false, false, false));
+    let race = asked_in(rt.alloc(), "bpfmap --json race --history").expect(&rt, "memory");
+    assert!(rt; race == asks(Mode::Race, true, false, true));
+    let dumped = asked_in(rt.alloc(), "serial --dump -- serial").expect(&rt, "memory");
+    assert!(rt; dumped == asks(Mode::Serial, false, true, false));
+}
+
+#[test]
+fn refuses_other_words(rt: HostRuntime) {
+    for line in [
+        "bpfmap",
+        "bpfmap serial race",
+        "bpfmap race --dump --dump",
+        "bpfmap serial -- --dump",
+        "bpfmap serial --dump=x",
+        "bpfmap serial --dum",
+        "bpfmap serial -- --",
+        "bpfmap --help",
+    ] {
+        let other = asked_in(rt.alloc(), line).expect(&rt, "memory");
+        assert!(rt; other == Err(WordsStop::Other));
+    }
 }

@@ -7,7 +7,7 @@ ghost use Rattle.map_types.specs.Shape.{HasBounds};
 ghost use Rattle.map_types.specs.Sides.{part_count, value_read, new_values};
 ghost use Rattle.map_types.specs.Stored.{HasSizes};
 ghost use Rattle.map_types.specs.ValueLen.{value_len_of};
-ghost use Rattle.map_run.specs.Serial.{new_stored};
+ghost use Rattle.map_report.specs.Serial.{new_stored};
 
 use map_types::{Bytes, List, NoMemory, Shape, Side};
 use percpu_values::{Body, BoxedBody};

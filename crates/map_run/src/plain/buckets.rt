@@ -7,8 +7,8 @@ ghost use Rattle.map_types.specs.Stored.{HasSizes, Stored};
 ghost use Rattle.map_types.specs.ValueLen.{value_len_of};
 ghost use Rattle.bucket_chain.specs.Places.{place_of_key};
 ghost use Rattle.place_words.specs.Bodies.{present, without_key};
-ghost use Rattle.map_run.specs.Buckets.{with_in_place};
-ghost use Rattle.map_run.specs.Serial.{new_stored};
+ghost use Rattle.map_report.specs.Buckets.{with_in_place};
+ghost use Rattle.map_report.specs.Serial.{new_stored};
 
 use super::bodies::{body_copy, new_body};
 use bucket_chain::Chain;

@@ -3,7 +3,7 @@
 ghost use Rattle.std.specs.Prelude.{◌≡◌, ◌<◌, ◌≤◌, ◌==◌, ◌+◌, ◌-◌, ◌^◌, IfOk, IfSome, OnOk, MatchOption, Some, None, find, length, not, reverse};
 ghost use Rattle.std.specs.List.{range_with_len};
 ghost use Rattle.place_words.specs.Shares.{share_count};
-ghost use Rattle.map_run.specs.Freelists.{first_not_empty, opening_stacks, popped, pushed, spares_popped, stack_at};
+ghost use Rattle.map_report.specs.Freelists.{first_not_empty, opening_stacks, popped, pushed, spares_popped, stack_at};
 ghost use Rattle.map_run.specs.Plain.{stacks_of};
 
 use map_types::{List, NoMemory, Numbers};

@@ -10,7 +10,7 @@ returns-in-Err-NoMemory g c = record {
 }
 
 pub returns-in-Err-Fault : goal.returns-in-Err-Fault
-returns-in-Err-Fault g c = c.end_with_fault.ensures c.args.options
+returns-in-Err-Fault g c = c.end_with_fault.ensures c.args.asked
 
 pub returns-in-Err-Create : goal.returns-in-Err-Create
-returns-in-Err-Create g c = c.end_with_refusal.ensures c.args.options
+returns-in-Err-Create g c = c.end_with_refusal.ensures c.args.asked

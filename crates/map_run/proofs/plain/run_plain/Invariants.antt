@@ -1,5 +1,5 @@
 use Rattle.std.proofs.Common.{◌≡◌, ◌++◌, drop}
-use Rattle.map_run.specs.Serial.{opening, replies_from, lists_after}
+use Rattle.map_report.specs.Serial.{opening, replies_from, lists_after}
 use Rattle.map_run.proofs.plain.run_plain.Given as goal
 
 -- the replies so far, and those of the calls that are left, are the replies of all, and the map goes on to the same end

@@ -5,8 +5,8 @@ use Rattle.map_types.specs.declared.attr.Shape.{Shape}
 use Rattle.map_types.specs.declared.call.Call.{Call}
 use Rattle.map_types.specs.Creation.{IsShape}
 use Rattle.map_run.specs.Going.{HaveRun}
-use Rattle.map_run.specs.Record.{IsCopyOf}
-use Rattle.map_run.specs.Runs.{serial}
+use Rattle.map_run.specs.Copies.{IsCopyOf}
+use Rattle.map_report.specs.Runs.{serial}
 use Rattle.map_run.specs.Served.{is_built_kind}
 use Rattle.map_run.proofs.SerialCalls.{run_first, run_end, is_copy}
 use Rattle.map_run.proofs.serial.run_script.Goals as goal
@@ -26,6 +26,8 @@ returns-clause-record g c =
 
 pub returns-clause-closed : goal.returns-clause-closed
 returns-clause-closed g c =
+    let same : c.in_ok-map.map.shape ≡ c.args.script.now.shape = c.in_ok-map.ensures.0 in
     IfOk-weaker c.keep.result _ (λ kept. IsCopyOf kept.0 kept.1)
-    (λ kept is. is_copy c.in_ok-map.map.shape c.args.script.now.shape c.run_calls.new.pass kept.0 c.in_ok-closed.closed kept.1 c.in_ok-replies.replies.items c.in_ok-closed.ensures c.in_ok-map.ensures.0 is)
+    (λ kept is. is_copy c.in_ok-map.map c.args.script.now.shape _ c.run_calls.new.pass kept.0 c.in_ok-closed.closed kept.1 c.in_ok-replies.replies.items same (subst IsShape (sym same) c.requires.shape)
+    c.in_ok-replies.ensures c.in_ok-closed.ensures is)
     c.keep.ensures

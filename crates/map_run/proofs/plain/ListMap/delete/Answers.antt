@@ -1,7 +1,7 @@
 use Rattle.std.proofs.Common.{◌≡◌, ◌<◌, length, set, arith, sym, ap, ◌∙◌}
 use Rattle.std.proofs.lemmas.List.{with_items_is}
 use Rattle.std.proofs.lemmas.List.Elements.{All-set}
-use Rattle.map_run.specs.Freelists.{pushed}
+use Rattle.map_report.specs.Freelists.{pushed}
 use Rattle.map_run.specs.Plain.{plain_lists, stacks_of}
 use Rattle.map_run.proofs.PlainLemmas.{AllSized, chain_sized, taken_sized, plain_deleted, plain_not_deleted}
 use Rattle.map_run.proofs.plain.ListMap.delete.Goals as goal

@@ -1,9 +1,9 @@
 use Rattle.std.proofs.Common.{◌≡◌, length, ap, sym, subst, ◌∙◌}
 use Rattle.std.proofs.lemmas.List.{length-map, with_items_is}
-use Rattle.map_run.specs.Freelists.{opening_stacks, spares_popped}
+use Rattle.map_report.specs.Freelists.{opening_stacks, spares_popped}
 use Rattle.map_run.specs.Plain.{plain_lists, stacks_of}
-use Rattle.map_run.specs.Serial.{spare_count}
-use Rattle.map_run.specs.Soundness.{HasLists}
+use Rattle.map_report.specs.Serial.{spare_count}
+use Rattle.map_report.specs.Soundness.{HasLists}
 use Rattle.map_run.proofs.EachOnceOpening.{each_once_opening}
 use Rattle.map_run.proofs.PlainLemmas.{opening_is, opening_sized}
 use Rattle.map_run.proofs.StackLemmas.{length-opening_stacks}

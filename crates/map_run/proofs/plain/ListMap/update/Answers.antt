@@ -4,9 +4,9 @@ use Rattle.std.proofs.lemmas.List.Elements.{All-set}
 use Rattle.map_types.specs.declared.refusal.Errno.TheVariants.{E2big}
 use Rattle.map_types.specs.declared.reply.Reply.TheVariants.{Done, Refused}
 use Rattle.place_words.specs.Bodies.{without_key}
-use Rattle.map_run.specs.Freelists.{popped}
+use Rattle.map_report.specs.Freelists.{popped}
 use Rattle.map_run.specs.Plain.{PlainState, plain_lists, stacks_of}
-use Rattle.map_run.specs.Serial.{new_stored}
+use Rattle.map_report.specs.Serial.{new_stored}
 use Rattle.map_run.proofs.PlainLemmas.{AllSized, same_place, spare_within, spare_read, update_unknown, plain_exists, plain_written, plain_replaced, plain_absent, plain_full, plain_added}
 use Rattle.map_run.proofs.plain.ListMap.update.Goals as goal
 

@@ -1,7 +1,7 @@
 use Rattle.std.proofs.Common.{◌≡◌, subst, sym, rules}
 use Rattle.map_types.specs.Sides.{part_count}
 use Rattle.map_types.specs.Stored.{Stored, HasSizes}
-use Rattle.map_run.specs.Serial.{new_stored}
+use Rattle.map_report.specs.Serial.{new_stored}
 use Rattle.map_run.proofs.BodyLemmas.{new_stored_sized}
 use Rattle.map_run.proofs.plain.bodies.new_body.Goals as goal
 

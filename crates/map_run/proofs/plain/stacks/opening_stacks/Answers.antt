@@ -1,6 +1,6 @@
 use Rattle.std.proofs.Common.{◌+◌, ◌∙◌, map, ap, arith}
 use Rattle.std.specs.List.{range_with_len}
-use Rattle.map_run.specs.Freelists.{opening_stack}
+use Rattle.map_report.specs.Freelists.{opening_stack}
 use Rattle.map_run.specs.Plain.{stacks_of}
 use Rattle.map_run.proofs.StackLemmas.{share_ends, share_next, opening_next}
 use Rattle.map_run.proofs.plain.stacks.opening_stacks.Goals as goal

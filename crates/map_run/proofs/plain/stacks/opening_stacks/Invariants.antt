@@ -1,7 +1,7 @@
 use Rattle.std.proofs.Common.{◌≡◌, map}
 use Rattle.std.specs.List.{range_with_len}
 use Rattle.place_words.specs.Shares.{share_first}
-use Rattle.map_run.specs.Freelists.{opening_stack}
+use Rattle.map_report.specs.Freelists.{opening_stack}
 use Rattle.map_run.specs.Plain.{stacks_of}
 use Rattle.map_run.proofs.plain.stacks.opening_stacks.Given as goal
 

@@ -1,5 +1,5 @@
 use Rattle.std.proofs.Common.{◌≡◌, ◌-◌}
-use Rattle.map_run.specs.Freelists.{spares_popped}
+use Rattle.map_report.specs.Freelists.{spares_popped}
 use Rattle.map_run.specs.Plain.{stacks_of}
 use Rattle.map_run.proofs.StackLemmas.{spares_with}
 use Rattle.map_run.proofs.plain.stacks.pop_spares.Given as goal

@@ -1,0 +1,15 @@
+pub mod BucketParts
+pub mod Buckets
+pub mod Dump
+pub mod EachOnce
+pub mod Freelists
+pub mod History
+pub mod Json
+pub mod ListParts
+pub mod Record
+pub mod Runs
+pub mod Serial
+pub mod Soundness
+pub mod Text
+pub mod Turns
+pub mod Words

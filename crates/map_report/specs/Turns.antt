@@ -1,0 +1,133 @@
+-- The turns that the calls of a serial run make, on plain lists, as its record tells them.
+use Rattle.std.specs.Prelude.{◌≡◌, ◌≢◌, ℕ, suc, ◌==◌, not, nat_lt, IsTrue, List, [], ◌∷◌, ◌++◌, length, map, filter, Option, None, Some, option_map, slice_get, slice_index, slice_index_or, if◌then◌else◌}
+use Rattle.std.specs.List.{range_with_len, before_first}
+use Rattle.map_types.specs.declared.attr.Shape.{Shape}
+use Rattle.map_types.specs.declared.call.Call.{Call}
+use Rattle.map_types.specs.declared.call.Verb.{Verb}
+use Rattle.map_types.specs.declared.call.Verb.TheVariants as verbs
+use Rattle.map_types.specs.declared.kind.DomainId.{DomainId}
+use Rattle.map_types.specs.declared.kind.DomainId.TheVariants.{Local, Global, CpuLru, Bucket, Freelist}
+use Rattle.map_types.specs.declared.kind.Side.{Side}
+use Rattle.map_types.specs.declared.kind.Side.TheVariants.{Sys}
+use Rattle.map_types.specs.Kind.{is_percpu}
+use Rattle.map_types.specs.Sides.{value_read}
+use Rattle.map_types.specs.Stored.{Stored}
+use Rattle.place_words.specs.declared.bucket_part.BucketPart.TheVariants.{Lookup, Update, Delete, Take}
+use Rattle.place_words.specs.declared.bucket_part.Put.{Put}
+use Rattle.place_words.specs.declared.bucket_part.Put.TheVariants as puts
+use Rattle.place_words.specs.declared.finals.Finals.{Finals}
+use Rattle.place_words.specs.declared.free_part.FreePart.TheVariants.{Popped}
+use Rattle.place_words.specs.declared.history.Entry.{Entry}
+use Rattle.place_words.specs.declared.history.LockHistory.{LockHistory}
+use Rattle.place_words.specs.declared.history.Strand.{Strand}
+use Rattle.place_words.specs.declared.history.StrandStep.{StrandStep}
+use Rattle.place_words.specs.Bodies.{present}
+use Rattle.place_words.specs.Histories.{Content, in_bucket, on_freelist, untold}
+use Rattle.place_words.specs.Locks.{is_lock, is_same_lock, lock_named, lock_count}
+use Rattle.place_words.specs.Traces.{Turn, ring, on_bucket_of, on_freelist_of, found_empty, pushes, element_gone, IsTrace, AreAllowed, after_turns, spare_after}
+use Rattle.map_report.specs.Freelists.{stack_at, first_not_empty}
+use Rattle.map_report.specs.Serial.{bucket_at, after_call}
+
+-- what lies under each lock
+abbrev pub lies : Finals → DomainId → Content
+lies lists (Local cpu) = untold
+lies lists Global = untold
+lies lists (CpuLru cpu) = untold
+lies lists (Bucket bucket) = in_bucket (slice_index_or lists.buckets bucket [])
+lies lists (Freelist cpu) = on_freelist (stack_at lists.freelists cpu)
+
+-- the spare that a CPU has
+abbrev pub spare_at : Finals → ℕ → Option ℕ
+spare_at lists cpu = slice_get lists.spares cpu
+
+-- A pop looks at the freelists in ring order, and ends at the first that isn't empty.
+abbrev pub pop_turns : ℕ → List (List ℕ) → Option ℕ → List Turn
+pop_turns cpu stacks None = found_empty (ring cpu (length stacks))
+pop_turns cpu stacks (Some giver) =
+    found_empty (before_first (λ c. not (length (stack_at stacks c) == 0)) (ring cpu (length stacks)))
+    ++ on_freelist_of giver (Popped (slice_index (stack_at stacks giver) 0)) ∷ []
+
+-- what a lookup got of the key's element
+abbrev pub got_of : Shape → Side → ℕ → Option Stored → Option (ℕ × List ℕ)
+got_of shape side cpu None = None
+got_of shape side cpu (Some stored) = Some (stored.element, value_read shape side cpu stored.values)
+
+-- what an update puts where the key's element is there, and where it isn't: what was popped says whether the map is full
+abbrev pub put_present : Shape → ℕ → ℕ → Finals → Stored → Put
+put_present shape cpu flags lists old =
+    if flags == 1 then puts.Exists
+    else (if is_percpu shape.kind then puts.Written old.element else puts.Replaced (slice_index lists.spares cpu) old.element)
+
+abbrev pub put_popped : List (List ℕ) → Option ℕ → Put
+put_popped stacks None = puts.Full
+put_popped stacks (Some giver) = puts.Added (slice_index (stack_at stacks giver) 0)
+
+abbrev pub update_turns : Shape → Side → ℕ → ℕ → List ℕ → List ℕ → Finals → Option Stored → List Turn
+update_turns shape side cpu flags key value lists (Some old) =
+    on_bucket_of shape key (Update side flags key value None (put_present shape cpu flags lists old)) ∷ []
+update_turns shape side cpu flags key value lists None =
+    if flags == 2 then on_bucket_of shape key (Update side flags key value None puts.Absent) ∷ []
+    else pop_turns cpu lists.freelists (first_not_empty cpu lists.freelists)
+    ++ on_bucket_of shape key (Update side flags key value None (put_popped lists.freelists (first_not_empty cpu lists.freelists))) ∷ []
+
+-- the turns of a call on a CPU, in the order in which their locks are given back
+unfoldable pub call_turns : Shape → ℕ → Verb → Finals → List Turn
+call_turns shape cpu (verbs.Lookup side key) lists =
+    on_bucket_of shape key (Lookup side key (got_of shape side cpu (present key (bucket_at shape lists key)))) ∷ []
+call_turns shape cpu (verbs.Update side flags key value) lists =
+    if nat_lt 2 flags then [] else update_turns shape side cpu flags key value lists (present key (bucket_at shape lists key))
+call_turns shape cpu (verbs.Delete key) lists =
+    let gone = option_map (λ (stored : Stored). stored.element) (present key (bucket_at shape lists key)) in
+    pushes cpu gone ++ on_bucket_of shape key (Delete key gone) ∷ []
+call_turns shape cpu (verbs.Take key) lists =
+    let gone = got_of shape Sys cpu (present key (bucket_at shape lists key)) in
+    pushes cpu (element_gone gone) ++ on_bucket_of shape key (Take key gone) ∷ []
+call_turns shape cpu _ lists = []
+
+-- A call does what its turns do. They are the turns of such a call with the answer that it gives, and each of them may be
+-- made at its place. They leave under each lock what lies there after the call, and they leave its CPU the spare that it
+-- has then. The other CPUs keep their spares.
+pub record DoesTurns (shape : Shape) (cpu : ℕ) (verb : Verb) (lists : Finals) : Type 0 where
+  pub trace : IsTrace shape cpu (spare_at lists cpu) verb (call_turns shape cpu verb lists) (after_call shape cpu verb lists).1
+  pub allowed : AreAllowed shape cpu (lies lists) (call_turns shape cpu verb lists)
+  pub leaves : (lock : DomainId) → IsTrue (is_lock shape lock)
+      → after_turns shape cpu (lies lists) (call_turns shape cpu verb lists) lock ≡ lies (after_call shape cpu verb lists).0 lock
+  pub spare : spare_after (spare_at lists cpu) (call_turns shape cpu verb lists) ≡ spare_at (after_call shape cpu verb lists).0 cpu
+  pub other_spares : (other : ℕ) → other ≢ cpu → spare_at (after_call shape cpu verb lists).0 other ≡ spare_at lists other
+
+-- a turn with its lock, as an entry of that lock's history
+abbrev pub Happened : Type 0
+Happened = DomainId × Entry
+
+abbrev pub happened : ℕ → ℕ → Turn → Happened
+happened cpu call turn = (turn.lock, record { cpu = cpu; call = call; part = turn.part })
+
+-- the turns of calls in their order, from a state of the map on, where the first call has this number
+abbrev pub turns_from : Shape → Finals → ℕ → List Call → List Happened
+turns_from shape lists number [] = []
+turns_from shape lists number (call ∷ calls) =
+    map (happened call.cpu number) (call_turns shape call.cpu call.verb lists)
+    ++ turns_from shape (after_call shape call.cpu call.verb lists).0 (suc number) calls
+
+-- those on one lock are its history
+abbrev pub entries_on : DomainId → List Happened → List Entry
+entries_on lock [] = []
+entries_on lock (turn ∷ turns) = if is_same_lock turn.0 lock then turn.1 ∷ entries_on lock turns else entries_on lock turns
+
+-- one history for each lock of the map, in the order of the locks' numbers
+abbrev pub history_on : Shape → List Happened → ℕ → LockHistory
+history_on shape turns k = record { lock = lock_named shape k; entries = entries_on (lock_named shape k) turns }
+
+abbrev pub histories_of_turns : Shape → List Happened → List LockHistory
+histories_of_turns shape turns =
+    map (history_on shape turns) (filter (λ k. is_lock shape (lock_named shape k)) (range_with_len 0 (lock_count shape)))
+
+-- each turn is a step, which names its place among the turns on its lock
+abbrev pub steps_from : List Happened → List Happened → List StrandStep
+steps_from before [] = []
+steps_from before (turn ∷ turns) =
+    record { lock = turn.0; index = length (entries_on turn.0 before) } ∷ steps_from (before ++ turn ∷ []) turns
+
+-- one strand of all CPUs has every turn
+abbrev pub strand_of_turns : Shape → List Happened → Strand
+strand_of_turns shape turns = record { cpus = range_with_len 0 shape.cpus; steps = steps_from [] turns }

@@ -1,0 +1,21 @@
+//! What a run keeps, and its report.
+#![tactic(auto)]
+
+mod bucket_part;
+mod dump;
+mod history;
+mod json;
+mod lines;
+mod list_part;
+mod piece;
+mod record;
+mod reply;
+#[cfg(test)]
+mod tests;
+mod text;
+mod words;
+
+pub use json::json_of;
+pub use place_words::{Finals, Kept, LocalFinal, SetFinal};
+pub use record::{Options, RunRecord};
+pub use text::text_of;

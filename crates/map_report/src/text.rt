@@ -1,0 +1,90 @@
+//! The text of a report.
+
+ghost use Rattle.std.specs.Prelude.{◌≡◌, [], ◌++◌, IfOk, OnOk, string_bytes, if◌then◌else◌};
+ghost use Rattle.std.specs.List.{flat_map};
+ghost use Rattle.map_report.specs.Dump.{dump_lines};
+ghost use Rattle.map_report.specs.History.{history_lines};
+ghost use Rattle.map_report.specs.Text.{ended, map_line, report};
+ghost use Rattle.map_report.specs.Words.{number_text};
+
+use crate::dump::add_dump;
+use crate::history::add_history;
+use crate::lines::{Lines, add_numbered};
+use crate::piece::Piece;
+use crate::words::kind_name;
+use crate::{Options, RunRecord};
+use map_script::Script;
+use map_types::{NoMemory, Shape};
+use place_words::Finals;
+use std::alloc::{AllocError, Global};
+
+/// What is printed of a run: a line for the map, a numbered line for each reply, what happened under each lock and what
+/// the map holds at the end where that is asked for, and `end`. `options.json` is not looked at. It fails only where
+/// memory does.
+#[tactic(auto, unfolding(crate::specs::Text::report))]
+pub fn text_of(
+    alloc: Global,
+    script: &Script,
+    kept: &RunRecord,
+    options: Options,
+) -> Result<Vec<u8>, NoMemory>
+    ensures { IfOk result (λ text. text.items ≡ report script.now kept.now options) }
+{
+    let mut text = String::new(alloc);
+    text.add(&script.shape)?;
+    add_numbered(&mut text, 1, kept.replies.as_slice())?;
+    add_history_if(&mut text, kept, options.history)?;
+    add_dump_if(&mut text, &script.shape, &kept.finals, options.dump)?;
+    text.push_str("end\n")?;
+    Ok(text.into_bytes())
+}
+
+/// Adds what happened, if that is asked for.
+fn add_history_if(text: &mut String, kept: &RunRecord, asked: bool) -> Result<(), AllocError>
+    ensures { OnOk result (string_bytes text.new
+        ≡ string_bytes text.old ++ flat_map ended (if asked then history_lines kept.now else [])) }
+{
+    if asked {
+        add_history(text, kept)
+    } else {
+        Ok(())
+    }
+}
+
+/// Adds what the map holds, if that is asked for.
+fn add_dump_if(
+    text: &mut String,
+    shape: &Shape,
+    finals: &Finals,
+    asked: bool,
+) -> Result<(), AllocError>
+    ensures { OnOk result (string_bytes text.new
+        ≡ string_bytes text.old ++ flat_map ended (if asked then dump_lines shape.now finals.now else [])) }
+{
+    if asked {
+        add_dump(text, shape, finals)
+    } else {
+        Ok(())
+    }
+}
+
+/// `map KIND capacity N elements N buckets N`
+impl Piece for Shape {
+    ghost shown = { map_line };
+
+    fn push_to(&self, text: &mut String) -> Result<(), AllocError> {
+        text.push_str("map ")?;
+        text.push_str(kind_name(self.kind))?;
+        push_labelled(text, " capacity", self.capacity)?;
+        push_labelled(text, " elements", self.elements)?;
+        push_labelled(text, " buckets", self.buckets)
+    }
+}
+
+/// Adds a label and a number.
+fn push_labelled(text: &mut String, label: &str, number: u32) -> Result<(), AllocError>
+    ensures { OnOk result (string_bytes text.new ≡ string_bytes text.old ++ label.now ++ number_text number) }
+{
+    text.push_str(label)?;
+    number.push_to(text)
+}

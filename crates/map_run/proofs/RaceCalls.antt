@@ -1,0 +1,225 @@
+-- The calls of a race's workers: on which locks their turns are, what they leave as spares, that they are concatenations of the
+-- calls' traces, and what they answer.
+use Rattle.std.proofs.Common.{◌≡◌, ◌≢◌, ℕ, suc, ◌<◌, Bool, true, false, ◌||◌, eqb, List, [], ◌∷◌, ◌++◌, length, map, get_or, drop, Option, Some, None, refl, ap, sym, ◌∙◌, ⊎_elim, subst, arith}
+use Rattle.std.specs.Prelude.{IsTrue, MatchBool, All, slice_get, if◌then◌else◌}
+use Rattle.std.specs.List.{AllByRecursion}
+use Rattle.std.proofs.lemmas.Bool.{eq-eqb, ne_eqb}
+use Rattle.std.proofs.lemmas.List.{map-append}
+use Rattle.std.proofs.lemmas.List.Elements.{All-nil, All-cons, All-append, recursion_from_All}
+use Rattle.std.proofs.lemmas.Option.{none-some}
+use Rattle.map_types.specs.declared.attr.Shape.{Shape}
+use Rattle.map_types.specs.declared.call.Call.{Call}
+use Rattle.map_types.specs.declared.call.Verb.{Verb}
+use Rattle.map_types.specs.declared.call.Verb.TheVariants as verbs
+use Rattle.map_types.specs.declared.reply.Reply.{Reply}
+use Rattle.map_types.specs.Shape.{HasBounds}
+use Rattle.place_words.specs.declared.bucket_part.BucketPart.TheVariants.{Update, Delete, Take}
+use Rattle.place_words.specs.declared.bucket_part.Put.{Put}
+use Rattle.place_words.specs.declared.bucket_part.Put.TheVariants as puts
+use Rattle.place_words.specs.declared.free_part.FreePart.TheVariants.{Popped}
+use Rattle.place_words.specs.declared.history.LockHistory.{LockHistory}
+use Rattle.place_words.specs.ElementLists.{put}
+use Rattle.place_words.specs.Locks.{lock_named, lock_count}
+use Rattle.place_words.specs.Traces.{Turn, ring, on_bucket_of, on_freelist_of, found_empty, pushes, element_gone, LooksFor, IsTrace, spare_after_put, spare_after}
+use Rattle.place_words.proofs.LockLemmas.{number_of_named, number_within}
+use Rattle.place_core.proofs.ElementLemmas.{by_test, put_here}
+use Rattle.place_words.proofs.RowLemmas.{eqb_turned}
+use Rattle.place_table.specs.declared.view.Turned.{Turned}
+use Rattle.place_table.specs.Known.{turn_of, IsBy}
+use Rattle.map_report.specs.Record.{MayAnswer, EachAnswered, has_cpu, entries_of, Name, IsConcatenation}
+use Rattle.map_run.specs.Served.{is_built_kind, IsServedCall}
+use Rattle.map_run.specs.Work.{replies_of, IsCallBy, AreCallsBy}
+use Rattle.map_run.proofs.Closing.{IsReal}
+use Rattle.map_run.proofs.HistoryTurns.{matched}
+use Rattle.map_run.proofs.RaceKept.{steps_of}
+use Rattle.map_run.proofs.RingTurns.{spare_empty}
+use Rattle.map_run.proofs.TurnLocks.{OnLocks, all_parts, trace_real}
+use Rattle.map_run.proofs.TurnSteps.{spare_more}
+
+-- Spares
+
+-- a CPU that has no spare gets none by a call
+looks_leave : (shape : Shape) (cpu : ℕ) (given : Put) (looks : List Turn) → LooksFor shape cpu None given looks → (spare_after None looks ≡ None) × (spare_after_put None given ≡ None)
+looks_leave shape cpu (puts.Added e) looks looked = (
+  ap (spare_after None) looked.turns_are
+      ∙ spare_more None (found_empty looked.passed) (on_freelist_of looked.giver (Popped e) ∷ [])
+      ∙ ap (λ (spare : Option ℕ). spare_after spare (on_freelist_of looked.giver (Popped e) ∷ [])) (spare_empty None looked.passed),
+  refl,
+)
+looks_leave shape cpu (puts.Replaced new old) looks looked = absurd (none-some new looked.1)
+looks_leave shape cpu (puts.Written e) looks looked = (ap (spare_after None) looked, refl)
+looks_leave shape cpu puts.Exists looks looked = (ap (spare_after None) looked, refl)
+looks_leave shape cpu puts.Absent looks looked = (ap (spare_after None) looked, refl)
+looks_leave shape cpu puts.Full looks looked = (ap (spare_after None) looked ∙ spare_empty None (ring cpu shape.cpus), refl)
+
+gone_leaves : (cpu : ℕ) (gone : Option ℕ) (last : Turn) → spare_after None (pushes cpu gone ++ last ∷ []) ≡ spare_after None (last ∷ [])
+gone_leaves cpu None last = refl
+gone_leaves cpu (Some e) last = refl
+
+none_by_call : (shape : Shape) (cpu : ℕ) (verb : Verb) (turns : List Turn) (reply : Reply) → IsTrace shape cpu None verb turns reply → spare_after None turns ≡ None
+none_by_call shape cpu (verbs.Lookup side key) turns reply trace = ap (spare_after None) trace.turns_are
+none_by_call shape cpu (verbs.Update side flags key value) turns reply trace =
+    ⊎_elim (λ refused. ap (spare_after None) refused.1)
+    (λ known.
+    let left = looks_leave shape cpu known.1.put known.1.looks known.1.looks_are in
+    let last : Turn = on_bucket_of shape key (Update side flags key value None known.1.put) in
+    ap (spare_after None) known.1.turns_are
+    ∙ spare_more None known.1.looks (last ∷ [])
+    ∙ ap (λ (spare : Option ℕ). spare_after spare (last ∷ [])) left.0
+    ∙ left.1)
+    trace
+none_by_call shape cpu (verbs.Delete key) turns reply trace =
+    ap (spare_after None) trace.turns_are ∙ gone_leaves cpu trace.gone (on_bucket_of shape key (Delete key trace.gone))
+none_by_call shape cpu (verbs.Take key) turns reply trace =
+    ap (spare_after None) trace.turns_are ∙ gone_leaves cpu (element_gone trace.gone) (on_bucket_of shape key (Take key trace.gone))
+none_by_call shape cpu (verbs.Next key) turns reply trace = absurd trace
+none_by_call shape cpu (verbs.BatchRead remove count start flags) turns reply trace = absurd trace
+none_by_call shape cpu (verbs.BatchUpdate flags pairs) turns reply trace = absurd trace
+none_by_call shape cpu (verbs.BatchDelete flags keys) turns reply trace = absurd trace
+
+-- The first of some calls
+
+one_reply : (reply other : Reply) (replies more : List Reply) → reply ∷ replies ≡ other ∷ more → (other ≡ reply) × (more ≡ replies)
+one_reply reply other replies more is = (sym (ap (λ (l : List Reply). get_or l 0 reply) is), sym (ap (λ (l : List Reply). drop 1 l) is))
+
+module _ (shape : Shape) (cpu : ℕ) where
+  abbrev IsFirst : ℕ → Call → List Call → Option ℕ → Option ℕ → List Reply → List Turned → Type 0
+  IsFirst number call calls spare last replies steps =
+      (mine : List Turned) × (rest : List Turned) × (reply : Reply) × (more : List Reply) × (steps ≡ mine ++ rest) × (replies ≡ reply ∷ more)
+      × IsCallBy shape number call spare reply mine
+      × AreCallsBy shape cpu (suc number) calls (spare_after spare (map (turn_of shape) mine)) last more rest
+
+  -- It is the CPU's, or another's.
+  pub first_call : (R : Type 0) (number : ℕ) (call : Call) (calls : List Call) (spare last : Option ℕ) (reply : Reply) (replies : List Reply) (steps : List Turned)
+      → AreCallsBy shape cpu number (call ∷ calls) spare last (replies_of cpu (call ∷ calls) (reply ∷ replies)) steps
+      → (call.cpu ≡ cpu → (mine rest : List Turned) → steps ≡ mine ++ rest → IsCallBy shape number call spare reply mine
+      → AreCallsBy shape cpu (suc number) calls (spare_after spare (map (turn_of shape) mine)) last (replies_of cpu calls replies) rest → R)
+      → (call.cpu ≢ cpu → AreCallsBy shape cpu (suc number) calls spare last (replies_of cpu calls replies) steps → R) → R
+  first_call R number call calls spare last reply replies steps are own elsewhere =
+      let later : List Reply = replies_of cpu calls replies in
+      by_test call.cpu cpu
+      (λ b. MatchBool b (IsFirst number call calls spare last (if b then reply ∷ later else later) steps) (AreCallsBy shape cpu (suc number) calls spare last (if b then reply ∷ later else later) steps) → R)
+      (λ is first.
+      let same = one_reply reply first.2 later first.3 first.5 in
+      own is first.0 first.1 first.4
+      (subst (λ (r : Reply). IsCallBy shape number call spare r first.0) same.0 first.6)
+      (subst (λ (more : List Reply). AreCallsBy shape cpu (suc number) calls (spare_after spare (map (turn_of shape) first.0)) last more first.1) same.1 first.7))
+      (λ is others. elsewhere is others)
+      are
+
+-- Locks
+
+on_locks : (shape : Shape) (steps : List Turned) → OnLocks shape (map (turn_of shape) steps) → All (IsReal shape) steps
+on_locks shape [] real = All-nil (IsReal shape)
+on_locks shape (step ∷ steps) real =
+    All-cons (IsReal shape) step steps (subst (λ (k : ℕ). k < lock_count shape) (number_of_named shape step.lock) (number_within shape (lock_named shape step.lock) real.0), real.0)
+    (on_locks shape steps real.1)
+
+module _ (shape : Shape) (bounds : HasBounds shape) (built : IsTrue (is_built_kind shape.kind)) (cpu : ℕ) where
+  -- the turns of a CPU's calls are on locks of the map
+  pub calls_real : (calls : List Call) (replies : List Reply) (number : ℕ) (spare last : Option ℕ) (steps : List Turned) → length replies ≡ length calls → AllByRecursion (IsServedCall shape) calls
+      → AreCallsBy shape cpu number calls spare last (replies_of cpu calls replies) steps → All (IsReal shape) steps
+  calls_real [] replies number spare last steps count served are = subst (All (IsReal shape)) (sym are.1) (All-nil (IsReal shape))
+  calls_real (call ∷ calls) [] number spare last steps count served are = absurd (omega arith)
+  calls_real (call ∷ calls) (reply ∷ replies) number spare last steps count served are =
+      first_call shape cpu (All (IsReal shape) steps) number call calls spare last reply replies steps are
+      (λ is mine rest split made more.
+      subst (All (IsReal shape)) (sym split)
+      (All-append (IsReal shape) mine rest
+      (on_locks shape mine (trace_real shape bounds built call.cpu spare call.verb (map (turn_of shape) mine) reply served.0.cpu made.trace))
+      (calls_real calls replies (suc number) (spare_after spare (map (turn_of shape) mine)) last rest (omega arith) served.1 more)))
+      (λ is more. calls_real calls replies (suc number) spare last steps (omega arith) served.1 more)
+
+-- where a CPU had no spare it has none after its calls
+pub calls_spare : (shape : Shape) (cpu : ℕ) (calls : List Call) (replies : List Reply) (number : ℕ) (spare last : Option ℕ) (steps : List Turned) → length replies ≡ length calls → spare ≡ None
+    → AreCallsBy shape cpu number calls spare last (replies_of cpu calls replies) steps → last ≡ None
+calls_spare shape cpu [] replies number spare last steps count none are = are.2 ∙ none
+calls_spare shape cpu (call ∷ calls) [] number spare last steps count none are = absurd (omega arith)
+calls_spare shape cpu (call ∷ calls) (reply ∷ replies) number spare last steps count none are =
+    first_call shape cpu (last ≡ None) number call calls spare last reply replies steps are
+    (λ is mine rest split made more.
+    let turns : List Turn = map (turn_of shape) mine in
+    let trace : IsTrace shape call.cpu None call.verb turns reply = subst (λ (s : Option ℕ). IsTrace shape call.cpu s call.verb turns reply) none made.trace in
+    calls_spare shape cpu calls replies (suc number) (spare_after spare turns) last rest (omega arith) (ap (λ (s : Option ℕ). spare_after s turns) none ∙ none_by_call shape call.cpu call.verb turns reply trace) more)
+    (λ is more. calls_spare shape cpu calls replies (suc number) spare last steps (omega arith) none more)
+
+-- Traces, one after another
+
+-- a turn stands in the history of its lock
+abbrev pub StandsIn : Shape → List LockHistory → Turned → Type 0
+StandsIn shape histories step = slice_get (entries_of histories (lock_named shape step.lock)) step.index ≡ Some step.entry
+
+names_turns : (shape : Shape) (histories : List LockHistory) (cpu number : ℕ) (steps : List Turned) → AllByRecursion (IsBy cpu number) steps → AllByRecursion (StandsIn shape histories) steps
+    → Name histories cpu number (steps_of shape steps) (map (turn_of shape) steps)
+names_turns shape histories cpu number [] by_call stand = tt
+names_turns shape histories cpu number (step ∷ steps) by_call stand = (
+  refl,
+  stand.0 ∙ (λ i. Some record { cpu = by_call.0.0 i; call = by_call.0.1 i; part = step.entry.part }),
+  names_turns shape histories cpu number steps by_call.1 stand.1,
+)
+
+has_one : (cpu other : ℕ) → has_cpu other (cpu ∷ []) ≡ eqb other cpu
+has_one cpu other = or_none (eqb cpu other) ∙ eqb_turned cpu other
+  where
+    or_none : (b : Bool) → (b || false) ≡ b
+    or_none true = refl
+    or_none false = refl
+
+missed : (b : Bool) (P Q : Type 0) → b ≡ false → Q → MatchBool b P Q
+missed true P Q is q = cc
+missed false P Q is q = q
+
+module _ (shape : Shape) (histories : List LockHistory) (cpu : ℕ) where
+  -- A worker's turns are its calls, one after another.
+  pub concatenation : (calls : List Call) (replies : List Reply) (number : ℕ) (spares last : ℕ → Option ℕ) (spare : Option ℕ) (steps : List Turned) → length replies ≡ length calls → spares cpu ≡ spare
+      → AllByRecursion (StandsIn shape histories) steps → AreCallsBy shape cpu number calls spare (last cpu) (replies_of cpu calls replies) steps
+      → IsConcatenation shape histories (cpu ∷ []) number calls replies spares last (steps_of shape steps)
+  concatenation [] replies number spares last spare steps count at stand are = (
+    ap (steps_of shape) are.1,
+    λ other is. by_test cpu other (λ b. (b || false) ≡ true → last other ≡ spares other) (λ same _. ap last (sym same) ∙ are.2 ∙ sym at ∙ ap spares same) (λ _ none. cc) is,
+  )
+  concatenation (call ∷ calls) [] number spares last spare steps count at stand are = absurd (omega arith)
+  concatenation (call ∷ calls) (reply ∷ replies) number spares last spare steps count at stand are =
+      first_call shape cpu (IsConcatenation shape histories (cpu ∷ []) number (call ∷ calls) (reply ∷ replies) spares last (steps_of shape steps)) number call calls spare (last cpu) reply replies steps are
+      (λ is mine rest split made more.
+      let turns : List Turn = map (turn_of shape) mine in
+      let parts = all_parts (StandsIn shape histories) mine rest (subst (AllByRecursion (StandsIn shape histories)) split stand) in
+      let own : spares call.cpu ≡ spare = ap spares is ∙ at in
+      matched (has_cpu call.cpu (cpu ∷ [])) _ _ (has_one cpu call.cpu ∙ eq-eqb call.cpu cpu is) (
+        steps_of shape mine,
+        steps_of shape rest,
+        turns,
+        ap (steps_of shape) split ∙ map-append _ mine rest,
+        record {
+          names = names_turns shape histories call.cpu number mine (recursion_from_All (IsBy call.cpu number) mine made.by_call) parts.0;
+          trace = subst (λ (s : Option ℕ). IsTrace shape call.cpu s call.verb turns reply) (sym own) made.trace;
+        },
+        concatenation calls replies (suc number) (put spares call.cpu (spare_after (spares call.cpu) turns)) last (spare_after spare turns) rest (omega arith)
+            (ap (put spares call.cpu (spare_after (spares call.cpu) turns)) (sym is) ∙ put_here spares call.cpu (spare_after (spares call.cpu) turns) ∙ ap (λ (s : Option ℕ). spare_after s turns) own)
+            parts.1 more,
+      ))
+      (λ other more. missed (has_cpu call.cpu (cpu ∷ [])) _ _ (has_one cpu call.cpu ∙ ne_eqb call.cpu cpu other) (concatenation calls replies (suc number) spares last spare steps (omega arith) at stand more))
+
+-- Answers
+
+-- what each CPU's calls are of, from some number on
+abbrev AreCallsOfEach : Shape → ℕ → List Call → (ℕ → Option ℕ) → List Reply → Type 0
+AreCallsOfEach shape number calls last replies =
+    (cpu : ℕ) → cpu < shape.cpus → (spare : Option ℕ) × (steps : List Turned) × AreCallsBy shape cpu number calls spare (last cpu) (replies_of cpu calls replies) steps
+
+-- each call is answered, since it is the call of one of the CPUs
+pub each_call_answered : (shape : Shape) (calls : List Call) (replies : List Reply) (number : ℕ) (last : ℕ → Option ℕ) → length replies ≡ length calls → AllByRecursion (IsServedCall shape) calls
+    → AreCallsOfEach shape number calls last replies → EachAnswered shape calls replies
+each_call_answered shape [] [] number last count served each = tt
+each_call_answered shape [] (reply ∷ replies) number last count served each = absurd (omega arith)
+each_call_answered shape (call ∷ calls) [] number last count served each = absurd (omega arith)
+each_call_answered shape (call ∷ calls) (reply ∷ replies) number last count served each =
+    let here = each call.cpu served.0.cpu in (
+      first_call shape call.cpu (MayAnswer shape call.verb reply) number call calls here.0 (last call.cpu) reply replies here.1 here.2
+          (λ is mine rest split made more. made.answers) (λ other more. absurd (other refl)),
+      each_call_answered shape calls replies (suc number) last (omega arith) served.1
+          (λ cpu real. let own = each cpu real in
+          first_call shape cpu ((spare : Option ℕ) × (steps : List Turned) × AreCallsBy shape cpu (suc number) calls spare (last cpu) (replies_of cpu calls replies) steps) number call calls own.0 (last cpu) reply replies own.1 own.2
+          (λ is mine rest split made more. (spare_after own.0 (map (turn_of shape) mine), rest, more))
+          (λ other more. (own.0, own.1, more))),
+    )

@@ -1,0 +1,128 @@
+-- The histories that a closed table hands out where no record is lost: one for each lock of the map, with the turns of that lock.
+use Rattle.std.proofs.Common.{◌≡◌, ℕ, zero, suc, ◌+◌, ◌<◌, ◌≤◌, true, false, not, ◌&&◌, cond, eqb, ltb, List, [], ◌∷◌, map, Some, All, refl, ap, sym, ◌∙◌, subst, arith}
+use Rattle.std.specs.Prelude.{IsTrue, filter, slice_get, if◌then◌else◌}
+use Rattle.std.specs.List.{AllByRecursion, range_with_len}
+use Rattle.std.proofs.lemmas.Bool.{both_ways, ltb-true, and_parts}
+use Rattle.std.proofs.lemmas.List.Elements.{All-from_recursion}
+use Rattle.map_types.specs.declared.attr.Shape.{Shape}
+use Rattle.map_types.specs.declared.kind.DomainId.{DomainId}
+use Rattle.map_types.specs.declared.kind.DomainId.TheVariants.{Local, Global, CpuLru, Bucket, Freelist}
+use Rattle.map_types.specs.Kind.{is_lru}
+use Rattle.map_types.specs.Shape.{HasBounds}
+use Rattle.place_words.specs.declared.history.Entry.{Entry}
+use Rattle.place_words.specs.declared.history.LockHistory.{LockHistory}
+use Rattle.place_words.specs.Histories.{content, IsLegal}
+use Rattle.place_words.specs.Locks.{is_lock, is_same_lock, lock_named, lock_number, lock_count}
+use Rattle.place_words.proofs.LockLemmas.{named_by_number, number_within}
+use Rattle.place_core.proofs.ElementLemmas.{by_test}
+use Rattle.place_table.specs.declared.view.Turned.{Turned}
+use Rattle.place_table.specs.Closing.{ClosedView, IsClosed, has_lock, all_locks, history_of}
+use Rattle.place_table.specs.Passes.{PassView}
+use Rattle.place_table.specs.Rules.{turns_on}
+use Rattle.map_report.specs.Record.{entries_of, locks_of}
+use Rattle.map_report.specs.Turns.{lies}
+use Rattle.map_run.specs.Served.{is_built_kind}
+use Rattle.map_run.proofs.Closing.{IsReal, made_of_all, plain_kind, same_number}
+use Rattle.map_run.proofs.HistoryTurns.{by_bool}
+use Rattle.map_run.proofs.RaceCalls.{StandsIn}
+use Rattle.map_run.proofs.Whole.{none_lost}
+
+-- The history of a lock among those of all locks
+
+module _ (shape : Shape) (log : ℕ → List Entry) (number : ℕ) (there : is_lock shape (lock_named shape number) ≡ true) where
+  entries_from : (start count : ℕ) → start ≤ number → number < start + count → entries_of (map (history_of shape log) (filter (has_lock shape) (range_with_len start count))) (lock_named shape number) ≡ log number
+  entries_from start zero low high = absurd (omega arith)
+  entries_from start (suc count) low high =
+      let rest : List ℕ = filter (has_lock shape) (range_with_len (start + 1) count) in
+      by_test start number (λ b. is_same_lock (lock_named shape start) (lock_named shape number) ≡ b → entries_of (map (history_of shape log) (cond (has_lock shape start) (start ∷ rest) rest)) (lock_named shape number) ≡ log number)
+      (λ here is.
+      ap (λ b. entries_of (map (history_of shape log) (cond b (start ∷ rest) rest)) (lock_named shape number)) (ap (has_lock shape) here ∙ there)
+      ∙ ap (λ b. if b then log start else entries_of (map (history_of shape log) rest) (lock_named shape number)) is ∙ ap log here)
+      (λ other is.
+      let later = entries_from (start + 1) count (omega (arith, other)) (omega arith) in
+      by_bool (has_lock shape start) (λ b. entries_of (map (history_of shape log) (cond b (start ∷ rest) rest)) (lock_named shape number) ≡ log number)
+      (λ _. ap (λ b. if b then log start else entries_of (map (history_of shape log) rest) (lock_named shape number)) is ∙ later)
+      (λ _. later))
+      (same_number shape start number)
+
+locks_told : (shape : Shape) (log : ℕ → List Entry) (numbers : List ℕ) → map (λ (history : LockHistory). history.lock) (map (history_of shape log) numbers) ≡ map (lock_named shape) numbers
+locks_told shape log [] = refl
+locks_told shape log (k ∷ numbers) = ap (λ locks. lock_named shape k ∷ locks) (locks_told shape log numbers)
+
+each_told : (shape : Shape) (log : ℕ → List Entry) (P : LockHistory → Type 0) → ((k : ℕ) → P (history_of shape log k)) → (numbers : List ℕ) → AllByRecursion P (map (history_of shape log) numbers)
+each_told shape log P holds [] = tt
+each_told shape log P holds (k ∷ numbers) = (holds k, each_told shape log P holds numbers)
+
+-- what holds of what stands at each place
+pub all_standing : {X : Type 0} (P : X → Type 0) (xs : List X) → ((i : ℕ) (x : X) → slice_get xs i ≡ Some x → P x) → AllByRecursion P xs
+all_standing P [] holds = tt
+all_standing P (x ∷ xs) holds = (holds 0 x refl, all_standing P xs (λ i y is. holds (suc i) y is))
+
+-- Turns that stand in their locks' histories
+
+standing : (P : ℕ → ℕ × Entry → Type 0) (steps : List Turned) → ((k : ℕ) → AllByRecursion (P k) (turns_on k steps)) → AllByRecursion (λ (step : Turned). P step.lock (step.index, step.entry)) steps
+standing P [] each = tt
+standing P (step ∷ steps) each = (
+  first (each step.lock),
+  standing P steps (λ k. rest k (each k)),
+)
+  where
+    first : AllByRecursion (P step.lock) (turns_on step.lock (step ∷ steps)) → P step.lock (step.index, step.entry)
+    first = by_test step.lock step.lock (λ b. AllByRecursion (P step.lock) (cond b ((step.index, step.entry) ∷ turns_on step.lock steps) (turns_on step.lock steps)) → P step.lock (step.index, step.entry))
+        (λ _ all. all.0) (λ other. absurd (other refl))
+
+    rest : (k : ℕ) → AllByRecursion (P k) (turns_on k (step ∷ steps)) → AllByRecursion (P k) (turns_on k steps)
+    rest k = by_bool (eqb step.lock k) (λ b. AllByRecursion (P k) (cond b ((step.index, step.entry) ∷ turns_on k steps) (turns_on k steps)) → AllByRecursion (P k) (turns_on k steps)) (λ _ all. all.1) (λ _ all. all)
+
+module _ (shape : Shape) (p : PassView) (closed : ClosedView) (ends : IsClosed shape p closed) (whole : closed.lost ≡ false) where
+  histories_are : closed.histories ≡ map (history_of shape ends.log) (all_locks shape)
+  histories_are =
+      ends.left.histories_are
+      ∙ made_of_all (has_lock shape) ends.lost (history_of shape ends.log) (history_of shape ends.log) 0 (lock_count shape)
+      (λ k low high there. (none_lost shape p closed ends whole k (omega arith) there, refl))
+
+  pub entries_at : (k : ℕ) → k < lock_count shape → IsTrue (has_lock shape k) → entries_of closed.histories (lock_named shape k) ≡ ends.log k
+  entries_at k below there = ap (λ (l : List LockHistory). entries_of l (lock_named shape k)) histories_are ∙ entries_from shape ends.log k there 0 (lock_count shape) (omega arith) (omega arith)
+
+  pub entries_told : (lock : DomainId) → IsTrue (is_lock shape lock) → entries_of closed.histories lock ≡ ends.log (lock_number shape lock)
+  entries_told lock real =
+      let named = named_by_number shape lock real in
+      ap (entries_of closed.histories) (sym named) ∙ entries_at (lock_number shape lock) (number_within shape lock real) (ap (is_lock shape) named ∙ real)
+
+  pub locks_are : map (λ (history : LockHistory). history.lock) closed.histories ≡ locks_of shape
+  locks_are = ap (map (λ (history : LockHistory). history.lock)) histories_are ∙ locks_told shape ends.log (all_locks shape)
+
+  pub are_legal : All (λ (history : LockHistory). IsLegal shape history.lock history.entries) closed.histories
+  are_legal =
+      subst (All (λ (history : LockHistory). IsLegal shape history.lock history.entries)) (sym histories_are)
+      (All-from_recursion (λ (history : LockHistory). IsLegal shape history.lock history.entries) (map (history_of shape ends.log) (all_locks shape))
+      (each_told shape ends.log (λ (history : LockHistory). IsLegal shape history.lock history.entries) ends.legal (all_locks shape)))
+
+  pub on_cpus : ((k place : ℕ) (entry : Entry) → slice_get (ends.log k) place ≡ Some entry → entry.cpu < shape.cpus) → All (λ (history : LockHistory). All (λ (entry : Entry). entry.cpu < shape.cpus) history.entries) closed.histories
+  on_cpus holds =
+      subst (All (λ (history : LockHistory). All (λ (entry : Entry). entry.cpu < shape.cpus) history.entries)) (sym histories_are)
+      (All-from_recursion (λ (history : LockHistory). All (λ (entry : Entry). entry.cpu < shape.cpus) history.entries) (map (history_of shape ends.log) (all_locks shape))
+      (each_told shape ends.log (λ (history : LockHistory). All (λ (entry : Entry). entry.cpu < shape.cpus) history.entries)
+      (λ k. All-from_recursion (λ (entry : Entry). entry.cpu < shape.cpus) (ends.log k) (all_standing (λ (entry : Entry). entry.cpu < shape.cpus) (ends.log k) (holds k))) (all_locks shape)))
+
+  -- the turns of a strand stand in the histories, where each is on a lock of the map
+  pub turns_stand : (steps : List Turned) → AllByRecursion (IsReal shape) steps → ((k : ℕ) → AllByRecursion (λ (turn : ℕ × Entry). slice_get (ends.log k) turn.0 ≡ Some turn.1) (turns_on k steps)) → AllByRecursion (StandsIn shape closed.histories) steps
+  turns_stand steps real each = both steps real (standing (λ k turn. slice_get (ends.log k) turn.0 ≡ Some turn.1) steps each)
+    where
+      both : (made : List Turned) → AllByRecursion (IsReal shape) made → AllByRecursion (λ (step : Turned). slice_get (ends.log step.lock) step.index ≡ Some step.entry) made → AllByRecursion (StandsIn shape closed.histories) made
+      both [] on_locks at = tt
+      both (step ∷ made) on_locks at = (ap (λ (l : List Entry). slice_get l step.index) (entries_at step.lock on_locks.0.0 on_locks.0.1) ∙ at.0, both made on_locks.1 at.1)
+
+  -- what the lists hold at the end is what the histories lead to
+  pub lies_at_end : HasBounds shape → IsTrue (is_built_kind shape.kind) → (lock : DomainId) → IsTrue (is_lock shape lock) → lies closed.finals lock ≡ content shape lock (entries_of closed.histories lock)
+  lies_at_end bounds built lock real = by_lock lock real ∙ ap (content shape lock) (sym (entries_told lock real))
+    where
+      plain : is_lru shape.kind ≡ false
+      plain = plain_kind shape.kind built
+
+      by_lock : (d : DomainId) → IsTrue (is_lock shape d) → lies closed.finals d ≡ content shape d (ends.log (lock_number shape d))
+      by_lock (Local cpu) is = let evicts = bounds.common_evicts (and_parts shape.common (ltb cpu shape.cpus) is).0 in absurd (both_ways (is_lru shape.kind) plain evicts)
+      by_lock Global is = let evicts = bounds.common_evicts is in absurd (both_ways (is_lru shape.kind) plain evicts)
+      by_lock (CpuLru cpu) is = absurd (both_ways (is_lru shape.kind) plain (and_parts (is_lru shape.kind) (not shape.common) (and_parts (is_lru shape.kind && not shape.common) (ltb cpu shape.cpus) is).0).0)
+      by_lock (Bucket bucket) is = ends.left.buckets_are bucket (ltb-true bucket shape.buckets is)
+      by_lock (Freelist cpu) is = ends.left.freelists_are cpu (ltb-true cpu shape.cpus (and_parts (not (is_lru shape.kind)) (ltb cpu shape.cpus) is).1)

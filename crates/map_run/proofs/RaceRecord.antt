@@ -1,0 +1,181 @@
+-- What is kept of a race whose closed table lost no record is a record of its script.
+use Rattle.std.proofs.Common.{◌≡◌, ◌≢◌, ℕ, ◌<◌, false, List, [], ◌∷◌, map, Option, Some, None, All, refl, ap, sym, ◌∙◌, subst, arith}
+use Rattle.std.specs.Prelude.{◌==◌, IsTrue, filter, slice_get}
+use Rattle.std.specs.List.{AllByRecursion, range_with_len}
+use Rattle.std.proofs.lemmas.Bool.{eq-eqb, ne_eqb}
+use Rattle.std.proofs.lemmas.List.Elements.{recursion_from_All}
+use Rattle.std.proofs.lemmas.List.FromFn.{length-map-range_with_len}
+use Rattle.std.proofs.lemmas.Option.{none-some}
+use Rattle.map_types.specs.declared.attr.Shape.{Shape}
+use Rattle.map_types.specs.declared.kind.DomainId.{DomainId}
+use Rattle.map_types.specs.declared.kind.MapKind.{MapKind}
+use Rattle.map_types.specs.declared.kind.MapKind.TheVariants.{Hash, PercpuHash, LruHash, LruPercpuHash}
+use Rattle.map_types.specs.declared.reply.Reply.{Reply}
+use Rattle.map_types.specs.Stored.{Stored}
+use Rattle.map_script.specs.declared.script.Script.{Script}
+use Rattle.place_words.specs.declared.history.Entry.{Entry}
+use Rattle.place_words.specs.declared.history.Strand.{Strand}
+use Rattle.place_words.specs.declared.history.StrandStep.{StrandStep}
+use Rattle.place_words.specs.Locks.{is_lock, lock_number}
+use Rattle.place_words.specs.Strands.{places_on}
+use Rattle.place_words.proofs.LockLemmas.{named_by_number}
+use Rattle.place_table.specs.Closing.{ClosedView, IsClosed, numbered}
+use Rattle.place_table.specs.Passes.{PassView, TableView, spare_of}
+use Rattle.place_table.specs.Rules.{turns_on, indexes}
+use Rattle.place_table.specs.Views.{all_strands}
+use Rattle.hash_ops.specs.Calls.{element_of}
+use Rattle.map_report.specs.declared.record.RunRecord.{RunRecord}
+use Rattle.map_report.specs.Record.{places_by, entries_of, IsConcatenation, EachAnswered, IsRecord}
+use Rattle.map_report.specs.Serial.{opening}
+use Rattle.map_report.specs.Turns.{spare_at}
+use Rattle.map_run.specs.Copies.{has_step, IsCopyOf}
+use Rattle.map_run.specs.Served.{is_built_kind, IsServedCall, IsServed}
+use Rattle.map_run.specs.Work.{replies_of, AreCallsBy, HaveRaced, strand_of_cpu, race_left, IsRaceRecord}
+use Rattle.map_run.proofs.Closing.{IsReal}
+use Rattle.map_run.proofs.OpeningTurns.{no_opening_spares}
+use Rattle.map_run.proofs.RaceCalls.{StandsIn, calls_real, calls_spare, concatenation, each_call_answered}
+use Rattle.map_run.proofs.RaceFinals.{spare_is, elements_left}
+use Rattle.map_run.proofs.RaceHistories.{entries_told, locks_are, are_legal, on_cpus, turns_stand, lies_at_end}
+use Rattle.map_run.proofs.RaceKept.{steps_of, places_of_steps, strand_by, steps_there, own_strands, with_steps, strands_by_cpu, kept_is}
+use Rattle.map_run.proofs.RaceLists.{filter_hold, made_at, one_passes}
+use Rattle.map_run.proofs.RaceStrands.{is_of, places_are, numbered_hold, owner, turns_of_cpu}
+use Rattle.map_run.proofs.SerialCalls.{element_is}
+use Rattle.map_run.proofs.Whole.{no_losses}
+
+no_spare : (spare : Option Stored) → element_of spare ≡ None → spare ≡ None
+no_spare None none = refl
+no_spare (Some body) none = absurd (none-some body.element (sym none))
+
+-- a built kind without spares has values for each CPU
+no_spares_of_kind : (shape : Shape) (kind : MapKind) → shape.kind ≡ kind → IsTrue (is_built_kind kind) → shape.kind ≢ Hash → (opening shape).spares ≡ []
+no_spares_of_kind shape Hash is built other = absurd (other is)
+no_spares_of_kind shape PercpuHash is built other = no_opening_spares shape is
+no_spares_of_kind shape LruHash is built other = cc
+no_spares_of_kind shape LruPercpuHash is built other = cc
+
+-- the CPUs of the strands, which are one for each CPU
+cpus_each : (kept : ℕ → List StrandStep) (numbers : List ℕ) → map (λ (strand : Strand). strand.cpus) (map (strand_by kept) numbers) ≡ map (λ cpu. cpu ∷ []) numbers
+cpus_each kept [] = refl
+cpus_each kept (cpu ∷ numbers) = ap (λ rest. (cpu ∷ []) ∷ rest) (cpus_each kept numbers)
+
+module _ (script : Script) (t : TableView) (p : PassView) (replies : List Reply) (closed : ClosedView) (served : IsServed script)
+    (raced : HaveRaced (record { id = t.id; shape = script.shape }) script.calls p replies) (ends : IsClosed script.shape p closed) (whole : closed.lost ≡ false) where
+  abbrev shape : Shape
+  shape = script.shape
+
+  abbrev left : RunRecord
+  left = race_left shape.cpus replies closed
+
+  calls_served : AllByRecursion (IsServedCall shape) script.calls
+  calls_served = recursion_from_All (IsServedCall shape) script.calls served.calls
+
+  calls_of : (cpu : ℕ) → cpu < shape.cpus → AreCallsBy shape cpu 1 script.calls (spare_at (opening shape) cpu) (element_of (spare_of cpu p.spares)) (replies_of cpu script.calls replies) (raced.steps cpu)
+  calls_of = raced.calls_are (no_losses shape p closed ends whole)
+
+  on_locks : (cpu : ℕ) → cpu < shape.cpus → All (IsReal shape) (raced.steps cpu)
+  on_locks cpu real =
+      calls_real shape served.bounds served.kind cpu script.calls replies 1 (spare_at (opening shape) cpu) (element_of (spare_of cpu p.spares)) (raced.steps cpu) raced.counted calls_served (calls_of cpu real)
+
+  -- only a map of kind HASH has spares
+  spareless : shape.kind ≢ Hash → (cpu : ℕ) → cpu < shape.cpus → spare_of cpu p.spares ≡ None
+  spareless other cpu real =
+      no_spare (spare_of cpu p.spares)
+      (calls_spare shape cpu script.calls replies 1 (spare_at (opening shape) cpu) (element_of (spare_of cpu p.spares)) (raced.steps cpu) raced.counted
+      (ap (λ (spares : List ℕ). slice_get spares cpu) (no_spares_of_kind shape shape.kind refl served.kind other)) (calls_of cpu real))
+
+  last_is : (cpu : ℕ) → element_of (spare_of cpu p.spares) ≡ spare_at closed.finals cpu
+  last_is cpu =
+      element_is (spare_of cpu p.spares) ∙ sym (spare_is shape p closed ends served.bounds served.kind raced.of_table.1 raced.all_cpus raced.in_no_call spareless cpu)
+
+  ended : (cpu : ℕ) → cpu < shape.cpus → AreCallsBy shape cpu 1 script.calls (spare_at (opening shape) cpu) (spare_at closed.finals cpu) (replies_of cpu script.calls replies) (raced.steps cpu)
+  ended cpu real =
+      subst (λ (last : Option ℕ). AreCallsBy shape cpu 1 script.calls (spare_at (opening shape) cpu) last (replies_of cpu script.calls replies) (raced.steps cpu)) (last_is cpu) (calls_of cpu real)
+
+  -- Strands
+
+  every_step : (cpu : ℕ) → cpu < shape.cpus → raced.kept cpu ≡ steps_of shape (raced.steps cpu)
+  every_step cpu real = kept_is shape p closed ends whole raced.steps raced.kept raced.strands cpu real (raced.are_kept cpu real) (on_locks cpu real)
+
+  closed_strands : closed.strands ≡ map (strand_by raced.kept) (filter (steps_there raced.kept) (range_with_len 0 shape.cpus))
+  closed_strands = strands_by_cpu shape p closed ends whole raced.steps raced.kept raced.strands served.bounds
+
+  left_strands : left.strands ≡ map (strand_by raced.kept) (range_with_len 0 shape.cpus)
+  left_strands = ap (λ (strands : List Strand). map (λ cpu. strand_of_cpu cpu strands) (range_with_len 0 shape.cpus)) closed_strands ∙ own_strands raced.kept shape.cpus
+
+  abbrev strand_made : ℕ → Strand
+  strand_made cpu = record { cpus = cpu ∷ []; steps = steps_of shape (raced.steps cpu) }
+
+  -- what holds of each CPU's strand
+  each_strand : (P : ℕ → Strand → Type 0) → ((cpu : ℕ) → cpu < shape.cpus → P cpu (strand_made cpu)) → (n : ℕ) (strand : Strand) → slice_get left.strands n ≡ Some strand → P n strand
+  each_strand P holds n strand is =
+      let made = made_at (strand_by raced.kept) shape.cpus n strand (sym (ap (λ (l : List Strand). slice_get l n) left_strands) ∙ is) in
+      let same : strand_made n ≡ strand = (λ i. record { cpus = n ∷ []; steps = sym (every_step n made.0) i }) ∙ sym made.1 in
+      subst (P n) same (holds n made.0)
+
+  -- a CPU's turns on a lock
+  turns_are : (k cpu : ℕ) → cpu < shape.cpus → turns_on k (raced.steps cpu) ≡ filter (is_of cpu) (numbered 0 (ends.log k))
+  turns_are k cpu real = turns_of_cpu shape.cpus raced.steps raced.kept (all_strands p.view) raced.strands k (ends.log k) (ends.turns k) cpu real
+
+  places_are_its : (cpu : ℕ) → cpu < shape.cpus → (lock : DomainId) → IsTrue (is_lock shape lock) → places_on lock (steps_of shape (raced.steps cpu)) ≡ places_by (cpu ∷ []) 0 (entries_of closed.histories lock)
+  places_are_its cpu real lock there =
+      let k : ℕ = lock_number shape lock in
+      ap (λ (d : DomainId). places_on d (steps_of shape (raced.steps cpu))) (sym (named_by_number shape lock there))
+      ∙ places_of_steps shape k (raced.steps cpu)
+      ∙ ap indexes (turns_are k cpu real)
+      ∙ places_are cpu 0 (ends.log k)
+      ∙ ap (places_by (cpu ∷ []) 0) (sym (entries_told shape p closed ends whole lock there))
+
+  stand : (cpu : ℕ) → cpu < shape.cpus → AllByRecursion (StandsIn shape closed.histories) (raced.steps cpu)
+  stand cpu real =
+      turns_stand shape p closed ends whole (raced.steps cpu) (recursion_from_All (IsReal shape) (raced.steps cpu) (on_locks cpu real))
+      (λ k. subst (AllByRecursion (λ (turn : ℕ × Entry). slice_get (ends.log k) turn.0 ≡ Some turn.1)) (sym (turns_are k cpu real))
+      (filter_hold (λ (turn : ℕ × Entry). slice_get (ends.log k) turn.0 ≡ Some turn.1) (is_of cpu) (numbered 0 (ends.log k))
+      (numbered_hold (λ (turn : ℕ × Entry). slice_get (ends.log k) turn.0 ≡ Some turn.1) 0 (ends.log k)
+      (λ i place entry at is. ap (slice_get (ends.log k)) (let same : place ≡ i = omega arith in same) ∙ is))))
+
+  answered : EachAnswered shape script.calls replies
+  answered = each_call_answered shape script.calls replies 1 (λ cpu. element_of (spare_of cpu p.spares)) raced.counted calls_served (λ cpu real. (spare_at (opening shape) cpu, raced.steps cpu, calls_of cpu real))
+
+  -- one strand is a CPU's
+  cpus_of : (cpu : ℕ) → cpu < shape.cpus → (strand_made cpu).cpus ≡ filter (λ c. c == cpu) (range_with_len 0 shape.cpus)
+  cpus_of cpu real = sym (one_passes (λ c. c == cpu) cpu 0 shape.cpus (omega arith) (omega arith) (eq-eqb cpu cpu refl) (λ e other. ne_eqb e cpu other))
+
+  is_record : IsRecord script left
+  is_record = record {
+    locks = locks_are shape p closed ends whole;
+    legal = are_legal shape p closed ends whole;
+    on_cpus = on_cpus shape p closed ends whole (λ k place entry is. (owner shape.cpus raced.steps raced.kept (all_strands p.view) raced.strands k (ends.log k) (ends.turns k) place entry is).0);
+    strand_of = λ cpu. cpu;
+    in_strand = λ cpu real. let long = length-map-range_with_len (λ c. strand_of_cpu c closed.strands) 0 shape.cpus in omega arith;
+    cpus_are = each_strand (λ n strand. strand.cpus ≡ filter (λ cpu. cpu == n) (range_with_len 0 shape.cpus)) cpus_of;
+    steps = each_strand (λ n strand. (lock : DomainId) → IsTrue (is_lock shape lock) → places_on lock strand.steps ≡ places_by strand.cpus 0 (entries_of closed.histories lock)) places_are_its;
+    calls = each_strand (λ n strand. IsConcatenation shape closed.histories strand.cpus 1 script.calls replies (spare_at (opening shape)) (spare_at closed.finals) strand.steps)
+        (λ cpu real. concatenation shape closed.histories cpu script.calls replies 1 (spare_at (opening shape)) (spare_at closed.finals) (spare_at (opening shape) cpu) (raced.steps cpu) raced.counted refl (stand cpu real) (ended cpu real));
+    replies = answered;
+    contents = lies_at_end shape p closed ends whole served.bounds served.kind;
+    finals = elements_left shape p closed ends served.bounds served.kind raced.of_table.1 raced.all_cpus raced.in_no_call spareless;
+  }
+
+  is_race_record : IsRaceRecord script left
+  is_race_record = record {
+    is_record = is_record;
+    strand_each = ap (map (λ (strand : Strand). strand.cpus)) left_strands ∙ cpus_each raced.kept (range_with_len 0 shape.cpus);
+  }
+
+  is_copy : IsCopyOf left closed
+  is_copy = record {
+    histories = refl;
+    strands = ap (filter has_step) left_strands ∙ with_steps raced.kept (range_with_len 0 shape.cpus) ∙ sym closed_strands;
+    finals = refl;
+    whole = whole;
+  }
+
+-- What is kept of a race, where the closed table lost no record: a record of the script, and a copy of what the table left.
+pub race_is_record : (script : Script) (t : TableView) (p : PassView) (replies : List Reply) (closed : ClosedView) → t.shape ≡ script.shape → IsServed script
+    → HaveRaced t script.calls p replies → IsClosed t.shape p closed → closed.lost ≡ false
+    → IsRaceRecord script (race_left script.shape.cpus replies closed) × IsCopyOf (race_left script.shape.cpus replies closed) closed
+race_is_record script t p replies closed same served raced ends whole =
+    let of_script : t ≡ record { id = t.id; shape = script.shape } = λ i. record { id = t.id; shape = same i } in
+    let now : HaveRaced (record { id = t.id; shape = script.shape }) script.calls p replies = subst (λ (table : TableView). HaveRaced table script.calls p replies) of_script raced in
+    let left : IsClosed script.shape p closed = subst (λ (shape : Shape). IsClosed shape p closed) same ends in
+    (is_race_record script t p replies closed served now left whole, is_copy script t p replies closed served now left whole)

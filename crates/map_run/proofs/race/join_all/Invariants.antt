@@ -1,0 +1,10 @@
+use Rattle.std.proofs.Common.{length}
+use Rattle.map_run.proofs.Joining.{HaveJoined}
+use Rattle.map_run.proofs.race.join_all.Given as goal
+
+-- the workers so far were joined
+abbrev pub invariant-loop-worker : goal.invariant-loop-worker
+invariant-loop-worker l =
+    (goal.iterator-loop-worker).can_next l.worker-iterator
+    × (goal.iterator-loop-worker).is_finite l.worker-iterator
+    × HaveJoined l.map l.calls (length l.yielded) l.pass l.replies.items

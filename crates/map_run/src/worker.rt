@@ -1,0 +1,86 @@
+//! One worker of a race.
+
+ghost use Rattle.std.specs.Prelude.{◌≡◌, ◌≤◌, false, [], All, OnOk, length};
+ghost use Rattle.map_types.specs.Creation.{IsShape};
+ghost use Rattle.map_run.specs.Served.{IsServedCall};
+ghost use Rattle.map_run.specs.Work.{HasWorked};
+
+use crate::one_call::run_call;
+use crate::queue::ReplyQueue;
+use hash_ops::PlainMap;
+use map_types::{Call, Gate, NoMemory, Point};
+use place_table::Pass;
+use std::alloc::Global;
+use std::sync::Wait;
+
+/// A worker of a race, which makes the calls of one CPU.
+#[derive(Drop)]
+pub struct Worker {
+    pub cpu: u32,
+    /// A pass that has this CPU alone.
+    pub pass: Pass,
+    /// The answers to its calls, in their order.
+    pub replies: ReplyQueue,
+    /// Whether it found no memory, and made no call from there on.
+    pub failed: bool,
+}
+
+/// Makes the worker's calls among all those of a script, in their order.
+pub(crate) fn work<R: Wait, G: Gate>(
+    rt: &R,
+    alloc: Global,
+    map: &PlainMap,
+    calls: &[Call],
+    gate: &G,
+    worker: &mut Worker,
+)
+    requires shape { IsShape map.now.shape }
+    requires calls { All (IsServedCall map.now.shape) calls.now }
+    requires few { length calls.now ≤ 200000 }
+    requires first { HasWorked map.now worker.old.cpu [] worker.old.pass worker.old.replies }
+    ensures cpu { worker.new.cpu ≡ worker.old.cpu }
+    ensures worked { worker.new.failed ≡ false → HasWorked map.now worker.old.cpu calls.now worker.new.pass worker.new.replies }
+{
+    let done = run_own(
+        rt,
+        alloc,
+        map,
+        &mut worker.pass,
+        worker.cpu,
+        calls,
+        gate,
+        &mut worker.replies,
+    );
+    worker.failed = done.is_err();
+}
+
+/// Runs the calls of a CPU among these, and adds their answers. They are numbered as they stand among all, from 1.
+fn run_own<R: Wait, G: Gate>(
+    rt: &R,
+    alloc: Global,
+    map: &PlainMap,
+    pass: &mut Pass,
+    cpu: u32,
+    calls: &[Call],
+    gate: &G,
+    replies: &mut ReplyQueue,
+) -> Result<(), NoMemory>
+    requires shape { IsShape map.now.shape }
+    requires calls { All (IsServedCall map.now.shape) calls.now }
+    requires few { length calls.now ≤ 200000 }
+    requires first { HasWorked map.now cpu [] pass.old replies.old }
+    ensures { OnOk result (HasWorked map.now cpu calls.now pass.new replies.new) }
+{
+    let mut number = 0;
+    for call in calls {
+        number += 1;
+        if call.cpu != cpu {
+            continue;
+        }
+        gate.at(cpu, Point::Begin(number));
+        let reply = run_call(rt, alloc, map, pass, number, call, gate)?;
+        gate.at(cpu, Point::Done(number));
+        replies.push(reply)?;
+    }
+    Ok(())
+}
