@@ -2,7 +2,5 @@
 #![tactic(auto)]
 
 mod chain;
-#[cfg(test)]
-mod tests;
 
 pub use chain::Chain;

@@ -3,8 +3,6 @@
 
 mod freelist;
 mod shares;
-#[cfg(test)]
-mod tests;
 
 pub use freelist::Freelist;
 pub use shares::share;

@@ -413,9 +413,6 @@ answered_turn t bucket q s chain verb reply part found plain b has turn fits is 
 pub is_plain_of : (inside t : TableView) → inside ≡ t → IsShape inside.shape × (is_lru inside.shape.kind ≡ false) → is_lru t.shape.kind ≡ false
 is_plain_of inside t is inv = subst (λ (z : TableView). is_lru z.shape.kind ≡ false) is inv.1
 
-pub is_shape_of : (inside t : TableView) → inside ≡ t → IsShape inside.shape × (is_lru inside.shape.kind ≡ false) → IsShape t.shape
-is_shape_of inside t is inv = subst (λ (z : TableView). IsShape z.shape) is inv.0
-
 -- a turn of the bucket of a key, as traces tell it
 pub on_bucket : (shape : Shape) (bucket : ℕ) (key : List ℕ) (part : BucketPart) → bucket ≡ bucket_of_key shape key → record { lock = Bucket bucket; part = parts.Bucket part } ∷ [] ≡ on_bucket_of shape key part ∷ []
 on_bucket shape bucket key part is i = record { lock = Bucket (is i); part = parts.Bucket part } ∷ []
@@ -480,10 +477,6 @@ can_detach t bucket q r bodies b now inner e u inside real = record {
   cpu_is = b.cpu_is ∙ sym u.goes.cpu;
   inside = inside;
 }
-
--- the elements of the bucket
-pub first_taken : (t : TableView) (bucket : ℕ) (q : PassView) (bodies : List Stored) (b : InBucket t bucket q bodies) → b.hold.now ≡ record { free = []; first = numbers bodies; second = []; cursor = None }
-first_taken t bucket q bodies b = b.now
 
 pub body_inside : (bodies : List Stored) (place : ℕ) (body : Stored) → slice_get bodies place ≡ Some body → IsIn body.element (numbers bodies)
 body_inside [] place body is = absurd (none_some is)

@@ -7,8 +7,6 @@ mod calls;
 mod free;
 mod map;
 mod parts;
-#[cfg(test)]
-mod tests;
 mod updates;
 mod values;
 

@@ -50,6 +50,3 @@ fn padded(bytes: &[u8]) -> [u8; BLOCK_LEN]
     block[..bytes.len()].copy_from_slice(bytes);
     block
 }
-
-#[cfg(test)]
-mod tests;

@@ -6,8 +6,6 @@ mod bits;
 mod name;
 mod notes;
 mod set;
-#[cfg(test)]
-mod tests;
 
 pub use bits::{BitCall, Bits, Probe, ProbeCall, Probed};
 pub use name::ListName;

@@ -44,15 +44,6 @@ pub record ActiveSoFar (k : ℕ) (before now : SetView) (calls calls_now : List 
   pub asked : calls_now ≡ calls ++ cleared visits
   pub noted : AreNoted visits notes notes_now
 
-pub active_begins : (before : SetView) (calls : List BitCall) (notes : Noted Visit) → ActiveSoFar 0 before before calls calls notes notes
-active_begins before calls notes = record {
-  visits = [];
-  visited = refl;
-  set = rw (reverse-reverse before.active) refl;
-  asked = sym (append-nil calls);
-  noted = noted_none notes;
-}
-
 -- of a list that is read up to k, the next one
 pub next_of : {A : Type 0} (xs : List A) (k : ℕ) (x : A) → k < length xs → (y : A) × (take (k + 1) xs ≡ take k xs ++ y ∷ []) × (drop k xs ≡ y ∷ drop (k + 1) xs)
 next_of xs k x within = (get_or xs k x, take_more xs k x within, drop_more xs k x within)

@@ -6,7 +6,7 @@ use Rattle.place_words.specs.declared.row.Row.{Row}
 use Rattle.place_words.specs.Listed.{elements_of}
 use Rattle.place_words.proofs.RowLemmas.{times_rows-reverse, times_rows-cons}
 use Rattle.row_list.specs.RowWords.{head_row, tail_row}
-use Rattle.lru_lists.specs.Sets.{SetView, IsListed, IsPlace}
+use Rattle.lru_lists.specs.Sets.{SetView, IsPlace}
 use Rattle.lru_rotate.specs.Rotating.{stands_at}
 
 head_is_in : (rows : List Row) (row : Row) → head_row rows ≡ Some row → IsIn row.element (elements_of rows)
@@ -17,12 +17,6 @@ head_is_in (x ∷ rows) row is =
 
 pub tail_is_in : (rows : List Row) (row : Row) → tail_row rows ≡ Some row → IsIn row.element (elements_of rows)
 tail_is_in rows row is = rw times_rows-reverse at (head_is_in (reverse rows) row is)
-
-pub active_listed : (set : SetView) (e : ℕ) → IsIn e (elements_of set.active) → IsListed e set
-active_listed set e is = omega (arith, is)
-
-pub inactive_listed : (set : SetView) (e : ℕ) → IsIn e (elements_of set.inactive) → IsListed e set
-inactive_listed set e is = omega (arith, is)
 
 some_is_in : (rows : List Row) (o : Option Row) (e : ℕ) → tail_row rows ≡ o → option_map (λ r. r.element) o ≡ Some e → IsIn e (elements_of rows)
 some_is_in rows None e is found = absurd cc

@@ -4,7 +4,5 @@
 mod active;
 mod inactive;
 mod rotation;
-#[cfg(test)]
-mod tests;
 
 pub use rotation::rotate;

@@ -4,7 +4,5 @@
 mod forced;
 mod looks;
 mod shrinking;
-#[cfg(test)]
-mod tests;
 
 pub use shrinking::shrink;

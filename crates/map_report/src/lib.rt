@@ -10,8 +10,6 @@ mod list_part;
 mod piece;
 mod record;
 mod reply;
-#[cfg(test)]
-mod tests;
 mod text;
 mod words;
 

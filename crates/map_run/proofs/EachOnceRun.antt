@@ -181,8 +181,3 @@ each_once_from_opening shape calls bounds built served =
 pub each_once_run : (script : Script) → IsServed script → (n : ℕ) → HasLists script.shape (lists_before script n) × EachOnce script.shape.elements (lists_before script n)
 each_once_run script served n =
     each_once_from_opening script.shape (take n script.calls) served.bounds served.kind (All-take (IsServedCall script.shape) n script.calls served.calls)
-
--- So it is at the end.
-pub each_once_end : (script : Script) → IsServed script
-    → HasLists script.shape (lists_after script.shape (opening script.shape) script.calls) × EachOnce script.shape.elements (lists_after script.shape (opening script.shape) script.calls)
-each_once_end script served = each_once_from_opening script.shape script.calls served.bounds served.kind served.calls

@@ -1,8 +1,8 @@
 -- Passes of workers are joined, and their replies put together.
-use Rattle.std.proofs.Common.{◌≡◌, ◌≢◌, ℕ, zero, suc, ◌+◌, ◌<◌, ◌≤◌, Bool, true, false, cond, eqb, List, [], ◌∷◌, ◌++◌, length, get_or, map, take, drop, Option, Some, None, All, refl, ap, sym, ◌∙◌, subst, arith, append_assoc, append-nil}
+use Rattle.std.proofs.Common.{◌≡◌, ◌≢◌, ℕ, zero, suc, ◌+◌, ◌<◌, ◌≤◌, Bool, true, false, cond, eqb, List, [], ◌∷◌, ◌++◌, length, get_or, map, take, drop, Option, Some, None, refl, ap, sym, ◌∙◌, subst, arith, append_assoc, append-nil}
 use Rattle.std.specs.Prelude.{IfOk, Result, Ok, Err, filter}
 use Rattle.std.specs.List.{range_with_len}
-use Rattle.std.proofs.lemmas.List.{length-append, get_or_append_left, get_or-append-add, length-take-le, take_all, take-append-drop}
+use Rattle.std.proofs.lemmas.List.{length-append, get_or_append_left, get_or-append-add, length-take-le, take-append-drop}
 use Rattle.std.proofs.lemmas.List.Elements.{filter-append}
 use Rattle.std.proofs.lemmas.List.FromFn.{map-range_with_len_more}
 use Rattle.map_types.specs.declared.call.Call.{Call}
@@ -256,12 +256,6 @@ nothing : (replies : List Reply) → length replies ≡ 0 → replies ≡ []
 nothing [] none = refl
 nothing (x ∷ replies) none = absurd (omega (arith, none))
 
-pub all_taken : (cpu : ℕ) (calls : List Call) (all : List Reply) (left lists : List (List Reply)) → AreTaken calls calls all left lists cpu → replies_of cpu calls all ≡ replies_by cpu lists
-all_taken cpu calls all left lists are =
-    let told = are.1 in
-    let none = nothing (replies_by cpu left) (omega arith) in
-    sym (append-nil (replies_of cpu calls all)) ∙ ap (λ (l : List Reply). replies_of cpu calls all ++ l) (sym none) ∙ are.0
-
 pub reply_left : (calls : List Call) (n : ℕ) (call : Call) (all : List Reply) (left lists : List (List Reply)) → n < length calls → call ≡ get_or calls n call
     → AreTaken (take n calls) calls all left lists call.cpu → 0 < length (replies_by call.cpu left)
 reply_left calls n call all left lists within is are =
@@ -275,11 +269,6 @@ pub reply_taken : (calls : List Call) (n : ℕ) (call : Call) (all more : List R
 reply_taken calls n call all more reply left after lists cpu within is counted first others pushed are =
     subst (λ (z : List Call × List Reply). AreTaken z.0 calls z.1 after lists cpu) (λ i. (sym (calls_taken calls n call within is) i, sym pushed i))
     (taken_more cpu (take n calls) calls call all reply left after lists (counted ∙ sym (length-take-le n calls (omega arith))) first others are)
-
-pub all_replies : (calls : List Call) (n : ℕ) (all : List Reply) (left lists : List (List Reply)) (cpu : ℕ) → length calls ≤ n → AreTaken (take n calls) calls all left lists cpu
-    → replies_of cpu calls all ≡ replies_by cpu lists
-all_replies calls n all left lists cpu over are =
-    all_taken cpu calls all left lists (subst (λ (l : List Call). AreTaken l calls all left lists cpu) (take_all n calls over) are)
 
 pub both_ok : {X E : Type 0} (r : Result X E) (P Q : X → Type 0) → IfOk r P → IfOk r Q → IfOk r (λ x. P x × Q x)
 both_ok (Ok x) P Q first second = (first, second)

@@ -1,7 +1,4 @@
-mod BodyLemmas
-mod ChainLemmas
 mod Io
-mod PlainLemmas
 mod WordLemmas
 mod WordLemmasCommand
 mod WordLemmasCounts

@@ -1,5 +1,5 @@
 -- Rows of turns: parts of a row, contents that are alike, and freelists that are found empty.
-use Rattle.std.proofs.Common.{◌≡◌, ℕ, Bool, true, false, cond, List, [], ◌∷◌, ◌++◌, refl, ap, ◌∙◌, subst}
+use Rattle.std.proofs.Common.{◌≡◌, ℕ, Bool, true, false, cond, List, [], ◌∷◌, ◌++◌, refl, ap, ◌∙◌}
 use Rattle.std.proofs.Math.Path.{fun_ext}
 use Rattle.map_types.specs.declared.attr.Shape.{Shape}
 use Rattle.map_types.specs.declared.kind.DomainId.{DomainId}
@@ -27,18 +27,6 @@ after_both shape cpu contents [] second = refl
 after_both shape cpu contents (turn ∷ first) second = after_both shape cpu (after_turn shape cpu contents turn) first second
 
 -- Contents that are alike
-
--- where the same lies under each lock, the same turns are allowed
-pub follows_congruent : (shape : Shape) (cpu : ℕ) (c d : DomainId → Content) → ((lock : DomainId) → c lock ≡ d lock)
-    → (turns : List Turn) → AreAllowed shape cpu c turns → AreAllowed shape cpu d turns
-follows_congruent shape cpu c d alike turns allowed =
-    subst (λ (contents : DomainId → Content). AreAllowed shape cpu contents turns) (fun_ext alike) allowed
-
--- and they leave the same under each lock
-pub after_congruent : (shape : Shape) (cpu : ℕ) (c d : DomainId → Content) → ((lock : DomainId) → c lock ≡ d lock)
-    → (turns : List Turn) (lock : DomainId) → after_turns shape cpu c turns lock ≡ after_turns shape cpu d turns lock
-after_congruent shape cpu c d alike turns lock =
-    ap (λ (contents : DomainId → Content). after_turns shape cpu contents turns lock) (fun_ext alike)
 
 -- Freelists that are found empty
 

@@ -4,7 +4,6 @@ pub mod Finish
 pub mod Going
 pub mod Laws
 pub mod Memory
-pub mod Plain
 pub mod Reads
 pub mod Served
 pub mod Words

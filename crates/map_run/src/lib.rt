@@ -6,8 +6,6 @@ mod finish;
 mod hold;
 mod memory;
 mod one_call;
-#[cfg(test)]
-mod plain;
 mod queue;
 mod race;
 mod reading;
@@ -16,8 +14,6 @@ mod serial;
 mod served;
 mod sink;
 mod source;
-#[cfg(test)]
-mod tests;
 mod words;
 mod worker;
 

@@ -8,9 +8,6 @@ use map_types::{Bytes, Failed, NoMemory, Numbers};
 use std::alloc::Global;
 use std::marker::Model;
 
-#[cfg(test)]
-mod tests;
-
 /// Bytes in memory, read from their front in pieces. Calls are numbered from 0, those that fail too.
 #[derive(Drop)]
 pub struct MemSource {

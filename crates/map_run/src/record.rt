@@ -1,5 +1,7 @@
 //! How a run of the program ended.
 
+ghost use Rattle.std.specs.Prelude.{◌≡◌};
+
 use map_report::RunRecord;
 use place_table::Closed;
 
@@ -12,4 +14,13 @@ pub struct Finish {
     pub kept: Option<RunRecord>,
     /// What the run's table left when it was closed, exactly where the record is there.
     pub closed: Option<Closed>,
+}
+
+impl Finish {
+    /// The status alone; what is kept is given up.
+    pub fn into_status(self) -> u8
+        ensures { result ≡ self.status }
+    {
+        self.status
+    }
 }

@@ -157,6 +157,3 @@ pub(crate) fn histories_of(
     }
     Ok(copies)
 }
-
-#[cfg(test)]
-mod tests;

@@ -8,8 +8,6 @@ ghost use Rattle.map_run.specs.Words.{are_words, mode_of, mode_word, options_of}
 use crate::Options;
 use clap::error::ErrorKind;
 use clap::{Arg, ArgAction, ArgMatches, Command, Error};
-#[cfg(test)]
-use std::alloc::AllocError;
 use std::alloc::Global;
 
 /// In which order the calls of a script are made.
@@ -93,51 +91,5 @@ pub(crate) fn asked_of(alloc: Global, words: &[String]) -> Result<Asked, WordsSt
             ErrorKind::OutOfMemory => Err(WordsStop::NoMemory),
             _ => Err(WordsStop::Other),
         },
-    }
-}
-
-#[cfg(test)]
-fn asked_in(alloc: Global, line: &str) -> Result<Result<Asked, WordsStop>, AllocError> {
-    let mut words = Vec::new(alloc);
-    for word in line.split(' ') {
-        words.push(String::from_str(alloc, word)?)?;
-    }
-    Ok(asked_of(alloc, words.as_slice()))
-}
-
-#[cfg(test)]
-fn asks(mode: Mode, history: bool, dump: bool, json: bool) -> Result<Asked, WordsStop> {
-    let options = Options {
-        history,
-        dump,
-        json,
-    };
-    Ok(Asked { mode, options })
-}
-
-#[test]
-fn reads_words(rt: HostRuntime) {
-    let serial = asked_in(rt.alloc(), "bpfmap serial").expect(&rt, "memory");
-    assert!(rt; serial == asks(Mode::Serial, false, false, false));
-    let race = asked_in(rt.alloc(), "bpfmap --json race --history").expect(&rt, "memory");
-    assert!(rt; race == asks(Mode::Race, true, false, true));
-    let dumped = asked_in(rt.alloc(), "serial --dump -- serial").expect(&rt, "memory");
-    assert!(rt; dumped == asks(Mode::Serial, false, true, false));
-}
-
-#[test]
-fn refuses_other_words(rt: HostRuntime) {
-    for line in [
-        "bpfmap",
-        "bpfmap serial race",
-        "bpfmap race --dump --dump",
-        "bpfmap serial -- --dump",
-        "bpfmap serial --dump=x",
-        "bpfmap serial --dum",
-        "bpfmap serial -- --",
-        "bpfmap --help",
-    ] {
-        let other = asked_in(rt.alloc(), line).expect(&rt, "memory");
-        assert!(rt; other == Err(WordsStop::Other));
     }
 }

@@ -11,6 +11,5 @@ pub mod TokenValues
 pub mod CallScripts
 pub mod CanonicalTokens
 pub mod RoundTrip
-pub mod LineFeeds
 pub mod BlankLemmas
 pub mod LineLaws

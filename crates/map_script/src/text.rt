@@ -336,6 +336,3 @@ fn batch_name(remove: bool) -> &'static str
 {
     if remove { "batch_take" } else { "batch_lookup" }
 }
-
-#[cfg(test)]
-mod tests;

@@ -2,22 +2,18 @@
 use Rattle.std.proofs.Common.{◌≡◌, ◌≢◌, ℕ, ◌+◌, ◌*◌, ◌%◌, ◌≤◌, Bool, true, false, not, ◌&&◌, ◌||◌, cond, ltb, eqb, Option, None, Some, Result, Ok, Err, MatchResult, IfOk, refl, ap, sym, subst, ⊎_elim, arith}
 use Rattle.std.specs.Int.{IsPowerOfTwo}
 use Rattle.std.specs.Option.{option_or, option_map}
-use Rattle.std.proofs.Math.Nat.{mul-le-mul}
-use Rattle.std.proofs.lemmas.Bool.{cond_both, cases_Bool, and_parts, ltb-false}
+use Rattle.std.proofs.lemmas.Bool.{cases_Bool, and_parts, ltb-false}
 use Rattle.std.proofs.lemmas.Bool.Decides.{nat_tests}
 use Rattle.map_types.specs.declared.attr.CreateAttr.{CreateAttr}
 use Rattle.map_types.specs.declared.attr.Shape.{Shape}
 use Rattle.map_types.specs.declared.kind.MapKind.{MapKind}
 use Rattle.map_types.specs.declared.kind.MapKind.TheVariants.{Hash, PercpuHash, LruHash, LruPercpuHash}
-use Rattle.map_types.specs.declared.kind.Side.{Side}
-use Rattle.map_types.specs.declared.kind.Side.TheVariants.{Prog, Sys}
 use Rattle.map_types.specs.declared.refusal.CreateRefusal.{CreateRefusal}
 use Rattle.map_types.specs.declared.refusal.CreateRefusal.TheVariants as refusals
 use Rattle.map_types.specs.Creation.{wants_own_lists, has_zero_size, flags_refusal, contents_refusal, capacity_of, elements_of, shape_of, pool_of, limit_passed, refusal_of, shape_unless, creation, IsShape}
-use Rattle.map_types.specs.Kind.{is_lru, is_percpu}
+use Rattle.map_types.specs.Kind.{is_lru}
 use Rattle.map_types.specs.Powers.{least_power_from}
 use Rattle.map_types.specs.Shape.{HasBounds}
-use Rattle.map_types.specs.ValueLen.{round8, value_len_of}
 use Rattle.map_types.proofs.PowerLemmas.{least_power_next, power_below}
 use Rattle.map_types.proofs.RoundLemmas.{multiple, rounded_up, rounded_below}
 
@@ -219,15 +215,3 @@ shape_if_ok attr (Err refusal) is = tt
 pub bounds_if_ok : (answer : Result Shape CreateRefusal) → IfOk answer IsShape → IfOk answer HasBounds
 bounds_if_ok (Ok shape) is = bounds_of_shape shape is
 bounds_if_ok (Err refusal) is = tt
-
-product_bounded : (cpus len : ℕ) → cpus ≤ 16 → len ≤ 4096 → cpus * len ≤ 65536
-product_bounded cpus len few short = omega (arith, mul-le-mul few short)
-
--- values are at most those of 16 CPUs, of 4,096 bytes each
-pub value_len_bounded : (shape : Shape) (side : Side) → HasBounds shape → value_len_of shape side ≤ 65536
-value_len_bounded shape Prog bounds = omega (arith, bounds.value_bounded)
-value_len_bounded shape Sys bounds =
-    let rounded : round8 shape.value_size ≤ 4096 = omega (arith, bounds.value_bounded) in
-    cond_both (is_percpu shape.kind) (shape.cpus * round8 shape.value_size) shape.value_size (λ len. len ≤ 65536)
-    (λ _. product_bounded shape.cpus (round8 shape.value_size) bounds.cpus_bounded rounded)
-    (λ _. omega (arith, bounds.value_bounded))

@@ -77,13 +77,6 @@ pub same_pairs : (count key_size value_size : ℕ) (keys values : List ℕ) (pai
 same_pairs count key_size value_size keys values pairs sizes counted keys_are values_are =
     rw (← counted, ← keys_are, ← values_are) (pairs_of-joined pairs key_size value_size sizes)
 
--- the sizes of one pair
-pub sizes_at : (pairs : List (List ℕ × List ℕ)) (key_size value_size i : ℕ) → HaveSizes key_size value_size pairs → i < length pairs → (length (pair_at pairs i).0 ≡ key_size) × (length (pair_at pairs i).1 ≡ value_size)
-sizes_at [] key_size value_size i sizes within = absurd (omega arith)
-sizes_at (pair ∷ pairs) key_size value_size zero sizes within = (sizes.0, sizes.1)
-sizes_at (pair ∷ pairs) key_size value_size (suc i) sizes within =
-    sizes_at pairs key_size value_size i sizes.2 (omega arith)
-
 -- one more pair at the end
 pub joined_keys-push : (pairs : List (List ℕ × List ℕ)) (pair : List ℕ × List ℕ) → joined_keys (pairs ++ pair ∷ []) ≡ joined_keys pairs ++ pair.0
 joined_keys-push [] pair = append-nil pair.0

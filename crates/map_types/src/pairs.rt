@@ -115,28 +115,3 @@ fn piece(bytes: &[u8], count: usize, size: usize, i: usize) -> &[u8]
     let start = i * size;
     &bytes[start..start + size]
 }
-
-#[cfg(test)]
-mod tests {
-    use super::*;
-    use crate::List;
-    use std::test::Fail;
-
-    #[test]
-    fn pairs_are_given_back(rt: HostRuntime) -> Result<(), Fail> {
-        let keys = [1, 2, 3, 4].to_vec(rt.alloc())?;
-        let values = [5, 6, 7, 8, 9, 10].to_vec(rt.alloc())?;
-        let pairs = Pairs::of(2, 2, 3, keys, values);
-        assert_eq!(rt; pairs.len(), 2);
-        assert_eq!(rt; pairs.key(1), [3, 4].as_slice());
-        assert_eq!(rt; pairs.value(0), [5, 6, 7].as_slice());
-        let (keys, values) = pairs.into_parts();
-        assert_eq!(rt;
-            List::of(keys).copy(rt.alloc())?.as_slice(),
-            [1, 2, 3, 4].as_slice()
-        );
-        assert_eq!(rt; values.len(), 6);
-        assert!(rt; Pairs::empty(rt.alloc()).is_empty());
-        Ok(())
-    }
-}

@@ -5,8 +5,6 @@
 mod body;
 mod boxed;
 mod stack;
-#[cfg(test)]
-mod tests;
 mod values;
 
 pub use body::Body;

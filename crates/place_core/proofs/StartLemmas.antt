@@ -1,5 +1,5 @@
 -- The opening contents as they are built.
-use Rattle.std.proofs.Common.{◌≡◌, ℕ, zero, suc, ◌+◌, ◌-◌, ◌*◌, ◌/◌, ◌%◌, ◌<◌, ◌≤◌, Bool, true, false, cond, ltb, List, [], ◌∷◌, ◌++◌, length, get_or, take, Option, None, refl, ap, ◌∙◌, sym, subst, ⊎_elim, inl, inr, ◌⊎◌, append_assoc, append-nil, arith}
+use Rattle.std.proofs.Common.{◌≡◌, ℕ, zero, suc, ◌+◌, ◌-◌, ◌*◌, ◌/◌, ◌%◌, ◌<◌, ◌≤◌, Bool, true, false, cond, ltb, List, [], ◌∷◌, ◌++◌, length, get_or, take, None, refl, ap, ◌∙◌, sym, subst, ⊎_elim, inl, inr, ◌⊎◌, append_assoc, append-nil, arith}
 use Rattle.std.specs.Prelude.{map, filter, replicate}
 use Rattle.std.specs.List.{range_with_len, flat_map}
 use Rattle.std.proofs.Math.Nat.{mul-zero}
@@ -20,7 +20,7 @@ use Rattle.place_words.proofs.LockLemmas.{number_of_named, number_within}
 use Rattle.place_core.specs.declared.step.Lists.{Lists}
 use Rattle.place_words.specs.Openings.{is_free}
 use Rattle.place_core.specs.State.{no_lists}
-use Rattle.place_words.specs.Openings.{opening_stack, opening_spares, spare_owner, opening_owner, opening_pushed, opening_free}
+use Rattle.place_words.specs.Openings.{opening_stack, opening_spares, opening_owner, opening_pushed, opening_free}
 use Rattle.place_words.specs.Shares.{pushed_from, share_first, share_count}
 use Rattle.place_core.specs.Opening.{opening_home, opening_lists, opening}
 use Rattle.place_core.specs.Places.{Placed}
@@ -46,11 +46,6 @@ pub filter_pass : (p : ℕ → Bool) (a n : ℕ) (list now whole : List ℕ) →
 filter_pass p a n list now whole some passes now_is same =
     let next : filter p (pushed_from a n) ≡ (a + (n - 1)) ∷ filter p (pushed_from a (n - 1)) = filter_next p a n some ∙ ap (λ b. cond b ((a + (n - 1)) ∷ filter p (pushed_from a (n - 1))) (filter p (pushed_from a (n - 1)))) passes in
     ap (λ (xs : List ℕ). xs ++ filter p (pushed_from a (n - 1))) now_is ∙ (append_assoc list ((a + (n - 1)) ∷ []) (filter p (pushed_from a (n - 1))) ∙ (ap (λ (xs : List ℕ). list ++ xs) (sym next) ∙ same))
-
-pub filter_skip : (p : ℕ → Bool) (a n : ℕ) (list whole : List ℕ) → 0 < n → p (a + (n - 1)) ≡ false → list ++ filter p (pushed_from a n) ≡ whole → list ++ filter p (pushed_from a (n - 1)) ≡ whole
-filter_skip p a n list whole some fails same =
-    let next : filter p (pushed_from a n) ≡ filter p (pushed_from a (n - 1)) = filter_next p a n some ∙ ap (λ b. cond b ((a + (n - 1)) ∷ filter p (pushed_from a (n - 1))) (filter p (pushed_from a (n - 1)))) fails in
-    ap (λ (xs : List ℕ). list ++ xs) (sym next) ∙ same
 
 pub filter_same : (p q : ℕ → Bool) (a n m : ℕ) → a + n ≤ m → ((e : ℕ) → e < m → p e ≡ q e) → filter p (pushed_from a n) ≡ filter q (pushed_from a n)
 filter_same p q a zero m within same = refl
@@ -180,9 +175,6 @@ flat_next f n list more now list_is more_is now_is =
 pub spares_at_end : (shape : Shape) (n : ℕ) (list now : List ℕ) → list ≡ flat_map (opening_stack shape) (range_with_len 0 n) → n ≡ shape.cpus → now ≡ take shape.cpus list → now ≡ opening_spares shape
 spares_at_end shape n list now list_is all now_is =
     spares_are shape list now (list_is ∙ ap (λ (k : ℕ). flat_map (opening_stack shape) (range_with_len 0 k)) all) now_is
-
-pub owner_found : (found found' : Option ℕ) → found ≡ found' → spare_owner found ≡ spare_owner found'
-owner_found found found' is = ap spare_owner is
 
 pub map_next : {A : Type 0} (f : ℕ → A) (n : ℕ) (list now : List A) (x : A) → list ≡ map f (range_with_len 0 n) → x ≡ f n → now ≡ list ++ x ∷ [] → now ≡ map f (range_with_len 0 (n + 1))
 map_next f n list now x list_is x_is now_is =

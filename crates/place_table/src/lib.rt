@@ -19,8 +19,6 @@ mod split;
 mod steps;
 mod strands;
 mod table;
-#[cfg(test)]
-mod tests;
 mod view;
 
 pub use closed::Closed;

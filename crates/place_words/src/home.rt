@@ -49,26 +49,3 @@ pub fn home_of_code(code: u64) -> Option<Home>
         _ => None,
     }
 }
-
-#[cfg(test)]
-mod tests {
-    use super::*;
-
-    #[test]
-    fn codes(rt: HostRuntime) {
-        let cases = [
-            (Home::Unlisted, 0),
-            (Home::Hand(0), 1),
-            (Home::In(DomainId::Local(3)), 35),
-            (Home::In(DomainId::Global), 64),
-            (Home::In(DomainId::CpuLru(2)), 98),
-        ];
-        for (home, code) in cases {
-            assert_eq!(rt; home_code(home), code, "at {home:?}");
-            assert_eq!(rt; home_of_code(code), Some(home), "at {home:?}");
-        }
-        for code in [17, 31, 48, 63, 65, 95, 112] {
-            assert_eq!(rt; home_of_code(code), None, "at {code}");
-        }
-    }
-}

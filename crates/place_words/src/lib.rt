@@ -13,8 +13,6 @@ mod list_part;
 mod lock;
 mod owner;
 mod row;
-#[cfg(test)]
-mod tests;
 mod visits;
 
 pub use bucket_part::{BucketPart, NextFound, Put, Seen, Walked};

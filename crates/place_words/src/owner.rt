@@ -41,25 +41,3 @@ pub fn owner_of_code(code: u64) -> Option<Owner>
         _ => None,
     }
 }
-
-#[cfg(test)]
-mod tests {
-    use super::*;
-
-    #[test]
-    fn codes(rt: HostRuntime) {
-        let cases = [
-            (Owner::Free, 0),
-            (Owner::Hand(15), 16),
-            (Owner::Bucket(0), 32),
-            (Owner::Bucket(131_071), 131_103),
-        ];
-        for (owner, code) in cases {
-            assert_eq!(rt; owner_code(owner), code, "at {owner:?}");
-            assert_eq!(rt; owner_of_code(code), Some(owner), "at {owner:?}");
-        }
-        for code in [17, 31, 131_104, 18_446_744_073_709_551_615] {
-            assert_eq!(rt; owner_of_code(code), None, "at {code}");
-        }
-    }
-}

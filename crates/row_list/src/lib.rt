@@ -3,8 +3,6 @@
 
 mod plain;
 mod rows;
-#[cfg(test)]
-mod tests;
 
 pub use place_words::Row;
 pub use plain::PlainRows;

@@ -1,0 +1,21 @@
+//! Values that come from outside, in tables over the public calls of the crates below.
+#![tactic(auto)]
+
+#[cfg(test)]
+mod codes;
+#[cfg(test)]
+mod creations;
+#[cfg(test)]
+mod hashes;
+#[cfg(test)]
+mod list_sets;
+#[cfg(test)]
+mod memory_bits;
+#[cfg(test)]
+mod rotations;
+#[cfg(test)]
+mod scripts;
+#[cfg(test)]
+mod shrinks;
+#[cfg(test)]
+mod steps;
