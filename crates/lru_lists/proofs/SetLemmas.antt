@@ -1,8 +1,8 @@
 -- What the moves of a set keep.
 use Rattle.std.proofs.Common.{◌≡◌, ℕ, eqb, List, ◌++◌, Some, refl, ap, ◌∙◌, arith}
-use Rattle.place_words.specs.ElementLists.{times}
-use Rattle.place_words.specs.declared.row.Row.{Row}
-use Rattle.place_words.specs.Listed.{elements_of, cursor_without}
+use Rattle.map_types.specs.ElementLists.{times}
+use Rattle.map_types.specs.declared.row.Row.{Row}
+use Rattle.map_types.specs.Listed.{elements_of, cursor_without}
 use Rattle.row_list.specs.RowWords.{without_row}
 use Rattle.row_list.proofs.ElementLemmas.{times_append}
 use Rattle.row_list.proofs.RowLemmas.{elements_append, HasSome, row_present, row_of_element, gone_without, fewer_without}

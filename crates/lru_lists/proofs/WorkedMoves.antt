@@ -1,7 +1,7 @@
 -- Moves that are worked out by hand, on a set with inactive 3 2 1 0 and active 5 4, head first.
 use Rattle.std.proofs.Common.{◌≡◌, ℕ, ◌+◌, List, [], ◌∷◌, Option, Some, None, refl}
-use Rattle.place_words.specs.declared.row.Row.{Row}
-use Rattle.place_words.specs.Listed.{Listed}
+use Rattle.map_types.specs.declared.row.Row.{Row}
+use Rattle.map_types.specs.Listed.{Listed}
 use Rattle.lru_lists.specs.declared.name.ListName.TheVariants.{Active, Inactive}
 use Rattle.lru_lists.specs.Sets.{SetView, listed, moved_in, moved_to, taken_off}
 

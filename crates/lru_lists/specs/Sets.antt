@@ -3,9 +3,9 @@
 use Rattle.std.specs.Prelude.{ℕ, ◌==◌, ◌+◌, ◌-◌, ◌<◌, ◌≤◌, ◌^◌, List, [], ◌∷◌, ◌++◌, map, Option, None, Some, MatchOption}
 use Rattle.map_types.specs.Stored.{Stored}
 use Rattle.percpu_values.specs.BodyList.{BodyList}
-use Rattle.place_words.specs.ElementLists.{times, IsIn}
-use Rattle.place_words.specs.Listed.{Listed, elements_of, cursor_without}
-use Rattle.place_words.specs.declared.row.Row.{Row}
+use Rattle.map_types.specs.ElementLists.{times, IsIn}
+use Rattle.map_types.specs.Listed.{Listed, elements_of, cursor_without}
+use Rattle.map_types.specs.declared.row.Row.{Row}
 use Rattle.row_list.specs.RowWords.{row_of, without_row}
 use Rattle.lru_lists.specs.declared.name.ListName.{ListName}
 use Rattle.lru_lists.specs.declared.name.ListName.TheVariants.{Active, Inactive}

@@ -2,7 +2,7 @@
 
 ghost use Rattle.std.specs.Prelude.{◌≡◌, ◌≢◌, ◌-◌, ◌≤◌, ◌⊎◌, ◌↔◌, ℕ, List, [], ◌∷◌, ◌++◌};
 ghost use Rattle.map_types.specs.Stored.{Stored};
-ghost use Rattle.place_words.specs.declared.row.Row.{Row};
+ghost use Rattle.map_types.specs.declared.row.Row.{Row};
 ghost use Rattle.lru_lists.specs.declared.bits.BitCall.{BitCall};
 ghost use Rattle.lru_lists.specs.declared.bits.ProbeCall.{ProbeCall};
 ghost use Rattle.lru_lists.specs.Probes.{seen_of, IsHeld, IfRemoved};

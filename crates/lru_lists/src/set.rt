@@ -1,10 +1,10 @@
 //! A list set.
 
 ghost use Rattle.std.specs.Prelude.{◌≡◌, ◌==◌, ◌+◌, ◌<◌, ◌≤◌, ◌↔◌, ◌++◌, ℕ, length, slice_get, IfOk, IfSome, IsSome};
-ghost use Rattle.place_words.specs.Listed.{elements_of, cursor_without};
+ghost use Rattle.map_types.specs.Listed.{elements_of, cursor_without};
 ghost use Rattle.row_list.specs.RowWords.{row_of, row_before, without_row};
 ghost use Rattle.std.specs.Option.{option_map};
-ghost use Rattle.place_words.specs.ElementLists.{times, IsIn};
+ghost use Rattle.map_types.specs.ElementLists.{times, IsIn};
 ghost use Rattle.lru_lists.specs.Sets.{IsSet, IsListed, IsPlace, empty_set, rows_of, numbers_of, times_listed, times_on, row_on, moved_in, moved_to, taken_off, with_cursor, with_free, pushed, popped};
 
 use crate::ListName;

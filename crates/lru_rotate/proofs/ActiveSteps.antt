@@ -3,12 +3,12 @@ use Rattle.std.proofs.Common.{◌≡◌, ◌≢◌, ℕ, ◌+◌, ◌-◌, ◌<�
 use Rattle.std.specs.Prelude.{Option, None, Some, option_map}
 use Rattle.std.proofs.lemmas.Bool.{le-ltb, lt-ltb}
 use Rattle.std.proofs.lemmas.List.{append_assoc, append-nil, reverse-append, map-append, reverse-reverse, length-reverse, length-append, length-map, length-take, take_more, drop_more, take_min, take-append-drop}
-use Rattle.place_words.specs.declared.row.Row.{Row}
+use Rattle.map_types.specs.declared.row.Row.{Row}
 use Rattle.place_words.specs.declared.visits.Visit.{Visit}
-use Rattle.place_words.specs.ElementLists.{times, IsIn}
-use Rattle.place_words.specs.Listed.{Listed, elements_of, those}
+use Rattle.map_types.specs.ElementLists.{times, IsIn}
+use Rattle.map_types.specs.Listed.{Listed, elements_of, those}
 use Rattle.place_words.specs.Rotation.{was_set, visited_elements, active_visited, active_rotated}
-use Rattle.place_words.proofs.RowLemmas.{AreOnce, times_rows-append, times_rows-reverse, times_rows-filter}
+use Rattle.map_types.proofs.RowLemmas.{AreOnce, times_rows-append, times_rows-reverse, times_rows-filter}
 use Rattle.place_words.proofs.VisitLemmas.{visit_of}
 use Rattle.row_list.specs.RowWords.{tail_row}
 use Rattle.lru_lists.specs.declared.name.ListName.TheVariants.{Active, Inactive}

@@ -2,12 +2,12 @@
 use Rattle.std.proofs.Common.{◌≡◌, true, false, List, [], ◌∷◌, ◌++◌, reverse, refl, ap, ◌∙◌, sym}
 use Rattle.std.specs.Prelude.{Some}
 use Rattle.std.proofs.lemmas.List.{reverse-append, reverse-reverse, append_assoc, append-nil}
-use Rattle.place_words.specs.ElementLists.{times}
-use Rattle.place_words.specs.declared.row.Row.{Row}
+use Rattle.map_types.specs.ElementLists.{times}
+use Rattle.map_types.specs.declared.row.Row.{Row}
 use Rattle.place_words.specs.declared.visits.Visit.{Visit}
-use Rattle.place_words.specs.Listed.{elements_of, those, without_those}
+use Rattle.map_types.specs.Listed.{elements_of, those, without_those}
 use Rattle.place_words.specs.Rotation.{was_set, visited_elements}
-use Rattle.place_words.proofs.RowLemmas.{IsAbsent, AreOnce, alone, absent-filter, absent-append, absent-reverse, passes_around}
+use Rattle.map_types.proofs.RowLemmas.{IsAbsent, AreOnce, alone, absent-filter, absent-append, absent-reverse, passes_around}
 use Rattle.place_words.proofs.VisitLemmas.{visit_of, those_push, without_push}
 use Rattle.row_list.specs.RowWords.{without_row, tail_row}
 

@@ -1,7 +1,7 @@
 -- What stays over several calls.
 use Rattle.std.proofs.Common.{ℕ, ◌+◌, ◌-◌, List, refl, ◌∙◌, subst, arith}
 use Rattle.map_types.specs.Stored.{Stored}
-use Rattle.place_words.specs.declared.row.Row.{Row}
+use Rattle.map_types.specs.declared.row.Row.{Row}
 use Rattle.lru_lists.specs.declared.bits.ProbeCall.{ProbeCall}
 use Rattle.lru_rotate.specs.Asking.{OnlyBits}
 

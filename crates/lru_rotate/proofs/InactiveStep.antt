@@ -3,12 +3,12 @@ use Rattle.std.proofs.Common.{◌≡◌, ◌≢◌, ℕ, ◌+◌, ◌-◌, ◌<�
 use Rattle.std.specs.Prelude.{Option, None, Some, option_map, MatchOption}
 use Rattle.std.proofs.lemmas.List.{append_assoc, append-nil, reverse-append, length-take, take_min, take-append-drop}
 use Rattle.std.proofs.lemmas.List.Elements.{filter-append}
-use Rattle.place_words.specs.ElementLists.{times, IsIn}
-use Rattle.place_words.specs.declared.row.Row.{Row}
+use Rattle.map_types.specs.ElementLists.{times, IsIn}
+use Rattle.map_types.specs.declared.row.Row.{Row}
 use Rattle.place_words.specs.declared.visits.Visit.{Visit}
-use Rattle.place_words.specs.Listed.{Listed, elements_of, those, without_those, nearest_before}
+use Rattle.map_types.specs.Listed.{Listed, elements_of, those, without_those, nearest_before}
 use Rattle.place_words.specs.Rotation.{was_set, visited_elements, inactive_visited, inactive_rotated}
-use Rattle.place_words.proofs.RowLemmas.{IsAbsent, AreOnce, alone, times_rows-filter}
+use Rattle.map_types.proofs.RowLemmas.{IsAbsent, AreOnce, alone, times_rows-filter}
 use Rattle.place_words.proofs.VisitLemmas.{visit_of, was_set_other, was_set_absent, those_push, goes_on_push, stays_push}
 use Rattle.row_list.specs.RowWords.{row_before, without_row}
 use Rattle.lru_lists.specs.declared.name.ListName.TheVariants.{Active}

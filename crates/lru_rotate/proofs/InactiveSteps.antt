@@ -4,12 +4,12 @@ use Rattle.std.specs.Prelude.{Option, None, Some, option_map, option_and_then, s
 use Rattle.std.specs.List.{position_or_len}
 use Rattle.std.proofs.lemmas.List.{append_assoc, append-nil, reverse-append, length-reverse, length-append, take-append-drop}
 use Rattle.std.proofs.lemmas.List.Elements.{filter-append}
-use Rattle.place_words.specs.ElementLists.{times, IsIn}
-use Rattle.place_words.specs.declared.row.Row.{Row}
+use Rattle.map_types.specs.ElementLists.{times, IsIn}
+use Rattle.map_types.specs.declared.row.Row.{Row}
 use Rattle.place_words.specs.declared.visits.Visit.{Visit}
-use Rattle.place_words.specs.Listed.{elements_of, those, without_those, rows_to, rows_after, nearest_before}
+use Rattle.map_types.specs.Listed.{elements_of, those, without_those, rows_to, rows_after, nearest_before}
 use Rattle.place_words.specs.Rotation.{was_set, visited_elements, inactive_order}
-use Rattle.place_words.proofs.RowLemmas.{by_test, IsAbsent, AreOnce, alone, absent_cons, before_around, to_around, find_absent, absent-reverse, times_rows-append, times_rows-cons, times_rows-reverse}
+use Rattle.map_types.proofs.RowLemmas.{by_test, IsAbsent, AreOnce, alone, absent_cons, before_around, to_around, find_absent, absent-reverse, times_rows-append, times_rows-cons, times_rows-reverse}
 use Rattle.lru_lists.specs.declared.bits.BitCall.{BitCall}
 use Rattle.lru_lists.specs.declared.notes.Noted.{Noted}
 use Rattle.lru_lists.specs.Notes.{AreNoted}

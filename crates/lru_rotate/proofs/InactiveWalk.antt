@@ -5,9 +5,9 @@ use Rattle.std.specs.Option.{option_or}
 use Rattle.std.proofs.lemmas.List.{reverse-append, reverse-reverse, append_assoc}
 use Rattle.std.proofs.lemmas.List.Elements.{filter-append}
 use Rattle.std.proofs.lemmas.List.Folds.{find-append}
-use Rattle.place_words.specs.declared.row.Row.{Row}
-use Rattle.place_words.specs.Listed.{without_those, nearest_before}
-use Rattle.place_words.proofs.RowLemmas.{IsAbsent, AreOnce, alone, before_around, absent-filter}
+use Rattle.map_types.specs.declared.row.Row.{Row}
+use Rattle.map_types.specs.Listed.{without_those, nearest_before}
+use Rattle.map_types.proofs.RowLemmas.{IsAbsent, AreOnce, alone, before_around, absent-filter}
 use Rattle.row_list.specs.RowWords.{row_before}
 use Rattle.lru_rotate.specs.Rotating.{stands_at}
 use Rattle.row_list.proofs.RowLemmas.{last_from, row_before_split}

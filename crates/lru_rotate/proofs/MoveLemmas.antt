@@ -3,10 +3,10 @@ use Rattle.std.proofs.Common.{◌≡◌, ◌≢◌, ℕ, eqb, List, ◌∷◌, �
 use Rattle.std.specs.Prelude.{Option, None, Some, MatchOption}
 use Rattle.std.proofs.lemmas.Bool.{ne_eqb}
 use Rattle.std.proofs.lemmas.List.{append_assoc}
-use Rattle.place_words.specs.ElementLists.{times, IsIn}
-use Rattle.place_words.specs.declared.row.Row.{Row}
-use Rattle.place_words.specs.Listed.{elements_of, cursor_without}
-use Rattle.place_words.proofs.RowLemmas.{IsAbsent, times_rows-append, times_rows-cons}
+use Rattle.map_types.specs.ElementLists.{times, IsIn}
+use Rattle.map_types.specs.declared.row.Row.{Row}
+use Rattle.map_types.specs.Listed.{elements_of, cursor_without}
+use Rattle.map_types.proofs.RowLemmas.{IsAbsent, times_rows-append, times_rows-cons}
 use Rattle.row_list.specs.RowWords.{row_of, without_row}
 use Rattle.row_list.proofs.RowLemmas.{row_of_split, without_absent}
 use Rattle.lru_lists.specs.declared.name.ListName.{ListName}

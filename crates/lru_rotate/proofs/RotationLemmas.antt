@@ -2,12 +2,12 @@
 use Rattle.std.proofs.Common.{◌≡◌, ℕ, suc, ◌-◌, ◌*◌, ◌<◌, ◌≤◌, Bool, true, false, cond, ltb, List, [], ◌∷◌, ◌++◌, reverse, length, take, drop, refl, ap, ◌∙◌, sym, arith}
 use Rattle.std.specs.Prelude.{IsPermutation}
 use Rattle.std.proofs.lemmas.List.{append_assoc, map-append, take-append-drop, drop_min, length-take, length-map, length-append}
-use Rattle.place_words.specs.ElementLists.{times, IsIn}
-use Rattle.place_words.specs.declared.row.Row.{Row}
+use Rattle.map_types.specs.ElementLists.{times, IsIn}
+use Rattle.map_types.specs.declared.row.Row.{Row}
 use Rattle.place_words.specs.declared.visits.Visit.{Visit}
-use Rattle.place_words.specs.Listed.{Listed, elements_of}
+use Rattle.map_types.specs.Listed.{Listed, elements_of}
 use Rattle.place_words.specs.Rotation.{visited_elements, active_visited, active_rotated, inactive_order, inactive_visited, inactive_rotated, rotated}
-use Rattle.place_words.proofs.RowLemmas.{by_test, times_rows-append}
+use Rattle.map_types.proofs.RowLemmas.{by_test, times_rows-append}
 use Rattle.lru_lists.specs.declared.bits.BitCall.{BitCall}
 use Rattle.lru_lists.specs.declared.bits.BitCall.TheVariants.{Cleared}
 use Rattle.lru_lists.specs.declared.notes.Noted.{Noted}

@@ -5,12 +5,12 @@ use Rattle.std.proofs.lemmas.List.{append_assoc, append-nil}
 use Rattle.std.proofs.lemmas.List.Elements.{filter-append}
 use Rattle.std.proofs.lemmas.List.Sorted.{IsPermutation-refl, IsPermutation-trans, IsPermutation-append, IsPermutation-append_left, IsPermutation-append_right, IsPermutation-append_comm, IsPermutation-reverse, IsPermutation-filter_both, sum_by-IsPermutation}
 use Rattle.std.proofs.lemmas.List.Recursion.{is_count_by}
-use Rattle.place_words.specs.ElementLists.{times, IsIn}
-use Rattle.place_words.specs.declared.row.Row.{Row}
+use Rattle.map_types.specs.ElementLists.{times, IsIn}
+use Rattle.map_types.specs.declared.row.Row.{Row}
 use Rattle.place_words.specs.declared.visits.Visit.{Visit}
-use Rattle.place_words.specs.Listed.{elements_of, those, without_those}
+use Rattle.map_types.specs.Listed.{elements_of, those, without_those}
 use Rattle.place_words.specs.Rotation.{was_set, visited_elements, inactive_order}
-use Rattle.place_words.proofs.RowLemmas.{by_test, AreOnce, times_rows-append, times_rows-cons}
+use Rattle.map_types.proofs.RowLemmas.{by_test, AreOnce, times_rows-append, times_rows-cons}
 use Rattle.place_words.proofs.VisitLemmas.{was_set_absent}
 use Rattle.lru_rotate.proofs.ActiveWalk.{active_at, inactive_at}
 use Rattle.lru_rotate.proofs.InactiveSteps.{order_splits, order_once, filter_turned}

@@ -1,10 +1,10 @@
 -- The tail of a list, and where a walk stands.
 use Rattle.std.proofs.Common.{◌≡◌, ℕ, List, [], ◌∷◌, reverse, refl, subst, arith}
 use Rattle.std.specs.Prelude.{Option, None, Some, option_map}
-use Rattle.place_words.specs.ElementLists.{IsIn}
-use Rattle.place_words.specs.declared.row.Row.{Row}
-use Rattle.place_words.specs.Listed.{elements_of}
-use Rattle.place_words.proofs.RowLemmas.{times_rows-reverse, times_rows-cons}
+use Rattle.map_types.specs.ElementLists.{IsIn}
+use Rattle.map_types.specs.declared.row.Row.{Row}
+use Rattle.map_types.specs.Listed.{elements_of}
+use Rattle.map_types.proofs.RowLemmas.{times_rows-reverse, times_rows-cons}
 use Rattle.row_list.specs.RowWords.{head_row, tail_row}
 use Rattle.lru_lists.specs.Sets.{SetView, IsPlace}
 use Rattle.lru_rotate.specs.Rotating.{stands_at}

@@ -1,9 +1,9 @@
 -- What a rotation does to a list set and tells of it.
 use Rattle.std.specs.Prelude.{◌≡◌, ◌+◌, ◌*◌, ◌≤◌, ℕ, Bool, false, List, ◌++◌, map, length, Option, None, Some, option_map}
-use Rattle.place_words.specs.ElementLists.{IsIn, times}
-use Rattle.place_words.specs.Listed.{Listed, elements_of}
+use Rattle.map_types.specs.ElementLists.{IsIn, times}
+use Rattle.map_types.specs.Listed.{Listed, elements_of}
 use Rattle.place_words.specs.Rotation.{active_visited, active_rotated, inactive_visited, inactive_rotated, rotated, visited_elements, AreRotationVisits}
-use Rattle.place_words.specs.declared.row.Row.{Row}
+use Rattle.map_types.specs.declared.row.Row.{Row}
 use Rattle.place_words.specs.declared.visits.Visit.{Visit}
 use Rattle.row_list.specs.RowWords.{tail_row}
 use Rattle.lru_lists.specs.Notes.{AreNoted}

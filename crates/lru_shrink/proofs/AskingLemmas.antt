@@ -1,7 +1,7 @@
 -- What stays over several calls.
 use Rattle.std.proofs.Common.{◌≡◌, ℕ, ◌+◌, ◌-◌, refl, ◌∙◌, subst, arith}
 use Rattle.map_types.specs.Stored.{Stored}
-use Rattle.place_words.specs.declared.row.Row.{Row}
+use Rattle.map_types.specs.declared.row.Row.{Row}
 use Rattle.lru_shrink.specs.Asking.{LeavesBut}
 
 module _ {Asked : Type 0} (can_note : Asked → ℕ → Type 0) (may_ask : Asked → ℕ → Type 0) (may_probe : Asked → Row → Type 0) (gives : Asked → Stored → Type 0) (lender : Asked → ℕ) where

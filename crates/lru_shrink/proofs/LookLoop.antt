@@ -8,13 +8,13 @@ use Rattle.std.proofs.lemmas.List.Sums.{sum_by-append, length-filter, count_by-l
 use Rattle.std.proofs.lemmas.Bool.{ne_eqb, eq-eqb}
 use Rattle.map_types.specs.Stored.{Stored}
 use Rattle.percpu_values.specs.BodyList.{BodyList}
-use Rattle.place_words.specs.ElementLists.{times}
+use Rattle.map_types.specs.ElementLists.{times}
 use Rattle.place_words.specs.declared.bucket_part.Seen.{Seen}
-use Rattle.place_words.specs.declared.row.Row.{Row}
+use Rattle.map_types.specs.declared.row.Row.{Row}
 use Rattle.place_words.specs.declared.visits.Look.{Look}
-use Rattle.place_words.specs.Listed.{elements_of, cursor_without}
+use Rattle.map_types.specs.Listed.{elements_of, cursor_without}
 use Rattle.place_words.specs.Shrinking.{AreLooks, look_removed, after_looks}
-use Rattle.place_words.proofs.RowLemmas.{times_append}
+use Rattle.map_types.proofs.RowLemmas.{times_append}
 use Rattle.row_list.specs.RowWords.{head_row, tail_row, row_before}
 use Rattle.lru_lists.specs.Notes.{AreNoted}
 use Rattle.lru_lists.specs.Sets.{SetView, IsSet, IsListed, listed, row_on, times_listed}

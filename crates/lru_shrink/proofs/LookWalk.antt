@@ -4,12 +4,12 @@ use Rattle.std.specs.Prelude.{Some}
 use Rattle.std.proofs.lemmas.Bool.{cases_Bool}
 use Rattle.std.proofs.lemmas.List.{reverse-append, reverse-reverse, append_assoc, length-map, length-append, take_at}
 use Rattle.std.proofs.lemmas.List.Elements.{filter-append}
-use Rattle.place_words.specs.ElementLists.{times}
-use Rattle.place_words.specs.declared.row.Row.{Row}
+use Rattle.map_types.specs.ElementLists.{times}
+use Rattle.map_types.specs.declared.row.Row.{Row}
 use Rattle.place_words.specs.declared.visits.Look.{Look}
-use Rattle.place_words.specs.Listed.{Listed, elements_of, those, without_those, cursor_without}
+use Rattle.map_types.specs.Listed.{Listed, elements_of, those, without_those, cursor_without}
 use Rattle.place_words.specs.Shrinking.{look_removed, found_set, taken_off as leave, after_looks}
-use Rattle.place_words.proofs.RowLemmas.{IsAbsent, AreOnce, alone, absent-append, absent-filter, absent-reverse, times_rows-append, times_rows-cons, times_rows-reverse}
+use Rattle.map_types.proofs.RowLemmas.{IsAbsent, AreOnce, alone, absent-append, absent-filter, absent-reverse, times_rows-append, times_rows-cons, times_rows-reverse}
 use Rattle.row_list.specs.RowWords.{row_of, without_row, head_row, row_before}
 use Rattle.row_list.proofs.RowLemmas.{row_of_split, without_absent, last_of_reverse, row_before_split}
 use Rattle.lru_lists.specs.Sets.{SetView, IsSet, IsListed, listed, row_on, moved_to, taken_off}

@@ -7,10 +7,10 @@ use Rattle.std.proofs.lemmas.Bool.{ne_eqb, eq-eqb, cases_Bool}
 use Rattle.std.proofs.lemmas.List.{append-nil, reverse-append, reverse-reverse, append_assoc}
 use Rattle.std.proofs.lemmas.List.Elements.{filter-append}
 use Rattle.std.proofs.lemmas.List.Folds.{list_any-append}
-use Rattle.place_words.specs.ElementLists.{times, IsIn}
-use Rattle.place_words.specs.declared.row.Row.{Row}
-use Rattle.place_words.specs.Listed.{elements_of, those, without_those, nearest_before, cursor_without}
-use Rattle.place_words.proofs.RowLemmas.{by_test, eqb_turned, IsAbsent, AreOnce, alone, absent-filter, filter_absent, before_around}
+use Rattle.map_types.specs.ElementLists.{times, IsIn}
+use Rattle.map_types.specs.declared.row.Row.{Row}
+use Rattle.map_types.specs.Listed.{elements_of, those, without_those, nearest_before, cursor_without}
+use Rattle.map_types.proofs.RowLemmas.{by_test, eqb_turned, IsAbsent, AreOnce, alone, absent-filter, filter_absent, before_around}
 use Rattle.place_words.proofs.VisitLemmas.{filter_twice}
 use Rattle.row_list.specs.RowWords.{without_row}
 use Rattle.row_list.proofs.RowLemmas.{splits}

@@ -8,12 +8,12 @@ use Rattle.std.proofs.lemmas.List.Sums.{length-filter}
 use Rattle.std.proofs.lemmas.List.Elements.{All-nil}
 use Rattle.map_types.specs.Stored.{Stored}
 use Rattle.percpu_values.specs.BodyList.{BodyList}
-use Rattle.place_words.specs.ElementLists.{times}
-use Rattle.place_words.specs.declared.row.Row.{Row}
+use Rattle.map_types.specs.ElementLists.{times}
+use Rattle.map_types.specs.declared.row.Row.{Row}
 use Rattle.place_words.specs.declared.visits.Look.{Look}
 use Rattle.place_words.specs.declared.visits.Try.{Try}
 use Rattle.place_words.specs.Shrinking.{AreTries, IsShrink, look_removed, try_removed, after_looks, after_tries, shrunk, forced_rows, freed}
-use Rattle.place_words.proofs.RowLemmas.{times_append}
+use Rattle.map_types.proofs.RowLemmas.{times_append}
 use Rattle.lru_lists.specs.Sets.{SetView, listed, row_on, times_listed}
 use Rattle.lru_lists.specs.declared.bits.BitCall.{BitCall}
 use Rattle.lru_lists.specs.declared.bits.ProbeCall.{ProbeCall}

@@ -3,12 +3,12 @@ use Rattle.std.proofs.Common.{◌≡◌, ◌≢◌, ℕ, suc, ◌+◌, true, fal
 use Rattle.std.specs.Prelude.{Option, None, Some, is_some, count_by}
 use Rattle.std.proofs.lemmas.Bool.{ne_eqb, cases_Bool}
 use Rattle.std.proofs.lemmas.List.Elements.{filter-append}
-use Rattle.place_words.specs.ElementLists.{times}
+use Rattle.map_types.specs.ElementLists.{times}
 use Rattle.place_words.specs.declared.bucket_part.Seen.{Seen}
-use Rattle.place_words.specs.declared.row.Row.{Row}
+use Rattle.map_types.specs.declared.row.Row.{Row}
 use Rattle.place_words.specs.declared.visits.Look.{Look}
 use Rattle.place_words.specs.declared.visits.Try.{Try}
-use Rattle.place_words.specs.Listed.{elements_of}
+use Rattle.map_types.specs.Listed.{elements_of}
 use Rattle.place_words.specs.Shrinking.{look_removed, try_removed}
 use Rattle.row_list.specs.RowWords.{row_of, without_row}
 use Rattle.row_list.proofs.ElementLemmas.{by_test, times_here}

@@ -5,14 +5,14 @@ use Rattle.std.proofs.lemmas.Bool.{eq-eqb, eqb-true, cases_Bool, or_cases, cases
 use Rattle.std.proofs.lemmas.List.{length-map, length-take, length-take-le, length-drop, length-reverse, take-append-drop}
 use Rattle.std.proofs.lemmas.List.Elements.{All-head, All-tail}
 use Rattle.std.proofs.lemmas.List.Sums.{length-filter}
-use Rattle.place_words.specs.ElementLists.{times, IsIn}
+use Rattle.map_types.specs.ElementLists.{times, IsIn}
 use Rattle.place_words.specs.declared.bucket_part.Seen.{Seen}
-use Rattle.place_words.specs.declared.row.Row.{Row}
+use Rattle.map_types.specs.declared.row.Row.{Row}
 use Rattle.place_words.specs.declared.visits.Look.{Look}
 use Rattle.place_words.specs.declared.visits.Try.{Try}
-use Rattle.place_words.specs.Listed.{Listed, elements_of}
+use Rattle.map_types.specs.Listed.{Listed, elements_of}
 use Rattle.place_words.specs.Shrinking.{AreLooks, AreTries, IsShrink, look_removed, after_looks, forced_rows}
-use Rattle.place_words.proofs.RowLemmas.{by_test, times_append, times_rows-append}
+use Rattle.map_types.proofs.RowLemmas.{by_test, times_append, times_rows-append}
 use Rattle.lru_shrink.specs.Shrunk.{SparesUsed, removed_by_looks, removed_by_tries}
 use Rattle.lru_shrink.proofs.LookWalk.{looked_at, look_element, or_true}
 

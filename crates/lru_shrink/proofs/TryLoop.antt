@@ -8,12 +8,12 @@ use Rattle.std.proofs.lemmas.List.Sums.{sum_by-append, length-filter}
 use Rattle.std.proofs.lemmas.Bool.{ne_eqb, eq-eqb, cases_Bool}
 use Rattle.map_types.specs.Stored.{Stored}
 use Rattle.percpu_values.specs.BodyList.{BodyList}
-use Rattle.place_words.specs.ElementLists.{times}
-use Rattle.place_words.specs.declared.row.Row.{Row}
+use Rattle.map_types.specs.ElementLists.{times}
+use Rattle.map_types.specs.declared.row.Row.{Row}
 use Rattle.place_words.specs.declared.visits.Try.{Try}
-use Rattle.place_words.specs.Listed.{Listed, elements_of, without_those, cursor_without}
+use Rattle.map_types.specs.Listed.{Listed, elements_of, without_those, cursor_without}
 use Rattle.place_words.specs.Shrinking.{AreTries, try_removed, after_tries, forced_rows, forced_out, ends_removed}
-use Rattle.place_words.proofs.RowLemmas.{IsAbsent, AreOnce, alone, eqb_turned, times_rows-append}
+use Rattle.map_types.proofs.RowLemmas.{IsAbsent, AreOnce, alone, eqb_turned, times_rows-append}
 use Rattle.row_list.specs.RowWords.{row_of, head_row, tail_row, row_before}
 use Rattle.row_list.proofs.RowLemmas.{row_of_split, last_of_reverse, row_before_split}
 use Rattle.lru_lists.specs.Notes.{AreNoted}

@@ -1,7 +1,7 @@
 -- What calls for bits and probes leave as it is.
 use Rattle.std.specs.Prelude.{◌≡◌, ◌↔◌, ◌-◌, ℕ}
 use Rattle.map_types.specs.Stored.{Stored}
-use Rattle.place_words.specs.declared.row.Row.{Row}
+use Rattle.map_types.specs.declared.row.Row.{Row}
 
 -- Between two moments an object that answers bits and probes has room for so many calls less. Elements of which it might be
 -- asked still may be, and so may rows of elements that stay be probed that might. What is known of the bodies that it gives,

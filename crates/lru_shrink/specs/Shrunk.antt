@@ -2,8 +2,8 @@
 use Rattle.std.specs.Prelude.{◌≡◌, ◌+◌, ◌-◌, ◌≤◌, ℕ, Bool, false, IsTrue, All, List, ◌++◌, map, filter, filter_map, length, count_by, take, reverse, option_map, unwrap_or, if◌then◌else◌}
 use Rattle.map_types.specs.Stored.{Stored}
 use Rattle.percpu_values.specs.BodyList.{BodyList}
-use Rattle.place_words.specs.ElementLists.{IsIn, times}
-use Rattle.place_words.specs.Listed.{Listed, elements_of}
+use Rattle.map_types.specs.ElementLists.{IsIn, times}
+use Rattle.map_types.specs.Listed.{Listed, elements_of}
 use Rattle.place_words.specs.Shrinking.{AreLooks, AreTries, IsShrink, look_removed, try_removed, after_looks, after_tries, shrunk, forced_rows, freed}
 use Rattle.place_words.specs.declared.bucket_part.Seen.{Seen}
 use Rattle.place_words.specs.declared.visits.Look.{Look}

@@ -1,9 +1,9 @@
 //! The second part of a shrink: the walk that spares none.
 
 ghost use Rattle.std.specs.Prelude.{◌≡◌, ℕ, ◌+◌, ◌-◌, ◌<◌, ◌≤◌, ◌++◌, [], ◌∷◌, length, count_by, Some, IsTrue};
-ghost use Rattle.place_words.specs.ElementLists.{times};
+ghost use Rattle.map_types.specs.ElementLists.{times};
 ghost use Rattle.place_words.specs.Shrinking.{forced_rows, is_removed};
-ghost use Rattle.place_words.specs.declared.row.Row as row_record;
+ghost use Rattle.map_types.specs.declared.row.Row as row_record;
 ghost use Rattle.lru_lists.specs.Sets.{IsSet, row_on, rows_of, listed, times_listed};
 ghost use Rattle.lru_shrink.specs.Asking.{LeavesBut};
 ghost use Rattle.lru_shrink.specs.Shrunk.{TriesPart, AreStacked, after_try, removed_by_tries};

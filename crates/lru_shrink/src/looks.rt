@@ -1,9 +1,9 @@
 //! The first part of a shrink: the walk over inactive that spares elements whose bit is set.
 
 ghost use Rattle.std.specs.Prelude.{◌≡◌, ℕ, ◌+◌, ◌-◌, ◌*◌, ◌<◌, ◌≤◌, ◌++◌, [], ◌∷◌, length, min, not, is_some, count_by, Some};
-ghost use Rattle.place_words.specs.ElementLists.{times};
+ghost use Rattle.map_types.specs.ElementLists.{times};
 ghost use Rattle.place_words.specs.Shrinking.{look_removed};
-ghost use Rattle.place_words.specs.declared.row.Row as row_record;
+ghost use Rattle.map_types.specs.declared.row.Row as row_record;
 ghost use Rattle.lru_lists.specs.Sets.{IsListed, IsSet, row_on, times_listed};
 ghost use Rattle.lru_shrink.specs.Asking.{LeavesBut};
 ghost use Rattle.lru_shrink.specs.Shrunk.{LooksPart, AreStacked, after_look, cleared, look_probes, removed_by_looks};

@@ -1,7 +1,7 @@
 //! A shrink.
 
 ghost use Rattle.std.specs.Prelude.{◌≡◌, ℕ, ◌+◌, ◌-◌, ◌*◌, ◌<◌, ◌≤◌, length, min, Some};
-ghost use Rattle.place_words.specs.declared.row.Row as row_record;
+ghost use Rattle.map_types.specs.declared.row.Row as row_record;
 ghost use Rattle.lru_lists.specs.Sets.{IsListed, IsSet, row_on, times_listed};
 ghost use Rattle.lru_shrink.specs.Asking.{LeavesBut};
 ghost use Rattle.lru_shrink.specs.Shrunk.{Shrink};

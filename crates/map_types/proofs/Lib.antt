@@ -2,3 +2,4 @@ pub mod CreationLemmas
 pub mod PairLemmas
 pub mod PowerLemmas
 pub mod RoundLemmas
+pub mod RowLemmas

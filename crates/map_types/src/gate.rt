@@ -1,8 +1,8 @@
-//! Points of a run at which a worker may be held, for tests of races.
+//! Points of a run at which a CPU may be held, for tests of races.
 
 use crate::DomainId;
 
-/// A point of a worker's way through its calls. The numbers are those of calls, from 1.
+/// A point of a CPU's way through its calls, in a race and in serial order. The numbers are those of calls, from 1.
 #[derive(Clone, Copy, Debug, PartialEq, Eq)]
 pub enum Point {
     /// The call begins.
@@ -15,9 +15,9 @@ pub enum Point {
     Done(u32),
 }
 
-/// What a worker passes at each point. It has no meaning in any contract.
+/// What a CPU passes at each point. It has no meaning in any contract.
 pub trait Gate: Sync {
-    /// The worker of this CPU is at this point. It may be kept there for a while.
+    /// This CPU is at this point. It may be kept there for a while.
     fn at(&self, cpu: u32, point: Point);
 }
 

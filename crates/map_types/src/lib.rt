@@ -11,6 +11,7 @@ mod list;
 mod pairs;
 mod refusal;
 mod reply;
+mod row;
 mod values;
 
 pub use attr::{CreateAttr, Shape};
@@ -22,4 +23,5 @@ pub use list::{Bytes, List, Numbers};
 pub use pairs::Pairs;
 pub use refusal::{Absent, CreateRefusal, Errno, Failed, Limit, NoMemory};
 pub use reply::Reply;
+pub use row::Row;
 pub use values::value_len;

@@ -9,7 +9,7 @@ use Rattle.place_words.proofs.LockLemmas.{number_within}
 use Rattle.place_core.specs.declared.step.Lists.{Lists}
 use Rattle.place_core.specs.declared.step.Step.{Step}
 use Rattle.place_core.specs.declared.step.Step.TheVariants.{Claim, Settle, Attach, Detach, Mark}
-use Rattle.place_words.specs.ElementLists.{put, one, times, IsIn, IsHead}
+use Rattle.map_types.specs.ElementLists.{put, one, times, IsIn, IsHead}
 use Rattle.place_core.specs.State.{no_lists, rows, is_bucket}
 use Rattle.std.specs.Prelude.{IsTrue}
 use Rattle.map_types.specs.Kind.{is_lru}

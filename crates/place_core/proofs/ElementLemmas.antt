@@ -1,7 +1,7 @@
 -- How often an element stands in a list that changed.
 use Rattle.std.proofs.Common.{◌≡◌, ◌≢◌, ℕ, suc, ◌+◌, ◌-◌, ◌<◌, Bool, true, false, cond, eqb, List, [], ◌∷◌, ◌++◌, Option, Some, refl, ap, ◌∙◌, sym, subst, ⊎_elim, arith}
 use Rattle.std.proofs.lemmas.Bool.Decides.{eqb_tells}
-use Rattle.place_words.specs.ElementLists.{put, times, without, before_from}
+use Rattle.map_types.specs.ElementLists.{put, times, without, before_from}
 
 -- a Boolean test of two numbers, by cases
 pub by_test : (x y : ℕ) (F : Bool → Type 0) → (x ≡ y → F true) → (x ≢ y → F false) → F (eqb x y)

@@ -7,7 +7,7 @@ use Rattle.place_words.specs.declared.owner.Owner.{Owner}
 use Rattle.place_words.specs.declared.home.Home.{Home}
 use Rattle.place_words.specs.Locks.{lock_named}
 use Rattle.place_core.specs.declared.step.Lists.{Lists}
-use Rattle.place_words.specs.ElementLists.{put, one, times}
+use Rattle.map_types.specs.ElementLists.{put, one, times}
 use Rattle.place_words.specs.Openings.{is_free}
 use Rattle.place_core.specs.State.{rows, HasOnlyItsLists, HasCursorInside}
 use Rattle.place_core.specs.Places.{Place, lies_at, has_row, EachOnce, FreePlaced, RowsPlaced, MayOwn, MayLie, HomesTold, ListsFit, CursorsInside, PlacedAt}

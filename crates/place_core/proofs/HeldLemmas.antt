@@ -12,7 +12,7 @@ use Rattle.place_words.specs.declared.home.Home.{Home}
 use Rattle.place_words.specs.declared.home.Home.TheVariants as homes
 use Rattle.place_core.specs.declared.step.Lists.{Lists}
 use Rattle.place_core.specs.declared.step.Step.TheVariants.{Take, Give, Rehome, Clear}
-use Rattle.place_words.specs.ElementLists.{put, times}
+use Rattle.map_types.specs.ElementLists.{put, times}
 use Rattle.place_core.specs.State.{no_lists, rows, HasOnlyItsLists, HasCursorInside}
 use Rattle.place_core.specs.Steps.{Holds, CanTake, CanRehome, CanClear, IsHeldHome, after_leaving, after_joining}
 use Rattle.place_core.specs.CoreView.{CoreView, holder_in, AreHolds, state_of, IsCore}

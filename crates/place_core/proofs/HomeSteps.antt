@@ -14,7 +14,7 @@ use Rattle.place_words.specs.declared.home.Home.TheVariants as homes
 use Rattle.place_words.specs.Locks.{is_lock, lock_number, lock_named}
 use Rattle.place_words.proofs.LockLemmas.{named_by_number, number_of_named}
 use Rattle.place_core.specs.declared.step.Lists.{Lists}
-use Rattle.place_words.specs.ElementLists.{put, one, times}
+use Rattle.map_types.specs.ElementLists.{put, one, times}
 use Rattle.place_words.specs.Openings.{is_free}
 use Rattle.place_core.specs.State.{State, rows, is_bucket, HasOnlyItsLists, HasCursorInside}
 use Rattle.place_core.specs.Places.{Place, lies, carried, lies_at, has_row, home_of_place, MayLie, MayLieUnder, FreePlaced, RowsPlaced, ListsFit, CursorsInside, HomesTold, PlacedAt, Placed}

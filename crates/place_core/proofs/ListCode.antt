@@ -9,7 +9,7 @@ use Rattle.std.proofs.lemmas.Bool.{cases_Bool, cases_eq, and_parts, and_from, lt
 use Rattle.std.proofs.lemmas.Bool.Decides.{nat_tests}
 use Rattle.std.proofs.lemmas.List.Sorted.{sum_by-IsPermutation}
 use Rattle.std.proofs.lemmas.List.Recursion.{is_count_by}
-use Rattle.place_words.specs.ElementLists.{times, without}
+use Rattle.map_types.specs.ElementLists.{times, without}
 use Rattle.place_core.proofs.ElementLemmas.{by_test, times_cons_same, times_cons_other, times_append}
 
 pub any_is_in : (e : ℕ) (xs : List ℕ) → list_any (λ x. eqb x e) xs ≡ ltb 0 (times e xs)

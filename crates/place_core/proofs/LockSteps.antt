@@ -8,7 +8,7 @@ use Rattle.map_types.specs.Kind.{is_lru}
 use Rattle.place_words.specs.Locks.{rank_of, lock_number, lock_named}
 use Rattle.place_words.proofs.LockLemmas.{named_by_number}
 use Rattle.place_core.specs.declared.step.Lists.{Lists}
-use Rattle.place_words.specs.ElementLists.{put, one, times}
+use Rattle.map_types.specs.ElementLists.{put, one, times}
 use Rattle.place_words.specs.Openings.{is_free}
 use Rattle.place_core.specs.State.{State, rows, HasOnlyItsLists}
 use Rattle.place_core.specs.Places.{lies_at, has_row, Placed}

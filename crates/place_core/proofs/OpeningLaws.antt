@@ -16,7 +16,7 @@ use Rattle.place_words.specs.declared.owner.Owner.TheVariants as owners
 use Rattle.place_words.specs.declared.home.Home.TheVariants as homes
 use Rattle.place_words.specs.Locks.{is_lock, lock_number, lock_named}
 use Rattle.place_words.proofs.LockLemmas.{named_by_number, number_of_named}
-use Rattle.place_words.specs.ElementLists.{one, times}
+use Rattle.map_types.specs.ElementLists.{one, times}
 use Rattle.place_words.specs.Openings.{is_free}
 use Rattle.place_core.specs.State.{HasOnlyItsLists}
 use Rattle.place_core.specs.Places.{Place, lies, lies_at, has_row, home_of_place, MayOwn, MayLie, MayLieUnder, Placed}

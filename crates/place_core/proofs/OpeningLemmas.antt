@@ -5,7 +5,7 @@ use Rattle.std.proofs.Math.Nat.{suc-mul, zero-mul, div-add-mod, div-eq_of_lt-le}
 use Rattle.std.proofs.lemmas.Bool.{cases_Bool, cases_eq, cases_lt, lt-ltb, le-ltb, leb-true, leb-false}
 use Rattle.map_types.specs.declared.attr.Shape.{Shape}
 use Rattle.map_types.specs.Shape.{HasBounds}
-use Rattle.place_words.specs.ElementLists.{times}
+use Rattle.map_types.specs.ElementLists.{times}
 use Rattle.place_words.specs.Openings.{opening_stack}
 use Rattle.place_words.specs.Shares.{share_first, share_count, pushed_from}
 use Rattle.place_core.proofs.ElementLemmas.{times_cons_same, times_cons_other}

@@ -12,7 +12,7 @@ use Rattle.place_words.specs.declared.owner.Owner.TheVariants as owners
 use Rattle.place_words.specs.declared.home.Home.TheVariants as homes
 use Rattle.place_words.specs.Locks.{is_lock, lock_number, lock_named}
 use Rattle.place_words.proofs.LockLemmas.{named_by_number, one_number}
-use Rattle.place_words.specs.ElementLists.{put, one, times}
+use Rattle.map_types.specs.ElementLists.{put, one, times}
 use Rattle.place_words.specs.Openings.{is_free}
 use Rattle.place_core.specs.State.{State, rows, is_bucket, HasOnlyItsLists}
 use Rattle.place_core.specs.Places.{Place, lies, carried, lies_at, is_in_bucket, has_row, home_of_place, MayLie, MayLieUnder, PlacedAt, Placed}

@@ -9,7 +9,7 @@ use Rattle.place_words.specs.declared.home.Home.TheVariants as homes
 use Rattle.place_words.specs.Locks.{lock_number}
 use Rattle.place_core.specs.declared.step.Lists.{Lists}
 use Rattle.place_core.specs.declared.step.Step.TheVariants.{Rehome}
-use Rattle.place_words.specs.ElementLists.{put}
+use Rattle.map_types.specs.ElementLists.{put}
 use Rattle.place_core.specs.State.{no_lists}
 use Rattle.place_core.specs.Steps.{left_by, joined_by, after_leaving, after_joining, MayLeave, MayEnter, CanRehome}
 use Rattle.place_core.specs.CoreView.{CoreView, state_of, IsCore}

@@ -11,7 +11,7 @@ use Rattle.place_words.specs.declared.owner.Owner.{Owner}
 use Rattle.place_words.specs.declared.owner.Owner.TheVariants as owners
 use Rattle.place_words.specs.Locks.{is_lock}
 use Rattle.place_core.specs.declared.step.Lists.{Lists}
-use Rattle.place_words.specs.ElementLists.{one, times, IsIn, IsHead, without, neighbour}
+use Rattle.map_types.specs.ElementLists.{one, times, IsIn, IsHead, without, neighbour}
 use Rattle.place_words.specs.Openings.{is_free}
 use Rattle.place_core.specs.State.{rows, is_bucket, HasOnlyItsLists, HasCursorInside}
 use Rattle.place_core.specs.Places.{Place, lies, carried, lies_at, is_in_bucket, has_row}

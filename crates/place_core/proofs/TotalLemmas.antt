@@ -10,7 +10,7 @@ use Rattle.place_words.specs.declared.owner.Owner.{Owner}
 use Rattle.place_words.specs.declared.owner.Owner.TheVariants as owners
 use Rattle.place_words.specs.Locks.{is_lock, lock_number, lock_named, lock_count}
 use Rattle.place_words.proofs.LockLemmas.{named_by_number, number_of_named, number_within}
-use Rattle.place_words.specs.ElementLists.{one, times}
+use Rattle.map_types.specs.ElementLists.{one, times}
 use Rattle.place_words.specs.Openings.{is_free}
 use Rattle.place_core.specs.State.{State, rows, HasOnlyItsLists}
 use Rattle.place_core.specs.Places.{Place, lies, carried, lies_at, is_in_bucket, has_row, MayOwn, MayLie, MayLieUnder, Placed}

@@ -12,7 +12,7 @@ use Rattle.place_words.specs.declared.owner.Owner.{Owner}
 use Rattle.place_words.specs.declared.owner.Owner.TheVariants as owners
 use Rattle.place_words.specs.Locks.{is_lock, lock_number, lock_named}
 use Rattle.place_words.proofs.LockLemmas.{named_by_number, number_of_named}
-use Rattle.place_words.specs.ElementLists.{IsIn, one, times}
+use Rattle.map_types.specs.ElementLists.{IsIn, one, times}
 use Rattle.place_words.specs.Openings.{is_free}
 use Rattle.place_core.specs.State.{State, rows, is_bucket}
 use Rattle.place_core.specs.Places.{Place, lies, carried, lies_at, home_of_place, is_in_bucket, has_row, MayOwn, MayLie, MayLieUnder, Placed}

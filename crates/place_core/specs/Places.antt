@@ -10,7 +10,7 @@ use Rattle.place_words.specs.declared.owner.Owner.{Owner}
 use Rattle.place_words.specs.declared.owner.Owner.TheVariants as owners
 use Rattle.place_words.specs.Locks.{is_lock, lock_named}
 use Rattle.place_core.specs.declared.step.Lists.{Lists}
-use Rattle.place_words.specs.ElementLists.{one, times}
+use Rattle.map_types.specs.ElementLists.{one, times}
 use Rattle.place_words.specs.Openings.{is_free}
 use Rattle.place_core.specs.State.{State, rows, HasOnlyItsLists, HasCursorInside}
 

@@ -10,7 +10,7 @@ use Rattle.place_words.specs.declared.home.Home.TheVariants as homes
 use Rattle.place_words.specs.declared.owner.Owner.{Owner}
 use Rattle.place_words.specs.declared.owner.Owner.TheVariants as owners
 use Rattle.place_core.specs.declared.step.Lists.{Lists}
-use Rattle.place_words.specs.ElementLists.{IsIn}
+use Rattle.map_types.specs.ElementLists.{IsIn}
 
 pub record State : Type 0 where
   -- of a lock: the CPU that holds it

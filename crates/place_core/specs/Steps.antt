@@ -12,7 +12,7 @@ use Rattle.place_words.specs.Locks.{rank_of, is_lock, lock_number, lock_named}
 use Rattle.place_core.specs.declared.step.Lists.{Lists}
 use Rattle.place_core.specs.declared.step.Step.{Step}
 use Rattle.place_core.specs.declared.step.Step.TheVariants.{Take, Give, Claim, Settle, Attach, Detach, Rehome, Mark, Clear, Glance}
-use Rattle.place_words.specs.ElementLists.{put, times, IsIn, IsHead, without, neighbour}
+use Rattle.map_types.specs.ElementLists.{put, times, IsIn, IsHead, without, neighbour}
 use Rattle.place_words.specs.Openings.{is_free}
 use Rattle.place_core.specs.State.{State, rows, is_bucket, HasOnlyItsLists, HasCursorInside}
 

@@ -5,7 +5,7 @@ use Rattle.map_types.specs.declared.kind.DomainId.TheVariants.{Bucket}
 use Rattle.place_words.specs.declared.owner.Owner.{Owner}
 use Rattle.place_words.specs.declared.owner.Owner.TheVariants as owners
 use Rattle.place_words.specs.Locks.{lock_number, lock_count}
-use Rattle.place_words.specs.ElementLists.{one}
+use Rattle.map_types.specs.ElementLists.{one}
 use Rattle.place_core.specs.State.{State}
 
 -- the sum of f over the numbers below n

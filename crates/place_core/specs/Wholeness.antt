@@ -8,7 +8,7 @@ use Rattle.place_words.specs.declared.home.Home.TheVariants as homes
 use Rattle.place_words.specs.declared.owner.Owner.TheVariants as owners
 use Rattle.place_words.specs.Locks.{is_lock, lock_named}
 use Rattle.place_core.specs.declared.step.Lists.{Lists}
-use Rattle.place_words.specs.ElementLists.{times, IsIn}
+use Rattle.map_types.specs.ElementLists.{times, IsIn}
 use Rattle.place_core.specs.State.{State, rows, is_bucket}
 use Rattle.place_core.specs.Steps.{lists_under}
 use Rattle.place_core.specs.Places.{OwnersExist, ListsFit, CursorsInside}

@@ -7,7 +7,7 @@ ghost use Rattle.place_words.specs.Locks.{rank_of, lock_named};
 ghost use Rattle.place_words.specs.declared.owner.Owner.TheVariants as owners;
 ghost use Rattle.place_core.specs.Answers.{view_of};
 ghost use Rattle.place_core.specs.CoreView.{holder_in, state_of, IsCore};
-ghost use Rattle.place_words.specs.ElementLists.{IsHead};
+ghost use Rattle.map_types.specs.ElementLists.{IsHead};
 ghost use Rattle.place_words.specs.Openings.{is_free};
 ghost use Rattle.place_core.specs.State.{is_bucket};
 ghost use Rattle.place_core.specs.Steps.{Holds, IsLockHome};

@@ -1,7 +1,7 @@
 //! Lists that change by one element, each made anew.
 
 ghost use Rattle.std.specs.Prelude.{◌≡◌, ℕ, ◌∷◌, ◌↔◌, ◌==◌, nat_lt, position, length, ◌<◌, IsTrue, IfOk, IfSome, MatchBool};
-ghost use Rattle.place_words.specs.ElementLists.{times, IsIn, without, neighbour};
+ghost use Rattle.map_types.specs.ElementLists.{times, IsIn, without, neighbour};
 ghost use Rattle.place_core.specs.State.{rows};
 ghost use Rattle.place_core.specs.Steps.{with_free, without_free, with_row, without_row};
 

@@ -5,7 +5,7 @@ ghost use Rattle.place_words.specs.declared.owner.Owner.TheVariants as owners;
 ghost use Rattle.place_core.specs.declared.step.Step.TheVariants as steps;
 ghost use Rattle.place_core.specs.Answers.{view_of, Answers};
 ghost use Rattle.place_core.specs.CoreView.{state_of, IsCore};
-ghost use Rattle.place_words.specs.ElementLists.{put};
+ghost use Rattle.map_types.specs.ElementLists.{put};
 ghost use Rattle.place_core.specs.State.{no_lists};
 ghost use Rattle.place_core.specs.Steps.{IsHeldHome, MayLeave, MayEnter, left_by, joined_by};
 

@@ -3,7 +3,7 @@ use Rattle.std.proofs.Common.{◌≡◌, ◌≢◌, ℕ, suc, ◌+◌, Bool, tru
 use Rattle.std.specs.Prelude.{reverse}
 use Rattle.std.proofs.lemmas.Bool.Decides.{eqb_tells}
 use Rattle.std.proofs.lemmas.Grind.{reverse_onto}
-use Rattle.place_words.specs.ElementLists.{times, IsIn, IsHead}
+use Rattle.map_types.specs.ElementLists.{times, IsIn, IsHead}
 
 -- a test of two numbers, by cases
 pub by_test : (x y : ℕ) (F : Bool → Type 0) → (x ≡ y → F true) → (x ≢ y → F false) → F (eqb x y)

@@ -7,9 +7,9 @@ use Rattle.std.specs.List.{position_or_len}
 use Rattle.std.proofs.lemmas.Bool.{eqb-true, ltb-false}
 use Rattle.std.proofs.lemmas.List.Sums.{fails_before_first}
 use Rattle.std.proofs.lemmas.Grind.{reverse_onto}
-use Rattle.place_words.specs.ElementLists.{times}
-use Rattle.place_words.specs.declared.row.Row.{Row}
-use Rattle.place_words.specs.Listed.{elements_of}
+use Rattle.map_types.specs.ElementLists.{times}
+use Rattle.map_types.specs.declared.row.Row.{Row}
+use Rattle.map_types.specs.Listed.{elements_of}
 use Rattle.row_list.specs.RowWords.{is_of, row_of, without_row, head_row, row_before, row_after}
 use Rattle.row_list.proofs.ElementLemmas.{by_test, times_here, times_append}
 use Rattle.row_list.proofs.RowLemmas.{elements_append, times_rows_reverse, row_of_split, without_split, last_of_reverse, row_before_split, row_after_split}

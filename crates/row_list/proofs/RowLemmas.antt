@@ -7,9 +7,9 @@ use Rattle.std.proofs.lemmas.List.{map-append, length-map}
 use Rattle.std.proofs.lemmas.Map.Steps.{length-le_from_distinct_below}
 use Rattle.std.proofs.lemmas.Option.{same_Some}
 use Rattle.std.proofs.lemmas.Grind.{reverse_onto}
-use Rattle.place_words.specs.ElementLists.{times, IsIn, IsHead}
-use Rattle.place_words.specs.declared.row.Row.{Row}
-use Rattle.place_words.specs.Listed.{elements_of}
+use Rattle.map_types.specs.ElementLists.{times, IsIn, IsHead}
+use Rattle.map_types.specs.declared.row.Row.{Row}
+use Rattle.map_types.specs.Listed.{elements_of}
 use Rattle.row_list.specs.RowWords.{is_of, row_of, without_row, head_row, tail_row, row_before_from, row_before, row_after, AreRows, spare_of}
 use Rattle.row_list.proofs.ElementLemmas.{by_test, times_here, times_elsewhere, absent_parts, times_reverse, head_is_in}
 

@@ -1,8 +1,8 @@
 -- Words on the rows of an LRU list, head first.
 use Rattle.std.specs.Prelude.{ℕ, ◌==◌, ◌<◌, ◌≤◌, ◌-◌, ◌^◌, Bool, List, [], ◌∷◌, length, find, reverse, Option, None, Some, if◌then◌else◌}
-use Rattle.place_words.specs.ElementLists.{times, IsIn}
-use Rattle.place_words.specs.Listed.{elements_of, without_those}
-use Rattle.place_words.specs.declared.row.Row.{Row}
+use Rattle.map_types.specs.ElementLists.{times, IsIn}
+use Rattle.map_types.specs.Listed.{elements_of, without_those}
+use Rattle.map_types.specs.declared.row.Row.{Row}
 
 abbrev pub is_of : ℕ → Row → Bool
 is_of e row = row.element == e

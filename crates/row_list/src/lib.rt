@@ -4,6 +4,6 @@
 mod plain;
 mod rows;
 
-pub use place_words::Row;
+pub use map_types::Row;
 pub use plain::PlainRows;
 pub use rows::Rows;

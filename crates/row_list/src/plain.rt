@@ -1,8 +1,8 @@
 //! Rows in a vector.
 
 ghost use Rattle.std.specs.Prelude.{◌≡◌, ◌<◌, ◌≤◌, ℕ, length, reverse, position, slice_get, vec_capacity, IfSome};
-ghost use Rattle.place_words.specs.ElementLists.{times};
-ghost use Rattle.place_words.specs.Listed.{elements_of};
+ghost use Rattle.map_types.specs.ElementLists.{times};
+ghost use Rattle.map_types.specs.Listed.{elements_of};
 ghost use Rattle.row_list.specs.RowWords.{AreRows, is_of, row_before, row_after};
 
 use crate::{Row, Rows};

@@ -1,9 +1,9 @@
 //! What a list of rows is.
 
 ghost use Rattle.std.specs.Prelude.{◌≡◌, ◌≢◌, ◌<◌, ◌≤◌, ℕ, List, [], ◌∷◌, length, reverse, ◌↔◌, IfOk, IsSome};
-ghost use Rattle.place_words.specs.ElementLists.{times, IsIn, IsHead};
-ghost use Rattle.place_words.specs.declared.row.Row as row_record;
-ghost use Rattle.place_words.specs.Listed.{elements_of};
+ghost use Rattle.map_types.specs.ElementLists.{times, IsIn, IsHead};
+ghost use Rattle.map_types.specs.declared.row.Row as row_record;
+ghost use Rattle.map_types.specs.Listed.{elements_of};
 ghost use Rattle.row_list.specs.RowWords.{row_of, without_row, head_row, tail_row, row_before, row_after, AreRows, spare_of};
 
 use crate::Row;

@@ -1,6 +1,6 @@
 use Rattle.std.proofs.Common.{◌∙◌, sym, arith, rules, ◌<◌}
-use Rattle.place_words.specs.ElementLists.{times}
-use Rattle.place_words.specs.Listed.{elements_of}
+use Rattle.map_types.specs.ElementLists.{times}
+use Rattle.map_types.specs.Listed.{elements_of}
 use Rattle.row_list.proofs.RowLemmas.{row_of_left, row_of_right, without_absent}
 use Rattle.lru_lists.proofs.set.take_out_of.Goals as goal
 

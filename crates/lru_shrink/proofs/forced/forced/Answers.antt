@@ -1,6 +1,6 @@
 use Rattle.std.proofs.Common.{◌≡◌, true, length, ap, sym, ◌∙◌, subst, arith, inl, inr}
 use Rattle.place_words.specs.Shrinking.{is_removed, forced_rows}
-use Rattle.place_words.specs.declared.row.Row.{Row}
+use Rattle.map_types.specs.declared.row.Row.{Row}
 use Rattle.row_list.specs.RowWords.{tail_row, row_before}
 use Rattle.lru_lists.specs.Sets.{IsSet, listed, rows_of}
 use Rattle.lru_shrink.proofs.TryLoop.{trying_none, try_room, try_noted, try_probed, trying_more, tries_freed, tries_leave, tries_held, held_leave}

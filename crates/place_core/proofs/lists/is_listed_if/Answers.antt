@@ -1,6 +1,6 @@
 use Rattle.std.proofs.Common.{List, ℕ, ap, ◌∙◌}
 use Rattle.std.specs.Prelude.{nat_lt}
-use Rattle.place_words.specs.ElementLists.{times}
+use Rattle.map_types.specs.ElementLists.{times}
 use Rattle.place_core.proofs.ListCode.{row_in_first, row_in_second}
 use Rattle.place_core.proofs.lists.is_listed_if.Goals as goal
 

@@ -1,5 +1,5 @@
 use Rattle.std.proofs.Common.{◌≡◌, drop}
-use Rattle.place_words.specs.ElementLists.{before_from, neighbour}
+use Rattle.map_types.specs.ElementLists.{before_from, neighbour}
 use Rattle.place_core.proofs.lists.neighbour.Given as goal
 
 abbrev pub invariant-loop-x : goal.invariant-loop-x

@@ -1,7 +1,7 @@
 use Rattle.std.proofs.Common.{sym, ◌∙◌, ap, not, eqb}
 use Rattle.std.specs.Prelude.{filter}
 use Rattle.place_core.specs.Answers.{view_of}
-use Rattle.place_words.specs.ElementLists.{times}
+use Rattle.map_types.specs.ElementLists.{times}
 use Rattle.place_core.proofs.CoreLemmas.{reads}
 use Rattle.place_core.proofs.HeldLemmas.{did_give}
 use Rattle.place_core.proofs.locks.give.Goals as goal

@@ -1,6 +1,6 @@
 use Rattle.std.proofs.Common.{List, ℕ, subst, arith}
 use Rattle.place_core.specs.Answers.{view_of}
-use Rattle.place_words.specs.ElementLists.{IsHead}
+use Rattle.map_types.specs.ElementLists.{IsHead}
 use Rattle.place_core.proofs.CoreLemmas.{reads, did_claim, read_free_real}
 use Rattle.place_core.proofs.owners.claim.Goals as goal
 

@@ -2,7 +2,7 @@ use Rattle.std.proofs.Common.{List, ℕ, subst, sym, arith}
 use Rattle.std.proofs.lemmas.Bool.{ltb-true}
 use Rattle.map_types.specs.declared.kind.DomainId.TheVariants.{Bucket}
 use Rattle.place_core.specs.Answers.{view_of}
-use Rattle.place_words.specs.ElementLists.{times, IsIn}
+use Rattle.map_types.specs.ElementLists.{times, IsIn}
 use Rattle.place_core.proofs.CoreLemmas.{reads, did_detach, read_row_real}
 use Rattle.place_core.proofs.owners.detach.Goals as goal
 

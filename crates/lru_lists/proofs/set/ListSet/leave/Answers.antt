@@ -1,5 +1,5 @@
 use Rattle.std.proofs.Common.{◌∙◌, ap, sym, subst, eqb, Option, ℕ}
-use Rattle.place_words.specs.Listed.{cursor_without}
+use Rattle.map_types.specs.Listed.{cursor_without}
 use Rattle.lru_lists.specs.Sets.{SetView, IsSet, with_cursor}
 use Rattle.lru_lists.proofs.CursorLemmas.{cursor_goes, is_under}
 use Rattle.lru_lists.proofs.SetLemmas.{left_is_set}

@@ -1,5 +1,5 @@
 use Rattle.std.proofs.Common.{◌∙◌, ap, sym, subst, Option, ◌++◌}
-use Rattle.place_words.specs.declared.row.Row.{Row}
+use Rattle.map_types.specs.declared.row.Row.{Row}
 use Rattle.row_list.specs.RowWords.{row_of}
 use Rattle.row_list.proofs.RowLemmas.{HasSome}
 use Rattle.lru_lists.specs.Sets.{SetView, IsSet, IsListed, times_listed}

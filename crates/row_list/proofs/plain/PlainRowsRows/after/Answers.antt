@@ -1,7 +1,7 @@
 use Rattle.std.proofs.Common.{ap, sym, ◌∙◌, subst, Option, reverse}
-use Rattle.place_words.specs.ElementLists.{IsIn, IsHead}
-use Rattle.place_words.specs.declared.row.Row.{Row}
-use Rattle.place_words.specs.Listed.{elements_of}
+use Rattle.map_types.specs.ElementLists.{IsIn, IsHead}
+use Rattle.map_types.specs.declared.row.Row.{Row}
+use Rattle.map_types.specs.Listed.{elements_of}
 use Rattle.row_list.specs.RowWords.{row_after}
 use Rattle.row_list.proofs.RowLemmas.{HasSome, after_present}
 use Rattle.row_list.proofs.plain.PlainRowsRows.after.Goals as goal

@@ -1,8 +1,8 @@
 use Rattle.std.proofs.Common.{◌≡◌, ap, sym, ◌∙◌, subst, arith, reverse, List, Option, Some, None}
 use Rattle.std.specs.Prelude.{position}
-use Rattle.place_words.specs.ElementLists.{IsIn}
-use Rattle.place_words.specs.declared.row.Row.{Row}
-use Rattle.place_words.specs.Listed.{elements_of}
+use Rattle.map_types.specs.ElementLists.{IsIn}
+use Rattle.map_types.specs.declared.row.Row.{Row}
+use Rattle.map_types.specs.Listed.{elements_of}
 use Rattle.row_list.specs.RowWords.{is_of, without_row, AreRows}
 use Rattle.row_list.proofs.RowLemmas.{HasSome, row_present, row_of_absent, without_absent, without_are_rows}
 use Rattle.row_list.proofs.PlainLemmas.{lies, lies_nowhere, found_row, left_rows}
