@@ -19,7 +19,7 @@ use Rattle.place_words.specs.declared.bucket_part.Walked.TheVariants.{Over, Take
 use Rattle.place_words.specs.declared.bucket_part.Seen.TheVariants.{Removed, Held}
 use Rattle.place_words.specs.Bodies.{has_key, has_number, HasDistinctKeys, present, without_key, body_of, without_element, numbers}
 use Rattle.place_words.specs.Buckets.{AllowsPut, AllowsInBucket, written_over, bucket_after_put, bucket_after, bucket_marks, as_read}
-use Rattle.place_words.specs.ElementLists.{IsIn, times}
+use Rattle.map_types.specs.ElementLists.{IsIn, times}
 use Rattle.place_words.specs.Moves.{brought_to_bucket, taken_from_bucket}
 use Rattle.place_words.proofs.Splits.{there, some_there, find_passes, none_passes, find_splits, any_cut}
 

@@ -5,12 +5,12 @@ use Rattle.std.specs.List.{list_any}
 use Rattle.std.proofs.lemmas.Bool.{ne_eqb, eq-eqb}
 use Rattle.std.proofs.lemmas.List.Elements.{filter-append, filter_agree}
 use Rattle.std.proofs.lemmas.List.Folds.{list_any-append}
-use Rattle.place_words.specs.ElementLists.{times}
-use Rattle.place_words.specs.declared.row.Row.{Row}
+use Rattle.map_types.specs.ElementLists.{times}
+use Rattle.map_types.specs.declared.row.Row.{Row}
 use Rattle.place_words.specs.declared.visits.Visit.{Visit}
-use Rattle.place_words.specs.Listed.{those, without_those}
+use Rattle.map_types.specs.Listed.{those, without_those}
 use Rattle.place_words.specs.Rotation.{was_set, visited_elements}
-use Rattle.place_words.proofs.RowLemmas.{by_test, eqb_turned, IsAbsent, filter_absent}
+use Rattle.map_types.proofs.RowLemmas.{by_test, eqb_turned, IsAbsent, filter_absent}
 
 abbrev pub visit_of : Row → Bool → Visit
 visit_of row bit = record { element = row.element; bit = bit }

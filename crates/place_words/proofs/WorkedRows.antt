@@ -1,9 +1,9 @@
 -- Rows worked by hand, on which the definitions of rotation and shrinking are tried. The scan limit is 4.
 use Rattle.std.proofs.Common.{◌≡◌, ℕ, ◌+◌, Bool, true, false, List, [], ◌∷◌, map, refl}
 use Rattle.std.specs.Prelude.{Option, None, Some}
-use Rattle.place_words.specs.declared.row.Row.{Row}
+use Rattle.map_types.specs.declared.row.Row.{Row}
 use Rattle.place_words.specs.declared.visits.Visit.{Visit}
-use Rattle.place_words.specs.Listed.{Listed}
+use Rattle.map_types.specs.Listed.{Listed}
 use Rattle.place_words.specs.Rotation.{rotated, active_visited, active_rotated, inactive_order, inactive_visited, inactive_rotated, AreRotationVisits}
 
 abbrev pub rows : List ℕ → List Row

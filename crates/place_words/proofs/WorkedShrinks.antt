@@ -5,7 +5,7 @@ use Rattle.place_words.specs.declared.bucket_part.Seen.{Seen}
 use Rattle.place_words.specs.declared.bucket_part.Seen.TheVariants.{Removed, Held}
 use Rattle.place_words.specs.declared.visits.Look.{Look}
 use Rattle.place_words.specs.declared.visits.Try.{Try}
-use Rattle.place_words.specs.Listed.{Listed}
+use Rattle.map_types.specs.Listed.{Listed}
 use Rattle.place_words.specs.Shrinking.{look_removed, after_looks, after_tries, shrunk, freed, ends_removed, IsShrink}
 use Rattle.place_words.proofs.WorkedRows.{listed}
 

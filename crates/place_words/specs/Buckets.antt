@@ -114,8 +114,9 @@ bucket_after shape cpu (Walk remove room (Taken all)) bucket = if remove then []
 bucket_after shape cpu (Evict e Removed) bucket = without_element e bucket
 bucket_after shape cpu (Evict e (Held holder)) bucket = bucket
 
--- On a map that evicts, a part sets the bits of these elements: of the one that a program's lookup found, of the new one
--- that replaced another, and of the one that was written in place. It sets no other bit, and on other maps none.
+-- On a map that evicts, a part sets the bits of these elements: of the one that a program's lookup found, of the new one that
+-- replaced another, and of the one that was written in place. It sets no other bit. Which maps evict is asked where these are
+-- used.
 abbrev pub marks_of_lookup : Side → Option (ℕ × List ℕ) → List ℕ
 marks_of_lookup Prog None = []
 marks_of_lookup Prog (Some got) = got.0 ∷ []

@@ -3,7 +3,7 @@
 use Rattle.std.specs.Prelude.{◌≡◌, ℕ, List, [], ◌∷◌}
 use Rattle.place_words.specs.declared.free_part.FreePart.{FreePart}
 use Rattle.place_words.specs.declared.free_part.FreePart.TheVariants.{Pushed, Popped, FoundEmpty}
-use Rattle.place_words.specs.ElementLists.{IsHead}
+use Rattle.map_types.specs.ElementLists.{IsHead}
 
 -- where a turn may be this part: a pop takes what is on top, and only an empty stack is found empty
 abbrev pub AllowsOnFreelist : FreePart → List ℕ → Type 0

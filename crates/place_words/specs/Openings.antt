@@ -1,5 +1,5 @@
 -- What lies on the free lists of a map at first, and who has the elements. The rules are those of the kernel's
--- `htab_init_buckets`, `alloc_extra_elems` and `bpf_lru_populate`.
+-- `pcpu_freelist_populate`, `alloc_extra_elems` and `bpf_lru_populate`.
 use Rattle.std.specs.Prelude.{ℕ, ◌==◌, Bool, true, false, List, [], take, filter, position, Option, None, Some, if◌then◌else◌}
 use Rattle.std.specs.List.{range_with_len, flat_map}
 use Rattle.map_types.specs.declared.attr.Shape.{Shape}
@@ -22,7 +22,8 @@ unfoldable pub opening_stack : Shape → ℕ → List ℕ
 opening_stack shape cpu = pushed_from (share_first shape.elements shape.cpus cpu) (share_count shape.elements shape.cpus cpu)
 
 -- On a map of kind HASH, CPU 0 then pops a spare element for each CPU in turn: the first ones of its own freelist, top
--- first, and of those of the next CPUs where these run out. That CPU 0 pops is this project's own choice.
+-- first, and of those of the next CPUs where these run out. That CPU 0 pops is this project's own choice. Only of that kind
+-- does the list mean anything.
 unfoldable pub opening_spares : Shape → List ℕ
 opening_spares shape = take shape.cpus (flat_map (opening_stack shape) (range_with_len 0 shape.cpus))
 

@@ -2,9 +2,9 @@
 -- `__bpf_lru_list_rotate_inactive`. `scans` is the scan limit. Lists are head first, and visits in their order.
 use Rattle.std.specs.Prelude.{◌≡◌, ℕ, ◌==◌, Bool, ◌&&◌, nat_lt, List, [], ◌++◌, map, length, take, drop, reverse, slice_get, Option, None, Some, option_and_then, if◌then◌else◌}
 use Rattle.std.specs.List.{list_any}
-use Rattle.place_words.specs.declared.row.Row.{Row}
+use Rattle.map_types.specs.declared.row.Row.{Row}
 use Rattle.place_words.specs.declared.visits.Visit.{Visit}
-use Rattle.place_words.specs.Listed.{Listed, elements_of, those, without_those, rows_to, rows_after, nearest_before}
+use Rattle.map_types.specs.Listed.{Listed, elements_of, those, without_those, rows_to, rows_after, nearest_before}
 
 -- whether a visit of the element found its bit set
 abbrev pub was_set : List Visit → ℕ → Bool

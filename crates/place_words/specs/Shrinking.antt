@@ -3,12 +3,12 @@
 -- first, and looks and tries in their order.
 use Rattle.std.specs.Prelude.{◌≡◌, ℕ, ◌<◌, ◌==◌, Bool, true, false, not, ◌&&◌, ◌||◌, IsTrue, MatchBool, List, [], ◌++◌, map, length, take, reverse, filter, count_by, All, slice_get, is_some, option_map, unwrap_or, if◌then◌else◌}
 use Rattle.std.specs.List.{list_any}
-use Rattle.place_words.specs.declared.row.Row.{Row}
+use Rattle.map_types.specs.declared.row.Row.{Row}
 use Rattle.place_words.specs.declared.bucket_part.Seen.{Seen}
 use Rattle.place_words.specs.declared.bucket_part.Seen.TheVariants.{Removed, Held}
 use Rattle.place_words.specs.declared.visits.Look.{Look}
 use Rattle.place_words.specs.declared.visits.Try.{Try}
-use Rattle.place_words.specs.Listed.{Listed, elements_of, those, without_those, cursor_without}
+use Rattle.map_types.specs.Listed.{Listed, elements_of, those, without_those, cursor_without}
 
 abbrev pub is_removed : Seen → Bool
 is_removed Removed = true

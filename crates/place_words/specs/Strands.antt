@@ -6,7 +6,7 @@ use Rattle.place_words.specs.declared.history.Entry.{Entry}
 use Rattle.place_words.specs.declared.history.Strand.{Strand}
 use Rattle.place_words.specs.declared.history.StrandStep.{StrandStep}
 use Rattle.place_words.specs.Locks.{is_same_lock}
-use Rattle.place_words.specs.ElementLists.{IsIn}
+use Rattle.map_types.specs.ElementLists.{IsIn}
 
 -- the places in a lock's history that the steps on this lock name, in order
 abbrev pub places_on : DomainId → List StrandStep → List ℕ

@@ -1,165 +1,23 @@
--- The turns of one call of a map that doesn't evict, in the order in which their locks are given back, and the reply that
--- goes with them. The rules are those of the kernel's `htab_map_lookup_elem` and `htab_percpu_map_lookup_elem`,
--- `htab_map_update_elem` and `htab_percpu_map_update_elem`, `htab_map_delete_elem`, `__htab_map_lookup_and_delete_elem`,
--- and `__pcpu_freelist_pop` and `__pcpu_freelist_push`. Next key, batches and maps that evict have no trace yet.
-use Rattle.std.specs.Prelude.{◌≡◌, ◌⊎◌, ℕ, ◌-◌, ◌<◌, ◌≤◌, List, [], ◌∷◌, ◌++◌, Option, None, Some, map, if◌then◌else◌}
-use Rattle.std.specs.List.{range_with_len}
+-- The turns of one call of a map of any kind, in the order in which their locks are given back, and the reply that goes with
+-- them. Each turn has what came before it on its lock.
+use Rattle.std.specs.Prelude.{ℕ, List, Option}
 use Rattle.map_types.specs.declared.attr.Shape.{Shape}
 use Rattle.map_types.specs.declared.call.Verb.{Verb}
 use Rattle.map_types.specs.declared.call.Verb.TheVariants as verbs
-use Rattle.map_types.specs.declared.kind.DomainId.{DomainId}
-use Rattle.map_types.specs.declared.kind.DomainId.TheVariants.{Bucket, Freelist}
-use Rattle.map_types.specs.declared.kind.Side.{Side}
-use Rattle.map_types.specs.declared.refusal.Errno.TheVariants.{Enoent, E2big, Eexist, Einval}
 use Rattle.map_types.specs.declared.reply.Reply.{Reply}
-use Rattle.map_types.specs.declared.reply.Reply.TheVariants.{Done, Value, Refused}
-use Rattle.key_hash.specs.Jhash.{hash}
-use Rattle.key_hash.specs.Bucket.{bucket_number}
-use Rattle.place_words.specs.declared.bucket_part.BucketPart.{BucketPart}
-use Rattle.place_words.specs.declared.bucket_part.BucketPart.TheVariants.{Lookup, Update, Delete, Take}
-use Rattle.place_words.specs.declared.bucket_part.Put.{Put}
-use Rattle.place_words.specs.declared.bucket_part.Put.TheVariants as puts
-use Rattle.place_words.specs.declared.free_part.FreePart.{FreePart}
-use Rattle.place_words.specs.declared.free_part.FreePart.TheVariants.{Pushed, Popped, FoundEmpty}
-use Rattle.place_words.specs.Histories.{Content, Allows, content_after}
-use Rattle.place_words.specs.Locks.{is_same_lock}
-use Rattle.place_words.specs.declared.history.Part.{Part}
-use Rattle.place_words.specs.declared.history.Part.TheVariants as parts
-
--- a turn of a lock: which lock it was, and what was done under it
-pub record Turn : Type 0 where
-  pub lock : DomainId
-  pub part : Part
-
--- the bucket of a key
-abbrev pub bucket_of_key : Shape → List ℕ → ℕ
-bucket_of_key shape key = bucket_number (hash key shape.seed) shape.buckets
-
--- the CPUs in the order in which one of them looks at their freelists: from its own upwards, wrapping
-abbrev pub ring : ℕ → ℕ → List ℕ
-ring cpu cpus = range_with_len cpu (cpus - cpu) ++ range_with_len 0 cpu
-
--- a turn of the bucket of a key, and one of a CPU's freelist
-abbrev pub on_bucket_of : Shape → List ℕ → BucketPart → Turn
-on_bucket_of shape key part = record { lock = Bucket (bucket_of_key shape key); part = parts.Bucket part }
-
-abbrev pub on_freelist_of : ℕ → FreePart → Turn
-on_freelist_of cpu part = record { lock = Freelist cpu; part = parts.Free part }
-
--- the freelists of these CPUs were looked at, in their order, and each was found empty
-abbrev pub found_empty : List ℕ → List Turn
-found_empty cpus = map (λ cpu. on_freelist_of cpu FoundEmpty) cpus
-
--- A pop by a CPU: the freelists in ring order were found empty up to the first that gives an element.
-pub record Pops (shape : Shape) (cpu e : ℕ) (turns : List Turn) : Type 0 where
-  pub passed : List ℕ
-  pub giver : ℕ
-  pub left : List ℕ
-  pub ring_is : ring cpu shape.cpus ≡ passed ++ giver ∷ left
-  pub turns_are : turns ≡ found_empty passed ++ on_freelist_of giver (Popped e) ∷ []
-
--- a push goes to the calling CPU's freelist
-abbrev pub pushes : ℕ → Option ℕ → List Turn
-pushes cpu None = []
-pushes cpu (Some e) = on_freelist_of cpu (Pushed e) ∷ []
-
--- Lookup: one turn of the key's bucket. It answers the value that it got, or ENOENT.
-abbrev pub reply_of_got : Option (ℕ × List ℕ) → Reply
-reply_of_got None = Refused Enoent
-reply_of_got (Some got) = Value got.1
-
-pub record IsLookupTrace (shape : Shape) (side : Side) (key : List ℕ) (turns : List Turn) (reply : Reply) : Type 0 where
-  pub got : Option (ℕ × List ℕ)
-  pub turns_are : turns ≡ on_bucket_of shape key (Lookup side key got) ∷ []
-  pub reply_is : reply ≡ reply_of_got got
-
--- Update. What the bucket's turn puts says what was done before it: an element that is added was popped; a map is full
--- where all freelists were found empty; one that replaces another is the CPU's spare; else nothing is looked at.
-abbrev pub LooksFor : Shape → ℕ → Option ℕ → Put → List Turn → Type 0
-LooksFor shape cpu spare (puts.Added e) turns = Pops shape cpu e turns
-LooksFor shape cpu spare (puts.Replaced new old) turns = (turns ≡ []) × (spare ≡ Some new)
-LooksFor shape cpu spare (puts.Written e) turns = turns ≡ []
-LooksFor shape cpu spare puts.Exists turns = turns ≡ []
-LooksFor shape cpu spare puts.Absent turns = turns ≡ []
-LooksFor shape cpu spare puts.Full turns = turns ≡ found_empty (ring cpu shape.cpus)
-
--- and what the call answers
-abbrev pub reply_of_put : Put → Reply
-reply_of_put (puts.Added e) = Done
-reply_of_put (puts.Replaced new old) = Done
-reply_of_put (puts.Written e) = Done
-reply_of_put puts.Exists = Refused Eexist
-reply_of_put puts.Absent = Refused Enoent
-reply_of_put puts.Full = Refused E2big
-
-pub record IsPutTrace (shape : Shape) (cpu : ℕ) (spare : Option ℕ) (side : Side) (flags : ℕ) (key value : List ℕ) (turns : List Turn) (reply : Reply) : Type 0 where
-  pub put : Put
-  pub looks : List Turn
-  pub looks_are : LooksFor shape cpu spare put looks
-  pub turns_are : turns ≡ looks ++ on_bucket_of shape key (Update side flags key value None put) ∷ []
-  pub reply_is : reply ≡ reply_of_put put
-
--- flags above BPF_EXIST (2) are refused before anything is looked at
-abbrev pub IsUpdateTrace : Shape → ℕ → Option ℕ → Side → ℕ → List ℕ → List ℕ → List Turn → Reply → Type 0
-IsUpdateTrace shape cpu spare side flags key value turns reply =
-    ((2 < flags) × (turns ≡ []) × (reply ≡ Refused Einval)) ⊎ ((flags ≤ 2) × IsPutTrace shape cpu spare side flags key value turns reply)
-
--- Delete, and take, which answers as the system call's lookup: the element is pushed inside the bucket's turn.
-abbrev pub reply_of_gone : Option ℕ → Reply
-reply_of_gone None = Refused Enoent
-reply_of_gone (Some e) = Done
-
-pub record IsDeleteTrace (shape : Shape) (cpu : ℕ) (key : List ℕ) (turns : List Turn) (reply : Reply) : Type 0 where
-  pub gone : Option ℕ
-  pub turns_are : turns ≡ pushes cpu gone ++ on_bucket_of shape key (Delete key gone) ∷ []
-  pub reply_is : reply ≡ reply_of_gone gone
-
-abbrev pub element_gone : Option (ℕ × List ℕ) → Option ℕ
-element_gone None = None
-element_gone (Some gone) = Some gone.0
-
-pub record IsTakeTrace (shape : Shape) (cpu : ℕ) (key : List ℕ) (turns : List Turn) (reply : Reply) : Type 0 where
-  pub gone : Option (ℕ × List ℕ)
-  pub turns_are : turns ≡ pushes cpu (element_gone gone) ++ on_bucket_of shape key (Take key gone) ∷ []
-  pub reply_is : reply ≡ reply_of_got gone
+use Rattle.place_words.specs.Turns.{TurnAt, turns_of}
+use Rattle.place_words.specs.Walks.{IsKeyTrace, IsNextTrace, IsReadTrace, IsWriteBatch, updates_of, deletes_of}
+pub use Rattle.place_words.specs.Turns.{Turn, bucket_of_key, ring, on_bucket_of, on_freelist_of, after_turn, after_turns, AreAllowed}
+pub use Rattle.place_words.specs.PlainTraces.{found_empty, Pops, pushes, reply_of_got, IsLookupTrace, LooksFor, reply_of_put, IsPutTrace, IsUpdateTrace, reply_of_gone, IsDeleteTrace, element_gone, IsTakeTrace, IsPlainTrace, spare_after_put, spare_after_part, spare_after}
 
 -- The turns of a call on a CPU with this spare, and its reply.
-abbrev pub IsTrace : Shape → ℕ → Option ℕ → Verb → List Turn → Reply → Type 0
-IsTrace shape cpu spare (verbs.Lookup side key) turns reply = IsLookupTrace shape side key turns reply
-IsTrace shape cpu spare (verbs.Update side flags key value) turns reply = IsUpdateTrace shape cpu spare side flags key value turns reply
-IsTrace shape cpu spare (verbs.Delete key) turns reply = IsDeleteTrace shape cpu key turns reply
-IsTrace shape cpu spare (verbs.Take key) turns reply = IsTakeTrace shape cpu key turns reply
-IsTrace shape cpu spare _ turns reply = ⊥
-
--- The spare of a CPU after turns of its calls: the old element of the last replacement, else the one before.
-abbrev pub spare_after_put : Option ℕ → Put → Option ℕ
-spare_after_put spare (puts.Added e) = spare
-spare_after_put spare (puts.Replaced new old) = Some old
-spare_after_put spare (puts.Written e) = spare
-spare_after_put spare puts.Exists = spare
-spare_after_put spare puts.Absent = spare
-spare_after_put spare puts.Full = spare
-
-abbrev pub spare_after_part : Option ℕ → Part → Option ℕ
-spare_after_part spare (parts.Bucket (Update side flags key value offer put)) = spare_after_put spare put
-spare_after_part spare _ = spare
-
-abbrev pub spare_after : Option ℕ → List Turn → Option ℕ
-spare_after spare [] = spare
-spare_after spare (turn ∷ turns) = spare_after (spare_after_part spare turn.part) turns
-
--- what lies under each lock, and after a CPU's turn
-abbrev pub after_turn : Shape → ℕ → (DomainId → Content) → Turn → DomainId → Content
-after_turn shape cpu contents turn lock =
-    if is_same_lock turn.lock lock then content_after shape cpu turn.part (contents lock) else contents lock
-
--- and after some turns in their order
-abbrev pub after_turns : Shape → ℕ → (DomainId → Content) → List Turn → DomainId → Content
-after_turns shape cpu contents [] = contents
-after_turns shape cpu contents (turn ∷ turns) = after_turns shape cpu (after_turn shape cpu contents turn) turns
-
--- each of them may be made at its place
-abbrev pub AreAllowed : Shape → ℕ → (DomainId → Content) → List Turn → Type 0
-AreAllowed shape cpu contents [] = Unit {0}
-AreAllowed shape cpu contents (turn ∷ turns) =
-    Allows shape cpu turn.part (contents turn.lock) × AreAllowed shape cpu (after_turn shape cpu contents turn) turns
+abbrev pub IsTrace : Shape → ℕ → Option ℕ → Verb → List TurnAt → Reply → Type 0
+IsTrace shape cpu spare (verbs.Lookup side key) turns reply = IsKeyTrace shape cpu spare (verbs.Lookup side key) turns reply
+IsTrace shape cpu spare (verbs.Update side flags key value) turns reply =
+    IsKeyTrace shape cpu spare (verbs.Update side flags key value) turns reply
+IsTrace shape cpu spare (verbs.Delete key) turns reply = IsKeyTrace shape cpu spare (verbs.Delete key) turns reply
+IsTrace shape cpu spare (verbs.Take key) turns reply = IsKeyTrace shape cpu spare (verbs.Take key) turns reply
+IsTrace shape cpu spare (verbs.Next key) turns reply = IsNextTrace shape key (turns_of turns) reply
+IsTrace shape cpu spare (verbs.BatchRead remove count start flags) turns reply = IsReadTrace shape cpu remove count start flags turns reply
+IsTrace shape cpu spare (verbs.BatchUpdate flags pairs) turns reply = IsWriteBatch shape cpu spare flags (updates_of pairs) turns reply
+IsTrace shape cpu spare (verbs.BatchDelete flags keys) turns reply = IsWriteBatch shape cpu spare flags (deletes_of keys) turns reply

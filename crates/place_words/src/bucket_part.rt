@@ -70,7 +70,7 @@ pub enum Put {
     Exists,
     /// The key is absent, and the flags refuse that.
     Absent,
-    /// The key is absent, and no element was free.
+    /// The key is absent, and each freelist was found empty when it was looked at.
     Full,
 }
 

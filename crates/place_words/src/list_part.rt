@@ -21,8 +21,8 @@ pub enum LocalPart {
         gained: Numbers,
         got: Option<u32>,
     },
-    /// A CPU that found nothing took an element here. `first` is the walk over pending that spares set bits, and `second`
-    /// the one that spares none.
+    /// A CPU that found nothing of its own looked here for an element, which it took or didn't find. `first` is the walk over
+    /// pending that spares set bits, and `second` the one that spares none.
     Steal {
         got: Stolen,
         first: List<Look>,
@@ -34,7 +34,7 @@ pub enum LocalPart {
         element: u32,
         cursor: u32,
     },
-    /// An element was freed: `done` where it was pending here and went to the local free list, else it had been flushed.
+    /// An element was to be freed: `done` where it was pending here and went to the local free list, else nothing changed.
     Push {
         element: u32,
         done: bool,
