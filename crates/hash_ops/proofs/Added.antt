@@ -23,7 +23,7 @@ use Rattle.place_words.specs.declared.free_part.FreePart.TheVariants as turns
 use Rattle.place_words.specs.declared.history.Part.{Part}
 use Rattle.place_words.specs.declared.history.Part.TheVariants as parts
 use Rattle.place_words.specs.Bodies.{has_key, present, numbers}
-use Rattle.place_words.specs.ElementLists.{times}
+use Rattle.map_types.specs.ElementLists.{times}
 use Rattle.place_words.specs.Traces.{Turn, Pops, found_empty, ring, on_freelist_of, spare_after, spare_after_part}
 use Rattle.place_core.specs.declared.step.Lists.{Lists}
 use Rattle.place_core.specs.State.{rows}

@@ -15,7 +15,7 @@ use Rattle.place_words.specs.declared.bucket_part.BucketPart.TheVariants.{Lookup
 use Rattle.place_words.specs.declared.bucket_part.Put.TheVariants as puts
 use Rattle.place_words.specs.Bodies.{present, without_key, numbers}
 use Rattle.place_words.specs.Buckets.{AllowsInBucket, bucket_after, new_stored, written_over}
-use Rattle.place_words.specs.ElementLists.{times, without}
+use Rattle.map_types.specs.ElementLists.{times, without}
 use Rattle.place_words.proofs.BucketLaws.{key_taken, numbers_written}
 use Rattle.place_core.proofs.ElementLemmas.{by_test, times_cons_same, times_cons_other, times_without_same, times_without_other}
 use Rattle.place_table.specs.Contents.{IsSized}

@@ -1,6 +1,6 @@
 -- The ends of calls: a bucket that is given back with no entry, and what a call leaves from where it began.
-use Rattle.std.proofs.Common.{◌≡◌, ℕ, ◌<◌, ◌≤◌, false, List, [], ◌∷◌, inl, refl, ap, ◌∙◌, subst}
-use Rattle.std.specs.Prelude.{All, Result, Ok, Err}
+use Rattle.std.proofs.Common.{◌≡◌, ℕ, ◌<◌, ◌≤◌, Bool, true, false, cond, List, [], ◌∷◌, Option, inl, refl, ap, ◌∙◌, subst}
+use Rattle.std.specs.Prelude.{All, MatchBool, Result, Ok, Err}
 use Rattle.std.proofs.lemmas.List.Elements.{All-nil}
 use Rattle.map_types.specs.declared.attr.Shape.{Shape}
 use Rattle.map_types.specs.declared.call.Verb.TheVariants as verbs
@@ -23,7 +23,7 @@ use Rattle.place_table.specs.Known.{IsBy, Learns}
 use Rattle.place_table.specs.Views.{is_in_hand_of}
 use Rattle.place_table.specs.Passes.{PassView, TableView, CanGiveSome, GaveSome, Goes, spare_of}
 use Rattle.place_table.proofs.Going.{goes_nowhere, learns_nothing}
-use Rattle.hash_ops.specs.Calls.{CanCall, CalledWhole, FoundNoMemory, Updates, lost_turn}
+use Rattle.hash_ops.specs.Calls.{CanCall, CalledWhole, FoundNoMemory, Updates, lost_turn, spare_element}
 use Rattle.hash_ops.specs.declared.map.PlainRefusal.{PlainRefusal}
 use Rattle.hash_ops.specs.declared.map.PlainRefusal.TheVariants as refusals
 use Rattle.hash_ops.specs.Under.{InBucket, HasItsSpares, Enters, Forgot, UpdateEnds}
@@ -83,6 +83,14 @@ module _ (t : TableView) (bucket : ℕ) (p q s : PassView) (chain : BodyList) (e
   updates_of side flags key value (Err refusals.E2big) known here ends = called_whole t bucket p q s chain (verbs.Update side flags key value) (Refused errnos.E2big) enters can.in_no_call.holds_nothing ends
   updates_of side flags key value (Err refusals.NoMemory) known here ends = (known, no_memory key here ends)
 
+by_either : (evicts : Bool) (P Q : Type 0) → P → Q → MatchBool evicts P Q
+by_either true P Q first second = first
+by_either false P Q first second = second
+
+either_same : (evicts : Bool) (spare : Option ℕ) → spare ≡ cond evicts spare spare
+either_same true spare = refl
+either_same false spare = refl
+
 -- flags that are unknown are refused, and nothing was done
 pub called_unknown : (t : TableView) (p : PassView) (side : Side) (flags : ℕ) (key value : List ℕ) → CanCall t p → 2 < flags → CalledWhole t p p (verbs.Update side flags key value) (Refused errnos.Einval)
 called_unknown t p side flags key value can unknown = (
@@ -97,8 +105,8 @@ called_unknown t p side flags key value can unknown = (
       bits = refl;
       learns = learns_nothing t.shape p.view p.view refl refl refl;
     };
-    trace = λ _. inl (unknown, refl, refl);
-    spare = λ _. refl;
+    trace = λ _. by_either (is_lru t.shape.kind) _ _ (inl (unknown, refl, refl)) (inl (unknown, refl, refl));
+    spare = λ _. either_same (is_lru t.shape.kind) (spare_element p);
   },
   refl,
 )

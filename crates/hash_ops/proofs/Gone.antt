@@ -13,10 +13,10 @@ use Rattle.place_words.specs.declared.free_part.FreePart.TheVariants as turns
 use Rattle.place_words.specs.declared.history.Part.{Part}
 use Rattle.place_words.specs.declared.history.Part.TheVariants as parts
 use Rattle.place_words.specs.Bodies.{present, numbers}
-use Rattle.place_words.specs.ElementLists.{times, without, IsIn}
+use Rattle.map_types.specs.ElementLists.{times, without, IsIn}
 use Rattle.place_words.specs.Histories.{in_bucket}
 use Rattle.place_words.specs.Locks.{lock_number}
-use Rattle.place_words.specs.Traces.{Turn, IsTrace, bucket_of_key, on_bucket_of, on_freelist_of, spare_after}
+use Rattle.place_words.specs.Traces.{Turn, IsPlainTrace, bucket_of_key, on_bucket_of, on_freelist_of, spare_after}
 use Rattle.place_words.proofs.BucketLaws.{present_is_in}
 use Rattle.place_core.specs.declared.step.Lists.{Lists}
 use Rattle.place_core.specs.Steps.{without_row}
@@ -115,12 +115,12 @@ module _ {t : TableView} {bucket : ℕ} {q r : PassView} {bodies : List Stored} 
 
   -- and these two turns are those of the call
   pub answered_gone : (s : PassView) (verb : Verb) (reply : Reply) (key : List ℕ) → HasItsSpares q → bucket ≡ bucket_of_key t.shape key → GaveBack t (Bucket bucket) r s (contents.Bucket back) found
-      → IsTrace t.shape q.cpu (spare_element q) verb (on_freelist_of q.cpu (turns.Pushed e) ∷ on_bucket_of t.shape key part ∷ []) reply
+      → IsPlainTrace t.shape q.cpu (spare_element q) verb (on_freelist_of q.cpu (turns.Pushed e) ∷ on_bucket_of t.shape key part ∷ []) reply
       → spare_element q ≡ spare_after (spare_element q) (on_freelist_of q.cpu (turns.Pushed e) ∷ on_bucket_of t.shape key part ∷ []) → Answered t q s verb reply
   answered_gone s verb reply key has here gave trace spare =
       let pushed = on_freelist_of q.cpu (turns.Pushed e) in
       let last : on_bucket_of t.shape key part ≡ record { lock = Bucket bucket; part = parts.Bucket part } = λ i. record { lock = Bucket (sym here i); part = parts.Bucket part } in
       let l = left t bucket q r s bodies b (left_without e bodies) (gone.step ∷ []) (contents.Bucket back) (parts.Bucket part) found gone.under can_give_gone is gave in
       answered_same t bucket q r s verb reply (gone.step ∷ []) (parts.Bucket part) (pushed ∷ []) has l gone.spares gone.hand (λ i. gone.turn i ∷ [])
-      (subst (λ (z : Turn). IsTrace t.shape q.cpu (spare_element q) verb (pushed ∷ z ∷ []) reply) last trace)
+      (subst (λ (z : Turn). IsPlainTrace t.shape q.cpu (spare_element q) verb (pushed ∷ z ∷ []) reply) last trace)
       (spare ∙ ap (λ (z : Turn). spare_after (spare_element q) (pushed ∷ z ∷ [])) last)

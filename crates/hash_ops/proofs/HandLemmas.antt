@@ -4,7 +4,7 @@ use Rattle.map_types.specs.declared.attr.Shape.{Shape}
 use Rattle.map_types.specs.Kind.{is_lru}
 use Rattle.map_types.specs.Stored.{Stored}
 use Rattle.place_words.specs.Bodies.{present, numbers}
-use Rattle.place_words.specs.ElementLists.{times, IsIn}
+use Rattle.map_types.specs.ElementLists.{times, IsIn}
 use Rattle.place_words.proofs.BucketLaws.{present_is_in}
 use Rattle.place_core.specs.declared.step.Lists.{Lists}
 use Rattle.place_core.specs.State.{rows}

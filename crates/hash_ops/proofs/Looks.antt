@@ -10,7 +10,7 @@ use Rattle.place_words.specs.declared.free_part.FreePart.TheVariants as turns
 use Rattle.place_words.specs.declared.history.Part.{Part}
 use Rattle.place_words.specs.declared.history.Part.TheVariants as parts
 use Rattle.place_words.specs.Bodies.{numbers}
-use Rattle.place_words.specs.ElementLists.{times, without, IsHead}
+use Rattle.map_types.specs.ElementLists.{times, without, IsHead}
 use Rattle.place_words.specs.Locks.{is_lock, lock_number}
 use Rattle.place_words.specs.Traces.{Turn}
 use Rattle.place_core.specs.declared.step.Lists.{Lists}

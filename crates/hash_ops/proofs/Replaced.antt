@@ -14,7 +14,7 @@ use Rattle.place_words.specs.declared.bucket_part.Put.TheVariants as puts
 use Rattle.place_words.specs.declared.history.Part.{Part}
 use Rattle.place_words.specs.declared.history.Part.TheVariants as parts
 use Rattle.place_words.specs.Bodies.{numbers}
-use Rattle.place_words.specs.ElementLists.{times, without, IsIn}
+use Rattle.map_types.specs.ElementLists.{times, without, IsIn}
 use Rattle.place_core.specs.declared.step.Lists.{Lists}
 use Rattle.place_core.specs.State.{rows}
 use Rattle.place_core.specs.Steps.{with_row, without_row}
@@ -26,7 +26,7 @@ use Rattle.place_table.specs.Views.{is_among, is_in_hand_of, attached, detached,
 use Rattle.place_table.proofs.Entries.{append_nil}
 use Rattle.place_table.proofs.Hands.{in_hand_more, in_hand_more_else, in_hand_less, in_hand_less_else}
 use Rattle.place_table.proofs.Worlds.{true_false, some_is}
-use Rattle.place_words.specs.Traces.{IsTrace, spare_after}
+use Rattle.place_words.specs.Traces.{IsPlainTrace, spare_after}
 use Rattle.place_table.specs.Known.{turn_of}
 use Rattle.hash_ops.specs.Calls.{spare_element, element_of}
 use Rattle.hash_ops.specs.declared.parts.Given.{Given}
@@ -130,7 +130,7 @@ module _ (t : TableView) (bucket : ℕ) (q : PassView) (bodies : List Stored) (b
             other_spares = λ other ne. ap (spare_of other) l.spares ∙ others other ne;
             learns = l.learns;
           };
-          trace = λ none_lost. subst (λ ts. IsTrace t.shape q.cpu (spare_element q) (verbs.Update side flags key value) ts Done) (sym (told none_lost))
+          trace = λ none_lost. subst (λ ts. IsPlainTrace t.shape q.cpu (spare_element q) (verbs.Update side flags key value) ts Done) (sym (told none_lost))
               (update_trace t bucket q.cpu (spare_element q) side flags key value given (puts.Replaced new old) [] gives (refl, ap element_of kept_was ∙ ap Some was_is));
           spare = λ none_lost. (λ i. element_of (spare_of (l.goes.cpu i) (l.spares i))) ∙ (ap element_of kept_now ∙ (ap Some now_is ∙ ap (spare_after (spare_element q)) (sym (told none_lost))));
         },

@@ -25,11 +25,14 @@ use Rattle.place_words.specs.declared.history.Part.TheVariants as parts
 use Rattle.place_words.specs.declared.history.StrandStep.{StrandStep}
 use Rattle.place_words.specs.Bodies.{numbers}
 use Rattle.place_words.specs.Buckets.{bucket_marks}
-use Rattle.place_words.specs.ElementLists.{times, IsIn}
+use Rattle.map_types.specs.ElementLists.{times, IsIn}
 use Rattle.place_words.specs.Histories.{in_bucket, content, content_after, Allows}
 use Rattle.place_words.specs.Locks.{is_lock, lock_named, lock_number, rank_of}
-use Rattle.place_words.specs.Traces.{Turn, IsTrace, LooksFor, reply_of_put, bucket_of_key, on_bucket_of, spare_after}
+use Rattle.place_words.specs.Traces.{Turn, IsTrace, IsPlainTrace, LooksFor, reply_of_put, bucket_of_key, on_bucket_of, spare_after}
+use Rattle.place_words.specs.Turns.{turns_of}
+use Rattle.place_words.specs.Walks.{spare_left}
 use Rattle.place_words.proofs.LockLemmas.{named_by_number}
+use Rattle.place_words.proofs.PlainLaws.{plain_trace, plain_spare}
 use Rattle.place_core.specs.declared.step.Lists.{Lists}
 use Rattle.place_core.specs.State.{rows}
 use Rattle.place_core.specs.Steps.{with_row, without_row}
@@ -42,7 +45,7 @@ use Rattle.place_table.specs.declared.view.InHand.{InHand}
 use Rattle.place_table.specs.declared.view.Notes.{Notes}
 use Rattle.place_table.specs.declared.view.Turned.{Turned}
 use Rattle.place_table.specs.Contents.{told, lists_of, Fits, IsSized}
-use Rattle.place_table.specs.Known.{Learns, turn_of, IsBy}
+use Rattle.place_table.specs.Known.{Learns, turn_of, turn_at, IsBy}
 use Rattle.place_table.specs.Passes.{PassView, TableView, IsInNoCall, SparesDiffer, CanAttach, CanMark, Takes, CanGive, GaveSome, GaveBack, MayGiveBack, Goes, spare_of, with_view, with_spares, entry_of}
 use Rattle.place_table.specs.Plays.{IsApartFromHands}
 use Rattle.place_table.specs.Rules.{IsAboveAll}
@@ -67,12 +70,13 @@ bucket_there shape bucket there = lt-ltb bucket shape.buckets there
 pub freelist_there : (shape : Shape) (cpu : ℕ) → is_lru shape.kind ≡ false → cpu < shape.cpus → IsTrue (is_lock shape (Freelist cpu))
 freelist_there shape cpu plain few = (λ i. not (plain i) && lt-ltb cpu shape.cpus few i)
 
-pub enters : (t : TableView) (bucket : ℕ) (p q : PassView) (chain : BodyList) → CanCall t p → bucket < t.shape.buckets → p.cpu < t.shape.cpus → Takes t (Bucket bucket) p q (contents.Bucket chain) → Enters t bucket p q chain
-enters t bucket p q chain can there few took =
+pub enters : (t : TableView) (bucket : ℕ) (p q : PassView) (chain : BodyList) → is_lru t.shape.kind ≡ false → CanCall t p → bucket < t.shape.buckets → p.cpu < t.shape.cpus → Takes t (Bucket bucket) p q (contents.Bucket chain) → Enters t bucket p q chain
+enters t bucket p q chain plain can there few took =
     let is = bucket_there t.shape bucket there in
     let goes = goes_took t (Bucket bucket) p q (contents.Bucket chain) took in
     let view : q.view ≡ holding took.hold p.view = ap (λ (z : PassView). z.view) took.after_is in
     record {
+      plain = plain;
       took = took;
       inside = record {
         of_table = goes_of_table t p q [] [] goes can.of_table;
@@ -337,7 +341,7 @@ leaves_of t bucket p q s chain steps lost took none_held f =
 -- the bucket was given back after these turns, and spares stay
 pub answered_same : (t : TableView) (bucket : ℕ) (q r s : PassView) (verb : Verb) (reply : Reply) (inner : List Turned) (part : Part) (turns : List Turn) → HasItsSpares q → (l : Left t bucket q r s inner part) → r.spares ≡ q.spares
     → ((e c : ℕ) → is_in_hand_of e c r.view.hand ≡ is_in_hand_of e c q.view.hand) → map (turn_of t.shape) inner ≡ turns
-    → IsTrace t.shape q.cpu (spare_element q) verb (turns ++ record { lock = Bucket bucket; part = part } ∷ []) reply
+    → IsPlainTrace t.shape q.cpu (spare_element q) verb (turns ++ record { lock = Bucket bucket; part = part } ∷ []) reply
     → spare_element q ≡ spare_after (spare_element q) (turns ++ record { lock = Bucket bucket; part = part } ∷ []) → Answered t q s verb reply
 answered_same t bucket q r s verb reply inner part turns has l spares hand turns_are trace spare =
     let steps : List Turned = inner ++ l.last ∷ [] in
@@ -356,30 +360,46 @@ answered_same t bucket q r s verb reply inner part turns has l spares hand turns
         other_spares = λ other _. ap (spare_of other) same_spares;
         learns = l.learns;
       };
-      trace = λ none_lost. subst (λ (ts : List Turn). IsTrace t.shape q.cpu (spare_element q) verb ts reply) (sym (whole none_lost)) trace;
+      trace = λ none_lost. subst (λ (ts : List Turn). IsPlainTrace t.shape q.cpu (spare_element q) verb ts reply) (sym (whole none_lost)) trace;
       spare = λ none_lost. (λ i. element_of (spare_of (l.goes.cpu i) (same_spares i))) ∙ (spare ∙ ap (spare_after (spare_element q)) (sym (whole none_lost)));
     }
 
 -- and no record was lost
 pub answered_whole : (t : TableView) (bucket : ℕ) (q r s : PassView) (verb : Verb) (reply : Reply) (inner : List Turned) (part : Part) (turns : List Turn) → HasItsSpares q → (l : Left t bucket q r s inner part) → l.lost ≡ [] → r.spares ≡ q.spares
     → ((e c : ℕ) → is_in_hand_of e c r.view.hand ≡ is_in_hand_of e c q.view.hand) → map (turn_of t.shape) inner ≡ turns
-    → IsTrace t.shape q.cpu (spare_element q) verb (turns ++ record { lock = Bucket bucket; part = part } ∷ []) reply
+    → IsPlainTrace t.shape q.cpu (spare_element q) verb (turns ++ record { lock = Bucket bucket; part = part } ∷ []) reply
     → spare_element q ≡ spare_after (spare_element q) (turns ++ record { lock = Bucket bucket; part = part } ∷ []) → AnsweredWhole t q s verb reply
 unfolding answered_same
 answered_whole t bucket q r s verb reply inner part turns has l whole spares hand turns_are trace spare =
     (answered_same t bucket q r s verb reply inner part turns has l spares hand turns_are trace spare, whole)
+
+-- the turns of a pass without what came before them
+pub turns_alone : (shape : Shape) (steps : List Turned) → map (turn_of shape) steps ≡ turns_of (map (turn_at shape) steps)
+turns_alone shape [] = refl
+turns_alone shape (step ∷ steps) = ap (λ (turns : List Turn). turn_of shape step ∷ turns) (turns_alone shape steps)
+
+-- on a map that doesn't evict a trace looks at nothing that came before
+pub trace_at : (shape : Shape) (cpu : ℕ) (spare : Option ℕ) (verb : Verb) (steps : List Turned) (reply : Reply) → is_lru shape.kind ≡ false → IsPlainTrace shape cpu spare verb (map (turn_of shape) steps) reply → IsTrace shape cpu spare verb (map (turn_at shape) steps) reply
+trace_at shape cpu spare verb steps reply plain trace =
+    plain_trace shape cpu spare (map (turn_at shape) steps) reply plain verb (subst (λ (turns : List Turn). IsPlainTrace shape cpu spare verb turns reply) (turns_alone shape steps) trace)
+
+pub plain_left : (shape : Shape) (spare : Option ℕ) (steps : List Turned) → is_lru shape.kind ≡ false → spare_after spare (map (turn_of shape) steps) ≡ spare_left shape spare (map (turn_at shape) steps)
+plain_left shape spare steps plain = ap (spare_after spare) (turns_alone shape steps) ∙ sym (plain_spare shape spare (map (turn_at shape) steps) plain)
 
 -- from where the bucket was taken to where the call began
 pub called_of : (t : TableView) (bucket : ℕ) (p q s : PassView) (chain : BodyList) (verb : Verb) (reply : Reply) → Enters t bucket p q chain → p.view.held ≡ [] → Answered t q s verb reply → Called t p s verb reply
 called_of t bucket p q s chain verb reply enters none_held answered =
     let took = enters.took in
     let f = answered.finished in
+    let steps : List Turned = answered.steps in
     record {
-      steps = answered.steps;
+      steps = steps;
       lost = answered.lost;
-      leaves = leaves_of t bucket p q s chain answered.steps answered.lost took none_held f;
-      trace = λ none_lost. subst (λ (z : PassView). IsTrace t.shape z.cpu (spare_element z) verb (map (turn_of t.shape) answered.steps) reply) took.after_is (answered.trace none_lost);
-      spare = λ none_lost. subst (λ (z : PassView). spare_element s ≡ spare_after (spare_element z) (map (turn_of t.shape) answered.steps)) took.after_is (answered.spare none_lost);
+      leaves = leaves_of t bucket p q s chain steps answered.lost took none_held f;
+      trace = λ none_lost. subst (λ (z : PassView). IsTrace t.shape z.cpu (spare_element z) verb (map (turn_at t.shape) steps) reply) took.after_is
+          (trace_at t.shape q.cpu (spare_element q) verb steps reply enters.plain (answered.trace none_lost));
+      spare = λ none_lost. subst (λ (z : PassView). spare_element s ≡ spare_left t.shape (spare_element z) (map (turn_at t.shape) steps)) took.after_is
+          (answered.spare none_lost ∙ plain_left t.shape (spare_element q) steps enters.plain);
     }
 
 pub called_whole : (t : TableView) (bucket : ℕ) (p q s : PassView) (chain : BodyList) (verb : Verb) (reply : Reply) → Enters t bucket p q chain → p.view.held ≡ [] → AnsweredWhole t q s verb reply → CalledWhole t p s verb reply
@@ -403,7 +423,7 @@ may_same t bucket q chain part found plain b turn fits is =
 
 pub answered_turn : (t : TableView) (bucket : ℕ) (q s : PassView) (chain : BodyList) (verb : Verb) (reply : Reply) (part : BucketPart) (found : Option Part) → is_lru t.shape.kind ≡ false → (b : InBucket t bucket q chain.bodies) → HasItsSpares q → IsTurnWith t.shape q.cpu part chain.bodies chain.bodies (numbers chain.bodies) → BucketNotesFit part no_notes
     → IfSome found (λ x. x ≡ parts.Bucket part) → GaveBack t (Bucket bucket) q s (contents.Bucket chain) found
-    → IsTrace t.shape q.cpu (spare_element q) verb (record { lock = Bucket bucket; part = parts.Bucket part } ∷ []) reply
+    → IsPlainTrace t.shape q.cpu (spare_element q) verb (record { lock = Bucket bucket; part = parts.Bucket part } ∷ []) reply
     → spare_element q ≡ spare_after (spare_element q) (record { lock = Bucket bucket; part = parts.Bucket part } ∷ []) → Answered t q s verb reply
 answered_turn t bucket q s chain verb reply part found plain b has turn fits is gave trace spare =
     let l = left t bucket q q s chain.bodies b b.hold.now [] (contents.Bucket chain) (parts.Bucket part) found (under_nothing t bucket q chain.bodies b) (can_same t bucket q chain part plain b turn fits) is gave in
@@ -504,7 +524,7 @@ can_kept t bucket q bodies back part plain b turn fits =
 
 pub answered_kept : (t : TableView) (bucket : ℕ) (q s : PassView) (bodies : List Stored) (back : BodyList) (verb : Verb) (reply : Reply) (part : BucketPart) (found : Part) → is_lru t.shape.kind ≡ false → (b : InBucket t bucket q bodies) → HasItsSpares q → IsTurnWith t.shape q.cpu part bodies back.bodies (numbers bodies) → BucketNotesFit part no_notes
     → found ≡ parts.Bucket part → GaveBack t (Bucket bucket) q s (contents.Bucket back) (Some found)
-    → IsTrace t.shape q.cpu (spare_element q) verb (record { lock = Bucket bucket; part = parts.Bucket part } ∷ []) reply
+    → IsPlainTrace t.shape q.cpu (spare_element q) verb (record { lock = Bucket bucket; part = parts.Bucket part } ∷ []) reply
     → spare_element q ≡ spare_after (spare_element q) (record { lock = Bucket bucket; part = parts.Bucket part } ∷ []) → AnsweredWhole t q s verb reply
 answered_kept t bucket q s bodies back verb reply part found plain b has turn fits is gave trace spare =
     let l = left_whole t bucket q q s bodies b b.hold.now [] (contents.Bucket back) (parts.Bucket part) found (under_nothing t bucket q bodies b) (can_kept t bucket q bodies back part plain b turn fits) is gave in
@@ -516,6 +536,6 @@ update_entry t bucket side flags key value given put found gives is = is ∙ (λ
 
 -- the trace of an update
 pub update_trace : (t : TableView) (bucket cpu : ℕ) (spare : Option ℕ) (side : Side) (flags : ℕ) (key value : List ℕ) (given : Given) (put : Put) (looks : List Turn) → Gives t bucket side flags key value given → LooksFor t.shape cpu spare put looks
-    → IsTrace t.shape cpu spare (verbs.Update side flags key value) (looks ++ record { lock = Bucket bucket; part = parts.Bucket (Update side flags key value None put) } ∷ []) (reply_of_put put)
+    → IsPlainTrace t.shape cpu spare (verbs.Update side flags key value) (looks ++ record { lock = Bucket bucket; part = parts.Bucket (Update side flags key value None put) } ∷ []) (reply_of_put put)
 update_trace t bucket cpu spare side flags key value given put looks gives looked =
     inr (gives.flags_known, record { put = put; looks = looks; looks_are = looked; turns_are = ap (λ (l : List Turn). looks ++ l) (on_bucket t.shape bucket key (Update side flags key value None put) gives.bucket_is); reply_is = refl })

@@ -1,6 +1,6 @@
 -- What each call on a map leaves of its pass: the turns that it adds to the pass's strand are a trace of the call, with the
 -- answer that it gives.
-use Rattle.std.specs.Prelude.{◌≡◌, ℕ, ◌<◌, ◌≤◌, List, [], ◌∷◌, length, map, All, Option, None, Some, Result, Ok, Err}
+use Rattle.std.specs.Prelude.{◌≡◌, ℕ, ◌<◌, ◌≤◌, List, [], ◌∷◌, map, All, Option, None, Some, Result, Ok, Err}
 use Rattle.map_types.specs.declared.call.Verb.{Verb}
 use Rattle.map_types.specs.declared.call.Verb.TheVariants.{Update}
 use Rattle.map_types.specs.declared.kind.DomainId.TheVariants.{Bucket}
@@ -11,13 +11,14 @@ use Rattle.map_types.specs.declared.reply.Reply.{Reply}
 use Rattle.map_types.specs.declared.reply.Reply.TheVariants.{Done, Value, Refused}
 use Rattle.map_types.specs.Stored.{Stored}
 use Rattle.percpu_values.specs.BodyList.{BodyList}
-use Rattle.place_words.specs.Traces.{bucket_of_key, IsTrace, spare_after}
+use Rattle.place_words.specs.Traces.{bucket_of_key, IsTrace}
+use Rattle.place_words.specs.Walks.{spare_left}
 use Rattle.place_words.specs.declared.history.Part.{Part}
 use Rattle.place_table.specs.declared.content.Content.TheVariants as contents
 use Rattle.place_table.specs.declared.view.Hold.{Hold}
 use Rattle.place_table.specs.declared.view.Turned.{Turned}
 use Rattle.place_table.specs.Known.{Learns}
-pub use Rattle.place_table.specs.Known.{turn_of, IsBy}
+pub use Rattle.place_table.specs.Known.{turn_of, turn_at, IsBy}
 use Rattle.place_table.specs.Passes.{PassView, TableView, IsPassOf, HasBegun, IsInNoCall, SparesDiffer, Takes, GaveSome, Made, spare_of, entry_of}
 use Rattle.place_table.specs.Views.{turned}
 use Rattle.hash_ops.specs.declared.map.PlainRefusal.{PlainRefusal}
@@ -48,14 +49,15 @@ pub record Leaves (t : TableView) (before after : PassView) (steps : List Turned
   pub bits : after.view.bits ≡ before.view.bits
   pub learns : Learns t.shape before.view after.view steps
 
--- The turns are a trace of the call with this reply, and nothing else; the CPU's spare is then the one that they leave.
+-- The turns, each after the turns of its lock before it, are a trace of the call with this reply, and nothing else; the CPU's
+-- spare is then the one that they leave.
 -- Nothing is said of the turns of a call that lost the record of a lock.
 pub record Called (t : TableView) (before after : PassView) (verb : Verb) (reply : Reply) : Type 0 where
   pub steps : List Turned
   pub lost : List ℕ
   pub leaves : Leaves t before after steps lost
-  pub trace : lost ≡ [] → IsTrace t.shape before.cpu (spare_element before) verb (map (turn_of t.shape) steps) reply
-  pub spare : lost ≡ [] → spare_element after ≡ spare_after (spare_element before) (map (turn_of t.shape) steps)
+  pub trace : lost ≡ [] → IsTrace t.shape before.cpu (spare_element before) verb (map (turn_at t.shape) steps) reply
+  pub spare : lost ≡ [] → spare_element after ≡ spare_left t.shape (spare_element before) (map (turn_at t.shape) steps)
 
 -- what a lookup or a take answers, and what a delete does
 abbrev pub reply_of_value : Result (Unit {0}) Absent → List ℕ → Reply
@@ -72,7 +74,7 @@ CalledWhole t before after verb reply = (called : Called t before after verb rep
 
 -- the turn of a lock that was given back without an entry
 abbrev pub lost_turn : PassView → Hold → Part → Turned
-lost_turn p hold part = turned hold.lock (length hold.log) (entry_of p part)
+lost_turn p hold part = turned hold.lock hold.log (entry_of p part)
 
 -- Where an update found no memory, it took the key's bucket and gave it back with the bodies that lay there, without an entry:
 -- the record of that bucket's turns is lost.

@@ -1,5 +1,5 @@
 -- A call from where it holds the bucket of its key to its end.
-use Rattle.std.specs.Prelude.{◌≡◌, ℕ, ◌<◌, ◌≤◌, true, List, [], ◌∷◌, length, map, slice_get, All, Some, Result, Ok, Err}
+use Rattle.std.specs.Prelude.{◌≡◌, ℕ, ◌<◌, ◌≤◌, true, false, List, [], ◌∷◌, length, map, slice_get, All, Some, Result, Ok, Err}
 use Rattle.map_types.specs.declared.call.Verb.{Verb}
 use Rattle.map_types.specs.declared.kind.DomainId.TheVariants.{Bucket}
 use Rattle.map_types.specs.declared.kind.MapKind.TheVariants.{Hash}
@@ -7,6 +7,7 @@ use Rattle.map_types.specs.declared.refusal.Errno.TheVariants as errnos
 use Rattle.map_types.specs.declared.reply.Reply.{Reply}
 use Rattle.map_types.specs.declared.reply.Reply.TheVariants.{Done, Refused}
 use Rattle.map_types.specs.declared.kind.Side.{Side}
+use Rattle.map_types.specs.Kind.{is_lru}
 use Rattle.map_types.specs.Stored.{Stored}
 use Rattle.map_types.specs.ValueLen.{value_len_of}
 use Rattle.percpu_values.specs.BodyList.{BodyList}
@@ -15,7 +16,7 @@ use Rattle.place_words.specs.declared.history.Entry.{Entry}
 use Rattle.place_words.specs.Bodies.{present}
 use Rattle.place_words.specs.Histories.{in_bucket, content}
 use Rattle.place_words.specs.Locks.{lock_number}
-use Rattle.place_words.specs.Traces.{bucket_of_key, IsTrace, spare_after}
+use Rattle.place_words.specs.Traces.{bucket_of_key, IsPlainTrace, spare_after}
 use Rattle.place_table.specs.declared.content.Content.TheVariants as contents
 use Rattle.place_table.specs.declared.view.Hold.{Hold}
 use Rattle.place_table.specs.declared.view.Notes.{Notes}
@@ -55,8 +56,9 @@ pub record HasItsSpares (q : PassView) : Type 0 where
   pub spares_in_hand : (cpu : ℕ) (body : Stored) → spare_of cpu q.spares ≡ Some body → is_in_hand_of body.element cpu q.view.hand ≡ true
   pub none_out : q.view.shape.kind ≡ Hash → (cpu : ℕ) → is_among cpu q.view.cpus ≡ true → (body : Stored) × (spare_of cpu q.spares ≡ Some body)
 
--- a pass in no call has taken a bucket
+-- a pass in no call has taken a bucket, of a map that doesn't evict
 pub record Enters (t : TableView) (bucket : ℕ) (p q : PassView) (chain : BodyList) : Type 0 where
+  pub plain : is_lru t.shape.kind ≡ false
   pub took : Takes t (Bucket bucket) p q (contents.Bucket chain)
   pub inside : InBucket t bucket q chain.bodies
   pub spares : HasItsSpares q
@@ -85,7 +87,7 @@ pub record Answered (t : TableView) (q s : PassView) (verb : Verb) (reply : Repl
   pub steps : List Turned
   pub lost : List ℕ
   pub finished : Finished t q s steps lost
-  pub trace : lost ≡ [] → IsTrace t.shape q.cpu (spare_element q) verb (map (turn_of t.shape) steps) reply
+  pub trace : lost ≡ [] → IsPlainTrace t.shape q.cpu (spare_element q) verb (map (turn_of t.shape) steps) reply
   pub spare : lost ≡ [] → spare_element s ≡ spare_after (spare_element q) (map (turn_of t.shape) steps)
 
 -- the same, and no record was lost

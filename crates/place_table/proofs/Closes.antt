@@ -10,7 +10,7 @@ use Rattle.map_types.specs.declared.kind.DomainId.TheVariants as named
 use Rattle.map_types.specs.Stored.{Stored}
 use Rattle.place_words.specs.declared.history.Entry.{Entry}
 use Rattle.place_words.specs.declared.history.Strand.{Strand}
-use Rattle.place_words.specs.ElementLists.{one}
+use Rattle.map_types.specs.ElementLists.{one}
 use Rattle.place_words.specs.Histories.{in_bucket, content, IsLegal}
 use Rattle.place_words.specs.Locks.{is_lock, lock_named, lock_number, lock_count}
 use Rattle.place_words.specs.Strands.{places_on, AreSharedOut}
@@ -25,7 +25,7 @@ use Rattle.place_table.specs.declared.view.View.{View}
 use Rattle.place_table.specs.declared.view.Ended.{Ended}
 use Rattle.place_table.specs.Contents.{told, lists_of, Fits, IsSized}
 use Rattle.place_table.specs.Views.{is_among, hold_at, is_in_hand_of, known_log, bit_seen, current_strand, all_strands}
-use Rattle.place_table.specs.Rules.{World, Rule, Knows, entries, hold_of, is_hand_of, turns_on, turns_of, indexes, ArePast, HaveNoSteps, bit_word}
+use Rattle.place_table.specs.Rules.{World, Rule, Knows, entries, hold_of, is_hand_of, turns_on, turns_of, indexes, StandIn, ArePast, HaveNoSteps, bit_word}
 use Rattle.place_table.specs.Passes.{PassView, HasCpusOf, HandsReal}
 use Rattle.place_table.specs.Closing.{ClosedView, AreSlots, has_lock, strands_told, AreTurnsOf, IsClosed}
 use Rattle.place_table.specs.Leaving.{WasLeft}
@@ -51,6 +51,7 @@ pub record AtEnd (shape : Shape) (v : View) (words : List ℕ) (slots : List Beh
   pub known : (k : ℕ) (turns : List Entry) → known_log k v.known ≡ Some turns → log k ≡ turns
   pub bits : (e : ℕ) (bit : Bool) → bit_seen e v.bits ≡ Some bit → core.bit e ≡ bit
   pub turns : (k : ℕ) → AreTurnsOf k (all_strands v) (log k)
+  pub stand : (n : ℕ) (strand : Ended) → slice_get (all_strands v) n ≡ Some strand → StandIn log strand.steps
   pub recorded : (n : ℕ) (strand : Ended) → slice_get (all_strands v) n ≡ Some strand
       → (k : ℕ) → k < lock_count shape → IsTrue (has_lock shape k) → lost k ≡ false → places_on (lock_named shape k) strand.kept ≡ indexes (turns_on k strand.steps)
   pub losses : (k : ℕ) → is_among k v.lost ≡ true → (k < lock_count shape) × IsTrue (has_lock shape k) × (lost k ≡ true)
@@ -136,6 +137,7 @@ module _ (shape : Shape) (s : State Behind View) (r : Rule shape s) (pass : ℕ)
         known = kn.known;
         bits = kn.bits;
         turns = λ k. are_turns_of shape w pass (length s.views) k (done w pass) (all_strands v) strands (r.tagged k) (listed k);
+        stand = λ n strand at_n. (strand_here shape w pass (done w pass) (all_strands v) n strand strands at_n).is.stand;
         recorded = λ n strand at_n. (strand_here shape w pass (done w pass) (all_strands v) n strand strands at_n).is.kept_are;
         losses = λ k among. let is = kn.losses k among in (is.below, is.there, is.lost);
         slots_are = record {
@@ -198,6 +200,7 @@ module _ (shape : Shape) (p : PassView) (words : List ℕ) (slots : List Behind)
     known = e.known;
     bits = e.bits;
     turns = e.turns;
+    stand = e.stand;
     recorded = λ n strand at_n k below there lo. e.recorded n strand at_n k below there (neither was.strands_lost (e.lost k) lo).1;
     strands_lost = was.strands_lost;
     all_lost = λ all k. ap (λ (b : Bool). b || e.lost k) all;

@@ -7,6 +7,7 @@ use Rattle.place_words.specs.Locks.{is_same_lock}
 use Rattle.place_words.specs.Strands.{places_on}
 use Rattle.place_core.proofs.ElementLemmas.{by_test}
 use Rattle.place_table.specs.declared.view.Turned.{Turned}
+use Rattle.place_table.specs.Views.{turned, place_of}
 use Rattle.place_table.specs.Rules.{Tagged, entries, turns_on, turns_of, indexes}
 use Rattle.place_table.specs.Recording.{last_from}
 use Rattle.place_table.proofs.Worlds.{by_bool}
@@ -41,21 +42,21 @@ turns_of_other t u i (x ∷ xs) e n =
     (λ _. ap (λ l. (i, x.1) ∷ l) rest) (λ _. rest)
 
 -- the steps on one lock
-pub turns_on_same : (k i : ℕ) (e : Entry) (steps : List Turned) (s : Turned) → s ≡ record { lock = k; index = i; entry = e } → turns_on k (steps ++ s ∷ []) ≡ turns_on k steps ++ (i, e) ∷ []
-turns_on_same k i e [] s is =
-    subst (λ (z : Turned). turns_on k (z ∷ []) ≡ (i, e) ∷ []) (sym is) (by_test k k (λ b. cond {A = List (ℕ × Entry)} b ((i, e) ∷ []) [] ≡ (i, e) ∷ []) (λ _. refl) (λ n. absurd (n refl)))
-turns_on_same k i e (x ∷ xs) s is =
-    let rest = turns_on_same k i e xs s is in
-    by_test x.lock k (λ b. cond b ((x.index, x.entry) ∷ turns_on k (xs ++ s ∷ [])) (turns_on k (xs ++ s ∷ [])) ≡ cond b ((x.index, x.entry) ∷ turns_on k xs) (turns_on k xs) ++ (i, e) ∷ [])
-    (λ _. ap (λ l. (x.index, x.entry) ∷ l) rest) (λ _. rest)
+pub turns_on_same : (k : ℕ) (before : List Entry) (e : Entry) (steps : List Turned) (s : Turned) → s ≡ turned k before e → turns_on k (steps ++ s ∷ []) ≡ turns_on k steps ++ (length before, e) ∷ []
+turns_on_same k before e [] s is =
+    subst (λ (z : Turned). turns_on k (z ∷ []) ≡ (length before, e) ∷ []) (sym is) (by_test k k (λ b. cond {A = List (ℕ × Entry)} b ((length before, e) ∷ []) [] ≡ (length before, e) ∷ []) (λ _. refl) (λ n. absurd (n refl)))
+turns_on_same k before e (x ∷ xs) s is =
+    let rest = turns_on_same k before e xs s is in
+    by_test x.lock k (λ b. cond b ((place_of x, x.entry) ∷ turns_on k (xs ++ s ∷ [])) (turns_on k (xs ++ s ∷ [])) ≡ cond b ((place_of x, x.entry) ∷ turns_on k xs) (turns_on k xs) ++ (length before, e) ∷ [])
+    (λ _. ap (λ l. (place_of x, x.entry) ∷ l) rest) (λ _. rest)
 
 pub turns_on_other : (m : ℕ) (steps : List Turned) (s : Turned) → s.lock ≢ m → turns_on m (steps ++ s ∷ []) ≡ turns_on m steps
 turns_on_other m [] s other =
-    by_test s.lock m (λ b. cond {A = List (ℕ × Entry)} b ((s.index, s.entry) ∷ []) [] ≡ []) (λ h. absurd (other h)) (λ _. refl)
+    by_test s.lock m (λ b. cond {A = List (ℕ × Entry)} b ((place_of s, s.entry) ∷ []) [] ≡ []) (λ h. absurd (other h)) (λ _. refl)
 turns_on_other m (x ∷ xs) s other =
     let rest = turns_on_other m xs s other in
-    by_test x.lock m (λ b. cond b ((x.index, x.entry) ∷ turns_on m (xs ++ s ∷ [])) (turns_on m (xs ++ s ∷ [])) ≡ cond b ((x.index, x.entry) ∷ turns_on m xs) (turns_on m xs))
-    (λ _. ap (λ l. (x.index, x.entry) ∷ l) rest) (λ _. rest)
+    by_test x.lock m (λ b. cond b ((place_of x, x.entry) ∷ turns_on m (xs ++ s ∷ [])) (turns_on m (xs ++ s ∷ [])) ≡ cond b ((place_of x, x.entry) ∷ turns_on m xs) (turns_on m xs))
+    (λ _. ap (λ l. (place_of x, x.entry) ∷ l) rest) (λ _. rest)
 
 -- the recorded steps on one lock
 pub places_on_same : (lock : DomainId) (kept : List StrandStep) (s : StrandStep) → is_same_lock s.lock lock ≡ true → places_on lock (kept ++ s ∷ []) ≡ places_on lock kept ++ s.index ∷ []

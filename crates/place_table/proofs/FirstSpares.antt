@@ -10,7 +10,7 @@ use Rattle.map_types.specs.declared.kind.MapKind.{MapKind}
 use Rattle.map_types.specs.declared.kind.MapKind.TheVariants.{Hash, PercpuHash, LruHash, LruPercpuHash}
 use Rattle.map_types.specs.Shape.{HasBounds}
 use Rattle.place_words.specs.declared.owner.Owner.TheVariants as owners
-use Rattle.place_words.specs.ElementLists.{times}
+use Rattle.map_types.specs.ElementLists.{times}
 use Rattle.place_words.specs.Openings.{opening_stack, opening_spares, spare_owner, opening_owner}
 use Rattle.place_words.specs.Shares.{share_first, share_count, pushed_from}
 use Rattle.place_core.specs.Opening.{opening}

@@ -11,7 +11,7 @@ use Rattle.place_words.specs.declared.history.Part.{Part}
 use Rattle.place_words.specs.declared.history.Part.TheVariants as parts
 use Rattle.place_words.specs.Bodies.{first_key}
 use Rattle.place_words.specs.Buckets.{AllowsInBucket, bucket_after}
-use Rattle.place_words.specs.ElementLists.{times}
+use Rattle.map_types.specs.ElementLists.{times}
 use Rattle.place_words.specs.Histories.{content, content_after, Allows}
 use Rattle.place_words.specs.Locks.{is_lock, lock_named}
 use Rattle.place_words.proofs.LockLemmas.{named_by_number}

@@ -1,12 +1,12 @@
 -- What is left of a pass after each call on the table, and after some calls in their order.
-use Rattle.std.proofs.Common.{◌≡◌, ◌≢◌, ℕ, ◌<◌, inl, inr, ⊎_elim, cond, Bool, List, [], ◌∷◌, ◌++◌, length, sym, refl, ap, ◌∙◌, subst, append_assoc, Some}
+use Rattle.std.proofs.Common.{◌≡◌, ◌≢◌, ℕ, ◌<◌, inl, inr, ⊎_elim, cond, Bool, List, [], ◌∷◌, ◌++◌, sym, refl, ap, ◌∙◌, subst, append_assoc, Some}
 use Rattle.std.specs.Prelude.{IsTrue}
 use Rattle.map_types.specs.declared.attr.Shape.{Shape}
 use Rattle.map_types.specs.declared.kind.DomainId.{DomainId}
 use Rattle.place_words.specs.declared.history.Entry.{Entry}
 use Rattle.place_words.specs.declared.history.Part.{Part}
 use Rattle.place_words.specs.declared.history.StrandStep.{StrandStep}
-use Rattle.place_words.specs.ElementLists.{put}
+use Rattle.map_types.specs.ElementLists.{put}
 use Rattle.place_words.specs.Histories.{content, Allows}
 use Rattle.place_words.specs.Locks.{is_lock, lock_named, lock_number, lock_count}
 use Rattle.place_words.proofs.LockLemmas.{named_by_number, number_within}
@@ -21,7 +21,7 @@ use Rattle.place_table.specs.declared.view.BitSeen.{BitSeen}
 use Rattle.place_table.specs.declared.view.Turned.{Turned}
 use Rattle.place_table.specs.Known.{KnowsAll, FollowsOn, FollowOn, Learns, log_after, logs_after}
 use Rattle.place_table.specs.Passes.{PassView, TableView, IsPassOf, HasBegun, Takes, CanGive, Gave, GaveSome, IsKeptOf, Goes, Made, with_view, with_spares, entry_of}
-use Rattle.place_table.specs.Views.{has_all_below, known_log, learned, moved, noted, turned, kept_step, holding, is_among}
+use Rattle.place_table.specs.Views.{has_all_below, known_log, learned, moved, noted, turned, place_of, kept_step, holding, is_among}
 use Rattle.place_table.proofs.Entries.{append_nil}
 
 pub same_head : {A : Type 0} {x y : A} {xs ys : List A} → x ∷ xs ≡ y ∷ ys → x ≡ y
@@ -34,7 +34,7 @@ kept_on shape [] second a b c one other = subst (λ (l : List StrandStep). IsKep
 kept_on shape (step ∷ steps) second a b c one other =
     ⊎_elim
     (λ (lost : IsKeptOf shape steps a b). inl (kept_on shape steps second a b c lost other))
-    (λ (more : IsKeptOf shape steps (a ++ kept_step shape step.lock step.index ∷ []) b). inr (kept_on shape steps second (a ++ kept_step shape step.lock step.index ∷ []) b c more other))
+    (λ (more : IsKeptOf shape steps (a ++ kept_step shape step.lock (place_of step) ∷ []) b). inr (kept_on shape steps second (a ++ kept_step shape step.lock (place_of step) ∷ []) b c more other))
     one
 
 -- Goes
@@ -130,7 +130,7 @@ goes_spared p q is =
 
 -- the turn of a give
 abbrev pub given_turn : PassView → Hold → Part → Turned
-given_turn p hold part = turned hold.lock (length hold.log) (entry_of p part)
+given_turn p hold part = turned hold.lock hold.log (entry_of p part)
 
 pub goes_gave : (p q : PassView) (part : Part) (gave : Gave p q part) → Goes p q (given_turn p gave.hold part ∷ []) []
 goes_gave p q part gave =
@@ -245,7 +245,7 @@ learns_given t lock q r back inner part w can told apart knows known cpus same l
     let follows : FollowsOn t.shape (logs_after logs inner) (given_turn r can.hold part) = record {
       below = below;
       there = there;
-      index_is = ap length log_is;
+      earlier_is = log_is;
       allowed = subst (λ (l : List Entry). Allows t.shape r.cpu part (content t.shape (lock_named t.shape k) l)) log_is can.may_put.allowed;
     } in (
       follow_append t.shape logs inner (given_turn r can.hold part ∷ []) inside.0 (follows, tt),

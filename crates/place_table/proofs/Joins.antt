@@ -6,7 +6,7 @@ use mathlib.Core.Option.{some}
 use Rattle.atomic_table.specs.Table.{State, Joins}
 use Rattle.atomic_table.proofs.Lists.{at_set}
 use Rattle.map_types.specs.declared.attr.Shape.{Shape}
-use Rattle.place_words.specs.ElementLists.{put}
+use Rattle.map_types.specs.ElementLists.{put}
 use Rattle.place_core.specs.declared.step.Lists.{Lists}
 use Rattle.place_core.proofs.ElementLemmas.{by_test, put_here, put_else}
 use Rattle.place_table.specs.declared.content.Behind.{Behind}
@@ -184,6 +184,7 @@ module _ (shape : Shape) (id other : ℕ) (v u : View) (apart : other ≢ id) (n
           numbered = omega arith;
           team = put_else (put w.team w.next (v.cpus ++ u.cpus)) (suc w.next) [] w.next (λ e. omega arith) ∙ put_here w.team w.next (v.cpus ++ u.cpus);
           steps_are = λ k. sym (no_turns_yet w (length s.views) w.next 0 (w.log k) (omega arith) (r.tagged k));
+          stand = tt;
           kept_are = λ k below is found. refl;
         };
         past = subst (λ z. ArePast shape w' id z (all_strands v ++ all_strands u)) (sym (new_past w))
@@ -218,6 +219,7 @@ module _ (shape : Shape) (id other : ℕ) (v u : View) (apart : other ≢ id) (n
           numbered = omega arith;
           team = put_here (put w.team w.next (v.cpus ++ u.cpus)) (suc w.next) [];
           steps_are = λ k. sym (no_turns_yet w (length s.views) (suc w.next) 0 (w.log k) (omega arith) (r.tagged k));
+          stand = tt;
           kept_are = λ k below is found. refl;
         };
         past = subst (λ z. ArePast shape w' other z []) (sym (put_here (put w.past id (done w id ++ done w other)) other [])) tt;

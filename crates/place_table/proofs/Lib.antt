@@ -22,6 +22,7 @@ pub mod Passes
 pub mod PlaceSteps
 pub mod SharedOut
 pub mod Splits
+pub mod Stands
 pub mod StrandMoves
 pub mod StrandNumbers
 pub mod StrandsLeft

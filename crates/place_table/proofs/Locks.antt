@@ -15,7 +15,7 @@ use Rattle.map_types.proofs.CreationLemmas.{bounds_of_shape}
 use Rattle.place_words.specs.declared.history.Entry.{Entry}
 use Rattle.place_words.specs.declared.history.Part.{Part}
 use Rattle.place_words.specs.declared.history.StrandStep.{StrandStep}
-use Rattle.place_words.specs.ElementLists.{put, one}
+use Rattle.map_types.specs.ElementLists.{put, one}
 use Rattle.place_words.specs.Histories.{content, IsLegal}
 use Rattle.place_words.specs.Locks.{is_lock, lock_named, lock_number, lock_count, rank_of}
 use Rattle.place_words.specs.Strands.{places_on}
@@ -31,7 +31,7 @@ use Rattle.map_types.specs.Kind.{is_lru}
 use Rattle.place_core.specs.State as cores
 use Rattle.place_core.specs.State.{rows, HasOnlyItsLists, HasCursorInside}
 use Rattle.place_core.specs.Steps.{CanTake, taken, CanGive, given}
-use Rattle.place_core.proofs.ElementLemmas.{by_test, at_put}
+use Rattle.place_core.proofs.ElementLemmas.{by_test, at_put, put_here}
 use Rattle.place_core.proofs.StepLaws.{step_keeps_places, step_keeps_ranks}
 use Rattle.place_table.specs.declared.content.Behind.{Behind}
 use Rattle.place_table.specs.declared.content.Content.{Content}
@@ -44,10 +44,11 @@ use Rattle.place_table.specs.Laws.{StepsAs, goes_if, goes_by}
 use Rattle.place_table.specs.declared.view.Turned.{Turned}
 use Rattle.place_table.specs.Views as views
 use Rattle.place_table.specs.Views.{is_among, hold_at, known_log, holding, has_all}
-use Rattle.place_table.specs.Rules.{World, Rule, Knows, AtHome, Reads, Tagged, entries, lock_code, hold, hold_of, IsAboveAll, Ascends, turns_on, turns_of, indexes, AreTagged, owner_word, home_word, bit_word}
+use Rattle.place_table.specs.Rules.{World, Rule, Knows, AtHome, Reads, Tagged, entries, lock_code, hold, hold_of, IsAboveAll, Ascends, turns_on, turns_of, indexes, logs_of, AreTagged, owner_word, home_word, bit_word}
 use Rattle.place_table.specs.Plays.{Seated, Tries, AreElements, IsApartFromHands, MayPut, MayGive, IsRecorded, IsKeptOrLost, Gives, GivesSome, entry_by}
 use Rattle.place_table.specs.TurnNotes.{NotesFit}
-use Rattle.place_table.proofs.Entries.{entries_more, entries_length, turns_of_same, turns_of_other, turns_on_same, turns_on_other, places_on_same, places_on_other, indexes_more}
+use Rattle.place_table.proofs.Entries.{append_nil, entries_more, entries_length, turns_of_same, turns_of_other, turns_on_same, turns_on_other, places_on_same, places_on_other, indexes_more}
+use Rattle.place_table.proofs.Stands.{Grows, stand_more, stand_behind}
 use Rattle.place_table.proofs.Worlds.{at_put4, by_bool, true_false, some_is, none_some, hold_of_mine, IsMineOrFree, hold_of_other, HoldIs, hold_of_is, hold_at_first, hold_at_other, none_below, above_each, has_mine, in_hand_is, lock_still_lost, all_here, here_all, among_first, others, strand_stays, past_stays, tagged_stays, tagged_more, SameStrands, knows_none}
 
 -- a step that is told as one of the core is one that the rule allows
@@ -167,7 +168,7 @@ module _ (shape : Shape) (slots pass : ℕ) (me : Seated) (lock : DomainId) (c :
       let nv : View = holding h v in
       let can = can_take s r at_pass free in
       let bounds = bounds_of_shape shape r.is_shape in
-      let same : SameStrands w w' = record { keeper = λ _. refl; team = λ _. refl; next = refl; current = λ _. refl; past = λ _. refl; whose = λ _. refl } in (
+      let same : SameStrands w w' = record { keeper = λ _. refl; team = λ _. refl; next = refl; current = λ _. refl; past = λ _. refl; whose = λ _. refl; still = λ _ z. z } in (
         record {
           world = w';
           is_shape = r.is_shape;
@@ -203,7 +204,7 @@ module _ (shape : Shape) (slots pass : ℕ) (me : Seated) (lock : DomainId) (c :
                 bits = kn.bits;
                 only = kn.only;
                 losses = λ j among. lock_still_lost shape w w' j (λ lo. lo) (kn.losses j among);
-                strand = strand_stays shape w w' pass (w.current pass) v.cpus v.steps v.kept kn.strand.keeper (λ z. z) refl (λ _. refl) (λ _ z. z) kn.strand;
+                strand = strand_stays shape w w' pass (w.current pass) v.cpus v.steps v.kept kn.strand.keeper (λ z. z) refl (λ _. refl) (λ _ z. z) (λ _ z. z) kn.strand;
                 past = past_stays shape w w' pass (w.past pass) v.ended same (λ _ _ _ _. refl) (λ _ z. z) kn.past;
                 apart = kn.apart;
                 idle = kn.idle;
@@ -383,12 +384,13 @@ module _ (shape : Shape) (slots pass : ℕ) (v : View) (b : Behind) (cs : List (
       let content_is : content shape (lock_named shape k) (entries l') ≡ told may.here = ap (content shape (lock_named shape k)) es_is ∙ (content_more shape (lock_named shape k) es e ∙ sym m0.told_is) in
       let w' : World = gave_world w in
       let nv : View = views.with_lost known_lost (views.given h e kept v) in
-      let new_turn : Turned = views.turned h.lock (length h.log) e in
-      let same : SameStrands w w' = record { keeper = λ _. refl; team = λ _. refl; next = refl; current = λ _. refl; past = λ _. refl; whose = λ _. refl } in
+      let new_turn : Turned = views.turned h.lock h.log e in
+      let grown : (m : ℕ) → Grows (entries (w.log m)) (entries (put w.log k l' m)) = λ m. at_put w.log k l' (λ i l. Grows (entries (w.log i)) (entries l)) m (e ∷ [], es_is) (λ _. ([], sym (append_nil _))) in
+      let same : SameStrands w w' = record { keeper = λ _. refl; team = λ _. refl; next = refl; current = λ _. refl; past = λ _. refl; whose = λ _. refl; still = λ steps z. stand_more (logs_of w) (logs_of w') steps grown z } in
       let mine_lock : IsMineOrFree w.whose pass (w.core.holder k) = subst (IsMineOrFree w.whose pass) (sym at.holder_is) at.mine in
       let losses : (m : ℕ) → put w.lost k lo' m ≡ false → w.lost m ≡ false = λ m. at_put w.lost k lo' (λ i lo. lo ≡ false → w.lost i ≡ false) m
       (λ lo. either_record b.history _ _ _ rec (λ lost _. true_false (sym lost ∙ lo)) (λ x _ p. p.0)) (λ _ lo. lo) in
-      let on_here : turns_on k (v.steps ++ new_turn ∷ []) ≡ turns_on k v.steps ++ (length h.log, e) ∷ [] = turns_on_same k (length h.log) e v.steps new_turn (ap (λ (z : ℕ). views.turned z (length h.log) e) at_lock) in
+      let on_here : turns_on k (v.steps ++ new_turn ∷ []) ≡ turns_on k v.steps ++ (length h.log, e) ∷ [] = turns_on_same k h.log e v.steps new_turn (ap (λ (z : ℕ). views.turned z h.log e) at_lock) in
       let on_else : (m : ℕ) → m ≢ k → turns_on m (v.steps ++ new_turn ∷ []) ≡ turns_on m v.steps = λ m ne. turns_on_other m v.steps new_turn (λ y. ne (sym y ∙ at_lock)) in
       let kept_else : (m : ℕ) → m ≢ k → places_on (lock_named shape m) kept ≡ places_on (lock_named shape m) v.kept = λ m ne. either_record b.history _ _ _ rec
       (λ _ p. ap (places_on (lock_named shape m)) p)
@@ -476,6 +478,10 @@ module _ (shape : Shape) (slots pass : ℕ) (v : View) (b : Behind) (cs : List (
                       (on_here ∙ (ap (λ z. z ++ (length h.log, e) ∷ []) (kn.strand.steps_are k)
                       ∙ (ap (λ (n : ℕ). turns_of (w.current pass) 0 (w.log k) ++ (n, e) ∷ []) counted ∙ sym (turns_of_same (w.current pass) 0 (w.log k) e))))
                       (λ ne. on_else m ne ∙ kn.strand.steps_are m);
+                  stand = stand_behind (logs_of w') v.steps new_turn (stand_more (logs_of w) (logs_of w') v.steps grown kn.strand.stand) record {
+                    later = [];
+                    log_is = ap (λ (z : ℕ). entries (put w.log k l' z)) at_lock ∙ (ap entries (put_here w.log k l') ∙ (es_is ∙ ap (λ (z : List Entry). z ++ e ∷ []) (sym log_is)));
+                  };
                   kept_are = λ m within there_is. at_put w.lost k lo' (λ i lo. i < lock_count shape → IsTrue (is_lock shape (lock_named shape i)) → lo ≡ false → places_on (lock_named shape i) kept ≡ indexes (turns_on i (v.steps ++ new_turn ∷ []))) m
                       (λ within there_is lo. either_record b.history _ _ _ rec (λ lost _. true_false (sym lost ∙ lo))
                       (λ x _ p. ap (places_on (lock_named shape k)) p.2 ∙ (places_on_same (lock_named shape k) v.kept (views.kept_step shape k (length es)) (same_lock (lock_named shape k))

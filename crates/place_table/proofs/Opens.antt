@@ -155,7 +155,7 @@ first_knows shape bounds = record {
   bits = λ e bit is. bit_first e shape.elements bit is;
   only = inr (λ c few. among c shape.cpus few);
   losses = λ k among. absurd cc;
-  strand = record { keeper = refl; numbered = omega arith; team = refl; steps_are = λ k. refl; kept_are = λ k within there kept. refl };
+  strand = record { keeper = refl; numbered = omega arith; team = refl; steps_are = λ k. refl; stand = tt; kept_are = λ k within there kept. refl };
   past = tt;
   apart = refl;
   idle = λ _. (refl, tt);

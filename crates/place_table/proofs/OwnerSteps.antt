@@ -14,7 +14,7 @@ use Rattle.map_types.proofs.CreationLemmas.{bounds_of_shape}
 use Rattle.place_words.specs.declared.owner.Owner.{Owner}
 use Rattle.place_words.specs.declared.owner.Owner.TheVariants as owners
 use Rattle.place_words.specs.Codes.{owner_code}
-use Rattle.place_words.specs.ElementLists.{put, IsIn, IsHead}
+use Rattle.map_types.specs.ElementLists.{put, IsIn, IsHead}
 use Rattle.place_words.specs.Locks.{is_lock, lock_number}
 use Rattle.place_words.specs.Openings.{is_free}
 use Rattle.place_core.specs.declared.step.Lists.{Lists}

@@ -9,7 +9,7 @@ use Rattle.map_types.specs.declared.kind.DomainId.{DomainId}
 use Rattle.place_words.specs.declared.history.Entry.{Entry}
 use Rattle.place_words.specs.declared.history.Strand.{Strand}
 use Rattle.place_words.specs.declared.history.StrandStep.{StrandStep}
-use Rattle.place_words.specs.ElementLists.{times, IsIn}
+use Rattle.map_types.specs.ElementLists.{times, IsIn}
 use Rattle.place_words.specs.Strands.{places_on, AreSharedOut}
 use Rattle.place_core.proofs.ElementLemmas.{by_test}
 use Rattle.place_table.specs.declared.view.Ended.{Ended}

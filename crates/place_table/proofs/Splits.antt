@@ -6,7 +6,7 @@ use mathlib.Core.Option.{some}
 use Rattle.atomic_table.specs.Table.{State, Splits}
 use Rattle.atomic_table.proofs.Lists.{at_set}
 use Rattle.map_types.specs.declared.attr.Shape.{Shape}
-use Rattle.place_words.specs.ElementLists.{put}
+use Rattle.map_types.specs.ElementLists.{put}
 use Rattle.place_core.specs.declared.step.Lists.{Lists}
 use Rattle.place_core.proofs.ElementLemmas.{by_test, at_put, put_here, put_else}
 use Rattle.place_table.specs.declared.content.Behind.{Behind}
@@ -179,6 +179,7 @@ module _ (shape : Shape) (id c : ℕ) (v : View) (cpu : is_among c v.cpus ≡ tr
           numbered = omega arith;
           team = put_here (put w.team w.next (without_cpu c v.cpus)) (suc w.next) (c ∷ []);
           steps_are = λ k. sym (no_turns_yet w n (suc w.next) 0 (w.log k) (omega arith) (r.tagged k));
+          stand = tt;
           kept_are = λ k below is found. refl;
         };
         past = subst (λ z. ArePast shape w' n z (all_strands v)) (sym (put_here (put w.past id []) n (done w id)))
@@ -213,6 +214,7 @@ module _ (shape : Shape) (id c : ℕ) (v : View) (cpu : is_among c v.cpus ≡ tr
           numbered = omega arith;
           team = put_else (put w.team w.next (without_cpu c v.cpus)) (suc w.next) (c ∷ []) w.next (λ e. omega arith) ∙ put_here w.team w.next (without_cpu c v.cpus);
           steps_are = λ k. sym (no_turns_yet w n w.next 0 (w.log k) (omega arith) (r.tagged k));
+          stand = tt;
           kept_are = λ k below is found. refl;
         };
         past = subst (λ z. ArePast shape w' id z []) (sym (put_else (put w.past id []) n (done w id) id apart ∙ put_here w.past id [])) tt;

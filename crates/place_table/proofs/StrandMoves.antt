@@ -10,7 +10,7 @@ use Rattle.place_table.specs.declared.view.View.{View}
 use Rattle.place_table.specs.declared.view.Turned.{Turned}
 use Rattle.place_table.specs.declared.view.Ended.{Ended}
 use Rattle.place_table.specs.Views.{is_among, current_strand, all_strands}
-use Rattle.place_table.specs.Rules.{Tagged, World, turns_of, IsStrand, ArePast, AreTagged, HaveNoSteps}
+use Rattle.place_table.specs.Rules.{Tagged, entries, World, turns_of, StandIn, IsStrand, ArePast, AreTagged, HaveNoSteps}
 use Rattle.place_table.proofs.Worlds.{true_false, among_first}
 
 pub at_more : {A : Type 0} (l : List A) (a b : A) (j : ℕ) → get_elem? (l ++ a ∷ []) j ≡ some b → (get_elem? l j ≡ some b) ⊎ ((j ≡ length l) × (a ≡ b))
@@ -62,6 +62,7 @@ strand_moves shape w w' pass to t cpus steps kept same goes st =
       numbered = (let below : t < w.next = st.numbered in omega (arith, same.next));
       team = g.1 ∙ st.team;
       steps_are = λ k. st.steps_are k ∙ ap (turns_of t 0) (sym (same.log k));
+      stand = subst (λ (log : ℕ → List Entry). StandIn log steps) (sym (λ i k. entries (same.log k i))) st.stand;
       kept_are = λ k below there found. st.kept_are k below there (sym (same.lost k) ∙ found);
     }
 

@@ -16,7 +16,7 @@ use Rattle.place_words.specs.declared.owner.Owner.TheVariants as owners
 use Rattle.place_words.specs.declared.home.Home.{Home}
 use Rattle.place_words.specs.declared.home.Home.TheVariants as homes
 use Rattle.place_words.specs.Codes.{HasHomeCode}
-use Rattle.place_words.specs.ElementLists.{put, times, one, IsIn}
+use Rattle.map_types.specs.ElementLists.{put, times, one, IsIn}
 use Rattle.place_words.specs.Locks.{is_lock, lock_named, lock_number}
 use Rattle.place_words.specs.Openings.{is_free}
 use Rattle.place_words.proofs.LockLemmas.{named_by_number}
@@ -48,7 +48,7 @@ abbrev bitted : World → ℕ → Bool → World
 bitted w e b = record { core = with_bit w.core e b; log = w.log; lost = w.lost; whose = w.whose; keeper = w.keeper; team = w.team; current = w.current; past = w.past; next = w.next }
 
 same_strands : (w : World) (e : ℕ) (b : Bool) → SameStrands w (bitted w e b)
-same_strands w e b = record { keeper = λ _. refl; team = λ _. refl; next = refl; current = λ _. refl; past = λ _. refl; whose = λ _. refl }
+same_strands w e b = record { keeper = λ _. refl; team = λ _. refl; next = refl; current = λ _. refl; past = λ _. refl; whose = λ _. refl; still = λ _ z. z }
 
 -- what a pass keeps of bits after one is known, and that only a pass with all CPUs keeps any
 learnt : (shape : Shape) (w : World) (pass : ℕ) (v : View) (f : ℕ → Bool) (e : ℕ) (b : Bool) → Knows shape w pass v → f e ≡ b → ((x : ℕ) → x ≢ e → f x ≡ w.core.bit x)
@@ -111,7 +111,7 @@ module _ (shape : Shape) (s : State Behind View) (r : Rule shape s) (pass : ℕ)
               bits = learnt shape w pass v (put w.core.bit e b) e b kn (at_put w.core.bit e b (λ j y. j ≡ e → y ≡ b) e (λ _. refl) (λ n f. absurd (n f)) refl) (λ x other. at_put w.core.bit e b (λ j y. j ≢ e → y ≡ w.core.bit j) x (λ n. absurd (n refl)) (λ _ _. refl) other);
               only = only_all shape w pass v e b kn;
               losses = λ k among. lock_still_lost shape w w' k (λ lo. lo) (kn.losses k among);
-              strand = strand_stays shape w w' pass (w.current pass) v.cpus v.steps v.kept kn.strand.keeper (λ z. z) refl (λ _. refl) (λ _ z. z) kn.strand;
+              strand = strand_stays shape w w' pass (w.current pass) v.cpus v.steps v.kept kn.strand.keeper (λ z. z) refl (λ _. refl) (λ _ z. z) (λ _ z. z) kn.strand;
               past = past_stays shape w w' pass (w.past pass) v.ended same (λ _ _ _ _. refl) (λ _ z. z) kn.past;
               apart = kn.apart;
               idle = kn.idle;

@@ -7,7 +7,7 @@ use Rattle.place_words.specs.declared.history.Entry.{Entry}
 use Rattle.place_words.specs.declared.history.StrandStep.{StrandStep}
 use Rattle.place_words.specs.declared.owner.Owner.{Owner}
 use Rattle.place_words.specs.declared.owner.Owner.TheVariants as owners
-use Rattle.place_words.specs.ElementLists.{put}
+use Rattle.map_types.specs.ElementLists.{put}
 use Rattle.place_words.specs.Locks.{lock_named, rank_of}
 use Rattle.place_core.specs.declared.step.Lists.{Lists}
 use Rattle.place_core.proofs.ElementLemmas.{by_test}
@@ -16,7 +16,7 @@ use Rattle.place_table.specs.declared.view.Hold.{Hold}
 use Rattle.place_table.specs.declared.view.Turned.{Turned}
 use Rattle.place_table.specs.declared.view.Ended.{Ended}
 use Rattle.place_table.specs.Views.{is_among, hold_at, is_in_hand_of, known_log, bit_seen, has_all_below}
-use Rattle.place_table.specs.Rules.{Tagged, entries, World, hold, hold_of, is_hand_of, is_home_of, IsAboveAll, turns_of, IsStrand, ArePast, IsTagged, AreTagged, IsLostLock, Knows}
+use Rattle.place_table.specs.Rules.{Tagged, entries, World, hold, hold_of, is_hand_of, is_home_of, IsAboveAll, turns_of, StandIn, logs_of, IsStrand, ArePast, IsTagged, AreTagged, IsLostLock, Knows}
 
 -- the same of four functions that change at one place
 pub at_put4 : {A B C D : Type 0} (f : ℕ → A) (g : ℕ → B) (h : ℕ → C) (l : ℕ → D) (i : ℕ) (x : A) (y : B) (z : C) (u : D) (F : ℕ → A → B → C → D → Type 0) (j : ℕ)
@@ -158,18 +158,23 @@ among_first t ts = by_test t t (λ b. cond b true (is_among t ts) ≡ true) (λ 
 
 -- Strands
 
+-- turns stand where they stood
+abbrev pub StillStand : World → World → Type 0
+StillStand w w' = (steps : List Turned) → StandIn (logs_of w) steps → StandIn (logs_of w') steps
+
 pub strand_stays : (shape : Shape) (w w' : World) (pass t : ℕ) (cpus : List ℕ) (steps : List Turned) (kept : List StrandStep)
-    → w'.keeper t ≡ pass → (t < w.next → t < w'.next) → w'.team t ≡ w.team t → ((k : ℕ) → turns_of t 0 (w'.log k) ≡ turns_of t 0 (w.log k)) → ((k : ℕ) → w'.lost k ≡ false → w.lost k ≡ false)
+    → w'.keeper t ≡ pass → (t < w.next → t < w'.next) → w'.team t ≡ w.team t → ((k : ℕ) → turns_of t 0 (w'.log k) ≡ turns_of t 0 (w.log k)) → StillStand w w' → ((k : ℕ) → w'.lost k ≡ false → w.lost k ≡ false)
     → IsStrand shape w pass t cpus steps kept → IsStrand shape w' pass t cpus steps kept
-strand_stays shape w w' pass t cpus steps kept keeper numbered team same losses st = record {
+strand_stays shape w w' pass t cpus steps kept keeper numbered team same still losses st = record {
   keeper = keeper;
   numbered = numbered st.numbered;
   team = team ∙ st.team;
   steps_are = λ k. st.steps_are k ∙ sym (same k);
+  stand = still steps st.stand;
   kept_are = λ k below is lo. st.kept_are k below is (losses k lo);
 }
 
--- strands have the same passes, CPUs and numbers
+-- strands have the same passes, CPUs and numbers, and their turns stand where they stood
 pub record SameStrands (w w' : World) : Type 0 where
   pub keeper : (t : ℕ) → w'.keeper t ≡ w.keeper t
   pub team : (t : ℕ) → w'.team t ≡ w.team t
@@ -177,6 +182,7 @@ pub record SameStrands (w w' : World) : Type 0 where
   pub current : (pass : ℕ) → w'.current pass ≡ w.current pass
   pub past : (pass : ℕ) → w'.past pass ≡ w.past pass
   pub whose : (c : ℕ) → w'.whose c ≡ w.whose c
+  pub still : StillStand w w'
 
 pub past_stays : (shape : Shape) (w w' : World) (pass : ℕ) (ts : List ℕ) (es : List Ended) → SameStrands w w'
     → ((t k : ℕ) → is_among t ts ≡ true → w.keeper t ≡ pass → turns_of t 0 (w'.log k) ≡ turns_of t 0 (w.log k)) → ((k : ℕ) → w'.lost k ≡ false → w.lost k ≡ false)
@@ -186,7 +192,7 @@ past_stays shape w w' pass [] (e ∷ es) same turns losses p = absurd p
 past_stays shape w w' pass (t ∷ ts) [] same turns losses p = absurd p
 past_stays shape w w' pass (t ∷ ts) (e ∷ es) same turns losses p = (
   strand_stays shape w w' pass t e.cpus e.steps e.kept (same.keeper t ∙ p.0.keeper) (λ less. subst (λ (n : ℕ). t < n) (sym same.next) less) (same.team t)
-      (λ k. turns t k (among_first t ts) p.0.keeper) losses p.0,
+      (λ k. turns t k (among_first t ts) p.0.keeper) same.still losses p.0,
   p.1,
   past_stays shape w w' pass ts es same
       (λ u k among. turns u k (by_test t u (λ b. cond b true (is_among u ts) ≡ true) (λ _. refl) (λ _. among))) losses p.2,
@@ -244,7 +250,7 @@ others shape w w' j u same kn holds hands carried turns losses known bits = reco
   losses = λ k among. lock_still_lost shape w w' k (losses k) (kn.losses k among);
   strand = subst (λ (z : ℕ). IsStrand shape w' j z u.cpus u.steps u.kept) (sym (same.current j))
       (strand_stays shape w w' j (w.current j) u.cpus u.steps u.kept (same.keeper (w.current j) ∙ kn.strand.keeper) (λ less. subst (λ (n : ℕ). w.current j < n) (sym same.next) less) (same.team (w.current j))
-      (λ k. turns (w.current j) k kn.strand.keeper) losses kn.strand);
+      (λ k. turns (w.current j) k kn.strand.keeper) same.still losses kn.strand);
   past = subst (λ (z : List ℕ). ArePast shape w' j z u.ended) (sym (same.past j))
       (past_stays shape w w' j (w.past j) u.ended same (λ t k _ own. turns t k own) losses kn.past);
   apart = (λ i. is_among (same.current j i) (same.past j i)) ∙ kn.apart;

@@ -19,7 +19,7 @@ use Rattle.place_table.specs.declared.content.Behind.{Behind}
 use Rattle.place_table.specs.Contents.{lists_of, IsSized}
 use Rattle.place_table.specs.declared.view.Ended.{Ended}
 use Rattle.place_table.specs.Views.{is_among, is_in_hand_of, known_log, bit_seen, all_strands, is_recorded}
-use Rattle.place_table.specs.Rules.{Reads, is_hand_of, turns_on, indexes}
+use Rattle.place_table.specs.Rules.{Reads, is_hand_of, turns_on, indexes, StandIn}
 use Rattle.place_table.specs.Passes.{PassView}
 
 -- what is handed out
@@ -113,6 +113,8 @@ pub record IsClosed (shape : Shape) (pass : PassView) (closed : ClosedView) : Ty
   pub known : (k : ℕ) (turns : List Entry) → known_log k pass.view.known ≡ Some turns → log k ≡ turns
   pub bits : (e : ℕ) (bit : Bool) → bit_seen e pass.view.bits ≡ Some bit → core.bit e ≡ bit
   pub turns : (k : ℕ) → AreTurnsOf k (all_strands pass.view) (log k)
+  -- and stands there right after what the strand has before it
+  pub stand : (n : ℕ) (strand : Ended) → slice_get (all_strands pass.view) n ≡ Some strand → StandIn log strand.steps
   -- of a lock whose record isn't lost each turn is recorded
   pub recorded : (n : ℕ) (strand : Ended) → slice_get (all_strands pass.view) n ≡ Some strand
       → (k : ℕ) → k < lock_count shape → IsTrue (has_lock shape k) → lost k ≡ false → places_on (lock_named shape k) strand.kept ≡ indexes (turns_on k strand.steps)

@@ -7,9 +7,10 @@ use Rattle.map_types.specs.Stored.{Stored, HasSizes}
 use Rattle.map_types.specs.Sides.{part_count}
 use Rattle.place_words.specs.Bodies.{numbers}
 use Rattle.place_words.specs.Histories as histories
-use Rattle.place_words.specs.Histories.{in_bucket, on_freelist, untold}
+use Rattle.place_words.specs.Histories.{in_bucket, on_freelist, in_locals, in_global, in_own}
+use Rattle.map_types.specs.Listed.{elements_of}
+use Rattle.place_words.specs.Sets.{ListSet}
 use Rattle.place_core.specs.declared.step.Lists.{Lists}
-use Rattle.place_core.specs.State.{no_lists}
 use Rattle.place_table.specs.declared.content.Content.{Content}
 use Rattle.place_table.specs.declared.content.Content.TheVariants as contents
 
@@ -18,11 +19,21 @@ abbrev pub told : Content → histories.Content
 told (contents.Bucket chain) = in_bucket chain.bodies
 told (contents.Freelist freelist) = on_freelist (numbers freelist.bodies)
 
--- as lists of elements
+-- as lists of elements: of local lists the first is pending, of a set active, and the second inactive
+abbrev pub lists_of_set : ListSet → Lists
+lists_of_set set = record {
+  free = set.free;
+  first = elements_of set.lists.active;
+  second = elements_of set.lists.inactive;
+  cursor = set.lists.cursor;
+}
+
 abbrev pub lists_of : histories.Content → Lists
 lists_of (in_bucket bodies) = record { free = []; first = numbers bodies; second = []; cursor = None }
 lists_of (on_freelist stack) = record { free = stack; first = []; second = []; cursor = None }
-lists_of untold = no_lists
+lists_of (in_locals lists) = record { free = lists.free; first = elements_of lists.pending; second = []; cursor = None }
+lists_of (in_global set) = lists_of_set set
+lists_of (in_own set) = lists_of_set set
 
 -- the keys and values have the sizes of the map
 abbrev pub IsSized : Shape → Stored → Type 0

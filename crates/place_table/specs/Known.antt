@@ -1,11 +1,11 @@
 -- What a pass with all CPUs knows of all locks, and how its own turns go on from there.
-use Rattle.std.specs.Prelude.{◌≡◌, ℕ, ◌<◌, true, List, [], ◌∷◌, ◌++◌, length, Some, IsTrue}
+use Rattle.std.specs.Prelude.{◌≡◌, ℕ, ◌<◌, true, List, [], ◌∷◌, ◌++◌, Some, IsTrue}
 use Rattle.map_types.specs.declared.attr.Shape.{Shape}
 use Rattle.place_words.specs.declared.history.Entry.{Entry}
-use Rattle.place_words.specs.ElementLists.{put}
+use Rattle.map_types.specs.ElementLists.{put}
 use Rattle.place_words.specs.Histories.{content, Allows}
 use Rattle.place_words.specs.Locks.{is_lock, lock_count, lock_named}
-use Rattle.place_words.specs.Traces.{Turn}
+use Rattle.place_words.specs.Turns.{Turn, TurnAt}
 use Rattle.place_table.specs.declared.view.View.{View}
 use Rattle.place_table.specs.declared.view.Turned.{Turned}
 use Rattle.place_table.specs.Views.{has_all, known_log}
@@ -27,7 +27,7 @@ logs_after logs (step ∷ steps) = logs_after (log_after logs step) steps
 pub record FollowsOn (shape : Shape) (logs : ℕ → List Entry) (step : Turned) : Type 0 where
   pub below : step.lock < lock_count shape
   pub there : IsTrue (is_lock shape (lock_named shape step.lock))
-  pub index_is : step.index ≡ length (logs step.lock)
+  pub earlier_is : step.earlier ≡ logs step.lock
   pub allowed : Allows shape step.entry.cpu step.entry.part (content shape (lock_named shape step.lock) (logs step.lock))
 
 abbrev pub FollowOn : Shape → (ℕ → List Entry) → List Turned → Type 0
@@ -42,6 +42,10 @@ Learns shape before after steps =
 -- a turn of a pass, as traces tell it
 abbrev pub turn_of : Shape → Turned → Turn
 turn_of shape step = record { lock = lock_named shape step.lock; part = step.entry.part }
+
+-- and with the turns of its lock before it
+abbrev pub turn_at : Shape → Turned → TurnAt
+turn_at shape step = record { turn = turn_of shape step; earlier = step.earlier }
 
 -- it was made by this CPU in this call
 abbrev pub IsBy : ℕ → ℕ → Turned → Type 0

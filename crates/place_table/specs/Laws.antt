@@ -12,7 +12,7 @@ use Rattle.place_words.specs.declared.history.Entry.{Entry}
 use Rattle.place_words.specs.declared.history.StrandStep.{StrandStep}
 use Rattle.place_words.specs.declared.home.Home.{Home}
 use Rattle.place_words.specs.Codes.{home_code}
-use Rattle.place_words.specs.ElementLists.{IsIn, IsHead}
+use Rattle.map_types.specs.ElementLists.{IsIn, IsHead}
 use Rattle.map_types.specs.Kind.{is_lru}
 use Rattle.place_words.specs.Locks.{is_lock, lock_number, rank_of}
 use Rattle.place_core.specs.declared.step.Step.{Step}

@@ -17,7 +17,7 @@ use Rattle.place_words.specs.declared.home.Home.{Home}
 use Rattle.place_words.specs.declared.home.Home.TheVariants.{Unlisted}
 use Rattle.map_types.specs.Kind.{is_lru}
 use Rattle.place_words.specs.Codes.{HasHomeCode}
-use Rattle.place_words.specs.ElementLists.{IsIn, IsHead}
+use Rattle.map_types.specs.ElementLists.{IsIn, IsHead}
 use Rattle.place_words.specs.Histories.{content, IsLegal}
 use Rattle.place_words.specs.Locks.{lock_number, rank_of, is_lock}
 use Rattle.place_core.specs.State.{rows, is_bucket}
@@ -32,7 +32,7 @@ use Rattle.place_table.specs.declared.view.Notes.{Notes}
 use Rattle.place_table.specs.declared.view.Turned.{Turned}
 use Rattle.place_table.specs.declared.view.Ended.{Ended}
 use Rattle.place_table.specs.Contents.{told, lists_of, Fits, IsSized}
-use Rattle.place_table.specs.Views.{is_among, hold_at, is_in_hand_of, known_log, first_view, kept_step, holding, given, losing, cleared, bit_read, owner_read, home_read, rehomed, is_recorded, split_from, split_off, joined}
+use Rattle.place_table.specs.Views.{is_among, hold_at, is_in_hand_of, known_log, first_view, place_of, kept_step, holding, given, losing, cleared, bit_read, owner_read, home_read, rehomed, is_recorded, split_from, split_off, joined}
 use Rattle.place_table.specs.Rules.{KeptAs, IsAboveAll}
 use Rattle.place_table.specs.Plays.{AreElements, IsApartFromHands, MayPut, IsInnermost, IsKeptOrLost, IsKnownBit, OwnerFits, IsKnownHome, MayGoHome, IsNoneListed}
 use Rattle.place_table.specs.TurnNotes.{NotesFit}
@@ -334,7 +334,7 @@ pub record SawHome (t : TableView) (e : ℕ) (before after : PassView) (home : H
 abbrev pub IsKeptOf : Shape → List Turned → List StrandStep → List StrandStep → Type 0
 IsKeptOf shape [] before after = after ≡ before
 IsKeptOf shape (step ∷ steps) before after =
-    IsKeptOf shape steps before after ⊎ IsKeptOf shape steps (before ++ kept_step shape step.lock step.index ∷ []) after
+    IsKeptOf shape steps before after ⊎ IsKeptOf shape steps (before ++ kept_step shape step.lock (place_of step) ∷ []) after
 
 -- What is left of a pass after calls: it is of its table, in its call and has its CPUs as before; its strand has these turns
 -- more, of which all or some are recorded; and it gave these locks back without a part.

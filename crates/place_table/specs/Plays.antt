@@ -14,7 +14,7 @@ use Rattle.place_words.specs.declared.owner.Owner.TheVariants.{Free}
 use Rattle.place_words.specs.declared.home.Home.{Home}
 use Rattle.place_words.specs.declared.home.Home.TheVariants as homes
 use Rattle.place_words.specs.Codes.{owner_code, home_code, HasHomeCode}
-use Rattle.place_words.specs.ElementLists.{one, times, IsIn}
+use Rattle.map_types.specs.ElementLists.{one, times, IsIn}
 use Rattle.place_words.specs.Histories.{content, content_after, Allows, IsLegal}
 use Rattle.place_words.specs.Locks.{is_lock, lock_named, lock_number}
 use Rattle.place_core.specs.declared.step.Lists.{Lists}

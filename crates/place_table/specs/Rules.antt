@@ -1,5 +1,5 @@
 -- The rule of the table. It holds between any two steps on its words.
-use Rattle.std.specs.Prelude.{◌≡◌, ◌⊎◌, ℕ, suc, ◌+◌, ◌*◌, ◌==◌, ◌<◌, Bool, true, false, ◌&&◌, List, [], ◌∷◌, length, Option, None, Some, MatchOption, IsTrue, slice_index_or, if◌then◌else◌}
+use Rattle.std.specs.Prelude.{◌≡◌, ◌⊎◌, ℕ, suc, ◌+◌, ◌*◌, ◌==◌, ◌<◌, Bool, true, false, ◌&&◌, List, [], ◌∷◌, ◌++◌, length, Option, None, Some, MatchOption, IsTrue, slice_index_or, if◌then◌else◌}
 use mathlib.Core.Option.{some, none}
 use mathlib.Core.Option as maybe
 use lib.ListN.{get_elem?}
@@ -14,7 +14,7 @@ use Rattle.place_words.specs.declared.home.Home.TheVariants as homes
 use Rattle.place_words.specs.declared.owner.Owner.{Owner}
 use Rattle.place_words.specs.declared.owner.Owner.TheVariants as owners
 use Rattle.place_words.specs.Codes.{owner_code, home_code}
-use Rattle.place_words.specs.ElementLists.{one}
+use Rattle.map_types.specs.ElementLists.{one}
 use Rattle.place_words.specs.Histories.{content, IsLegal}
 use Rattle.place_words.specs.Locks.{is_lock, lock_named, lock_count, rank_of}
 use Rattle.place_words.specs.Strands.{places_on}
@@ -29,7 +29,7 @@ use Rattle.place_table.specs.declared.view.Hold.{Hold}
 use Rattle.place_table.specs.declared.view.Turned.{Turned}
 use Rattle.place_table.specs.declared.view.Ended.{Ended}
 use Rattle.place_table.specs.Contents.{told, lists_of, Fits}
-use Rattle.place_table.specs.Views.{is_among, hold_at, is_in_hand_of, known_log, bit_seen}
+use Rattle.place_table.specs.Views.{is_among, hold_at, is_in_hand_of, known_log, bit_seen, place_of}
 
 -- a turn, with the number of the strand that it is a step of
 abbrev pub Tagged : Type 0
@@ -122,7 +122,7 @@ Ascends shape (hold ∷ holds) = IsAboveAll shape (rank_of (lock_named shape hol
 -- the turns on one lock of a strand, each with its place in the lock's history
 abbrev pub turns_on : ℕ → List Turned → List (ℕ × Entry)
 turns_on k [] = []
-turns_on k (step ∷ steps) = if step.lock == k then (step.index, step.entry) ∷ turns_on k steps else turns_on k steps
+turns_on k (step ∷ steps) = if step.lock == k then (place_of step, step.entry) ∷ turns_on k steps else turns_on k steps
 
 -- the turns of one strand in a lock's history, which begins at this place
 abbrev pub turns_of : ℕ → ℕ → List Tagged → List (ℕ × Entry)
@@ -134,13 +134,28 @@ abbrev pub indexes : List (ℕ × Entry) → List ℕ
 indexes [] = []
 indexes (turn ∷ turns) = turn.0 ∷ indexes turns
 
--- A strand of a pass: on each lock its steps are the turns with its number, and those that are recorded are all of them
--- where the record isn't lost.
+-- a turn stands in the history of its lock right after the turns that it has before it
+pub record StandsIn (log : List Entry) (step : Turned) : Type 0 where
+  pub later : List Entry
+  pub log_is : log ≡ step.earlier ++ step.entry ∷ later
+
+-- each of these turns does, in the histories of all locks
+abbrev pub StandIn : (ℕ → List Entry) → List Turned → Type 0
+StandIn log [] = Unit {0}
+StandIn log (step ∷ steps) = StandsIn (log step.lock) step × StandIn log steps
+
+-- the turns of all locks
+abbrev pub logs_of : World → ℕ → List Entry
+logs_of world k = entries (world.log k)
+
+-- A strand of a pass: on each lock its steps are the turns with its number, each after the turns before it there, and those
+-- that are recorded are all of them where the record isn't lost.
 pub record IsStrand (shape : Shape) (world : World) (pass strand : ℕ) (cpus : List ℕ) (steps : List Turned) (kept : List StrandStep) : Type 0 where
   pub keeper : world.keeper strand ≡ pass
   pub numbered : strand < world.next
   pub team : world.team strand ≡ cpus
   pub steps_are : (k : ℕ) → turns_on k steps ≡ turns_of strand 0 (world.log k)
+  pub stand : StandIn (logs_of world) steps
   pub kept_are : (k : ℕ) → k < lock_count shape → IsTrue (is_lock shape (lock_named shape k)) → world.lost k ≡ false → places_on (lock_named shape k) kept ≡ indexes (turns_on k steps)
 
 abbrev pub ArePast : Shape → World → ℕ → List ℕ → List Ended → Type 0

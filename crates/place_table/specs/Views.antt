@@ -122,9 +122,13 @@ abbrev pub notes_below : List Notes → List Notes
 notes_below [] = []
 notes_below (notes ∷ below) = below
 
--- a turn of the lock k, with the place of its entry
-abbrev pub turned : ℕ → ℕ → Entry → Turned
-turned k index entry = record { lock = k; index = index; entry = entry }
+-- a turn of the lock k, after these turns there
+abbrev pub turned : ℕ → List Entry → Entry → Turned
+turned k earlier entry = record { lock = k; earlier = earlier; entry = entry }
+
+-- the place of its entry in the history of its lock
+abbrev pub place_of : Turned → ℕ
+place_of step = length step.earlier
 
 abbrev pub kept_step : Shape → ℕ → ℕ → StrandStep
 kept_step shape k index = record { lock = lock_named shape k; index = index }
@@ -145,7 +149,7 @@ given hold entry kept v = record {
   notes = notes_below v.notes;
   known = learned hold entry v;
   bits = v.bits;
-  steps = v.steps ++ turned hold.lock (length hold.log) entry ∷ [];
+  steps = v.steps ++ turned hold.lock hold.log entry ∷ [];
   kept = kept;
   ended = v.ended;
   lost = v.lost;

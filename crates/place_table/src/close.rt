@@ -3,7 +3,7 @@
 ghost use Rattle.std.specs.Prelude.{◌≡◌, ℕ, ◌+◌, ◌<◌, ◌≤◌, Bool, true, false, [], IfOk, filter, map, slice_index_or, vec_capacity};
 ghost use Rattle.std.specs.List.{range_with_len};
 ghost use Rattle.std.specs.Slots.{slots_items, slots_filled, slots_len, IsFull};
-ghost use Rattle.place_words.specs.ElementLists.{one};
+ghost use Rattle.map_types.specs.ElementLists.{one};
 ghost use Rattle.place_table.specs.Views.{is_among};
 ghost use Rattle.place_table.specs.Passes.{IsPassOf, IsInNoCall};
 ghost use Rattle.place_table.specs.Closing.{IsClosed};

@@ -4,7 +4,7 @@ ghost use Rattle.std.specs.Prelude.{◌≡◌, ◌<◌, true, IsTrue, IsFalse, S
 ghost use Rattle.map_types.specs.Kind.{is_lru};
 ghost use Rattle.map_types.specs.declared.kind.DomainId.TheVariants as locks;
 ghost use Rattle.place_words.specs.Locks.{lock_number, is_lock};
-ghost use Rattle.place_words.specs.ElementLists.{IsIn, IsHead};
+ghost use Rattle.map_types.specs.ElementLists.{IsIn, IsHead};
 ghost use Rattle.place_core.specs.State.{rows, is_bucket};
 ghost use Rattle.place_table.specs.declared.view.Hold.{Hold};
 ghost use Rattle.place_table.specs.Views.{is_among, hold_at, is_in_hand_of, moved, claimed, settled, attached, detached};

@@ -21,10 +21,10 @@ pub struct InHand {
     pub cpu: u64,
 }
 
-/// A turn that a pass made: the lock's number, the place of the entry in its history, and the entry.
+/// A turn that a pass made: the lock's number, the turns of the lock before it, and the entry.
 pub struct Turned {
     pub lock: u64,
-    pub index: u64,
+    pub earlier: LinkedList<Entry>,
     pub entry: Entry,
 }
 

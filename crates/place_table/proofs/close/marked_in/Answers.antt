@@ -2,7 +2,7 @@ use Rattle.std.proofs.Common.{◌≡◌, ◌≢◌, ℕ, zero, suc, ◌+◌, ◌
 use mathlib.Core.Option.{some, some-injective, some-ne-none}
 use lib.ListN.{get_elem?}
 use Rattle.std.specs.Slots.{slots_items}
-use Rattle.place_words.specs.ElementLists.{one}
+use Rattle.map_types.specs.ElementLists.{one}
 use Rattle.place_table.proofs.Leaves.{filter_passes, filter_fails}
 use Rattle.place_table.proofs.close.marked_in.Goals as goal
 use Rattle.place_table.proofs.close.marked_in.Goals.{then-word-eq1+in_ok-push, else-word-eq1}

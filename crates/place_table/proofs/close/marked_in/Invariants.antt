@@ -2,7 +2,7 @@ use Rattle.std.proofs.Common.{◌≡◌, ℕ, ◌+◌, ◌<◌, Bool, get_or}
 use Rattle.std.specs.Prelude.{filter}
 use Rattle.std.specs.List.{range_with_len}
 use Rattle.std.specs.Slots.{slots_items}
-use Rattle.place_words.specs.ElementLists.{one}
+use Rattle.map_types.specs.ElementLists.{one}
 use Rattle.place_table.proofs.close.marked_in.Given as goal
 
 -- those of the elements so far

@@ -9,7 +9,7 @@ use Rattle.map_types.specs.Shape.{HasBounds}
 use Rattle.map_types.specs.Stored.{Stored}
 use Rattle.place_words.specs.declared.bucket_part.Put.TheVariants as puts
 use Rattle.place_words.specs.declared.history.Part.{Part}
-use Rattle.place_words.specs.ElementLists.{IsIn}
+use Rattle.map_types.specs.ElementLists.{IsIn}
 use Rattle.place_words.specs.Buckets.{new_stored}
 use Rattle.place_words.specs.Bodies.{numbers}
 use Rattle.place_core.specs.Steps.{with_row}
