@@ -1,1 +1,10 @@
 mod JsonLemmas
+mod WorkedRecord
+pub mod LogGrowth
+pub mod LogNames
+pub mod LogSteps
+pub mod LogContents
+pub mod LogRecord
+pub mod ListedAtRest
+pub mod LogAnswers
+pub mod EachAtRest

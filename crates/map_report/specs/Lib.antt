@@ -6,6 +6,7 @@ pub mod Freelists
 pub mod History
 pub mod Json
 pub mod ListParts
+pub mod ListRuns
 pub mod Record
 pub mod Runs
 pub mod Serial

@@ -1,56 +1,112 @@
--- What a record of a run is, of maps that don't evict: what happened under each lock replays by the kernel's rules, and each
+-- What a record of a run is, of maps of any kind: what happened under each lock replays by the kernel's rules, and each
 -- CPU's calls stand in these histories once, in its order, with the replies.
-use Rattle.std.specs.Prelude.{◌≡◌, ℕ, suc, ◌<◌, ◌≤◌, ◌==◌, Bool, IsTrue, MatchBool, Option, Some, All, List, [], ◌∷◌, ◌++◌, length, map, filter, slice_get, ⊤, if◌then◌else◌}
-use Rattle.std.specs.List.{list_any, range_with_len}
+use Rattle.std.specs.Prelude.{◌≡◌, ◌≢◌, ℕ, suc, ◌<◌, ◌≤◌, ◌==◌, Bool, IsTrue, IsPermutation, MatchBool, MatchOption, Option, Some, All, List, [], ◌∷◌, ◌++◌, length, map, filter, slice_get, slice_index_or, ⊤, if◌then◌else◌}
+use Rattle.std.specs.List.{list_any, flat_map, range_with_len}
+use Rattle.map_types.specs.Kind.{is_lru}
 use Rattle.map_types.specs.ValueLen.{value_len_of}
 use Rattle.map_types.specs.declared.attr.Shape.{Shape}
 use Rattle.map_types.specs.declared.call.Call.{Call}
 use Rattle.map_types.specs.declared.call.Verb.{Verb}
-use Rattle.map_types.specs.declared.call.Verb.TheVariants.{Lookup, Update, Delete, Take}
+use Rattle.map_types.specs.declared.call.Verb.TheVariants.{Lookup, Update, Delete, Take, Next, BatchRead, BatchUpdate, BatchDelete}
 use Rattle.map_types.specs.declared.kind.Side.TheVariants.{Sys}
 use Rattle.map_types.specs.declared.refusal.Errno.{Errno}
-use Rattle.map_types.specs.declared.refusal.Errno.TheVariants.{Enoent, E2big, Eexist, Einval}
+use Rattle.map_types.specs.declared.refusal.Errno.TheVariants.{Enoent, E2big, Enomem, Eexist, Einval, Enospc}
 use Rattle.map_types.specs.declared.reply.Reply.{Reply}
-use Rattle.map_types.specs.declared.reply.Reply.TheVariants.{Done, Value, Refused}
+use Rattle.map_types.specs.declared.reply.Reply.TheVariants.{Done, Value, Refused, Batch, Count}
 use Rattle.map_types.specs.declared.kind.DomainId.{DomainId}
+use Rattle.map_types.specs.declared.kind.DomainId.TheVariants.{Local, Global, CpuLru, Bucket, Freelist}
 use Rattle.map_script.specs.declared.script.Script.{Script}
 use Rattle.place_words.specs.declared.finals.Finals.{Finals}
+use Rattle.place_words.specs.declared.finals.LocalFinal.{LocalFinal}
+use Rattle.place_words.specs.declared.finals.SetFinal.{SetFinal}
 use Rattle.place_words.specs.declared.history.Entry.{Entry}
 use Rattle.place_words.specs.declared.history.LockHistory.{LockHistory}
 use Rattle.place_words.specs.declared.history.Strand.{Strand}
 use Rattle.place_words.specs.declared.history.StrandStep.{StrandStep}
-use Rattle.place_words.specs.ElementLists.{put}
-use Rattle.place_words.specs.Histories.{content, IsLegal}
-use Rattle.place_words.specs.Locks.{is_lock, is_same_lock, lock_named, lock_count}
+use Rattle.map_types.specs.ElementLists.{put}
+use Rattle.place_words.specs.Histories.{Content, in_bucket, on_freelist, locals_in, global_in, own_in, content, IsLegal}
+use Rattle.place_words.specs.Locks.{is_lock, lock_named, lock_count}
 use Rattle.place_words.specs.Strands.{places_on}
-use Rattle.place_words.specs.Traces.{Turn, IsTrace, spare_after}
+use Rattle.place_words.specs.Logs.{final_set, final_local}
+use Rattle.place_words.specs.Named.{NameAll}
+pub use Rattle.place_words.specs.Named.{entries_of}
+use Rattle.place_words.specs.Traces.{IsTrace}
+use Rattle.place_words.specs.Turns.{TurnAt}
+use Rattle.place_words.specs.Walks.{spare_left}
 use Rattle.map_report.specs.declared.record.RunRecord.{RunRecord}
 use Rattle.map_report.specs.Serial.{opening}
-use Rattle.map_report.specs.EachOnce.{EachOnce}
+use Rattle.map_report.specs.EachOnce.{EachOnce, in_buckets}
 use Rattle.map_report.specs.Soundness.{HasLists}
-use Rattle.map_report.specs.Turns.{lies, spare_at}
+use Rattle.map_report.specs.Turns.{spare_at}
 
--- Which error an update with these flags may answer, on a map that doesn't evict: EINVAL for flags that aren't known,
--- EEXIST only under BPF_NOEXIST (1), ENOENT only under BPF_EXIST (2), and E2BIG only where a key may be added.
-abbrev pub MayRefuseUpdate : ℕ → Errno → Type 0
-MayRefuseUpdate flags Einval = 2 < flags
-MayRefuseUpdate flags Eexist = flags ≡ 1
-MayRefuseUpdate flags Enoent = flags ≡ 2
-MayRefuseUpdate flags E2big = flags < 2
-MayRefuseUpdate flags _ = ⊥
+-- Which error an update with these flags may answer: EINVAL for flags that aren't known, EEXIST only under BPF_NOEXIST (1),
+-- ENOENT only under BPF_EXIST (2), E2BIG only where a key may be added, and ENOMEM only on a map that evicts, under known flags.
+abbrev pub MayRefuseUpdate : Shape → ℕ → Errno → Type 0
+MayRefuseUpdate shape flags Einval = 2 < flags
+MayRefuseUpdate shape flags Eexist = flags ≡ 1
+MayRefuseUpdate shape flags Enoent = flags ≡ 2
+MayRefuseUpdate shape flags E2big = flags < 2
+MayRefuseUpdate shape flags Enomem = (flags ≤ 2) × IsTrue (is_lru shape.kind)
+MayRefuseUpdate shape flags Enospc = ⊥
 
--- Which reply a call may have. A lookup answers a value of its side's size, a take one of the system side's. Walks and
--- batches have none, since they aren't run yet.
+abbrev pub MayAnswerUpdate : Shape → ℕ → Reply → Type 0
+MayAnswerUpdate shape flags Done = flags ≤ 2
+MayAnswerUpdate shape flags (Value bytes) = ⊥
+MayAnswerUpdate shape flags (Refused errno) = MayRefuseUpdate shape flags errno
+MayAnswerUpdate shape flags (Batch stop taken next) = ⊥
+MayAnswerUpdate shape flags (Count stop done) = ⊥
+
+-- a call that gives so many bytes, or answers ENOENT
+abbrev pub MayGive : ℕ → Reply → Type 0
+MayGive size Done = ⊥
+MayGive size (Value bytes) = length bytes ≡ size
+MayGive size (Refused errno) = errno ≡ Enoent
+MayGive size (Batch stop taken next) = ⊥
+MayGive size (Count stop done) = ⊥
+
+-- a delete, which gives nothing
+abbrev pub MayDelete : Reply → Type 0
+MayDelete Done = ⊤
+MayDelete (Value bytes) = ⊥
+MayDelete (Refused errno) = errno ≡ Enoent
+MayDelete (Batch stop taken next) = ⊥
+MayDelete (Count stop done) = ⊥
+
+-- A batch read: flags that aren't 0 are EINVAL, and only a count of 0 is answered with nothing at all. It takes so many pairs at
+-- most, and the next one starts at a bucket or past the last.
+abbrev pub MayRefuseRead : ℕ → Errno → Type 0
+MayRefuseRead flags Einval = flags ≢ 0
+MayRefuseRead flags Eexist = ⊥
+MayRefuseRead flags Enoent = flags ≡ 0
+MayRefuseRead flags E2big = ⊥
+MayRefuseRead flags Enomem = ⊥
+MayRefuseRead flags Enospc = ⊥
+
+abbrev pub MayAnswerRead : Shape → ℕ → ℕ → Reply → Type 0
+MayAnswerRead shape count flags Done = (flags ≡ 0) × (count ≡ 0)
+MayAnswerRead shape count flags (Value bytes) = ⊥
+MayAnswerRead shape count flags (Refused errno) = MayRefuseRead flags errno
+MayAnswerRead shape count flags (Batch stop taken next) = (flags ≡ 0) × (length taken ≤ count) × (next ≤ shape.buckets)
+MayAnswerRead shape count flags (Count stop done) = ⊥
+
+-- a batch write of so many entries
+abbrev pub MayAnswerWrite : ℕ → ℕ → Reply → Type 0
+MayAnswerWrite entries flags Done = ⊥
+MayAnswerWrite entries flags (Value bytes) = ⊥
+MayAnswerWrite entries flags (Refused errno) = (errno ≡ Einval) × (flags ≢ 0)
+MayAnswerWrite entries flags (Batch stop taken next) = ⊥
+MayAnswerWrite entries flags (Count stop done) = (flags ≡ 0) × (done ≤ entries)
+
+-- Which reply a call may have by its kind alone; its turns say which one it has. A lookup answers a value of its side's size, a take one of the system side's, and next key a key.
 abbrev pub MayAnswer : Shape → Verb → Reply → Type 0
-MayAnswer shape (Lookup side key) (Value bytes) = length bytes ≡ value_len_of shape side
-MayAnswer shape (Lookup side key) (Refused errno) = errno ≡ Enoent
-MayAnswer shape (Update side flags key value) Done = flags ≤ 2
-MayAnswer shape (Update side flags key value) (Refused errno) = MayRefuseUpdate flags errno
-MayAnswer shape (Delete key) Done = ⊤
-MayAnswer shape (Delete key) (Refused errno) = errno ≡ Enoent
-MayAnswer shape (Take key) (Value bytes) = length bytes ≡ value_len_of shape Sys
-MayAnswer shape (Take key) (Refused errno) = errno ≡ Enoent
-MayAnswer shape _ _ = ⊥
+MayAnswer shape (Lookup side key) reply = MayGive (value_len_of shape side) reply
+MayAnswer shape (Update side flags key value) reply = MayAnswerUpdate shape flags reply
+MayAnswer shape (Delete key) reply = MayDelete reply
+MayAnswer shape (Take key) reply = MayGive (value_len_of shape Sys) reply
+MayAnswer shape (Next key) reply = MayGive shape.key_size reply
+MayAnswer shape (BatchRead remove count start flags) reply = MayAnswerRead shape count flags reply
+MayAnswer shape (BatchUpdate flags pairs) reply = MayAnswerWrite (length pairs) flags reply
+MayAnswer shape (BatchDelete flags keys) reply = MayAnswerWrite (length keys) flags reply
 
 -- one reply for each call, in order
 abbrev pub EachAnswered : Shape → List Call → List Reply → Type 0
@@ -73,24 +129,10 @@ places_by cpus place [] = []
 places_by cpus place (entry ∷ entries) =
     if has_cpu entry.cpu cpus then place ∷ places_by cpus (suc place) entries else places_by cpus (suc place) entries
 
--- the entries of a lock's history
-abbrev pub entries_of : List LockHistory → DomainId → List Entry
-entries_of [] lock = []
-entries_of (history ∷ histories) lock =
-    if is_same_lock history.lock lock then history.entries else entries_of histories lock
-
--- These steps name these turns, each made by this CPU in the call of this number.
-abbrev pub Name : List LockHistory → ℕ → ℕ → List StrandStep → List Turn → Type 0
-Name histories cpu number [] [] = ⊤
-Name histories cpu number [] (turn ∷ turns) = ⊥
-Name histories cpu number (step ∷ steps) [] = ⊥
-Name histories cpu number (step ∷ steps) (turn ∷ turns) =
-    (step.lock ≡ turn.lock) × (slice_get (entries_of histories step.lock) step.index ≡ Some record { cpu = cpu; call = number; part = turn.part })
-    × Name histories cpu number steps turns
-
--- One call of a strand: its turns are a trace of the call with the reply, by the spare that its CPU has.
-pub record IsCallOf (shape : Shape) (histories : List LockHistory) (number : ℕ) (call : Call) (reply : Reply) (spare : Option ℕ) (steps : List StrandStep) (turns : List Turn) : Type 0 where
-  pub names : Name histories call.cpu number steps turns
+-- One call of a strand: its turns, each with what came before it on its lock, are a trace of the call with the reply, by the
+-- spare that its CPU has.
+pub record IsCallOf (shape : Shape) (histories : List LockHistory) (number : ℕ) (call : Call) (reply : Reply) (spare : Option ℕ) (steps : List StrandStep) (turns : List TurnAt) : Type 0 where
+  pub names : NameAll histories call.cpu number steps turns
   pub trace : IsTrace shape call.cpu spare call.verb turns reply
 
 -- A strand of some CPUs is a concatenation of traces of these CPUs' calls, in their order, with the replies. From the spares
@@ -101,21 +143,59 @@ IsConcatenation shape histories cpus number [] replies spares last steps =
 IsConcatenation shape histories cpus number (call ∷ calls) [] spares last steps = ⊥
 IsConcatenation shape histories cpus number (call ∷ calls) (reply ∷ replies) spares last steps =
     MatchBool (has_cpu call.cpu cpus)
-    ((mine : List StrandStep) × (rest : List StrandStep) × (turns : List Turn) × (steps ≡ mine ++ rest)
+    ((mine : List StrandStep) × (rest : List StrandStep) × (turns : List TurnAt) × (steps ≡ mine ++ rest)
     × IsCallOf shape histories number call reply (spares call.cpu) mine turns
-    × IsConcatenation shape histories cpus (suc number) calls replies (put spares call.cpu (spare_after (spares call.cpu) turns)) last rest)
+    × IsConcatenation shape histories cpus (suc number) calls replies (put spares call.cpu (spare_left shape (spares call.cpu) turns)) last rest)
     (IsConcatenation shape histories cpus (suc number) calls replies spares last steps)
 
--- Each element of a map is in one place, in a bucket, on a freelist or a spare, and stands there once. What is marked are
--- elements of the map; which ones isn't said.
+-- each number is less than the next
+abbrev pub Ascend : List ℕ → Type 0
+Ascend [] = ⊤
+Ascend (x ∷ xs) = All (λ (y : ℕ). x < y) xs × Ascend xs
+
+-- Each element of a map that doesn't evict is in one place, in a bucket, on a freelist or a spare, and stands there once. What
+-- is marked are elements of the map, each once and in order; which ones isn't said.
 pub record HasElements (shape : Shape) (lists : Finals) : Type 0 where
   pub lengths : HasLists shape lists
   pub each_once : EachOnce shape.elements lists
   pub no_sets : lists.sets ≡ []
   pub no_locals : lists.locals ≡ []
   pub marked : All (λ (element : ℕ). element < shape.elements) lists.marked
+  pub in_order : Ascend lists.marked
 
--- A record of a run of the script, in whatever order its CPUs ran.
+-- the free elements of a map that evicts, and all that are on its lists
+abbrev pub free_elements : Finals → List ℕ
+free_elements lists = flat_map (λ (set : SetFinal). set.free) lists.sets ++ flat_map (λ (local : LocalFinal). local.free) lists.locals
+
+abbrev pub on_lists : Finals → List ℕ
+on_lists lists =
+    flat_map (λ (set : SetFinal). set.free ++ (set.active ++ set.inactive)) lists.sets ++ flat_map (λ (local : LocalFinal). local.free ++ local.pending) lists.locals
+
+-- Each element of a map that evicts is in a bucket or free, and stands there once. And it is on one list: a free list, pending,
+-- active or inactive.
+pub record HasListedElements (shape : Shape) (lists : Finals) : Type 0 where
+  pub buckets : length lists.buckets ≡ shape.buckets
+  pub no_freelists : lists.freelists ≡ []
+  pub no_spares : lists.spares ≡ []
+  pub sets : length lists.sets ≡ (if shape.common then 1 else shape.cpus)
+  pub locals : length lists.locals ≡ (if shape.common then shape.cpus else 0)
+  pub each_once : IsPermutation (range_with_len 0 shape.elements) (in_buckets lists ++ free_elements lists)
+  pub each_listed : IsPermutation (range_with_len 0 shape.elements) (on_lists lists)
+  pub marked : All (λ (element : ℕ). element < shape.elements) lists.marked
+  pub in_order : Ascend lists.marked
+
+abbrev pub HoldsElements : Shape → Finals → Type 0
+HoldsElements shape lists = MatchBool (is_lru shape.kind) (HasListedElements shape lists) (HasElements shape lists)
+
+-- what a map holds under a lock is what lies there
+abbrev pub Tells : Finals → DomainId → Content → Type 0
+Tells lists (Local cpu) content = MatchOption (locals_in content) ⊥ (λ local. slice_get lists.locals cpu ≡ Some (final_local local))
+Tells lists Global content = MatchOption (global_in content) ⊥ (λ set. slice_get lists.sets 0 ≡ Some (final_set set))
+Tells lists (CpuLru cpu) content = MatchOption (own_in content) ⊥ (λ set. slice_get lists.sets cpu ≡ Some (final_set set))
+Tells lists (Bucket bucket) content = in_bucket (slice_index_or lists.buckets bucket []) ≡ content
+Tells lists (Freelist cpu) content = on_freelist (slice_index_or lists.freelists cpu []) ≡ content
+
+-- A record of a run of the script, in whatever order its CPUs ran. Turns of two locks have no order in it, but along a strand.
 pub record IsRecord (script : Script) (kept : RunRecord) : Type 0 where
   -- each lock of the map has one history, in the order of their numbers, and each replays by the kernel's rules
   pub locks : map (λ (history : LockHistory). history.lock) kept.histories ≡ locks_of script.shape
@@ -133,5 +213,5 @@ pub record IsRecord (script : Script) (kept : RunRecord) : Type 0 where
       → IsConcatenation script.shape kept.histories strand.cpus 1 script.calls kept.replies (spare_at (opening script.shape)) (spare_at kept.finals) strand.steps
   pub replies : EachAnswered script.shape script.calls kept.replies
   -- what the map holds at the end is what the histories lead to, and each element is in one place, once
-  pub contents : (lock : DomainId) → IsTrue (is_lock script.shape lock) → lies kept.finals lock ≡ content script.shape lock (entries_of kept.histories lock)
-  pub finals : HasElements script.shape kept.finals
+  pub contents : (lock : DomainId) → IsTrue (is_lock script.shape lock) → Tells kept.finals lock (content script.shape lock (entries_of kept.histories lock))
+  pub finals : HoldsElements script.shape kept.finals

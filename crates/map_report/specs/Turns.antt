@@ -22,17 +22,19 @@ use Rattle.place_words.specs.declared.history.LockHistory.{LockHistory}
 use Rattle.place_words.specs.declared.history.Strand.{Strand}
 use Rattle.place_words.specs.declared.history.StrandStep.{StrandStep}
 use Rattle.place_words.specs.Bodies.{present}
-use Rattle.place_words.specs.Histories.{Content, in_bucket, on_freelist, untold}
+use Rattle.place_words.specs.Histories.{Content, in_bucket, on_freelist, in_locals, in_global, in_own}
+use Rattle.place_words.specs.Locals.{new_locals}
+use Rattle.place_words.specs.Sets.{new_set}
 use Rattle.place_words.specs.Locks.{is_lock, is_same_lock, lock_named, lock_count}
-use Rattle.place_words.specs.Traces.{Turn, ring, on_bucket_of, on_freelist_of, found_empty, pushes, element_gone, IsTrace, AreAllowed, after_turns, spare_after}
+use Rattle.place_words.specs.Traces.{Turn, ring, on_bucket_of, on_freelist_of, found_empty, pushes, element_gone, IsPlainTrace, AreAllowed, after_turns, spare_after}
 use Rattle.map_report.specs.Freelists.{stack_at, first_not_empty}
 use Rattle.map_report.specs.Serial.{bucket_at, after_call}
 
--- what lies under each lock
+-- what lies under each lock of a map that doesn't evict, which has no lists but buckets and freelists
 abbrev pub lies : Finals → DomainId → Content
-lies lists (Local cpu) = untold
-lies lists Global = untold
-lies lists (CpuLru cpu) = untold
+lies lists (Local cpu) = in_locals (new_locals cpu)
+lies lists Global = in_global (new_set [])
+lies lists (CpuLru cpu) = in_own (new_set [])
 lies lists (Bucket bucket) = in_bucket (slice_index_or lists.buckets bucket [])
 lies lists (Freelist cpu) = on_freelist (stack_at lists.freelists cpu)
 
@@ -82,13 +84,16 @@ call_turns shape cpu (verbs.Delete key) lists =
 call_turns shape cpu (verbs.Take key) lists =
     let gone = got_of shape Sys cpu (present key (bucket_at shape lists key)) in
     pushes cpu (element_gone gone) ++ on_bucket_of shape key (Take key gone) ∷ []
-call_turns shape cpu _ lists = []
+call_turns shape cpu (verbs.Next key) lists = []
+call_turns shape cpu (verbs.BatchRead remove count start flags) lists = []
+call_turns shape cpu (verbs.BatchUpdate flags pairs) lists = []
+call_turns shape cpu (verbs.BatchDelete flags keys) lists = []
 
 -- A call does what its turns do. They are the turns of such a call with the answer that it gives, and each of them may be
 -- made at its place. They leave under each lock what lies there after the call, and they leave its CPU the spare that it
 -- has then. The other CPUs keep their spares.
 pub record DoesTurns (shape : Shape) (cpu : ℕ) (verb : Verb) (lists : Finals) : Type 0 where
-  pub trace : IsTrace shape cpu (spare_at lists cpu) verb (call_turns shape cpu verb lists) (after_call shape cpu verb lists).1
+  pub trace : IsPlainTrace shape cpu (spare_at lists cpu) verb (call_turns shape cpu verb lists) (after_call shape cpu verb lists).1
   pub allowed : AreAllowed shape cpu (lies lists) (call_turns shape cpu verb lists)
   pub leaves : (lock : DomainId) → IsTrue (is_lock shape lock)
       → after_turns shape cpu (lies lists) (call_turns shape cpu verb lists) lock ≡ lies (after_call shape cpu verb lists).0 lock

@@ -27,9 +27,9 @@ use Rattle.place_words.specs.declared.free_part.FreePart.TheVariants.{Pushed}
 use Rattle.place_words.specs.declared.history.Part.TheVariants as parts
 use Rattle.place_words.specs.Bodies.{has_key, HasDistinctKeys, present, without_key}
 use Rattle.place_words.specs.Buckets.{IsPresentWith, AllowsInBucket, written_over, bucket_after}
-use Rattle.place_words.specs.Traces.{Turn, on_bucket_of, pushes, element_gone, reply_of_got, IsTrace, AreAllowed, after_turn, after_turns, spare_after_part, spare_after}
+use Rattle.place_words.specs.Traces.{Turn, on_bucket_of, pushes, element_gone, reply_of_got, IsPlainTrace, AreAllowed, after_turn, after_turns, spare_after_part, spare_after}
 use Rattle.place_words.proofs.BucketLaws.{key_gone}
-use Rattle.place_words.proofs.RowLemmas.{by_test}
+use Rattle.map_types.proofs.RowLemmas.{by_test}
 use Rattle.place_words.proofs.Splits.{find_passes, find_splits}
 use Rattle.map_report.specs.Buckets.{bucket_of_key, with_in_place}
 use Rattle.map_report.specs.Freelists.{stack_at, first_not_empty, popped_at, popped, pushed}
@@ -97,7 +97,7 @@ module _ (shape : Shape) (side : Side) (cpu : ℕ) (key value : List ℕ) where
 
 -- these turns do what a call does, which leaves these lists and gives this answer
 record Does (shape : Shape) (cpu : ℕ) (verb : Verb) (lists : Finals) (turns : List Turn) (after : Finals × Reply) : Type 0 where
-  trace : IsTrace shape cpu (spare_at lists cpu) verb turns after.1
+  trace : IsPlainTrace shape cpu (spare_at lists cpu) verb turns after.1
   allowed : AreAllowed shape cpu (lies lists) turns
   leaves : after_turns shape cpu (lies lists) turns ≡ lies after.0
   spare : spare_after (spare_at lists cpu) turns ≡ spare_at after.0 cpu
@@ -106,7 +106,7 @@ record Does (shape : Shape) (cpu : ℕ) (verb : Verb) (lists : Finals) (turns : 
 module _ (shape : Shape) (cpu : ℕ) (lists : Finals) where
   -- the last turn is that of the key's bucket
   last_does : (verb : Verb) (after : Finals × Reply) (looks : List Turn) (middle : Finals) (key : List ℕ) (part : BucketPart)
-      → IsTrace shape cpu (spare_at lists cpu) verb (looks ++ on_bucket_of shape key part ∷ []) after.1
+      → IsPlainTrace shape cpu (spare_at lists cpu) verb (looks ++ on_bucket_of shape key part ∷ []) after.1
       → AreAllowed shape cpu (lies lists) looks
       → after_turns shape cpu (lies lists) looks ≡ lies middle
       → AllowsInBucket shape cpu part (bucket_at shape middle key)
@@ -125,7 +125,7 @@ module _ (shape : Shape) (cpu : ℕ) (lists : Finals) where
 
   -- it is the only one, and changes nothing
   stays_does : (verb : Verb) (reply : Reply) (key : List ℕ) (part : BucketPart)
-      → IsTrace shape cpu (spare_at lists cpu) verb (on_bucket_of shape key part ∷ []) reply
+      → IsPlainTrace shape cpu (spare_at lists cpu) verb (on_bucket_of shape key part ∷ []) reply
       → AllowsInBucket shape cpu part (bucket_at shape lists key)
       → bucket_after shape cpu part (bucket_at shape lists key) ≡ bucket_at shape lists key
       → spare_after_part (spare_at lists cpu) (parts.Bucket part) ≡ spare_at lists cpu
@@ -136,7 +136,7 @@ module _ (shape : Shape) (cpu : ℕ) (lists : Finals) where
   -- an element is pushed, and the turn of the bucket takes its key
   gone_does : (verb : Verb) (reply : Reply) (key : List ℕ) (part : BucketPart) (old : Stored)
       → bucket_of_key shape key < length lists.buckets → cpu < length lists.freelists
-      → IsTrace shape cpu (spare_at lists cpu) verb (pushes cpu (Some old.element) ++ on_bucket_of shape key part ∷ []) reply
+      → IsPlainTrace shape cpu (spare_at lists cpu) verb (pushes cpu (Some old.element) ++ on_bucket_of shape key part ∷ []) reply
       → AllowsInBucket shape cpu part (bucket_at shape lists key)
       → bucket_after shape cpu part (bucket_at shape lists key) ≡ without_key key (bucket_at shape lists key)
       → spare_after_part (spare_at lists cpu) (parts.Bucket part) ≡ spare_at lists cpu

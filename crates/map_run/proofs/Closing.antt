@@ -27,7 +27,7 @@ use Rattle.place_table.specs.declared.view.Turned.{Turned}
 use Rattle.place_table.specs.Closing.{ClosedView, IsClosed, has_lock, history_of, spare_numbers}
 use Rattle.place_table.specs.Passes.{PassView, IsKeptOf, spare_of}
 use Rattle.place_table.specs.Rules.{turns_on, indexes}
-use Rattle.place_table.specs.Views.{is_among, all_strands, bit_seen, current_strand, kept_step, no_bits}
+use Rattle.place_table.specs.Views.{is_among, all_strands, bit_seen, current_strand, place_of, kept_step, no_bits}
 use Rattle.map_run.specs.Going.{Going}
 use Rattle.map_run.specs.Served.{is_built_kind}
 use Rattle.map_report.specs.Soundness.{IsSound}
@@ -65,7 +65,7 @@ places_more lock (first ∷ before) step = by (is_same_lock first.lock lock) (pl
 turns_more : (k : ℕ) (step : Turned) (steps : List Turned) → length (turns_on k (step ∷ steps)) ≡ cond (eqb step.lock k) 1 0 + length (turns_on k steps)
 turns_more k step steps = by (eqb step.lock k)
   where
-    by : (b : Bool) → length (cond b ((step.index, step.entry) ∷ turns_on k steps) (turns_on k steps)) ≡ cond b 1 0 + length (turns_on k steps)
+    by : (b : Bool) → length (cond b ((place_of step, step.entry) ∷ turns_on k steps) (turns_on k steps)) ≡ cond b 1 0 + length (turns_on k steps)
     by true = omega arith
     by false = omega arith
 
@@ -74,9 +74,9 @@ counts_one k = by_test k k (λ b. cond {A = ℕ} b 1 0 ≡ 1) (λ _. refl) (λ o
 
 -- one step more that is recorded, on each lock
 kept_more : (shape : Shape) (k : ℕ) (step : Turned) (before : List StrandStep)
-    → length (places_on (lock_named shape k) (before ++ kept_step shape step.lock step.index ∷ [])) ≡ length (places_on (lock_named shape k) before) + cond (eqb step.lock k) 1 0
+    → length (places_on (lock_named shape k) (before ++ kept_step shape step.lock (place_of step) ∷ [])) ≡ length (places_on (lock_named shape k) before) + cond (eqb step.lock k) 1 0
 kept_more shape k step before =
-    places_more (lock_named shape k) before (kept_step shape step.lock step.index)
+    places_more (lock_named shape k) before (kept_step shape step.lock (place_of step))
     ∙ ap (λ (b : Bool). length (places_on (lock_named shape k) before) + cond b 1 0) (same_number shape step.lock k)
 
 -- on no lock more is recorded than happened
@@ -88,7 +88,7 @@ kept_few shape k (step ∷ steps) before after (inl dropped) =
     let turns = turns_more k step steps in
     omega arith
 kept_few shape k (step ∷ steps) before after (inr more) =
-    let rest = kept_few shape k steps (before ++ kept_step shape step.lock step.index ∷ []) after more in
+    let rest = kept_few shape k steps (before ++ kept_step shape step.lock (place_of step) ∷ []) after more in
     let turns = turns_more k step steps in
     let places = kept_more shape k step before in
     omega arith
@@ -99,7 +99,7 @@ IsReal shape step = (step.lock < lock_count shape) × IsTrue (is_lock shape (loc
 -- so where on each lock as much is recorded, every step is
 pub kept_all : (shape : Shape) (steps : List Turned) (before after : List StrandStep) → IsKeptOf shape steps before after → All (IsReal shape) steps
     → ((k : ℕ) → k < lock_count shape → IsTrue (is_lock shape (lock_named shape k)) → length (places_on (lock_named shape k) before) + length (turns_on k steps) ≤ length (places_on (lock_named shape k) after))
-    → after ≡ before ++ map (λ (step : Turned). kept_step shape step.lock step.index) steps
+    → after ≡ before ++ map (λ (step : Turned). kept_step shape step.lock (place_of step)) steps
 kept_all shape [] before after kept real enough = kept ∙ sym (append-nil before)
 kept_all shape (step ∷ steps) before after (inl dropped) real enough =
     let here = All-head (IsReal shape) step steps real in
@@ -109,14 +109,14 @@ kept_all shape (step ∷ steps) before after (inl dropped) real enough =
     let one = counts_one step.lock in
     absurd (omega arith)
 kept_all shape (step ∷ steps) before after (inr more) real enough =
-    let first : StrandStep = kept_step shape step.lock step.index in
+    let first : StrandStep = kept_step shape step.lock (place_of step) in
     kept_all shape steps (before ++ first ∷ []) after more (All-tail (IsReal shape) step steps real)
     (λ k below there.
     let many = enough k below there in
     let turns = turns_more k step steps in
     let places = kept_more shape k step before in
     omega arith)
-    ∙ append_assoc before (first ∷ []) (map (λ (step : Turned). kept_step shape step.lock step.index) steps)
+    ∙ append_assoc before (first ∷ []) (map (λ (step : Turned). kept_step shape step.lock (place_of step)) steps)
 
 -- Histories
 

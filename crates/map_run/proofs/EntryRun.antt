@@ -11,7 +11,7 @@ use Rattle.map_report.specs.EachOnce.{EachOnce}
 use Rattle.map_run.specs.Entries.{Entry, answered, answers_from, entries_after}
 use Rattle.map_run.specs.Laws.{lists_before, entries_before}
 use Rattle.map_report.specs.Serial.{opening, after_call, replies_from, lists_after}
-use Rattle.map_report.specs.Runs.{serial}
+use Rattle.map_report.specs.ListRuns.{serial_on_lists}
 use Rattle.map_run.specs.Served.{is_built_kind, IsServedCall, IsServed}
 use Rattle.map_report.specs.Soundness.{HasLists}
 use Rattle.map_run.proofs.EntrySteps.{Agrees, agrees_opening, agrees_step}
@@ -31,8 +31,8 @@ plain_from shape (call ∷ calls) lists entries bounds built served lawful agree
 -- The replies to a script are those of a plain map from keys to values.
 pub plain_run : (script : Script) → IsServed script
     → ((n : ℕ) → HasLists script.shape (lists_before script n) × EachOnce script.shape.elements (lists_before script n))
-    → (serial script).replies ≡ answers_from script.shape [] script.calls
-unfolding serial
+    → (serial_on_lists script).replies ≡ answers_from script.shape [] script.calls
+unfolding serial_on_lists
 plain_run script served lawful =
     plain_from script.shape script.calls (opening script.shape) [] served.bounds served.kind (recursion_from_All (IsServedCall script.shape) script.calls served.calls) lawful (agrees_opening script.shape)
 

@@ -9,7 +9,7 @@ use Rattle.map_types.specs.declared.call.Call.{Call}
 use Rattle.map_types.specs.declared.reply.Reply.{Reply}
 use Rattle.map_types.specs.Stored.{Stored}
 use Rattle.place_words.specs.declared.history.StrandStep.{StrandStep}
-use Rattle.place_words.specs.ElementLists.{put}
+use Rattle.map_types.specs.ElementLists.{put}
 use Rattle.place_core.proofs.ElementLemmas.{by_test, put_here, put_else}
 use Rattle.place_table.specs.declared.view.Turned.{Turned}
 use Rattle.place_table.specs.declared.view.Ended.{Ended}
@@ -251,10 +251,6 @@ taken_more cpu taken calls call all reply left after lists same first others are
       ap (λ (k : ℕ). k + length (replies_by cpu after)) (count_other cpu taken call other) ∙ ap (λ (l : List Reply). count_of cpu taken + length l) stays ∙ are.1,
     ))
     refl
-
-nothing : (replies : List Reply) → length replies ≡ 0 → replies ≡ []
-nothing [] none = refl
-nothing (x ∷ replies) none = absurd (omega (arith, none))
 
 pub reply_left : (calls : List Call) (n : ℕ) (call : Call) (all : List Reply) (left lists : List (List Reply)) → n < length calls → call ≡ get_or calls n call
     → AreTaken (take n calls) calls all left lists call.cpu → 0 < length (replies_by call.cpu left)

@@ -7,9 +7,13 @@ mod WordLemmasShapes
 mod WordLemmasTurns
 mod WordLemmasWalk
 pub mod AnswerLaws
+pub mod AnyRecord
 pub mod BucketLaws
 pub mod CallTurns
 pub mod Closing
+pub mod PlainCalls
+pub mod PlainFinals
+pub mod LogLaws
 pub mod EachOnceOpening
 pub mod EachOnceRun
 pub mod EachOnceSteps
@@ -19,7 +23,8 @@ pub mod EntrySteps
 pub mod HistoryTurns
 pub mod OneCall
 pub mod OpeningTurns
-pub mod RecordLaws
+pub mod ListCalls
+pub mod SameRecord
 pub mod RingTurns
 pub mod SerialCalls
 pub mod SerialLaws

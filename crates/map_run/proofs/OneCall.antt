@@ -15,15 +15,15 @@ use Rattle.place_words.specs.declared.history.Entry.{Entry}
 use Rattle.place_words.specs.declared.history.StrandStep.{StrandStep}
 use Rattle.place_words.specs.Histories.{Content, Allows, content, content_after}
 use Rattle.place_words.specs.Locks.{is_lock, is_same_lock, lock_count, lock_named, lock_number}
-use Rattle.place_words.specs.Traces.{Turn, IsTrace, AreAllowed, after_turn, after_turns, spare_after}
+use Rattle.place_words.specs.Traces.{Turn, IsPlainTrace, AreAllowed, after_turn, after_turns, spare_after}
 use Rattle.place_words.proofs.HistoryLemmas.{content_more}
 use Rattle.place_words.proofs.LockLemmas.{named_by_number, number_of_named, one_number, one_lock, same_lock, other_lock}
-use Rattle.place_words.proofs.RowLemmas.{by_test}
+use Rattle.map_types.proofs.RowLemmas.{by_test}
 use Rattle.place_core.proofs.ElementLemmas.{at_put}
 use Rattle.place_table.specs.declared.view.Turned.{Turned}
 use Rattle.place_table.specs.Known.{FollowsOn, FollowOn, Learns, log_after, logs_after, turn_of, IsBy}
 use Rattle.place_table.specs.Passes.{PassView, spare_of, SparesDiffer}
-use Rattle.place_table.specs.Views.{kept_step}
+use Rattle.place_table.specs.Views.{place_of, kept_step}
 use Rattle.map_run.specs.Going.{Going}
 use Rattle.map_report.specs.Serial.{after_call}
 use Rattle.map_run.specs.Served.{is_built_kind, IsServedCall}
@@ -133,12 +133,12 @@ module _ (shape : Shape) (cpu number : ℕ) where
 
   -- each turn's place is the one that it has among those that happened
   kept_steps : (steps : List Turned) (logs : ℕ → List Entry) (turns : List Happened) → AllByRecursion (IsBy cpu number) steps → AreTurns shape logs turns → FollowOn shape logs steps
-      → map (λ (step : Turned). kept_step shape step.lock step.index) steps ≡ steps_from turns (happens steps)
+      → map (λ (step : Turned). kept_step shape step.lock (place_of step)) steps ≡ steps_from turns (happens steps)
   kept_steps [] logs turns by are follow = refl
   kept_steps (step ∷ steps) logs turns by are follow =
       let lock = lock_named shape step.lock in
-      let index : step.index ≡ length (entries_on lock turns) =
-      follow.0.index_is ∙ ap length (ap logs (sym (number_of_named shape step.lock)) ∙ are lock follow.0.there) in
+      let index : place_of step ≡ length (entries_on lock turns) =
+      ap length (follow.0.earlier_is ∙ ap logs (sym (number_of_named shape step.lock)) ∙ are lock follow.0.there) in
       let later = kept_steps steps (log_after logs step) (turns ++ happened cpu number (turn_of shape step) ∷ []) by.1 (turns_step logs turns step by.0 are) follow.1 in
       (λ i. record { lock = lock; index = index i } ∷ later i)
 
@@ -160,7 +160,7 @@ element_kept p cpu = option_map (λ (body : Stored). body.element) (spare_of cpu
 pub going_on : (shape : Shape) (lists : Finals) (turns : List Happened) (p q : PassView) (cpu number : ℕ) (verb : Verb) (reply : Reply) (steps : List Turned)
     → IsTrue (is_built_kind shape.kind) → HasBounds shape → IsSound shape lists → IsServedCall shape record { cpu = cpu; verb = verb } → Going shape lists turns p
     → q.view.steps ≡ p.view.steps ++ steps → Learns shape p.view q.view steps → All (IsBy cpu number) steps
-    → IsTrace shape cpu (option_map (λ (body : Stored). body.element) (spare_of cpu p.spares)) verb (map (turn_of shape) steps) reply
+    → IsPlainTrace shape cpu (option_map (λ (body : Stored). body.element) (spare_of cpu p.spares)) verb (map (turn_of shape) steps) reply
     → option_map (λ (body : Stored). body.element) (spare_of cpu q.spares) ≡ spare_after (option_map (λ (body : Stored). body.element) (spare_of cpu p.spares)) (map (turn_of shape) steps)
     → SparesDiffer cpu p.spares q.spares
     → Going shape (after_call shape cpu verb lists).0 (turns ++ map (happened cpu number) (call_turns shape cpu verb lists)) q × (reply ≡ (after_call shape cpu verb lists).1)
@@ -173,7 +173,7 @@ going_on shape lists turns p q cpu number verb reply steps built bounds sound se
     ∙ ap (content shape (lock_named shape k)) (going.entries (lock_named shape k) real) ∙ going.contents (lock_named shape k) real in
     let allowed = allowed_steps shape cpu number steps going.logs (lies lists) by lead learned.0 in
     let one = one_trace shape cpu (spare_at lists cpu) verb (lies lists) (map (turn_of shape) steps) (call_turns shape cpu verb lists) reply (after_call shape cpu verb lists).1
-    (none_evicts shape.kind built) (subst (λ (s : Option ℕ). IsTrace shape cpu s verb (map (turn_of shape) steps) reply) (going.spares cpu) trace) allowed.0 does.trace does.allowed in
+    (none_evicts shape.kind built) (subst (λ (s : Option ℕ). IsPlainTrace shape cpu s verb (map (turn_of shape) steps) reply) (going.spares cpu) trace) allowed.0 does.trace does.allowed in
     let now : turns ++ happens shape cpu number steps ≡ turns ++ new = ap (λ (t : List Turn). turns ++ map (happened cpu number) t) one.0 in
     let entries : AreTurns shape (logs_after going.logs steps) (turns ++ new) =
     subst (AreTurns shape (logs_after going.logs steps)) now (turns_steps shape cpu number steps going.logs turns by going.entries) in (
@@ -198,7 +198,7 @@ going_on shape lists turns p q cpu number verb reply steps built bounds sound se
     new = map (happened cpu number) (call_turns shape cpu verb lists)
 
     kept : Turned → StrandStep
-    kept step = kept_step shape step.lock step.index
+    kept step = kept_step shape step.lock (place_of step)
 
     contents_are : LeadTo shape (logs_after going.logs steps) (after_turns shape cpu (lies lists) (map (turn_of shape) steps))
         → map (turn_of shape) steps ≡ call_turns shape cpu verb lists → DoesTurns shape cpu verb lists → (lock : DomainId) → IsTrue (is_lock shape lock)

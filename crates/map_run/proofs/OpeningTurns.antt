@@ -19,17 +19,19 @@ use Rattle.map_types.specs.declared.kind.MapKind.TheVariants.{Hash, PercpuHash, 
 use Rattle.map_types.specs.Kind.{is_lru}
 use Rattle.map_types.specs.Shape.{HasBounds}
 use Rattle.map_types.specs.Stored.{Stored}
-use Rattle.place_words.specs.ElementLists.{one, times, IsIn}
+use Rattle.map_types.specs.ElementLists.{one, times, IsIn}
 use Rattle.place_words.specs.Histories.{in_bucket, on_freelist, opening_content}
 use Rattle.place_words.specs.Locks.{is_lock}
 use Rattle.place_words.specs.Openings.{opening_stack, opening_spares, opening_owner, opening_free, spare_owner, is_free}
 use Rattle.place_words.specs.Shares.{share_first, share_count, pushed_from}
 use Rattle.place_core.proofs.ElementLemmas.{by_test, times_append, times_cons_same}
+use Rattle.place_table.proofs.FirstSlots.{no_local, no_global, no_set}
 use Rattle.map_report.specs.Freelists.{stack_at, ring, first_not_empty, popped_at, popped, spares_popped}
 use Rattle.map_report.specs.Freelists as lists
 use Rattle.map_report.specs.Serial.{has_spares, opening}
 use Rattle.map_run.specs.Served.{is_built_kind}
 use Rattle.map_report.specs.Turns.{lies}
+use Rattle.map_run.proofs.CallTurns.{none_evicts}
 use Rattle.map_run.proofs.EachOnceOpening.{opening_stacks_permute}
 use Rattle.map_run.proofs.StackLemmas.{has_top, with_spare, spares_next, spares_end}
 
@@ -308,9 +310,9 @@ no_bodies (suc n) (suc bucket) = no_bodies n bucket
 -- the same lies under each lock at first
 pub opening_lies : (shape : Shape) → HasBounds shape → IsTrue (is_built_kind shape.kind) → (lock : DomainId) → IsTrue (is_lock shape lock) → lies (opening shape) lock ≡ opening_content shape lock
 unfolding opening opening_free
-opening_lies shape bounds built (Local cpu) there = refl
-opening_lies shape bounds built Global there = refl
-opening_lies shape bounds built (CpuLru cpu) there = refl
+opening_lies shape bounds built (Local cpu) there = let gone = no_local shape cpu bounds (none_evicts shape.kind built) in absurd cc
+opening_lies shape bounds built Global there = let gone = no_global shape bounds (none_evicts shape.kind built) in absurd cc
+opening_lies shape bounds built (CpuLru cpu) there = let gone = no_set shape cpu (none_evicts shape.kind built) in absurd cc
 opening_lies shape bounds built (Bucket bucket) there = ap in_bucket (no_bodies shape.buckets bucket)
 opening_lies shape bounds built (Freelist cpu) there =
     let within : cpu < shape.cpus = ltb-true cpu shape.cpus (and_parts (not (is_lru shape.kind)) _ there).1 in

@@ -1,7 +1,7 @@
 -- The calls of a race's workers: on which locks their turns are, what they leave as spares, that they are concatenations of the
 -- calls' traces, and what they answer.
 use Rattle.std.proofs.Common.{◌≡◌, ◌≢◌, ℕ, suc, ◌<◌, Bool, true, false, ◌||◌, eqb, List, [], ◌∷◌, ◌++◌, length, map, get_or, drop, Option, Some, None, refl, ap, sym, ◌∙◌, ⊎_elim, subst, arith}
-use Rattle.std.specs.Prelude.{IsTrue, MatchBool, All, slice_get, if◌then◌else◌}
+use Rattle.std.specs.Prelude.{IsTrue, MatchBool, All, if◌then◌else◌}
 use Rattle.std.specs.List.{AllByRecursion}
 use Rattle.std.proofs.lemmas.Bool.{eq-eqb, ne_eqb}
 use Rattle.std.proofs.lemmas.List.{map-append}
@@ -12,25 +12,33 @@ use Rattle.map_types.specs.declared.call.Call.{Call}
 use Rattle.map_types.specs.declared.call.Verb.{Verb}
 use Rattle.map_types.specs.declared.call.Verb.TheVariants as verbs
 use Rattle.map_types.specs.declared.reply.Reply.{Reply}
+use Rattle.map_types.specs.Kind.{is_lru}
 use Rattle.map_types.specs.Shape.{HasBounds}
 use Rattle.place_words.specs.declared.bucket_part.BucketPart.TheVariants.{Update, Delete, Take}
 use Rattle.place_words.specs.declared.bucket_part.Put.{Put}
 use Rattle.place_words.specs.declared.bucket_part.Put.TheVariants as puts
 use Rattle.place_words.specs.declared.free_part.FreePart.TheVariants.{Popped}
 use Rattle.place_words.specs.declared.history.LockHistory.{LockHistory}
-use Rattle.place_words.specs.ElementLists.{put}
+use Rattle.map_types.specs.ElementLists.{put}
 use Rattle.place_words.specs.Locks.{lock_named, lock_count}
-use Rattle.place_words.specs.Traces.{Turn, ring, on_bucket_of, on_freelist_of, found_empty, pushes, element_gone, LooksFor, IsTrace, spare_after_put, spare_after}
+use Rattle.place_words.specs.Named.{NameAll}
+use Rattle.place_words.specs.Traces.{Turn, ring, on_bucket_of, on_freelist_of, found_empty, pushes, element_gone, LooksFor, IsTrace, IsPlainTrace, spare_after_put, spare_after}
+use Rattle.place_words.specs.Turns.{TurnAt}
+use Rattle.place_words.specs.Walks.{spare_left}
 use Rattle.place_words.proofs.LockLemmas.{number_of_named, number_within}
 use Rattle.place_core.proofs.ElementLemmas.{by_test, put_here}
-use Rattle.place_words.proofs.RowLemmas.{eqb_turned}
+use Rattle.map_types.proofs.RowLemmas.{eqb_turned}
 use Rattle.place_table.specs.declared.view.Turned.{Turned}
-use Rattle.place_table.specs.Known.{turn_of, IsBy}
-use Rattle.map_report.specs.Record.{MayAnswer, EachAnswered, has_cpu, entries_of, Name, IsConcatenation}
+use Rattle.place_table.specs.Known.{turn_of, turn_at, IsBy}
+use Rattle.place_table.specs.Rules.{StandsIn}
+use Rattle.place_table.proofs.Stands.{entry_is, earlier_is}
+use Rattle.hash_ops.proofs.Under.{plain_left}
+use Rattle.map_report.specs.Record.{MayAnswer, EachAnswered, has_cpu, entries_of, IsConcatenation}
 use Rattle.map_run.specs.Served.{is_built_kind, IsServedCall}
 use Rattle.map_run.specs.Work.{replies_of, IsCallBy, AreCallsBy}
-use Rattle.map_run.proofs.Closing.{IsReal}
+use Rattle.map_run.proofs.Closing.{IsReal, plain_kind}
 use Rattle.map_run.proofs.HistoryTurns.{matched}
+use Rattle.map_run.proofs.PlainCalls.{plain_call}
 use Rattle.map_run.proofs.RaceKept.{steps_of}
 use Rattle.map_run.proofs.RingTurns.{spare_empty}
 use Rattle.map_run.proofs.TurnLocks.{OnLocks, all_parts, trace_real}
@@ -56,7 +64,7 @@ gone_leaves : (cpu : ℕ) (gone : Option ℕ) (last : Turn) → spare_after None
 gone_leaves cpu None last = refl
 gone_leaves cpu (Some e) last = refl
 
-none_by_call : (shape : Shape) (cpu : ℕ) (verb : Verb) (turns : List Turn) (reply : Reply) → IsTrace shape cpu None verb turns reply → spare_after None turns ≡ None
+none_by_call : (shape : Shape) (cpu : ℕ) (verb : Verb) (turns : List Turn) (reply : Reply) → IsPlainTrace shape cpu None verb turns reply → spare_after None turns ≡ None
 none_by_call shape cpu (verbs.Lookup side key) turns reply trace = ap (spare_after None) trace.turns_are
 none_by_call shape cpu (verbs.Update side flags key value) turns reply trace =
     ⊎_elim (λ refused. ap (spare_after None) refused.1)
@@ -87,13 +95,13 @@ module _ (shape : Shape) (cpu : ℕ) where
   IsFirst number call calls spare last replies steps =
       (mine : List Turned) × (rest : List Turned) × (reply : Reply) × (more : List Reply) × (steps ≡ mine ++ rest) × (replies ≡ reply ∷ more)
       × IsCallBy shape number call spare reply mine
-      × AreCallsBy shape cpu (suc number) calls (spare_after spare (map (turn_of shape) mine)) last more rest
+      × AreCallsBy shape cpu (suc number) calls (spare_left shape spare (map (turn_at shape) mine)) last more rest
 
   -- It is the CPU's, or another's.
   pub first_call : (R : Type 0) (number : ℕ) (call : Call) (calls : List Call) (spare last : Option ℕ) (reply : Reply) (replies : List Reply) (steps : List Turned)
       → AreCallsBy shape cpu number (call ∷ calls) spare last (replies_of cpu (call ∷ calls) (reply ∷ replies)) steps
       → (call.cpu ≡ cpu → (mine rest : List Turned) → steps ≡ mine ++ rest → IsCallBy shape number call spare reply mine
-      → AreCallsBy shape cpu (suc number) calls (spare_after spare (map (turn_of shape) mine)) last (replies_of cpu calls replies) rest → R)
+      → AreCallsBy shape cpu (suc number) calls (spare_left shape spare (map (turn_at shape) mine)) last (replies_of cpu calls replies) rest → R)
       → (call.cpu ≢ cpu → AreCallsBy shape cpu (suc number) calls spare last (replies_of cpu calls replies) steps → R) → R
   first_call R number call calls spare last reply replies steps are own elsewhere =
       let later : List Reply = replies_of cpu calls replies in
@@ -103,7 +111,7 @@ module _ (shape : Shape) (cpu : ℕ) where
       let same = one_reply reply first.2 later first.3 first.5 in
       own is first.0 first.1 first.4
       (subst (λ (r : Reply). IsCallBy shape number call spare r first.0) same.0 first.6)
-      (subst (λ (more : List Reply). AreCallsBy shape cpu (suc number) calls (spare_after spare (map (turn_of shape) first.0)) last more first.1) same.1 first.7))
+      (subst (λ (more : List Reply). AreCallsBy shape cpu (suc number) calls (spare_left shape spare (map (turn_at shape) first.0)) last more first.1) same.1 first.7))
       (λ is others. elsewhere is others)
       are
 
@@ -126,36 +134,43 @@ module _ (shape : Shape) (bounds : HasBounds shape) (built : IsTrue (is_built_ki
       (λ is mine rest split made more.
       subst (All (IsReal shape)) (sym split)
       (All-append (IsReal shape) mine rest
-      (on_locks shape mine (trace_real shape bounds built call.cpu spare call.verb (map (turn_of shape) mine) reply served.0.cpu made.trace))
-      (calls_real calls replies (suc number) (spare_after spare (map (turn_of shape) mine)) last rest (omega arith) served.1 more)))
+      (on_locks shape mine (trace_real shape bounds built call.cpu spare call.verb (map (turn_of shape) mine) reply served.0.cpu
+      (plain_call shape call.cpu spare mine reply (plain_kind shape.kind built) call.verb served.0.verb made.trace)))
+      (calls_real calls replies (suc number) (spare_left shape spare (map (turn_at shape) mine)) last rest (omega arith) served.1 more)))
       (λ is more. calls_real calls replies (suc number) spare last steps (omega arith) served.1 more)
 
 -- where a CPU had no spare it has none after its calls
-pub calls_spare : (shape : Shape) (cpu : ℕ) (calls : List Call) (replies : List Reply) (number : ℕ) (spare last : Option ℕ) (steps : List Turned) → length replies ≡ length calls → spare ≡ None
-    → AreCallsBy shape cpu number calls spare last (replies_of cpu calls replies) steps → last ≡ None
-calls_spare shape cpu [] replies number spare last steps count none are = are.2 ∙ none
-calls_spare shape cpu (call ∷ calls) [] number spare last steps count none are = absurd (omega arith)
-calls_spare shape cpu (call ∷ calls) (reply ∷ replies) number spare last steps count none are =
-    first_call shape cpu (last ≡ None) number call calls spare last reply replies steps are
-    (λ is mine rest split made more.
-    let turns : List Turn = map (turn_of shape) mine in
-    let trace : IsTrace shape call.cpu None call.verb turns reply = subst (λ (s : Option ℕ). IsTrace shape call.cpu s call.verb turns reply) none made.trace in
-    calls_spare shape cpu calls replies (suc number) (spare_after spare turns) last rest (omega arith) (ap (λ (s : Option ℕ). spare_after s turns) none ∙ none_by_call shape call.cpu call.verb turns reply trace) more)
-    (λ is more. calls_spare shape cpu calls replies (suc number) spare last steps (omega arith) none more)
+module _ (shape : Shape) (plain : is_lru shape.kind ≡ false) (cpu : ℕ) where
+  pub calls_spare : (calls : List Call) (replies : List Reply) (number : ℕ) (spare last : Option ℕ) (steps : List Turned) → length replies ≡ length calls → AllByRecursion (IsServedCall shape) calls → spare ≡ None
+      → AreCallsBy shape cpu number calls spare last (replies_of cpu calls replies) steps → last ≡ None
+  calls_spare [] replies number spare last steps count served none are = are.2 ∙ none
+  calls_spare (call ∷ calls) [] number spare last steps count served none are = absurd (omega arith)
+  calls_spare (call ∷ calls) (reply ∷ replies) number spare last steps count served none are =
+      first_call shape cpu (last ≡ None) number call calls spare last reply replies steps are
+      (λ is mine rest split made more.
+      let turns : List Turn = map (turn_of shape) mine in
+      let trace : IsPlainTrace shape call.cpu None call.verb turns reply =
+      subst (λ (s : Option ℕ). IsPlainTrace shape call.cpu s call.verb turns reply) none (plain_call shape call.cpu spare mine reply plain call.verb served.0.verb made.trace) in
+      calls_spare calls replies (suc number) (spare_left shape spare (map (turn_at shape) mine)) last rest (omega arith) served.1
+      (sym (plain_left shape spare mine plain) ∙ ap (λ (s : Option ℕ). spare_after s turns) none ∙ none_by_call shape call.cpu call.verb turns reply trace) more)
+      (λ is more. calls_spare calls replies (suc number) spare last steps (omega arith) served.1 none more)
 
 -- Traces, one after another
 
--- a turn stands in the history of its lock
-abbrev pub StandsIn : Shape → List LockHistory → Turned → Type 0
-StandsIn shape histories step = slice_get (entries_of histories (lock_named shape step.lock)) step.index ≡ Some step.entry
+-- a turn stands in the history of its lock, right after the turns before it there
+abbrev pub StandsThere : Shape → List LockHistory → Turned → Type 0
+StandsThere shape histories step = StandsIn (entries_of histories (lock_named shape step.lock)) step
 
-names_turns : (shape : Shape) (histories : List LockHistory) (cpu number : ℕ) (steps : List Turned) → AllByRecursion (IsBy cpu number) steps → AllByRecursion (StandsIn shape histories) steps
-    → Name histories cpu number (steps_of shape steps) (map (turn_of shape) steps)
-names_turns shape histories cpu number [] by_call stand = tt
-names_turns shape histories cpu number (step ∷ steps) by_call stand = (
-  refl,
-  stand.0 ∙ (λ i. Some record { cpu = by_call.0.0 i; call = by_call.0.1 i; part = step.entry.part }),
-  names_turns shape histories cpu number steps by_call.1 stand.1,
+names_all : (shape : Shape) (histories : List LockHistory) (cpu number : ℕ) (steps : List Turned) → AllByRecursion (IsBy cpu number) steps → AllByRecursion (StandsThere shape histories) steps
+    → NameAll histories cpu number (steps_of shape steps) (map (turn_at shape) steps)
+names_all shape histories cpu number [] by_call stand = tt
+names_all shape histories cpu number (step ∷ steps) by_call stand = (
+  record {
+    lock = refl;
+    entry = entry_is (entries_of histories (lock_named shape step.lock)) step stand.0 ∙ (λ i. Some record { cpu = by_call.0.0 i; call = by_call.0.1 i; part = step.entry.part });
+    earlier = earlier_is (entries_of histories (lock_named shape step.lock)) step stand.0;
+  },
+  names_all shape histories cpu number steps by_call.1 stand.1,
 )
 
 has_one : (cpu other : ℕ) → has_cpu other (cpu ∷ []) ≡ eqb other cpu
@@ -172,7 +187,7 @@ missed false P Q is q = q
 module _ (shape : Shape) (histories : List LockHistory) (cpu : ℕ) where
   -- A worker's turns are its calls, one after another.
   pub concatenation : (calls : List Call) (replies : List Reply) (number : ℕ) (spares last : ℕ → Option ℕ) (spare : Option ℕ) (steps : List Turned) → length replies ≡ length calls → spares cpu ≡ spare
-      → AllByRecursion (StandsIn shape histories) steps → AreCallsBy shape cpu number calls spare (last cpu) (replies_of cpu calls replies) steps
+      → AllByRecursion (StandsThere shape histories) steps → AreCallsBy shape cpu number calls spare (last cpu) (replies_of cpu calls replies) steps
       → IsConcatenation shape histories (cpu ∷ []) number calls replies spares last (steps_of shape steps)
   concatenation [] replies number spares last spare steps count at stand are = (
     ap (steps_of shape) are.1,
@@ -182,8 +197,8 @@ module _ (shape : Shape) (histories : List LockHistory) (cpu : ℕ) where
   concatenation (call ∷ calls) (reply ∷ replies) number spares last spare steps count at stand are =
       first_call shape cpu (IsConcatenation shape histories (cpu ∷ []) number (call ∷ calls) (reply ∷ replies) spares last (steps_of shape steps)) number call calls spare (last cpu) reply replies steps are
       (λ is mine rest split made more.
-      let turns : List Turn = map (turn_of shape) mine in
-      let parts = all_parts (StandsIn shape histories) mine rest (subst (AllByRecursion (StandsIn shape histories)) split stand) in
+      let turns : List TurnAt = map (turn_at shape) mine in
+      let parts = all_parts (StandsThere shape histories) mine rest (subst (AllByRecursion (StandsThere shape histories)) split stand) in
       let own : spares call.cpu ≡ spare = ap spares is ∙ at in
       matched (has_cpu call.cpu (cpu ∷ [])) _ _ (has_one cpu call.cpu ∙ eq-eqb call.cpu cpu is) (
         steps_of shape mine,
@@ -191,11 +206,12 @@ module _ (shape : Shape) (histories : List LockHistory) (cpu : ℕ) where
         turns,
         ap (steps_of shape) split ∙ map-append _ mine rest,
         record {
-          names = names_turns shape histories call.cpu number mine (recursion_from_All (IsBy call.cpu number) mine made.by_call) parts.0;
+          names = names_all shape histories call.cpu number mine (recursion_from_All (IsBy call.cpu number) mine made.by_call) parts.0;
           trace = subst (λ (s : Option ℕ). IsTrace shape call.cpu s call.verb turns reply) (sym own) made.trace;
         },
-        concatenation calls replies (suc number) (put spares call.cpu (spare_after (spares call.cpu) turns)) last (spare_after spare turns) rest (omega arith)
-            (ap (put spares call.cpu (spare_after (spares call.cpu) turns)) (sym is) ∙ put_here spares call.cpu (spare_after (spares call.cpu) turns) ∙ ap (λ (s : Option ℕ). spare_after s turns) own)
+        concatenation calls replies (suc number) (put spares call.cpu (spare_left shape (spares call.cpu) turns)) last (spare_left shape spare turns) rest (omega arith)
+            (ap (put spares call.cpu (spare_left shape (spares call.cpu) turns)) (sym is) ∙ put_here spares call.cpu (spare_left shape (spares call.cpu) turns)
+            ∙ ap (λ (s : Option ℕ). spare_left shape s turns) own)
             parts.1 more,
       ))
       (λ other more. missed (has_cpu call.cpu (cpu ∷ [])) _ _ (has_one cpu call.cpu ∙ ne_eqb call.cpu cpu other) (concatenation calls replies (suc number) spares last spare steps (omega arith) at stand more))
@@ -220,6 +236,6 @@ each_call_answered shape (call ∷ calls) (reply ∷ replies) number last count 
       each_call_answered shape calls replies (suc number) last (omega arith) served.1
           (λ cpu real. let own = each cpu real in
           first_call shape cpu ((spare : Option ℕ) × (steps : List Turned) × AreCallsBy shape cpu (suc number) calls spare (last cpu) (replies_of cpu calls replies) steps) number call calls own.0 (last cpu) reply replies own.1 own.2
-          (λ is mine rest split made more. (spare_after own.0 (map (turn_of shape) mine), rest, more))
+          (λ is mine rest split made more. (spare_left shape own.0 (map (turn_at shape) mine), rest, more))
           (λ other more. (own.0, own.1, more))),
     )

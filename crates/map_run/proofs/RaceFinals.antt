@@ -1,8 +1,8 @@
 -- The lists that a closed table leaves after a race: each element is in one place, once, and each CPU's spare is the one that
 -- its pass keeps.
-use Rattle.std.proofs.Common.{◌≡◌, ◌≢◌, ℕ, ◌+◌, ◌<◌, ◌≤◌, true, false, not, ◌&&◌, eqb, ltb, List, [], ◌++◌, length, map, Option, Some, None, All, refl, ap, sym, ◌∙◌, ⊎_elim, subst, arith}
-use Rattle.std.specs.Prelude.{IsTrue, unwrap_or, slice_get, slice_index_or, if◌then◌else◌}
-use Rattle.std.specs.List.{range_with_len}
+use Rattle.std.proofs.Common.{◌≡◌, ◌≢◌, ℕ, zero, suc, ◌+◌, ◌<◌, ◌≤◌, Bool, true, false, cond, not, ◌&&◌, eqb, ltb, List, [], ◌∷◌, ◌++◌, length, map, Option, Some, None, All, refl, ap, sym, ◌∙◌, ⊎_elim, subst, arith}
+use Rattle.std.specs.Prelude.{IsTrue, filter, unwrap_or, slice_get, slice_index_or, if◌then◌else◌}
+use Rattle.std.specs.List.{AllByRecursion, range_with_len}
 use Rattle.std.proofs.lemmas.Bool.{cases_lt, eq-eqb, ne_eqb, lt-ltb, le-ltb, ltb-true, eqb-true, eqb-false, and_parts, and_right}
 use Rattle.std.proofs.lemmas.List.Elements.{All-filter, All-from_recursion}
 use Rattle.std.proofs.lemmas.List.FromFn.{length-map-range_with_len}
@@ -18,7 +18,7 @@ use Rattle.map_types.specs.Stored.{Stored}
 use Rattle.place_words.specs.declared.owner.Owner.{Owner}
 use Rattle.place_words.specs.declared.owner.Owner.TheVariants as owners
 use Rattle.place_words.specs.Bodies.{numbers}
-use Rattle.place_words.specs.ElementLists.{one, times}
+use Rattle.map_types.specs.ElementLists.{one, times}
 use Rattle.place_words.specs.Histories as histories
 use Rattle.place_words.specs.Histories.{content}
 use Rattle.place_words.specs.Locks.{is_lock, lock_named, lock_number, first_freelist}
@@ -35,7 +35,7 @@ use Rattle.place_table.specs.Passes.{PassView, IsInNoCall, spare_of}
 use Rattle.place_table.specs.Rules.{is_hand_of}
 use Rattle.place_table.specs.Views.{is_among, is_in_hand_of}
 use Rattle.map_report.specs.EachOnce.{elements_of, in_buckets, on_freelists}
-use Rattle.map_report.specs.Record.{HasElements}
+use Rattle.map_report.specs.Record.{Ascend, HasElements}
 use Rattle.map_report.specs.Serial.{has_spares, spare_count}
 use Rattle.map_run.specs.Served.{is_built_kind}
 use Rattle.map_run.proofs.Closing.{number_in, spares_listed, plain_kind}
@@ -43,6 +43,24 @@ use Rattle.map_run.proofs.EachOnceOpening.{each_once_from}
 use Rattle.map_run.proofs.HistoryTurns.{by_bool}
 use Rattle.map_run.proofs.TurnLocks.{range_below}
 use Rattle.map_run.proofs.RaceLists.{made_there, counts_permute, times_range, times_past, times_flat_map, times_concat, times_made}
+
+-- Numbers in order
+
+range_above : (a b n : ℕ) → a < b → AllByRecursion (λ (y : ℕ). a < y) (range_with_len b n)
+range_above a b zero above = tt
+range_above a b (suc n) above = (above, range_above a (b + 1) n (omega arith))
+
+ascends_where : (here : Bool) (a : ℕ) (xs : List ℕ) → All (λ (y : ℕ). a < y) xs → Ascend xs → Ascend (cond here (a ∷ xs) xs)
+ascends_where true a xs above rest = (above, rest)
+ascends_where false a xs above rest = rest
+
+-- what a filter leaves of a range ascends
+filter_ascends : (p : ℕ → Bool) (a n : ℕ) → Ascend (filter p (range_with_len a n))
+filter_ascends p a zero = tt
+filter_ascends p a (suc n) =
+    ascends_where (p a) a (filter p (range_with_len (a + 1) n))
+    (All-filter p (λ (y : ℕ). a < y) (range_with_len (a + 1) n) (All-from_recursion (λ (y : ℕ). a < y) (range_with_len (a + 1) n) (range_above a (a + 1) n (omega arith))))
+    (filter_ascends p (a + 1) n)
 
 -- Sums
 
@@ -259,4 +277,5 @@ module _ (shape : Shape) (p : PassView) (closed : ClosedView) (ends : IsClosed s
     no_sets = ends.left.no_sets;
     no_locals = ends.left.no_locals;
     marked = subst (All (λ (element : ℕ). element < shape.elements)) (sym ends.left.marked_are) (All-filter ends.core.bit (λ (element : ℕ). element < shape.elements) (range_with_len 0 shape.elements) (All-from_recursion (λ (element : ℕ). element < shape.elements) (range_with_len 0 shape.elements) (range_below shape.elements 0 shape.elements (omega arith))));
+    in_order = subst Ascend (sym ends.left.marked_are) (filter_ascends ends.core.bit 0 shape.elements);
   }

@@ -1,5 +1,5 @@
 -- The histories that a closed table hands out where no record is lost: one for each lock of the map, with the turns of that lock.
-use Rattle.std.proofs.Common.{◌≡◌, ℕ, zero, suc, ◌+◌, ◌<◌, ◌≤◌, true, false, not, ◌&&◌, cond, eqb, ltb, List, [], ◌∷◌, map, Some, All, refl, ap, sym, ◌∙◌, subst, arith}
+use Rattle.std.proofs.Common.{◌≡◌, ℕ, zero, suc, ◌+◌, ◌<◌, ◌≤◌, true, false, not, ◌&&◌, cond, ltb, List, [], ◌∷◌, map, Some, All, refl, ap, sym, ◌∙◌, subst, arith}
 use Rattle.std.specs.Prelude.{IsTrue, filter, slice_get, if◌then◌else◌}
 use Rattle.std.specs.List.{AllByRecursion, range_with_len}
 use Rattle.std.proofs.lemmas.Bool.{both_ways, ltb-true, and_parts}
@@ -18,13 +18,13 @@ use Rattle.place_core.proofs.ElementLemmas.{by_test}
 use Rattle.place_table.specs.declared.view.Turned.{Turned}
 use Rattle.place_table.specs.Closing.{ClosedView, IsClosed, has_lock, all_locks, history_of}
 use Rattle.place_table.specs.Passes.{PassView}
-use Rattle.place_table.specs.Rules.{turns_on}
+use Rattle.place_table.specs.Rules.{StandsIn, StandIn}
 use Rattle.map_report.specs.Record.{entries_of, locks_of}
 use Rattle.map_report.specs.Turns.{lies}
 use Rattle.map_run.specs.Served.{is_built_kind}
 use Rattle.map_run.proofs.Closing.{IsReal, made_of_all, plain_kind, same_number}
 use Rattle.map_run.proofs.HistoryTurns.{by_bool}
-use Rattle.map_run.proofs.RaceCalls.{StandsIn}
+use Rattle.map_run.proofs.RaceCalls.{StandsThere}
 use Rattle.map_run.proofs.Whole.{none_lost}
 
 -- The history of a lock among those of all locks
@@ -58,22 +58,6 @@ pub all_standing : {X : Type 0} (P : X → Type 0) (xs : List X) → ((i : ℕ) 
 all_standing P [] holds = tt
 all_standing P (x ∷ xs) holds = (holds 0 x refl, all_standing P xs (λ i y is. holds (suc i) y is))
 
--- Turns that stand in their locks' histories
-
-standing : (P : ℕ → ℕ × Entry → Type 0) (steps : List Turned) → ((k : ℕ) → AllByRecursion (P k) (turns_on k steps)) → AllByRecursion (λ (step : Turned). P step.lock (step.index, step.entry)) steps
-standing P [] each = tt
-standing P (step ∷ steps) each = (
-  first (each step.lock),
-  standing P steps (λ k. rest k (each k)),
-)
-  where
-    first : AllByRecursion (P step.lock) (turns_on step.lock (step ∷ steps)) → P step.lock (step.index, step.entry)
-    first = by_test step.lock step.lock (λ b. AllByRecursion (P step.lock) (cond b ((step.index, step.entry) ∷ turns_on step.lock steps) (turns_on step.lock steps)) → P step.lock (step.index, step.entry))
-        (λ _ all. all.0) (λ other. absurd (other refl))
-
-    rest : (k : ℕ) → AllByRecursion (P k) (turns_on k (step ∷ steps)) → AllByRecursion (P k) (turns_on k steps)
-    rest k = by_bool (eqb step.lock k) (λ b. AllByRecursion (P k) (cond b ((step.index, step.entry) ∷ turns_on k steps) (turns_on k steps)) → AllByRecursion (P k) (turns_on k steps)) (λ _ all. all.1) (λ _ all. all)
-
 module _ (shape : Shape) (p : PassView) (closed : ClosedView) (ends : IsClosed shape p closed) (whole : closed.lost ≡ false) where
   histories_are : closed.histories ≡ map (history_of shape ends.log) (all_locks shape)
   histories_are =
@@ -106,12 +90,12 @@ module _ (shape : Shape) (p : PassView) (closed : ClosedView) (ends : IsClosed s
       (λ k. All-from_recursion (λ (entry : Entry). entry.cpu < shape.cpus) (ends.log k) (all_standing (λ (entry : Entry). entry.cpu < shape.cpus) (ends.log k) (holds k))) (all_locks shape)))
 
   -- the turns of a strand stand in the histories, where each is on a lock of the map
-  pub turns_stand : (steps : List Turned) → AllByRecursion (IsReal shape) steps → ((k : ℕ) → AllByRecursion (λ (turn : ℕ × Entry). slice_get (ends.log k) turn.0 ≡ Some turn.1) (turns_on k steps)) → AllByRecursion (StandsIn shape closed.histories) steps
-  turns_stand steps real each = both steps real (standing (λ k turn. slice_get (ends.log k) turn.0 ≡ Some turn.1) steps each)
-    where
-      both : (made : List Turned) → AllByRecursion (IsReal shape) made → AllByRecursion (λ (step : Turned). slice_get (ends.log step.lock) step.index ≡ Some step.entry) made → AllByRecursion (StandsIn shape closed.histories) made
-      both [] on_locks at = tt
-      both (step ∷ made) on_locks at = (ap (λ (l : List Entry). slice_get l step.index) (entries_at step.lock on_locks.0.0 on_locks.0.1) ∙ at.0, both made on_locks.1 at.1)
+  pub turns_stand : (steps : List Turned) → AllByRecursion (IsReal shape) steps → StandIn ends.log steps → AllByRecursion (StandsThere shape closed.histories) steps
+  turns_stand [] real stand = tt
+  turns_stand (step ∷ steps) real stand = (
+    subst (λ (l : List Entry). StandsIn l step) (sym (entries_at step.lock real.0.0 real.0.1)) stand.0,
+    turns_stand steps real.1 stand.1,
+  )
 
   -- what the lists hold at the end is what the histories lead to
   pub lies_at_end : HasBounds shape → IsTrue (is_built_kind shape.kind) → (lock : DomainId) → IsTrue (is_lock shape lock) → lies closed.finals lock ≡ content shape lock (entries_of closed.histories lock)

@@ -15,7 +15,7 @@ use Rattle.place_table.specs.declared.view.Turned.{Turned}
 use Rattle.place_table.specs.Closing.{ClosedView, IsClosed, strand_told, strands_told}
 use Rattle.place_table.specs.Passes.{PassView, IsKeptOf}
 use Rattle.place_table.specs.Rules.{turns_on, indexes}
-use Rattle.place_table.specs.Views.{is_among, is_recorded, all_strands, kept_step}
+use Rattle.place_table.specs.Views.{is_among, is_recorded, all_strands, place_of, kept_step}
 use Rattle.map_run.specs.Copies.{has_step}
 use Rattle.map_run.specs.Work.{has_turn, strand_of_cpu}
 use Rattle.map_run.proofs.Closing.{IsReal, kept_all, length_indexes, same_number}
@@ -26,17 +26,17 @@ use Rattle.map_run.proofs.Whole.{none_lost, strands_are_told}
 
 -- turns as steps that name their places
 abbrev pub steps_of : Shape → List Turned → List StrandStep
-steps_of shape turns = map (λ (step : Turned). kept_step shape step.lock step.index) turns
+steps_of shape turns = map (λ (step : Turned). kept_step shape step.lock (place_of step)) turns
 
 -- the places that they name on a lock
 pub places_of_steps : (shape : Shape) (k : ℕ) (turns : List Turned) → places_on (lock_named shape k) (steps_of shape turns) ≡ indexes (turns_on k turns)
 places_of_steps shape k [] = refl
 places_of_steps shape k (step ∷ turns) =
     let rest = places_of_steps shape k turns in
-    ap (λ b. cond b (step.index ∷ places_on (lock_named shape k) (steps_of shape turns)) (places_on (lock_named shape k) (steps_of shape turns))) (same_number shape step.lock k)
+    ap (λ b. cond b (place_of step ∷ places_on (lock_named shape k) (steps_of shape turns)) (places_on (lock_named shape k) (steps_of shape turns))) (same_number shape step.lock k)
     ∙ by_bool (eqb step.lock k)
-    (λ b. cond b (step.index ∷ places_on (lock_named shape k) (steps_of shape turns)) (places_on (lock_named shape k) (steps_of shape turns)) ≡ indexes (cond b ((step.index, step.entry) ∷ turns_on k turns) (turns_on k turns)))
-    (λ _. ap (λ places. step.index ∷ places) rest) (λ _. rest)
+    (λ b. cond b (place_of step ∷ places_on (lock_named shape k) (steps_of shape turns)) (places_on (lock_named shape k) (steps_of shape turns)) ≡ indexes (cond b ((place_of step, step.entry) ∷ turns_on k turns) (turns_on k turns)))
+    (λ _. ap (λ places. place_of step ∷ places) rest) (λ _. rest)
 
 -- Strands, by CPU
 

@@ -1,12 +1,12 @@
 -- Lists by what stands at their places, and by how often a number stands in them.
 use Rattle.std.proofs.Common.{◌≡◌, ◌≢◌, ℕ, zero, suc, ◌+◌, ◌<◌, ◌≤◌, Bool, true, false, cond, eqb, List, [], ◌∷◌, ◌++◌, length, map, get_or, Some, IsPermutation, refl, ap, sym, ◌∙◌, ◌⊎◌, inl, inr, subst, arith}
 use Rattle.std.specs.Prelude.{filter, slice_get}
-use Rattle.std.specs.List.{AllByRecursion, concat, flat_map, range_with_len}
+use Rattle.std.specs.List.{concat, flat_map, range_with_len}
 use Rattle.std.proofs.lemmas.Bool.{cases_eq, ne_eqb}
 use Rattle.std.proofs.lemmas.List.FromFn.{length-map-range_with_len, get_or-map-range_with_len}
 use Rattle.std.proofs.lemmas.List.Sorted.{IsPermutation-refl, IsPermutation-trans, IsPermutation-cons, IsPermutation-middle, IsPermutation-sym}
 use Rattle.std.proofs.lemmas.Option.{none-some, same_Some, slice_get-get_or, slice_get_within, get_or_from_slice_get}
-use Rattle.place_words.specs.ElementLists.{one, times}
+use Rattle.map_types.specs.ElementLists.{one, times}
 use Rattle.place_core.specs.Totals.{sum_below}
 use Rattle.place_core.proofs.ElementLemmas.{by_test, times_append, times_cons_same}
 use Rattle.place_core.proofs.TotalLemmas.{sum_same}
@@ -52,11 +52,6 @@ filter_through test other (x ∷ xs) through =
     (λ fails is. rest ∙ by_bool (other x) (λ b. filter test (filter other xs) ≡ filter test (cond b (x ∷ filter other xs) (filter other xs)))
     (λ _. sym (ap (λ b. cond b (x ∷ filter test (filter other xs)) (filter test (filter other xs))) is)) (λ _. refl))
     refl
-
-pub filter_hold : {X : Type 0} (P : X → Type 0) (test : X → Bool) (xs : List X) → AllByRecursion P xs → AllByRecursion P (filter test xs)
-filter_hold P test [] all = tt
-filter_hold P test (x ∷ xs) all =
-    by_bool (test x) (λ b. AllByRecursion P (cond b (x ∷ filter test xs) (filter test xs))) (λ _. (all.0, filter_hold P test xs all.1)) (λ _. filter_hold P test xs all.1)
 
 -- What is made of the numbers below a bound
 

@@ -13,7 +13,6 @@ use Rattle.map_types.specs.declared.kind.MapKind.TheVariants.{Hash, PercpuHash, 
 use Rattle.map_types.specs.declared.reply.Reply.{Reply}
 use Rattle.map_types.specs.Stored.{Stored}
 use Rattle.map_script.specs.declared.script.Script.{Script}
-use Rattle.place_words.specs.declared.history.Entry.{Entry}
 use Rattle.place_words.specs.declared.history.Strand.{Strand}
 use Rattle.place_words.specs.declared.history.StrandStep.{StrandStep}
 use Rattle.place_words.specs.Locks.{is_lock, lock_number}
@@ -21,7 +20,7 @@ use Rattle.place_words.specs.Strands.{places_on}
 use Rattle.place_words.proofs.LockLemmas.{named_by_number}
 use Rattle.place_table.specs.Closing.{ClosedView, IsClosed, numbered}
 use Rattle.place_table.specs.Passes.{PassView, TableView, spare_of}
-use Rattle.place_table.specs.Rules.{turns_on, indexes}
+use Rattle.place_table.specs.Rules.{turns_on, indexes, StandIn}
 use Rattle.place_table.specs.Views.{all_strands}
 use Rattle.hash_ops.specs.Calls.{element_of}
 use Rattle.map_report.specs.declared.record.RunRecord.{RunRecord}
@@ -30,15 +29,18 @@ use Rattle.map_report.specs.Serial.{opening}
 use Rattle.map_report.specs.Turns.{spare_at}
 use Rattle.map_run.specs.Copies.{has_step, IsCopyOf}
 use Rattle.map_run.specs.Served.{is_built_kind, IsServedCall, IsServed}
-use Rattle.map_run.specs.Work.{replies_of, AreCallsBy, HaveRaced, strand_of_cpu, race_left, IsRaceRecord}
+use Rattle.map_run.specs.Work.{has_turn, replies_of, AreCallsBy, HaveRaced, strand_of_cpu, race_left, IsRaceRecord}
+use Rattle.map_run.proofs.CallTurns.{none_evicts}
 use Rattle.map_run.proofs.Closing.{IsReal}
+use Rattle.map_run.proofs.HistoryTurns.{by_bool}
 use Rattle.map_run.proofs.OpeningTurns.{no_opening_spares}
-use Rattle.map_run.proofs.RaceCalls.{StandsIn, calls_real, calls_spare, concatenation, each_call_answered}
+use Rattle.map_run.proofs.PlainFinals.{tells, holds}
+use Rattle.map_run.proofs.RaceCalls.{StandsThere, calls_real, calls_spare, concatenation, each_call_answered}
 use Rattle.map_run.proofs.RaceFinals.{spare_is, elements_left}
 use Rattle.map_run.proofs.RaceHistories.{entries_told, locks_are, are_legal, on_cpus, turns_stand, lies_at_end}
 use Rattle.map_run.proofs.RaceKept.{steps_of, places_of_steps, strand_by, steps_there, own_strands, with_steps, strands_by_cpu, kept_is}
-use Rattle.map_run.proofs.RaceLists.{filter_hold, made_at, one_passes}
-use Rattle.map_run.proofs.RaceStrands.{is_of, places_are, numbered_hold, owner, turns_of_cpu}
+use Rattle.map_run.proofs.RaceLists.{made_at, one_passes}
+use Rattle.map_run.proofs.RaceStrands.{worker, is_of, places_are, no_turn, worker_stands, owner, turns_of_cpu}
 use Rattle.map_run.proofs.SerialCalls.{element_is}
 use Rattle.map_run.proofs.Whole.{no_losses}
 
@@ -80,7 +82,7 @@ module _ (script : Script) (t : TableView) (p : PassView) (replies : List Reply)
   spareless : shape.kind ≢ Hash → (cpu : ℕ) → cpu < shape.cpus → spare_of cpu p.spares ≡ None
   spareless other cpu real =
       no_spare (spare_of cpu p.spares)
-      (calls_spare shape cpu script.calls replies 1 (spare_at (opening shape) cpu) (element_of (spare_of cpu p.spares)) (raced.steps cpu) raced.counted
+      (calls_spare shape (none_evicts shape.kind served.kind) cpu script.calls replies 1 (spare_at (opening shape) cpu) (element_of (spare_of cpu p.spares)) (raced.steps cpu) raced.counted calls_served
       (ap (λ (spares : List ℕ). slice_get spares cpu) (no_spares_of_kind shape shape.kind refl served.kind other)) (calls_of cpu real))
 
   last_is : (cpu : ℕ) → element_of (spare_of cpu p.spares) ≡ spare_at closed.finals cpu
@@ -125,13 +127,15 @@ module _ (script : Script) (t : TableView) (p : PassView) (replies : List Reply)
       ∙ places_are cpu 0 (ends.log k)
       ∙ ap (places_by (cpu ∷ []) 0) (sym (entries_told shape p closed ends whole lock there))
 
-  stand : (cpu : ℕ) → cpu < shape.cpus → AllByRecursion (StandsIn shape closed.histories) (raced.steps cpu)
-  stand cpu real =
-      turns_stand shape p closed ends whole (raced.steps cpu) (recursion_from_All (IsReal shape) (raced.steps cpu) (on_locks cpu real))
-      (λ k. subst (AllByRecursion (λ (turn : ℕ × Entry). slice_get (ends.log k) turn.0 ≡ Some turn.1)) (sym (turns_are k cpu real))
-      (filter_hold (λ (turn : ℕ × Entry). slice_get (ends.log k) turn.0 ≡ Some turn.1) (is_of cpu) (numbered 0 (ends.log k))
-      (numbered_hold (λ (turn : ℕ × Entry). slice_get (ends.log k) turn.0 ≡ Some turn.1) 0 (ends.log k)
-      (λ i place entry at is. ap (slice_get (ends.log k)) (let same : place ≡ i = omega arith in same) ∙ is))))
+  stand_in : (cpu : ℕ) → cpu < shape.cpus → StandIn ends.log (raced.steps cpu)
+  stand_in cpu real =
+      by_bool (has_turn (worker raced.steps raced.kept cpu)) (λ b. has_turn (worker raced.steps raced.kept cpu) ≡ b → StandIn ends.log (raced.steps cpu))
+      (λ _ some. let at = worker_stands shape.cpus raced.steps raced.kept (all_strands p.view) raced.strands cpu real some in ends.stand at.0 (worker raced.steps raced.kept cpu) at.1)
+      (λ _ none. subst (StandIn ends.log) (sym (no_turn (worker raced.steps raced.kept cpu) none).0) tt)
+      refl
+
+  stand : (cpu : ℕ) → cpu < shape.cpus → AllByRecursion (StandsThere shape closed.histories) (raced.steps cpu)
+  stand cpu real = turns_stand shape p closed ends whole (raced.steps cpu) (recursion_from_All (IsReal shape) (raced.steps cpu) (on_locks cpu real)) (stand_in cpu real)
 
   answered : EachAnswered shape script.calls replies
   answered = each_call_answered shape script.calls replies 1 (λ cpu. element_of (spare_of cpu p.spares)) raced.counted calls_served (λ cpu real. (spare_at (opening shape) cpu, raced.steps cpu, calls_of cpu real))
@@ -152,8 +156,8 @@ module _ (script : Script) (t : TableView) (p : PassView) (replies : List Reply)
     calls = each_strand (λ n strand. IsConcatenation shape closed.histories strand.cpus 1 script.calls replies (spare_at (opening shape)) (spare_at closed.finals) strand.steps)
         (λ cpu real. concatenation shape closed.histories cpu script.calls replies 1 (spare_at (opening shape)) (spare_at closed.finals) (spare_at (opening shape) cpu) (raced.steps cpu) raced.counted refl (stand cpu real) (ended cpu real));
     replies = answered;
-    contents = lies_at_end shape p closed ends whole served.bounds served.kind;
-    finals = elements_left shape p closed ends served.bounds served.kind raced.of_table.1 raced.all_cpus raced.in_no_call spareless;
+    contents = λ lock real. tells shape closed.finals lock _ served.bounds (none_evicts shape.kind served.kind) real (lies_at_end shape p closed ends whole served.bounds served.kind lock real);
+    finals = holds shape closed.finals (none_evicts shape.kind served.kind) (elements_left shape p closed ends served.bounds served.kind raced.of_table.1 raced.all_cpus raced.in_no_call spareless);
   }
 
   is_race_record : IsRaceRecord script left

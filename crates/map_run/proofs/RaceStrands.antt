@@ -1,7 +1,7 @@
 -- Which turns of a lock are whose, in the strands of a race: each CPU's strand has those of its entries.
 use Rattle.std.proofs.Common.{◌≡◌, ◌≢◌, ℕ, suc, ◌+◌, ◌<◌, ◌≤◌, Bool, true, false, not, ◌||◌, cond, eqb, List, [], ◌∷◌, length, map, Some, refl, ap, sym, ◌∙◌, ◌⊎◌, inl, inr, subst, arith}
 use Rattle.std.specs.Prelude.{filter, slice_get}
-use Rattle.std.specs.List.{AllByRecursion, range_with_len}
+use Rattle.std.specs.List.{range_with_len}
 use Rattle.std.proofs.lemmas.Bool.{cases_eq, ne_eqb, eq-eqb}
 use Rattle.std.proofs.lemmas.Option.{same_Some, slice_get_within}
 use Rattle.place_words.specs.declared.history.Entry.{Entry}
@@ -79,11 +79,6 @@ places_are cpu a (entry ∷ log) =
     by_bool (has_cpu entry.cpu (cpu ∷ []))
     (λ b. indexes (cond b ((a, entry) ∷ filter (is_of cpu) (numbered (suc a) log)) (filter (is_of cpu) (numbered (suc a) log))) ≡ cond b (a ∷ places_by (cpu ∷ []) (suc a) log) (places_by (cpu ∷ []) (suc a) log))
     (λ _. ap (λ places. a ∷ places) rest) (λ _. rest)
-
--- each entry stands at its place
-pub numbered_hold : (P : ℕ × Entry → Type 0) (a : ℕ) (log : List Entry) → ((i place : ℕ) (entry : Entry) → place ≡ a + i → slice_get log i ≡ Some entry → P (place, entry)) → AllByRecursion P (numbered a log)
-numbered_hold P a [] holds = tt
-numbered_hold P a (entry ∷ log) holds = (holds 0 a entry (omega arith) refl, numbered_hold P (suc a) log (λ i place other is found. holds (suc i) place other (omega arith) found))
 
 -- Strands without turns
 

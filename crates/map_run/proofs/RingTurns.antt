@@ -10,9 +10,9 @@ use Rattle.map_types.specs.declared.kind.DomainId.TheVariants.{Freelist}
 use Rattle.place_words.specs.declared.finals.Finals.{Finals}
 use Rattle.place_words.specs.declared.free_part.FreePart.TheVariants.{Popped, FoundEmpty}
 use Rattle.place_words.specs.declared.history.Part.TheVariants as parts
-use Rattle.place_words.specs.ElementLists.{IsHead}
+use Rattle.map_types.specs.ElementLists.{IsHead}
 use Rattle.place_words.specs.Freelists.{without_top}
-use Rattle.place_words.specs.Histories.{Content, in_bucket, on_freelist, untold, content_after}
+use Rattle.place_words.specs.Histories.{Content, in_bucket, on_freelist, in_locals, in_global, in_own, content_after}
 use Rattle.place_words.specs.Traces.{Pops, ring, on_freelist_of, found_empty, after_turn, after_turns, AreAllowed, spare_after}
 use Rattle.place_words.proofs.Splits.{find_passes, find_splits}
 use Rattle.map_report.specs.Freelists.{stack_at, first_not_empty, popped_at}
@@ -52,7 +52,9 @@ all_fail test (x ∷ xs) none = by (test x) refl none (all_fail test xs)
 empty_same : (shape : Shape) (cpu : ℕ) (content : Content) → content_after shape cpu (parts.Free FoundEmpty) content ≡ content
 empty_same shape cpu (in_bucket bodies) = refl
 empty_same shape cpu (on_freelist stack) = refl
-empty_same shape cpu untold = refl
+empty_same shape cpu (in_locals lists) = refl
+empty_same shape cpu (in_global set) = refl
+empty_same shape cpu (in_own set) = refl
 
 empty_stays : (shape : Shape) (cpu : ℕ) (contents : DomainId → Content) (owner : ℕ) → after_turn shape cpu contents (on_freelist_of owner FoundEmpty) ≡ contents
 empty_stays shape cpu contents owner =

@@ -13,13 +13,14 @@ use Rattle.map_types.specs.declared.kind.MapKind.TheVariants.{Hash, PercpuHash, 
 use Rattle.map_types.specs.declared.reply.Reply.{Reply}
 use Rattle.map_types.specs.Creation.{IsShape}
 use Rattle.map_types.specs.Shape.{HasBounds}
+use Rattle.map_types.specs.Kind.{is_lru}
 use Rattle.map_types.specs.Stored.{Stored}
 use Rattle.map_types.proofs.CreationLemmas.{bounds_of_shape}
 use Rattle.map_script.specs.declared.script.Script.{Script}
 use Rattle.place_words.specs.declared.finals.Finals.{Finals}
 use Rattle.place_words.specs.declared.history.Strand.{Strand}
 use Rattle.place_words.specs.declared.history.StrandStep.{StrandStep}
-use Rattle.place_words.specs.Traces.{IsTrace, spare_after}
+use Rattle.place_words.specs.Traces.{IsPlainTrace, spare_after}
 use Rattle.place_table.specs.declared.view.Turned.{Turned}
 use Rattle.place_table.specs.declared.view.View.{View}
 use Rattle.place_table.specs.Closing.{ClosedView, IsClosed}
@@ -30,18 +31,22 @@ use Rattle.place_table.specs.Views.{is_among}
 use Rattle.place_table.proofs.Gives.{first_has}
 use Rattle.place_table.proofs.Going.{goes_of_table, kept_on}
 use Rattle.hash_ops.specs.Calls.{Called, element_of, spare_element}
+use Rattle.hash_ops.proofs.Under.{plain_left}
 use Rattle.map_report.specs.declared.record.RunRecord.{RunRecord}
 use Rattle.map_run.specs.Going.{Going, HaveRun, IsBetweenCalls}
 use Rattle.map_run.specs.Copies.{has_step, IsCopyOf}
+use Rattle.map_report.specs.ListRuns.{serial_on_lists}
 use Rattle.map_report.specs.Runs.{serial}
 use Rattle.map_run.specs.Copies.{record_left, strand_left}
 use Rattle.map_report.specs.Serial.{opening, after_call, replies_from, lists_after}
 use Rattle.map_run.specs.Served.{is_built_kind, IsServed, IsServedCall}
 use Rattle.map_report.specs.Soundness.{IsSound}
 use Rattle.map_report.specs.Turns.{Happened, happened, call_turns, turns_from, histories_of_turns, steps_from, strand_of_turns}
-use Rattle.map_run.proofs.Closing.{left_by}
+use Rattle.map_run.proofs.Closing.{left_by, plain_kind}
+use Rattle.map_run.proofs.PlainCalls.{plain_call}
 use Rattle.map_run.proofs.OneCall.{going_on}
 use Rattle.map_run.proofs.OpeningTurns.{opening_lies, opening_spares_are, no_opening_spares}
+use Rattle.map_run.proofs.SameRecord.{one_record}
 use Rattle.map_run.proofs.SerialRun.{going_first, lists_next, replies_next, turns_next}
 use Rattle.map_run.proofs.SoundRun.{sound_from_opening}
 use Rattle.map_run.proofs.Whole.{strands_of, strands_are_told, told_of_one, no_losses}
@@ -120,13 +125,15 @@ module _ (t : TableView) (calls : List Call) (n : ℕ) (call : Call) (p q : Pass
       let begins : PassView = begun p call.cpu number in
       let steps : List Turned = called.steps in
       let left = none_lost none in
+      let plain : is_lru t.shape.kind ≡ false = plain_kind t.shape.kind built in
       let before : spare_element begins ≡ option_map (λ (body : Stored). body.element) (spare_of call.cpu p.spares) = element_is (spare_of call.cpu p.spares) in
       let after : spare_element q ≡ option_map (λ (body : Stored). body.element) (spare_of call.cpu q.spares) =
       element_is (spare_of q.cpu q.spares) ∙ ap (λ (cpu : ℕ). option_map (λ (body : Stored). body.element) (spare_of cpu q.spares)) called.leaves.made.goes.cpu in
       going_on t.shape lists turns begins q call.cpu number call.verb reply steps built (bounds_of_shape t.shape shape_is) sound own
       (going_begun t.shape lists turns p call.cpu number (run.going left.1)) called.leaves.made.goes.steps called.leaves.learns called.leaves.by_call
-      (subst (λ (spare : Option ℕ). IsTrace t.shape call.cpu spare call.verb (map (turn_of t.shape) steps) reply) before (called.trace left.0))
-      (sym after ∙ called.spare left.0 ∙ ap (λ (spare : Option ℕ). spare_after spare (map (turn_of t.shape) steps)) before)
+      (subst (λ (spare : Option ℕ). IsPlainTrace t.shape call.cpu spare call.verb (map (turn_of t.shape) steps) reply) before
+      (plain_call t.shape call.cpu (spare_element begins) steps reply plain call.verb own.verb (called.trace left.0)))
+      (sym after ∙ called.spare left.0 ∙ sym (plain_left t.shape (spare_element begins) steps plain) ∙ ap (λ (spare : Option ℕ). spare_after spare (map (turn_of t.shape) steps)) before)
       called.leaves.other_spares
 
   turns_are : turns ++ map (happened call.cpu number) (call_turns t.shape call.cpu call.verb lists) ≡ turns_from t.shape (opening t.shape) 1 (take (suc n) calls)
@@ -204,7 +211,7 @@ is_copy t shape calls p kept closed back replies same shape_is run ends is =
     subst (IsCopyOf kept) (sym is.1)
     (subst (λ (k : RunRecord). IsCopyOf k closed) (sym (is.0 ∙ ap (λ (s : Shape). record_left s.cpus replies closed) (sym same))) copy)
 
--- the record of these calls, as `serial` has it
+-- the record of these calls, as `serial_on_lists` has it
 abbrev ran : Shape → List Call → RunRecord
 ran shape calls =
     let turns : List Happened = turns_from shape (opening shape) 1 calls in
@@ -228,8 +235,9 @@ all_ran t calls p closed replies shape_is built served run ends whole =
 
 pub run_end : (script : Script) (t : TableView) (p : PassView) (closed : ClosedView) (replies : List Reply) → t.shape ≡ script.shape → IsShape t.shape → IsServed script
     → HaveRun t script.calls p replies → IsClosed t.shape p closed → closed.lost ≡ false → record_left script.shape.cpus replies closed ≡ serial script
-unfolding serial
+unfolding serial_on_lists
 run_end script t p closed replies same shape_is served run ends whole =
     subst (λ (shape : Shape). record_left shape.cpus replies closed ≡ ran shape script.calls) same
     (all_ran t script.calls p closed replies shape_is (subst (λ (shape : Shape). IsTrue (is_built_kind shape.kind)) (sym same) served.kind)
     (subst (λ (shape : Shape). All (IsServedCall shape) script.calls) (sym same) served.calls) run ends whole)
+    ∙ sym (one_record script served)

@@ -1,26 +1,27 @@
 -- The laws of a run in serial order.
-use Rattle.std.proofs.Common.{◌≡◌, ◌≢◌, ◌↔◌, ℕ, List, Option, Some, None, option_map, slice_get, All, refl, ap, sym, subst}
-use Rattle.std.specs.Prelude.{IsTrue}
+use Rattle.std.proofs.Common.{◌≡◌, ◌↔◌, ℕ, List, Option, Some, None, option_map, slice_get, refl, ap, sym, ◌∙◌, subst}
 use Rattle.map_types.specs.Stored.{Stored}
 use Rattle.map_types.specs.declared.attr.Shape.{Shape}
-use Rattle.map_types.specs.declared.kind.DomainId.{DomainId}
-use Rattle.map_types.specs.declared.refusal.Errno.TheVariants.{E2big, Enomem}
+use Rattle.map_types.specs.declared.refusal.Errno.TheVariants.{E2big}
 use Rattle.map_types.specs.declared.reply.Reply.{Reply}
 use Rattle.map_types.specs.declared.reply.Reply.TheVariants.{Refused}
 use Rattle.map_script.specs.declared.script.Script.{Script}
 use Rattle.place_words.specs.declared.finals.Finals.{Finals}
 use Rattle.place_words.specs.Bodies.{present}
-use Rattle.place_words.specs.Histories.{opening_content}
-use Rattle.place_words.specs.Locks.{is_lock}
+use Rattle.place_words.proofs.AlwaysGets.{created_always_gets}
+use Rattle.place_words.proofs.AlwaysRemoved.{always_removes}
 use Rattle.map_run.specs.Entries.{Entry, entry_of}
 use Rattle.map_run.specs.Laws.{lists_before, entries_before, Sees, FindsNoRoom, SerialLaws}
-use Rattle.map_report.specs.Serial.{opening, bucket_at}
-use Rattle.map_run.specs.Served.{IsServed}
-use Rattle.map_report.specs.Turns.{lies}
-use Rattle.map_run.proofs.RecordLaws.{calls_served, plain_replies, serial_is_record}
+use Rattle.map_report.specs.declared.record.RunRecord.{RunRecord}
+use Rattle.map_report.specs.Serial.{bucket_at}
+use Rattle.map_run.specs.Served.{IsScript, IsServed}
+use Rattle.map_run.proofs.AnyRecord.{any_is_record}
+use Rattle.map_run.proofs.ListCalls.{calls_served, plain_replies}
+use Rattle.map_run.proofs.ServedLemmas.{well_formed}
+use Rattle.map_run.proofs.SameRecord.{one_record}
 use Rattle.map_run.proofs.SoundRun.{sound_run}
 use Rattle.map_run.proofs.StayLaws.{finals_are, lookups_stay, refusals_stay}
-use Rattle.map_run.proofs.AnswerLaws.{too_big, never_enomem}
+use Rattle.map_run.proofs.AnswerLaws.{too_big}
 use Rattle.map_run.proofs.EachOnceRun.{each_once_run}
 use Rattle.map_run.proofs.EntryRun.{agrees_run}
 use Rattle.map_run.proofs.EntrySteps.{Agrees, Have, look_ups, entry_hits}
@@ -50,21 +51,25 @@ seen_run script served n =
 
 -- All laws
 
--- What lies under the locks of the new map is what their histories open with.
-pub serial_laws : (script : Script) → IsServed script
-    → ((lock : DomainId) → IsTrue (is_lock script.shape lock) → lies (opening script.shape) lock ≡ opening_content script.shape lock) → SerialLaws script
-serial_laws script served opens =
-    let plain = plain_replies script served in
+pub serial_laws : (script : Script) → IsScript script → IsServed script → SerialLaws script
+serial_laws script is served =
+    let created = (well_formed script is).shape in
+    let same = one_record script served in
+    let plain = ap (λ (kept : RunRecord). kept.replies) same ∙ plain_replies script served in
     record {
-      is_record = serial_is_record script served opens;
-      sound = sound_run script served;
-      finals = finals_are script;
-      lookups_stay = lookups_stay script;
-      refusals_stay = refusals_stay script;
-      plain = plain;
-      seen = seen_run script served;
-      too_big = λ n call at.
-          subst (λ (replies : List Reply). (slice_get replies n ≡ Some (Refused E2big)) ↔ FindsNoRoom script.shape (entries_before script n) call.verb) (sym plain)
-          (too_big script.shape script.calls n call (calls_served script served) at);
-      never_enomem = subst (All (λ (reply : Reply). reply ≢ Refused Enomem)) (sym plain) (never_enomem script.shape script.calls (calls_served script served));
+      is_record = any_is_record script is;
+      always_gets = created_always_gets script.shape created script.calls (λ k d below. (served.calls k d below).cpu);
+      always_removes = always_removes script.shape script.calls;
+      plain = λ kind keys. record {
+        on_lists = same;
+        sound = sound_run script served;
+        finals = ap (λ (kept : RunRecord). kept.finals) same ∙ finals_are script;
+        lookups_stay = lookups_stay script;
+        refusals_stay = λ n errno is. refusals_stay script n errno (ap (λ (kept : RunRecord). slice_get kept.replies n) (sym same) ∙ is);
+        plain = plain;
+        seen = seen_run script served;
+        too_big = λ n call at.
+            subst (λ (replies : List Reply). (slice_get replies n ≡ Some (Refused E2big)) ↔ FindsNoRoom script.shape (entries_before script n) call.verb) (sym plain)
+            (too_big script.shape script.calls n call (calls_served script served) at);
+      };
     }

@@ -16,13 +16,13 @@ use Rattle.place_words.specs.declared.finals.Finals.{Finals}
 use Rattle.place_words.specs.Histories.{content, opening_content, replayed}
 use Rattle.place_words.specs.Locks.{is_lock, lock_count, lock_named}
 use Rattle.place_words.specs.Openings.{opening_spares}
-use Rattle.place_words.proofs.RowLemmas.{by_test}
+use Rattle.map_types.proofs.RowLemmas.{by_test}
 use Rattle.place_table.specs.declared.view.InHand.{InHand}
 use Rattle.place_table.specs.declared.view.Turned.{Turned}
 use Rattle.place_table.specs.declared.view.View.{View}
 use Rattle.place_table.specs.Opening.{first_spares}
 use Rattle.place_table.specs.Passes.{PassView, TableView, spare_of, IsFirstPass}
-use Rattle.place_table.specs.Views.{is_among, is_in_hand_of, known_log, numbers_below, no_turns, spares_from, has_all, kept_step}
+use Rattle.place_table.specs.Views.{is_among, is_in_hand_of, known_log, numbers_below, no_turns, spares_from, has_all, place_of, kept_step}
 use Rattle.place_table.proofs.FirstSpares.{hand_is_spares, spare_in_hand}
 use Rattle.place_table.proofs.Opens.{among}
 use Rattle.place_table.proofs.Worlds.{all_here}
@@ -139,6 +139,6 @@ going_first t p first opens spares_open =
       entries = λ lock real. refl;
       contents = λ lock real. nothing_yet t.shape lock ∙ sym (opens lock real);
       spares = λ cpu. spare_first t p first cpu (spare_of cpu p.spares) refl ∙ ap (λ (spares : List ℕ). slice_get spares cpu) (sym spares_open);
-      steps = ap (map (λ (step : Turned). kept_step t.shape step.lock step.index)) none;
+      steps = ap (map (λ (step : Turned). kept_step t.shape step.lock (place_of step))) none;
       real = subst (All (λ (step : Turned). (step.lock < lock_count t.shape) × IsTrue (is_lock t.shape (lock_named t.shape step.lock)))) (sym none) (All-nil _);
     }

@@ -19,7 +19,7 @@ use Rattle.place_words.specs.Bodies.{present}
 use Rattle.map_report.specs.Freelists.{popped}
 use Rattle.map_run.specs.Laws.{IsLookup, lists_before}
 use Rattle.map_report.specs.Serial.{opening, bucket_at, value_or_absent, added, updated, deleted, after_call, replies_from, lists_after}
-use Rattle.map_report.specs.Runs.{serial}
+use Rattle.map_report.specs.ListRuns.{serial_on_lists}
 
 -- a call that is refused leaves the lists
 abbrev Stays : Errno → Finals → Finals × Reply → Type 0
@@ -85,11 +85,11 @@ pub lookups_stay : (script : Script) (n : ℕ) (call : Call) → slice_get scrip
 lookups_stay script n call is lookup =
     rw add-one (next_lists script.shape script.calls n call (opening script.shape) is ∙ lookup_stays script.shape call.cpu call.verb (lists_before script n) lookup)
 
-replies_are : (script : Script) → (serial script).replies ≡ replies_from script.shape (opening script.shape) script.calls
-unfolding serial
+replies_are : (script : Script) → (serial_on_lists script).replies ≡ replies_from script.shape (opening script.shape) script.calls
+unfolding serial_on_lists
 replies_are script = refl
 
-pub refusals_stay : (script : Script) (n : ℕ) (errno : Errno) → slice_get (serial script).replies n ≡ Some (Refused errno) → lists_before script (n + 1) ≡ lists_before script n
+pub refusals_stay : (script : Script) (n : ℕ) (errno : Errno) → slice_get (serial_on_lists script).replies n ≡ Some (Refused errno) → lists_before script (n + 1) ≡ lists_before script n
 refusals_stay script n errno is =
     let at = reply_at script.shape script.calls n (Refused errno) (opening script.shape) (ap (λ (replies : List Reply). slice_get replies n) (sym (replies_are script)) ∙ is) in
     rw add-one (next_lists script.shape script.calls n at.0 (opening script.shape) at.1 ∙ refused_stays errno script.shape at.0.cpu at.0.verb (lists_before script n) at.2)
@@ -99,6 +99,6 @@ take_whole : {A : Type 0} (xs : List A) → take (length xs) xs ≡ xs
 take_whole [] = refl
 take_whole (x ∷ xs) = ap (λ rest. x ∷ rest) (take_whole xs)
 
-pub finals_are : (script : Script) → (serial script).finals ≡ lists_before script (length script.calls)
-unfolding serial
+pub finals_are : (script : Script) → (serial_on_lists script).finals ≡ lists_before script (length script.calls)
+unfolding serial_on_lists
 finals_are script = ap (λ (calls : List Call). lists_after script.shape (opening script.shape) calls) (sym (take_whole script.calls))

@@ -24,8 +24,8 @@ use Rattle.place_words.specs.declared.free_part.FreePart.TheVariants.{Popped, Fo
 use Rattle.place_words.specs.declared.history.Part.TheVariants as parts
 use Rattle.place_words.specs.Bodies.{present}
 use Rattle.place_words.specs.Buckets.{AllowsPut, AllowsInBucket, Reads}
-use Rattle.place_words.specs.Histories.{Content, in_bucket, on_freelist, untold, Allows}
-use Rattle.place_words.specs.Traces.{Turn, bucket_of_key, ring, on_bucket_of, on_freelist_of, found_empty, Pops, pushes, reply_of_got, IsLookupTrace, LooksFor, reply_of_put, IsPutTrace, IsUpdateTrace, reply_of_gone, IsDeleteTrace, element_gone, IsTakeTrace, IsTrace, after_turns, AreAllowed}
+use Rattle.place_words.specs.Histories.{Content, in_bucket, on_freelist, in_locals, in_global, in_own, Allows}
+use Rattle.place_words.specs.Traces.{Turn, bucket_of_key, ring, on_bucket_of, on_freelist_of, found_empty, Pops, pushes, reply_of_got, IsLookupTrace, LooksFor, reply_of_put, IsPutTrace, IsUpdateTrace, reply_of_gone, IsDeleteTrace, element_gone, IsTakeTrace, IsPlainTrace, after_turns, AreAllowed}
 use Rattle.place_words.proofs.Splits.{there}
 use Rattle.map_run.proofs.TurnLemmas.{allowed_both, after_both, after_empty, after_empty_one}
 
@@ -35,7 +35,9 @@ use Rattle.map_run.proofs.TurnLemmas.{allowed_both, after_both, after_empty, aft
 abbrev bodies_in : Content → List Stored
 bodies_in (in_bucket bodies) = bodies
 bodies_in (on_freelist stack) = []
-bodies_in untold = []
+bodies_in (in_locals lists) = []
+bodies_in (in_global set) = []
+bodies_in (in_own set) = []
 
 -- the element of a key, of what lies under the locks
 abbrev found_in : Shape → (DomainId → Content) → List ℕ → Option Stored
@@ -44,7 +46,9 @@ found_in shape contents key = present key (bodies_in (contents (Bucket (bucket_o
 allowed_there : (shape : Shape) (cpu : ℕ) (part : BucketPart) (content : Content) → Allows shape cpu (parts.Bucket part) content → AllowsInBucket shape cpu part (bodies_in content)
 allowed_there shape cpu part (in_bucket bodies) allowed = allowed
 allowed_there shape cpu part (on_freelist stack) allowed = absurd allowed
-allowed_there shape cpu part untold allowed = absurd allowed
+allowed_there shape cpu part (in_locals lists) allowed = absurd allowed
+allowed_there shape cpu part (in_global set) allowed = absurd allowed
+allowed_there shape cpu part (in_own set) allowed = absurd allowed
 
 -- Lookups
 
@@ -97,18 +101,24 @@ abbrev top_of : Content → Option ℕ
 top_of (on_freelist []) = None
 top_of (on_freelist (top ∷ stack)) = Some top
 top_of (in_bucket bodies) = None
-top_of untold = None
+top_of (in_locals lists) = None
+top_of (in_global set) = None
+top_of (in_own set) = None
 
 found_none : (shape : Shape) (cpu : ℕ) (content : Content) → Allows shape cpu (parts.Free FoundEmpty) content → top_of content ≡ None
 found_none shape cpu (in_bucket bodies) allowed = absurd allowed
 found_none shape cpu (on_freelist stack) allowed = ap (λ (now : List ℕ). top_of (on_freelist now)) allowed
-found_none shape cpu untold allowed = absurd allowed
+found_none shape cpu (in_locals lists) allowed = absurd allowed
+found_none shape cpu (in_global set) allowed = absurd allowed
+found_none shape cpu (in_own set) allowed = absurd allowed
 
 found_top : (shape : Shape) (cpu e : ℕ) (content : Content) → Allows shape cpu (parts.Free (Popped e)) content → top_of content ≡ Some e
 found_top shape cpu e (in_bucket bodies) allowed = absurd allowed
 found_top shape cpu e (on_freelist []) allowed = absurd allowed
 found_top shape cpu e (on_freelist (top ∷ stack)) allowed = ap Some allowed
-found_top shape cpu e untold allowed = absurd allowed
+found_top shape cpu e (in_locals lists) allowed = absurd allowed
+found_top shape cpu e (in_global set) allowed = absurd allowed
+found_top shape cpu e (in_own set) allowed = absurd allowed
 
 -- a look at freelists in their order: its turns, and what the bucket's turn then puts
 abbrev look_on : ℕ → Option ℕ → List Turn × Put → List Turn × Put
@@ -289,7 +299,7 @@ update_is shape cpu spare side flags key value contents turns reply (inr looked)
 
 -- a call's turns that are allowed, and its reply, are these
 pub trace_is : (shape : Shape) (cpu : ℕ) (spare : Option ℕ) (verb : Verb) (contents : DomainId → Content) (turns : List Turn) (reply : Reply)
-    → IsTrace shape cpu spare verb turns reply → AreAllowed shape cpu contents turns → (turns, reply) ≡ trace_of shape cpu spare contents verb
+    → IsPlainTrace shape cpu spare verb turns reply → AreAllowed shape cpu contents turns → (turns, reply) ≡ trace_of shape cpu spare contents verb
 trace_is shape cpu spare (verbs.Lookup side key) contents turns reply trace allowed = lookup_is shape cpu spare side key contents turns reply trace allowed
 trace_is shape cpu spare (verbs.Update side flags key value) contents turns reply trace allowed = update_is shape cpu spare side flags key value contents turns reply trace allowed
 trace_is shape cpu spare (verbs.Delete key) contents turns reply trace allowed = delete_is shape cpu spare key contents turns reply trace allowed
@@ -302,8 +312,8 @@ trace_is shape cpu spare (verbs.BatchDelete flags keys) contents turns reply tra
 -- so two such calls have the same turns and the same reply
 pub one_trace : (shape : Shape) (cpu : ℕ) (spare : Option ℕ) (verb : Verb) (contents : DomainId → Content) (first second : List Turn) (a b : Reply)
     → is_lru shape.kind ≡ false
-    → IsTrace shape cpu spare verb first a → AreAllowed shape cpu contents first
-    → IsTrace shape cpu spare verb second b → AreAllowed shape cpu contents second
+    → IsPlainTrace shape cpu spare verb first a → AreAllowed shape cpu contents first
+    → IsPlainTrace shape cpu spare verb second b → AreAllowed shape cpu contents second
     → (first ≡ second) × (a ≡ b)
 one_trace shape cpu spare verb contents first second a b kind trace allowed other also =
     let same : (first, a) ≡ (second, b) = trace_is shape cpu spare verb contents first a trace allowed ∙ sym (trace_is shape cpu spare verb contents second b other also) in

@@ -1,12 +1,12 @@
 -- Rows of turns: parts of a row, contents that are alike, and freelists that are found empty.
-use Rattle.std.proofs.Common.{◌≡◌, ℕ, Bool, true, false, cond, List, [], ◌∷◌, ◌++◌, refl, ap, ◌∙◌}
+use Rattle.std.proofs.Common.{◌≡◌, ℕ, Bool, true, false, cond, List, [], ◌∷◌, ◌++◌, refl, ap, ◌∙◌, subst}
 use Rattle.std.proofs.Math.Path.{fun_ext}
 use Rattle.map_types.specs.declared.attr.Shape.{Shape}
 use Rattle.map_types.specs.declared.kind.DomainId.{DomainId}
 use Rattle.map_types.specs.declared.kind.DomainId.TheVariants.{Freelist}
 use Rattle.place_words.specs.declared.free_part.FreePart.TheVariants.{FoundEmpty}
 use Rattle.place_words.specs.declared.history.Part.TheVariants as parts
-use Rattle.place_words.specs.Histories.{Content, in_bucket, on_freelist, untold, content_after}
+use Rattle.place_words.specs.Histories.{Content, in_bucket, on_freelist, in_locals, in_global, in_own, content_after}
 use Rattle.place_words.specs.Locks.{is_same_lock}
 use Rattle.place_words.specs.Traces.{Turn, on_freelist_of, found_empty, after_turn, after_turns, AreAllowed}
 
@@ -34,7 +34,9 @@ after_both shape cpu contents (turn ∷ first) second = after_both shape cpu (af
 empty_leaves : (shape : Shape) (cpu : ℕ) (content : Content) → content_after shape cpu (parts.Free FoundEmpty) content ≡ content
 empty_leaves shape cpu (in_bucket bodies) = refl
 empty_leaves shape cpu (on_freelist stack) = refl
-empty_leaves shape cpu untold = refl
+empty_leaves shape cpu (in_locals lists) = refl
+empty_leaves shape cpu (in_global set) = refl
+empty_leaves shape cpu (in_own set) = refl
 
 either_same : (b : Bool) (x y : Content) → x ≡ y → cond b x y ≡ y
 either_same true x y same = same

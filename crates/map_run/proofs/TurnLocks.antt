@@ -20,7 +20,7 @@ use Rattle.place_words.specs.declared.bucket_part.Put.TheVariants as puts
 use Rattle.place_words.specs.declared.free_part.FreePart.{FreePart}
 use Rattle.place_words.specs.declared.free_part.FreePart.TheVariants.{Pushed, Popped, FoundEmpty}
 use Rattle.place_words.specs.Locks.{is_lock}
-use Rattle.place_words.specs.Traces.{Turn, bucket_of_key, ring, on_bucket_of, on_freelist_of, found_empty, Pops, pushes, LooksFor, IsTrace, element_gone}
+use Rattle.place_words.specs.Traces.{Turn, bucket_of_key, ring, on_bucket_of, on_freelist_of, found_empty, Pops, pushes, LooksFor, IsPlainTrace, element_gone}
 use Rattle.map_run.specs.Served.{is_built_kind}
 
 -- Facts of each of a list
@@ -95,7 +95,7 @@ module _ (shape : Shape) (bounds : HasBounds shape) (built : IsTrue (is_built_ki
   looks_real cpu spare puts.Full looks within looked = subst (OnLocks shape) (sym looked) (empties_real (ring cpu shape.cpus) (ring_below cpu shape.cpus within))
 
   -- The turns of a call on one of the map's CPUs.
-  pub trace_real : (cpu : ℕ) (spare : Option ℕ) (verb : Verb) (turns : List Turn) (reply : Reply) → cpu < shape.cpus → IsTrace shape cpu spare verb turns reply → OnLocks shape turns
+  pub trace_real : (cpu : ℕ) (spare : Option ℕ) (verb : Verb) (turns : List Turn) (reply : Reply) → cpu < shape.cpus → IsPlainTrace shape cpu spare verb turns reply → OnLocks shape turns
   trace_real cpu spare (verbs.Lookup side key) turns reply within trace = last_real turns [] key (Lookup side key trace.got) trace.turns_are tt
   trace_real cpu spare (verbs.Update side flags key value) turns reply within trace =
       ⊎_elim (λ refused. subst (OnLocks shape) (sym refused.1) tt)

@@ -16,7 +16,7 @@ use Rattle.place_words.specs.Histories.{Content, in_bucket, on_freelist, content
 use Rattle.place_words.specs.Locks.{is_same_lock}
 use Rattle.place_words.specs.Traces.{Turn, on_bucket_of, on_freelist_of, after_turn, after_turns, AreAllowed, spare_after_part, spare_after}
 use Rattle.place_words.proofs.LockLemmas.{one_lock}
-use Rattle.place_words.proofs.RowLemmas.{by_test}
+use Rattle.map_types.proofs.RowLemmas.{by_test}
 use Rattle.map_report.specs.Buckets.{bucket_of_key}
 use Rattle.map_report.specs.Freelists.{stack_at}
 use Rattle.map_report.specs.Serial.{bucket_at, with_bucket}

@@ -13,11 +13,11 @@ use Rattle.map_types.specs.Creation.{IsShape}
 use Rattle.map_types.specs.Shape.{HasBounds}
 use Rattle.map_types.specs.Stored.{Stored}
 use Rattle.map_types.proofs.CreationLemmas.{bounds_of_shape}
-use Rattle.place_words.specs.Traces.{spare_after}
+use Rattle.place_words.specs.Walks.{spare_left}
 use Rattle.place_core.proofs.ElementLemmas.{by_test}
 use Rattle.place_table.specs.declared.view.Turned.{Turned}
 use Rattle.place_table.specs.declared.view.View.{View}
-use Rattle.place_table.specs.Known.{turn_of}
+use Rattle.place_table.specs.Known.{turn_at}
 use Rattle.place_table.specs.Opening.{first_spares}
 use Rattle.place_table.specs.Passes.{PassView, TableView, spare_of, begun, IsFirstPass, IsKeptOf, Split}
 use Rattle.place_table.specs.Views.{is_among, all_strands, without_cpu}
@@ -158,13 +158,13 @@ abbrev Begins : Shape → ℕ → ℕ → Call → List Call → Option ℕ → 
 Begins shape cpu number call calls spare last replies steps =
     (mine : List Turned) × (rest : List Turned) × (reply : Reply) × (more : List Reply) × (steps ≡ mine ++ rest) × (replies ≡ reply ∷ more)
     × IsCallBy shape number call spare reply mine
-    × AreCallsBy shape cpu (suc number) calls (spare_after spare (map (turn_of shape) mine)) last more rest
+    × AreCallsBy shape cpu (suc number) calls (spare_left shape spare (map (turn_at shape) mine)) last more rest
 
 own_more : (shape : Shape) (cpu number place : ℕ) (calls : List Call) (call : Call) (spare before : Option ℕ) (replies : List Reply) (reply : Reply) (steps mine : List Turned)
     → AreCallsBy shape cpu number calls spare before replies steps → call.cpu ≡ cpu → place ≡ number + length calls → IsCallBy shape place call before reply mine
-    → AreCallsBy shape cpu number (calls ++ call ∷ []) spare (spare_after before (map (turn_of shape) mine)) (replies ++ reply ∷ []) (steps ++ mine)
+    → AreCallsBy shape cpu number (calls ++ call ∷ []) spare (spare_left shape before (map (turn_at shape) mine)) (replies ++ reply ∷ []) (steps ++ mine)
 own_more shape cpu number place [] call spare before replies reply steps mine are own at by =
-    let last = spare_after before (map (turn_of shape) mine) in
+    let last = spare_left shape before (map (turn_at shape) mine) in
     let is_call : IsCallBy shape number call spare reply mine =
     subst (λ (z : ℕ × Option ℕ). IsCallBy shape z.0 call z.1 reply mine) (λ i. ((let same : place ≡ number = omega arith in same) i, are.2 i)) by in
     by_test call.cpu cpu (λ b. MatchBool b (Begins shape cpu number call [] spare last (replies ++ reply ∷ []) (steps ++ mine)) (AreCallsBy shape cpu (suc number) [] spare last (replies ++ reply ∷ []) (steps ++ mine)))
@@ -176,11 +176,11 @@ own_more shape cpu number place [] call spare before replies reply steps mine ar
       ap (λ (l : List Turned). l ++ mine) are.1 ∙ sym (append-nil mine),
       ap (λ (l : List Reply). l ++ reply ∷ []) are.0,
       is_call,
-      (refl, refl, ap (λ (s : Option ℕ). spare_after s (map (turn_of shape) mine)) are.2),
+      (refl, refl, ap (λ (s : Option ℕ). spare_left shape s (map (turn_at shape) mine)) are.2),
     ))
     (λ other. absurd (other own))
 own_more shape cpu number place (x ∷ calls) call spare before replies reply steps mine are own at by =
-    let last = spare_after before (map (turn_of shape) mine) in
+    let last = spare_left shape before (map (turn_at shape) mine) in
     by_test x.cpu cpu
     (λ b. MatchBool b (Begins shape cpu number x calls spare before replies steps) (AreCallsBy shape cpu (suc number) calls spare before replies steps)
     → MatchBool b (Begins shape cpu number x (calls ++ call ∷ []) spare last (replies ++ reply ∷ []) (steps ++ mine)) (AreCallsBy shape cpu (suc number) (calls ++ call ∷ []) spare last (replies ++ reply ∷ []) (steps ++ mine)))
@@ -192,7 +192,7 @@ own_more shape cpu number place (x ∷ calls) call spare before replies reply st
       ap (λ (l : List Turned). l ++ mine) y.4 ∙ append_assoc y.0 y.1 mine,
       ap (λ (l : List Reply). l ++ reply ∷ []) y.5,
       y.6,
-      own_more shape cpu (suc number) place calls call (spare_after spare (map (turn_of shape) y.0)) before y.3 reply y.1 mine y.7 own (omega arith) by,
+      own_more shape cpu (suc number) place calls call (spare_left shape spare (map (turn_at shape) y.0)) before y.3 reply y.1 mine y.7 own (omega arith) by,
     ))
     (λ _ y. own_more shape cpu (suc number) place calls call spare before replies reply steps mine y own (omega arith) by)
     are
@@ -206,7 +206,7 @@ other_more shape cpu number (x ∷ calls) call spare last replies steps are othe
     by_test x.cpu cpu
     (λ b. MatchBool b (Begins shape cpu number x calls spare last replies steps) (AreCallsBy shape cpu (suc number) calls spare last replies steps)
     → MatchBool b (Begins shape cpu number x (calls ++ call ∷ []) spare last replies steps) (AreCallsBy shape cpu (suc number) (calls ++ call ∷ []) spare last replies steps))
-    (λ _ y. (y.0, y.1, y.2, y.3, y.4, y.5, y.6, other_more shape cpu (suc number) calls call (spare_after spare (map (turn_of shape) y.0)) last y.3 y.1 y.7 other))
+    (λ _ y. (y.0, y.1, y.2, y.3, y.4, y.5, y.6, other_more shape cpu (suc number) calls call (spare_left shape spare (map (turn_at shape) y.0)) last y.3 y.1 y.7 other))
     (λ _ y. other_more shape cpu (suc number) calls call spare last replies steps y other)
     are
 
@@ -240,7 +240,7 @@ module _ (t : TableView) (calls : List Call) (call : Call) (p q : PassView) (num
       → AreCallsBy t.shape call.cpu 1 (calls ++ call ∷ []) (spare_at (opening t.shape) call.cpu) (element_of (spare_of call.cpu q.spares)) (replies ++ reply ∷ []) (p.view.steps ++ called.steps)
   calls_more none =
       let left = none_lost called.lost p.view.lost (sym called.leaves.made.goes.lost_is ∙ none) in
-      let last_is : spare_after (element_of (spare_of call.cpu p.spares)) (map (turn_of t.shape) called.steps) ≡ element_of (spare_of call.cpu q.spares) =
+      let last_is : spare_left t.shape (element_of (spare_of call.cpu p.spares)) (map (turn_at t.shape) called.steps) ≡ element_of (spare_of call.cpu q.spares) =
       sym (called.spare left.0) ∙ ap (λ (c : ℕ). element_of (spare_of c q.spares)) called.leaves.made.goes.cpu in
       subst
       (λ (last : Option ℕ). AreCallsBy t.shape call.cpu 1 (calls ++ call ∷ []) (spare_at (opening t.shape) call.cpu) last (replies ++ reply ∷ []) (p.view.steps ++ called.steps))

@@ -96,9 +96,9 @@ pub record IsInput (before after : Option (List ℕ)) (input : List ℕ) : Type 
   pub all : TakesAll before after input
   pub short : length input ≤ 16777216
 
--- What is kept of a script that ran in a mode. In serial order it is that of the calls one after another on plain lists, and
--- the laws of such runs hold. In a race it is a record of the script with a strand for each CPU, in whatever order the CPUs'
--- steps fell.
+-- What is kept of a script that ran in a mode. In serial order it is that of the calls one after another, by the logs of the
+-- locks, and the laws of such runs hold. In a race it is a record of the script with a strand for each CPU, in whatever order
+-- the CPUs' steps fell.
 abbrev pub RanAs : Mode → Script → RunRecord → Type 0
 RanAs Serial script kept = (kept ≡ serial script) × SerialLaws script
 RanAs Race script kept = IsRaceRecord script kept

@@ -12,7 +12,7 @@ use Rattle.place_words.specs.Locks.{is_lock, lock_count, lock_named, lock_number
 use Rattle.place_table.specs.declared.view.Turned.{Turned}
 use Rattle.place_table.specs.Known.{KnowsAll}
 use Rattle.place_table.specs.Passes.{PassView, TableView, spare_of, IsInNoCall, IsKeptOf, IsPassOf}
-use Rattle.place_table.specs.Views.{is_among, kept_step, no_bits}
+use Rattle.place_table.specs.Views.{is_among, place_of, kept_step, no_bits}
 use Rattle.map_report.specs.Serial.{opening, lists_after, replies_from}
 use Rattle.map_report.specs.Turns.{Happened, lies, spare_at, turns_from, entries_on, steps_from}
 
@@ -23,7 +23,7 @@ pub record Going (shape : Shape) (lists : Finals) (turns : List Happened) (p : P
   pub entries : (lock : DomainId) → IsTrue (is_lock shape lock) → logs (lock_number shape lock) ≡ entries_on lock turns
   pub contents : (lock : DomainId) → IsTrue (is_lock shape lock) → content shape lock (entries_on lock turns) ≡ lies lists lock
   pub spares : (cpu : ℕ) → option_map (λ (body : Stored). body.element) (spare_of cpu p.spares) ≡ spare_at lists cpu
-  pub steps : map (λ (step : Turned). kept_step shape step.lock step.index) p.view.steps ≡ steps_from [] turns
+  pub steps : map (λ (step : Turned). kept_step shape step.lock (place_of step)) p.view.steps ≡ steps_from [] turns
   pub real : All (λ (step : Turned). (step.lock < lock_count shape) × IsTrue (is_lock shape (lock_named shape step.lock))) p.view.steps
 
 -- A pass of the table between two calls of such a run: it has all CPUs, is in no call, and knows of no bit that is set; it has

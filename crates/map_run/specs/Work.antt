@@ -7,11 +7,12 @@ use Rattle.map_types.specs.declared.reply.Reply.{Reply}
 use Rattle.map_script.specs.declared.script.Script.{Script}
 use Rattle.place_words.specs.declared.history.Strand.{Strand}
 use Rattle.place_words.specs.declared.history.StrandStep.{StrandStep}
-use Rattle.place_words.specs.Traces.{IsTrace, spare_after}
+use Rattle.place_words.specs.Traces.{IsTrace}
+use Rattle.place_words.specs.Walks.{spare_left}
 use Rattle.place_table.specs.declared.view.Turned.{Turned}
 use Rattle.place_table.specs.declared.view.Ended.{Ended}
 use Rattle.place_table.specs.Closing.{ClosedView}
-use Rattle.place_table.specs.Known.{turn_of, IsBy}
+use Rattle.place_table.specs.Known.{turn_at, IsBy}
 use Rattle.place_table.specs.Passes.{TableView, PassView, IsPassOf, IsInNoCall, IsKeptOf, spare_of}
 use Rattle.place_table.specs.Views.{is_among, all_strands}
 use Rattle.hash_ops.specs.Calls.{element_of}
@@ -27,10 +28,11 @@ replies_of cpu (call ∷ calls) [] = []
 replies_of cpu (call ∷ calls) (reply ∷ replies) =
     if call.cpu == cpu then reply ∷ replies_of cpu calls replies else replies_of cpu calls replies
 
--- A call of this number: its turns were made by its CPU in it, and are a trace of it with the reply, by the spare that its CPU had.
+-- A call of this number: its turns were made by its CPU in it, and each after the turns of its lock before it they are a trace
+-- of it with the reply, by the spare that its CPU had.
 pub record IsCallBy (shape : Shape) (number : ℕ) (call : Call) (spare : Option ℕ) (reply : Reply) (steps : List Turned) : Type 0 where
   pub by_call : All (IsBy call.cpu number) steps
-  pub trace : IsTrace shape call.cpu spare call.verb (map (turn_of shape) steps) reply
+  pub trace : IsTrace shape call.cpu spare call.verb (map (turn_at shape) steps) reply
   pub answers : MayAnswer shape call.verb reply
 
 -- The calls of one CPU among these, in their order. They have numbers from the first one's on.
@@ -40,7 +42,7 @@ AreCallsBy shape cpu number (call ∷ calls) spare last replies steps =
     MatchBool (call.cpu == cpu)
     ((mine : List Turned) × (rest : List Turned) × (reply : Reply) × (more : List Reply) × (steps ≡ mine ++ rest) × (replies ≡ reply ∷ more)
     × IsCallBy shape number call spare reply mine
-    × AreCallsBy shape cpu (suc number) calls (spare_after spare (map (turn_of shape) mine)) last more rest)
+    × AreCallsBy shape cpu (suc number) calls (spare_left shape spare (map (turn_at shape) mine)) last more rest)
     (AreCallsBy shape cpu (suc number) calls spare last replies steps)
 
 -- how many of the calls are a CPU's

@@ -56,7 +56,7 @@ fn run_in<R: Threads + Wait + Sync, G: Gate>(
     ensures closed { IfOk result (λ kept. IsCopyOf kept.0 kept.1) }
 {
     match mode {
-        Mode::Serial => run_serial(rt, alloc, script),
+        Mode::Serial => run_serial(rt, alloc, script, gate),
         Mode::Race => run_race(rt, alloc, script, gate),
     }
 }
@@ -265,9 +265,10 @@ fn end_with_source<R: Threads + Wait + Sync, S: Source, K: Sink, G: Gate>(
 /// The words are the program's name, which is not looked at, then the mode once, `serial` or `race`, and each of
 /// `--history`, `--dump` and `--json` at most once, in any order. One `--` may stand among them, after which no option
 /// follows. A script whose run is built is run: in mode `serial` its calls one after another, in mode `race` the calls of
-/// each CPU in a thread of their own, whose worker passes the gate at each of its points. With `--history` the report says
-/// what happened under each lock, with `--dump` what the map holds at the end, and with `--json` it is a JSON object. The
-/// status says how it ended, and what was written is the report or one line:
+/// each CPU in a thread of their own. In both the gate is passed at each call's beginning and end, and wherever a lock is
+/// taken or given back, on the call's CPU. With `--history` the report says what happened under each lock, with `--dump` what
+/// the map holds at the end, and with `--json` it is a JSON object. The status says how it ended, and what was written is the
+/// report or one line:
 ///
 /// | status | comes | written |
 /// |---|---|---|

@@ -4,6 +4,7 @@
 mod delivery;
 mod finish;
 mod hold;
+mod laws;
 mod memory;
 mod one_call;
 mod queue;
@@ -19,6 +20,7 @@ mod worker;
 
 pub use finish::bpfmap;
 pub use hold::{Hold, HoldGate};
+pub use laws::record_laws;
 pub use map_report::{Finals, Kept, LocalFinal, Options, RunRecord, SetFinal};
 pub use memory::{MemSink, MemSource};
 pub use race::run_race;

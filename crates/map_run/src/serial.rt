@@ -14,7 +14,7 @@ use crate::RunRecord;
 use crate::one_call::run_call;
 use hash_ops::PlainMap;
 use map_script::Script;
-use map_types::{Call, List, NoGate, NoMemory, Reply};
+use map_types::{Call, Gate, List, NoMemory, Point, Reply};
 use place_table::{Closed, Pass};
 use place_words::{LockHistory, Strand};
 use std::alloc::Global;
@@ -24,12 +24,16 @@ use std::sync::Wait;
 /// kept are the replies, what happened under each lock, and what the map holds at the end; beside it stands what the closed
 /// table left. It fails only where memory does.
 ///
-/// The script is one that `read_script` gives, and its run is built. The rules are those of the kernel functions
-/// that specs/Serial.antt names.
-pub fn run_serial<R: Wait>(
+/// The script is one that `read_script` gives, and its run is built. The record is the one by the logs of the locks, which
+/// serves maps of any kind (`serial`, map_report/specs/Runs.antt). Of a map that doesn't evict it is also the one on plain lists,
+/// by the rules of the kernel functions that map_report/specs/Serial.antt names: the laws say so.
+///
+/// The gate is passed at each call's beginning and end, and wherever a lock is taken or given back, on the call's CPU.
+pub fn run_serial<R: Wait, G: Gate>(
     rt: &R,
     alloc: Global,
     script: &Script,
+    gate: &G,
 ) -> Result<(RunRecord, Closed), NoMemory>
     requires script { IsScript script.now }
     requires built { IsTrue (is_built script.now) }
@@ -37,14 +41,15 @@ pub fn run_serial<R: Wait>(
     ensures laws { SerialLaws script.now }
     ensures closed { IfOk result (λ kept. IsCopyOf kept.0 kept.1) }
 {
-    run_script(rt, alloc, script)
+    run_script(rt, alloc, script, gate)
 }
 
 /// Runs the calls of a script whose run is built, and closes the map.
-fn run_script<R: Wait>(
+fn run_script<R: Wait, G: Gate>(
     rt: &R,
     alloc: Global,
     script: &Script,
+    gate: &G,
 ) -> Result<(RunRecord, Closed), NoMemory>
     requires shape { IsShape script.now.shape }
     requires served { IsServed script.now }
@@ -53,18 +58,19 @@ fn run_script<R: Wait>(
     ensures closed { IfOk result (λ kept. IsCopyOf kept.0 kept.1) }
 {
     let (map, mut pass) = PlainMap::create(alloc, &script.shape)?;
-    let replies = run_calls(rt, alloc, &map, &mut pass, script.calls.as_slice())?;
+    let replies = run_calls(rt, alloc, &map, &mut pass, script.calls.as_slice(), gate)?;
     let closed = map.close(pass)?;
     keep(alloc, script.shape.cpus, replies, closed)
 }
 
 /// Runs calls one after another, each on its CPU. They are numbered from 1.
-fn run_calls<R: Wait>(
+fn run_calls<R: Wait, G: Gate>(
     rt: &R,
     alloc: Global,
     map: &PlainMap,
     pass: &mut Pass,
     calls: &[Call],
+    gate: &G,
 ) -> Result<Vec<Reply>, NoMemory>
     requires shape { IsShape map.now.shape }
     requires built { IsTrue (is_built_kind map.now.shape.kind) }
@@ -77,7 +83,10 @@ fn run_calls<R: Wait>(
     let mut number = 0;
     for call in calls {
         number += 1;
-        replies.push(run_call(rt, alloc, map, pass, number, call, &NoGate)?)?;
+        gate.at(call.cpu, Point::Begin(number));
+        let reply = run_call(rt, alloc, map, pass, number, call, gate)?;
+        gate.at(call.cpu, Point::Done(number));
+        replies.push(reply)?;
     }
     Ok(replies)
 }

@@ -12,7 +12,7 @@ use Rattle.map_run.proofs.SerialCalls.{run_first, run_end, is_copy}
 use Rattle.map_run.proofs.serial.run_script.Goals as goal
 
 pub run_calls-requires-clause-first : goal.run_calls-requires-clause-first
-run_calls-requires-clause-first g c =
+run_calls-requires-clause-first g c κs within =
     let same : c.in_ok-map.map.shape ≡ c.args.script.now.shape = c.in_ok-map.ensures.0 in
     run_first c.in_ok-map.map c.in_ok-map.pass (subst IsShape (sym same) c.requires.shape) (subst (λ (shape : Shape). IsTrue (is_built_kind shape.kind)) (sym same) c.requires.served.kind) c.in_ok-map.ensures.1
 

@@ -1,18 +1,16 @@
-use Rattle.map_run.proofs.OpeningTurns.{opening_lies}
 use Rattle.map_run.proofs.SerialLaws.{serial_laws}
 use Rattle.map_run.proofs.ServedLemmas.{well_formed, IsServed-from_script}
 use Rattle.map_run.proofs.serial.run_serial.Goals as goal
 
 pub run_script-requires-clause-shape : goal.run_script-requires-clause-shape
-run_script-requires-clause-shape g c = (well_formed c.args.script.now c.requires.script).shape
+run_script-requires-clause-shape g c κs within = (well_formed c.args.script.now c.requires.script).shape
 
 pub run_script-requires-clause-served : goal.run_script-requires-clause-served
-run_script-requires-clause-served g c = IsServed-from_script c.args.script.now c.requires.script c.requires.built
+run_script-requires-clause-served g c κs within = IsServed-from_script c.args.script.now c.requires.script c.requires.built
 
 pub run_script-requires-clause-few : goal.run_script-requires-clause-few
-run_script-requires-clause-few g c = (well_formed c.args.script.now c.requires.script).few
+run_script-requires-clause-few g c κs within = (well_formed c.args.script.now c.requires.script).few
 
 pub returns-clause-laws : goal.returns-clause-laws
 returns-clause-laws g c =
-    let served = IsServed-from_script c.args.script.now c.requires.script c.requires.built in
-    serial_laws c.args.script.now served (opening_lies c.args.script.now.shape served.bounds served.kind)
+    serial_laws c.args.script.now c.requires.script (IsServed-from_script c.args.script.now c.requires.script c.requires.built)
