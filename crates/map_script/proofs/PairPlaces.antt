@@ -1,14 +1,15 @@
 -- Reading pairs one after another.
-use Rattle.std.proofs.Common.{◌≡◌, ℕ, ◌+◌, ◌*◌, List, [], ◌∷◌, ◌++◌, length, Ok, sym, ap, subst, ◌∙◌, length-append, arith}
+use Rattle.std.proofs.Common.{◌≡◌, ℕ, ◌+◌, ◌*◌, List, [], ◌∷◌, ◌++◌, length, Result, Ok, sym, ap, subst, ◌∙◌, length-append, arith}
 use Rattle.map_types.specs.Pairs.{pairs_of}
 use Rattle.map_types.proofs.PairLemmas.{length-pairs_of, joined_keys-pairs_of, joined_values-pairs_of, HaveSizes-pairs_of, same_pairs, joined_keys-push, joined_values-push, HaveSizes-push}
 use Rattle.map_types.specs.ValueLen.{value_len_of}
 use Rattle.map_types.specs.declared.attr.Shape.{Shape}
 use Rattle.map_types.specs.declared.kind.Side.TheVariants.{Sys}
+use Rattle.map_script.specs.declared.refusal.Cause.{Cause}
 use Rattle.map_script.specs.Grammar.{pairs_to_end}
 use Rattle.map_script.specs.Places.{Tokens, bytes}
-use Rattle.map_script.proofs.Fronts.{with_front, fronted}
-use Rattle.map_script.proofs.PlaceLemmas.{bytes_found}
+use Rattle.map_script.proofs.Fronts.{with_front, fronted, front_more}
+use Rattle.map_script.proofs.PlaceLemmas.{bytes_found, bytes_has}
 
 -- one more pair at the end of the buffers
 pub pairs_more : (n key_size value_size : ℕ) (keys values key value : List ℕ) → length keys ≡ n * key_size → length values ≡ n * value_size → length key ≡ key_size → length value ≡ value_size
@@ -36,3 +37,24 @@ pairs_first shape (first ∷ second ∷ others) middle rest key value key_is val
     let then : P (second ∷ others) = subst P (sym here.1) value_is in
     let there = bytes_found (value_len_of shape Sys) second value others rest then in
     rw (here.0, there.0, there.1) (fronted (key, value) (pairs_to_end shape rest))
+
+filled_more : (n size : ℕ) (xs x : List ℕ) → length xs ≡ n * size → length x ≡ size → length (xs ++ x) ≡ (n + 1) * size
+filled_more n size xs x fill fits = omega (arith, length-append xs x, fill, fits)
+
+-- a turn of the loop: the buffers are filled, and the pairs so far with those of the places that are left are all
+pub pairs_step : (shape : Shape) (n : ℕ) (keys values key value : List ℕ) (tokens middle rest : Tokens) {size : ℕ} {keys_now values_now : List ℕ} {all : Result (List (List ℕ × List ℕ)) Cause} → size ≡ value_len_of shape Sys
+    → length keys ≡ n * shape.key_size → length values ≡ n * size
+    → bytes shape.key_size tokens ≡ Ok (key, middle) → bytes size middle ≡ Ok (value, rest) → keys_now ≡ keys ++ key → values_now ≡ values ++ value
+    → with_front (pairs_of n shape.key_size size keys values) (pairs_to_end shape tokens) ≡ all
+    → (length keys_now ≡ (n + 1) * shape.key_size) × (length values_now ≡ (n + 1) * size)
+    × (with_front (pairs_of (n + 1) shape.key_size size keys_now values_now) (pairs_to_end shape rest) ≡ all)
+pairs_step shape n keys values key value tokens middle rest {size} size_is keys_fill values_fill key_is value_is keys_are values_are so_far =
+    let key_fits = bytes_has shape.key_size tokens middle key key_is in
+    let value_fits = bytes_has size middle rest value value_is in
+    let there : bytes (value_len_of shape Sys) middle ≡ Ok (value, rest) = rw (← size_is) value_is in
+    let more = pairs_more n shape.key_size size keys values key value keys_fill values_fill key_fits value_fits in
+    let first = pairs_first shape tokens middle rest key value key_is there in (
+      rw keys_are (filled_more n shape.key_size keys key keys_fill key_fits),
+      rw values_are (filled_more n size values value values_fill value_fits),
+      rw (keys_are, values_are, more, front_more, ← first) so_far,
+    )

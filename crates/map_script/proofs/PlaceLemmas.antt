@@ -1,5 +1,5 @@
 -- What the places of a line give.
-use Rattle.std.proofs.Common.{◌≡◌, ℕ, ◌*◌, ◌==◌, Bool, true, false, cond, List, [], ◌∷◌, length, Result, Ok, Err, refl, sym, ap, ◌∙◌, arith}
+use Rattle.std.proofs.Common.{◌≡◌, ℕ, ◌*◌, ◌==◌, Bool, true, false, cond, List, [], ◌∷◌, length, Result, Ok, Err, bytes_eq, refl, sym, ap, ◌∙◌, arith}
 use Rattle.std.specs.List.{list_all}
 use Rattle.std.proofs.lemmas.Bool.{eqb-true}
 use Rattle.std.proofs.lemmas.List.Sums.{AllPass-from_list_all}
@@ -32,6 +32,10 @@ token_found [] rest first is = absurd cc
 token_found (found ∷ others) rest first is =
     let same = same_parts (token (found ∷ others)) found first others rest refl is in
     cc
+
+-- what a comparison with a text told of a word
+pub told : (word : List ℕ) {text other : List ℕ} {was answer : Bool} → was ≡ bytes_eq word other → other ≡ text → was ≡ answer → bytes_eq word text ≡ answer
+told word is same was_so = sym (is ∙ ap (bytes_eq word) same) ∙ was_so
 
 -- digits, two for each of so many bytes
 decoded_has : (size : ℕ) (word : List ℕ) → list_all is_hex_digit word ≡ true → length word ≡ 2 * size → length (decoded word) ≡ size

@@ -58,7 +58,9 @@ fn read(alloc: Global, text: &str, form: Form) -> Result<Script, ScriptRefusal> 
 
 /// The canonical text of a text in a form.
 fn rewritten(alloc: Global, text: &str, form: Form) -> Option<Vec<u8>> {
-    let script = read(alloc, text, form).ok()?;
+    let Ok(script) = read(alloc, text, form) else {
+        return None;
+    };
     script.text(alloc).ok()
 }
 
@@ -153,7 +155,9 @@ fn a_generator_line(rt: HostRuntime) {
 
 /// The canonical text of a text in form Calls, where its calls are generated from this.
 fn rewritten_with(alloc: Global, text: &str, spec: GenSpec) -> Option<Vec<u8>> {
-    let mut script = read(alloc, text, Form::Calls).ok()?;
+    let Ok(mut script) = read(alloc, text, Form::Calls) else {
+        return None;
+    };
     script.spec = Some(spec);
     script.text(alloc).ok()
 }

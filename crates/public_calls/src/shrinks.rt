@@ -116,8 +116,12 @@ fn shrunk(
 {
     let rows = set.rows(ListName::Active).len() as usize
         + set.rows(ListName::Inactive).len() as usize;
-    let mut table = MemoryBits::of(alloc, case.set, case.bodies, 8 + rows).ok()?;
-    let mut out = BodyStack::with_room(alloc, case.target).ok()?;
+    let Ok(mut table) = MemoryBits::of(alloc, case.set, case.bodies, 8 + rows) else {
+        return None;
+    };
+    let Ok(mut out) = BodyStack::with_room(alloc, case.target) else {
+        return None;
+    };
     let answer = shrink(set, &mut table, 4, case.target, &mut out, notes);
     if table.is_clear() {
         Some((answer, out))

@@ -145,11 +145,7 @@ static REFUSED: [(Move, bool); 14] = [
 
 /// Element 0, so often.
 fn zeros(alloc: Global, count: usize) -> Result<Numbers, NoMemory> {
-    let mut list = Vec::new(alloc);
-    for _ in 0..count {
-        list.push(0)?;
-    }
-    Ok(Numbers::of(list))
+    Ok(Numbers::of(vec![in alloc; 0; count]?))
 }
 
 /// The step of a move.
@@ -214,11 +210,16 @@ fn goes(alloc: Global, core: &mut Core, (it, is_done): (Move, bool)) -> bool {
 
 /// The first row whose step is not done where it is to be, or not refused, each on what those before it leave.
 fn wrong_step(alloc: Global, attr: &CreateAttr, rows: &[(Move, bool)]) -> Option<usize> {
-    let Some(mut core) = core_of(alloc, attr) else {
-        return Some(0);
-    };
+    match core_of(alloc, attr) {
+        Some(mut core) => first_wrong(alloc, &mut core, rows),
+        None => Some(0),
+    }
+}
+
+/// The first row whose step does not go as it says.
+fn first_wrong(alloc: Global, core: &mut Core, rows: &[(Move, bool)]) -> Option<usize> {
     for row in 0..rows.len() {
-        if !goes(alloc, &mut core, rows[row]) {
+        if !goes(alloc, core, rows[row]) {
             return Some(row);
         }
     }
@@ -251,23 +252,36 @@ fn claimed(alloc: Global, core: &mut Core, elements: u32, lock: DomainId) -> Opt
     None
 }
 
-/// What is free under a lock at the opening, the head first: what can be claimed, one after another.
-fn free_list(alloc: Global, attr: &CreateAttr, lock: DomainId) -> Option<Vec<u32>> {
-    let elements = check_attr(attr).ok()?.elements;
-    let mut core = core_of(alloc, attr)?;
-    core.step(alloc, &Step::Take { cpu: 0, lock }).ok()?;
-    let mut list = Vec::new(alloc);
-    for _ in 0..elements {
-        if let Some(element) = claimed(alloc, &mut core, elements, lock) {
-            list.push(element).ok()?;
+/// Claims under a lock until nothing is left, and answers the first element, or 9 where there is none, and how many there are.
+fn all_claimed(alloc: Global, core: &mut Core, elements: u32, lock: DomainId) -> (u32, u32) {
+    let mut head = 9;
+    for count in 0..elements {
+        match claimed(alloc, core, elements, lock) {
+            Some(element) if count == 0 => head = element,
+            Some(_) => {}
+            None => return (head, count),
         }
     }
-    Some(list)
+    (head, elements)
+}
+
+/// The head of what is free under a lock at the opening, and how many elements that is.
+fn free_list(alloc: Global, attr: &CreateAttr, lock: DomainId) -> Option<(u32, u32)> {
+    let Ok(shape) = check_attr(attr) else {
+        return None;
+    };
+    let Ok(mut core) = Core::start(alloc, &shape) else {
+        return None;
+    };
+    match core.step(alloc, &Step::Take { cpu: 0, lock }) {
+        Ok(()) => Some(all_claimed(alloc, &mut core, shape.elements, lock)),
+        Err(_) => None,
+    }
 }
 
 /// A kind, the flags, CPUs and entries of its map, a lock, the head of its free list, or 9 where that is empty, and how
 /// many elements it has.
-type Opening = (MapKind, u32, u32, u32, DomainId, u32, usize);
+type Opening = (MapKind, u32, u32, u32, DomainId, u32, u32);
 
 static OPENINGS: [Opening; 22] = [
     (MapKind::Hash, 0, 1, 1, FREELIST, 0, 1),
@@ -326,9 +340,8 @@ fn attr_of(row: &Opening) -> CreateAttr {
 fn wrong_opening(alloc: Global, rows: &[Opening]) -> Option<usize> {
     for row in 0..rows.len() {
         let (_, _, _, _, lock, head, count) = rows[row];
-        match free_list(alloc, &attr_of(&rows[row]), lock) {
-            Some(list) if list.len() == count && list.first().copied().unwrap_or(9) == head => {}
-            _ => return Some(row),
+        if free_list(alloc, &attr_of(&rows[row]), lock) != Some((head, count)) {
+            return Some(row);
         }
     }
     None

@@ -1,7 +1,7 @@
 use Rattle.std.proofs.Common.{List, subst}
-use Rattle.place_words.specs.declared.row.Row.{Row}
-use Rattle.place_words.specs.ElementLists.{IsIn}
-use Rattle.place_words.specs.Listed.{elements_of}
+use Rattle.map_types.specs.declared.row.Row.{Row}
+use Rattle.map_types.specs.ElementLists.{IsIn}
+use Rattle.map_types.specs.Listed.{elements_of}
 use Rattle.public_calls.proofs.shrinks.stand.Goals as goal
 
 pub set_cursor-requires : goal.set_cursor-requires
