@@ -109,7 +109,7 @@ module _ (t : TableView) (bucket : ℕ) (q r : PassView) (chain : BodyList) (b :
 module _ (t : TableView) (bucket : ℕ) (q r : PassView) (bodies : List Stored) (b : InBucket t bucket q bodies) (plain : is_lru t.shape.kind ≡ false) (was : Stored) (popped : Popped t q r (Some was)) (e : ℕ) (e_is : was.element ≡ e) where
   pub can_attach_popped : CanAttach t e bucket r
   can_attach_popped =
-      can_attach t bucket q r bodies b b.hold.now popped.steps e (under_looked t bucket q bodies b plain r popped.steps popped.reached)
+      can_attach t bucket q r bodies b b.hold.now popped.steps e plain (under_looked t bucket q bodies b plain r popped.steps popped.reached)
       ((λ i. is_in_hand_of (sym e_is i) (popped.reached.goes.cpu i) (popped.hand i)) ∙ in_hand_more was.element q.cpu q.view.hand)
 
   module _ (r2 : PassView) (attached_is : r2 ≡ with_view r (attached bucket e r.cpu r.view)) (back : BodyList) (side : Side) (flags : ℕ) (key value : List ℕ) (turn : IsTurnWith t.shape q.cpu (Update side flags key value None (puts.Added e)) bodies back.bodies (e ∷ numbers bodies)) where

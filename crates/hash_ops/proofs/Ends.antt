@@ -22,7 +22,7 @@ use Rattle.place_table.specs.declared.view.Turned.{Turned}
 use Rattle.place_table.specs.Known.{IsBy, Learns}
 use Rattle.place_table.specs.Views.{is_in_hand_of}
 use Rattle.place_table.specs.Passes.{PassView, TableView, CanGiveSome, GaveSome, Goes, spare_of}
-use Rattle.place_table.proofs.Going.{goes_nowhere, learns_nothing}
+use Rattle.place_table.proofs.Going.{goes_nowhere, learns_none}
 use Rattle.hash_ops.specs.Calls.{CanCall, CalledWhole, FoundNoMemory, Updates, lost_turn, spare_element}
 use Rattle.hash_ops.specs.declared.map.PlainRefusal.{PlainRefusal}
 use Rattle.hash_ops.specs.declared.map.PlainRefusal.TheVariants as refusals
@@ -43,7 +43,7 @@ module _ (t : TableView) (bucket : ℕ) (q : PassView) (chain : BodyList) (plain
 
   pub forgot_of : (s : PassView) → HasItsSpares q → GaveSome t (Bucket bucket) q s (contents.Bucket chain) → Forgot t bucket q s chain.bodies
   forgot_of s has gave =
-      let x = left_forgotten t bucket q s chain.bodies b (contents.Bucket chain) (parts.Bucket (First (first_key chain.bodies))) gave in
+      let x = left_forgotten t bucket q s chain.bodies b (contents.Bucket chain) gave in
       let l = x.0 in
       record {
         back = chain;
@@ -53,10 +53,10 @@ module _ (t : TableView) (bucket : ℕ) (q : PassView) (chain : BodyList) (plain
           goes = subst (λ (z : Turned × List ℕ). Goes q s (z.0 ∷ []) z.1) (λ i. (x.1 i, x.2 i)) l.goes;
           notes = l.notes;
           bits = l.bits;
-          in_no_call = idle_same q s has l.held l.goes.cpus l.goes.shape l.spares (λ e c. ap (is_in_hand_of e c) l.hand);
+          in_no_call = idle_same q s has l.held l.goes.cpus l.goes.shape l.spares l.carried (λ e c. ap (is_in_hand_of e c) l.hand);
           by_call = subst (λ (z : Turned). All (IsBy q.cpu q.call) (z ∷ [])) x.1 l.by_call;
           other_spares = λ other _. ap (spare_of other) l.spares;
-          learns = subst (λ (z : Turned). Learns t.shape q.view s.view (z ∷ [])) x.1 l.learns;
+          learns = subst (λ (z : Turned). Learns t.shape q.view s.view (z ∷ []) []) x.1 l.learns;
         };
         spares_stay = l.spares;
       }
@@ -103,10 +103,12 @@ called_unknown t p side flags key value can unknown = (
       by_call = All-nil (IsBy p.cpu p.call);
       other_spares = λ other _. refl;
       bits = refl;
-      learns = learns_nothing t.shape p.view p.view refl refl refl;
+      learns = learns_none t.shape p.view;
     };
-    trace = λ _. by_either (is_lru t.shape.kind) _ _ (inl (unknown, refl, refl)) (inl (unknown, refl, refl));
-    spare = λ _. either_same (is_lru t.shape.kind) (spare_element p);
+    told = [];
+    told_are = tt;
+    trace = by_either (is_lru t.shape.kind) _ _ (inl (unknown, refl, refl)) (inl (unknown, refl, refl));
+    spare = either_same (is_lru t.shape.kind) (spare_element p);
   },
   refl,
 )

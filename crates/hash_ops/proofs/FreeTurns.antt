@@ -26,8 +26,8 @@ use Rattle.place_table.specs.Passes.{PassView, TableView, IsPassOf, CanTake, Tak
 use Rattle.place_table.specs.Rules.{IsAboveAll}
 use Rattle.place_table.specs.TurnNotes.{NotesFit}
 use Rattle.place_table.specs.Views.{no_notes, hold_at}
-use Rattle.place_table.proofs.Gives.{taken_of_table}
-use Rattle.place_table.proofs.Going.{AreElsewhere, given_turn, goes_on, goes_nowhere, goes_of_table, goes_begun, learns_on, learns_nothing}
+use Rattle.place_table.proofs.Gives.{taken_of_table, none_passed}
+use Rattle.place_table.proofs.Going.{same_head, AreElsewhere, given_turn, goes_on, goes_nowhere, goes_of_table, goes_begun, learns_on, learns_none}
 use Rattle.place_table.proofs.Leaves.{passes_below}
 use Rattle.place_table.proofs.Worlds.{hold_at_first}
 use Rattle.hash_ops.specs.Calls.{turn_of, IsBy}
@@ -73,10 +73,10 @@ abbrev IsOnFreelist : Shape → Turned → Type 0
 IsOnFreelist shape step = (c : ℕ) × (c < shape.cpus) × (step.lock ≡ lock_number shape (Freelist c))
 
 -- the turn of a freelist, with what changes in hand, leaves a pass that has reached it
-pub reached_once : (t : TableView) (cpu : ℕ) (p q r s : PassView) (here back : Content) (part : Part) (now : Lists) (took : Takes t (Freelist cpu) p q here) → cpu < t.shape.cpus → Goes q r [] [] → r.spares ≡ q.spares → r.view.bits ≡ q.view.bits → Learns t.shape q.view r.view []
+pub reached_once : (t : TableView) (cpu : ℕ) (p q r s : PassView) (here back : Content) (part : Part) (now : Lists) (took : Takes t (Freelist cpu) p q here) → cpu < t.shape.cpus → Goes q r [] [] → r.spares ≡ q.spares → r.view.bits ≡ q.view.bits → r.view.carried ≡ q.view.carried → Learns t.shape q.view r.view [] []
     → IsUnder p r took.hold now no_notes → CanGive t (Freelist cpu) r back part → (gave : Gave r s part) → Reached t p s (given_turn r gave.hold part ∷ [])
-reached_once t cpu p q r s here back part now took within goes spares bits learns under can gave =
-    let made = turn_made t (Freelist cpu) p q r s here [] [] part now no_notes took goes under gave in
+reached_once t cpu p q r s here back part now took within goes spares bits carried learns under can gave =
+    let made = turn_made t (Freelist cpu) p q r s here [] [] part now no_notes took goes under (λ below. none_passed part can.notes below (ap (λ (z : Notes). z.owners) (same_head (sym can.notes_are ∙ under.notes_are))) can.notes_fit.seen) gave in
     let same_cpu : r.cpu ≡ p.cpu = goes.cpu ∙ ap (λ (z : PassView). z.cpu) took.after_is in
     let same_call : r.call ≡ p.call = goes.call ∙ ap (λ (z : PassView). z.call) took.after_is in
     let lock_is : gave.hold.lock ≡ lock_number t.shape (Freelist cpu) = ap (λ (h : Hold). h.lock) (given_hold p r s took.hold now no_notes part gave under) ∙ took.lock_is in record {
@@ -85,6 +85,7 @@ reached_once t cpu p q r s here back part now took within goes spares bits learn
       notes = made.notes;
       spares = ap (λ (z : PassView). z.spares) gave.after_is ∙ (spares ∙ ap (λ (z : PassView). z.spares) took.after_is);
       bits = ap (λ (z : PassView). z.view.bits) gave.after_is ∙ (bits ∙ ap (λ (z : PassView). z.view.bits) took.after_is);
+      carried = ap (λ (z : PassView). z.view.carried) gave.after_is ∙ (carried ∙ ap (λ (z : PassView). z.view.carried) took.after_is);
       by_call = All-cons (IsBy p.cpu p.call) (given_turn r gave.hold part) [] (same_cpu, same_call) (All-nil (IsBy p.cpu p.call));
       on_freelists = All-cons (IsOnFreelist t.shape) (given_turn r gave.hold part) [] (cpu, within, lock_is) (All-nil (IsOnFreelist t.shape));
       learns = turn_learns t (Freelist cpu) p q r s here back [] part now no_notes took under can tt learns gave;
@@ -106,9 +107,10 @@ reached_nowhere t p = record {
   notes = refl;
   spares = refl;
   bits = refl;
+  carried = refl;
   by_call = All-nil (IsBy p.cpu p.call);
   on_freelists = All-nil (IsOnFreelist t.shape);
-  learns = learns_nothing t.shape p.view p.view refl refl refl;
+  learns = learns_none t.shape p.view;
 }
 
 pub reached_on : (t : TableView) (p q r : PassView) (first second : List Turned) → Reached t p q first → Reached t q r second → Reached t p r (first ++ second)
@@ -118,9 +120,10 @@ reached_on t p q r first second a b = record {
   notes = b.notes ∙ a.notes;
   spares = b.spares ∙ a.spares;
   bits = b.bits ∙ a.bits;
+  carried = b.carried ∙ a.carried;
   by_call = All-append (IsBy p.cpu p.call) first second a.by_call (subst (λ (call : ℕ). All (IsBy p.cpu call) second) a.goes.call (subst (λ (cpu : ℕ). All (IsBy cpu q.call) second) a.goes.cpu b.by_call));
   on_freelists = All-append (IsOnFreelist t.shape) first second a.on_freelists b.on_freelists;
-  learns = learns_on t.shape p.view q.view r.view first second a.learns b.learns;
+  learns = learns_on t.shape p.view q.view r.view first second [] [] a.learns b.learns;
 }
 
 -- freelists may be taken again

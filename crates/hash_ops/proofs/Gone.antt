@@ -1,5 +1,5 @@
 -- An element that leaves its bucket for the freelist of the CPU, from where it is taken out to the call's answer.
-use Rattle.std.proofs.Common.{◌≡◌, ℕ, cond, false, List, [], ◌∷◌, sym, refl, ap, ◌∙◌, subst, Option, None, Some}
+use Rattle.std.proofs.Common.{◌+◌, ◌≡◌, ℕ, cond, false, List, [], ◌∷◌, sym, refl, ap, ◌∙◌, subst, Option, None, Some}
 use Rattle.std.specs.Prelude.{IfSome}
 use Rattle.map_types.specs.declared.attr.Shape.{Shape}
 use Rattle.map_types.specs.declared.call.Verb.{Verb}
@@ -36,6 +36,7 @@ use Rattle.hash_ops.specs.Under.{InBucket, HasItsSpares, Answered}
 use Rattle.hash_ops.proofs.BucketTurns.{IsTurnWith}
 use Rattle.hash_ops.proofs.HandLemmas.{hand_back, is_real, not_in_hand}
 use Rattle.hash_ops.proofs.Under.{Under, under_nothing, under_moved, under_reached, may_reach, can_give, may_give_back, left, answered_same}
+use Rattle.place_table.specs.Words.{owner_word}
 
 -- what lies in the bucket without the element
 abbrev pub left_without : ℕ → List Stored → Lists
@@ -77,8 +78,8 @@ module _ {t : TableView} {bucket : ℕ} {q : PassView} {bodies : List Stored} (b
       let k_is : k ≡ b.hold.lock = ap (λ (s : Shape). lock_number s (Bucket bucket)) b.of_table.1 ∙ sym b.lock_is in
       let hand = with_in_hand e q.cpu q.view.hand in
       let now : now_under (Bucket bucket) q.view ≡ lists_of (in_bucket bodies) = now_at_is k q.view.held b.hold (held_here k k_is) ∙ b.now in
-      under_moved t b.hold b.below q q (with_view q (detached bucket e q.cpu q.view)) b.hold.now (left_without e bodies) [] k hand (under_nothing t bucket q bodies b) k_is
-      (ap (λ (l : Lists). with_view q (moved k (without_row e l) hand q.view)) now)
+      under_moved t b.hold b.below q q (with_view q (detached bucket e q.cpu q.view)) b.hold.now (left_without e bodies) [] k hand (owner_word q.view.shape e) (1 + q.cpu) (under_nothing t bucket q bodies b) k_is
+      (ap (λ (l : Lists). with_view q (moved k (without_row e l) hand (owner_word q.view.shape e) (1 + q.cpu) q.view)) now)
 
   -- it may be pushed
   pub can_push_detached : (body : Stored) → present body.key bodies ≡ Some body → IsSized t.shape body → CanPush t body (with_view q (detached bucket body.element q.cpu q.view))

@@ -1,10 +1,13 @@
 pub mod Added
+pub mod AfterJoin
 pub mod BucketTurns
+pub mod DeleteThenLookup
 pub mod Ends
 pub mod FreeTurns
 pub mod Gone
 pub mod HandLemmas
 pub mod Looks
+pub mod LostTurns
 pub mod Pops
 pub mod Pushes
 pub mod Replaced

@@ -1,5 +1,5 @@
 -- A look at a freelist, which takes what is on top where there is something.
-use Rattle.std.proofs.Common.{◌≡◌, ℕ, ◌<◌, cond, false, List, [], ◌∷◌, sym, refl, ap, ◌∙◌, subst, arith, Option, Some, None}
+use Rattle.std.proofs.Common.{◌+◌, ◌≡◌, ℕ, ◌<◌, cond, false, List, [], ◌∷◌, sym, refl, ap, ◌∙◌, subst, arith, Option, Some, None}
 use Rattle.std.specs.Prelude.{IsTrue, MatchOption}
 use Rattle.std.proofs.lemmas.List.Elements.{All-head, All-tail}
 use Rattle.map_types.specs.declared.kind.DomainId.TheVariants.{Freelist}
@@ -22,11 +22,12 @@ use Rattle.place_table.specs.Contents.{IsSized}
 use Rattle.place_table.specs.Passes.{PassView, TableView, IsPassOf, HasBegun, Takes, CanClaim, CanGive, Gave, Goes, with_view}
 use Rattle.place_table.specs.Views.{no_notes, is_in_hand_of, now_under, claimed, moved, with_in_hand}
 use Rattle.place_table.proofs.Gives.{unchanged, taken_of_table, taken_begun}
-use Rattle.place_table.proofs.Going.{given_turn, goes_moved, goes_nowhere, goes_of_table, goes_begun, learns_nothing}
+use Rattle.place_table.proofs.Going.{given_turn, goes_moved, goes_nowhere, goes_of_table, goes_begun, learns_moved, learns_none}
 use Rattle.place_table.proofs.Worlds.{by_bool}
 use Rattle.hash_ops.specs.Free.{CanReach, IsFresh, PoppedAmong}
 use Rattle.hash_ops.proofs.FreeTurns.{freelist_there, with_top, free_is, number_is, hold_is, no_marks, reached_once, turn_is}
 use Rattle.hash_ops.proofs.Turning.{IsUnder, under_taken, under_now, under_moved, can_give}
+use Rattle.place_table.specs.Words.{owner_word}
 
 -- What was done under the lock after the look, and the part that tells of it: what was on top came to the hand.
 abbrev pub LookedUnder : ℕ → PassView → PassView → Option Stored → Part → Type 0
@@ -83,8 +84,8 @@ module _ {t : TableView} {cpu : ℕ} {p q : PassView} {body : Stored} {f : Freel
       let k : ℕ = lock_number q.view.shape (Freelist cpu) in
       let number : took.hold.lock ≡ k = number_is t cpu p q here took of_table in
       let before = under_taken t (Freelist cpu) p q here took in
-      under_moved p q r took.hold took.hold.now (without_free body.element took.hold.now) no_notes k (with_in_hand body.element q.cpu q.view.hand) before number
-      (after_is ∙ ap (λ (now : Lists). with_view q (moved k (without_free body.element now) (with_in_hand body.element q.cpu q.view.hand) q.view)) (under_now p q took.hold took.hold.now no_notes k before number))
+      under_moved p q r took.hold took.hold.now (without_free body.element took.hold.now) no_notes k (with_in_hand body.element q.cpu q.view.hand) (owner_word q.view.shape body.element) (1 + q.cpu) before number
+      (after_is ∙ ap (λ (now : Lists). with_view q (moved k (without_free body.element now) (with_in_hand body.element q.cpu q.view.hand) (owner_word q.view.shape body.element) (1 + q.cpu) q.view)) (under_now p q took.hold took.hold.now no_notes k before number))
 
   -- the free list under it is then the freelist that is given back
   free_popped : without body.element took.hold.now.free ≡ numbers f.bodies
@@ -93,7 +94,7 @@ module _ {t : TableView} {cpu : ℕ} {p q : PassView} {body : Stored} {f : Freel
       ∙ by_test body.element body.element (λ b. cond b (numbers f.bodies) (body.element ∷ without body.element (numbers f.bodies)) ≡ numbers f.bodies) (λ _. refl) (λ other. absurd (other refl))
 
   goes_popped : (r : PassView) → r ≡ with_view q (claimed (Freelist cpu) body.element q.cpu q.view) → Goes q r [] []
-  goes_popped r after_is = goes_moved (lock_number q.view.shape (Freelist cpu)) (without_free body.element (now_under (Freelist cpu) q.view)) (with_in_hand body.element q.cpu q.view.hand) q r after_is
+  goes_popped r after_is = goes_moved (lock_number q.view.shape (Freelist cpu)) (without_free body.element (now_under (Freelist cpu) q.view)) (with_in_hand body.element q.cpu q.view.hand) (owner_word q.view.shape body.element) (1 + q.cpu) q r after_is
 
   can_give_popped : (r : PassView) → CanReach t p → IsTrue (is_lock t.shape (Freelist cpu)) → r ≡ with_view q (claimed (Freelist cpu) body.element q.cpu q.view) → CanGive t (Freelist cpu) r (contents.Freelist f) (parts.Free (turns.Popped body.element))
   can_give_popped r can is_there after_is =
@@ -118,10 +119,10 @@ module _ {t : TableView} {cpu : ℕ} {p q : PassView} {body : Stored} {f : Freel
       let part : Part = parts.Free (turns.Popped body.element) in
       let now : Lists = without_free body.element took.hold.now in
       let under = under_popped r can.of_table after_is in
-      let learns = learns_nothing t.shape q.view r.view (ap (λ (z : PassView). z.view.known) after_is) (ap (λ (z : PassView). z.view.cpus) after_is) (ap (λ (z : PassView). z.view.shape) after_is) in
+      let learns = learns_moved t.shape (lock_number q.view.shape (Freelist cpu)) (without_free body.element (now_under (Freelist cpu) q.view)) (with_in_hand body.element q.cpu q.view.hand) (owner_word q.view.shape body.element) (1 + q.cpu) q r after_is in
       let turn = turn_is t cpu p q r s here (turns.Popped body.element) now took is_there under gave in record {
         steps = given_turn r gave.hold part ∷ [];
-        reached = reached_once t cpu p q r s here (contents.Freelist f) part now took within (goes_popped r after_is) (ap (λ (z : PassView). z.spares) after_is) (ap (λ (z : PassView). z.view.bits) after_is) learns under (can_give_popped r can is_there after_is) gave;
+        reached = reached_once t cpu p q r s here (contents.Freelist f) part now took within (goes_popped r after_is) (ap (λ (z : PassView). z.spares) after_is) (ap (λ (z : PassView). z.view.bits) after_is) (ap (λ (z : PassView). z.view.carried) after_is) learns under (can_give_popped r can is_there after_is) gave;
         trace = record {
           passed = [];
           giver = cpu;
@@ -146,10 +147,10 @@ module _ {t : TableView} {cpu : ℕ} {p q : PassView} {f : FreelistView} (took :
       let is_there = freelist_there t.shape cpu plain within in
       let part : Part = parts.Free turns.FoundEmpty in
       let under = under_taken t (Freelist cpu) p q here took in
-      let learns = learns_nothing t.shape q.view q.view refl refl refl in
+      let learns = learns_none t.shape q.view in
       let turn = turn_is t cpu p q q s here turns.FoundEmpty took.hold.now took is_there under gave in record {
         steps = given_turn q gave.hold part ∷ [];
-        reached = reached_once t cpu p q q s here here part took.hold.now took within (goes_nowhere q) refl refl learns under (can_give_empty can is_there empty) gave;
+        reached = reached_once t cpu p q q s here here part took.hold.now took within (goes_nowhere q) refl refl refl learns under (can_give_empty can is_there empty) gave;
         trace = ap (λ (x : Turn). x ∷ []) turn;
         hand = ap (λ (z : PassView). z.view.hand) gave.after_is ∙ ap (λ (z : PassView). z.view.hand) took.after_is;
         fresh = tt;

@@ -25,10 +25,11 @@ use Rattle.place_table.specs.Contents.{IsSized}
 use Rattle.place_table.specs.Passes.{PassView, TableView, Takes, CanGive, Gave, Goes, with_view}
 use Rattle.place_table.specs.Views.{no_notes, now_under, settled, moved, without_in_hand}
 use Rattle.place_table.proofs.Gives.{taken_of_table, taken_begun}
-use Rattle.place_table.proofs.Going.{given_turn, goes_moved, goes_of_table, goes_begun, learns_nothing}
+use Rattle.place_table.proofs.Going.{given_turn, goes_moved, goes_of_table, goes_begun, learns_moved}
 use Rattle.hash_ops.specs.Free.{CanPush, Pushed}
 use Rattle.hash_ops.proofs.FreeTurns.{with_top, free_is, number_is, no_marks, reached_once, turn_is}
 use Rattle.hash_ops.proofs.Turning.{IsUnder, under_taken, under_now, under_moved, can_give}
+use Rattle.place_table.specs.Words.{owner_word}
 
 -- a freelist whose numbers are distinct and the map's has room for one that isn't on it
 
@@ -78,11 +79,11 @@ module _ {t : TableView} {cpu : ℕ} {p q : PassView} {f : FreelistView} {body :
         let k : ℕ = lock_number q.view.shape (Freelist cpu) in
         let number : took.hold.lock ≡ k = number_is t cpu p q here took can.can.of_table in
         let before = under_taken t (Freelist cpu) p q here took in
-        under_moved p q r took.hold took.hold.now (with_free e (without_row e took.hold.now)) no_notes k (without_in_hand e q.cpu q.view.hand) before number
-        (settled_is ∙ ap (λ (now : Lists). with_view q (moved k (with_free e (without_row e now)) (without_in_hand e q.cpu q.view.hand) q.view)) (under_now p q took.hold took.hold.now no_notes k before number))
+        under_moved p q r took.hold took.hold.now (with_free e (without_row e took.hold.now)) no_notes k (without_in_hand e q.cpu q.view.hand) (owner_word q.view.shape e) 0 before number
+        (settled_is ∙ ap (λ (now : Lists). with_view q (moved k (with_free e (without_row e now)) (without_in_hand e q.cpu q.view.hand) (owner_word q.view.shape e) 0 q.view)) (under_now p q took.hold took.hold.now no_notes k before number))
 
     goes_pushed : Goes q r [] []
-    goes_pushed = goes_moved (lock_number q.view.shape (Freelist cpu)) (with_free e (without_row e (now_under (Freelist cpu) q.view))) (without_in_hand e q.cpu q.view.hand) q r settled_is
+    goes_pushed = goes_moved (lock_number q.view.shape (Freelist cpu)) (with_free e (without_row e (now_under (Freelist cpu) q.view))) (without_in_hand e q.cpu q.view.hand) (owner_word q.view.shape e) 0 q r settled_is
 
     pub can_give_pushed : CanGive t (Freelist cpu) r (contents.Freelist new) (parts.Free (turns.Pushed e))
     can_give_pushed =
@@ -106,9 +107,9 @@ module _ {t : TableView} {cpu : ℕ} {p q : PassView} {f : FreelistView} {body :
         let here = contents.Freelist f in
         let part : Part = parts.Free (turns.Pushed e) in
         let now : Lists = with_free e (without_row e took.hold.now) in
-        let learns = learns_nothing t.shape q.view r.view (ap (λ (z : PassView). z.view.known) settled_is) (ap (λ (z : PassView). z.view.cpus) settled_is) (ap (λ (z : PassView). z.view.shape) settled_is) in record {
+        let learns = learns_moved t.shape (lock_number q.view.shape (Freelist cpu)) (with_free e (without_row e (now_under (Freelist cpu) q.view))) (without_in_hand e q.cpu q.view.hand) (owner_word q.view.shape e) 0 q r settled_is in record {
           step = given_turn r gave.hold part;
-          reached = reached_once t cpu p q r s here (contents.Freelist new) part now took within goes_pushed (ap (λ (z : PassView). z.spares) settled_is) (ap (λ (z : PassView). z.view.bits) settled_is) learns under_pushed can_give_pushed gave;
+          reached = reached_once t cpu p q r s here (contents.Freelist new) part now took within goes_pushed (ap (λ (z : PassView). z.spares) settled_is) (ap (λ (z : PassView). z.view.bits) settled_is) (ap (λ (z : PassView). z.view.carried) settled_is) learns under_pushed can_give_pushed gave;
           turn = turn_is t cpu p q r s here (turns.Pushed e) now took is_there under_pushed gave ∙ (λ i. on_freelist_of (mine i) (turns.Pushed (same i)));
           hand = ap (λ (z : PassView). z.view.hand) gave.after_is ∙ (ap (λ (z : PassView). z.view.hand) settled_is ∙ (ap (λ (z : PassView). without_in_hand e z.cpu z.view.hand) took.after_is ∙ ap (λ (x : ℕ). without_in_hand x p.cpu p.view.hand) same));
         }

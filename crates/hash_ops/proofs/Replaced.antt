@@ -4,6 +4,7 @@ use Rattle.std.specs.Prelude.{suc}
 use Rattle.map_types.specs.declared.attr.Shape.{Shape}
 use Rattle.map_types.specs.declared.call.Verb.TheVariants as verbs
 use Rattle.map_types.specs.declared.kind.DomainId.TheVariants.{Bucket}
+use Rattle.map_types.specs.declared.kind.MapKind.TheVariants.{Hash}
 use Rattle.map_types.specs.declared.kind.Side.{Side}
 use Rattle.map_types.specs.declared.reply.Reply.TheVariants.{Done}
 use Rattle.map_types.specs.Kind.{is_lru}
@@ -40,17 +41,17 @@ abbrev pub handed : ℕ → ℕ → ℕ → List InHand → List InHand
 handed new old cpu hand = with_in_hand old cpu (without_in_hand new cpu hand)
 
 pub idle_replaced : (q s : PassView) (cpu new old : ℕ) (was now : Stored) → HasItsSpares q → s.view.held ≡ [] → s.view.cpus ≡ q.view.cpus → s.view.shape ≡ q.view.shape → spare_of cpu q.spares ≡ Some was → was.element ≡ new → spare_of cpu s.spares ≡ Some now → now.element ≡ old
-    → SparesDiffer cpu q.spares s.spares → s.view.hand ≡ handed new old cpu q.view.hand → IsInNoCall s
-idle_replaced q s cpu new old was now has held cpus shape kept_was was_is kept_now now_is others hand_is = record {
+    → SparesDiffer cpu q.spares s.spares → s.view.hand ≡ handed new old cpu q.view.hand → s.view.carried ≡ q.view.carried → s.view.shape.kind ≡ Hash → IsInNoCall s
+idle_replaced q s cpu new old was now has held cpus shape kept_was was_is kept_now now_is others hand_is carried hash = record {
   holds_nothing = held;
   spares_only = λ e c mine in_hand.
       let there : is_in_hand_of e c (handed new old cpu q.view.hand) ≡ true = ap (is_in_hand_of e c) (sym hand_is) ∙ in_hand in
-      by_test c cpu (λ _. (body : Stored) × (spare_of c s.spares ≡ Some body) × (body.element ≡ e))
-      (λ same_cpu. by_test e old (λ _. (body : Stored) × (spare_of c s.spares ≡ Some body) × (body.element ≡ e))
-      (λ same. (now, ap (λ (n : ℕ). spare_of n s.spares) same_cpu ∙ kept_now, now_is ∙ sym same))
+      by_test c cpu (λ _. (body : Stored) × (spare_of c s.spares ≡ Some body) × (body.element ≡ e) × (s.view.shape.kind ≡ Hash))
+      (λ same_cpu. by_test e old (λ _. (body : Stored) × (spare_of c s.spares ≡ Some body) × (body.element ≡ e) × (s.view.shape.kind ≡ Hash))
+      (λ same. (now, ap (λ (n : ℕ). spare_of n s.spares) same_cpu ∙ kept_now, now_is ∙ sym same, hash))
       (λ other.
       let before : is_in_hand_of e c (without_in_hand new cpu q.view.hand) ≡ true = sym (in_hand_more_else e c old cpu (without_in_hand new cpu q.view.hand) (λ is _. other is)) ∙ there in
-      by_test e new (λ _. (body : Stored) × (spare_of c s.spares ≡ Some body) × (body.element ≡ e))
+      by_test e new (λ _. (body : Stored) × (spare_of c s.spares ≡ Some body) × (body.element ≡ e) × (s.view.shape.kind ≡ Hash))
       (λ is_new. true_false (sym before ∙ ((λ i. is_in_hand_of (is_new i) (same_cpu i) (without_in_hand new cpu q.view.hand)) ∙ in_hand_less new cpu q.view.hand)))
       (λ not_new.
       let was_there : is_in_hand_of e c q.view.hand ≡ true = sym (in_hand_less_else e c new cpu q.view.hand (λ is _. not_new is)) ∙ before in
@@ -60,7 +61,7 @@ idle_replaced q s cpu new old was now has held cpus shape kept_was was_is kept_n
       (λ other_cpu.
       let was_there : is_in_hand_of e c q.view.hand ≡ true = sym (in_hand_less_else e c new cpu q.view.hand (λ _ is. other_cpu is)) ∙ (sym (in_hand_more_else e c old cpu (without_in_hand new cpu q.view.hand) (λ _ is. other_cpu is)) ∙ there) in
       let x = has.spares_only e c (ap (is_among c) (sym cpus) ∙ mine) was_there in
-      (x.0, others c other_cpu ∙ x.1, x.2));
+      (x.0, others c other_cpu ∙ x.1, x.2, hash));
   spares_in_hand = λ c body kept. ap (is_in_hand_of body.element c) hand_is ∙ by_test c cpu (λ _. is_in_hand_of body.element c (handed new old cpu q.view.hand) ≡ true)
       (λ same_cpu.
       let is_now : body ≡ now = some_is (sym kept ∙ (ap (λ (n : ℕ). spare_of n s.spares) same_cpu ∙ kept_now)) in
@@ -70,6 +71,7 @@ idle_replaced q s cpu new old was now has held cpus shape kept_was was_is kept_n
   none_out = λ kind c mine. by_test c cpu (λ _. (body : Stored) × (spare_of c s.spares ≡ Some body))
       (λ same_cpu. (now, ap (λ (n : ℕ). spare_of n s.spares) same_cpu ∙ kept_now))
       (λ other_cpu. let x = has.none_out (ap (λ (z : Shape). z.kind) (sym shape) ∙ kind) c (ap (is_among c) (sym cpus) ∙ mine) in (x.0, others c other_cpu ∙ x.1));
+  carries_nothing = carried ∙ has.carries_nothing;
 }
 
 -- The bucket, from where it was taken to where it is given back
@@ -117,7 +119,8 @@ module _ (t : TableView) (bucket : ℕ) (q : PassView) (bodies : List Stored) (b
       let part : Part = parts.Bucket (Update side flags key value None (puts.Replaced new old)) in
       let x = left_whole t bucket q r4 s bodies b now_replaced [] (contents.Bucket back) part found u (can_replace r4 back side flags key value u turn) is gave in
       let l = x.0 in
-      let told : l.lost ≡ [] → map (turn_of t.shape) (l.last ∷ []) ≡ record { lock = Bucket bucket; part = part } ∷ [] = λ none_lost. ap (λ x. x ∷ []) (l.told none_lost) in (
+      let told : map (turn_of t.shape) (l.told ∷ []) ≡ record { lock = Bucket bucket; part = part } ∷ [] = ap (λ x. x ∷ []) l.told_is in
+      let hash = (has.spares_only new q.cpu b.begun new_in_hand).3 in (
         record {
           steps = l.last ∷ [];
           lost = l.lost;
@@ -125,14 +128,16 @@ module _ (t : TableView) (bucket : ℕ) (q : PassView) (bodies : List Stored) (b
             goes = l.goes;
             notes = l.notes;
             bits = l.bits;
-            in_no_call = idle_replaced q s q.cpu new old was now has l.held l.goes.cpus l.goes.shape kept_was was_is (ap (spare_of q.cpu) l.spares ∙ kept_now) now_is (λ other ne. ap (spare_of other) l.spares ∙ others other ne) (l.hand ∙ hand_is);
+            in_no_call = idle_replaced q s q.cpu new old was now has l.held l.goes.cpus l.goes.shape kept_was was_is (ap (spare_of q.cpu) l.spares ∙ kept_now) now_is (λ other ne. ap (spare_of other) l.spares ∙ others other ne) (l.hand ∙ hand_is) l.carried (ap (λ (z : Shape). z.kind) l.goes.shape ∙ hash);
             by_call = l.by_call;
             other_spares = λ other ne. ap (spare_of other) l.spares ∙ others other ne;
             learns = l.learns;
           };
-          trace = λ none_lost. subst (λ ts. IsPlainTrace t.shape q.cpu (spare_element q) (verbs.Update side flags key value) ts Done) (sym (told none_lost))
+          told = l.told ∷ [];
+          told_are = (l.is_told, tt);
+          trace = subst (λ ts. IsPlainTrace t.shape q.cpu (spare_element q) (verbs.Update side flags key value) ts Done) (sym told)
               (update_trace t bucket q.cpu (spare_element q) side flags key value given (puts.Replaced new old) [] gives (refl, ap element_of kept_was ∙ ap Some was_is));
-          spare = λ none_lost. (λ i. element_of (spare_of (l.goes.cpu i) (l.spares i))) ∙ (ap element_of kept_now ∙ (ap Some now_is ∙ ap (spare_after (spare_element q)) (sym (told none_lost))));
+          spare = (λ i. element_of (spare_of (l.goes.cpu i) (l.spares i))) ∙ (ap element_of kept_now ∙ (ap Some now_is ∙ ap (spare_after (spare_element q)) (sym told)));
         },
         x.1,
       )

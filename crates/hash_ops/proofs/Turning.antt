@@ -4,7 +4,7 @@ use Rattle.std.specs.Prelude.{IsTrue}
 use Rattle.map_types.specs.declared.kind.DomainId.{DomainId}
 use Rattle.place_words.specs.declared.history.Part.{Part}
 use Rattle.map_types.specs.ElementLists.{times}
-use Rattle.place_words.specs.Histories.{content, content_after, Allows}
+use Rattle.place_words.specs.Histories.{content, content_after, Allows, IsLegal}
 use Rattle.place_words.specs.Locks.{is_lock, lock_named, lock_number}
 use Rattle.place_words.proofs.LockLemmas.{named_by_number}
 use Rattle.place_core.specs.declared.step.Lists.{Lists}
@@ -19,10 +19,12 @@ use Rattle.place_table.specs.Contents.{told, lists_of, Fits}
 use Rattle.place_table.specs.Known.{Learns}
 use Rattle.place_table.specs.Passes.{PassView, TableView, IsPassOf, HasBegun, Takes, CanGive, Gave, Goes, Made, with_view, entry_of}
 use Rattle.place_table.specs.TurnNotes.{NotesFit}
-use Rattle.place_table.specs.Views.{no_notes, now_at, with_now, moved, learned, holds_below, notes_below}
+use Rattle.place_table.specs.Views.{no_notes, now_at, with_now, moved, learned, holds_below, notes_below, owners_passed}
 use Rattle.place_table.proofs.Entries.{append_nil}
 use Rattle.place_table.proofs.Going.{AreElsewhere, given_turn, goes_on, goes_took, goes_gave, learns_turn, same_head}
 use Rattle.place_table.proofs.Hands.{with_lists}
+use Rattle.place_table.specs.StoredHashes.{stored_in}
+use Rattle.place_table.proofs.StoredHashes.{none_stored}
 
 -- The lock of this hold was taken by p and is still the one that r took last: these lists lie under it, with these notes.
 pub record IsUnder (p r : PassView) (hold : Hold) (now : Lists) (notes : Notes) : Type 0 where
@@ -41,8 +43,8 @@ under_now p r hold now notes k under is =
     ap (now_at k) under.held
     ∙ by_test hold.lock k (λ b. cond b now (now_at k p.view.held) ≡ now) (λ _. refl) (λ other. absurd (other is))
 
-pub under_moved : (p q r : PassView) (hold : Hold) (now later : Lists) (notes : Notes) (k : ℕ) (hand : List InHand) → IsUnder p q hold now notes → hold.lock ≡ k → r ≡ with_view q (moved k later hand q.view) → IsUnder p r hold later notes
-under_moved p q r hold now later notes k hand under is after_is = record {
+pub under_moved : (p q r : PassView) (hold : Hold) (now later : Lists) (notes : Notes) (k : ℕ) (hand : List InHand) (word left : ℕ) → IsUnder p q hold now notes → hold.lock ≡ k → r ≡ with_view q (moved k later hand word left q.view) → IsUnder p r hold later notes
+under_moved p q r hold now later notes k hand word left under is after_is = record {
   held = ap (λ (z : PassView). z.view.held) after_is ∙ (ap (with_now k later) under.held
       ∙ by_test hold.lock k (λ b. cond b (with_lists later hold ∷ p.view.held) (with_lists now hold ∷ with_now k later p.view.held) ≡ with_lists later hold ∷ p.view.held) (λ _. refl) (λ other. absurd (other is)));
   notes_are = ap (λ (z : PassView). z.view.notes) after_is ∙ under.notes_are;
@@ -72,6 +74,8 @@ can_give t lock p q r here back part now notes took under of_table begun there f
         allowed = subst (Allows t.shape r.cpu part) told_there allowed;
         same_free = same_free;
         same_rows = same_rows;
+        rows_kept = λ _ j e h n other _ _ _ is. absurd (none_stored back e n is);
+        gone = λ _ c e h _ was _. absurd (none_stored here e h (ap (λ z. stored_in z e) told_there ∙ was));
       };
       notes_fit = notes_fit;
     }
@@ -82,20 +86,22 @@ given_hold p r s hold now notes part gave under = same_head (sym gave.innermost 
 
 -- from the take to the give, with these turns between them
 pub turn_made : (t : TableView) (lock : DomainId) (p q r s : PassView) (here : Content) (inner : List Turned) (lost : List ℕ) (part : Part) (now : Lists) (notes : Notes) (took : Takes t lock p q here) → Goes q r inner lost
-    → IsUnder p r took.hold now notes → (gave : Gave r s part) → Made p s (inner ++ given_turn r gave.hold part ∷ []) lost
-turn_made t lock p q r s here inner lost part now notes took goes under gave = record {
+    → IsUnder p r took.hold now notes → ((below : List Notes) → owners_passed part below ≡ below) → (gave : Gave r s part) → Made p s (inner ++ given_turn r gave.hold part ∷ []) lost
+turn_made t lock p q r s here inner lost part now notes took goes under passes gave = record {
   goes = goes_on p r s inner (given_turn r gave.hold part ∷ []) lost [] (subst (Goes p r inner) (append_nil lost) (goes_on p q r [] inner [] lost (goes_took t lock p q here took) goes)) (goes_gave r s part gave);
   held = ap (λ (z : PassView). z.view.held) gave.after_is ∙ ap holds_below under.held;
-  notes = ap (λ (z : PassView). z.view.notes) gave.after_is ∙ ap notes_below under.notes_are;
+  notes = ap (λ (z : PassView). z.view.notes) gave.after_is ∙ (passes (notes_below r.view.notes) ∙ ap notes_below under.notes_are);
 }
 
 pub turn_learns : (t : TableView) (lock : DomainId) (p q r s : PassView) (here back : Content) (inner : List Turned) (part : Part) (now : Lists) (notes : Notes) (took : Takes t lock p q here) → IsUnder p r took.hold now notes
-    → CanGive t lock r back part → AreElsewhere (lock_number t.shape lock) inner → Learns t.shape q.view r.view inner → (gave : Gave r s part) → Learns t.shape p.view s.view (inner ++ given_turn r gave.hold part ∷ [])
+    → CanGive t lock r back part → AreElsewhere (lock_number t.shape lock) inner → Learns t.shape q.view r.view inner [] → (gave : Gave r s part) → Learns t.shape p.view s.view (inner ++ given_turn r gave.hold part ∷ []) []
 turn_learns t lock p q r s here back inner part now notes took under can apart learns gave =
     let taken : can.hold ≡ with_lists now took.hold = same_head (sym can.innermost ∙ under.held) in
     let same : can.hold ≡ gave.hold = taken ∙ sym (given_hold p r s took.hold now notes part gave under) in
-    subst (λ (h : Hold). Learns t.shape p.view s.view (inner ++ given_turn r h part ∷ [])) same
+    subst (λ (h : Hold). Learns t.shape p.view s.view (inner ++ given_turn r h part ∷ []) []) same
     (learns_turn t lock p q r here back inner part s.view took can
+    (subst (λ (h : Hold). IsLegal t.shape lock h.log) (sym taken) took.legal)
     (λ log known. ap (λ (h : Hold). h.log) taken ∙ took.known log known) apart learns
     (ap (λ (z : PassView). z.view.known) gave.after_is ∙ ap (λ (h : Hold). learned h (entry_of r part) r.view) (sym same))
+    (ap (λ (z : PassView). z.view.bits) gave.after_is)
     (ap (λ (z : PassView). z.view.cpus) gave.after_is) (ap (λ (z : PassView). z.view.shape) gave.after_is))

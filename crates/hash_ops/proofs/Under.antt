@@ -1,5 +1,5 @@
 -- What a call does while it holds the bucket of its key, up to where it gives it back.
-use Rattle.std.proofs.Common.{◌≡◌, ◌≢◌, ℕ, ◌<◌, cond, true, false, List, [], ◌∷◌, ◌++◌, length, map, get_or, inr, ⊎_elim, sym, refl, ap, ◌∙◌, subst, arith, Option, Some, None}
+use Rattle.std.proofs.Common.{◌+◌, ◌≡◌, ◌≢◌, ℕ, ◌<◌, cond, true, false, List, [], ◌∷◌, ◌++◌, length, map, get_or, inl, inr, ⊎_elim, sym, refl, ap, ◌∙◌, subst, arith, Option, Some, None}
 use Rattle.std.specs.Prelude.{◌&&◌, ◌≤◌, not, zero, suc, slice_get, IsTrue, IfSome, All}
 use Rattle.std.proofs.lemmas.Option.{slice_get_cases}
 use Rattle.std.proofs.lemmas.List.Elements.{All-nil, All-cons, All-append}
@@ -26,7 +26,7 @@ use Rattle.place_words.specs.declared.history.StrandStep.{StrandStep}
 use Rattle.place_words.specs.Bodies.{numbers}
 use Rattle.place_words.specs.Buckets.{bucket_marks}
 use Rattle.map_types.specs.ElementLists.{times, IsIn}
-use Rattle.place_words.specs.Histories.{in_bucket, content, content_after, Allows}
+use Rattle.place_words.specs.Histories.{in_bucket, content, content_after, Allows, IsLegal}
 use Rattle.place_words.specs.Locks.{is_lock, lock_named, lock_number, rank_of}
 use Rattle.place_words.specs.Traces.{Turn, IsTrace, IsPlainTrace, LooksFor, reply_of_put, bucket_of_key, on_bucket_of, spare_after}
 use Rattle.place_words.specs.Turns.{turns_of}
@@ -51,15 +51,18 @@ use Rattle.place_table.specs.Plays.{IsApartFromHands}
 use Rattle.place_table.specs.Rules.{IsAboveAll}
 use Rattle.place_table.specs.TurnNotes.{BucketNotesFit}
 use Rattle.place_table.specs.Views.{is_among, hold_at, now_at, now_under, attached, detached, with_in_hand, without_in_hand, is_in_hand_of, known_log, holding, given, with_lost, moved, with_now, no_notes, notes_below, holds_below}
-use Rattle.place_table.proofs.Going.{goes_on, goes_nowhere, goes_took, goes_moved, goes_spared, goes_gave, goes_gave_some, goes_of_table, goes_begun, given_turn, same_head, learns_on, learns_nothing, learns_took, learns_given, AreElsewhere}
+use Rattle.place_table.proofs.Going.{goes_on, goes_nowhere, goes_took, goes_moved, goes_spared, goes_gave, goes_gave_some, goes_of_table, goes_begun, given_turn, same_head, learns_on, learns_after, learns_before, learns_none, learns_moved, learns_took, learns_given, AreElsewhere}
 use Rattle.place_table.proofs.Entries.{append_nil}
-use Rattle.place_table.proofs.Worlds.{by_bool, some_is, none_some, hold_at_first}
+use Rattle.place_table.proofs.Worlds.{among_first, by_bool, some_is, none_some, hold_at_first}
 use Rattle.place_table.proofs.Hands.{now_at_is}
 use Rattle.hash_ops.proofs.BucketTurns.{IsTurnWith}
-use Rattle.hash_ops.specs.Calls.{CanCall, Leaves, Called, CalledWhole, spare_element, element_of}
+use Rattle.hash_ops.specs.Calls.{CanCall, Leaves, Called, CalledWhole, CouldBe, IsTold, AreTold, spare_element, element_of}
 use Rattle.hash_ops.specs.Free.{CanReach, Reached, AreOnFreelists}
 use Rattle.hash_ops.specs.declared.parts.Given.{Given}
 use Rattle.hash_ops.specs.Under.{InBucket, HasItsSpares, Enters, Finished, Answered, AnsweredWhole, Gives}
+use Rattle.place_table.proofs.Worlds.{true_false}
+use Rattle.place_table.proofs.Gives.{none_passed}
+use Rattle.place_table.specs.Words.{owner_word}
 
 -- Entering
 
@@ -90,6 +93,7 @@ enters t bucket p q chain plain can there few took =
         lock_is = took.lock_is;
         cpu_is = took.cpu_is ∙ sym goes.cpu;
         content_is = took.told_is;
+        legal = took.legal;
         now = took.now;
         elements = took.elements;
         apart = subst (λ (v : View). IsApartFromHands v took.hold.now) (sym view) took.apart;
@@ -99,11 +103,12 @@ enters t bucket p q chain plain can there few took =
       spares = record {
         spares_only = λ e cpu has in_hand.
             let x = can.in_no_call.spares_only e cpu (ap (λ (v : View). is_among cpu v.cpus) (sym view) ∙ has) (ap (λ (v : View). is_in_hand_of e cpu v.hand) (sym view) ∙ in_hand) in
-            (x.0, ap (λ (z : PassView). spare_of cpu z.spares) took.after_is ∙ x.1, x.2);
+            (x.0, ap (λ (z : PassView). spare_of cpu z.spares) took.after_is ∙ x.1, x.2, ap (λ (v : View). v.shape.kind) view ∙ x.3);
         spares_in_hand = λ cpu body kept. ap (λ (v : View). is_in_hand_of body.element cpu v.hand) view ∙ can.in_no_call.spares_in_hand cpu body (ap (λ (z : PassView). spare_of cpu z.spares) (sym took.after_is) ∙ kept);
         none_out = λ kind cpu has.
             let x = can.in_no_call.none_out (ap (λ (v : View). v.shape.kind) (sym view) ∙ kind) cpu (ap (λ (v : View). is_among cpu v.cpus) (sym view) ∙ has) in
             (x.0, ap (λ (z : PassView). spare_of cpu z.spares) took.after_is ∙ x.1);
+        carries_nothing = ap (λ (v : View). v.carried) view ∙ can.in_no_call.carries_nothing;
       };
     }
 
@@ -118,9 +123,10 @@ pub record Under (t : TableView) (hold : Hold) (below : List Notes) (q r : PassV
   pub held : r.view.held ≡ hold_with hold now ∷ []
   pub notes : r.view.notes ≡ no_notes ∷ below
   pub bits : r.view.bits ≡ q.view.bits
+  pub carried : r.view.carried ≡ q.view.carried
   pub by_call : All (IsBy q.cpu q.call) inner
   pub elsewhere : AreElsewhere hold.lock inner
-  pub learns : Learns t.shape q.view r.view inner
+  pub learns : Learns t.shape q.view r.view inner []
 
 pub under_nothing : (t : TableView) (bucket : ℕ) (q : PassView) (bodies : List Stored) (b : InBucket t bucket q bodies) → Under t b.hold b.below q q b.hold.now []
 under_nothing t bucket q bodies b = record {
@@ -128,23 +134,24 @@ under_nothing t bucket q bodies b = record {
   held = b.held;
   notes = b.notes;
   bits = refl;
+  carried = refl;
   by_call = All-nil (IsBy q.cpu q.call);
   elsewhere = tt;
-  learns = learns_nothing t.shape q.view q.view refl refl refl;
+  learns = learns_none t.shape q.view;
 }
 
 -- an element was moved there
-pub under_moved : (t : TableView) (hold : Hold) (below : List Notes) (q r s : PassView) (now then : Lists) (inner : List Turned) (k : ℕ) (hand : List InHand) → Under t hold below q r now inner → k ≡ hold.lock → s ≡ with_view r (moved k then hand r.view) → Under t hold below q s then inner
-under_moved t hold below q r s now then inner k hand u k_is is = record {
-  goes = subst (λ (l : List Turned). Goes q s l []) (append_nil inner) (goes_on q r s inner [] [] [] u.goes (goes_moved k then hand r s is));
+pub under_moved : (t : TableView) (hold : Hold) (below : List Notes) (q r s : PassView) (now then : Lists) (inner : List Turned) (k : ℕ) (hand : List InHand) (word left : ℕ) → Under t hold below q r now inner → k ≡ hold.lock → s ≡ with_view r (moved k then hand word left r.view) → Under t hold below q s then inner
+under_moved t hold below q r s now then inner k hand word left u k_is is = record {
+  goes = subst (λ (l : List Turned). Goes q s l []) (append_nil inner) (goes_on q r s inner [] [] [] u.goes (goes_moved k then hand word left r s is));
   held = ap (λ (z : PassView). z.view.held) is ∙ (ap (with_now k then) u.held
       ∙ by_test hold.lock k (λ b. cond b (record { lock = hold.lock; cpu = hold.cpu; log = hold.log; now = then; lost = hold.lost } ∷ []) (hold_with hold now ∷ []) ≡ hold_with hold then ∷ []) (λ _. refl) (λ other. absurd (other (sym k_is))));
   notes = ap (λ (z : PassView). z.view.notes) is ∙ u.notes;
   bits = ap (λ (z : PassView). z.view.bits) is ∙ u.bits;
+  carried = ap (λ (z : PassView). z.view.carried) is ∙ u.carried;
   by_call = u.by_call;
   elsewhere = u.elsewhere;
-  learns = subst (λ (l : List Turned). Learns t.shape q.view s.view l) (append_nil inner)
-      (learns_on t.shape q.view r.view s.view inner [] u.learns (learns_nothing t.shape r.view s.view (ap (λ (z : PassView). z.view.known) is) (ap (λ (z : PassView). z.view.cpus) is) (ap (λ (z : PassView). z.view.shape) is)));
+  learns = learns_before t.shape q.view r.view s.view inner u.learns (learns_moved t.shape k then hand word left r s is);
 }
 
 -- a spare was handed out or kept
@@ -154,9 +161,10 @@ under_spared t hold below q r s now inner u is = record {
   held = ap (λ (z : PassView). z.view.held) is ∙ u.held;
   notes = ap (λ (z : PassView). z.view.notes) is ∙ u.notes;
   bits = ap (λ (z : PassView). z.view.bits) is ∙ u.bits;
+  carried = ap (λ (z : PassView). z.view.carried) is ∙ u.carried;
   by_call = u.by_call;
   elsewhere = u.elsewhere;
-  learns = subst (λ (v : View). Learns t.shape q.view v inner) (sym (ap (λ (z : PassView). z.view) is)) u.learns;
+  learns = subst (λ (v : View). Learns t.shape q.view v inner []) (sym (ap (λ (z : PassView). z.view) is)) u.learns;
 }
 
 -- freelists were looked at
@@ -187,9 +195,10 @@ under_reached t bucket q r s bodies b now inner steps plain u reached = record {
   held = reached.held ∙ u.held;
   notes = reached.notes ∙ u.notes;
   bits = reached.bits ∙ u.bits;
+  carried = reached.carried ∙ u.carried;
   by_call = All-append (IsBy q.cpu q.call) inner steps u.by_call (subst (λ (z : ℕ × ℕ). All (IsBy z.0 z.1) steps) (λ i. (u.goes.cpu i, u.goes.call i)) reached.by_call);
   elsewhere = elsewhere_more b.hold.lock inner steps u.elsewhere (elsewhere_on_freelists t.shape bucket b.hold.lock steps b.there plain b.lock_is reached.on_freelists);
-  learns = learns_on t.shape q.view r.view s.view inner steps u.learns reached.learns;
+  learns = learns_on t.shape q.view r.view s.view inner steps [] [] u.learns reached.learns;
 }
 
 -- freelists may be taken there
@@ -233,6 +242,8 @@ can_give t bucket q r bodies b now inner back part plain u turn sized counted no
         allowed = subst (Allows t.shape r.cpu (parts.Bucket part)) found (subst (λ (c : ℕ). Allows t.shape c (parts.Bucket part) (in_bucket bodies)) (sym u.goes.cpu) turn.allowed);
         same_free = λ e. ap (times e) (sym no_free);
         same_rows = λ e. ap (times e) (append_nil (numbers back.bodies)) ∙ counted e;
+        rows_kept = λ lru j e h n other _ _ was _. true_false (sym lru ∙ plain);
+        gone = λ lru c e h _ was _. true_false (sym lru ∙ plain);
       };
       notes_fit = record { marks_are = no_marks t.shape part plain; no_clears = refl; seen = fits };
     }
@@ -242,7 +253,7 @@ pub may_give_back : (t : TableView) (lock : DomainId) (r : PassView) (here : Con
 may_give_back t lock r here part None can is = (part, can)
 may_give_back t lock r here part (Some x) can is = subst (CanGive t lock r here) (sym is) can
 
--- What is left once the bucket is given back: one turn more, which is this one where its record isn't lost.
+-- What is left once the bucket is given back: one turn more, which is told as this one.
 pub record Left (t : TableView) (bucket : ℕ) (q r s : PassView) (inner : List Turned) (part : Part) : Type 0 where
   pub last : Turned
   pub lost : List ℕ
@@ -250,15 +261,52 @@ pub record Left (t : TableView) (bucket : ℕ) (q r s : PassView) (inner : List 
   pub held : s.view.held ≡ []
   pub notes : s.view.notes ≡ notes_below q.view.notes
   pub bits : s.view.bits ≡ q.view.bits
+  pub carried : s.view.carried ≡ q.view.carried
   pub by_call : All (IsBy q.cpu q.call) (inner ++ last ∷ [])
-  pub learns : Learns t.shape q.view s.view (inner ++ last ∷ [])
+  pub learns : Learns t.shape q.view s.view (inner ++ last ∷ []) []
   pub hand : s.view.hand ≡ r.view.hand
   pub spares : s.spares ≡ r.spares
-  pub told : lost ≡ [] → turn_of t.shape last ≡ record { lock = Bucket bucket; part = part }
+  pub told : Turned
+  pub is_told : IsTold t.shape lost last told
+  pub told_is : turn_of t.shape told ≡ record { lock = Bucket bucket; part = part }
+
+-- Two parts that could be given at once: the turn of the one could be that of the other.
+could_be : (t : TableView) (lock : DomainId) (r : PassView) (back : Content) (part stands : Part) (can : CanGive t lock r back part) (other : CanGive t lock r back stands) → CouldBe t.shape (given_turn r other.hold stands) (given_turn r can.hold part)
+could_be t lock r back part stands can other =
+    let same : can.hold ≡ other.hold = same_head (sym can.innermost ∙ other.innermost) in
+    let notes : can.notes ≡ other.notes = same_head (sym can.notes_are ∙ other.notes_are) in
+    record {
+      lock = ap (λ (h : Hold). h.lock) same;
+      earlier = ap (λ (h : Hold). h.log) same;
+      cpu = refl;
+      call = refl;
+      allowed = subst (λ (h : Hold). Allows t.shape r.cpu part (content t.shape (lock_named t.shape h.lock) h.log)) same can.may_put.allowed;
+      same_marks = sym can.notes_fit.marks_are ∙ (ap (λ (n : Notes). n.marks) notes ∙ other.notes_fit.marks_are);
+      leaves = sym (subst (λ (h : Hold). told back ≡ content_after t.shape r.cpu part (content t.shape (lock_named t.shape h.lock) h.log)) same can.may_put.told_is) ∙ other.may_put.told_is;
+    }
+
+-- what was made is told as itself, where other locks are lost too
+pub all_told : (shape : Shape) (lost : List ℕ) (steps : List Turned) → AreTold shape lost steps steps
+all_told shape lost [] = tt
+all_told shape lost (step ∷ steps) = (inl refl, all_told shape lost steps)
+
+pub told_more : (shape : Shape) (lost : List ℕ) (inner : List Turned) (last told : Turned) → IsTold shape lost last told → AreTold shape lost (inner ++ last ∷ []) (inner ++ told ∷ [])
+told_more shape lost [] last told is = (is, tt)
+told_more shape lost (step ∷ steps) last told is = (inl refl, told_more shape lost steps last told is)
+
+-- where no record is lost, the turns are told as they were made
+pub told_whole : (shape : Shape) (steps told : List Turned) → AreTold shape [] steps told → told ≡ steps
+told_whole shape [] [] are = refl
+told_whole shape [] (told ∷ others) are = absurd are
+told_whole shape (step ∷ steps) [] are = absurd are
+told_whole shape (step ∷ steps) (told ∷ others) are =
+    let first : told ≡ step = ⊎_elim (λ (same : told ≡ step). same) (λ (x : (false ≡ true) × CouldBe shape step told). true_false (sym x.0)) are.0 in
+    (λ i. first i ∷ told_whole shape steps others are.1 i)
 
 left_by : (t : TableView) (bucket : ℕ) (q r s : PassView) (bodies : List Stored) (b : InBucket t bucket q bodies) (now : Lists) (inner : List Turned) (back : Content) (part stands : Part) (lost : List ℕ) (kept : List StrandStep) → Under t b.hold b.below q r now inner
-    → (can : CanGive t (Bucket bucket) r back stands) → Goes r s (given_turn r can.hold stands ∷ []) lost → s ≡ with_view r (with_lost (lost ++ r.view.lost) (given can.hold (entry_of r stands) kept r.view)) → (lost ≡ [] → stands ≡ part) → Left t bucket q r s inner part
-left_by t bucket q r s bodies b now inner back part stands lost kept u can goes is told =
+    → (can : CanGive t (Bucket bucket) r back stands) → (meant : CanGive t (Bucket bucket) r back part) → Goes r s (given_turn r can.hold stands ∷ []) lost → s ≡ with_view r (with_lost (lost ++ r.view.lost) (given can.hold (entry_of r stands) kept r.view))
+    → IsTold t.shape lost (given_turn r can.hold stands) (given_turn r meant.hold part) → Left t bucket q r s inner part
+left_by t bucket q r s bodies b now inner back part stands lost kept u can meant goes is is_told =
     let hold_is : can.hold ≡ hold_with b.hold now = same_head (sym can.innermost ∙ u.held) in
     let last : Turned = given_turn r can.hold stands in
     record {
@@ -266,32 +314,34 @@ left_by t bucket q r s bodies b now inner back part stands lost kept u can goes 
       lost = lost;
       goes = subst (λ (l : List ℕ). Goes q s (inner ++ last ∷ []) l) (append_nil lost) (goes_on q r s inner (last ∷ []) [] lost u.goes goes);
       held = ap (λ (z : PassView). z.view.held) is ∙ ap holds_below u.held;
-      notes = ap (λ (z : PassView). z.view.notes) is ∙ (ap notes_below u.notes ∙ sym (ap notes_below b.notes));
+      notes = ap (λ (z : PassView). z.view.notes) is ∙ (none_passed stands can.notes (notes_below r.view.notes) (ap (λ (z : Notes). z.owners) (same_head (sym can.notes_are ∙ u.notes))) can.notes_fit.seen ∙ (ap notes_below u.notes ∙ sym (ap notes_below b.notes)));
       bits = ap (λ (z : PassView). z.view.bits) is ∙ u.bits;
+      carried = ap (λ (z : PassView). z.view.carried) is ∙ u.carried;
       by_call = All-append (IsBy q.cpu q.call) inner (last ∷ []) u.by_call (All-cons (IsBy q.cpu q.call) last [] (u.goes.cpu, u.goes.call) (All-nil (IsBy q.cpu q.call)));
       learns = learns_given t (Bucket bucket) q r back inner stands s.view can
+          (subst (λ (h : Hold). IsLegal t.shape (Bucket bucket) h.log) (sym hold_is) b.legal)
           (λ log known. ap (λ (h : Hold). h.log) hold_is ∙ b.known log (ap (λ (n : ℕ). known_log n q.view.known) b.lock_is ∙ known))
           (subst (λ (n : ℕ). AreElsewhere n inner) b.lock_is u.elsewhere) u.learns
-          (ap (λ (z : PassView). z.view.known) is) (ap (λ (z : PassView). z.view.cpus) is) (ap (λ (z : PassView). z.view.shape) is);
+          (ap (λ (z : PassView). z.view.known) is) (ap (λ (z : PassView). z.view.bits) is) (ap (λ (z : PassView). z.view.cpus) is) (ap (λ (z : PassView). z.view.shape) is);
       hand = ap (λ (z : PassView). z.view.hand) is;
       spares = ap (λ (z : PassView). z.spares) is;
-      told = λ none_lost. (λ i. record { lock = named i; part = told none_lost i });
+      told = given_turn r meant.hold part;
+      is_told = is_told;
+      told_is = (λ i. record { lock = named i; part = part });
     }
   where
-    named : lock_named t.shape can.hold.lock ≡ Bucket bucket
-    named = ap (lock_named t.shape) can.lock_is ∙ named_by_number t.shape (Bucket bucket) (bucket_there t.shape bucket b.there)
-
-cons_is_not : (x : ℕ) (xs : List ℕ) → x ∷ xs ≡ [] → ⊥
-cons_is_not x xs e = cc
+    named : lock_named t.shape meant.hold.lock ≡ Bucket bucket
+    named = ap (lock_named t.shape) meant.lock_is ∙ named_by_number t.shape (Bucket bucket) (bucket_there t.shape bucket b.there)
 
 pub left : (t : TableView) (bucket : ℕ) (q r s : PassView) (bodies : List Stored) (b : InBucket t bucket q bodies) (now : Lists) (inner : List Turned) (back : Content) (part : Part) (found : Option Part) → Under t b.hold b.below q r now inner
     → CanGive t (Bucket bucket) r back part → IfSome found (λ x. x ≡ part) → GaveBack t (Bucket bucket) r s back found → Left t bucket q r s inner part
 left t bucket q r s bodies b now inner back part None u can is gave =
-    left_by t bucket q r s bodies b now inner back part gave.part (gave.can.hold.lock ∷ []) r.view.kept u gave.can (goes_gave_some t (Bucket bucket) r s back gave) gave.after_is (λ none_lost. absurd (cons_is_not _ _ none_lost))
+    left_by t bucket q r s bodies b now inner back part gave.part (gave.can.hold.lock ∷ []) r.view.kept u gave.can can (goes_gave_some t (Bucket bucket) r s back gave) gave.after_is
+    (inr (among_first gave.can.hold.lock [], could_be t (Bucket bucket) r back part gave.part can gave.can))
 left t bucket q r s bodies b now inner back part (Some x) u can is gave =
     let hold_is : gave.hold ≡ can.hold = same_head (sym gave.innermost ∙ can.innermost) in
     let recorded : Goes r s (given_turn r can.hold part ∷ []) [] = subst (λ (z : Hold × Part). Goes r s (given_turn r z.0 z.1 ∷ []) []) (λ i. (hold_is i, is i)) (goes_gave r s x gave) in
-    left_by t bucket q r s bodies b now inner back part part [] gave.kept u can recorded (gave.after_is ∙ (λ i. with_view r (given (hold_is i) (entry_of r (is i)) gave.kept r.view))) (λ _. refl)
+    left_by t bucket q r s bodies b now inner back part part [] gave.kept u can can recorded (gave.after_is ∙ (λ i. with_view r (given (hold_is i) (entry_of r (is i)) gave.kept r.view))) (inl refl)
 
 -- a part was given
 pub left_whole : (t : TableView) (bucket : ℕ) (q r s : PassView) (bodies : List Stored) (b : InBucket t bucket q bodies) (now : Lists) (inner : List Turned) (back : Content) (part found : Part) → Under t b.hold b.below q r now inner
@@ -300,25 +350,26 @@ unfolding left left_by
 left_whole t bucket q r s bodies b now inner back part found u can is gave = (left t bucket q r s bodies b now inner back part (Some found) u can is gave, refl)
 
 -- no part was given: the turn that is lost
-pub left_forgotten : (t : TableView) (bucket : ℕ) (q s : PassView) (bodies : List Stored) (b : InBucket t bucket q bodies) (back : Content) (part : Part) (gave : GaveSome t (Bucket bucket) q s back)
-    → (l : Left t bucket q q s [] part) × (l.last ≡ given_turn q gave.can.hold gave.part) × (l.lost ≡ gave.can.hold.lock ∷ [])
+pub left_forgotten : (t : TableView) (bucket : ℕ) (q s : PassView) (bodies : List Stored) (b : InBucket t bucket q bodies) (back : Content) (gave : GaveSome t (Bucket bucket) q s back)
+    → (l : Left t bucket q q s [] gave.part) × (l.last ≡ given_turn q gave.can.hold gave.part) × (l.lost ≡ gave.can.hold.lock ∷ [])
 unfolding left_by
-left_forgotten t bucket q s bodies b back part gave =
-    (left_by t bucket q q s bodies b b.hold.now [] back part gave.part (gave.can.hold.lock ∷ []) q.view.kept (under_nothing t bucket q bodies b) gave.can (goes_gave_some t (Bucket bucket) q s back gave) gave.after_is (λ none_lost. absurd (cons_is_not _ _ none_lost)), refl, refl)
+left_forgotten t bucket q s bodies b back gave =
+    (left_by t bucket q q s bodies b b.hold.now [] back gave.part gave.part (gave.can.hold.lock ∷ []) q.view.kept (under_nothing t bucket q bodies b) gave.can gave.can (goes_gave_some t (Bucket bucket) q s back gave) gave.after_is (inl refl), refl, refl)
 
 -- Answers
 
 -- a pass whose hands hold the same, and whose spares are the same, is in no call
-pub idle_same : (q s : PassView) → HasItsSpares q → s.view.held ≡ [] → s.view.cpus ≡ q.view.cpus → s.view.shape ≡ q.view.shape → s.spares ≡ q.spares → ((e c : ℕ) → is_in_hand_of e c s.view.hand ≡ is_in_hand_of e c q.view.hand) → IsInNoCall s
-idle_same q s has held cpus shape spares hand = record {
+pub idle_same : (q s : PassView) → HasItsSpares q → s.view.held ≡ [] → s.view.cpus ≡ q.view.cpus → s.view.shape ≡ q.view.shape → s.spares ≡ q.spares → s.view.carried ≡ q.view.carried → ((e c : ℕ) → is_in_hand_of e c s.view.hand ≡ is_in_hand_of e c q.view.hand) → IsInNoCall s
+idle_same q s has held cpus shape spares carried hand = record {
   holds_nothing = held;
   spares_only = λ e cpu mine in_hand.
       let x = has.spares_only e cpu (ap (is_among cpu) (sym cpus) ∙ mine) (sym (hand e cpu) ∙ in_hand) in
-      (x.0, ap (spare_of cpu) spares ∙ x.1, x.2);
+      (x.0, ap (spare_of cpu) spares ∙ x.1, x.2, ap (λ (z : Shape). z.kind) shape ∙ x.3);
   spares_in_hand = λ cpu body kept. hand body.element cpu ∙ has.spares_in_hand cpu body (ap (spare_of cpu) (sym spares) ∙ kept);
   none_out = λ kind cpu mine.
       let x = has.none_out (ap (λ (z : Shape). z.kind) (sym shape) ∙ kind) cpu (ap (is_among cpu) (sym cpus) ∙ mine) in
       (x.0, ap (spare_of cpu) spares ∙ x.1);
+  carries_nothing = carried ∙ has.carries_nothing;
 }
 
 -- what is left from where the call began
@@ -335,7 +386,7 @@ leaves_of t bucket p q s chain steps lost took none_held f =
       by_call = subst (λ (z : PassView). All (IsBy z.cpu z.call) steps) took.after_is f.by_call;
       other_spares = subst (λ (z : PassView). SparesDiffer z.cpu z.spares s.spares) took.after_is f.other_spares;
       bits = f.bits ∙ ap (λ (z : PassView). z.view.bits) took.after_is;
-      learns = learns_on t.shape p.view q.view s.view [] steps (learns_took t (Bucket bucket) p q (contents.Bucket chain) took) f.learns;
+      learns = learns_after t.shape p.view q.view s.view steps [] (learns_took t (Bucket bucket) p q (contents.Bucket chain) took) f.learns;
     }
 
 -- the bucket was given back after these turns, and spares stay
@@ -345,8 +396,9 @@ pub answered_same : (t : TableView) (bucket : ℕ) (q r s : PassView) (verb : Ve
     → spare_element q ≡ spare_after (spare_element q) (turns ++ record { lock = Bucket bucket; part = part } ∷ []) → Answered t q s verb reply
 answered_same t bucket q r s verb reply inner part turns has l spares hand turns_are trace spare =
     let steps : List Turned = inner ++ l.last ∷ [] in
-    let whole : l.lost ≡ [] → map (turn_of t.shape) steps ≡ turns ++ record { lock = Bucket bucket; part = part } ∷ [] =
-    λ none_lost. map-append (turn_of t.shape) inner (l.last ∷ []) ∙ (λ i. turns_are i ++ l.told none_lost i ∷ []) in
+    let told : List Turned = inner ++ l.told ∷ [] in
+    let whole : map (turn_of t.shape) told ≡ turns ++ record { lock = Bucket bucket; part = part } ∷ [] =
+    map-append (turn_of t.shape) inner (l.told ∷ []) ∙ (λ i. turns_are i ++ l.told_is i ∷ []) in
     let same_spares : s.spares ≡ q.spares = l.spares ∙ spares in
     record {
       steps = steps;
@@ -355,13 +407,15 @@ answered_same t bucket q r s verb reply inner part turns has l spares hand turns
         goes = l.goes;
         notes = l.notes;
         bits = l.bits;
-        in_no_call = idle_same q s has l.held l.goes.cpus l.goes.shape same_spares (λ e c. ap (is_in_hand_of e c) l.hand ∙ hand e c);
+        in_no_call = idle_same q s has l.held l.goes.cpus l.goes.shape same_spares l.carried (λ e c. ap (is_in_hand_of e c) l.hand ∙ hand e c);
         by_call = l.by_call;
         other_spares = λ other _. ap (spare_of other) same_spares;
         learns = l.learns;
       };
-      trace = λ none_lost. subst (λ (ts : List Turn). IsPlainTrace t.shape q.cpu (spare_element q) verb ts reply) (sym (whole none_lost)) trace;
-      spare = λ none_lost. (λ i. element_of (spare_of (l.goes.cpu i) (same_spares i))) ∙ (spare ∙ ap (spare_after (spare_element q)) (sym (whole none_lost)));
+      told = told;
+      told_are = told_more t.shape l.lost inner l.last l.told l.is_told;
+      trace = subst (λ (ts : List Turn). IsPlainTrace t.shape q.cpu (spare_element q) verb ts reply) (sym whole) trace;
+      spare = (λ i. element_of (spare_of (l.goes.cpu i) (same_spares i))) ∙ (spare ∙ ap (spare_after (spare_element q)) (sym whole));
     }
 
 -- and no record was lost
@@ -391,16 +445,29 @@ pub called_of : (t : TableView) (bucket : ℕ) (p q s : PassView) (chain : BodyL
 called_of t bucket p q s chain verb reply enters none_held answered =
     let took = enters.took in
     let f = answered.finished in
-    let steps : List Turned = answered.steps in
+    let told : List Turned = answered.told in
     record {
-      steps = steps;
+      steps = answered.steps;
       lost = answered.lost;
-      leaves = leaves_of t bucket p q s chain steps answered.lost took none_held f;
-      trace = λ none_lost. subst (λ (z : PassView). IsTrace t.shape z.cpu (spare_element z) verb (map (turn_at t.shape) steps) reply) took.after_is
-          (trace_at t.shape q.cpu (spare_element q) verb steps reply enters.plain (answered.trace none_lost));
-      spare = λ none_lost. subst (λ (z : PassView). spare_element s ≡ spare_left t.shape (spare_element z) (map (turn_at t.shape) steps)) took.after_is
-          (answered.spare none_lost ∙ plain_left t.shape (spare_element q) steps enters.plain);
+      leaves = leaves_of t bucket p q s chain answered.steps answered.lost took none_held f;
+      told = told;
+      told_are = answered.told_are;
+      trace = subst (λ (z : PassView). IsTrace t.shape z.cpu (spare_element z) verb (map (turn_at t.shape) told) reply) took.after_is
+          (trace_at t.shape q.cpu (spare_element q) verb told reply enters.plain answered.trace);
+      spare = subst (λ (z : PassView). spare_element s ≡ spare_left t.shape (spare_element z) (map (turn_at t.shape) told)) took.after_is
+          (answered.spare ∙ plain_left t.shape (spare_element q) told enters.plain);
     }
+
+-- where no record is lost, the turns that were made are the trace, and leave the spare
+module _ (t : TableView) (p q : PassView) (verb : Verb) (reply : Reply) (called : Called t p q verb reply) (whole : called.lost ≡ []) where
+  told_made : called.told ≡ called.steps
+  told_made = told_whole t.shape called.steps called.told (subst (λ (lost : List ℕ). AreTold t.shape lost called.steps called.told) whole called.told_are)
+
+  pub trace_made : IsTrace t.shape p.cpu (spare_element p) verb (map (turn_at t.shape) called.steps) reply
+  trace_made = subst (λ (steps : List Turned). IsTrace t.shape p.cpu (spare_element p) verb (map (turn_at t.shape) steps) reply) told_made called.trace
+
+  pub spare_made : spare_element q ≡ spare_left t.shape (spare_element p) (map (turn_at t.shape) called.steps)
+  spare_made = subst (λ (steps : List Turned). spare_element q ≡ spare_left t.shape (spare_element p) (map (turn_at t.shape) steps)) told_made called.spare
 
 pub called_whole : (t : TableView) (bucket : ℕ) (p q s : PassView) (chain : BodyList) (verb : Verb) (reply : Reply) → Enters t bucket p q chain → p.view.held ≡ [] → AnsweredWhole t q s verb reply → CalledWhole t p s verb reply
 unfolding called_of
@@ -467,16 +534,16 @@ now_here t bucket q r bodies b now inner u =
 pub under_attached : (t : TableView) (bucket : ℕ) (q r s : PassView) (bodies : List Stored) (b : InBucket t bucket q bodies) (now : Lists) (inner : List Turned) (e cpu : ℕ) → Under t b.hold b.below q r now inner → s ≡ with_view r (attached bucket e cpu r.view) → Under t b.hold b.below q s (with_row (Bucket bucket) e now) inner
 under_attached t bucket q r s bodies b now inner e cpu u is =
     subst (λ (l : Lists). Under t b.hold b.below q s (with_row (Bucket bucket) e l) inner) (now_here t bucket q r bodies b now inner u)
-    (under_moved t b.hold b.below q r s now (with_row (Bucket bucket) e (now_under (Bucket bucket) r.view)) inner (lock_number r.view.shape (Bucket bucket)) (without_in_hand e cpu r.view.hand) u (number_here t bucket q r bodies b now inner u) is)
+    (under_moved t b.hold b.below q r s now (with_row (Bucket bucket) e (now_under (Bucket bucket) r.view)) inner (lock_number r.view.shape (Bucket bucket)) (without_in_hand e cpu r.view.hand) (owner_word r.view.shape e) (32 + bucket) u (number_here t bucket q r bodies b now inner u) is)
 
 pub under_detached : (t : TableView) (bucket : ℕ) (q r s : PassView) (bodies : List Stored) (b : InBucket t bucket q bodies) (now : Lists) (inner : List Turned) (e cpu : ℕ) → Under t b.hold b.below q r now inner → s ≡ with_view r (detached bucket e cpu r.view) → Under t b.hold b.below q s (without_row e now) inner
 under_detached t bucket q r s bodies b now inner e cpu u is =
     subst (λ (l : Lists). Under t b.hold b.below q s (without_row e l) inner) (now_here t bucket q r bodies b now inner u)
-    (under_moved t b.hold b.below q r s now (without_row e (now_under (Bucket bucket) r.view)) inner (lock_number r.view.shape (Bucket bucket)) (with_in_hand e cpu r.view.hand) u (number_here t bucket q r bodies b now inner u) is)
+    (under_moved t b.hold b.below q r s now (without_row e (now_under (Bucket bucket) r.view)) inner (lock_number r.view.shape (Bucket bucket)) (with_in_hand e cpu r.view.hand) (owner_word r.view.shape e) (1 + cpu) u (number_here t bucket q r bodies b now inner u) is)
 
 -- what these steps ask
-pub can_attach : (t : TableView) (bucket : ℕ) (q r : PassView) (bodies : List Stored) (b : InBucket t bucket q bodies) (now : Lists) (inner : List Turned) (e : ℕ) → Under t b.hold b.below q r now inner → is_in_hand_of e r.cpu r.view.hand ≡ true → CanAttach t e bucket r
-can_attach t bucket q r bodies b now inner e u in_hand = record {
+pub can_attach : (t : TableView) (bucket : ℕ) (q r : PassView) (bodies : List Stored) (b : InBucket t bucket q bodies) (now : Lists) (inner : List Turned) (e : ℕ) → is_lru t.shape.kind ≡ false → Under t b.hold b.below q r now inner → is_in_hand_of e r.cpu r.view.hand ≡ true → CanAttach t e bucket r
+can_attach t bucket q r bodies b now inner e plain u in_hand = record {
   of_table = goes_of_table t q r inner [] u.goes b.of_table;
   begun = goes_begun q r inner [] u.goes b.begun;
   hold = hold_with b.hold now;
@@ -484,6 +551,7 @@ can_attach t bucket q r bodies b now inner e u in_hand = record {
   held = held_here t bucket q r bodies b now inner u;
   cpu_is = b.cpu_is ∙ sym u.goes.cpu;
   in_hand = in_hand;
+  hashed = λ lru. true_false (sym lru ∙ plain);
 }
 
 pub can_detach : (t : TableView) (bucket : ℕ) (q r : PassView) (bodies : List Stored) (b : InBucket t bucket q bodies) (now : Lists) (inner : List Turned) (e : ℕ) → Under t b.hold b.below q r now inner → IsIn e now.first → e < t.shape.elements → CanMark t e bucket r

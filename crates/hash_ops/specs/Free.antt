@@ -31,9 +31,10 @@ pub record Reached (t : TableView) (before after : PassView) (steps : List Turne
   pub notes : after.view.notes ≡ before.view.notes
   pub spares : after.spares ≡ before.spares
   pub bits : after.view.bits ≡ before.view.bits
+  pub carried : after.view.carried ≡ before.view.carried
   pub by_call : All (IsBy before.cpu before.call) steps
   pub on_freelists : AreOnFreelists t.shape steps
-  pub learns : Learns t.shape before.view after.view steps
+  pub learns : Learns t.shape before.view after.view steps []
 
 -- an element of the map that was in no hand of the pass
 pub record IsFresh (t : TableView) (p : PassView) (body : Stored) : Type 0 where

@@ -14,7 +14,7 @@ use Rattle.percpu_values.specs.BodyList.{BodyList}
 use Rattle.bucket_chain.specs.Places.{place_of_key, key_at}
 use Rattle.place_words.specs.declared.history.Entry.{Entry}
 use Rattle.place_words.specs.Bodies.{present}
-use Rattle.place_words.specs.Histories.{in_bucket, content}
+use Rattle.place_words.specs.Histories.{in_bucket, content, IsLegal}
 use Rattle.place_words.specs.Locks.{lock_number}
 use Rattle.place_words.specs.Traces.{bucket_of_key, IsPlainTrace, spare_after}
 use Rattle.place_table.specs.declared.content.Content.TheVariants as contents
@@ -23,10 +23,10 @@ use Rattle.place_table.specs.declared.view.Notes.{Notes}
 use Rattle.place_table.specs.declared.view.Turned.{Turned}
 use Rattle.place_table.specs.Contents.{lists_of, IsSized}
 use Rattle.place_table.specs.Known.{Learns}
-use Rattle.place_table.specs.Passes.{PassView, TableView, IsPassOf, HasBegun, IsInNoCall, SparesDiffer, Takes, GaveSome, Goes, spare_of}
+use Rattle.place_table.specs.Passes.{PassView, TableView, IsPassOf, HasBegun, IsInNoCall, HasOnlyKept, SparesDiffer, Takes, GaveSome, Goes, spare_of}
 use Rattle.place_table.specs.Plays.{AreElements, IsApartFromHands}
 use Rattle.place_table.specs.Views.{is_among, is_in_hand_of, known_log, no_notes, notes_below}
-use Rattle.hash_ops.specs.Calls.{turn_of, IsBy, spare_element, lost_turn}
+use Rattle.hash_ops.specs.Calls.{turn_of, IsBy, spare_element, lost_turn, AreTold}
 use Rattle.hash_ops.specs.declared.map.PlainRefusal.{PlainRefusal}
 use Rattle.hash_ops.specs.declared.parts.Given.{Given}
 use Rattle.hash_ops.specs.declared.map.PlainRefusal.TheVariants as refusals
@@ -44,17 +44,19 @@ pub record InBucket (t : TableView) (bucket : ℕ) (q : PassView) (bodies : List
   pub lock_is : hold.lock ≡ lock_number t.shape (Bucket bucket)
   pub cpu_is : hold.cpu ≡ q.cpu
   pub content_is : in_bucket bodies ≡ content t.shape (Bucket bucket) hold.log
+  pub legal : IsLegal t.shape (Bucket bucket) hold.log
   pub now : hold.now ≡ lists_of (in_bucket bodies)
   pub elements : AreElements t.shape hold.now
   pub apart : IsApartFromHands q.view hold.now
   pub sized : All (IsSized t.shape) bodies
   pub known : (log : List Entry) → known_log hold.lock q.view.known ≡ Some log → hold.log ≡ log
 
--- its CPUs have nothing in hand but the spares that it keeps, none of which is out
+-- its CPUs have nothing in hand but the spares that it keeps, none of which is out, and no element's home is in a hand of theirs
 pub record HasItsSpares (q : PassView) : Type 0 where
-  pub spares_only : (e cpu : ℕ) → is_among cpu q.view.cpus ≡ true → is_in_hand_of e cpu q.view.hand ≡ true → (body : Stored) × (spare_of cpu q.spares ≡ Some body) × (body.element ≡ e)
+  pub spares_only : HasOnlyKept q
   pub spares_in_hand : (cpu : ℕ) (body : Stored) → spare_of cpu q.spares ≡ Some body → is_in_hand_of body.element cpu q.view.hand ≡ true
   pub none_out : q.view.shape.kind ≡ Hash → (cpu : ℕ) → is_among cpu q.view.cpus ≡ true → (body : Stored) × (spare_of cpu q.spares ≡ Some body)
+  pub carries_nothing : q.view.carried ≡ []
 
 -- a pass in no call has taken a bucket, of a map that doesn't evict
 pub record Enters (t : TableView) (bucket : ℕ) (p q : PassView) (chain : BodyList) : Type 0 where
@@ -80,15 +82,17 @@ pub record Finished (t : TableView) (q s : PassView) (steps : List Turned) (lost
   pub in_no_call : IsInNoCall s
   pub by_call : All (IsBy q.cpu q.call) steps
   pub other_spares : SparesDiffer q.cpu q.spares s.spares
-  pub learns : Learns t.shape q.view s.view steps
+  pub learns : Learns t.shape q.view s.view steps []
 
--- and the turns are a trace of the call with this reply, where no record was lost
+-- and the turns, as the call tells them, are a trace of the call with this reply
 pub record Answered (t : TableView) (q s : PassView) (verb : Verb) (reply : Reply) : Type 0 where
   pub steps : List Turned
   pub lost : List ℕ
   pub finished : Finished t q s steps lost
-  pub trace : lost ≡ [] → IsPlainTrace t.shape q.cpu (spare_element q) verb (map (turn_of t.shape) steps) reply
-  pub spare : lost ≡ [] → spare_element s ≡ spare_after (spare_element q) (map (turn_of t.shape) steps)
+  pub told : List Turned
+  pub told_are : AreTold t.shape lost steps told
+  pub trace : IsPlainTrace t.shape q.cpu (spare_element q) verb (map (turn_of t.shape) told) reply
+  pub spare : spare_element s ≡ spare_after (spare_element q) (map (turn_of t.shape) told)
 
 -- the same, and no record was lost
 abbrev pub AnsweredWhole : TableView → PassView → PassView → Verb → Reply → Type 0

@@ -1,5 +1,5 @@
 -- What a table leaves that is closed after a serial run: the record of the run.
-use Rattle.std.proofs.Common.{◌≡◌, ℕ, zero, suc, ◌+◌, ◌<◌, ◌≤◌, Bool, true, false, not, ◌&&◌, cond, eqb, List, [], ◌∷◌, ◌++◌, length, map, Option, Some, None, refl, ap, sym, ◌∙◌, inl, inr, arith, append-nil, append_assoc}
+use Rattle.std.proofs.Common.{◌≡◌, ℕ, zero, suc, ◌+◌, ◌<◌, ◌≤◌, Bool, true, false, not, ◌&&◌, cond, eqb, List, [], ◌∷◌, ◌++◌, length, map, Option, Some, None, refl, ap, sym, ◌∙◌, inl, inr, subst, arith, append-nil, append_assoc}
 use Rattle.std.specs.Prelude.{IsTrue, All, filter, option_map, slice_get}
 use Rattle.std.specs.List.{range_with_len}
 use Rattle.std.proofs.lemmas.Bool.{lt-ltb}
@@ -20,7 +20,7 @@ use Rattle.place_words.specs.declared.history.StrandStep.{StrandStep}
 use Rattle.place_words.specs.Histories.{in_bucket, on_freelist, content}
 use Rattle.place_words.specs.Locks.{is_lock, is_same_lock, lock_named, lock_number, lock_count}
 use Rattle.place_words.specs.Strands.{places_on}
-use Rattle.place_words.proofs.LockLemmas.{number_of_named, number_within, one_number, same_lock, other_lock}
+use Rattle.place_words.proofs.LockLemmas.{number_of_named, number_within, one_number, same_lock, other_lock, named_by_number}
 use Rattle.place_core.proofs.ElementLemmas.{by_test}
 use Rattle.place_table.specs.declared.view.Ended.{Ended}
 use Rattle.place_table.specs.declared.view.Turned.{Turned}
@@ -179,7 +179,7 @@ module _ (shape : Shape) (lists : Finals) (turns : List Happened) (p : PassView)
   -- the turns of each lock of the map, by its name and by its number
   log_of : (lock : DomainId) → IsTrue (is_lock shape lock) → ends.log (lock_number shape lock) ≡ entries_on lock turns
   log_of lock there =
-      ends.known (lock_number shape lock) (going.logs (lock_number shape lock)) (going.knows.each (lock_number shape lock) (number_within shape lock there)) ∙ going.entries lock there
+      ends.known (lock_number shape lock) (going.logs (lock_number shape lock)) (going.knows.each (lock_number shape lock) (number_within shape lock there) (subst (λ (l : DomainId). IsTrue (is_lock shape l)) (sym (named_by_number shape lock there)) there)) ∙ going.entries lock there
 
   log_at : (k : ℕ) → IsTrue (has_lock shape k) → ends.log k ≡ entries_on (lock_named shape k) turns
   log_at k there = ap ends.log (sym (number_of_named shape k)) ∙ log_of (lock_named shape k) there

@@ -12,6 +12,7 @@ use Rattle.place_words.specs.declared.history.StrandStep.{StrandStep}
 use Rattle.map_types.specs.ElementLists.{put}
 use Rattle.place_core.proofs.ElementLemmas.{by_test, put_here, put_else}
 use Rattle.place_table.specs.declared.view.Turned.{Turned}
+use Rattle.place_table.specs.declared.view.WordStep.{WordStep}
 use Rattle.place_table.specs.declared.view.Ended.{Ended}
 use Rattle.place_table.specs.Passes.{PassView, TableView, spare_of, either_spare, IsInNoCall, IsPassOf, IsKeptOf, CanJoin, Joined, AreApart}
 use Rattle.place_table.specs.Views.{is_among, all_strands, current_strand}
@@ -25,13 +26,13 @@ use Rattle.map_run.specs.Workers.{HaveWorked, HasSplit, replies_by}
 use Rattle.map_run.proofs.Workers.{among_one, not_among_one, among_append, below_more, calls_taken, none_lost, count_own, count_other}
 
 -- What the pass that has a CPU tells of its worker: the turns and those recorded, and the replies.
-abbrev pub WorkIs : TableView → List Call → PassView → ℕ → List Turned × List StrandStep → List Reply → Type 0
+abbrev pub WorkIs : TableView → List Call → PassView → ℕ → List Turned × List StrandStep × List WordStep → List Reply → Type 0
 WorkIs t calls p cpu did own =
     IsKeptOf t.shape did.0 [] did.1 × (length own ≡ count_of cpu calls)
     × (p.view.lost ≡ [] → AreCallsBy t.shape cpu 1 calls (spare_at (opening t.shape) cpu) (element_of (spare_of cpu p.spares)) own did.0)
 
-abbrev pub strand_did : (ℕ → List Turned × List StrandStep) → ℕ → Ended
-strand_did did cpu = record { cpus = cpu ∷ []; steps = (did cpu).0; kept = (did cpu).1 }
+abbrev pub strand_did : (ℕ → List Turned × List StrandStep × List WordStep) → ℕ → Ended
+strand_did did cpu = record { cpus = cpu ∷ []; steps = (did cpu).0; kept = (did cpu).1; touched = (did cpu).2 }
 
 -- The pass into which those of the workers of the CPUs below n were joined, in their order, with the replies of each.
 pub record HaveJoined (t : TableView) (calls : List Call) (n : ℕ) (p : PassView) (replies : List (List Reply)) : Type 0 where
@@ -40,7 +41,7 @@ pub record HaveJoined (t : TableView) (calls : List Call) (n : ℕ) (p : PassVie
   pub here : (cpu : ℕ) → cpu < n → is_among cpu p.view.cpus ≡ true
   pub gone : (cpu : ℕ) → n ≤ cpu → cpu < t.shape.cpus → is_among cpu p.view.cpus ≡ false
   pub spares_gone : (cpu : ℕ) → n ≤ cpu → cpu < t.shape.cpus → spare_of cpu p.spares ≡ None
-  pub did : ℕ → List Turned × List StrandStep
+  pub did : ℕ → List Turned × List StrandStep × List WordStep
   pub strands : filter has_turn (all_strands p.view) ≡ filter has_turn (map (strand_did did) (range_with_len 0 n))
   pub workers : length replies ≡ n
   pub each : (cpu : ℕ) → cpu < n → WorkIs t calls p cpu (did cpu) (replies_by cpu replies)
@@ -52,7 +53,7 @@ none_joined t calls p split = record {
   here = λ cpu none. absurd (omega arith);
   gone = λ cpu _ below. split.gone cpu below;
   spares_gone = λ cpu _ below. split.spares_gone cpu below;
-  did = λ _. ([], []);
+  did = λ _. ([], [], []);
   strands = split.no_turns;
   workers = refl;
   each = λ cpu none. absurd (omega arith);
@@ -94,8 +95,8 @@ module _ {t : TableView} {calls : List Call} {n : ℕ} {p r : PassView} {lists :
       ∙ not_among_one cpu n (λ same. true_false (sym here ∙ (ap (λ (c : ℕ). is_among c p.view.cpus) same ∙ so_far.gone n (omega arith) real)))
 
   module _ {q : PassView} (joins : Joined p r q) where
-    abbrev did : ℕ → List Turned × List StrandStep
-    did = put so_far.did n (r.view.steps, r.view.kept)
+    abbrev did : ℕ → List Turned × List StrandStep × List WordStep
+    did = put so_far.did n (r.view.steps, r.view.kept, r.view.touched)
 
     cpus_are : (cpu : ℕ) → is_among cpu q.view.cpus ≡ cond (is_among cpu p.view.cpus) true (is_among cpu r.view.cpus)
     cpus_are cpu = ap (λ (z : PassView). is_among cpu z.view.cpus) joins.after_is ∙ among_append cpu p.view.cpus r.view.cpus
@@ -111,12 +112,12 @@ module _ {t : TableView} {calls : List Call} {n : ℕ} {p r : PassView} {lists :
     lost_are none = none_lost p.view.lost r.view.lost (sym (ap (λ (z : PassView). z.view.lost) joins.after_is) ∙ none)
 
     strand_before : (cpu : ℕ) → cpu < n → strand_did so_far.did cpu ≡ strand_did did cpu
-    strand_before cpu below = ap (λ (d : List Turned × List StrandStep). record { cpus = cpu ∷ []; steps = d.0; kept = d.1 }) (sym (put_else so_far.did n (r.view.steps, r.view.kept) cpu (λ same. omega arith)))
+    strand_before cpu below = ap (λ (d : List Turned × List StrandStep × List WordStep). record { cpus = cpu ∷ []; steps = d.0; kept = d.1; touched = d.2 }) (sym (put_else so_far.did n (r.view.steps, r.view.kept, r.view.touched) cpu (λ same. omega arith)))
 
     strand_here : current_strand r.view ≡ strand_did did n
     strand_here =
-        ap (λ (cpus : List ℕ). record { cpus = cpus; steps = r.view.steps; kept = r.view.kept }) worked.one_cpu
-        ∙ ap (λ (d : List Turned × List StrandStep). record { cpus = n ∷ []; steps = d.0; kept = d.1 }) (sym (put_here so_far.did n (r.view.steps, r.view.kept)))
+        ap (λ (cpus : List ℕ). record { cpus = cpus; steps = r.view.steps; kept = r.view.kept; touched = r.view.touched }) worked.one_cpu
+        ∙ ap (λ (d : List Turned × List StrandStep × List WordStep). record { cpus = n ∷ []; steps = d.0; kept = d.1; touched = d.2 }) (sym (put_here so_far.did n (r.view.steps, r.view.kept, r.view.touched)))
 
     turns_of_both : filter has_turn (all_strands q.view) ≡ filter has_turn (all_strands p.view) ++ filter has_turn (current_strand r.view ∷ [])
     turns_of_both =
@@ -138,8 +139,8 @@ module _ {t : TableView} {calls : List Call} {n : ℕ} {p r : PassView} {lists :
     work_before : (cpu : ℕ) → cpu ≢ n → cpu < n → WorkIs t calls q cpu (did cpu) (replies_by cpu (lists ++ own ∷ []))
     work_before cpu other below =
         let was = so_far.each cpu below in
-        subst (λ (z : (List Turned × List StrandStep) × List Reply). WorkIs t calls q cpu z.0 z.1)
-        (λ i. (sym (put_else so_far.did n (r.view.steps, r.view.kept) cpu other) i, sym (replies_before lists own cpu (subst (λ (k : ℕ). cpu < k) (sym so_far.workers) below)) i)) (
+        subst (λ (z : (List Turned × List StrandStep × List WordStep) × List Reply). WorkIs t calls q cpu z.0 z.1)
+        (λ i. (sym (put_else so_far.did n (r.view.steps, r.view.kept, r.view.touched) cpu other) i, sym (replies_before lists own cpu (subst (λ (k : ℕ). cpu < k) (sym so_far.workers) below)) i)) (
           was.0,
           was.1,
           λ none. subst (λ (s : Option Stored). AreCallsBy t.shape cpu 1 calls (spare_at (opening t.shape) cpu) (element_of s) (replies_by cpu lists) (so_far.did cpu).0)
@@ -148,8 +149,8 @@ module _ {t : TableView} {calls : List Call} {n : ℕ} {p r : PassView} {lists :
 
     work_here : WorkIs t calls q n (did n) (replies_by n (lists ++ own ∷ []))
     work_here =
-        subst (λ (z : (List Turned × List StrandStep) × List Reply). WorkIs t calls q n z.0 z.1)
-        (λ i. (sym (put_here so_far.did n (r.view.steps, r.view.kept)) i, sym (replies_here lists own n so_far.workers) i)) (
+        subst (λ (z : (List Turned × List StrandStep × List WordStep) × List Reply). WorkIs t calls q n z.0 z.1)
+        (λ i. (sym (put_here so_far.did n (r.view.steps, r.view.kept, r.view.touched)) i, sym (replies_here lists own n so_far.workers) i)) (
           worked.kept,
           worked.counted,
           λ none. subst (λ (s : Option Stored). AreCallsBy t.shape n 1 calls (spare_at (opening t.shape) n) (element_of s) own r.view.steps)
@@ -195,6 +196,7 @@ raced t calls p lists replies joined counted merged = record {
   in_no_call = joined.in_no_call;
   steps = λ cpu. (joined.did cpu).0;
   kept = λ cpu. (joined.did cpu).1;
+  touched = λ cpu. (joined.did cpu).2;
   strands = joined.strands;
   are_kept = λ cpu below. (joined.each cpu below).0;
   counted = counted;

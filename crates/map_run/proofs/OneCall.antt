@@ -24,6 +24,7 @@ use Rattle.place_table.specs.declared.view.Turned.{Turned}
 use Rattle.place_table.specs.Known.{FollowsOn, FollowOn, Learns, log_after, logs_after, turn_of, IsBy}
 use Rattle.place_table.specs.Passes.{PassView, spare_of, SparesDiffer}
 use Rattle.place_table.specs.Views.{place_of, kept_step}
+use Rattle.place_table.proofs.Going.{learns_all}
 use Rattle.map_run.specs.Going.{Going}
 use Rattle.map_report.specs.Serial.{after_call}
 use Rattle.map_run.specs.Served.{is_built_kind, IsServedCall}
@@ -159,14 +160,14 @@ element_kept p cpu = option_map (λ (body : Stored). body.element) (spare_of cpu
 
 pub going_on : (shape : Shape) (lists : Finals) (turns : List Happened) (p q : PassView) (cpu number : ℕ) (verb : Verb) (reply : Reply) (steps : List Turned)
     → IsTrue (is_built_kind shape.kind) → HasBounds shape → IsSound shape lists → IsServedCall shape record { cpu = cpu; verb = verb } → Going shape lists turns p
-    → q.view.steps ≡ p.view.steps ++ steps → Learns shape p.view q.view steps → All (IsBy cpu number) steps
+    → q.view.steps ≡ p.view.steps ++ steps → Learns shape p.view q.view steps [] → All (IsBy cpu number) steps
     → IsPlainTrace shape cpu (option_map (λ (body : Stored). body.element) (spare_of cpu p.spares)) verb (map (turn_of shape) steps) reply
     → option_map (λ (body : Stored). body.element) (spare_of cpu q.spares) ≡ spare_after (option_map (λ (body : Stored). body.element) (spare_of cpu p.spares)) (map (turn_of shape) steps)
     → SparesDiffer cpu p.spares q.spares
     → Going shape (after_call shape cpu verb lists).0 (turns ++ map (happened cpu number) (call_turns shape cpu verb lists)) q × (reply ≡ (after_call shape cpu verb lists).1)
 going_on shape lists turns p q cpu number verb reply steps built bounds sound served going steps_are learns by_call trace spare_is others =
     let does = does_turns shape cpu verb lists built bounds sound served in
-    let learned = learns going.logs going.knows in
+    let learned = learns_all shape p.view q.view going.logs steps [] learns going.knows in
     let by = recursion_from_All (IsBy cpu number) steps by_call in
     let lead : LeadTo shape going.logs (lies lists) = λ k real.
     ap (λ (j : ℕ). content shape (lock_named shape k) (going.logs j)) (sym (number_of_named shape k))

@@ -12,6 +12,7 @@ use Rattle.place_words.specs.Strands.{places_on}
 use Rattle.place_core.proofs.ElementLemmas.{by_test}
 use Rattle.place_table.specs.declared.view.Ended.{Ended}
 use Rattle.place_table.specs.declared.view.Turned.{Turned}
+use Rattle.place_table.specs.declared.view.WordStep.{WordStep}
 use Rattle.place_table.specs.Closing.{ClosedView, IsClosed, strand_told, strands_told}
 use Rattle.place_table.specs.Passes.{PassView, IsKeptOf}
 use Rattle.place_table.specs.Rules.{turns_on, indexes}
@@ -100,30 +101,30 @@ recorded_turn : (strand : Ended) → is_recorded strand ≡ true → has_turn st
 recorded_turn strand there =
     by_test (length strand.kept) 0 (λ b. not b ≡ true → has_turn strand ≡ true) (λ _ none. cc) (λ some _. ap not (ne_eqb (length strand.steps + length strand.kept) 0 (λ is. some (omega arith)))) there
 
-told_by_cpu : (shape : Shape) (steps : ℕ → List Turned) (kept : ℕ → List StrandStep) (a n : ℕ) → a + n ≤ shape.cpus
-    → strands_told shape (map (worker steps kept) (range_with_len a n)) ≡ map (strand_by kept) (filter (steps_there kept) (range_with_len a n))
-told_by_cpu shape steps kept a zero fits = refl
-told_by_cpu shape steps kept a (suc n) fits =
-    let rest = told_by_cpu shape steps kept (a + 1) n (omega arith) in
-    let others : List Ended = filter is_recorded (map (worker steps kept) (range_with_len (a + 1) n)) in
-    let here : strand_told shape (worker steps kept a) ≡ strand_by kept a =
+told_by_cpu : (shape : Shape) (steps : ℕ → List Turned) (kept : ℕ → List StrandStep) (touched : ℕ → List WordStep) (a n : ℕ) → a + n ≤ shape.cpus
+    → strands_told shape (map (worker steps kept touched) (range_with_len a n)) ≡ map (strand_by kept) (filter (steps_there kept) (range_with_len a n))
+told_by_cpu shape steps kept touched a zero fits = refl
+told_by_cpu shape steps kept touched a (suc n) fits =
+    let rest = told_by_cpu shape steps kept touched (a + 1) n (omega arith) in
+    let others : List Ended = filter is_recorded (map (worker steps kept touched) (range_with_len (a + 1) n)) in
+    let here : strand_told shape (worker steps kept touched a) ≡ strand_by kept a =
     ap (λ (cpus : List ℕ). record { cpus = cpus; steps = kept a })
     (one_passes (λ cpu. is_among cpu (a ∷ [])) a 0 shape.cpus (omega arith) (omega arith)
     (ap (λ b. cond b true false) (eq-eqb a a refl))
     (λ e other. ap (λ b. cond b true false) (ne_eqb a e (λ is. other (sym is))))) in
     by_bool (steps_there kept a)
-    (λ b. map (strand_told shape) (cond b (worker steps kept a ∷ others) others) ≡ map (strand_by kept) (cond b (a ∷ filter (steps_there kept) (range_with_len (a + 1) n)) (filter (steps_there kept) (range_with_len (a + 1) n))))
+    (λ b. map (strand_told shape) (cond b (worker steps kept touched a ∷ others) others) ≡ map (strand_by kept) (cond b (a ∷ filter (steps_there kept) (range_with_len (a + 1) n)) (filter (steps_there kept) (range_with_len (a + 1) n))))
     (λ _ i. here i ∷ rest i) (λ _. rest)
 
 module _ (shape : Shape) (p : PassView) (closed : ClosedView) (ends : IsClosed shape p closed) (whole : closed.lost ≡ false)
-    (steps : ℕ → List Turned) (kept : ℕ → List StrandStep)
-    (same : filter has_turn (all_strands p.view) ≡ filter has_turn (map (worker steps kept) (range_with_len 0 shape.cpus))) where
+    (steps : ℕ → List Turned) (kept : ℕ → List StrandStep) (touched : ℕ → List WordStep)
+    (same : filter has_turn (all_strands p.view) ≡ filter has_turn (map (worker steps kept touched) (range_with_len 0 shape.cpus))) where
   pub strands_by_cpu : HasBounds shape → closed.strands ≡ map (strand_by kept) (filter (steps_there kept) (range_with_len 0 shape.cpus))
   strands_by_cpu bounds =
-      let workers : List Ended = map (worker steps kept) (range_with_len 0 shape.cpus) in
+      let workers : List Ended = map (worker steps kept touched) (range_with_len 0 shape.cpus) in
       strands_are_told shape p closed ends whole bounds
       ∙ ap (map (strand_told shape)) (filter_through is_recorded has_turn (all_strands p.view) recorded_turn ∙ ap (filter is_recorded) same ∙ sym (filter_through is_recorded has_turn workers recorded_turn))
-      ∙ told_by_cpu shape steps kept 0 shape.cpus (omega arith)
+      ∙ told_by_cpu shape steps kept touched 0 shape.cpus (omega arith)
 
   -- every turn of a CPU is recorded
   pub kept_is : (cpu : ℕ) → cpu < shape.cpus → IsKeptOf shape (steps cpu) [] (kept cpu) → All (IsReal shape) (steps cpu) → kept cpu ≡ steps_of shape (steps cpu)
@@ -135,11 +136,11 @@ module _ (shape : Shape) (p : PassView) (closed : ClosedView) (ends : IsClosed s
     where
       as_many : (k : ℕ) → k < lock_count shape → IsTrue (is_lock shape (lock_named shape k)) → length (turns_on k (steps cpu)) ≤ length (places_on (lock_named shape k) (kept cpu))
       as_many k below there =
-          by_bool (has_turn (worker steps kept cpu)) (λ b. has_turn (worker steps kept cpu) ≡ b → length (turns_on k (steps cpu)) ≤ length (places_on (lock_named shape k) (kept cpu)))
+          by_bool (has_turn (worker steps kept touched cpu)) (λ b. has_turn (worker steps kept touched cpu) ≡ b → length (turns_on k (steps cpu)) ≤ length (places_on (lock_named shape k) (kept cpu)))
           (λ _ some.
-          let at = worker_stands shape.cpus steps kept (all_strands p.view) same cpu real some in
-          let each = ap length (ends.recorded at.0 (worker steps kept cpu) at.1 k below there (none_lost shape p closed ends whole k below there)) in
+          let at = worker_stands shape.cpus steps kept touched (all_strands p.view) same cpu real some in
+          let each = ap length (ends.recorded at.0 (worker steps kept touched cpu) at.1 k below there (none_lost shape p closed ends whole k below there)) in
           let count = length_indexes (turns_on k (steps cpu)) in
           omega arith)
-          (λ _ none. let nothing = ap (λ (l : List Turned). length (turns_on k l)) (no_turn (worker steps kept cpu) none).0 in omega arith)
+          (λ _ none. let nothing = ap (λ (l : List Turned). length (turns_on k l)) (no_turn (worker steps kept touched cpu) none).0 in omega arith)
           refl

@@ -96,10 +96,10 @@ module _ (script : Script) (t : TableView) (p : PassView) (replies : List Reply)
   -- Strands
 
   every_step : (cpu : ℕ) → cpu < shape.cpus → raced.kept cpu ≡ steps_of shape (raced.steps cpu)
-  every_step cpu real = kept_is shape p closed ends whole raced.steps raced.kept raced.strands cpu real (raced.are_kept cpu real) (on_locks cpu real)
+  every_step cpu real = kept_is shape p closed ends whole raced.steps raced.kept raced.touched raced.strands cpu real (raced.are_kept cpu real) (on_locks cpu real)
 
   closed_strands : closed.strands ≡ map (strand_by raced.kept) (filter (steps_there raced.kept) (range_with_len 0 shape.cpus))
-  closed_strands = strands_by_cpu shape p closed ends whole raced.steps raced.kept raced.strands served.bounds
+  closed_strands = strands_by_cpu shape p closed ends whole raced.steps raced.kept raced.touched raced.strands served.bounds
 
   left_strands : left.strands ≡ map (strand_by raced.kept) (range_with_len 0 shape.cpus)
   left_strands = ap (λ (strands : List Strand). map (λ cpu. strand_of_cpu cpu strands) (range_with_len 0 shape.cpus)) closed_strands ∙ own_strands raced.kept shape.cpus
@@ -116,7 +116,7 @@ module _ (script : Script) (t : TableView) (p : PassView) (replies : List Reply)
 
   -- a CPU's turns on a lock
   turns_are : (k cpu : ℕ) → cpu < shape.cpus → turns_on k (raced.steps cpu) ≡ filter (is_of cpu) (numbered 0 (ends.log k))
-  turns_are k cpu real = turns_of_cpu shape.cpus raced.steps raced.kept (all_strands p.view) raced.strands k (ends.log k) (ends.turns k) cpu real
+  turns_are k cpu real = turns_of_cpu shape.cpus raced.steps raced.kept raced.touched (all_strands p.view) raced.strands k (ends.log k) (ends.turns k) cpu real
 
   places_are_its : (cpu : ℕ) → cpu < shape.cpus → (lock : DomainId) → IsTrue (is_lock shape lock) → places_on lock (steps_of shape (raced.steps cpu)) ≡ places_by (cpu ∷ []) 0 (entries_of closed.histories lock)
   places_are_its cpu real lock there =
@@ -129,9 +129,9 @@ module _ (script : Script) (t : TableView) (p : PassView) (replies : List Reply)
 
   stand_in : (cpu : ℕ) → cpu < shape.cpus → StandIn ends.log (raced.steps cpu)
   stand_in cpu real =
-      by_bool (has_turn (worker raced.steps raced.kept cpu)) (λ b. has_turn (worker raced.steps raced.kept cpu) ≡ b → StandIn ends.log (raced.steps cpu))
-      (λ _ some. let at = worker_stands shape.cpus raced.steps raced.kept (all_strands p.view) raced.strands cpu real some in ends.stand at.0 (worker raced.steps raced.kept cpu) at.1)
-      (λ _ none. subst (StandIn ends.log) (sym (no_turn (worker raced.steps raced.kept cpu) none).0) tt)
+      by_bool (has_turn (worker raced.steps raced.kept raced.touched cpu)) (λ b. has_turn (worker raced.steps raced.kept raced.touched cpu) ≡ b → StandIn ends.log (raced.steps cpu))
+      (λ _ some. let at = worker_stands shape.cpus raced.steps raced.kept raced.touched (all_strands p.view) raced.strands cpu real some in ends.stand at.0 (worker raced.steps raced.kept raced.touched cpu) at.1)
+      (λ _ none. subst (StandIn ends.log) (sym (no_turn (worker raced.steps raced.kept raced.touched cpu) none).0) tt)
       refl
 
   stand : (cpu : ℕ) → cpu < shape.cpus → AllByRecursion (StandsThere shape closed.histories) (raced.steps cpu)
@@ -148,7 +148,7 @@ module _ (script : Script) (t : TableView) (p : PassView) (replies : List Reply)
   is_record = record {
     locks = locks_are shape p closed ends whole;
     legal = are_legal shape p closed ends whole;
-    on_cpus = on_cpus shape p closed ends whole (λ k place entry is. (owner shape.cpus raced.steps raced.kept (all_strands p.view) raced.strands k (ends.log k) (ends.turns k) place entry is).0);
+    on_cpus = on_cpus shape p closed ends whole (λ k place entry is. (owner shape.cpus raced.steps raced.kept raced.touched (all_strands p.view) raced.strands k (ends.log k) (ends.turns k) place entry is).0);
     strand_of = λ cpu. cpu;
     in_strand = λ cpu real. let long = length-map-range_with_len (λ c. strand_of_cpu c closed.strands) 0 shape.cpus in omega arith;
     cpus_are = each_strand (λ n strand. strand.cpus ≡ filter (λ cpu. cpu == n) (range_with_len 0 shape.cpus)) cpus_of;

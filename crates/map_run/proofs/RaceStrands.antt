@@ -9,6 +9,7 @@ use Rattle.place_words.specs.declared.history.StrandStep.{StrandStep}
 use Rattle.place_core.proofs.ElementLemmas.{by_test}
 use Rattle.place_table.specs.declared.view.Ended.{Ended}
 use Rattle.place_table.specs.declared.view.Turned.{Turned}
+use Rattle.place_table.specs.declared.view.WordStep.{WordStep}
 use Rattle.place_table.specs.Closing.{numbered, turns_by, AreTurnsOf}
 use Rattle.place_table.specs.Rules.{turns_on, indexes}
 use Rattle.place_table.specs.Views.{is_among}
@@ -18,8 +19,8 @@ use Rattle.map_run.proofs.HistoryTurns.{by_bool}
 use Rattle.map_run.proofs.RaceLists.{stands, kept_stands, passing_kept, made_at, made_there}
 
 -- the strand of a worker
-abbrev pub worker : (ℕ → List Turned) → (ℕ → List StrandStep) → ℕ → Ended
-worker steps kept cpu = record { cpus = cpu ∷ []; steps = steps cpu; kept = kept cpu }
+abbrev pub worker : (ℕ → List Turned) → (ℕ → List StrandStep) → (ℕ → List WordStep) → ℕ → Ended
+worker steps kept touched cpu = record { cpus = cpu ∷ []; steps = steps cpu; kept = kept cpu; touched = touched cpu }
 
 -- the entries of a CPU, with their places
 abbrev pub is_of : ℕ → ℕ × Entry → Bool
@@ -100,25 +101,25 @@ one_cpu cpu other = by_test other cpu (λ b. cond b true false ≡ true → cpu 
 
 -- The strands of the workers
 
-module _ (cpus : ℕ) (steps : ℕ → List Turned) (kept : ℕ → List StrandStep) (strands : List Ended)
-    (same : filter has_turn strands ≡ filter has_turn (map (worker steps kept) (range_with_len 0 cpus))) where
+module _ (cpus : ℕ) (steps : ℕ → List Turned) (kept : ℕ → List StrandStep) (touched : ℕ → List WordStep) (strands : List Ended)
+    (same : filter has_turn strands ≡ filter has_turn (map (worker steps kept touched) (range_with_len 0 cpus))) where
   -- a strand with a turn is that of a worker
-  pub is_worker : (n : ℕ) (strand : Ended) → slice_get strands n ≡ Some strand → has_turn strand ≡ true → (cpu : ℕ) × (cpu < cpus) × (strand ≡ worker steps kept cpu)
+  pub is_worker : (n : ℕ) (strand : Ended) → slice_get strands n ≡ Some strand → has_turn strand ≡ true → (cpu : ℕ) × (cpu < cpus) × (strand ≡ worker steps kept touched cpu)
   is_worker n strand is there =
       let passing = passing_kept has_turn strands n strand is there in
-      let found = kept_stands has_turn (map (worker steps kept) (range_with_len 0 cpus)) passing.0 strand (sym (ap (λ (l : List Ended). slice_get l passing.0) same) ∙ passing.1) in
-      let made = made_at (worker steps kept) cpus found.0 strand found.1 in
+      let found = kept_stands has_turn (map (worker steps kept touched) (range_with_len 0 cpus)) passing.0 strand (sym (ap (λ (l : List Ended). slice_get l passing.0) same) ∙ passing.1) in
+      let made = made_at (worker steps kept touched) cpus found.0 strand found.1 in
       (found.0, made.0, made.1)
 
   -- and a worker that made a turn has its strand
-  pub worker_stands : (cpu : ℕ) → cpu < cpus → has_turn (worker steps kept cpu) ≡ true → (n : ℕ) × (slice_get strands n ≡ Some (worker steps kept cpu))
+  pub worker_stands : (cpu : ℕ) → cpu < cpus → has_turn (worker steps kept touched cpu) ≡ true → (n : ℕ) × (slice_get strands n ≡ Some (worker steps kept touched cpu))
   worker_stands cpu real there =
-      let passing = passing_kept has_turn (map (worker steps kept) (range_with_len 0 cpus)) cpu (worker steps kept cpu) (made_there (worker steps kept) cpus cpu real) there in
-      kept_stands has_turn strands passing.0 (worker steps kept cpu) (ap (λ (l : List Ended). slice_get l passing.0) same ∙ passing.1)
+      let passing = passing_kept has_turn (map (worker steps kept touched) (range_with_len 0 cpus)) cpu (worker steps kept touched cpu) (made_there (worker steps kept touched) cpus cpu real) there in
+      kept_stands has_turn strands passing.0 (worker steps kept touched cpu) (ap (λ (l : List Ended). slice_get l passing.0) same ∙ passing.1)
 
   module _ (k : ℕ) (log : List Entry) (turns : AreTurnsOf k strands log) where
     -- an entry is of a CPU of the map, and a turn of that CPU's strand
-    pub owner : (place : ℕ) (entry : Entry) → slice_get log place ≡ Some entry → (entry.cpu < cpus) × (slice_get strands (turns.strand_at place) ≡ Some (worker steps kept entry.cpu))
+    pub owner : (place : ℕ) (entry : Entry) → slice_get log place ≡ Some entry → (entry.cpu < cpus) × (slice_get strands (turns.strand_at place) ≡ Some (worker steps kept touched entry.cpu))
     owner place entry is =
         let within = slice_get_within log place entry is in
         let found = stands strands (turns.strand_at place) (turns.within place within) in
@@ -128,12 +129,12 @@ module _ (cpus : ℕ) (steps : ℕ → List Turned) (kept : ℕ → List StrandS
         ∙ eq-eqb (turns.strand_at place) (turns.strand_at place) refl in
         let its = is_worker (turns.strand_at place) found.0 found.1 (some_turn k place (length found.0.kept) found.0.steps here) in
         let cpu : entry.cpu ≡ its.0 = one_cpu entry.cpu its.0 (ap (λ (strand : Ended). is_among entry.cpu strand.cpus) (sym its.2) ∙ turns.has_cpu place entry found.0 is found.1) in
-        (subst (λ (c : ℕ). c < cpus) (sym cpu) its.1, found.1 ∙ ap Some (its.2 ∙ ap (worker steps kept) (sym cpu)))
+        (subst (λ (c : ℕ). c < cpus) (sym cpu) its.1, found.1 ∙ ap Some (its.2 ∙ ap (worker steps kept touched) (sym cpu)))
 
     -- the turns of a worker's strand, by its place
-    among_worker : (n cpu place : ℕ) → slice_get strands n ≡ Some (worker steps kept cpu) → place < length log → is_among place (indexes (turns_on k (steps cpu))) ≡ eqb (turns.strand_at place) n
+    among_worker : (n cpu place : ℕ) → slice_get strands n ≡ Some (worker steps kept touched cpu) → place < length log → is_among place (indexes (turns_on k (steps cpu))) ≡ eqb (turns.strand_at place) n
     among_worker n cpu place is within =
-        ap (λ (l : List (ℕ × Entry)). is_among place (indexes l)) (turns.turns n (worker steps kept cpu) is)
+        ap (λ (l : List (ℕ × Entry)). is_among place (indexes l)) (turns.turns n (worker steps kept touched cpu) is)
         ∙ among_by turns.strand_at n place 0 log (omega arith) (omega arith)
 
     -- a place is among those of a CPU's turns where the entry is the CPU's
@@ -143,34 +144,34 @@ module _ (cpus : ℕ) (steps : ℕ → List Turned) (kept : ℕ → List StrandS
         let its = owner place entry is in
         by_test cpu entry.cpu (λ b. is_among place (indexes (turns_on k (steps cpu))) ≡ (b || false))
         (λ own. ap (λ (c : ℕ). is_among place (indexes (turns_on k (steps c)))) own ∙ among_worker (turns.strand_at place) entry.cpu place its.1 within ∙ eq-eqb (turns.strand_at place) (turns.strand_at place) refl)
-        (λ other. by_bool (has_turn (worker steps kept cpu)) (λ b. has_turn (worker steps kept cpu) ≡ b → is_among place (indexes (turns_on k (steps cpu))) ≡ false)
+        (λ other. by_bool (has_turn (worker steps kept touched cpu)) (λ b. has_turn (worker steps kept touched cpu) ≡ b → is_among place (indexes (turns_on k (steps cpu))) ≡ false)
         (λ _ there.
         let stands_at = worker_stands cpu real there in
         among_worker stands_at.0 cpu place stands_at.1 within
         ∙ ne_eqb (turns.strand_at place) stands_at.0 (λ at. other (cpus_same cpu entry.cpu (sym stands_at.1 ∙ ap (slice_get strands) (sym at) ∙ its.1))))
-        (λ _ none. ap (λ (l : List Turned). is_among place (indexes (turns_on k l))) (no_turn (worker steps kept cpu) none).0)
+        (λ _ none. ap (λ (l : List Turned). is_among place (indexes (turns_on k l))) (no_turn (worker steps kept touched cpu) none).0)
         refl)
       where
         first_of : ℕ → List ℕ → ℕ
         first_of d [] = d
         first_of d (c ∷ cs) = c
 
-        cpus_same : (c d : ℕ) → Some (worker steps kept c) ≡ Some (worker steps kept d) → c ≡ d
-        cpus_same c d one = ap (λ (strand : Ended). first_of 0 strand.cpus) (same_Some (worker steps kept c) (worker steps kept d) one)
+        cpus_same : (c d : ℕ) → Some (worker steps kept touched c) ≡ Some (worker steps kept touched d) → c ≡ d
+        cpus_same c d one = ap (λ (strand : Ended). first_of 0 strand.cpus) (same_Some (worker steps kept touched c) (worker steps kept touched d) one)
 
     -- so a CPU's turns are its entries in the lock's history, in order
     pub turns_of_cpu : (cpu : ℕ) → cpu < cpus → turns_on k (steps cpu) ≡ filter (is_of cpu) (numbered 0 log)
     turns_of_cpu cpu real =
-        by_bool (has_turn (worker steps kept cpu)) (λ b. has_turn (worker steps kept cpu) ≡ b → turns_on k (steps cpu) ≡ filter (is_of cpu) (numbered 0 log))
+        by_bool (has_turn (worker steps kept touched cpu)) (λ b. has_turn (worker steps kept touched cpu) ≡ b → turns_on k (steps cpu) ≡ filter (is_of cpu) (numbered 0 log))
         (λ _ there.
         let stands_at = worker_stands cpu real there in
-        turns.turns stands_at.0 (worker steps kept cpu) stands_at.1
+        turns.turns stands_at.0 (worker steps kept touched cpu) stands_at.1
         ∙ by_same turns.strand_at stands_at.0 cpu 0 log
         (λ i place entry at found.
         let is : slice_get log place ≡ Some entry = ap (slice_get log) at ∙ ap (slice_get log) (let plain : 0 + i ≡ i = omega arith in plain) ∙ found in
         sym (among_worker stands_at.0 cpu place stands_at.1 (slice_get_within log place entry is)) ∙ is_mine cpu real place entry is))
         (λ _ none.
-        let nothing : turns_on k (steps cpu) ≡ [] = ap (turns_on k) (no_turn (worker steps kept cpu) none).0 in
+        let nothing : turns_on k (steps cpu) ≡ [] = ap (turns_on k) (no_turn (worker steps kept touched cpu) none).0 in
         nothing
         ∙ sym (none_of_cpu cpu 0 log
         (λ i place entry at found.

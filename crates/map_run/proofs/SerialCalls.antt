@@ -31,7 +31,7 @@ use Rattle.place_table.specs.Views.{is_among}
 use Rattle.place_table.proofs.Gives.{first_has}
 use Rattle.place_table.proofs.Going.{goes_of_table, kept_on}
 use Rattle.hash_ops.specs.Calls.{Called, element_of, spare_element}
-use Rattle.hash_ops.proofs.Under.{plain_left}
+use Rattle.hash_ops.proofs.Under.{plain_left, trace_made, spare_made}
 use Rattle.map_report.specs.declared.record.RunRecord.{RunRecord}
 use Rattle.map_run.specs.Going.{Going, HaveRun, IsBetweenCalls}
 use Rattle.map_run.specs.Copies.{has_step, IsCopyOf}
@@ -59,6 +59,7 @@ in_no_call_begun p cpu number idle = record {
   spares_only = idle.spares_only;
   spares_in_hand = idle.spares_in_hand;
   none_out = idle.none_out;
+  carries_nothing = idle.carries_nothing;
 }
 
 between_begun : (t : TableView) (p : PassView) (cpu number : ℕ) → IsBetweenCalls t p → IsBetweenCalls t (begun p cpu number)
@@ -132,8 +133,8 @@ module _ (t : TableView) (calls : List Call) (n : ℕ) (call : Call) (p q : Pass
       going_on t.shape lists turns begins q call.cpu number call.verb reply steps built (bounds_of_shape t.shape shape_is) sound own
       (going_begun t.shape lists turns p call.cpu number (run.going left.1)) called.leaves.made.goes.steps called.leaves.learns called.leaves.by_call
       (subst (λ (spare : Option ℕ). IsPlainTrace t.shape call.cpu spare call.verb (map (turn_of t.shape) steps) reply) before
-      (plain_call t.shape call.cpu (spare_element begins) steps reply plain call.verb own.verb (called.trace left.0)))
-      (sym after ∙ called.spare left.0 ∙ sym (plain_left t.shape (spare_element begins) steps plain) ∙ ap (λ (spare : Option ℕ). spare_after spare (map (turn_of t.shape) steps)) before)
+      (plain_call t.shape call.cpu (spare_element begins) steps reply plain call.verb own.verb (trace_made t begins q call.verb reply called left.0)))
+      (sym after ∙ spare_made t begins q call.verb reply called left.0 ∙ sym (plain_left t.shape (spare_element begins) steps plain) ∙ ap (λ (spare : Option ℕ). spare_after spare (map (turn_of t.shape) steps)) before)
       called.leaves.other_spares
 
   turns_are : turns ++ map (happened call.cpu number) (call_turns t.shape call.cpu call.verb lists) ≡ turns_from t.shape (opening t.shape) 1 (take (suc n) calls)

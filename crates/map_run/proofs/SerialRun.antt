@@ -134,7 +134,7 @@ going_first t p first opens spares_open =
       logs = λ k. [];
       knows = record {
         all = ap has_all first.view_is ∙ all_here t.shape.cpus (numbers_below t.shape.cpus) (λ c less. among c t.shape.cpus less);
-        each = λ k below. ap (λ (v : View). known_log k v.known) first.view_is ∙ no_log k (lock_count t.shape) below;
+        each = λ k below there. ap (λ (v : View). known_log k v.known) first.view_is ∙ no_log k (lock_count t.shape) below;
       };
       entries = λ lock real. refl;
       contents = λ lock real. nothing_yet t.shape lock ∙ sym (opens lock real);

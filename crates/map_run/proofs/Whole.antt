@@ -13,6 +13,7 @@ use Rattle.place_words.proofs.LockLemmas.{named_by_number, number_within}
 use Rattle.place_core.proofs.ElementLemmas.{by_test}
 use Rattle.place_table.specs.declared.view.Ended.{Ended}
 use Rattle.place_table.specs.declared.view.Turned.{Turned}
+use Rattle.place_table.specs.declared.view.WordStep.{WordStep}
 use Rattle.place_table.specs.declared.view.View.{View}
 use Rattle.place_table.specs.Closing.{ClosedView, IsClosed, has_lock, strand_told, strands_told}
 use Rattle.place_table.specs.Passes.{PassView}
@@ -92,16 +93,16 @@ abbrev pub strands_of : Shape → List StrandStep → List Strand
 strands_of shape [] = []
 strands_of shape (step ∷ steps) = record { cpus = range_with_len 0 shape.cpus; steps = step ∷ steps } ∷ []
 
-one_told : (shape : Shape) (cpus : List ℕ) (steps : List Turned) (kept : List StrandStep) → filter (λ cpu. is_among cpu cpus) (range_with_len 0 shape.cpus) ≡ range_with_len 0 shape.cpus
-    → strands_told shape (record { cpus = cpus; steps = steps; kept = kept } ∷ []) ≡ strands_of shape kept
-one_told shape cpus steps [] all = refl
-one_told shape cpus steps (step ∷ kept) all =
+one_told : (shape : Shape) (cpus : List ℕ) (steps : List Turned) (kept : List StrandStep) (touched : List WordStep) → filter (λ cpu. is_among cpu cpus) (range_with_len 0 shape.cpus) ≡ range_with_len 0 shape.cpus
+    → strands_told shape (record { cpus = cpus; steps = steps; kept = kept; touched = touched } ∷ []) ≡ strands_of shape kept
+one_told shape cpus steps [] touched all = refl
+one_told shape cpus steps (step ∷ kept) touched all =
     let left : Strand = record { cpus = filter (λ cpu. is_among cpu cpus) (range_with_len 0 shape.cpus); steps = step ∷ kept } in
-    let there : strands_told shape (record { cpus = cpus; steps = steps; kept = step ∷ kept } ∷ []) ≡ left ∷ [] =
-    ap (λ b. map (strand_told shape) (cond (not b) (record { cpus = cpus; steps = steps; kept = step ∷ kept } ∷ []) [])) (ne_eqb (suc (length kept)) 0 (λ is. omega arith)) in
+    let there : strands_told shape (record { cpus = cpus; steps = steps; kept = step ∷ kept; touched = touched } ∷ []) ≡ left ∷ [] =
+    ap (λ b. map (strand_told shape) (cond (not b) (record { cpus = cpus; steps = steps; kept = step ∷ kept; touched = touched } ∷ []) [])) (ne_eqb (suc (length kept)) 0 (λ is. omega arith)) in
     there ∙ (λ i. record { cpus = all i; steps = step ∷ kept } ∷ [])
 
 pub told_of_one : (shape : Shape) (v : View) → v.ended ≡ [] → ((cpu : ℕ) → cpu < shape.cpus → is_among cpu v.cpus ≡ true) → strands_told shape (all_strands v) ≡ strands_of shape v.kept
 told_of_one shape v none all =
     ap (λ (strands : List Ended). strands_told shape (strands ++ current_strand v ∷ [])) none
-    ∙ one_told shape v.cpus v.steps v.kept (all_pass (λ cpu. is_among cpu v.cpus) 0 shape.cpus (λ cpu low high. all cpu (omega arith)))
+    ∙ one_told shape v.cpus v.steps v.kept v.touched (all_pass (λ cpu. is_among cpu v.cpus) 0 shape.cpus (λ cpu low high. all cpu (omega arith)))

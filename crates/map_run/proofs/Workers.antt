@@ -25,6 +25,7 @@ use Rattle.place_table.proofs.Gives.{first_has}
 use Rattle.place_table.proofs.Going.{goes_of_table, kept_on}
 use Rattle.hash_ops.specs.Calls.{Called, element_of}
 use Rattle.map_report.specs.Record.{MayAnswer}
+use Rattle.hash_ops.proofs.Under.{trace_made, spare_made}
 use Rattle.map_report.specs.Serial.{opening}
 use Rattle.map_report.specs.Turns.{spare_at}
 use Rattle.map_run.specs.declared.worker.Worker.{Worker}
@@ -241,12 +242,12 @@ module _ (t : TableView) (calls : List Call) (call : Call) (p q : PassView) (num
   calls_more none =
       let left = none_lost called.lost p.view.lost (sym called.leaves.made.goes.lost_is ∙ none) in
       let last_is : spare_left t.shape (element_of (spare_of call.cpu p.spares)) (map (turn_at t.shape) called.steps) ≡ element_of (spare_of call.cpu q.spares) =
-      sym (called.spare left.0) ∙ ap (λ (c : ℕ). element_of (spare_of c q.spares)) called.leaves.made.goes.cpu in
+      sym (spare_made t (begun p call.cpu number) q call.verb reply called left.0) ∙ ap (λ (c : ℕ). element_of (spare_of c q.spares)) called.leaves.made.goes.cpu in
       subst
       (λ (last : Option ℕ). AreCallsBy t.shape call.cpu 1 (calls ++ call ∷ []) (spare_at (opening t.shape) call.cpu) last (replies ++ reply ∷ []) (p.view.steps ++ called.steps))
       last_is
       (own_more t.shape call.cpu 1 number calls call (spare_at (opening t.shape) call.cpu) (element_of (spare_of call.cpu p.spares)) replies reply p.view.steps called.steps
-      (worked.calls_are left.1) refl count record { by_call = called.leaves.by_call; trace = called.trace left.0; answers = answers })
+      (worked.calls_are left.1) refl count record { by_call = called.leaves.by_call; trace = trace_made t (begun p call.cpu number) q call.verb reply called left.0; answers = answers })
 
   worked_more : HasWorked t call.cpu (calls ++ call ∷ []) q (replies ++ reply ∷ [])
   worked_more =

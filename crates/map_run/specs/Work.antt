@@ -10,6 +10,7 @@ use Rattle.place_words.specs.declared.history.StrandStep.{StrandStep}
 use Rattle.place_words.specs.Traces.{IsTrace}
 use Rattle.place_words.specs.Walks.{spare_left}
 use Rattle.place_table.specs.declared.view.Turned.{Turned}
+use Rattle.place_table.specs.declared.view.WordStep.{WordStep}
 use Rattle.place_table.specs.declared.view.Ended.{Ended}
 use Rattle.place_table.specs.Closing.{ClosedView}
 use Rattle.place_table.specs.Known.{turn_at, IsBy}
@@ -73,10 +74,11 @@ pub record HaveRaced (t : TableView) (calls : List Call) (p : PassView) (replies
   pub of_table : IsPassOf t p
   pub all_cpus : (cpu : ℕ) → cpu < t.shape.cpus → is_among cpu p.view.cpus ≡ true
   pub in_no_call : IsInNoCall p
-  -- of a CPU: the turns of its worker, and the steps that are recorded of them
+  -- of a CPU: the turns of its worker, the steps that are recorded of them, and its steps on words
   pub steps : ℕ → List Turned
   pub kept : ℕ → List StrandStep
-  pub strands : filter has_turn (all_strands p.view) ≡ filter has_turn (map (λ cpu. record { cpus = cpu ∷ []; steps = steps cpu; kept = kept cpu }) (range_with_len 0 t.shape.cpus))
+  pub touched : ℕ → List WordStep
+  pub strands : filter has_turn (all_strands p.view) ≡ filter has_turn (map (λ cpu. record { cpus = cpu ∷ []; steps = steps cpu; kept = kept cpu; touched = touched cpu }) (range_with_len 0 t.shape.cpus))
   pub are_kept : (cpu : ℕ) → cpu < t.shape.cpus → IsKeptOf t.shape (steps cpu) [] (kept cpu)
   pub counted : length replies ≡ length calls
   pub calls_are : p.view.lost ≡ [] → (cpu : ℕ) → cpu < t.shape.cpus

@@ -1,5 +1,5 @@
 -- The last state of a table whose one pass has all CPUs and holds no lock.
-use Rattle.std.proofs.Common.{◌≡◌, ◌≢◌, ℕ, zero, suc, ◌<◌, cond, Bool, true, false, List, [], ◌∷◌, length, get_or, sym, refl, ap, ◌∙◌, subst, arith, Option, Some, None}
+use Rattle.std.proofs.Common.{◌≡◌, ◌≢◌, ℕ, ◌<◌, cond, Bool, true, false, List, [], ◌∷◌, length, sym, refl, ap, ◌∙◌, subst, Option, Some, None}
 use Rattle.std.specs.Prelude.{◌||◌, IsTrue, All, slice_get, Result, Ok, Err, IfOk}
 use mathlib.Core.Option.{some}
 use lib.ListN.{get_elem?}
@@ -10,7 +10,6 @@ use Rattle.map_types.specs.declared.kind.DomainId.TheVariants as named
 use Rattle.map_types.specs.Stored.{Stored}
 use Rattle.place_words.specs.declared.history.Entry.{Entry}
 use Rattle.place_words.specs.declared.history.Strand.{Strand}
-use Rattle.map_types.specs.ElementLists.{one}
 use Rattle.place_words.specs.Histories.{in_bucket, content, IsLegal}
 use Rattle.place_words.specs.Locks.{is_lock, lock_named, lock_number, lock_count}
 use Rattle.place_words.specs.Strands.{places_on, AreSharedOut}
@@ -25,17 +24,18 @@ use Rattle.place_table.specs.declared.view.View.{View}
 use Rattle.place_table.specs.declared.view.Ended.{Ended}
 use Rattle.place_table.specs.Contents.{told, lists_of, Fits, IsSized}
 use Rattle.place_table.specs.Views.{is_among, hold_at, is_in_hand_of, known_log, bit_seen, current_strand, all_strands}
-use Rattle.place_table.specs.Rules.{World, Rule, Knows, entries, hold_of, is_hand_of, turns_on, turns_of, indexes, StandIn, ArePast, HaveNoSteps, bit_word}
+use Rattle.place_table.specs.Rules.{World, Rule, Knows, entries, hold_of, is_hand_of, turns_on, turns_of, indexes, StandIn, ArePast, HaveNoSteps, touches_of, IsOfStrand, AreReads}
 use Rattle.place_table.specs.Passes.{PassView, HasCpusOf, HandsReal}
-use Rattle.place_table.specs.Closing.{ClosedView, AreSlots, has_lock, strands_told, AreTurnsOf, IsClosed}
+use Rattle.place_table.specs.Closing.{ClosedView, AreSlots, has_lock, strands_told, AreTurnsOf, IsClosed, AreTouchesOf, AreWordsOf}
 use Rattle.place_table.specs.Leaving.{WasLeft}
 use Rattle.place_table.proofs.Worlds.{true_false, none_some, hold_of_mine, has_mine, own_hand}
-use Rattle.place_table.proofs.Locks.{free_home}
+use Rattle.place_table.proofs.Locks.{free_home, seat_at}
 use Rattle.place_table.proofs.Leaves.{passes_below, any_of}
 use Rattle.place_table.proofs.Parted.{all_within}
 use Rattle.place_table.proofs.SharedOut.{item_there, shared_told}
 use Rattle.place_table.proofs.StrandMoves.{done, past_done, among_done}
 use Rattle.place_table.proofs.StrandNumbers.{tag_at, tagged_at, has_turn, strand_here, are_turns_of}
+use Rattle.place_table.proofs.Touches.{are_touches_of}
 
 -- what was true at the end, before anything is handed out
 pub record AtEnd (shape : Shape) (v : View) (words : List ℕ) (slots : List Behind) : Type 0 where
@@ -52,20 +52,16 @@ pub record AtEnd (shape : Shape) (v : View) (words : List ℕ) (slots : List Beh
   pub bits : (e : ℕ) (bit : Bool) → bit_seen e v.bits ≡ Some bit → core.bit e ≡ bit
   pub turns : (k : ℕ) → AreTurnsOf k (all_strands v) (log k)
   pub stand : (n : ℕ) (strand : Ended) → slice_get (all_strands v) n ≡ Some strand → StandIn log strand.steps
+  pub words_told : AreWordsOf shape core words
+  pub touches : AreTouchesOf shape (all_strands v) words
   pub recorded : (n : ℕ) (strand : Ended) → slice_get (all_strands v) n ≡ Some strand
       → (k : ℕ) → k < lock_count shape → IsTrue (has_lock shape k) → lost k ≡ false → places_on (lock_named shape k) strand.kept ≡ indexes (turns_on k strand.steps)
   pub losses : (k : ℕ) → is_among k v.lost ≡ true → (k < lock_count shape) × IsTrue (has_lock shape k) × (lost k ≡ true)
   pub slots_are : AreSlots shape log lost slots
-  pub bit_words : (e : ℕ) → e < shape.elements → get_or words (bit_word shape e) 0 ≡ one (core.bit e)
 
 no_members : (xs : List ℕ) → ((c : ℕ) → is_among c xs ≡ false) → xs ≡ []
 no_members [] h = refl
 no_members (x ∷ xs) h = true_false (sym (by_test x x (λ b. cond b true (is_among x xs) ≡ true) (λ _. refl) (λ n. absurd (n refl))) ∙ h x)
-
-seat_at : {A : Type 0} (l : List A) (i : ℕ) → i < length l → (a : A) × (get_elem? l i ≡ some a)
-seat_at [] i h = absurd (omega arith)
-seat_at (x ∷ xs) zero h = (x, refl)
-seat_at (x ∷ xs) (suc i) h = seat_at xs i (omega arith)
 
 past_empty : (shape : Shape) (w : World) (j t k : ℕ) (ts : List ℕ) (es : List Ended) → ArePast shape w j ts es → HaveNoSteps es → is_among t ts ≡ true → turns_of t 0 (w.log k) ≡ []
 past_empty shape w j t k [] [] p empty h = true_false (sym h)
@@ -73,7 +69,7 @@ past_empty shape w j t k [] (e ∷ es) p empty h = absurd p
 past_empty shape w j t k (u ∷ us) [] p empty h = absurd p
 past_empty shape w j t k (u ∷ us) (e ∷ es) p empty h =
     by_test u t (λ b. cond b true (is_among t us) ≡ true → turns_of t 0 (w.log k) ≡ [])
-    (λ same _. subst (λ (z : ℕ). turns_of z 0 (w.log k) ≡ []) same (sym (p.0.steps_are k) ∙ ap (turns_on k) empty.0))
+    (λ same _. subst (λ (z : ℕ). turns_of z 0 (w.log k) ≡ []) same (sym (p.0.steps_are k) ∙ ap (turns_on k) empty.0.0))
     (λ _ f. past_empty shape w j t k us es p.2 empty.1 f) h
 
 module _ (shape : Shape) (s : State Behind View) (r : Rule shape s) (pass : ℕ) (v : View) (at_pass : get_elem? s.views pass ≡ some v) (all : (c : ℕ) → c < shape.cpus → is_among c v.cpus ≡ true) (no_lock : v.held ≡ []) where
@@ -105,7 +101,7 @@ module _ (shape : Shape) (s : State Behind View) (r : Rule shape s) (pass : ℕ)
       let at = seat_at s.views j below in let u : View = at.0 in let ku = r.knows j u at.1 in
       let idle = ku.idle (other_pass j u other ku) in
       by_test (w.current j) t (λ b. cond b true (is_among t (w.past j)) ≡ true → turns_of t 0 (w.log k) ≡ [])
-      (λ same _. subst (λ (z : ℕ). turns_of z 0 (w.log k) ≡ []) same (sym (ku.strand.steps_are k) ∙ ap (turns_on k) idle.0))
+      (λ same _. subst (λ (z : ℕ). turns_of z 0 (w.log k) ≡ []) same (sym (ku.strand.steps_are k) ∙ ap (turns_on k) idle.0.0))
       (λ _ f. past_empty shape w j t k (w.past j) u.ended ku.past idle.1 f) among
 
   -- each turn is one of this pass's strands
@@ -118,6 +114,29 @@ module _ (shape : Shape) (s : State Behind View) (r : Rule shape s) (pass : ℕ)
       by_test (w.keeper t) pass (λ _. is_among t (done w pass) ≡ true)
       (λ mine. among_done w pass t (subst (λ (z : ℕ). is_among t (w.current z ∷ w.past z) ≡ true) mine tagged.listed))
       (λ other. absurd (has_turn (w.log k) 0 place less (no_turn t k other tagged.seated tagged.listed)))
+
+  -- and a step on a word that is none of them only read it
+  past_reads : (j t : ℕ) (ts : List ℕ) (es : List Ended) → ArePast shape r.world j ts es → HaveNoSteps es → is_among t ts ≡ true → AreReads (touches_of t r.world.touches)
+  past_reads j t [] [] p empty among = true_false (sym among)
+  past_reads j t [] (x ∷ xs) p empty among = absurd p
+  past_reads j t (u ∷ us) [] p empty among = absurd p
+  past_reads j t (u ∷ us) (x ∷ xs) p empty among =
+      by_test u t (λ b. cond b true (is_among t us) ≡ true → AreReads (touches_of t r.world.touches))
+      (λ same _. subst (λ (z : ℕ). AreReads (touches_of z r.world.touches)) same (subst AreReads p.0.touched_are empty.0.1))
+      (λ _ f. past_reads j t us xs p.2 empty.1 f) among
+
+  only_reads : (t : ℕ) → IsOfStrand r.world (length s.views) t → is_among t (done r.world pass) ≡ false → AreReads (touches_of t r.world.touches)
+  only_reads t of not_mine =
+      let w = r.world in
+      by_test (w.keeper t) pass (λ _. AreReads (touches_of t w.touches))
+      (λ mine. true_false (sym (among_done w pass t (subst (λ (z : ℕ). is_among t (w.current z ∷ w.past z) ≡ true) mine of.listed)) ∙ not_mine))
+      (λ other.
+      let j : ℕ = w.keeper t in
+      let at = seat_at s.views j of.seated in let u : View = at.0 in let ku = r.knows j u at.1 in
+      let idle = ku.idle (other_pass j u other ku) in
+      by_test (w.current j) t (λ b. cond b true (is_among t (w.past j)) ≡ true → AreReads (touches_of t w.touches))
+      (λ same _. subst (λ (z : ℕ). AreReads (touches_of z w.touches)) same (subst AreReads ku.strand.touched_are idle.0.1))
+      (λ _ f. past_reads j t (w.past j) u.ended ku.past idle.1 f) of.listed)
 
   strands : ArePast shape r.world pass (done r.world pass) (all_strands v)
   strands = let kn = r.knows pass v at_pass in past_done shape r.world pass v kn.strand kn.past kn.apart
@@ -136,6 +155,8 @@ module _ (shape : Shape) (s : State Behind View) (r : Rule shape s) (pass : ℕ)
         hands = λ e c less. own_hand shape w pass v e c kn (all c less);
         known = kn.known;
         bits = kn.bits;
+        words_told = subst (AreWordsOf shape w.core) words_are record { locks = r.lock_words; owners = r.owner_words; homes = r.home_words; bits = r.bit_words };
+        touches = subst (AreTouchesOf shape (all_strands v)) words_are (are_touches_of shape w pass (length s.views) (done w pass) (all_strands v) s.words strands r.of_strands r.lead only_reads);
         turns = λ k. are_turns_of shape w pass (length s.views) k (done w pass) (all_strands v) strands (r.tagged k) (listed k);
         stand = λ n strand at_n. (strand_here shape w pass (done w pass) (all_strands v) n strand strands at_n).is.stand;
         recorded = λ n strand at_n. (strand_here shape w pass (done w pass) (all_strands v) n strand strands at_n).is.kept_are;
@@ -146,7 +167,6 @@ module _ (shape : Shape) (s : State Behind View) (r : Rule shape s) (pass : ℕ)
               let home = free_home shape k (w.core.holder k) (entries (w.log k)) (w.core.lists k) (w.lost k) (get_elem? s.homes k) (nobody k) (r.homes k below there) in
               (home.0.0, given_back k home.0.0 home.0.1, home.0.2);
         };
-        bit_words = λ e less. ap (λ (l : List ℕ). get_or l (bit_word shape e) 0) (sym words_are) ∙ r.bit_words e less;
       }
 
 pub closes : (shape : Shape) (words : List ℕ) (slots : List Behind) (pass : ℕ) (v : View) → Final (Seen (Rule shape) pass v) words slots → ((c : ℕ) → c < shape.cpus → is_among c v.cpus ≡ true) → v.held ≡ [] → AtEnd shape v words slots
@@ -201,6 +221,9 @@ module _ (shape : Shape) (p : PassView) (words : List ℕ) (slots : List Behind)
     bits = e.bits;
     turns = e.turns;
     stand = e.stand;
+    words = words;
+    words_told = e.words_told;
+    touches = e.touches;
     recorded = λ n strand at_n k below there lo. e.recorded n strand at_n k below there (neither was.strands_lost (e.lost k) lo).1;
     strands_lost = was.strands_lost;
     all_lost = λ all k. ap (λ (b : Bool). b || e.lost k) all;

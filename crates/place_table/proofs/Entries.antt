@@ -6,9 +6,10 @@ use Rattle.place_words.specs.declared.history.StrandStep.{StrandStep}
 use Rattle.place_words.specs.Locks.{is_same_lock}
 use Rattle.place_words.specs.Strands.{places_on}
 use Rattle.place_core.proofs.ElementLemmas.{by_test}
+use Rattle.place_table.specs.declared.view.WordStep.{WordStep}
 use Rattle.place_table.specs.declared.view.Turned.{Turned}
 use Rattle.place_table.specs.Views.{turned, place_of}
-use Rattle.place_table.specs.Rules.{Tagged, entries, turns_on, turns_of, indexes}
+use Rattle.place_table.specs.Rules.{Tagged, entries, turns_on, turns_of, indexes, Touch, touches_of}
 use Rattle.place_table.specs.Recording.{last_from}
 use Rattle.place_table.proofs.Worlds.{by_bool}
 
@@ -57,6 +58,21 @@ turns_on_other m (x ∷ xs) s other =
     let rest = turns_on_other m xs s other in
     by_test x.lock m (λ b. cond b ((place_of x, x.entry) ∷ turns_on m (xs ++ s ∷ [])) (turns_on m (xs ++ s ∷ [])) ≡ cond b ((place_of x, x.entry) ∷ turns_on m xs) (turns_on m xs))
     (λ _. ap (λ l. (place_of x, x.entry) ∷ l) rest) (λ _. rest)
+
+-- the steps of a strand on words
+pub touches_of_same : (t : ℕ) (xs : List Touch) (x : WordStep) → touches_of t (xs ++ (t, x) ∷ []) ≡ touches_of t xs ++ x ∷ []
+touches_of_same t [] x = by_test t t (λ b. cond {A = List WordStep} b (x ∷ []) [] ≡ x ∷ []) (λ _. refl) (λ n. absurd (n refl))
+touches_of_same t (y ∷ ys) x =
+    let rest = touches_of_same t ys x in
+    by_test y.0 t (λ b. cond b (y.1 ∷ touches_of t (ys ++ (t, x) ∷ [])) (touches_of t (ys ++ (t, x) ∷ [])) ≡ cond b (y.1 ∷ touches_of t ys) (touches_of t ys) ++ x ∷ [])
+    (λ _. ap (λ l. y.1 ∷ l) rest) (λ _. rest)
+
+pub touches_of_other : (t u : ℕ) (xs : List Touch) (x : WordStep) → u ≢ t → touches_of t (xs ++ (u, x) ∷ []) ≡ touches_of t xs
+touches_of_other t u [] x n = by_test u t (λ b. cond {A = List WordStep} b (x ∷ []) [] ≡ []) (λ h. absurd (n h)) (λ _. refl)
+touches_of_other t u (y ∷ ys) x n =
+    let rest = touches_of_other t u ys x n in
+    by_test y.0 t (λ b. cond b (y.1 ∷ touches_of t (ys ++ (u, x) ∷ [])) (touches_of t (ys ++ (u, x) ∷ [])) ≡ cond b (y.1 ∷ touches_of t ys) (touches_of t ys))
+    (λ _. ap (λ l. y.1 ∷ l) rest) (λ _. rest)
 
 -- the recorded steps on one lock
 pub places_on_same : (lock : DomainId) (kept : List StrandStep) (s : StrandStep) → is_same_lock s.lock lock ≡ true → places_on lock (kept ++ s ∷ []) ≡ places_on lock kept ++ s.index ∷ []

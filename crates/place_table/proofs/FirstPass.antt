@@ -57,15 +57,26 @@ first_in_no_call shape p bounds is are = record {
       let hand : is_in_hand_of e cpu (spares_from 0 (first_spares shape.kind shape)) ≡ true = subst (λ (hand : List InHand). is_in_hand_of e cpu hand ≡ true) (ap (λ (v : View). v.hand) is ∙ hand_is_spares shape.kind shape) in_hand in
       let found = spare_in_hand e cpu 0 (first_spares shape.kind shape) hand in
       let at : found.0 ≡ cpu = let place = found.2 in omega arith in
-      let kept = body_at shape (first_spares shape.kind shape) p.spares cpu are (let within = found.1 in omega arith) in
-      (kept.0, kept.1, kept.2 ∙ (ap (λ (i : ℕ). get_or (first_spares shape.kind shape) i 0) (sym at) ∙ found.3));
+      let kept = body_at shape (first_spares shape.kind shape) p.spares cpu are (let within = found.1 in omega arith) in (
+        kept.0,
+        kept.1,
+        kept.2 ∙ (ap (λ (i : ℕ). get_or (first_spares shape.kind shape) i 0) (sym at) ∙ found.3),
+        ap (λ (v : View). v.shape.kind) is ∙ only_hash e cpu shape shape.kind (ap (λ (v : View). is_in_hand_of e cpu v.hand) (sym is) ∙ in_hand),
+      );
   spares_in_hand = λ cpu body kept. subst (λ (hand : List InHand). is_in_hand_of body.element cpu hand ≡ true) (sym (ap (λ (v : View). v.hand) is)) (first_in_hand shape p.spares are cpu body kept);
   none_out = λ hash cpu mine.
       let is_hash : shape.kind ≡ Hash = ap (λ (v : View). v.shape.kind) (sym is) ∙ hash in
       let few : cpu < shape.cpus = among_below cpu shape.cpus (subst (λ (v : View). is_among cpu v.cpus ≡ true) is mine) in
       let kept = body_at shape (first_spares shape.kind shape) p.spares cpu are (omega (arith, first_count shape bounds is_hash)) in
       (kept.0, kept.1);
+  carries_nothing = ap (λ (v : View). v.carried) is;
 }
+  where
+    only_hash : (e cpu : ℕ) (shape : Shape) (kind : MapKind) → is_in_hand_of e cpu (first_hand kind shape) ≡ true → kind ≡ Hash
+    only_hash e cpu shape Hash in_hand = refl
+    only_hash e cpu shape PercpuHash in_hand = true_false (sym in_hand)
+    only_hash e cpu shape LruHash in_hand = true_false (sym in_hand)
+    only_hash e cpu shape LruPercpuHash in_hand = true_false (sym in_hand)
 
 first_real : (shape : Shape) → HasBounds shape → (e cpu : ℕ) → is_in_hand_of e cpu (first_hand shape.kind shape) ≡ true → e < shape.elements
 first_real shape bounds e cpu in_hand =

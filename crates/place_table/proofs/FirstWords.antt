@@ -14,8 +14,8 @@ use Rattle.place_core.specs.OpeningView.{AreOpeningOwners}
 use Rattle.place_core.specs.Places.{MayOwn}
 use Rattle.place_core.proofs.OpeningLaws.{owner_exists}
 use Rattle.place_core.proofs.StartLemmas.{owners_count}
-use Rattle.place_table.specs.Opening.{opening_codes, opening_words}
-use Rattle.place_table.specs.Rules.{word_count, owner_word}
+use Rattle.place_table.specs.Words.{opening_codes, opening_words}
+use Rattle.place_table.specs.Words.{word_count, owner_word}
 
 -- what may own an element has a code
 owner_has_code : (shape : Shape) (o : Owner) → HasBounds shape → MayOwn shape o → HasOwnerCode o

@@ -1,35 +1,43 @@
 -- From what a take tells to what a give asks.
-use Rattle.std.proofs.Common.{◌≡◌, ℕ, zero, suc, ◌<◌, cond, Bool, true, false, List, [], ◌∷◌, ◌++◌, sym, refl, ap, ◌∙◌, subst, arith}
+use Rattle.std.proofs.Common.{◌≡◌, ℕ, zero, suc, ◌<◌, cond, Bool, true, false, List, [], ◌∷◌, ◌++◌, sym, refl, ap, ◌∙◌, subst, arith, Option, Some, MatchOption}
 use Rattle.std.specs.Prelude.{IsTrue}
 use Rattle.map_types.specs.declared.attr.Shape.{Shape}
 use Rattle.map_types.specs.declared.kind.DomainId.{DomainId}
 use Rattle.map_types.specs.declared.kind.DomainId.TheVariants.{Bucket}
 use Rattle.map_types.specs.Kind.{is_lru}
 use Rattle.percpu_values.specs.BodyList.{BodyList}
-use Rattle.place_words.specs.declared.bucket_part.BucketPart.TheVariants.{First}
+use Rattle.place_words.specs.declared.bucket_part.BucketPart.TheVariants.{Lookup, Update, Delete, Take, Next, First, Walk, Evict}
 use Rattle.place_words.specs.declared.history.Part.{Part}
 use Rattle.place_words.specs.declared.history.Part.TheVariants as parts
 use Rattle.place_words.specs.Bodies.{first_key}
 use Rattle.place_words.specs.Buckets.{AllowsInBucket, bucket_after}
-use Rattle.map_types.specs.ElementLists.{times}
+use Rattle.map_types.specs.ElementLists.{times, one}
 use Rattle.place_words.specs.Histories.{content, content_after, Allows}
 use Rattle.place_words.specs.Locks.{is_lock, lock_named}
 use Rattle.place_words.proofs.LockLemmas.{named_by_number}
 use Rattle.place_core.specs.State.{rows}
 use Rattle.place_table.specs.declared.content.Content.{Content}
 use Rattle.place_table.specs.declared.content.Content.TheVariants as contents
+use Rattle.map_types.specs.Stored.{Stored}
+use Rattle.place_table.specs.StoredHashes.{stored_in}
 use Rattle.place_table.proofs.Worlds.{by_bool}
 use Rattle.place_table.specs.Contents.{told, Fits}
 use Rattle.place_words.specs.declared.owner.Owner.{Owner}
-use Rattle.place_core.proofs.ElementLemmas.{by_test}
+use Rattle.place_core.proofs.ElementLemmas.{by_test, times_append}
 use Rattle.place_table.specs.declared.view.View.{View}
 use Rattle.place_table.specs.declared.view.Notes.{Notes}
 use Rattle.place_table.specs.declared.view.BitSeen.{BitSeen}
 use Rattle.place_table.specs.declared.view.Turned.{Turned}
-use Rattle.place_table.proofs.Going.{goes_on, goes_took, goes_gave, goes_gave_some, goes_noted, made_on, given_turn}
-use Rattle.place_table.specs.Views.{no_notes, is_among, is_in_hand_of, holds_below, notes_below, noted, with_clear, with_owner_read, bits_with, numbers_below}
-use Rattle.place_table.specs.TurnNotes.{NotesFit}
-use Rattle.place_table.specs.Passes.{PassView, TableView, IsPassOf, HasBegun, Takes, CanGive, Gave, GaveSome, Went, IsInNoCall, IsFirstPass, SawOwner, Cleared, with_view, spare_of}
+use Rattle.place_table.proofs.Going.{goes_noted, made_on}
+use Rattle.place_table.specs.Views.{no_notes, is_among, is_in_hand_of, noted, with_clear, with_owner_read, bits_with, numbers_below, touching, owners_passed}
+use Rattle.place_table.specs.TurnNotes.{NotesFit, WasReadInHand, PartNotesFit}
+use Rattle.place_table.specs.Passes.{PassView, TableView, IsPassOf, HasBegun, Takes, CanGive, Went, HasOnlySpares, IsInNoCall, IsFirstPass, SawOwner, Cleared, with_view, spare_of}
+use Rattle.place_table.specs.declared.view.WordStep.{WordStep}
+use Rattle.place_table.specs.declared.view.HomeIn.{HomeIn}
+use Rattle.place_table.proofs.StoredHashes.{stored_listed, none_stored}
+use Rattle.place_words.specs.declared.bucket_part.Seen.TheVariants.{Removed, Held}
+use Rattle.place_table.specs.Words.{owner_word, bit_word}
+use Rattle.place_words.specs.Codes.{owner_code}
 
 -- what was taken may be given back by a part that changes nothing
 pub unchanged : (t : TableView) (lock : DomainId) (p q : PassView) (here : Content) (part : Part) → Takes t lock p q here → IsPassOf t q → HasBegun q → IsTrue (is_lock t.shape lock)
@@ -54,40 +62,31 @@ unchanged t lock p q here part took of_table begun there allowed same notes_fit 
         allowed = subst (Allows t.shape q.cpu part) told_there allowed;
         same_free = λ e. ap (λ l. times e l.free) (sym took.now);
         same_rows = λ e. ap (λ l. times e (rows l)) (sym took.now);
+        rows_kept = λ lru j e h n other _ _ _ is. absurd (none_stored here e n is);
+        gone = λ lru c e h _ was none.
+            let inside = stored_listed (told here) e h (ap (λ z. stored_in z e) told_there ∙ was) in
+            let both = times_append e took.hold.now.free (rows took.hold.now) in
+            let there : 0 < times e (rows took.hold.now) = subst (λ l. 0 < times e (rows l)) (sym took.now) inside in
+            absurd (omega (arith, there, both, none));
       };
       notes_fit = notes_fit;
     }
 
--- A turn that changes nothing, from its take to its give.
-pub went_of : (t : TableView) (lock : DomainId) (p q r : PassView) (here : Content) (part : Part) → Takes t lock p q here → Gave q r part → (step : Turned) × Went p r (step ∷ []) []
-went_of t lock p q r here part took gave = (
-  given_turn q gave.hold part,
-  record {
-    made = record {
-      goes = goes_on p q r [] (given_turn q gave.hold part ∷ []) [] [] (goes_took t lock p q here took) (goes_gave q r part gave);
-      held = ap (λ (z : PassView). z.view.held) gave.after_is ∙ ap (λ (z : PassView). holds_below z.view.held) took.after_is;
-      notes = ap (λ (z : PassView). z.view.notes) gave.after_is ∙ ap (λ (z : PassView). notes_below z.view.notes) took.after_is;
-    };
-    spares = ap (λ (z : PassView). z.spares) gave.after_is ∙ ap (λ (z : PassView). z.spares) took.after_is;
-    hand = ap (λ (z : PassView). z.view.hand) gave.after_is ∙ ap (λ (z : PassView). z.view.hand) took.after_is;
-  },
-)
-
--- the same where nothing was recorded
-pub went_some : (t : TableView) (lock : DomainId) (p q r : PassView) (here put : Content) → Takes t lock p q here → GaveSome t lock q r put → (step : Turned) × (lost : ℕ) × Went p r (step ∷ []) (lost ∷ [])
-went_some t lock p q r here put took gave = (
-  given_turn q gave.can.hold gave.part,
-  gave.can.hold.lock,
-  record {
-    made = record {
-      goes = goes_on p q r [] (given_turn q gave.can.hold gave.part ∷ []) [] (gave.can.hold.lock ∷ []) (goes_took t lock p q here took) (goes_gave_some t lock q r put gave);
-      held = ap (λ (z : PassView). z.view.held) gave.after_is ∙ ap (λ (z : PassView). holds_below z.view.held) took.after_is;
-      notes = ap (λ (z : PassView). z.view.notes) gave.after_is ∙ ap (λ (z : PassView). notes_below z.view.notes) took.after_is;
-    };
-    spares = ap (λ (z : PassView). z.spares) gave.after_is ∙ ap (λ (z : PassView). z.spares) took.after_is;
-    hand = ap (λ (z : PassView). z.view.hand) gave.after_is ∙ ap (λ (z : PassView). z.view.hand) took.after_is;
-  },
-)
+-- a turn in which no owner was read hands none on to the turn around it
+pub none_passed : (part : Part) (notes : Notes) (below : List Notes) → notes.owners ≡ [] → PartNotesFit part notes → owners_passed part below ≡ below
+none_passed (parts.Bucket (Lookup side key got)) notes below none fit = refl
+none_passed (parts.Bucket (Update side flags key value offer put)) notes below none fit = refl
+none_passed (parts.Bucket (Delete key removed)) notes below none fit = refl
+none_passed (parts.Bucket (Take key taken)) notes below none fit = refl
+none_passed (parts.Bucket (Next key found)) notes below none fit = refl
+none_passed (parts.Bucket (First key)) notes below none fit = refl
+none_passed (parts.Bucket (Walk remove room result)) notes below none fit = refl
+none_passed (parts.Bucket (Evict e Removed)) notes below none fit = refl
+none_passed (parts.Bucket (Evict e (Held holder))) notes below none fit = absurd (subst (WasReadInHand e holder) none fit)
+none_passed (parts.Free part) notes below none fit = refl
+none_passed (parts.Local part) notes below none fit = refl
+none_passed (parts.Global part) notes below none fit = refl
+none_passed (parts.Own part) notes below none fit = refl
 
 -- a pass in no call is in none afterwards
 pub stays_idle : (p q : PassView) (more : List Turned) (lost : List ℕ) → IsInNoCall p → Went p q more lost → IsInNoCall q
@@ -96,12 +95,19 @@ stays_idle p q more lost idle went =
       holds_nothing = went.made.held ∙ idle.holds_nothing;
       spares_only = λ e cpu has in_hand.
           let x = idle.spares_only e cpu (ap (is_among cpu) (sym goes.cpus) ∙ has) (ap (is_in_hand_of e cpu) (sym went.hand) ∙ in_hand) in
-          (x.0, ap (spare_of cpu) went.spares ∙ x.1, x.2);
+          (x.0, ap (spare_of cpu) went.spares ∙ x.1, x.2, ap (λ (z : Shape). z.kind) goes.shape ∙ x.3);
       spares_in_hand = λ cpu body kept. ap (is_in_hand_of body.element cpu) went.hand ∙ idle.spares_in_hand cpu body (ap (spare_of cpu) (sym went.spares) ∙ kept);
       none_out = λ kind cpu has.
           let x = idle.none_out (ap (λ (z : Shape). z.kind) (sym goes.shape) ∙ kind) cpu (ap (is_among cpu) (sym goes.cpus) ∙ has) in
           (x.0, ap (spare_of cpu) went.spares ∙ x.1);
+      carries_nothing = went.carried ∙ idle.carries_nothing;
     }
+
+-- a call may begin on it
+pub only_spares : (p : PassView) → IsInNoCall p → HasOnlySpares p
+only_spares p idle e cpu has in_hand =
+    let x = idle.spares_only e cpu has in_hand in
+    (x.3, subst (λ (kept : Option Stored). MatchOption kept ((other : ℕ) → is_in_hand_of other cpu p.view.hand ≡ true → other ≡ e) (λ body. body.element ≡ e)) (sym x.1) x.2)
 
 -- the pass that has taken a lock is of the table and has begun
 pub taken_of_table : (t : TableView) (lock : DomainId) (p q : PassView) (here : Content) → Takes t lock p q here → IsPassOf t p → IsPassOf t q
@@ -124,15 +130,16 @@ told_first t bucket p q chain took of_table begun there =
     }
 
 -- a look, or a bit cleared, where no lock is held
-pub went_noted : (p q : PassView) (notes : List Notes) (bits : List BitSeen) → q ≡ with_view p (noted notes bits p.view) → notes ≡ p.view.notes → Went p q [] []
-went_noted p q notes bits after_is same = record {
+pub went_noted : (p q : PassView) (notes : List Notes) (bits : List BitSeen) (touched : List WordStep) (readings : List HomeIn) → q ≡ with_view p (noted notes bits touched readings p.view) → notes ≡ p.view.notes → Went p q [] []
+went_noted p q notes bits touched readings after_is same = record {
   made = record {
-    goes = goes_noted notes bits p q after_is;
+    goes = goes_noted notes bits touched readings p q after_is;
     held = ap (λ (z : PassView). z.view.held) after_is;
     notes = ap (λ (z : PassView). z.view.notes) after_is ∙ same;
   };
   spares = ap (λ (z : PassView). z.spares) after_is;
   hand = ap (λ (z : PassView). z.view.hand) after_is;
+  carried = ap (λ (z : PassView). z.view.carried) after_is;
 }
 
 -- one after the other
@@ -141,12 +148,13 @@ went_on p q r first second lost more_lost a b = record {
   made = made_on p q r first second lost more_lost a.made b.made;
   spares = b.spares ∙ a.spares;
   hand = b.hand ∙ a.hand;
+  carried = b.carried ∙ a.carried;
 }
 
 -- an owner was read
 pub went_owner : (t : TableView) (e : ℕ) (p q : PassView) (owner : Owner) → p.view.notes ≡ [] → SawOwner t e p q owner → Went p q [] []
 went_owner t e p q owner none_noted saw =
-    went_noted p q (with_owner_read e owner p.view.notes) p.view.bits saw.after_is (no_read p.view.notes none_noted)
+    went_noted p q (with_owner_read e owner p.view.notes) p.view.bits (touching (owner_word p.view.shape e) (Some (owner_code owner)) (owner_code owner) p.view) p.view.readings saw.after_is (no_read p.view.notes none_noted)
   where
     no_read : (notes : List Notes) → notes ≡ [] → with_owner_read e owner notes ≡ notes
     no_read [] empty = refl
@@ -156,7 +164,7 @@ went_owner t e p q owner none_noted saw =
 pub went_cleared : (t : TableView) (e : ℕ) (p q r : PassView) (owner : Owner) (bit : Bool) → p.view.notes ≡ [] → SawOwner t e p q owner → Cleared e q r bit → Went p r [] []
 went_cleared t e p q r owner bit none_noted saw was_cleared =
     let first = went_owner t e p q owner none_noted saw in
-    went_on p q r [] [] [] [] first (went_noted q r (with_clear e bit q.view.notes) (bits_with e false q.view) was_cleared.after_is (no_clear q.view.notes (first.made.notes ∙ none_noted)))
+    went_on p q r [] [] [] [] first (went_noted q r (with_clear e bit q.view.notes) (bits_with e false q.view) (touching (bit_word q.view.shape e) (Some (one bit)) 0 q.view) q.view.readings was_cleared.after_is (no_clear q.view.notes (first.made.notes ∙ none_noted)))
   where
     no_clear : (notes : List Notes) → notes ≡ [] → with_clear e bit notes ≡ notes
     no_clear [] empty = refl

@@ -1,13 +1,12 @@
 -- What is left of a pass after each call on the table, and after some calls in their order.
-use Rattle.std.proofs.Common.{◌≡◌, ◌≢◌, ℕ, ◌<◌, inl, inr, ⊎_elim, cond, Bool, List, [], ◌∷◌, ◌++◌, sym, refl, ap, ◌∙◌, subst, append_assoc, Some}
+use Rattle.std.proofs.Common.{◌≡◌, ◌≢◌, ℕ, ◌<◌, inl, inr, ⊎_elim, cond, Bool, true, false, List, [], ◌∷◌, ◌++◌, sym, refl, ap, ◌∙◌, subst, append_assoc, Option, None, Some, MatchOption}
 use Rattle.std.specs.Prelude.{IsTrue}
 use Rattle.map_types.specs.declared.attr.Shape.{Shape}
 use Rattle.map_types.specs.declared.kind.DomainId.{DomainId}
 use Rattle.place_words.specs.declared.history.Entry.{Entry}
 use Rattle.place_words.specs.declared.history.Part.{Part}
 use Rattle.place_words.specs.declared.history.StrandStep.{StrandStep}
-use Rattle.map_types.specs.ElementLists.{put}
-use Rattle.place_words.specs.Histories.{content, Allows}
+use Rattle.place_words.specs.Histories.{content, Allows, IsLegal}
 use Rattle.place_words.specs.Locks.{is_lock, lock_named, lock_number, lock_count}
 use Rattle.place_words.proofs.LockLemmas.{named_by_number, number_within}
 use Rattle.place_core.specs.declared.step.Lists.{Lists}
@@ -19,10 +18,13 @@ use Rattle.place_table.specs.declared.view.InHand.{InHand}
 use Rattle.place_table.specs.declared.view.Notes.{Notes}
 use Rattle.place_table.specs.declared.view.BitSeen.{BitSeen}
 use Rattle.place_table.specs.declared.view.Turned.{Turned}
-use Rattle.place_table.specs.Known.{KnowsAll, FollowsOn, FollowOn, Learns, log_after, logs_after}
+use Rattle.place_table.specs.Known.{AreAllowedAt, log_then, log_after_all, GoOn, bit_then, bit_after_all, BitTouch, SeesBit, SeeOn, Learns, KnowsAll, FollowOn, log_after, logs_after}
+use Rattle.place_table.specs.Plays.{IsKnownBit}
 use Rattle.place_table.specs.Passes.{PassView, TableView, IsPassOf, HasBegun, Takes, CanGive, Gave, GaveSome, IsKeptOf, Goes, Made, with_view, with_spares, entry_of}
-use Rattle.place_table.specs.Views.{has_all_below, known_log, learned, moved, noted, turned, place_of, kept_step, holding, is_among}
+use Rattle.place_table.specs.Views.{has_all, has_all_below, known_log, bit_seen, bits_with, marked, cleared, bit_read, learned, moved, noted, turned, place_of, kept_step, holding, is_among}
 use Rattle.place_table.proofs.Entries.{append_nil}
+use Rattle.place_table.specs.declared.view.WordStep.{WordStep}
+use Rattle.place_table.specs.declared.view.HomeIn.{HomeIn}
 
 pub same_head : {A : Type 0} {x y : A} {xs ys : List A} → x ∷ xs ≡ y ∷ ys → x ≡ y
 same_head e = cc
@@ -83,8 +85,8 @@ goes_took t lock p q here took =
       lost_is = refl;
     }
 
-pub goes_moved : (k : ℕ) (now : Lists) (hand : List InHand) (p q : PassView) → q ≡ with_view p (moved k now hand p.view) → Goes p q [] []
-goes_moved k now hand p q is =
+pub goes_moved : (k : ℕ) (now : Lists) (hand : List InHand) (word left : ℕ) (p q : PassView) → q ≡ with_view p (moved k now hand word left p.view) → Goes p q [] []
+goes_moved k now hand word left p q is =
     subst (λ (z : PassView). Goes p z [] []) (sym is) record {
       table = refl;
       seat = refl;
@@ -98,8 +100,8 @@ goes_moved k now hand p q is =
       lost_is = refl;
     }
 
-pub goes_noted : (notes : List Notes) (bits : List BitSeen) (p q : PassView) → q ≡ with_view p (noted notes bits p.view) → Goes p q [] []
-goes_noted notes bits p q is =
+pub goes_noted : (notes : List Notes) (bits : List BitSeen) (touched : List WordStep) (readings : List HomeIn) (p q : PassView) → q ≡ with_view p (noted notes bits touched readings p.view) → Goes p q [] []
+goes_noted notes bits touched readings p q is =
     subst (λ (z : PassView). Goes p z [] []) (sym is) record {
       table = refl;
       seat = refl;
@@ -181,87 +183,201 @@ made_on p q r first second lost more_lost a b = record {
 
 -- What a pass knows
 
--- a step that tells nothing of turns
-pub learns_nothing : (shape : Shape) (v w : View) → w.known ≡ v.known → w.cpus ≡ v.cpus → w.shape ≡ v.shape → Learns shape v w []
-learns_nothing shape v w known cpus same logs knows = (
-  tt,
-  record {
-    all = (λ i. has_all_below ((same i).cpus) (cpus i)) ∙ knows.all;
-    each = λ k below. ap (known_log k) known ∙ knows.each k below;
-  },
-)
+-- two in their order
 
-follow_append : (shape : Shape) (logs : ℕ → List Entry) (first second : List Turned) → FollowOn shape logs first → FollowOn shape (logs_after logs first) second → FollowOn shape logs (first ++ second)
-follow_append shape logs [] second one other = other
-follow_append shape logs (step ∷ steps) second one other = (one.0, follow_append shape (log_after logs step) steps second one.1 other)
+log_append : (k : ℕ) (known : Option (List Entry)) (first second : List Turned) → log_after_all k known (first ++ second) ≡ log_after_all k (log_after_all k known first) second
+log_append k known [] second = refl
+log_append k known (step ∷ steps) second = log_append k (log_then k known step) steps second
 
-logs_append : (logs : ℕ → List Entry) (first second : List Turned) → logs_after logs (first ++ second) ≡ logs_after (logs_after logs first) second
-logs_append logs [] second = refl
-logs_append logs (step ∷ steps) second = logs_append (log_after logs step) steps second
+go_append : (k : ℕ) (known : Option (List Entry)) (first second : List Turned) → GoOn k known first → GoOn k (log_after_all k known first) second → GoOn k known (first ++ second)
+go_append k known [] second one other = other
+go_append k known (step ∷ steps) second one other = (one.0, go_append k (log_then k known step) steps second one.1 other)
 
-pub learns_on : (shape : Shape) (u v w : View) (first second : List Turned) → Learns shape u v first → Learns shape v w second → Learns shape u w (first ++ second)
-learns_on shape u v w first second a b logs knows =
-    let one = a logs knows in
-    let other = b (logs_after logs first) one.1 in (
-      follow_append shape logs first second one.0 other.0,
-      subst (λ (l : ℕ → List Entry). KnowsAll shape l w) (sym (logs_append logs first second)) other.1,
-    )
+bit_append : (e : ℕ) (known : Option Bool) (first second : List BitTouch) → bit_after_all e known (first ++ second) ≡ bit_after_all e (bit_after_all e known first) second
+bit_append e known [] second = refl
+bit_append e known (touch ∷ touches) second = bit_append e (bit_then e known touch) touches second
+
+see_append : (e : ℕ) (known : Option Bool) (first second : List BitTouch) → SeeOn e known first → SeeOn e (bit_after_all e known first) second → SeeOn e known (first ++ second)
+see_append e known [] second one other = other
+see_append e known (touch ∷ touches) second one other = (one.0, see_append e (bit_then e known touch) touches second one.1 other)
+
+allowed_append : (shape : Shape) (first second : List Turned) → AreAllowedAt shape first → AreAllowedAt shape second → AreAllowedAt shape (first ++ second)
+allowed_append shape [] second one other = other
+allowed_append shape (step ∷ steps) second one other = (one.0, allowed_append shape steps second one.1 other)
+
+pub learns_on : (shape : Shape) (u v w : View) (first second : List Turned) (touches more : List BitTouch) → Learns shape u v first touches → Learns shape v w second more → Learns shape u w (first ++ second) (touches ++ more)
+learns_on shape u v w first second touches more a b = record {
+  allowed = allowed_append shape first second a.allowed b.allowed;
+  all = b.all ∙ a.all;
+  logs = λ has k.
+      let one = a.logs has k in let other = b.logs (a.all ∙ has) k in record {
+        go_on = go_append k (known_log k u.known) first second one.go_on (subst (λ (z : Option (List Entry)). GoOn k z second) one.known_is other.go_on);
+        known_is = other.known_is ∙ (ap (λ (z : Option (List Entry)). log_after_all k z second) one.known_is ∙ sym (log_append k (known_log k u.known) first second));
+      };
+  bits = λ has e.
+      let one = a.bits has e in let other = b.bits (a.all ∙ has) e in record {
+        see_on = see_append e (bit_seen e u.bits) touches more one.see_on (subst (λ (z : Option Bool). SeeOn e z more) one.known_is other.see_on);
+        known_is = other.known_is ∙ (ap (λ (z : Option Bool). bit_after_all e z more) one.known_is ∙ sym (bit_append e (bit_seen e u.bits) touches more));
+      };
+}
+
+-- the same where the first only moved something
+pub learns_after : (shape : Shape) (u v w : View) (steps : List Turned) (touches : List BitTouch) → Learns shape u v [] [] → Learns shape v w steps touches → Learns shape u w steps touches
+learns_after shape u v w steps touches a b = learns_on shape u v w [] steps [] touches a b
+
+-- and where the second did
+pub learns_before : (shape : Shape) (u v w : View) (steps : List Turned) → Learns shape u v steps [] → Learns shape v w [] [] → Learns shape u w steps []
+learns_before shape u v w steps a b = subst (λ (l : List Turned). Learns shape u w l []) (append_nil steps) (learns_on shape u v w steps [] [] [] a b)
+
+has_all_same : (v w : View) → w.cpus ≡ v.cpus → w.shape ≡ v.shape → has_all w ≡ has_all v
+has_all_same v w cpus shape = (λ i. has_all_below ((shape i).cpus) (cpus i))
+
+-- a step that tells nothing of turns and bits
+pub learns_nothing : (shape : Shape) (v w : View) → w.known ≡ v.known → w.bits ≡ v.bits → w.cpus ≡ v.cpus → w.shape ≡ v.shape → Learns shape v w [] []
+learns_nothing shape v w known bits cpus same = record {
+  allowed = tt;
+  all = has_all_same v w cpus same;
+  logs = λ has k. record { go_on = tt; known_is = ap (known_log k) known };
+  bits = λ has e. record { see_on = tt; known_is = ap (bit_seen e) bits };
+}
+
+pub learns_none : (shape : Shape) (v : View) → Learns shape v v [] []
+learns_none shape v = learns_nothing shape v v refl refl refl refl
+
+-- what was moved
+pub learns_moved : (shape : Shape) (k : ℕ) (now : Lists) (hand : List InHand) (word left : ℕ) (p q : PassView) → q ≡ with_view p (moved k now hand word left p.view) → Learns shape p.view q.view [] []
+learns_moved shape k now hand word left p q is =
+    subst (λ (z : PassView). Learns shape p.view z.view [] []) (sym is) (learns_nothing shape p.view (moved k now hand word left p.view) refl refl refl refl)
+
+-- A step on a bit: what it saw is what was known of the bit, and what it left is known from then on.
+learns_touched : (shape : Shape) (v w : View) (e : ℕ) (seen : Option Bool) (left : Bool) → w.known ≡ v.known → w.bits ≡ bits_with e left v → w.cpus ≡ v.cpus → w.shape ≡ v.shape
+    → ((known : Bool) → bit_seen e v.bits ≡ Some known → SeesBit seen known) → Learns shape v w [] (record { element = e; seen = seen; left = left } ∷ [])
+learns_touched shape v w e seen left known bits cpus same sees = record {
+  allowed = tt;
+  all = has_all_same v w cpus same;
+  logs = λ has k. record { go_on = tt; known_is = ap (known_log k) known };
+  bits = λ has d. record {
+    see_on = ((λ is. subst (λ (x : ℕ). MatchOption (bit_seen x v.bits) (Unit {0}) (SeesBit seen)) is (by_known (bit_seen e v.bits) sees)), tt);
+    known_is = ap (bit_seen d) (bits ∙ ap (λ (b : Bool). cond b (record { element = e; bit = left } ∷ v.bits) v.bits) has);
+  };
+}
+  where
+    by_known : (known : Option Bool) → ((bit : Bool) → known ≡ Some bit → SeesBit seen bit) → MatchOption known (Unit {0}) (SeesBit seen)
+    by_known None sees = tt
+    by_known (Some bit) sees = sees bit refl
+
+pub learns_marked : (shape : Shape) (e : ℕ) (v : View) → Learns shape v (marked e v) [] (record { element = e; seen = None; left = true } ∷ [])
+learns_marked shape e v = learns_touched shape v (marked e v) e None true refl refl refl refl (λ known is. tt)
+
+pub learns_cleared : (shape : Shape) (e : ℕ) (was : Bool) (v : View) → IsKnownBit e was v → Learns shape v (cleared e was v) [] (record { element = e; seen = Some was; left = false } ∷ [])
+learns_cleared shape e was v known = learns_touched shape v (cleared e was v) e (Some was) false refl refl refl refl known
+
+pub learns_bit_read : (shape : Shape) (e : ℕ) (bit : Bool) (v : View) → IsKnownBit e bit v → Learns shape v (bit_read e bit v) [] (record { element = e; seen = Some bit; left = bit } ∷ [])
+learns_bit_read shape e bit v known = learns_touched shape v (bit_read e bit v) e (Some bit) bit refl refl refl refl known
 
 -- turns of other locks leave the turns of this one
 abbrev pub AreElsewhere : ℕ → List Turned → Type 0
 AreElsewhere k [] = Unit {0}
 AreElsewhere k (step ∷ steps) = (step.lock ≢ k) × AreElsewhere k steps
 
-pub log_elsewhere : (k : ℕ) (steps : List Turned) (logs : ℕ → List Entry) → AreElsewhere k steps → logs_after logs steps k ≡ logs k
-log_elsewhere k [] logs apart = refl
-log_elsewhere k (step ∷ steps) logs apart =
-    log_elsewhere k steps (log_after logs step) apart.1
-    ∙ at_put logs step.lock (logs step.lock ++ step.entry ∷ []) (λ i l. i ≡ k → l ≡ logs k) k (λ same. absurd (apart.0 same)) (λ _ same. refl) refl
+pub log_elsewhere : (k : ℕ) (steps : List Turned) (known : Option (List Entry)) → AreElsewhere k steps → log_after_all k known steps ≡ known
+log_elsewhere k [] known apart = refl
+log_elsewhere k (step ∷ steps) known apart =
+    ap (λ (z : Option (List Entry)). log_after_all k z steps)
+    (by_test step.lock k (λ b. cond b (Some (step.earlier ++ step.entry ∷ [])) known ≡ known) (λ same. absurd (apart.0 same)) (λ _. refl))
+    ∙ log_elsewhere k steps known apart.1
 
--- what a pass that has all CPUs knows once a lock is given back
-knows_given : (shape : Shape) (v w : View) (logs : ℕ → List Entry) (hold : Hold) (entry : Entry) → w.known ≡ learned hold entry v → w.cpus ≡ v.cpus → w.shape ≡ v.shape → hold.log ≡ logs hold.lock
-    → KnowsAll shape logs v → KnowsAll shape (put logs hold.lock (logs hold.lock ++ entry ∷ [])) w
-knows_given shape v w logs hold entry known cpus same log knows = record {
-  all = (λ i. has_all_below ((same i).cpus) (cpus i)) ∙ knows.all;
-  each = λ j below. ap (known_log j) (known ∙ all_known) ∙ at_put logs hold.lock (logs hold.lock ++ entry ∷ []) (λ i l. known_log i (record { lock = hold.lock; log = hold.log ++ entry ∷ [] } ∷ v.known) ≡ Some l) j
-      (by_test hold.lock hold.lock (λ b. cond b (Some (hold.log ++ entry ∷ [])) (known_log hold.lock v.known) ≡ Some (logs hold.lock ++ entry ∷ [])) (λ _. ap (λ (l : List Entry). Some (l ++ entry ∷ [])) log) (λ n. absurd (n refl)))
-      (λ ne. by_test hold.lock j (λ b. cond b (Some (hold.log ++ entry ∷ [])) (known_log j v.known) ≡ Some (logs j)) (λ is. absurd (ne (sym is))) (λ _. knows.each j below));
-}
+-- A lock is given back. Where the pass has all CPUs it knows the turns of the lock from then on.
+pub learns_gave : (t : TableView) (lock : DomainId) (r : PassView) (back : Content) (part : Part) (w : View) → (can : CanGive t lock r back part)
+    → IsLegal t.shape lock can.hold.log → (has_all r.view ≡ true → (log : List Entry) → known_log (lock_number t.shape lock) r.view.known ≡ Some log → can.hold.log ≡ log)
+    → w.known ≡ learned can.hold (entry_of r part) r.view → w.bits ≡ r.view.bits → w.cpus ≡ r.view.cpus → w.shape ≡ r.view.shape → Learns t.shape r.view w (given_turn r can.hold part ∷ []) []
+learns_gave t lock r back part w can legal told known bits cpus same =
+    let real : lock_number t.shape lock < lock_count t.shape = number_within t.shape lock can.there in
+    let named : lock_named t.shape can.hold.lock ≡ lock = ap (lock_named t.shape) can.lock_is ∙ named_by_number t.shape lock can.there in record {
+      allowed = (
+        record {
+          below = subst (λ (n : ℕ). n < lock_count t.shape) (sym can.lock_is) real;
+          there = subst (λ (d : DomainId). IsTrue (is_lock t.shape d)) (sym named) can.there;
+          legal = subst (λ (d : DomainId). IsLegal t.shape d can.hold.log) (sym named) legal;
+          allowed = can.may_put.allowed;
+        },
+        tt,
+      );
+      all = has_all_same r.view w cpus same;
+      logs = λ has k. record {
+        go_on = ((λ is. subst (λ (n : ℕ). MatchOption (known_log n r.view.known) (Unit {0}) (λ log. can.hold.log ≡ log)) (sym can.lock_is ∙ is) (by_known (known_log (lock_number t.shape lock) r.view.known) (told has))), tt);
+        known_is = ap (known_log k) (known ∙ ap (λ (b : Bool). cond b (record { lock = can.hold.lock; log = can.hold.log ++ entry_of r part ∷ [] } ∷ r.view.known) r.view.known) has);
+      };
+      bits = λ has e. record { see_on = tt; known_is = ap (bit_seen e) bits };
+    }
   where
-    all_known : learned hold entry v ≡ record { lock = hold.lock; log = hold.log ++ entry ∷ [] } ∷ v.known
-    all_known = ap (λ (b : Bool). cond b (record { lock = hold.lock; log = hold.log ++ entry ∷ [] } ∷ v.known) v.known) knows.all
+    by_known : (known : Option (List Entry)) → ((log : List Entry) → known ≡ Some log → can.hold.log ≡ log) → MatchOption known (Unit {0}) (λ log. can.hold.log ≡ log)
+    by_known None told = tt
+    by_known (Some log) told = told log refl
 
 -- A turn with turns of other locks inside it, from where its lock is held to its give.
 pub learns_given : (t : TableView) (lock : DomainId) (q r : PassView) (back : Content) (inner : List Turned) (part : Part) (w : View) → (can : CanGive t lock r back part)
-    → ((log : List Entry) → known_log (lock_number t.shape lock) q.view.known ≡ Some log → can.hold.log ≡ log) → AreElsewhere (lock_number t.shape lock) inner → Learns t.shape q.view r.view inner
-    → w.known ≡ learned can.hold (entry_of r part) r.view → w.cpus ≡ r.view.cpus → w.shape ≡ r.view.shape → Learns t.shape q.view w (inner ++ given_turn r can.hold part ∷ [])
-learns_given t lock q r back inner part w can told apart knows known cpus same logs known_q =
-    let k : ℕ = can.hold.lock in
-    let real : lock_number t.shape lock < lock_count t.shape = number_within t.shape lock can.there in
-    let inside = knows logs known_q in
-    let there : IsTrue (is_lock t.shape (lock_named t.shape k)) = subst (λ (d : DomainId). IsTrue (is_lock t.shape d)) (sym (ap (lock_named t.shape) can.lock_is ∙ named_by_number t.shape lock can.there)) can.there in
-    let log_is : can.hold.log ≡ logs_after logs inner k = told (logs (lock_number t.shape lock)) (known_q.each (lock_number t.shape lock) real) ∙ (sym (log_elsewhere (lock_number t.shape lock) inner logs apart) ∙ ap (logs_after logs inner) (sym can.lock_is)) in
-    let below : k < lock_count t.shape = subst (λ (n : ℕ). n < lock_count t.shape) (sym can.lock_is) real in
-    let follows : FollowsOn t.shape (logs_after logs inner) (given_turn r can.hold part) = record {
-      below = below;
-      there = there;
-      earlier_is = log_is;
-      allowed = subst (λ (l : List Entry). Allows t.shape r.cpu part (content t.shape (lock_named t.shape k) l)) log_is can.may_put.allowed;
-    } in (
-      follow_append t.shape logs inner (given_turn r can.hold part ∷ []) inside.0 (follows, tt),
-      subst (λ (l : ℕ → List Entry). KnowsAll t.shape l w) (sym (logs_append logs inner (given_turn r can.hold part ∷ [])))
-          (knows_given t.shape r.view w (logs_after logs inner) can.hold (entry_of r part) known cpus same log_is inside.1),
-    )
+    → IsLegal t.shape lock can.hold.log → ((log : List Entry) → known_log (lock_number t.shape lock) q.view.known ≡ Some log → can.hold.log ≡ log) → AreElsewhere (lock_number t.shape lock) inner → Learns t.shape q.view r.view inner []
+    → w.known ≡ learned can.hold (entry_of r part) r.view → w.bits ≡ r.view.bits → w.cpus ≡ r.view.cpus → w.shape ≡ r.view.shape → Learns t.shape q.view w (inner ++ given_turn r can.hold part ∷ []) []
+learns_given t lock q r back inner part w can legal told apart knows known bits cpus same =
+    let k : ℕ = lock_number t.shape lock in
+    learns_on t.shape q.view r.view w inner (given_turn r can.hold part ∷ []) [] [] knows
+    (learns_gave t lock r back part w can legal (λ has log is. told log (sym ((knows.logs (sym knows.all ∙ has) k).known_is ∙ log_elsewhere k inner (known_log k q.view.known) apart) ∙ is)) known bits cpus same)
 
 -- a take tells nothing of turns
-pub learns_took : (t : TableView) (lock : DomainId) (p q : PassView) (here : Content) → Takes t lock p q here → Learns t.shape p.view q.view []
+pub learns_took : (t : TableView) (lock : DomainId) (p q : PassView) (here : Content) → Takes t lock p q here → Learns t.shape p.view q.view [] []
 learns_took t lock p q here took =
-    subst (λ (z : PassView). Learns t.shape p.view z.view []) (sym took.after_is) (learns_nothing t.shape p.view (holding took.hold p.view) refl refl refl)
+    subst (λ (z : PassView). Learns t.shape p.view z.view [] []) (sym took.after_is) (learns_nothing t.shape p.view (holding took.hold p.view) refl refl refl refl)
 
 -- the same from its take
 pub learns_turn : (t : TableView) (lock : DomainId) (p q r : PassView) (here back : Content) (inner : List Turned) (part : Part) (w : View) → Takes t lock p q here → (can : CanGive t lock r back part)
-    → ((log : List Entry) → known_log (lock_number t.shape lock) p.view.known ≡ Some log → can.hold.log ≡ log) → AreElsewhere (lock_number t.shape lock) inner → Learns t.shape q.view r.view inner
-    → w.known ≡ learned can.hold (entry_of r part) r.view → w.cpus ≡ r.view.cpus → w.shape ≡ r.view.shape → Learns t.shape p.view w (inner ++ given_turn r can.hold part ∷ [])
-learns_turn t lock p q r here back inner part w took can told apart knows known cpus same =
-    learns_on t.shape p.view q.view w [] (inner ++ given_turn r can.hold part ∷ []) (learns_took t lock p q here took)
-    (learns_given t lock q r back inner part w can (λ log is. told log (ap (λ (z : PassView). known_log (lock_number t.shape lock) z.view.known) (sym took.after_is) ∙ is)) apart knows known cpus same)
+    → IsLegal t.shape lock can.hold.log → ((log : List Entry) → known_log (lock_number t.shape lock) p.view.known ≡ Some log → can.hold.log ≡ log) → AreElsewhere (lock_number t.shape lock) inner → Learns t.shape q.view r.view inner []
+    → w.known ≡ learned can.hold (entry_of r part) r.view → w.bits ≡ r.view.bits → w.cpus ≡ r.view.cpus → w.shape ≡ r.view.shape → Learns t.shape p.view w (inner ++ given_turn r can.hold part ∷ []) []
+learns_turn t lock p q r here back inner part w took can legal told apart knows known bits cpus same =
+    learns_after t.shape p.view q.view w (inner ++ given_turn r can.hold part ∷ []) [] (learns_took t lock p q here took)
+    (learns_given t lock q r back inner part w can legal (λ log is. told log (ap (λ (z : PassView). known_log (lock_number t.shape lock) z.view.known) (sym took.after_is) ∙ is)) apart knows known bits cpus same)
+
+-- All locks at once
+
+-- what is known of each lock of the map
+abbrev Known : Shape → (ℕ → List Entry) → (ℕ → Option (List Entry)) → Type 0
+Known shape logs known = (k : ℕ) → k < lock_count shape → IsTrue (is_lock shape (lock_named shape k)) → known k ≡ Some (logs k)
+
+module _ (shape : Shape) where
+  known_more : (logs : ℕ → List Entry) (known : ℕ → Option (List Entry)) (step : Turned) → step.earlier ≡ logs step.lock → Known shape logs known → Known shape (log_after logs step) (λ k. log_then k (known k) step)
+  known_more logs known step earlier is k below there =
+      at_put logs step.lock (logs step.lock ++ step.entry ∷ []) (λ j l. j ≡ k → log_then k (known k) step ≡ Some l) k
+      (λ same. by_test step.lock k (λ b. cond b (Some (step.earlier ++ step.entry ∷ [])) (known k) ≡ Some (logs step.lock ++ step.entry ∷ [])) (λ _. ap (λ (l : List Entry). Some (l ++ step.entry ∷ [])) earlier) (λ other. absurd (other same)))
+      (λ other _. by_test step.lock k (λ b. cond b (Some (step.earlier ++ step.entry ∷ [])) (known k) ≡ Some (logs k)) (λ same. absurd (other (sym same))) (λ _. is k below there))
+      refl
+
+  follow : (steps : List Turned) (logs : ℕ → List Entry) (known : ℕ → Option (List Entry)) → AreAllowedAt shape steps → ((k : ℕ) → GoOn k (known k) steps) → Known shape logs known
+      → FollowOn shape logs steps × Known shape (logs_after logs steps) (λ k. log_after_all k (known k) steps)
+  follow [] logs known allowed on is = (tt, is)
+  follow (step ∷ steps) logs known allowed on is =
+      let first = allowed.0 in
+      let earlier : step.earlier ≡ logs step.lock =
+      subst (λ (z : Option (List Entry)). MatchOption z (Unit {0}) (λ log. step.earlier ≡ log)) (is step.lock first.below first.there) ((on step.lock).0 refl) in
+      let rest = follow steps (log_after logs step) (λ k. log_then k (known k) step) allowed.1 (λ k. (on k).1) (known_more logs known step earlier is) in (
+        (
+          record {
+            below = first.below;
+            there = first.there;
+            earlier_is = earlier;
+            allowed = subst (λ (l : List Entry). Allows shape step.entry.cpu step.entry.part (content shape (lock_named shape step.lock) l)) earlier first.allowed;
+          },
+          rest.0,
+        ),
+        rest.1,
+      )
+
+  -- where a pass knew the turns of all locks, its own ones followed on them, and it knows them all afterwards
+  pub learns_all : (v w : View) (logs : ℕ → List Entry) (steps : List Turned) (touches : List BitTouch) → Learns shape v w steps touches → KnowsAll shape logs v → FollowOn shape logs steps × KnowsAll shape (logs_after logs steps) w
+  learns_all v w logs steps touches learns knows =
+      let on = follow steps logs (λ k. known_log k v.known) learns.allowed (λ k. (learns.logs knows.all k).go_on) knows.each in (
+        on.0,
+        record {
+          all = learns.all ∙ knows.all;
+          each = λ k below there. (learns.logs knows.all k).known_is ∙ on.1 k below there;
+        },
+      )

@@ -22,6 +22,8 @@ use Rattle.place_table.specs.Plays.{Seated}
 use Rattle.place_table.specs.Rules.{is_hand_of, is_home_of, IsAboveAll, Ascends}
 use Rattle.place_table.specs.Views.{is_among, hold_at, is_in_hand_of, now_at, with_now, with_in_hand, without_in_hand, with_places}
 use Rattle.place_table.proofs.Worlds.{by_bool, some_is, none_some}
+use Rattle.place_table.specs.declared.view.HomeIn.{HomeIn}
+use Rattle.place_table.specs.declared.view.WordStep.{WordStep}
 
 -- Locks that are held
 
@@ -201,9 +203,9 @@ real_without shape cpus e cpu hand all x c in_hand = all x c (was_in_hand e cpu 
         or_true false f = f
 
 -- a pass whose elements have moved
-pub is_pass_moved : {flags : List Bool} {ended : Option (Vec Finished Global)} (v : View) (slots : List (ℕ × Behind)) (strand : List StrandStep) (spares : List (Option Stored)) (held : List Hold) (hand carried : List InHand) (after : Seated) → IsPass v slots strand spares flags ended
-    → Carries held slots → HandsReal v.shape v.cpus hand → after ≡ (with_places held hand carried v, slots) → IsPass after.0 after.1 strand spares flags ended
-is_pass_moved {flags} {ended} v slots strand spares held hand carried after pass carries real after_is =
+pub is_pass_moved : {flags : List Bool} {ended : Option (Vec Finished Global)} (v : View) (slots : List (ℕ × Behind)) (strand : List StrandStep) (spares : List (Option Stored)) (held : List Hold) (hand carried : List InHand) (readings : List HomeIn) (touched : List WordStep) (after : Seated) → IsPass v slots strand spares flags ended
+    → Carries held slots → HandsReal v.shape v.cpus hand → after ≡ (with_places held hand carried readings touched v, slots) → IsPass after.0 after.1 strand spares flags ended
+is_pass_moved {flags} {ended} v slots strand spares held hand carried readings touched after pass carries real after_is =
     subst (λ (z : Seated). IsPass z.0 z.1 strand spares flags ended) (sym after_is) record {
       carries = carries;
       strand_is = pass.strand_is;

@@ -1,7 +1,7 @@
 -- The step on a home word: an element goes from the lists of a lock, or from a hand that carries it, to others.
-use Rattle.std.proofs.Common.{◌≡◌, ◌≢◌, ℕ, ◌+◌, ◌<◌, ◌⊎◌, inl, inr, ⊎_elim, cond, Bool, true, false, List, get_or, set, sym, refl, ap, ◌∙◌, subst, arith, get_or-set_other, get_or-set_same}
-use Rattle.std.specs.Prelude.{◌&&◌, IsTrue, IsFalse, nat_lt}
-use Rattle.std.proofs.lemmas.Bool.{and_parts, eqb-true, and_right}
+use Rattle.std.proofs.Common.{◌≡◌, ◌≢◌, ℕ, ◌+◌, ◌<◌, ◌⊎◌, inl, inr, ⊎_elim, cond, Bool, true, List, get_or, set, sym, refl, ap, ◌∙◌, subst, arith, get_or-set_other, get_or-set_same, None}
+use Rattle.std.specs.Prelude.{IsTrue, IsFalse}
+use Rattle.std.proofs.lemmas.Bool.{and_parts, eqb-true}
 use mathlib.Core.Option.{some}
 use lib.ListN.{get_elem?}
 use Rattle.atomic_table.specs.Table.{State, Allows, keeps, stepped}
@@ -15,35 +15,40 @@ use Rattle.place_words.specs.declared.home.Home.TheVariants as homes
 use Rattle.place_words.specs.declared.owner.Owner.{Owner}
 use Rattle.place_words.specs.declared.owner.Owner.TheVariants as owners
 use Rattle.place_words.specs.Codes.{home_code}
-use Rattle.map_types.specs.ElementLists.{put, times, one, IsIn}
+use Rattle.map_types.specs.ElementLists.{put, times, IsIn}
 use Rattle.place_words.specs.Locks.{is_lock, lock_named, lock_number}
 use Rattle.place_words.specs.Openings.{is_free}
 use Rattle.place_words.proofs.LockLemmas.{named_by_number}
 use Rattle.place_core.specs.declared.step.Lists.{Lists}
-use Rattle.place_core.specs.declared.step.Step.TheVariants.{Rehome}
+use Rattle.place_core.specs.declared.step.Step.TheVariants.{Rehome, Clear}
 use Rattle.place_core.specs.State.{rows, is_bucket}
 use Rattle.place_core.specs.Places.{lies, lies_at, has_row, home_of_place}
-use Rattle.place_core.specs.Steps.{Holds, left_by, joined_by, MayLeave, MayEnter, IsFreeOrInHand, CanRehome, after_leaving, after_joining}
+use Rattle.place_core.specs.Steps.{Holds, left_by, joined_by, MayLeave, MayEnter, IsFreeOrInHand, CanRehome, after_leaving, after_joining, CanClear, IsHeldHome}
 use Rattle.place_core.specs.Steps as steps
 use Rattle.place_core.specs.Wholeness.{all_of}
 use Rattle.place_core.proofs.ElementLemmas.{by_test, at_put, put_here, put_else, times_append}
-use Rattle.place_core.proofs.RowLemmas.{stands_where, free_is, lies_is, row_lies, no_row_free}
+use Rattle.place_core.proofs.RowLemmas.{stands_where, free_is, lies_is, row_lies}
 use Rattle.place_core.proofs.StepLaws.{step_keeps_places, step_keeps_ranks}
 use Rattle.place_table.specs.declared.content.Behind.{Behind}
 use Rattle.place_table.specs.declared.view.View.{View}
 use Rattle.place_table.specs.declared.view.Hold.{Hold}
 use Rattle.place_table.specs.declared.view.InHand.{InHand}
 use Rattle.place_table.specs.Laws.{StepsAs, goes_by}
-use Rattle.place_table.specs.Views.{is_among, hold_at, is_in_hand_of, now_at, with_now, with_places, held_without, held_with, carried_without, carried_with}
+use Rattle.place_table.specs.Views.{is_among, hold_at, is_in_hand_of, now_at, with_now, with_places, held_without, held_with, carried_without, carried_with, without_readings, noted, with_clear, bits_with, touching}
 use Rattle.place_table.specs.Views as views
-use Rattle.place_table.specs.Rules.{World, Rule, Ascends, is_home_of, owner_word, home_word}
+use Rattle.place_table.specs.Rules.{World, Rule, Ascends, is_home_of, StillHome}
+use Rattle.place_table.specs.Words.{owner_word, home_word, bit_word}
 use Rattle.place_table.specs.Passes.{PassView, TableView, Carries, IsPassOf, HasBegun, with_view, Rehomed}
-use Rattle.place_table.specs.Plays.{Seated, HoldsLock, IsKnownHome, IsKnownFree, MayGoHome, IsNoneListed, OwnerFits, Rehomes}
+use Rattle.place_table.specs.Plays.{Seated, HoldsLock, IsKnownHome, IsKnownFree, MayGoHome, OwnerFits, Rehomes, Clears, MayClear}
 use Rattle.place_table.proofs.Hands.{ascends_now, carries_now, AreInHands, comes_to_hand, leaves_hand, stays_in_hand, IsHomeOfPass}
 use Rattle.place_table.proofs.Locks.{allows_of}
 use Rattle.place_table.proofs.PlaceSteps.{IsHeldByPass, AreHeld, now_is, held_moved, place_rule, now_there, holds_there}
-use Rattle.place_table.proofs.WordSteps.{owner_fits}
+use Rattle.place_table.proofs.WordSteps.{clears_by}
+use Rattle.place_table.proofs.OwnersSeen.{owner_fits}
 use Rattle.place_table.proofs.Worlds.{both_true, has_mine, in_hand_is}
+use Rattle.place_table.proofs.Readings.{without_home, still_flushed}
+use Rattle.place_table.proofs.Rehomes.{hashes_rehomed}
+use Rattle.place_table.proofs.NotesDone.{noted_with, noted_without}
 
 -- the home is a lock that a CPU of the pass holds, or the hand of one
 abbrev IsInReach : Shape → World → ℕ → Home → Type 0
@@ -196,16 +201,9 @@ module _ (shape : Shape) (s : State Behind View) (r : Rule shape s) (pass : ℕ)
   enters_known (homes.In (Freelist d)) may = absurd may
   enters_known (homes.Hand d) may = (may.0, owner_known may.1)
 
-  none_listed : r.world.core.owner e ≡ owners.Free → IsNoneListed v e
-  none_listed free k hold held =
-      let w = r.world in
-      ap (λ (l : Lists). times e (rows l)) (now_there shape s r pass v at_pass k hold held)
-      ∙ (r.placed.placed.rows k e ∙ (ap (λ (o : Owner). one (nat_lt e shape.elements && has_row (is_lru shape.kind) (lock_named shape k) o (lies_at k (r.placed.place e)))) free
-      ∙ (ap (λ (b : Bool). one (nat_lt e shape.elements && b)) (no_row_free (is_lru shape.kind) (lock_named shape k) (lies_at k (r.placed.place e))) ∙ ap one (and_right (nat_lt e shape.elements) false refl))))
-
   -- the home is another from now on
   home_rule : (to : Home) (cs : List (ℕ × Behind)) → (can : CanRehome shape r.world.core c e to)
-      → (after : Rule shape (stepped s (home_word shape e) (home_code to) pass cs (with_places (held_with shape to (r.world.core.owner e) e (held_without shape (r.world.core.home e) (r.world.core.owner e) e v.held)) v.hand (carried_with to e (carried_without (r.world.core.home e) e v.carried)) v) keeps))
+      → (after : Rule shape (stepped s (home_word shape e) (home_code to) pass cs (with_places (held_with shape to (r.world.core.owner e) e (held_without shape (r.world.core.home e) (r.world.core.owner e) e v.held)) v.hand (carried_with to e (carried_without (r.world.core.home e) e v.carried)) (without_readings e v.readings) (touching (home_word shape e) None (home_code to) v) v) keeps))
       × (after.world.core ≡ steps.rehomed shape r.world.core e to)
   home_rule to cs can =
       let i : ℕ = home_word shape e in let code : ℕ = home_code to in
@@ -218,11 +216,12 @@ module _ (shape : Shape) (s : State Behind View) (r : Rule shape s) (pass : ℕ)
       let away : ℕ → Lists = after_leaving shape from owner e w.core.lists in
       let lists : ℕ → Lists = after_joining shape to owner e away in
       let on_the_way : ℕ → Home = put w.core.home e homes.Unlisted in
-      place_rule shape s r pass v at_pass lists w.core.owner (put w.core.home e to) i code (held_with shape to owner e (held_without shape from owner e v.held)) v.hand (carried_with to e (carried_without from e v.carried)) cs (omega arith) (omega arith)
+      place_rule shape s r pass v at_pass lists w.core.owner (put w.core.home e to) i code c has (held_with shape to owner e (held_without shape from owner e v.held)) v.hand (carried_with to e (carried_without from e v.carried)) (without_readings e v.readings) cs (omega arith) (omega arith)
       (λ x below. get_or-set_other s.words i (owner_word shape x) code 0 (λ y. omega arith) ∙ r.owner_words x below)
       (λ x below. at_put w.core.home e to (λ j h. j < shape.elements → get_or (set s.words i code) (home_word shape j) 0 ≡ home_code h) x
       (λ _. get_or-set_same s.words i code 0 (omega (arith, r.words)))
       (λ ne below. get_or-set_other s.words i (home_word shape x) code 0 (λ y. ne (omega arith)) ∙ r.home_words x below) below)
+      (noted_with shape v.touched to owner e (held_without shape from owner e v.held) v.notes (noted_without shape v.touched from owner e v.held v.notes kn.noted))
       record {
         under = λ k. ⊎_elim
             (λ (stays : lists k ≡ away k). ⊎_elim
@@ -242,6 +241,14 @@ module _ (shape : Shape) (s : State Behind View) (r : Rule shape s) (pass : ℕ)
             to (reach_of_pass shape w pass to joined) (put_here w.core.home e homes.Unlisted) (put_here w.core.home e to);
         placed = step_keeps_places shape w.core (Rehome c e to) bounds can r.placed;
         ranked = step_keeps_ranks shape w.core (Rehome c e to) can r.ranked;
+        hashes = λ lru. hashes_rehomed shape w.core r.placed w.log w.hash (r.hashes lru) lru c e to can (step_keeps_places shape w.core (Rehome c e to) bounds can r.placed);
+        are_read = λ x d read within found.
+            let k = without_home x d read e v.readings found in let was = kn.readings x d read within k.1 in
+            record { real = was.real; in_hand = was.in_hand; still = subst (λ (z : Home). StillHome shape w.core.holder w.log x z read) (sym (put_else w.core.home e to x k.0)) was.still };
+        still = λ x d read in_hand theirs still. by_test x e (λ _. StillHome shape w.core.holder w.log x (put w.core.home e to x) read)
+            (λ same. subst (λ (z : ℕ). StillHome shape w.core.holder w.log z (put w.core.home e to z) read) (sym same) (subst (λ (z : Home). StillHome shape w.core.holder w.log e z read) (sym (put_here w.core.home e to))
+            (still_flushed shape w.core r.placed w.log w.hash r.hashes (bounds.common_evicts can.common) c e to can d read (ap w.core.owner (sym same) ∙ in_hand) (λ is. theirs (ap w.whose is ∙ mine)) (subst (λ (z : ℕ). StillHome shape w.core.holder w.log z (w.core.home z) read) same still))))
+            (λ other. subst (λ (z : Home). StillHome shape w.core.holder w.log x z read) (sym (put_else w.core.home e to x other)) still);
       }
 
 pub rehomes_step : (shape : Shape) (slots pass : ℕ) (me : Seated) (c e : ℕ) (from to : Home) → IsTrue shape.common → e < shape.elements → is_among c me.0.cpus ≡ true → IsKnownHome shape me.0 c e from → MayGoHome shape me.0 c e to
@@ -260,7 +267,7 @@ rehomes_step shape slots pass me c e from to common real has known may s r wide 
       to_there = enters_known shape s r pass v at_pass c e has real to may;
     } in
     let rule = home_rule shape s r pass v at_pass c e has real to me.1 can in (
-      with_places (held_with shape to owner e (held_without shape (w.core.home e) owner e v.held)) v.hand (carried_with to e (carried_without (w.core.home e) e v.carried)) v,
+      with_places (held_with shape to owner e (held_without shape (w.core.home e) owner e v.held)) v.hand (carried_with to e (carried_without (w.core.home e) e v.carried)) (without_readings e v.readings) (touching (home_word shape e) None (home_code to) v) v,
       keeps,
       tt,
       (rule.0, record { enabled = can; changed = rule.1 }),
@@ -269,8 +276,7 @@ rehomes_step shape slots pass me c e from to common real has known may s r wide 
         known = λ cpu home mine at_home. sym (home_known shape s r pass v at_pass cpu e mine real home evicts (subst (λ (z : Shape). IsKnownHome z v cpu e home) kn.shape_is at_home));
         owner = owner;
         fits = subst (λ z. OwnerFits z v e owner) (sym kn.shape_is) (owner_fits shape s r pass v e at_pass real);
-        listed = none_listed shape s r pass v at_pass c e has real;
-        after_is = λ i. (with_places (held_with (sym kn.shape_is i) to owner e (held_without (sym kn.shape_is i) (w.core.home e) owner e v.held)) v.hand (carried_with to e (carried_without (w.core.home e) e v.carried)) v, me.1);
+        after_is = λ i. (with_places (held_with (sym kn.shape_is i) to owner e (held_without (sym kn.shape_is i) (w.core.home e) owner e v.held)) v.hand (carried_with to e (carried_without (w.core.home e) e v.carried)) (without_readings e v.readings) (touching (home_word (sym kn.shape_is i) e) None (home_code to) v) v, me.1);
       },
     )
 
@@ -303,6 +309,26 @@ rehomed_of t e to before after old new of_table begun old_is moved after_is = re
       (moved.known before.cpu home (ap (λ (v : View). is_among before.cpu v.cpus) old_is ∙ begun));
   owner = moved.owner;
   fits = subst (λ (z : Shape × View). OwnerFits z.0 z.1 e moved.owner) (λ i. ((ap (λ (v : View). v.shape) old_is ∙ of_table.1) i, old_is i)) moved.fits;
-  listed = λ free. subst (λ (v : View). IsNoneListed v e) old_is (moved.listed free);
   after_is = after_is ∙ (ap (λ (z : Seated). with_view before z.0) moved.after_is ∙ ap (λ (v : View). with_view before (views.rehomed moved.from to moved.owner e v)) old_is);
 }
+
+-- Clears, of what is in hand or stands at a home that is held
+
+may_clear : (shape : Shape) (pass : ℕ) (v : View) (c e : ℕ) → is_among c v.cpus ≡ true → e < shape.elements → MayClear shape v c e
+    → (s : State Behind View) (r : Rule shape s) → get_elem? s.views pass ≡ some v → IsHeldHome shape r.world.core c (r.world.core.home e) ⊎ (r.world.core.owner e ≡ owners.Hand c)
+may_clear shape pass v c e has real may s r at_pass =
+    ⊎_elim
+    (λ (in_hand : is_in_hand_of e c v.hand ≡ true). inr (owner_known shape s r pass v at_pass c e has real in_hand))
+    (λ (at_home : IsTrue (is_lru shape.kind) × ((lock : DomainId) × IsKnownHome shape v c e (homes.In lock))).
+    inl (subst (IsHeldHome shape r.world.core c) (sym (home_known shape s r pass v at_pass c e has real (homes.In at_home.1.0) at_home.0 at_home.1.1)) (holds_known shape s r pass v at_pass c e has real at_home.1.0 at_home.1.1.0)))
+    may
+
+pub clears_step : (shape : Shape) (slots pass : ℕ) (me : Seated) (e c : ℕ) → e < shape.elements → is_among c me.0.cpus ≡ true → MayClear shape me.0 c e
+    → StepsAs shape slots pass me (bit_word shape e) (λ _. 0) (goes_by shape (Clear c e)) (Clears e me)
+clears_step shape slots pass me e c real cpu may = clears_by shape slots pass me e c real cpu (may_clear shape pass me.0 c e cpu real may)
+
+pub clears : (shape : Shape) (slots pass : ℕ) (me : Seated) (e c i : ℕ) → i ≡ bit_word shape e → e < shape.elements → is_among c me.0.cpus ≡ true → MayClear shape me.0 c e
+    → Allows (Rule shape) slots pass me i (λ _. 0) (Clears e me)
+clears shape slots pass me e c i is real cpu may =
+    subst (λ (z : ℕ). Allows (Rule shape) slots pass me z (λ _. 0) (Clears e me)) (sym is)
+    (allows_of shape slots pass me (bit_word shape e) (λ _. 0) (goes_by shape (Clear c e)) (Clears e me) (clears_step shape slots pass me e c real cpu may))

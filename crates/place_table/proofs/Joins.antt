@@ -1,5 +1,5 @@
 -- A pass takes in another.
-use Rattle.std.proofs.Common.{◌≡◌, ◌≢◌, ℕ, suc, ◌<◌, ⊎_elim, inl, eqb, cond, Bool, true, false, List, [], ◌∷◌, ◌++◌, length, set, sym, refl, ap, ◌∙◌, subst, arith, Option, Some, None, length-set}
+use Rattle.std.proofs.Common.{◌≡◌, ◌≢◌, ℕ, suc, ◌<◌, ◌⊎◌, ⊎_elim, inl, inr, eqb, cond, Bool, true, false, List, [], ◌∷◌, ◌++◌, length, set, sym, refl, ap, ◌∙◌, subst, arith, Option, Some, None, length-set}
 use Rattle.std.specs.Prelude.{◌&&◌}
 use lib.ListN.{get_elem?}
 use mathlib.Core.Option.{some}
@@ -12,14 +12,22 @@ use Rattle.place_core.proofs.ElementLemmas.{by_test, put_here, put_else}
 use Rattle.place_table.specs.declared.content.Behind.{Behind}
 use Rattle.place_table.specs.declared.view.View.{View}
 use Rattle.place_table.specs.declared.view.InHand.{InHand}
-use Rattle.place_table.specs.Views.{is_among, hold_at, is_in_hand_of, current_strand, all_strands, joined, spent}
+use Rattle.place_table.specs.declared.view.HashIn.{HashIn}
+use Rattle.place_table.specs.Views.{is_among, hold_at, is_in_hand_of, bucket_known, current_strand, all_strands, joined, spent, home_known}
 use Rattle.place_table.specs.Rules.{Tagged, World, hold, hold_of, is_hand_of, is_home_of, IsStrand, ArePast, IsLostLock, Knows, Rule}
-use Rattle.place_table.proofs.Worlds.{true_false, none_some, lock_still_lost}
+use Rattle.place_table.proofs.Worlds.{true_false, by_bool, none_some, lock_still_lost}
 use Rattle.place_table.proofs.Locks.{there}
 use Rattle.place_table.proofs.Splits.{and_false}
-use Rattle.place_table.proofs.StrandMoves.{among_append, among_later, no_turns_yet, SameTurns, GoesTo, StaysListed, strand_moves, past_moves, tagged_moves, past_keeper, not_theirs, past_append, done, past_done, among_done, fresh_done, no_steps_append, not_one}
+use Rattle.place_table.proofs.StrandMoves.{among_append, among_later, no_turns_yet, no_touches_yet, of_strands_move, SameTurns, GoesTo, StaysListed, strand_moves, past_moves, tagged_moves, past_keeper, not_theirs, past_append, done, past_done, among_done, fresh_done, no_steps_append, not_one}
+use Rattle.place_table.proofs.Readings.{append_home, or_there}
 
--- what is in hand in one of two lists
+-- what is known, and what is in hand, in one of two lists
+known_append : (e d b : ℕ) (xs ys : List HashIn) → bucket_known e d (xs ++ ys) ≡ Some b → (bucket_known e d xs ≡ Some b) ⊎ (bucket_known e d ys ≡ Some b)
+known_append e d b [] ys found = inr found
+known_append e d b (x ∷ xs) ys found =
+    by_bool (eqb x.element e && eqb x.cpu d) (λ t. cond t (Some x.bucket) (bucket_known e d (xs ++ ys)) ≡ Some b → (cond t (Some x.bucket) (bucket_known e d xs) ≡ Some b) ⊎ (bucket_known e d ys ≡ Some b))
+    (λ _ f. inl f) (λ _ f. known_append e d b xs ys f) found
+
 pub hand_append : (e d : ℕ) (xs ys : List InHand) → is_in_hand_of e d (xs ++ ys) ≡ cond (is_in_hand_of e d xs) true (is_in_hand_of e d ys)
 hand_append e d [] ys = refl
 hand_append e d (x ∷ xs) ys = go (eqb x.element e && eqb x.cpu d) (hand_append e d xs ys)
@@ -57,6 +65,8 @@ module _ (shape : Shape) (id other : ℕ) (v u : View) (apart : other ≢ id) (n
     current = put (put w.current id w.next) other (suc w.next);
     past = put (put w.past id (done w id ++ done w other)) other [];
     next = suc (suc w.next);
+    hash = w.hash;
+    touches = w.touches;
   }
 
   fold_id : (x : ℕ) → eqb (fold_in x) id ≡ cond (eqb x id) true (eqb x other)
@@ -160,7 +170,7 @@ module _ (shape : Shape) (id other : ℕ) (v u : View) (apart : other ≢ id) (n
 
   same_turns : (w : World) → SameTurns w (merged w)
   unfolding merged
-  same_turns w = record { log = λ _. refl; lost = λ _. refl; next = omega arith }
+  same_turns w = record { log = λ _. refl; lost = λ _. refl; next = omega arith; touches = refl }
 
   -- the pass with the CPUs of both
   both_know : (s : State Behind View) (r : Rule shape s) → get_elem? s.views id ≡ some v → get_elem? s.views other ≡ some u → Knows shape (merged r.world) id (joined v u)
@@ -173,19 +183,29 @@ module _ (shape : Shape) (id other : ℕ) (v u : View) (apart : other ≢ id) (n
         within = λ d among. in_either (is_among d v.cpus) (is_among d u.cpus) (d < shape.cpus) (kn.within d) (ku.within d) (sym (among_append d v.cpus u.cpus) ∙ among);
         held = λ k. sym (hold_both w k (w.core.holder k) (w.log k) (w.core.lists k) (w.lost k) (sym (kn.held k) ∙ ap (hold_at k) no_lock) (sym (ku.held k) ∙ ap (hold_at k) nor_lock));
         ascends = tt;
+        noted = tt;
         hands = λ e d less. hand_both w e d (is_hand_of d (w.core.owner e)) v.hand u.hand (kn.hands e d less) (ku.hands e d less);
         carried = λ e d less. hand_both w e d (is_home_of d (w.core.home e)) v.carried u.carried (kn.carried e d less) (ku.carried e d less);
+        hashes = λ e d b within found. ⊎_elim
+            (λ (first : bucket_known e d v.hashes ≡ Some b). let is = kn.hashes e d b within first in record { in_hand = hand_append e d v.hand u.hand ∙ ap (λ (t : Bool). cond t true (is_in_hand_of e d u.hand)) is.in_hand; bucket_is = is.bucket_is })
+            (λ (second : bucket_known e d u.hashes ≡ Some b). let is = ku.hashes e d b within second in record { in_hand = hand_append e d v.hand u.hand ∙ or_there (is_in_hand_of e d v.hand) (is_in_hand_of e d u.hand) is.in_hand; bucket_is = is.bucket_is })
+            (known_append e d b v.hashes u.hashes found);
+        readings = λ e d read within found. ⊎_elim
+            (λ (first : home_known e d v.readings ≡ Some read). let is = kn.readings e d read within first in record { real = is.real; in_hand = hand_append e d v.hand u.hand ∙ ap (λ (t : Bool). cond t true (is_in_hand_of e d u.hand)) is.in_hand; still = is.still })
+            (λ (second : home_known e d u.readings ≡ Some read). let is = ku.readings e d read within second in record { real = is.real; in_hand = hand_append e d v.hand u.hand ∙ or_there (is_in_hand_of e d v.hand) (is_in_hand_of e d u.hand) is.in_hand; still = is.still })
+            (append_home e d read v.readings u.readings found);
         known = λ k log f. absurd (none_some f);
         bits = λ e bit f. absurd (none_some f);
         only = inl (refl, refl);
         losses = λ k among. lock_still_lost shape w w' k (λ found. found) (in_either (is_among k v.lost) (is_among k u.lost) (IsLostLock shape w k) (kn.losses k) (ku.losses k) (sym (among_append k v.lost u.lost) ∙ among));
-        strand = subst (λ (z : ℕ). IsStrand shape w' id z (v.cpus ++ u.cpus) [] []) (sym (new_current w)) record {
+        strand = subst (λ (z : ℕ). IsStrand shape w' id z (v.cpus ++ u.cpus) [] [] []) (sym (new_current w)) record {
           keeper = put_else (put (λ t. fold_in (w.keeper t)) w.next id) (suc w.next) other w.next (λ e. omega arith) ∙ put_here (λ t. fold_in (w.keeper t)) w.next id;
           numbered = omega arith;
           team = put_else (put w.team w.next (v.cpus ++ u.cpus)) (suc w.next) [] w.next (λ e. omega arith) ∙ put_here w.team w.next (v.cpus ++ u.cpus);
           steps_are = λ k. sym (no_turns_yet w (length s.views) w.next 0 (w.log k) (omega arith) (r.tagged k));
           stand = tt;
           kept_are = λ k below is found. refl;
+          touched_are = sym (no_touches_yet w (length s.views) w.next w.touches (omega arith) r.of_strands);
         };
         past = subst (λ z. ArePast shape w' id z (all_strands v ++ all_strands u)) (sym (new_past w))
             (past_append shape w' id (done w id) (done w other) (all_strands v) (all_strands u)
@@ -195,7 +215,7 @@ module _ (shape : Shape) (id other : ℕ) (v u : View) (apart : other ≢ id) (n
         apart = ap (λ z. is_among z (w'.past id)) (new_current w) ∙ (ap (is_among w.next) (new_past w) ∙ (among_append w.next (done w id) (done w other)
             ∙ (ap (λ b. cond b true (is_among w.next (done w other))) (fresh_done shape w id w.next v kn.strand kn.past (omega arith)) ∙ fresh_done shape w other w.next u ku.strand ku.past (omega arith))));
         idle = λ e. let none = append_empty v.cpus u.cpus e in let a = kn.idle none.0 in let b = ku.idle none.1 in
-            (refl, no_steps_append (all_strands v) (all_strands u) (no_steps_append v.ended (current_strand v ∷ []) a.1 (a.0, tt)) (no_steps_append u.ended (current_strand u ∷ []) b.1 (b.0, tt)));
+            ((refl, tt), no_steps_append (all_strands v) (all_strands u) (no_steps_append v.ended (current_strand v ∷ []) a.1 (a.0, tt)) (no_steps_append u.ended (current_strand u ∷ []) b.1 (b.0, tt)));
       }
 
   -- what is left of the other
@@ -208,23 +228,27 @@ module _ (shape : Shape) (id other : ℕ) (v u : View) (apart : other ≢ id) (n
         within = λ d among. true_false (sym among);
         held = λ k. sym (hold_spent w k (w.core.holder k) (w.log k) (w.core.lists k) (w.lost k));
         ascends = tt;
+        noted = tt;
         hands = λ e d less. sym (ap (λ t. is_hand_of d (w.core.owner e) && t) (fold_other (w.whose d)) ∙ and_false (is_hand_of d (w.core.owner e)));
         carried = λ e d less. sym (ap (λ t. is_home_of d (w.core.home e) && t) (fold_other (w.whose d)) ∙ and_false (is_home_of d (w.core.home e)));
+        hashes = λ e d b within found. absurd (none_some found);
+        readings = λ e d read within found. absurd (none_some found);
         known = λ k log f. absurd (none_some f);
         bits = λ e bit f. absurd (none_some f);
         only = inl (refl, refl);
         losses = λ k among. true_false (sym among);
-        strand = subst (λ (z : ℕ). IsStrand shape w' other z [] [] []) (sym (put_here (put w.current id w.next) other (suc w.next))) record {
+        strand = subst (λ (z : ℕ). IsStrand shape w' other z [] [] [] []) (sym (put_here (put w.current id w.next) other (suc w.next))) record {
           keeper = put_here (put (λ t. fold_in (w.keeper t)) w.next id) (suc w.next) other;
           numbered = omega arith;
           team = put_here (put w.team w.next (v.cpus ++ u.cpus)) (suc w.next) [];
           steps_are = λ k. sym (no_turns_yet w (length s.views) (suc w.next) 0 (w.log k) (omega arith) (r.tagged k));
           stand = tt;
           kept_are = λ k below is found. refl;
+          touched_are = sym (no_touches_yet w (length s.views) (suc w.next) w.touches (omega arith) r.of_strands);
         };
         past = subst (λ z. ArePast shape w' other z []) (sym (put_here (put w.past id (done w id ++ done w other)) other [])) tt;
         apart = ap (λ z. is_among (w'.current other) z) (put_here (put w.past id (done w id ++ done w other)) other []);
-        idle = λ _. (refl, tt);
+        idle = λ _. ((refl, tt), tt);
       }
 
   -- any other pass
@@ -237,14 +261,17 @@ module _ (shape : Shape) (id other : ℕ) (v u : View) (apart : other ≢ id) (n
         within = kx.within;
         held = λ k. kx.held k ∙ sym (hold_else w j k (w.core.holder k) (w.log k) (w.core.lists k) (w.lost k) not_id not_other);
         ascends = kx.ascends;
+        noted = kx.noted;
         hands = λ e d less. kx.hands e d less ∙ ap (λ b. is_hand_of d (w.core.owner e) && b) (sym (fold_else (w.whose d) j not_id not_other));
         carried = λ e d less. kx.carried e d less ∙ ap (λ b. is_home_of d (w.core.home e) && b) (sym (fold_else (w.whose d) j not_id not_other));
+        hashes = λ e d b within found. kx.hashes e d b within found;
+        readings = kx.readings;
         known = kx.known;
         bits = kx.bits;
         only = kx.only;
         losses = λ k among. lock_still_lost shape w w' k (λ found. found) (kx.losses k among);
-        strand = subst (λ (z : ℕ). IsStrand shape w' j z x.cpus x.steps x.kept) (sym (else_current w j not_id not_other))
-            (strand_moves shape w w' j j (w.current j) x.cpus x.steps x.kept (same_turns w) (λ old e. kept_still w j (w.current j) not_other old e) kx.strand);
+        strand = subst (λ (z : ℕ). IsStrand shape w' j z x.cpus x.steps x.kept x.touched) (sym (else_current w j not_id not_other))
+            (strand_moves shape w w' j j (w.current j) x.cpus x.steps x.kept x.touched (same_turns w) (λ old e. kept_still w j (w.current j) not_other old e) kx.strand);
         past = subst (λ z. ArePast shape w' j z x.ended) (sym (else_past w j not_id not_other))
             (past_moves shape w w' j j (w.past j) x.ended (same_turns w) (λ t old e. kept_still w j t not_other old e) kx.past);
         apart = ap (λ z. is_among z (w'.past j)) (else_current w j not_id not_other) ∙ (ap (is_among (w.current j)) (else_past w j not_id not_other) ∙ kx.apart);
@@ -299,11 +326,15 @@ module _ (shape : Shape) (id other : ℕ) (v u : View) (apart : other ≢ id) (n
         bit_words = r.bit_words;
         placed = r.placed;
         ranked = r.ranked;
+        hashes = r.hashes;
         legal = r.legal;
         homes = r.homes;
         seated = λ d less. subst (λ (z : ℕ). fold_in (w.whose d) < z) (sym long) (fold_below (w.whose d) (length s.views) here (r.seated d less));
         tagged = λ k. tagged_moves w w' (length s.views) (length (set (set s.views id both) other gone)) (w.log k)
             (λ t below old among. subst (λ (z : ℕ). StaysListed w w' z t) (sym long) (listed_on w (length s.views) t here below old among)) (r.tagged k);
+        lead = r.lead;
+        of_strands = of_strands_move w w' (length s.views) (length (set (set s.views id both) other gone)) w.touches
+            (λ t below old among. subst (λ (z : ℕ). StaysListed w w' z t) (sym long) (listed_on w (length s.views) t here below old among)) r.of_strands;
         knows = λ j x f. ⊎_elim
             (λ t. subst (λ (z : ℕ × View). Knows shape w' z.0 z.1) (λ i. (sym t.0 i, t.1 i)) (spent_knows s r at_other))
             (λ g. ⊎_elim

@@ -13,10 +13,13 @@ use Rattle.map_types.specs.declared.kind.DomainId.{DomainId}
 use Rattle.map_types.specs.declared.kind.DomainId.TheVariants.{Local, Global, CpuLru, Bucket, Freelist}
 use Rattle.map_types.proofs.CreationLemmas.{bounds_of_shape}
 use Rattle.place_words.specs.declared.history.Entry.{Entry}
+use Rattle.place_words.specs.declared.home.Home.TheVariants as homes
 use Rattle.place_words.specs.declared.history.Part.{Part}
 use Rattle.place_words.specs.declared.history.StrandStep.{StrandStep}
-use Rattle.map_types.specs.ElementLists.{put, one}
-use Rattle.place_words.specs.Histories.{content, IsLegal}
+use Rattle.map_types.specs.ElementLists.{put, one, times}
+use Rattle.key_hash.specs.Bucket.{bucket_number}
+use Rattle.place_words.specs.Histories as histories
+use Rattle.place_words.specs.Histories.{content, content_after, IsLegal}
 use Rattle.place_words.specs.Locks.{is_lock, lock_named, lock_number, lock_count, rank_of}
 use Rattle.place_words.specs.Strands.{places_on}
 use Rattle.place_words.proofs.HistoryLemmas.{content_more, legal_more}
@@ -43,13 +46,23 @@ use Rattle.place_table.specs.Contents.{told, lists_of, Fits}
 use Rattle.place_table.specs.Laws.{StepsAs, goes_if, goes_by}
 use Rattle.place_table.specs.declared.view.Turned.{Turned}
 use Rattle.place_table.specs.Views as views
-use Rattle.place_table.specs.Views.{is_among, hold_at, known_log, holding, has_all}
-use Rattle.place_table.specs.Rules.{World, Rule, Knows, AtHome, Reads, Tagged, entries, lock_code, hold, hold_of, IsAboveAll, Ascends, turns_on, turns_of, indexes, logs_of, AreTagged, owner_word, home_word, bit_word}
+use Rattle.place_table.specs.Views.{is_among, hold_at, known_log, holding, has_all, is_in_hand_of, bucket_known, home_then, owners_passed, notes_below}
+use Rattle.place_table.specs.Rules.{World, Rule, Knows, AtHome, Reads, Tagged, entries, hold, hold_of, IsAboveAll, Ascends, turns_on, turns_of, indexes, logs_of, AreTagged, IsFresh, HashesRight, AreOfStrands, StillHome, HasRow, IsBrought, LeadTo, AreNoted}
+use Rattle.place_table.specs.Words.{lock_code, owner_word, home_word, bit_word, opening_words}
 use Rattle.place_table.specs.Plays.{Seated, Tries, AreElements, IsApartFromHands, MayPut, MayGive, IsRecorded, IsKeptOrLost, Gives, GivesSome, entry_by}
 use Rattle.place_table.specs.TurnNotes.{NotesFit}
+use Rattle.place_table.specs.StoredHashes.{stored_in}
+use Rattle.place_table.proofs.StoredHashes.{renewed, hashes_gave, hash_stays, IsGiven, IsOlder, given_known}
 use Rattle.place_table.proofs.Entries.{append_nil, entries_more, entries_length, turns_of_same, turns_of_other, turns_on_same, turns_on_other, places_on_same, places_on_other, indexes_more}
 use Rattle.place_table.proofs.Stands.{Grows, stand_more, stand_behind}
-use Rattle.place_table.proofs.Worlds.{at_put4, by_bool, true_false, some_is, none_some, hold_of_mine, IsMineOrFree, hold_of_other, HoldIs, hold_of_is, hold_at_first, hold_at_other, none_below, above_each, has_mine, in_hand_is, lock_still_lost, all_here, here_all, among_first, others, strand_stays, past_stays, tagged_stays, tagged_more, SameStrands, knows_none}
+use Rattle.place_table.proofs.Worlds.{at_put4, by_bool, true_false, some_is, none_some, hold_of_mine, IsMineOrFree, hold_of_other, HoldIs, hold_of_is, hold_at_first, hold_at_other, none_below, above_each, has_mine, in_hand_is, lock_still_lost, all_here, here_all, among_first, others, past_stays, tagged_stays, tagged_more, SameStrands, knows_none, hash_stands, hand_is, both_true}
+use Rattle.place_table.proofs.Readings.{still_took, still_gave, home_is_hand, then_known, then_still, at_home_then}
+use Rattle.place_table.specs.Flushes.{flushes}
+use Rattle.place_words.specs.declared.home.Home.{Home}
+use Rattle.place_core.specs.Wholeness.{all_of}
+use Rattle.place_table.specs.declared.view.WordStep.{WordStep}
+use Rattle.place_table.proofs.StepLog.{touches_with, lead_with, of_strands_with, strand_with, mine_more, past_same, other_same}
+use Rattle.place_table.proofs.NotesDone.{noted_gave}
 
 -- a step that is told as one of the core is one that the rule allows
 pub allows_of : (shape : Shape) (slots pass : ℕ) (me : Seated) (i : ℕ) (f : ℕ → ℕ) (goes : ℕ → cores.State → cores.State → Type 0) (told_then : ℕ → Seated → Type 0)
@@ -62,6 +75,11 @@ pub there : {A : Type 0} (l : List A) (i : ℕ) (a : A) → get_elem? l i ≡ so
 there [] i a e = absurd (some-ne-none a (sym e))
 there (x ∷ xs) zero a e = omega arith
 there (x ∷ xs) (suc i) a e = let h = there xs i a e in omega arith
+
+pub seat_at : {A : Type 0} (l : List A) (i : ℕ) → i < length l → (a : A) × (get_elem? l i ≡ some a)
+seat_at [] i h = absurd (omega arith)
+seat_at (x ∷ xs) zero h = (x, refl)
+seat_at (x ∷ xs) (suc i) h = seat_at xs i (omega arith)
 
 pub found_at : (l : List ℕ) (i : ℕ) → i < length l → get_elem? l i ≡ some (get_or l i 0)
 found_at [] i h = absurd (omega arith)
@@ -82,10 +100,13 @@ same_rule shape s r words views e f = record {
   bit_words = λ x below. ap (λ (l : List ℕ). get_or l (bit_word shape x) 0) e ∙ r.bit_words x below;
   placed = r.placed;
   ranked = r.ranked;
+  hashes = r.hashes;
   legal = r.legal;
   homes = r.homes;
   seated = λ c less. subst (λ (l : List View). r.world.whose c < length l) (sym f) (r.seated c less);
   tagged = λ k. subst (λ (l : List View). AreTagged r.world (length l) (r.world.log k)) (sym f) (r.tagged k);
+  lead = λ i below. subst (λ (l : List ℕ). LeadTo i (get_or (opening_words shape) i 0) r.world.touches (get_or l i 0)) (sym e) (r.lead i below);
+  of_strands = subst (λ (l : List View). AreOfStrands r.world (length l) r.world.touches) (sym f) r.of_strands;
   knows = λ j u at. r.knows j u (sym (ap (λ (l : List View). get_elem? l j) f) ∙ at);
 }
 
@@ -149,8 +170,11 @@ module _ (shape : Shape) (slots pass : ℕ) (me : Seated) (lock : DomainId) (c :
             ∙ hold_of_mine r.world.whose pass j c (r.world.log j) (r.world.core.lists j) (r.world.lost j) mine));
       }
 
+  took_step : WordStep
+  took_step = record { word = lock_number shape lock; seen = Some 0; left = 1 + c }
+
   took_world : World → World
-  took_world w = record { core = taken shape w.core c lock; log = w.log; lost = w.lost; whose = w.whose; keeper = w.keeper; team = w.team; current = w.current; past = w.past; next = w.next }
+  took_world w = record { core = taken shape w.core c lock; log = w.log; lost = w.lost; whose = w.whose; keeper = w.keeper; team = w.team; current = w.current; past = w.past; next = w.next; hash = w.hash; touches = touches_with w pass took_step }
 
   took_hold : World → Hold
   took_hold w = hold (lock_number shape lock) c (w.log (lock_number shape lock)) (w.core.lists (lock_number shape lock)) (w.lost (lock_number shape lock))
@@ -158,7 +182,7 @@ module _ (shape : Shape) (slots pass : ℕ) (me : Seated) (lock : DomainId) (c :
   took_rule : (s : State Behind View) (r : Rule shape s) → get_elem? s.views pass ≡ some me.0 → r.world.core.holder (lock_number shape lock) ≡ None
       → (after : Rule shape record { words = set s.words (lock_number shape lock) (1 + c); homes = set s.homes (lock_number shape lock) none; views = set s.views pass (holding (took_hold r.world) me.0) })
       × goes_by shape (Take c lock) 0 r.world.core after.world.core
-  unfolding took_world took_hold
+  unfolding took_step took_world took_hold
   took_rule s r at_pass free =
       let k : ℕ = lock_number shape lock in
       let v = me.0 in let w = r.world in let kn = r.knows pass v at_pass in let mine = has_mine shape w pass v c kn cpu in
@@ -183,12 +207,25 @@ module _ (shape : Shape) (slots pass : ℕ) (me : Seated) (lock : DomainId) (c :
           bit_words = λ x below. get_or-set_other s.words k (bit_word shape x) (1 + c) 0 (λ y. omega (arith, real)) ∙ r.bit_words x below;
           placed = step_keeps_places shape w.core (Take c lock) bounds can r.placed;
           ranked = step_keeps_ranks shape w.core (Take c lock) can r.ranked;
+          hashes = λ lru. let right = r.hashes lru in record {
+            in_bucket = right.in_bucket;
+            have = λ m x no_bucket inside.
+                let held_on : (j d : ℕ) → w.core.holder j ≡ Some d → put w.core.holder k (Some c) j ≡ Some d = λ j d. at_put w.core.holder k (Some c) (λ i ho. w.core.holder i ≡ Some d → ho ≡ Some d) j (λ at. absurd (none_some (sym free ∙ at))) (λ _ at. at) in
+                ⊎_elim
+                (λ (had : HasRow shape w.log w.hash m x). inl record { stored = had.stored })
+                (⊎_elim
+                (λ (fresh : IsFresh w.core.holder w.core.owner m x). inr (inl record { cpu = fresh.cpu; held = held_on m fresh.cpu fresh.held; in_hand = fresh.in_hand }))
+                (λ (brought : IsBrought shape w.core.holder w.log w.hash m x). inr (inr record { cpu = brought.cpu; from = brought.from; held = held_on m brought.cpu brought.held; holds = held_on brought.from brought.cpu brought.holds; low = brought.low; row = record { stored = brought.row.stored } })))
+                (right.have m x no_bucket inside);
+          };
           legal = r.legal;
           homes = λ m below there_is. at_put w.core.holder k (Some c) (λ i x. i < lock_count shape → IsTrue (is_lock shape (lock_named shape i)) → AtHome shape i x (entries (w.log i)) (w.core.lists i) (w.lost i) (get_elem? (set s.homes k none) i)) m
               (λ _ _. set_here s.homes k none (omega (arith, r.slots, real)))
               (λ ne below there_is. subst (λ z. AtHome shape m (w.core.holder m) (entries (w.log m)) (w.core.lists m) (w.lost m) z) (sym (set_else s.homes k m none ne)) (r.homes m below there_is)) below there_is;
           seated = λ x less. subst (λ (z : ℕ). w.whose x < z) (sym (length-set s.views pass nv)) (r.seated x less);
           tagged = λ m. tagged_stays w w' (length s.views) (length (set s.views pass nv)) (w.log m) (sym (length-set s.views pass nv)) same (r.tagged m);
+          lead = lead_with shape s r (w.current pass) took_step (omega (arith, r.words, real)) (sym (r.lock_words k real ∙ ap lock_code free));
+          of_strands = of_strands_with shape w pass v kn took_step w' (length s.views) (length (set s.views pass nv)) (there s.views pass v at_pass) (sym (length-set s.views pass nv)) same r.of_strands;
           knows = λ j u f. ⊎_elim
               (λ t. subst (λ (z : ℕ × View). Knows shape w' z.0 z.1) (λ i. (sym t.0 i, t.1 i)) record {
                 shape_is = kn.shape_is;
@@ -200,14 +237,27 @@ module _ (shape : Shape) (slots pass : ℕ) (me : Seated) (lock : DomainId) (c :
                 ascends = (subst (λ (d : DomainId). IsAboveAll shape (rank_of d) v.held) (sym (named_by_number shape lock is)) above, kn.ascends);
                 hands = kn.hands;
                 carried = kn.carried;
+                hashes = λ x d b within found. hash_stands shape w.hash w'.hash v.hand x d b (kn.hashes x d b within found) (λ _. refl);
+                readings = λ x d read within found.
+                    let then = then_known x d read v.shape h v.readings found in
+                    let was = kn.readings x d then.0 within then.1 in
+                    let owner_is : w.core.owner x ≡ owners.Hand d = hand_is d (w.core.owner x) (both_true _ _ (sym (kn.hands x d within) ∙ was.in_hand)).0 in
+                    let is : home_then shape h x then.0 ≡ read = ap (λ (z : Shape). home_then z h x then.0) (sym kn.shape_is) ∙ then.2 in
+                    record {
+                      real = was.real;
+                      in_hand = was.in_hand;
+                      still = still_took shape w.core.holder w.log k c x (w.core.home x) read
+                          (subst (StillHome shape w.core.holder w.log x (w.core.home x)) is (then_still shape w.core.holder w.core.lists w.core.owner w.core.home r.placed.place r.placed.placed w.log h refl x d then.0 was.real owner_is was.still));
+                    };
                 known = kn.known;
                 bits = kn.bits;
                 only = kn.only;
                 losses = λ j among. lock_still_lost shape w w' j (λ lo. lo) (kn.losses j among);
-                strand = strand_stays shape w w' pass (w.current pass) v.cpus v.steps v.kept kn.strand.keeper (λ z. z) refl (λ _. refl) (λ _ z. z) (λ _ z. z) kn.strand;
-                past = past_stays shape w w' pass (w.past pass) v.ended same (λ _ _ _ _. refl) (λ _ z. z) kn.past;
+                noted = (v.touched, [], refl, record { marks = tt; asked = tt; owners = tt; homes = tt }, kn.noted);
+                strand = strand_with shape w pass v kn took_step w' same (λ _. refl) (λ _ z. z) refl;
+                past = past_stays shape w w' pass (w.past pass) v.ended same (λ _ _ _ _. refl) (λ _ z. z) (λ t among _. past_same shape w pass v kn took_step t among) kn.past;
                 apart = kn.apart;
-                idle = kn.idle;
+                idle = λ empty. true_false (sym cpu ∙ ap (is_among c) empty);
               })
               (λ t. let ku = r.knows j u t.1 in others shape w w' j u same ku
               (λ m. at_put w.core.holder k (Some c) (λ i x. hold_of j w.whose i x (w.log i) (w.core.lists i) (w.lost i) ≡ hold_of j w.whose i (w.core.holder i) (w.log i) (w.core.lists i) (w.lost i)) m
@@ -218,7 +268,10 @@ module _ (shape : Shape) (slots pass : ℕ) (me : Seated) (lock : DomainId) (c :
               (λ _ _ _. refl)
               (λ _ z. z)
               ku.known
-              ku.bits)
+              ku.bits
+              (λ _ _ _ _. refl)
+              (λ tag own. other_same shape w pass v kn took_step j tag t.0 own)
+              (λ x d read _ _ _ still. still_took shape w.core.holder w.log k c x (w.core.home x) read still))
               (at_set s.views pass j nv u f);
         },
         record { enabled = can; changed = refl },
@@ -255,6 +308,13 @@ module _ (shape : Shape) (slots pass : ℕ) (me : Seated) (lock : DomainId) (c :
             apart = apart_there shape s r pass me.0 at_pass k;
             legal = subst (λ z. IsLegal z (lock_named z k) (entries (w.log k))) (sym kn.shape_is) (r.legal k);
             known = λ log f. kn.known k log f;
+            at_home = λ x d other within found at.
+                let then = then_known x d (homes.In other) me.0.shape h me.0.readings found in
+                let less : d < shape.cpus = subst (λ z. d < z.cpus) kn.shape_is within in
+                let was = kn.readings x d then.0 less then.1 in
+                let owner_is : w.core.owner x ≡ owners.Hand d = hand_is d (w.core.owner x) (both_true _ _ (sym (kn.hands x d less) ∙ was.in_hand)).0 in
+                let is : home_then shape h x then.0 ≡ homes.In other = ap (λ (z : Shape). home_then z h x then.0) (sym kn.shape_is) ∙ then.2 in
+                at_home_then shape w.core.holder w.core.lists w.core.owner w.core.home r.placed.place r.placed.placed w.log h refl x d other then.0 was.real owner_is was.still is (ap (λ (z : Shape). lock_number z other) (sym kn.shape_is) ∙ at);
           }),
           λ miss. absurd (miss hit),
         ),
@@ -316,6 +376,9 @@ kept_or_lost shape v h e kept b shape_is rec =
 
 module _ (shape : Shape) (slots pass : ℕ) (v : View) (b : Behind) (cs : List (ℕ × Behind)) (lock : DomainId) (h : Hold) (below : List Hold) (is_held : v.held ≡ h ∷ below) (is : IsTrue (is_lock shape lock)) (at_lock : h.lock ≡ lock_number shape lock)
     (e : Entry) (kept : List StrandStep) (may : MayGive shape v h e kept b) where
+  gave_step : WordStep
+  gave_step = record { word = h.lock; seen = None; left = 0 }
+
   gave_world : World → World
   gave_world w = record {
     core = given shape w.core lock (lists_of (told may.here));
@@ -327,6 +390,8 @@ module _ (shape : Shape) (slots pass : ℕ) (v : View) (b : Behind) (cs : List (
     current = w.current;
     past = w.past;
     next = w.next;
+    hash = λ x. renewed (is_lru shape.kind) (stored_in (told may.here) x) (w.hash x);
+    touches = touches_with w pass gave_step;
   }
 
   -- the hold, as the world has it
@@ -360,12 +425,43 @@ module _ (shape : Shape) (slots pass : ℕ) (v : View) (b : Behind) (cs : List (
         cursor = no_cursor may.here;
       }
 
+  same_hands : (c d : ℕ) → owners.Hand c ≡ owners.Hand d → c ≡ d
+  same_hands c d e = cc
+
+  own_hand_none : (s : State Behind View) (r : Rule shape s) → get_elem? s.views pass ≡ some v → (x : ℕ) → r.world.core.owner x ≢ owners.Hand h.cpu → is_in_hand_of x h.cpu v.hand ≡ false
+  own_hand_none s r at_pass x other =
+      let w = r.world in let kn = r.knows pass v at_pass in
+      let at = found_hold w kn in
+      by_bool (is_in_hand_of x h.cpu v.hand) (λ t. t ≡ false)
+      (λ in_hand. absurd (other (hand_is h.cpu (w.core.owner x) (both_true _ _ (sym (kn.hands x h.cpu (r.ranked.within h.cpu (lock_number shape lock) at.holder_is)) ∙ in_hand)).0)))
+      (λ _. refl)
+
+  own_hashes : (s : State Behind View) (r : Rule shape s) → get_elem? s.views pass ≡ some v → (x c b : ℕ) → c < shape.cpus → bucket_known x c (views.given h e kept v).hashes ≡ Some b → (is_in_hand_of x c v.hand ≡ true) × (bucket_number (renewed (is_lru shape.kind) (stored_in (told may.here) x) (r.world.hash x)) shape.buckets ≡ b)
+  unfolding gave_world
+  own_hashes s r at_pass x c b within found =
+      let w = r.world in let kn = r.knows pass v at_pass in
+      let here : histories.Content = content_after v.shape e.cpu e.part (content v.shape (lock_named v.shape h.lock) h.log) in
+      let same : here ≡ told may.here = ap (λ z. content_after z e.cpu e.part (content z (lock_named z h.lock) h.log)) kn.shape_is ∙ sym may.may_put.told_is in
+      by_bool (is_lru shape.kind) (λ t. is_lru shape.kind ≡ t → bucket_known x c (cond t (views.hashes_given v.shape.buckets here v.hand v.hashes) v.hashes) ≡ Some b → (is_in_hand_of x c v.hand ≡ true) × (bucket_number (renewed t (stored_in (told may.here) x) (w.hash x)) shape.buckets ≡ b))
+      (λ lru _ f. ⊎_elim
+      (λ (given : IsGiven here v.shape.buckets x c b v.hand). (
+        given.in_hand,
+        ap (λ (o : Option ℕ). bucket_number (renewed true o (w.hash x)) shape.buckets) (sym (ap (λ z. stored_in z x) same) ∙ given.stored) ∙ (ap (λ z. bucket_number given.hash z.buckets) (sym kn.shape_is) ∙ given.bucket_is),
+      ))
+      (λ (older : IsOlder here x c b v.hand v.hashes). let was = kn.hashes x c b within older.known in (
+        was.in_hand,
+        ap (λ (o : Option ℕ). bucket_number (renewed true o (w.hash x)) shape.buckets) (sym (ap (λ z. stored_in z x) same) ∙ older.none_stored was.in_hand) ∙ was.bucket_is,
+      ))
+      (given_known here v.shape.buckets x c b v.hand v.hashes f))
+      (λ _ _ f. let was = kn.hashes x c b within f in (was.in_hand, was.bucket_is)) refl
+      (ap (λ z. bucket_known x c (cond (is_lru z.kind) (views.hashes_given v.shape.buckets here v.hand v.hashes) v.hashes)) (sym kn.shape_is) ∙ found)
+
   -- the pass may come to know that the record of this lock is lost
   gave_rule : (s : State Behind View) (r : Rule shape s) → get_elem? s.views pass ≡ some v
       → (known_lost : List ℕ) → ((m : ℕ) → is_among m known_lost ≡ true → (is_among m v.lost ≡ true) ⊎ ((m ≡ lock_number shape lock) × (lost_of b.history ≡ true)))
       → (after : Rule shape record { words = set s.words (lock_number shape lock) 0; homes = set s.homes (lock_number shape lock) (some b); views = set s.views pass (views.with_lost known_lost (views.given h e kept v)) })
       × goes_by shape (Give h.cpu lock (lists_of (told may.here))) 0 r.world.core after.world.core
-  unfolding gave_world
+  unfolding gave_step gave_world
   gave_rule s r at_pass known_lost is_lost =
       let k : ℕ = lock_number shape lock in
       let w = r.world in let kn = r.knows pass v at_pass in
@@ -397,6 +493,17 @@ module _ (shape : Shape) (slots pass : ℕ) (v : View) (b : Behind) (cs : List (
       (λ x _ p. ap (places_on (lock_named shape m)) p.2 ∙ places_on_other (lock_named shape m) v.kept (views.kept_step shape k (length es)) (other_lock (lock_named shape k) (lock_named shape m) (λ y. ne (sym (one_number shape k m y))))) in
       let ranks : Ascends shape (h ∷ below) = subst (Ascends shape) is_held kn.ascends in
       let none_there : hold_at k below ≡ None = none_below shape k below (subst (λ (z : ℕ). IsAboveAll shape (rank_of (lock_named shape z)) below) at_lock ranks.0) in
+      let innermost : (m : ℕ) → m ≢ k → w.core.holder m ≡ Some h.cpu → rank_of (lock_named shape m) < rank_of (lock_named shape k) = λ m ne holds.
+      let there_is : hold_at m below ≡ Some (hold m h.cpu (w.log m) (w.core.lists m) (w.lost m)) = sym (hold_at_other m h below (λ y. ne (y ∙ at_lock))) ∙ (sym (ap (hold_at m) is_held) ∙ (kn.held m ∙ (ap (λ (z : Option ℕ). hold_of pass w.whose m z (w.log m) (w.core.lists m) (w.lost m)) holds ∙ hold_of_mine w.whose pass m h.cpu (w.log m) (w.core.lists m) (w.lost m) at.mine))) in
+      above_each shape (rank_of (lock_named shape k)) below m (hold m h.cpu (w.log m) (w.core.lists m) (w.lost m)) (subst (λ (z : ℕ). IsAboveAll shape (rank_of (lock_named shape z)) below) at_lock ranks.0) there_is in
+      let rows_stay : IsTrue (is_lru shape.kind) → (j x n m : ℕ) → w.core.owner x ≢ owners.Hand h.cpu → w.core.holder j ≡ Some h.cpu → stored_in (content shape (lock_named shape j) (entries (w.log j))) x ≡ Some n → stored_in (told may.here) x ≡ Some m → n ≡ m = λ lru j x n m other holds.
+      m0.rows_kept lru j x n m (hold j h.cpu (w.log j) (w.core.lists j) (w.lost j)) (kn.held j ∙ (ap (λ (z : Option ℕ). hold_of pass w.whose j z (w.log j) (w.core.lists j) (w.lost j)) holds ∙ hold_of_mine w.whose pass j h.cpu (w.log j) (w.core.lists j) (w.lost j) at.mine)) (own_hand_none s r at_pass x other) in
+      let gone_there : IsTrue (is_lru shape.kind) → (c x n : ℕ) → lock_named shape k ≡ Local c → stored_in (content shape (lock_named shape k) es) x ≡ Some n → times x (all_of (w.core.lists k)) ≡ 0 → (w.core.home x ≡ homes.Hand h.cpu) ⊎ (flushes x e.part ≡ true) = λ lru c x n named was none. ⊎_elim
+      (λ (off : is_in_hand_of x h.cpu v.carried ≡ true). inl (home_is_hand h.cpu (w.core.home x) (both_true _ _ (sym (kn.carried x h.cpu (r.ranked.within h.cpu k at.holder_is)) ∙ off)).0))
+      (λ (by_it : flushes x e.part ≡ true). inr by_it)
+      (m0.gone lru c x n named was none) in
+      let still_there : (x : ℕ) (read : Home) → x < shape.elements → StillHome shape w.core.holder w.log x (w.core.home x) read → StillHome shape (put w.core.holder k None) (put w.log k l') x (w.core.home x) read =
+      still_gave shape w.core.holder w.core.lists w.core.owner w.core.home r.placed.place r.placed.placed w.log k h.cpu may.here m0.fits l' e es_is content_is m0.same_rows gone_there in
       let counted : length h.log ≡ length (w.log k) + 0 = ap length log_is ∙ (entries_length (w.log k) ∙ (let g : length (w.log k) ≡ length (w.log k) + 0 = omega arith in g)) in (
         record {
           world = w';
@@ -412,6 +519,8 @@ module _ (shape : Shape) (slots pass : ℕ) (v : View) (b : Behind) (cs : List (
           bit_words = λ x within. get_or-set_other s.words k (bit_word shape x) 0 0 (λ y. omega (arith, real)) ∙ r.bit_words x within;
           placed = step_keeps_places shape w.core (Give h.cpu lock n') bounds can r.placed;
           ranked = step_keeps_ranks shape w.core (Give h.cpu lock n') can r.ranked;
+          hashes = λ lru. subst (λ (t : Bool). HashesRight shape (put w.core.holder k None) (put w.core.lists k n') w.core.owner (put w.log k l') (λ x. renewed t (stored_in (told may.here) x) (w.hash x))) (sym lru)
+              (hashes_gave shape w.core.holder w.core.lists w.core.owner w.core.home r.placed.place r.placed.placed w.log w.hash (r.hashes lru) k h.cpu at.holder_is may.here m0.fits l' content_is m0.same_rows innermost (rows_stay lru));
           legal = λ m. at_put w.log k l' (λ i l. IsLegal shape (lock_named shape i) (entries l)) m
               (subst (IsLegal shape (lock_named shape k)) (sym es_is) (legal_more shape (lock_named shape k) es e (r.legal k) m0.allowed))
               (λ _. r.legal m);
@@ -441,6 +550,9 @@ module _ (shape : Shape) (slots pass : ℕ) (v : View) (b : Behind) (cs : List (
                 listed = subst (λ (z : ℕ). is_among (w.current pass) (w.current z ∷ w.past z) ≡ true) (sym kn.strand.keeper) (among_first (w.current pass) (w.past pass));
               })
               (λ _. r.tagged m));
+          lead = λ m within. subst (λ (z : ℕ). LeadTo m (get_or (opening_words shape) m 0) (w.touches ++ (w.current pass, record { word = z; seen = None; left = 0 }) ∷ []) (get_or (set s.words k 0) m 0)) (sym at_lock)
+              (lead_with shape s r (w.current pass) record { word = k; seen = None; left = 0 } (omega (arith, r.words, real)) tt m within);
+          of_strands = of_strands_with shape w pass v kn gave_step w' (length s.views) (length (set s.views pass nv)) (there s.views pass v at_pass) (sym (length-set s.views pass nv)) same r.of_strands;
           knows = λ j u f. ⊎_elim
               (λ t. subst (λ (z : ℕ × View). Knows shape w' z.0 z.1) (λ i. (sym t.0 i, t.1 i)) record {
                 shape_is = kn.shape_is;
@@ -452,6 +564,8 @@ module _ (shape : Shape) (slots pass : ℕ) (v : View) (b : Behind) (cs : List (
                 ascends = subst (Ascends shape) (sym (ap views.holds_below is_held)) ranks.1;
                 hands = kn.hands;
                 carried = kn.carried;
+                hashes = λ x d b within found. let own = own_hashes s r at_pass x d b within found in record { in_hand = own.0; bucket_is = own.1 };
+                readings = λ x d read within found. let was = kn.readings x d read within found in record { real = was.real; in_hand = was.in_hand; still = still_there x read was.real was.still };
                 known = λ m log. by_bool (has_all v) (λ t. known_log m (cond t (record { lock = h.lock; log = h.log ++ e ∷ [] } ∷ v.known) v.known) ≡ Some log → entries (put w.log k l' m) ≡ log)
                     (λ _. at_put w.log k l' (λ i l. cond (eqb h.lock i) (Some (h.log ++ e ∷ [])) (known_log i v.known) ≡ Some log → entries l ≡ log) m
                     (by_test h.lock k (λ t. cond t (Some (h.log ++ e ∷ [])) (known_log k v.known) ≡ Some log → entries l' ≡ log)
@@ -470,6 +584,8 @@ module _ (shape : Shape) (slots pass : ℕ) (v : View) (b : Behind) (cs : List (
                       lost = at_put w.lost k lo' (λ i lo. i ≡ k → lo ≡ true) m (λ _. here.1) (λ ne same. absurd (ne same)) here.0;
                     })
                     (is_lost m among);
+                noted = subst (λ (l : List Hold). AreNoted shape (v.touched ++ gave_step ∷ []) l (owners_passed e.part (notes_below v.notes))) (sym (ap views.holds_below is_held))
+                    (noted_gave shape v.touched gave_step h below v.notes e.part (subst (λ (l : List Hold). AreNoted shape v.touched l v.notes) is_held kn.noted) may.noted);
                 strand = record {
                   keeper = kn.strand.keeper;
                   numbered = kn.strand.numbered;
@@ -488,10 +604,11 @@ module _ (shape : Shape) (slots pass : ℕ) (v : View) (b : Behind) (cs : List (
                       ∙ (ap (λ (z : List ℕ). z ++ length es ∷ []) (kn.strand.kept_are k within there_is p.0)
                       ∙ sym (ap indexes on_here ∙ (indexes_more (turns_on k v.steps) ((length h.log, e) ∷ []) ∙ ap (λ (n : ℕ). indexes (turns_on k v.steps) ++ n ∷ []) (ap length log_is)))))))
                       (λ ne within there_is lo. kept_else m ne ∙ (kn.strand.kept_are m within there_is lo ∙ ap indexes (sym (on_else m ne)))) within there_is;
+                  touched_are = mine_more shape w pass v kn gave_step;
                 };
                 past = past_stays shape w w' pass (w.past pass) v.ended same
                     (λ t m among own. at_put w.log k l' (λ i l. turns_of t 0 l ≡ turns_of t 0 (w.log i)) m (turns_of_other t (w.current pass) 0 (w.log k) e (λ is_same. true_false (sym among ∙ (ap (λ (z : ℕ). is_among z (w.past pass)) (sym is_same) ∙ kn.apart)))) (λ _. refl))
-                    losses kn.past;
+                    losses (λ t among _. past_same shape w pass v kn gave_step t among) kn.past;
                 apart = kn.apart;
                 idle = λ empty. true_false (sym m0.cpu ∙ ap (is_among e.cpu) empty);
               })
@@ -506,7 +623,13 @@ module _ (shape : Shape) (slots pass : ℕ) (v : View) (b : Behind) (cs : List (
               (turns_of_other tag (w.current pass) 0 (w.log k) e (λ is_same. t.0 (sym own ∙ (ap w.keeper (sym is_same) ∙ kn.strand.keeper)))) (λ _. refl))
               losses
               (λ m log f. absurd (none_some (sym (ap (known_log m) no_more.0) ∙ f)))
-              ku.bits)
+              ku.bits
+              (λ x d in_hand theirs. by_bool (is_lru shape.kind) (λ t. is_lru shape.kind ≡ t → renewed t (stored_in (told may.here) x) (w.hash x) ≡ w.hash x)
+              (λ lru _. hash_stays shape w.core.holder w.core.lists w.core.owner w.core.home r.placed.place r.placed.placed w.log w.hash (r.hashes lru) k h.cpu at.holder_is may.here m0.fits l' content_is m0.same_rows innermost (rows_stay lru) x
+              (λ own. t.0 (sym theirs ∙ (ap w.whose (same_hands d h.cpu (sym in_hand ∙ own)) ∙ at.mine))))
+              (λ _ _. refl) refl)
+              (λ tag own. other_same shape w pass v kn gave_step j tag t.0 own)
+              (λ x d read real _ _ still. still_there x read real still))
               (at_set s.views pass j nv u f);
         },
         record { enabled = can; changed = refl },

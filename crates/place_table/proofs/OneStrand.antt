@@ -16,6 +16,7 @@ use Rattle.place_table.specs.Passes.{PassView}
 use Rattle.place_table.specs.Closing.{ClosedView, has_lock, numbered, turns_by, strand_told, strands_told, AreTurnsOf, IsClosed}
 use Rattle.place_table.proofs.SharedOut.{filter_same}
 use Rattle.place_table.proofs.StrandNumbers.{other_false}
+use Rattle.place_table.specs.declared.view.WordStep.{WordStep}
 
 -- the strand of all CPUs, where it has a recorded step
 abbrev pub one_strand : Shape → List StrandStep → List Strand
@@ -34,11 +35,11 @@ all_pass : (xs : List ℕ) → filter (λ (_ : ℕ). true) xs ≡ xs
 all_pass [] = refl
 all_pass (x ∷ xs) = ap (λ (l : List ℕ). x ∷ l) (all_pass xs)
 
-told_alone : (shape : Shape) (cpus : List ℕ) (steps : List Turned) (kept : List StrandStep) → ((c : ℕ) → c < shape.cpus → is_among c cpus ≡ true)
-    → strands_told shape (record { cpus = cpus; steps = steps; kept = kept } ∷ []) ≡ one_strand shape kept
-told_alone shape cpus steps [] all = refl
-told_alone shape cpus steps (x ∷ xs) all =
-    ap (λ (b : Bool). map (strand_told shape) (cond {A = List Ended} (not b) (record { cpus = cpus; steps = steps; kept = x ∷ xs } ∷ []) [])) (sym (other_false (suc (length xs)) 0 (omega arith)))
+told_alone : (shape : Shape) (cpus : List ℕ) (steps : List Turned) (kept : List StrandStep) (touched : List WordStep) → ((c : ℕ) → c < shape.cpus → is_among c cpus ≡ true)
+    → strands_told shape (record { cpus = cpus; steps = steps; kept = kept; touched = touched } ∷ []) ≡ one_strand shape kept
+told_alone shape cpus steps [] touched all = refl
+told_alone shape cpus steps (x ∷ xs) touched all =
+    ap (λ (b : Bool). map (strand_told shape) (cond {A = List Ended} (not b) (record { cpus = cpus; steps = steps; kept = x ∷ xs; touched = touched } ∷ []) [])) (sym (other_false (suc (length xs)) 0 (omega arith)))
     ∙ ap (λ (cs : List ℕ). record { cpus = cs; steps = x ∷ xs } ∷ [])
     (filter_same (λ cpu. is_among cpu cpus) (λ _. true) 0 shape.cpus (λ cpu low less. all cpu (omega arith)) ∙ all_pass (range_with_len 0 shape.cpus))
 
@@ -58,4 +59,4 @@ module _ (shape : Shape) (p : PassView) (closed : ClosedView) (ends : IsClosed s
   pub one_told : ((c : ℕ) → c < shape.cpus → is_among c p.view.cpus ≡ true) → strands_told shape (all_strands p.view) ≡ one_strand shape p.view.kept
   one_told all =
       ap (λ (es : List Ended). strands_told shape (es ++ current_strand p.view ∷ [])) none_ended
-      ∙ told_alone shape p.view.cpus p.view.steps p.view.kept all
+      ∙ told_alone shape p.view.cpus p.view.steps p.view.kept p.view.touched all

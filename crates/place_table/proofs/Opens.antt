@@ -29,9 +29,12 @@ use Rattle.place_table.specs.declared.content.Behind.{Behind}
 use Rattle.place_table.specs.declared.content.Content.{Content}
 use Rattle.place_table.specs.declared.view.View.{View}
 use Rattle.place_table.specs.Contents.{lists_of}
+use Rattle.place_table.proofs.Worlds.{none_some, true_false}
 use Rattle.place_table.specs.Views.{is_among, known_log, bit_seen, numbers_below, no_turns, no_bits, first_view}
-use Rattle.place_table.specs.Rules.{World, Rule, Knows, Reads, AtHome, home_word, bit_word, is_hand_of, is_home_of}
-use Rattle.place_table.specs.Opening.{opening_words, IsFirstContent, IsFirstSlot, AreFirstSlots}
+use Rattle.place_table.specs.Rules.{World, Rule, Knows, Reads, AtHome, is_hand_of, is_home_of}
+use Rattle.place_table.specs.Words.{home_word, bit_word}
+use Rattle.place_table.specs.Opening.{IsFirstContent, IsFirstSlot, AreFirstSlots}
+use Rattle.place_table.specs.Words.{opening_words}
 use Rattle.place_table.proofs.FirstSlots.{not_common, no_local, no_global, no_set}
 use Rattle.place_table.proofs.FirstSpares.{hand_at_first}
 use Rattle.place_table.proofs.FirstWords.{length_words, first_lock_word, first_owner_word, first_later_word}
@@ -135,6 +138,8 @@ first_world shape = record {
   current = λ pass. 0;
   past = λ pass. [];
   next = 1;
+  hash = λ e. 0;
+  touches = [];
 }
 
 and_true : (a : Bool) → a ≡ (a && true)
@@ -149,16 +154,19 @@ first_knows shape bounds = record {
   within = λ c mine. among_below c shape.cpus mine;
   held = λ k. refl;
   ascends = tt;
+  noted = tt;
   hands = λ e c few. hand_at_first shape bounds e c ∙ and_true (is_hand_of c ((opening shape).owner e));
   carried = λ e c few. not_carried_first shape e c;
+  hashes = λ e c b within found. absurd (none_some found);
+  readings = λ e c read within found. absurd (none_some found);
   known = λ k log is. known_first k (lock_count shape) log is;
   bits = λ e bit is. bit_first e shape.elements bit is;
   only = inr (λ c few. among c shape.cpus few);
   losses = λ k among. absurd cc;
-  strand = record { keeper = refl; numbered = omega arith; team = refl; steps_are = λ k. refl; stand = tt; kept_are = λ k within there kept. refl };
+  strand = record { keeper = refl; numbered = omega arith; team = refl; steps_are = λ k. refl; stand = tt; kept_are = λ k within there kept. refl; touched_are = refl };
   past = tt;
   apart = refl;
-  idle = λ _. (refl, tt);
+  idle = λ _. ((refl, tt), tt);
 }
 
 opens_at : (shape : Shape) (slots : List Behind) → IsShape shape → is_lru shape.kind ≡ false → AreFirstSlots shape (lock_count shape) slots → Rule shape (table.opening (opening_words shape) slots (first_view shape))
@@ -177,10 +185,13 @@ opens_at shape slots is_one plain are =
       bit_words = λ e real. first_later_word shape (bit_word shape e) (omega arith);
       placed = opening_placed shape bounds;
       ranked = opening_ranked shape;
+      hashes = λ lru. true_false (sym lru ∙ plain);
       legal = λ k. tt;
       homes = λ k within there. home_first shape bounds plain slots are k within there;
       seated = λ c few. omega arith;
       tagged = λ k. tt;
+      lead = λ i below. refl;
+      of_strands = tt;
       knows = λ pass v at. first_seat bounds pass v at;
     }
   where

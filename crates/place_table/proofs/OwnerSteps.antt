@@ -1,5 +1,5 @@
 -- The steps on an owner word: an element comes to a hand or leaves it, and what lies under a lock that is held changes.
-use Rattle.std.proofs.Common.{◌≡◌, ℕ, ◌+◌, ◌<◌, ◌⊎◌, inl, inr, true, List, get_or, set, sym, refl, ap, ◌∙◌, subst, arith, Some, get_or-set_other, get_or-set_same}
+use Rattle.std.proofs.Common.{◌≡◌, ℕ, ◌+◌, ◌<◌, ◌⊎◌, inl, inr, true, List, Option, get_or, set, sym, refl, ap, ◌∙◌, subst, arith, Some, get_or-set_other, get_or-set_same}
 use Rattle.std.specs.Prelude.{IsTrue, IsFalse}
 use Rattle.std.proofs.lemmas.Bool.{and_parts}
 use Rattle.std.proofs.lemmas.Bool.Decides.{nat_tests}
@@ -24,7 +24,7 @@ use Rattle.place_core.specs.State.{rows, is_bucket}
 use Rattle.place_core.specs.Places.{Placed, lies_at}
 use Rattle.place_core.specs.Ranks.{Ranked}
 use Rattle.place_core.specs.Steps.{lists_under, with_free, without_free, with_row, without_row, with_owner, CanClaim, CanSettle, CanAttach, IsInHeldBucket, IsEnabled, after, CoreStep}
-use Rattle.place_core.proofs.ElementLemmas.{at_put, put_here, put_else}
+use Rattle.place_core.proofs.ElementLemmas.{at_put, put_here, put_else, by_test}
 use Rattle.place_core.proofs.OwnerSteps.{was_inside}
 use Rattle.place_core.proofs.RowLemmas.{stands_where, free_is, head_is_in}
 use Rattle.place_core.proofs.StepLaws.{step_keeps_places, step_keeps_ranks}
@@ -34,30 +34,42 @@ use Rattle.place_table.specs.declared.view.Hold.{Hold}
 use Rattle.place_table.specs.declared.view.InHand.{InHand}
 use Rattle.place_table.specs.Laws.{StepsAs, goes_by}
 use Rattle.place_table.specs.Views as views
-use Rattle.place_table.specs.Views.{is_among, hold_at, is_in_hand_of, now_at, now_under, with_now, with_in_hand, without_in_hand, moved}
-use Rattle.place_table.specs.Rules.{Rule, is_hand_of, owner_word, home_word}
+use Rattle.place_table.specs.Views.{is_among, hold_at, is_in_hand_of, now_at, now_under, with_now, with_in_hand, without_in_hand, moved, kept_readings}
+use Rattle.place_table.specs.Rules.{Rule, is_hand_of}
+use Rattle.place_table.specs.Words.{owner_word, home_word}
 use Rattle.place_table.specs.Plays.{Seated}
 use Rattle.place_table.proofs.Hands.{ascends_now, AreInHands, comes_to_hand, leaves_hand, IsOwnerOfPass}
 use Rattle.place_table.proofs.Locks.{allows_of}
-use Rattle.place_table.proofs.PlaceSteps.{IsHeldByPass, now_is, held_moved, place_rule, held_there, by_pass_there, now_there, holds_there}
+use Rattle.place_table.proofs.PlaceSteps.{IsHeldByPass, now_is, held_moved, place_rule, held_there, by_pass_there, now_there, holds_there, readings_kept}
+use Rattle.place_words.specs.Locks.{lock_named}
+use Rattle.place_words.proofs.LockLemmas.{named_by_number}
+use Rattle.place_table.specs.Rules.{HashesRight, hold_of}
+use Rattle.place_table.specs.Views.{bucket_known}
+use Rattle.place_table.proofs.Locks.{elements_there}
+use Rattle.place_table.proofs.StoredHashes.{hashes_claimed, hashes_settled, hashes_attached, hashes_detached}
+use Rattle.place_table.proofs.Worlds.{hold_of_mine}
 use Rattle.place_table.proofs.WordSteps.{in_held_bucket}
 use Rattle.place_table.proofs.Worlds.{true_false, in_hand_is}
+use Rattle.place_table.proofs.NotesDone.{noted_now}
 
 module _ (shape : Shape) (s : State Behind View) (r : Rule shape s) (pass : ℕ) (v : View) (at_pass : get_elem? s.views pass ≡ some v) (lock : DomainId) (h : Hold) (found : hold_at (lock_number shape lock) v.held ≡ Some h)
     (e : ℕ) (owner : Owner) (hand : List InHand) (cs : List (ℕ × Behind)) (real : e < shape.elements) (was : IsOwnerOfPass r.world.whose pass (r.world.core.owner e)) (is : IsOwnerOfPass r.world.whose pass owner)
     (in_hands : AreInHands is_hand_of shape.cpus pass r.world.whose (put r.world.core.owner e owner) hand) where
   -- the element has this owner from now on, and under the lock lies this
-  owner_rule : (now : Lists) → Placed shape (with_owner shape r.world.core e owner lock now) → Ranked shape (with_owner shape r.world.core e owner lock now)
-      → (after : Rule shape (stepped s (owner_word shape e) (owner_code owner) pass cs (moved (lock_number shape lock) now hand v) keeps)) × (after.world.core ≡ with_owner shape r.world.core e owner lock now)
-  owner_rule now placed ranked =
+  owner_rule : (now : Lists) → (IsTrue (is_lru shape.kind) → HashesRight shape r.world.core.holder (put r.world.core.lists (lock_number shape lock) now) (put r.world.core.owner e owner) r.world.log r.world.hash) → Placed shape (with_owner shape r.world.core e owner lock now) → Ranked shape (with_owner shape r.world.core e owner lock now)
+      → (after : Rule shape (stepped s (owner_word shape e) (owner_code owner) pass cs (moved (lock_number shape lock) now hand (owner_word shape e) (owner_code owner) v) keeps)) × (after.world.core ≡ with_owner shape r.world.core e owner lock now)
+  owner_rule now hashes placed ranked =
       let i : ℕ = owner_word shape e in let k : ℕ = lock_number shape lock in let code : ℕ = owner_code owner in
       let w = r.world in let kn = r.knows pass v at_pass in
       let by_pass = by_pass_there shape s r pass v at_pass k h found in
-      place_rule shape s r pass v at_pass (put w.core.lists k now) (put w.core.owner e owner) w.core.home i code (with_now k now v.held) hand v.carried cs (omega arith) (omega arith)
+      let at = held_there shape s r pass v at_pass k h found in
+      let held_by : is_among h.cpu v.cpus ≡ true = kn.cpus h.cpu (r.ranked.within h.cpu k at.holder_is) ∙ by_test (w.whose h.cpu) pass (λ t. t ≡ true) (λ _. refl) (λ n. absurd (n at.mine)) in
+      place_rule shape s r pass v at_pass (put w.core.lists k now) (put w.core.owner e owner) w.core.home i code h.cpu held_by (with_now k now v.held) hand v.carried (kept_readings hand v.readings) cs (omega arith) (omega arith)
       (λ x below. at_put w.core.owner e owner (λ j o. j < shape.elements → get_or (set s.words i code) (owner_word shape j) 0 ≡ owner_code o) x
       (λ _. get_or-set_same s.words i code 0 (omega (arith, r.words)))
       (λ ne below. get_or-set_other s.words i (owner_word shape x) code 0 (λ y. ne (omega arith)) ∙ r.owner_words x below) below)
       (λ x below. get_or-set_other s.words i (home_word shape x) code 0 (λ y. omega arith) ∙ r.home_words x below)
+      (noted_now shape v.touched k now v.held v.notes kn.noted)
       record {
         under = λ m. at_put w.core.lists k now (λ j l. (l ≡ w.core.lists j) ⊎ IsHeldByPass w pass j) m (inr by_pass) (λ _. inl refl);
         owners = λ x. at_put w.core.owner e owner (λ j o. (o ≡ w.core.owner j) ⊎ (IsOwnerOfPass w.whose pass (w.core.owner j) × IsOwnerOfPass w.whose pass o)) x (inr (was, is)) (λ _. inl refl);
@@ -68,24 +80,28 @@ module _ (shape : Shape) (s : State Behind View) (r : Rule shape s) (pass : ℕ)
         are_carried = kn.carried;
         placed = placed;
         ranked = ranked;
+        hashes = hashes;
+        are_read = readings_kept shape w pass v kn hand;
+        still = λ _ _ _ _ _ still. still;
       }
 
   -- a step of the core that does so
   owner_step : (step : Step) (change : Lists → Lists) → IsEnabled shape r.world.core step → after shape r.world.core step ≡ with_owner shape r.world.core e owner lock (change (lists_under shape r.world.core lock))
+      → (IsTrue (is_lru shape.kind) → HashesRight shape r.world.core.holder (put r.world.core.lists (lock_number shape lock) (change (lists_under shape r.world.core lock))) (put r.world.core.owner e owner) r.world.log r.world.hash)
       → (nv : View) × (a : Act Behind) × Valid s.homes cs a × ((now : Rule shape (stepped s (owner_word shape e) (owner_code owner) pass cs nv a)) × CoreStep shape r.world.core step now.world.core)
-      × ◌≡◌ {A = Seated} (nv, carried_after cs a) (moved (lock_number v.shape lock) (change (now_under lock v)) hand v, cs)
-  owner_step step change can after_is =
+      × ◌≡◌ {A = Seated} (nv, carried_after cs a) (moved (lock_number v.shape lock) (change (now_under lock v)) hand (owner_word v.shape e) (owner_code owner) v, cs)
+  owner_step step change can after_is hashes =
       let k : ℕ = lock_number shape lock in
       let w = r.world in let kn = r.knows pass v at_pass in
       let bounds = bounds_of_shape shape r.is_shape in
-      let rule = owner_rule (change (w.core.lists k)) (subst (Placed shape) after_is (step_keeps_places shape w.core step bounds can r.placed)) (subst (Ranked shape) after_is (step_keeps_ranks shape w.core step can r.ranked)) in
+      let rule = owner_rule (change (w.core.lists k)) hashes (subst (Placed shape) after_is (step_keeps_places shape w.core step bounds can r.placed)) (subst (Ranked shape) after_is (step_keeps_ranks shape w.core step can r.ranked)) in
       let told : w.core.lists k ≡ now_under lock v =
       sym (now_is w pass k w.core.lists v.held kn.held (by_pass_there shape s r pass v at_pass k h found)) ∙ ap (λ (z : Shape). now_at (lock_number z lock) v.held) (sym kn.shape_is) in (
-        moved k (change (w.core.lists k)) hand v,
+        moved k (change (w.core.lists k)) hand (owner_word shape e) (owner_code owner) v,
         keeps,
         tt,
         (rule.0, record { enabled = can; changed = rule.1 ∙ sym after_is }),
-        (λ i. (moved (lock_number (sym kn.shape_is i) lock) (change (told i)) hand v, cs)),
+        (λ i. (moved (lock_number (sym kn.shape_is i) lock) (change (told i)) hand (owner_word (sym kn.shape_is i) e) (owner_code owner) v, cs)),
       )
 
 -- a step, at the word, the code and the view that a caller has
@@ -110,6 +126,7 @@ claims_step shape slots pass me e lock hold real is found head s r wide at_pass 
     (comes_to_hand is_hand_of shape.cpus pass e hold.cpu w.whose w.core.owner (put w.core.owner e (owners.Hand hold.cpu)) v.hand (λ x. put_else w.core.owner e (owners.Hand hold.cpu) x) kn.hands
     at.mine (λ c. ap (is_hand_of c) was) (λ c. ap (is_hand_of c) (put_here w.core.owner e (owners.Hand hold.cpu))))
     (Claim hold.cpu e lock) (λ l. with_row lock e (without_free e l)) can refl
+    (λ lru. hashes_claimed shape w.core.holder w.core.lists w.core.owner w.core.home r.placed.place r.placed.placed w.log w.hash (r.hashes lru) lock k e hold.cpu at.holder_is first)
 
 pub claims : (shape : Shape) (slots pass : ℕ) (me : Seated) (e c i code : ℕ) (lock : DomainId) (hold : Hold) (view : View) → i ≡ owner_word shape e → code ≡ 1 + c → hold.cpu ≡ c → view ≡ views.claimed lock e c me.0
     → e < shape.elements → IsTrue (is_lock shape lock) → hold_at (lock_number shape lock) me.0.held ≡ Some hold → IsHead e hold.now.free
@@ -138,6 +155,7 @@ settles_step shape slots pass me e lock hold real is found has_free_list has in_
     (leaves_hand is_hand_of shape.cpus pass e hold.cpu w.whose w.core.owner (put w.core.owner e owners.Free) v.hand (λ x. put_else w.core.owner e owners.Free x) kn.hands
     (λ c. ap (is_hand_of c) was) (λ c. ap (is_hand_of c) (put_here w.core.owner e owners.Free)))
     (Settle hold.cpu e lock) (λ l. with_free e (without_row e l)) can refl
+    (λ lru. hashes_settled shape w.core.holder w.core.lists w.core.owner w.core.home r.placed.place r.placed.placed w.log w.hash (r.hashes lru) lock (lock_number shape lock) e hold.cpu at.holder_is (subst (λ (d : DomainId). IsFalse (is_bucket d)) (sym (named_by_number shape lock is)) has_free_list) (can.listed lru) ((elements_there shape s r (lock_number shape lock)).rows_once e))
 
 pub settles : (shape : Shape) (slots pass : ℕ) (me : Seated) (e c i : ℕ) (lock : DomainId) (hold : Hold) (view : View) → i ≡ owner_word shape e → hold.cpu ≡ c → view ≡ views.settled lock e c me.0
     → e < shape.elements → IsTrue (is_lock shape lock) → hold_at (lock_number shape lock) me.0.held ≡ Some hold → IsFalse (is_bucket lock)
@@ -152,8 +170,9 @@ settles shape slots pass me e c i lock hold view i_is cpu_is view_is real is fou
 
 pub attaches_step : (shape : Shape) (slots pass : ℕ) (me : Seated) (e bucket : ℕ) (hold : Hold) → e < shape.elements → bucket < shape.buckets → hold_at (lock_number shape (Bucket bucket)) me.0.held ≡ Some hold
     → is_among hold.cpu me.0.cpus ≡ true → is_in_hand_of e hold.cpu me.0.hand ≡ true
+    → (IsTrue (is_lru shape.kind) → (bucket_known e hold.cpu me.0.hashes ≡ Some bucket) × ((k : ℕ) (other : Hold) → hold_at k me.0.held ≡ Some other → k ≡ lock_number shape (Bucket bucket)))
     → StepsAs shape slots pass me (owner_word shape e) (λ _. 32 + bucket) (goes_by shape (Attach hold.cpu e bucket)) (λ _ after. after ≡ (views.attached bucket e hold.cpu me.0, me.1))
-attaches_step shape slots pass me e bucket hold real there found has in_hand s r wide at_pass _ =
+attaches_step shape slots pass me e bucket hold real there found has in_hand hashed s r wide at_pass _ =
     let lock : DomainId = Bucket bucket in
     let v = me.0 in let w = r.world in let kn = r.knows pass v at_pass in
     let at = held_there shape s r pass v at_pass (lock_number shape lock) hold found in
@@ -165,14 +184,20 @@ attaches_step shape slots pass me e bucket hold real there found has in_hand s r
     (leaves_hand is_hand_of shape.cpus pass e hold.cpu w.whose w.core.owner (put w.core.owner e (owners.Bucket bucket)) v.hand (λ x. put_else w.core.owner e (owners.Bucket bucket) x) kn.hands
     (λ c. ap (is_hand_of c) was) (λ c. ap (is_hand_of c) (put_here w.core.owner e (owners.Bucket bucket))))
     (Attach hold.cpu e bucket) (λ l. with_row lock e l) can refl
+    (λ lru. hashes_attached shape w.core.holder w.core.lists w.core.owner w.core.home r.placed.place r.placed.placed w.log w.hash (r.hashes lru) lock (lock_number shape lock) e hold.cpu at.holder_is
+    (ap is_bucket (named_by_number shape lock is)) bucket (kn.hashes e hold.cpu bucket (kn.within hold.cpu has) (hashed lru).0).bucket_is was
+    (λ m nb held.
+    let only : m ≡ lock_number shape lock = (hashed lru).1 m _ (kn.held m ∙ (ap (λ (z : Option ℕ). hold_of pass w.whose m z (w.log m) (w.core.lists m) (w.lost m)) held ∙ hold_of_mine w.whose pass m hold.cpu (w.log m) (w.core.lists m) (w.lost m) at.mine)) in
+    true_false (sym (ap is_bucket (ap (lock_named shape) only ∙ named_by_number shape lock is)) ∙ nb)))
 
 pub attaches : (shape : Shape) (slots pass : ℕ) (me : Seated) (e bucket c i code : ℕ) (hold : Hold) (view : View) → i ≡ owner_word shape e → code ≡ 32 + bucket → hold.cpu ≡ c → view ≡ views.attached bucket e c me.0
     → e < shape.elements → bucket < shape.buckets → hold_at (lock_number shape (Bucket bucket)) me.0.held ≡ Some hold → is_among c me.0.cpus ≡ true → is_in_hand_of e c me.0.hand ≡ true
+    → (IsTrue (is_lru shape.kind) → (bucket_known e c me.0.hashes ≡ Some bucket) × ((k : ℕ) (other : Hold) → hold_at k me.0.held ≡ Some other → k ≡ lock_number shape (Bucket bucket)))
     → Allows (Rule shape) slots pass me i (λ _. code) (λ _ after. after ≡ (view, me.1))
-attaches shape slots pass me e bucket c i code hold view i_is code_is cpu_is view_is real there found has in_hand =
+attaches shape slots pass me e bucket c i code hold view i_is code_is cpu_is view_is real there found has in_hand hashed =
     at_caller shape slots pass me i _ code _ view _ i_is code_is (view_is ∙ ap (λ (n : ℕ). views.attached bucket e n me.0) (sym cpu_is))
     (allows_of shape slots pass me (owner_word shape e) (λ _. 32 + bucket) (goes_by shape (Attach hold.cpu e bucket)) (λ _ after. after ≡ (views.attached bucket e hold.cpu me.0, me.1))
-    (attaches_step shape slots pass me e bucket hold real there found (ap (λ (n : ℕ). is_among n me.0.cpus) cpu_is ∙ has) (ap (λ (n : ℕ). is_in_hand_of e n me.0.hand) cpu_is ∙ in_hand)))
+    (attaches_step shape slots pass me e bucket hold real there found (ap (λ (n : ℕ). is_among n me.0.cpus) cpu_is ∙ has) (ap (λ (n : ℕ). is_in_hand_of e n me.0.hand) cpu_is ∙ in_hand) (λ lru. (ap (λ (n : ℕ). bucket_known e n me.0.hashes) cpu_is ∙ (hashed lru).0, (hashed lru).1))))
 
 -- Detach
 
@@ -189,6 +214,7 @@ detaches_step shape slots pass me e bucket hold there found inside s r wide at_p
     (comes_to_hand is_hand_of shape.cpus pass e hold.cpu w.whose w.core.owner (put w.core.owner e (owners.Hand hold.cpu)) v.hand (λ x. put_else w.core.owner e (owners.Hand hold.cpu) x) kn.hands
     at.mine (λ c. ap (is_hand_of c) was) (λ c. ap (is_hand_of c) (put_here w.core.owner e (owners.Hand hold.cpu))))
     (Detach hold.cpu e bucket) (λ l. without_row e l) can refl
+    (λ lru. hashes_detached shape w.core.holder w.core.lists w.core.owner w.core.home r.placed.place r.placed.placed w.log w.hash (r.hashes lru) lock (lock_number shape lock) e hold.cpu at.holder_is (ap is_bucket (named_by_number shape lock (let is : IsTrue (is_lock shape lock) = grind (arith, nat_tests) in is))) bucket was)
 
 pub detaches : (shape : Shape) (slots pass : ℕ) (me : Seated) (e bucket c i code : ℕ) (hold : Hold) (view : View) → i ≡ owner_word shape e → code ≡ 1 + c → hold.cpu ≡ c → view ≡ views.detached bucket e c me.0
     → bucket < shape.buckets → hold_at (lock_number shape (Bucket bucket)) me.0.held ≡ Some hold → IsIn e hold.now.first

@@ -5,6 +5,7 @@ use Rattle.std.specs.Global.{Global}
 use Rattle.std.proofs.lemmas.List.Elements.{All-append, All-cons, All-nil}
 use Rattle.atomic_table.specs.Seated.{TableId}
 use Rattle.map_types.specs.declared.attr.Shape.{Shape}
+use Rattle.map_types.specs.declared.kind.MapKind.TheVariants.{Hash}
 use Rattle.map_types.specs.Stored.{Stored}
 use Rattle.map_types.specs.Creation.{IsShape}
 use Rattle.map_types.proofs.CreationLemmas.{bounds_of_shape}
@@ -92,7 +93,7 @@ left_in_no_call before cpu now is gone stay =
       spares_only = λ e c among in_hand.
           let other = other_than c cpu (λ z. is_among z (without_cpu cpu v.cpus)) (among_without_same cpu v.cpus) among in
           let kept = is.spares_only e c (sym (among_without_other c cpu v.cpus other) ∙ among) (sym (others_other e c cpu v.hand other) ∙ in_hand) in
-          (kept.0, stay c other ∙ kept.1, kept.2);
+          (kept.0, stay c other ∙ kept.1, kept.2, kept.3);
       spares_in_hand = λ c body here. by_test c cpu (λ _. is_in_hand_of body.element c (in_other_hands cpu v.hand) ≡ true)
           (λ same. absurd (none_some (sym gone ∙ (ap (λ (z : ℕ). spare_of z now) (sym same) ∙ here))))
           (λ other. others_other body.element c cpu v.hand other ∙ is.spares_in_hand c body (sym (stay c other) ∙ here));
@@ -100,6 +101,7 @@ left_in_no_call before cpu now is gone stay =
           let other = other_than c cpu (λ z. is_among z (without_cpu cpu v.cpus)) (among_without_same cpu v.cpus) among in
           let kept = is.none_out hash c (sym (among_without_other c cpu v.cpus other) ∙ among) in
           (kept.0, stay c other ∙ kept.1);
+      carries_nothing = ap (in_other_hands cpu) is.carries_nothing;
     }
 
 off_in_no_call : (before off : PassView) (cpu : ℕ) → IsInNoCall before → is_among cpu before.view.cpus ≡ true → off.view ≡ split_off cpu before.view → spare_of cpu off.spares ≡ spare_of cpu before.spares → ((c : ℕ) → c ≢ cpu → spare_of c off.spares ≡ None) → IsInNoCall off
@@ -110,7 +112,7 @@ off_in_no_call before off cpu is has view_is own no_others =
           let same = alone c cpu (subst (λ (z : View). is_among c z.cpus ≡ true) view_is among) in
           let here : is_in_hand_of e cpu (in_hand_of cpu v.hand) ≡ true = subst (λ (z : View × ℕ). is_in_hand_of e z.1 z.0.hand ≡ true) (λ i. (view_is i, same i)) in_hand in
           let kept = is.spares_only e cpu has (sym (own_same e cpu v.hand) ∙ here) in
-          (kept.0, ap (λ (z : ℕ). spare_of z off.spares) same ∙ (own ∙ kept.1), kept.2);
+          (kept.0, ap (λ (z : ℕ). spare_of z off.spares) same ∙ (own ∙ kept.1), kept.2, ap (λ (z : View). z.shape.kind) view_is ∙ kept.3);
       spares_in_hand = λ c body here. by_test c cpu (λ _. is_in_hand_of body.element c off.view.hand ≡ true)
           (λ same. ap (λ (z : View). is_in_hand_of body.element c z.hand) view_is
           ∙ (ap (λ (z : ℕ). is_in_hand_of body.element z (in_hand_of cpu v.hand)) same
@@ -120,6 +122,7 @@ off_in_no_call before off cpu is has view_is own no_others =
           let same = alone c cpu (subst (λ (z : View). is_among c z.cpus ≡ true) view_is among) in
           let kept = is.none_out (ap (λ (z : View). z.shape.kind) (sym view_is) ∙ hash) cpu has in
           (kept.0, ap (λ (z : ℕ). spare_of z off.spares) same ∙ (own ∙ kept.1));
+      carries_nothing = ap (λ (z : View). z.carried) view_is ∙ ap (in_hand_of cpu) is.carries_nothing;
     }
 
 split_is : (t : TableView) (cpu : ℕ) (before off : PassView) (table : TableId) (seat : ℕ) (view : View) (now : List (Option Stored)) → CanSplit t cpu before → table ≡ before.table → seat ≡ before.seat → view ≡ split_from cpu before.view → spare_of cpu now ≡ None → SparesDiffer cpu before.spares now
@@ -217,9 +220,9 @@ module _ (before other : PassView) (all : List (Option Stored)) (is : IsInNoCall
   joined_in_no_call same_shape =
       let v = before.view in let u = other.view in record {
         holds_nothing = refl;
-        spares_only = λ e cpu _ in_hand. in_either (is_in_hand_of e cpu v.hand) (is_in_hand_of e cpu u.hand) ((body : Stored) × (spare_of cpu all ≡ Some body) × (body.element ≡ e))
-            (λ here. let kept = is.spares_only e cpu (own e cpu here) here in (kept.0, ours cpu kept.0 kept.1, kept.2))
-            (λ here. let mine = other_own e cpu here in let kept = other_is.spares_only e cpu mine here in (kept.0, theirs cpu kept.0 mine kept.1, kept.2))
+        spares_only = λ e cpu _ in_hand. in_either (is_in_hand_of e cpu v.hand) (is_in_hand_of e cpu u.hand) ((body : Stored) × (spare_of cpu all ≡ Some body) × (body.element ≡ e) × (v.shape.kind ≡ Hash))
+            (λ here. let kept = is.spares_only e cpu (own e cpu here) here in (kept.0, ours cpu kept.0 kept.1, kept.2, kept.3))
+            (λ here. let mine = other_own e cpu here in let kept = other_is.spares_only e cpu mine here in (kept.0, theirs cpu kept.0 mine kept.1, kept.2, ap (λ (z : Shape). z.kind) (sym same_shape) ∙ kept.3))
             (sym (hand_append e cpu v.hand u.hand) ∙ in_hand);
         spares_in_hand = λ cpu body here. hand_append body.element cpu v.hand u.hand ∙ kept_in_either (spare_of cpu before.spares) (spare_of cpu other.spares) (spare_of cpu all) body (spares_are cpu) here
             (λ at. ap (λ b. cond b true (is_in_hand_of body.element cpu u.hand)) (is.spares_in_hand cpu body at))
@@ -228,6 +231,7 @@ module _ (before other : PassView) (all : List (Option Stored)) (is : IsInNoCall
             (λ mine. let kept = is.none_out hash cpu mine in (kept.0, ours cpu kept.0 kept.1))
             (λ mine. let kept = other_is.none_out (ap (λ (z : Shape). z.kind) same_shape ∙ hash) cpu mine in (kept.0, theirs cpu kept.0 mine kept.1))
             (sym (among_append cpu v.cpus u.cpus) ∙ among);
+        carries_nothing = (λ i. is.carries_nothing i ++ other_is.carries_nothing i);
       }
     where
       either_true : (a b : Bool) → b ≡ true → cond a true b ≡ true

@@ -30,10 +30,12 @@ use Rattle.place_table.specs.Contents.{IsSized}
 use Rattle.place_table.specs.Views.{is_among, holding, given, with_lost, losing, holds_below, noted, owner_read}
 use Rattle.place_table.specs.Recording.{IsLost, RecordsIn, Records, recorded_step, last_from, last_in, entry_given, no_entry}
 use Rattle.place_table.specs.Plays.{Seated, Took, Gives, GivesSome, entry_by, IsKeptOrLost, MayPut, MayGive, OwnerFits, SeesOwner}
-use Rattle.place_table.specs.TurnNotes.{NotesFit}
+use Rattle.place_table.specs.TurnNotes.{NotesFit, InnermostFits}
 use Rattle.place_table.specs.Passes.{PassView, TableView, Carries, IsPass, IsPassOf, with_view, without_content, entry_of, HasBegun, SparesDiffer, CanGive, Gave, GaveSome, SawOwner, spare_of}
 use Rattle.place_table.proofs.CodeLemmas.{one_owner, has_owner_code}
 use Rattle.place_table.proofs.Worlds.{some_is}
+use Rattle.place_table.specs.declared.view.WordStep.{WordStep}
+use Rattle.place_table.specs.declared.view.HomeIn.{HomeIn}
 
 first_behind : Behind → List (ℕ × Behind) → Behind
 first_behind other [] = other
@@ -153,6 +155,7 @@ may_give t lock p here part can key v found entry e strand now recorded key_is v
       may_put = may_put_at t.shape key p.view v hold (entry_of p part) e here key_is v_is (e_is ∙ entry_is) can.may_put;
       records = subst (λ (z : List StrandStep × DomainId × Entry). MatchOption recorded.history (now ≡ z.0) (λ u. (hold.lost ≡ false) × (u.items ≡ hold.log ++ z.2 ∷ []) × (now ≡ z.0 ++ recorded_step z.1 (length hold.log) ∷ [])))
           (λ i. (strand_kept i, sym named i, sym e_is i)) (one_more found.history lock entry strand now recorded hold.lost hold.log kept records);
+      noted = subst (λ (z : Part × List Notes). InnermostFits z.0 z.1) (λ i. (ap (λ (y : Entry). y.part) (sym (e_is ∙ entry_is)) i, sym (ap (λ (z : View). z.notes) v_is ∙ can.notes_are) i)) can.notes_fit.seen;
     }
 
 -- and with nothing recorded
@@ -163,6 +166,7 @@ may_lose t lock p here part can key v key_is v_is = record {
   content_is = refl;
   may_put = may_put_at t.shape key p.view v can.hold (entry_of p part) (entry_of p part) here key_is v_is refl can.may_put;
   records = refl;
+  noted = subst (InnermostFits part) (sym (ap (λ (z : View). z.notes) v_is ∙ can.notes_are)) can.notes_fit.seen;
 }
 
 -- a pass once its lock is given back
@@ -235,8 +239,8 @@ gave_some_of t lock before after here part can put given_seat behind k put_is sl
     same_head e = cc
 
 -- a pass that has made a note
-pub is_pass_noted : {flags : List Bool} {ended : Option (Vec Finished Global)} (v : View) (slots : List (ℕ × Behind)) (strand : List StrandStep) (spares : List (Option Stored)) (notes : List Notes) (bits : List BitSeen) (after : Seated) → IsPass v slots strand spares flags ended → after ≡ (noted notes bits v, slots) → IsPass after.0 after.1 strand spares flags ended
-is_pass_noted {flags} {ended} v slots strand spares notes bits after pass after_is =
+pub is_pass_noted : {flags : List Bool} {ended : Option (Vec Finished Global)} (v : View) (slots : List (ℕ × Behind)) (strand : List StrandStep) (spares : List (Option Stored)) (notes : List Notes) (bits : List BitSeen) (touched : List WordStep) (readings : List HomeIn) (after : Seated) → IsPass v slots strand spares flags ended → after ≡ (noted notes bits touched readings v, slots) → IsPass after.0 after.1 strand spares flags ended
+is_pass_noted {flags} {ended} v slots strand spares notes bits touched readings after pass after_is =
     subst (λ (z : Seated). IsPass z.0 z.1 strand spares flags ended) (sym after_is) record { carries = pass.carries; strand_is = pass.strand_is; cpus_are = pass.cpus_are; ended_are = pass.ended_are; spares_fit = pass.spares_fit; within = pass.within; ended_within = pass.ended_within; hands_real = pass.hands_real }
 
 -- the owner that was read has a code

@@ -1,6 +1,6 @@
 -- Elements change places: what lies under locks that CPUs of a pass hold changes, and so may the owners and the homes of
 -- elements that no other pass has in hand.
-use Rattle.std.proofs.Common.{◌≡◌, ℕ, ◌<◌, ◌≤◌, ◌⊎◌, ⊎_elim, eqb, List, length, get_or, set, sym, refl, ap, ◌∙◌, subst, arith, Option, Some, length-set, get_or-set_other}
+use Rattle.std.proofs.Common.{true, None, ◌≡◌, ℕ, ◌<◌, ◌≤◌, ◌⊎◌, ⊎_elim, eqb, List, length, get_or, set, sym, refl, ap, ◌∙◌, subst, arith, Option, Some, length-set, get_or-set_other, [], ◌∷◌}
 use Rattle.std.specs.Prelude.{◌&&◌, IsTrue}
 use mathlib.Core.Option.{some}
 use lib.ListN.{get_elem?}
@@ -10,6 +10,7 @@ use Rattle.map_types.specs.declared.attr.Shape.{Shape}
 use Rattle.map_types.specs.declared.kind.DomainId.{DomainId}
 use Rattle.place_words.specs.declared.home.Home.{Home}
 use Rattle.place_words.specs.declared.owner.Owner.{Owner}
+use Rattle.place_words.specs.declared.owner.Owner.TheVariants as owned
 use Rattle.place_words.specs.Codes.{owner_code, home_code}
 use Rattle.map_types.specs.ElementLists.{put}
 use Rattle.place_words.specs.Locks.{is_lock, lock_count, lock_number}
@@ -23,10 +24,19 @@ use Rattle.place_table.specs.declared.content.Behind.{Behind}
 use Rattle.place_table.specs.declared.view.View.{View}
 use Rattle.place_table.specs.declared.view.Hold.{Hold}
 use Rattle.place_table.specs.declared.view.InHand.{InHand}
-use Rattle.place_table.specs.Views.{hold_at, now_at, with_now, with_places}
-use Rattle.place_table.specs.Rules.{World, Rule, Knows, AtHome, Ascends, entries, hold, hold_of, is_hand_of, is_home_of, owner_word, home_word, bit_word}
+use Rattle.place_table.specs.Views.{hold_at, now_at, with_now, with_places, home_known, kept_readings, touching, is_among}
+use Rattle.place_table.specs.Rules.{World, Rule, Knows, HashesRight, AtHome, Ascends, entries, hold, hold_of, is_hand_of, is_home_of, StillHome, IsReading, AreNoted}
+use Rattle.place_table.specs.Words.{owner_word, home_word, bit_word}
+use Rattle.map_types.specs.Kind.{is_lru}
+use Rattle.place_table.proofs.StoredHashes.{kept_known}
 use Rattle.place_table.proofs.Hands.{now_at_is, hold_at_now, hold_at_else, AreInHands, IsOwnerOfPass, IsHomeOfPass, not_their_owner, not_their_home}
-use Rattle.place_table.proofs.Worlds.{hold_of_mine, IsMineOrFree, hold_of_other, HoldIs, hold_of_is, others, lock_still_lost, strand_stays, past_stays, tagged_stays, SameStrands}
+use Rattle.place_table.proofs.Worlds.{true_false, hold_of_mine, IsMineOrFree, hold_of_other, HoldIs, hold_of_is, others, lock_still_lost, past_stays, tagged_stays, SameStrands}
+use Rattle.place_table.proofs.Readings.{kept_home}
+use Rattle.place_table.specs.declared.view.HomeIn.{HomeIn}
+use Rattle.place_table.proofs.StepLog.{touches_with, lead_with, of_strands_with, strand_with, past_same, other_same}
+use Rattle.place_table.specs.declared.view.WordStep.{WordStep}
+use Rattle.place_table.proofs.Locks.{there}
+use Rattle.place_table.proofs.NotesDone.{noted_more}
 
 -- a CPU of the pass holds the lock
 pub record IsHeldByPass (w : World) (pass k : ℕ) : Type 0 where
@@ -60,7 +70,7 @@ abbrev pub core_moved : World → (ℕ → Lists) → (ℕ → Owner) → (ℕ �
 core_moved w lists owner home = record { holder = w.core.holder; lists = lists; owner = owner; home = home; bit = w.core.bit }
 
 -- What a step shows that changes places, and what the pass knows then.
-pub record MovesPlaces (shape : Shape) (w : World) (pass : ℕ) (lists : ℕ → Lists) (owner : ℕ → Owner) (home : ℕ → Home) (held : List Hold) (hand carried : List InHand) : Type 0 where
+pub record MovesPlaces (shape : Shape) (w : World) (pass : ℕ) (lists : ℕ → Lists) (owner : ℕ → Owner) (home : ℕ → Home) (held : List Hold) (hand carried : List InHand) (readings : List HomeIn) : Type 0 where
   pub under : (k : ℕ) → (lists k ≡ w.core.lists k) ⊎ IsHeldByPass w pass k
   pub owners : (e : ℕ) → (owner e ≡ w.core.owner e) ⊎ (IsOwnerOfPass w.whose pass (w.core.owner e) × IsOwnerOfPass w.whose pass (owner e))
   pub homes : (e : ℕ) → (home e ≡ w.core.home e) ⊎ (IsHomeOfPass w.whose pass (w.core.home e) × IsHomeOfPass w.whose pass (home e))
@@ -70,10 +80,14 @@ pub record MovesPlaces (shape : Shape) (w : World) (pass : ℕ) (lists : ℕ →
   pub are_carried : AreInHands is_home_of shape.cpus pass w.whose home carried
   pub placed : Placed shape (core_moved w lists owner home)
   pub ranked : Ranked shape (core_moved w lists owner home)
+  pub hashes : IsTrue (is_lru shape.kind) → HashesRight shape w.core.holder lists owner w.log w.hash
+  pub are_read : (e c : ℕ) (read : Home) → c < shape.cpus → home_known e c readings ≡ Some read → IsReading shape w.core.holder w.log home hand e c read
+  -- and what others read of what they have in hand
+  pub still : (e c : ℕ) (read : Home) → w.core.owner e ≡ owned.Hand c → ¬ (w.whose c ≡ pass) → StillHome shape w.core.holder w.log e (w.core.home e) read → StillHome shape w.core.holder w.log e (home e) read
 
 module _ (shape : Shape) (s : State Behind View) (r : Rule shape s) (pass : ℕ) (v : View) (at_pass : get_elem? s.views pass ≡ some v) (lists : ℕ → Lists) (owner : ℕ → Owner) (home : ℕ → Home) where
-  moved_world : World → World
-  moved_world w = record {
+  moved_world : World → WordStep → World
+  moved_world w x = record {
     core = core_moved w lists owner home;
     log = w.log;
     lost = w.lost;
@@ -83,19 +97,23 @@ module _ (shape : Shape) (s : State Behind View) (r : Rule shape s) (pass : ℕ)
     current = w.current;
     past = w.past;
     next = w.next;
+    hash = w.hash;
+    touches = touches_with w pass x;
   }
 
-  -- the word i becomes n
-  pub place_rule : (i n : ℕ) (held : List Hold) (hand carried : List InHand) (cs : List (ℕ × Behind)) → lock_count shape ≤ i → i < bit_word shape 0
+  -- the word i becomes n, by a CPU of the pass
+  pub place_rule : (i n : ℕ) (c : ℕ) (mine : is_among c v.cpus ≡ true) (held : List Hold) (hand carried : List InHand) (readings : List HomeIn) (cs : List (ℕ × Behind)) → lock_count shape ≤ i → i < bit_word shape 0
       → ((e : ℕ) → e < shape.elements → get_or (set s.words i n) (owner_word shape e) 0 ≡ owner_code (owner e))
       → ((e : ℕ) → e < shape.elements → get_or (set s.words i n) (home_word shape e) 0 ≡ home_code (home e))
-      → MovesPlaces shape r.world pass lists owner home held hand carried
-      → (after : Rule shape (stepped s i n pass cs (with_places held hand carried v) keeps)) × (after.world.core ≡ core_moved r.world lists owner home)
+      → AreNoted shape v.touched held v.notes
+      → MovesPlaces shape r.world pass lists owner home held hand carried readings
+      → (after : Rule shape (stepped s i n pass cs (with_places held hand carried readings (touching i None n v) v) keeps)) × (after.world.core ≡ core_moved r.world lists owner home)
   unfolding moved_world
-  place_rule i n held hand carried cs above below owner_words home_words moves =
-      let w = r.world in let w' : World = moved_world w in
+  place_rule i n c mine held hand carried readings cs above below owner_words home_words are_noted moves =
+      let x : WordStep = record { word = i; seen = None; left = n } in
+      let w = r.world in let w' : World = moved_world w x in
       let kn = r.knows pass v at_pass in
-      let nv : View = with_places held hand carried v in
+      let nv : View = with_places held hand carried readings (touching i None n v) v in
       let same : SameStrands w w' = record { keeper = λ _. refl; team = λ _. refl; next = refl; current = λ _. refl; past = λ _. refl; whose = λ _. refl; still = λ _ z. z } in (
         record {
           world = w';
@@ -109,6 +127,7 @@ module _ (shape : Shape) (s : State Behind View) (r : Rule shape s) (pass : ℕ)
           bit_words = λ e real. get_or-set_other s.words i (bit_word shape e) n 0 (λ y. omega arith) ∙ r.bit_words e real;
           placed = moves.placed;
           ranked = moves.ranked;
+          hashes = moves.hashes;
           legal = r.legal;
           homes = λ k real there. ⊎_elim
               (λ (stays : lists k ≡ w.core.lists k). subst (λ (l : Lists). AtHome shape k (w.core.holder k) (entries (w.log k)) l (w.lost k) (get_elem? s.homes k)) (sym stays) (r.homes k real there))
@@ -116,6 +135,8 @@ module _ (shape : Shape) (s : State Behind View) (r : Rule shape s) (pass : ℕ)
               (moves.under k);
           seated = λ c less. subst (λ (z : ℕ). w.whose c < z) (sym (length-set s.views pass nv)) (r.seated c less);
           tagged = λ k. tagged_stays w w' (length s.views) (length (set s.views pass nv)) (w.log k) (sym (length-set s.views pass nv)) same (r.tagged k);
+          lead = lead_with shape s r (w.current pass) x (omega (arith, r.words, below)) tt;
+          of_strands = of_strands_with shape w pass v kn x w' (length s.views) (length (set s.views pass nv)) (there s.views pass v at_pass) (sym (length-set s.views pass nv)) same r.of_strands;
           knows = λ j u f. ⊎_elim
               (λ t. subst (λ (z : ℕ × View). Knows shape w' z.0 z.1) (λ i. (sym t.0 i, t.1 i)) record {
                 shape_is = kn.shape_is;
@@ -125,14 +146,17 @@ module _ (shape : Shape) (s : State Behind View) (r : Rule shape s) (pass : ℕ)
                 ascends = moves.ascends;
                 hands = moves.in_hands;
                 carried = moves.are_carried;
+                hashes = λ x d b within found. let k = kept_known x d b hand v.hashes found in let is = kn.hashes x d b within k.0 in record { in_hand = k.1; bucket_is = is.bucket_is };
+                readings = moves.are_read;
                 known = kn.known;
                 bits = kn.bits;
                 only = kn.only;
                 losses = λ k among. lock_still_lost shape w w' k (λ lo. lo) (kn.losses k among);
-                strand = strand_stays shape w w' pass (w.current pass) v.cpus v.steps v.kept kn.strand.keeper (λ z. z) refl (λ _. refl) (λ _ z. z) (λ _ z. z) kn.strand;
-                past = past_stays shape w w' pass (w.past pass) v.ended same (λ _ _ _ _. refl) (λ _ z. z) kn.past;
+                noted = noted_more shape v.touched (x ∷ []) held v.notes are_noted;
+                strand = strand_with shape w pass v kn x w' same (λ _. refl) (λ _ z. z) refl;
+                past = past_stays shape w w' pass (w.past pass) v.ended same (λ _ _ _ _. refl) (λ _ z. z) (λ t among _. past_same shape w pass v kn x t among) kn.past;
                 apart = kn.apart;
-                idle = kn.idle;
+                idle = λ empty. true_false (sym mine ∙ ap (is_among c) empty);
               })
               (λ t. let ku = r.knows j u t.1 in others shape w w' j u same ku
               (λ k. ⊎_elim
@@ -152,11 +176,19 @@ module _ (shape : Shape) (s : State Behind View) (r : Rule shape s) (pass : ℕ)
               (λ _ _ _. refl)
               (λ _ z. z)
               ku.known
-              ku.bits)
+              ku.bits
+              (λ _ _ _ _. refl)
+              (λ tag own. other_same shape w pass v kn x j tag t.0 own)
+              (λ e c read _ in_hand theirs still. moves.still e c read in_hand (λ ours. t.0 (sym theirs ∙ ours)) still))
               (at_set s.views pass j nv u f);
         },
         refl,
       )
+
+-- readings of what is still in hand, where no home changes
+pub readings_kept : (shape : Shape) (w : World) (pass : ℕ) (v : View) (kn : Knows shape w pass v) (hand : List InHand) → (e c : ℕ) (read : Home) → c < shape.cpus → home_known e c (kept_readings hand v.readings) ≡ Some read → IsReading shape w.core.holder w.log w.core.home hand e c read
+readings_kept shape w pass v kn hand e c read within found =
+    let k = kept_home e c read hand v.readings found in let was = kn.readings e c read within k.0 in record { real = was.real; in_hand = k.1; still = was.still }
 
 -- a lock that the pass knows to be held
 module _ (shape : Shape) (s : State Behind View) (r : Rule shape s) (pass : ℕ) (v : View) (at_pass : get_elem? s.views pass ≡ some v) (k : ℕ) (h : Hold) (found : hold_at k v.held ≡ Some h) where

@@ -14,9 +14,11 @@ use Rattle.place_table.specs.declared.view.View.{View}
 use Rattle.place_table.specs.declared.view.InHand.{InHand}
 use Rattle.place_table.specs.Views.{is_among, hold_at, is_in_hand_of, without_cpu, in_hand_of, in_other_hands, all_strands, split_from, split_off}
 use Rattle.place_table.specs.Rules.{Tagged, World, hold, hold_of, is_hand_of, is_home_of, IsStrand, ArePast, Knows, Rule}
+use Rattle.place_table.proofs.StoredHashes.{kept_known}
 use Rattle.place_table.proofs.Worlds.{true_false, none_some, has_mine, lock_still_lost}
 use Rattle.place_table.proofs.Locks.{there}
-use Rattle.place_table.proofs.StrandMoves.{at_more, no_turns_yet, SameTurns, GoesTo, StaysListed, strand_moves, past_moves, tagged_moves, done, past_done, among_done, fresh_done, is_one, not_one}
+use Rattle.place_table.proofs.StrandMoves.{at_more, no_turns_yet, no_touches_yet, of_strands_move, SameTurns, GoesTo, StaysListed, strand_moves, past_moves, tagged_moves, done, past_done, among_done, fresh_done, is_one, not_one}
+use Rattle.place_table.proofs.PlaceSteps.{readings_kept}
 
 -- CPUs and hands without one CPU, and of one CPU alone
 
@@ -86,6 +88,8 @@ module _ (shape : Shape) (id c : ℕ) (v : View) (cpu : is_among c v.cpus ≡ tr
     current = put (put w.current id w.next) n (suc w.next);
     past = put (put w.past id []) n (done w id);
     next = suc (suc w.next);
+    hash = w.hash;
+    touches = w.touches;
   }
 
   -- of a strand that was there
@@ -141,7 +145,7 @@ module _ (shape : Shape) (id c : ℕ) (v : View) (cpu : is_among c v.cpus ≡ tr
 
   same_turns : (w : World) (n : ℕ) → SameTurns w (cut w n)
   unfolding cut
-  same_turns w n = record { log = λ _. refl; lost = λ _. refl; next = omega arith }
+  same_turns w n = record { log = λ _. refl; lost = λ _. refl; next = omega arith; touches = refl }
 
   -- what a pass has in hand, by owners or by homes: F tells whose hand an element is in
   hand_right : (w : World) (n e d : ℕ) (F : ℕ → Bool) (hand : List InHand) → w.whose c ≡ id → (d ≢ c → w.whose d < n) → (is_in_hand_of e c hand ≡ (F c && eqb (w.whose c) id)) → is_in_hand_of e d (in_hand_of c hand) ≡ (F d && eqb (put w.whose c n d) n)
@@ -168,19 +172,23 @@ module _ (shape : Shape) (id c : ℕ) (v : View) (cpu : is_among c v.cpus ≡ tr
         within = λ d among. by_test c d (λ b. cond b true false ≡ true → d < shape.cpus) (λ e _. subst (λ (z : ℕ). z < shape.cpus) e (kn.within c cpu)) (λ _ f. true_false (sym f)) among;
         held = λ k. sym (hold_right w n k (w.core.holder k) (w.log k) (w.core.lists k) (w.lost k) mine (λ d e. r.seated d (r.ranked.within d k e)) (sym (kn.held k) ∙ ap (hold_at k) no_lock));
         ascends = tt;
+        noted = tt;
         hands = λ e d less. hand_right w n e d (λ i. is_hand_of i (w.core.owner e)) v.hand mine (λ _. r.seated d less) (kn.hands e c (kn.within c cpu));
         carried = λ e d less. hand_right w n e d (λ i. is_home_of i (w.core.home e)) v.carried mine (λ _. r.seated d less) (kn.carried e c (kn.within c cpu));
+        hashes = λ e d b within found. let k = kept_known e d b (in_hand_of c v.hand) v.hashes found in record { in_hand = k.1; bucket_is = (kn.hashes e d b within k.0).bucket_is };
+        readings = readings_kept shape w id v kn (in_hand_of c v.hand);
         known = λ k log f. absurd (none_some f);
         bits = λ e bit f. absurd (none_some f);
         only = inl (refl, refl);
         losses = λ k among. lock_still_lost shape w w' k (λ found. found) (kn.losses k among);
-        strand = subst (λ (z : ℕ). IsStrand shape w' n z (c ∷ []) [] []) (sym (put_here (put w.current id w.next) n (suc w.next))) record {
+        strand = subst (λ (z : ℕ). IsStrand shape w' n z (c ∷ []) [] [] []) (sym (put_here (put w.current id w.next) n (suc w.next))) record {
           keeper = put_here (put (λ t. cond (eqb (w.keeper t) id) n (w.keeper t)) w.next id) (suc w.next) n;
           numbered = omega arith;
           team = put_here (put w.team w.next (without_cpu c v.cpus)) (suc w.next) (c ∷ []);
           steps_are = λ k. sym (no_turns_yet w n (suc w.next) 0 (w.log k) (omega arith) (r.tagged k));
           stand = tt;
           kept_are = λ k below is found. refl;
+          touched_are = sym (no_touches_yet w n (suc w.next) w.touches (omega arith) r.of_strands);
         };
         past = subst (λ z. ArePast shape w' n z (all_strands v)) (sym (put_here (put w.past id []) n (done w id)))
             (past_moves shape w w' id n (done w id) (all_strands v) (same_turns w n) (λ t old e. kept_by_new w n t old e) (past_done shape w id v kn.strand kn.past kn.apart));
@@ -203,23 +211,27 @@ module _ (shape : Shape) (id c : ℕ) (v : View) (cpu : is_among c v.cpus ≡ tr
             (λ other. kn.within d (sym (among_without_other d c v.cpus other) ∙ among));
         held = λ k. sym (hold_left w n k (w.core.holder k) (w.log k) (w.core.lists k) (w.lost k) apart (sym (kn.held k) ∙ ap (hold_at k) no_lock));
         ascends = tt;
+        noted = tt;
         hands = λ e d less. hand_left w n e d (λ i. is_hand_of i (w.core.owner e)) v.hand apart (λ _. kn.hands e d less);
         carried = λ e d less. hand_left w n e d (λ i. is_home_of i (w.core.home e)) v.carried apart (λ _. kn.carried e d less);
+        hashes = λ e d b within found. let k = kept_known e d b (in_other_hands c v.hand) v.hashes found in record { in_hand = k.1; bucket_is = (kn.hashes e d b within k.0).bucket_is };
+        readings = readings_kept shape w id v kn (in_other_hands c v.hand);
         known = λ k log f. absurd (none_some f);
         bits = λ e bit f. absurd (none_some f);
         only = inl (refl, refl);
         losses = λ k among. lock_still_lost shape w w' k (λ found. found) (kn.losses k among);
-        strand = subst (λ (z : ℕ). IsStrand shape w' id z (without_cpu c v.cpus) [] []) (sym (put_else (put w.current id w.next) n (suc w.next) id apart ∙ put_here w.current id w.next)) record {
+        strand = subst (λ (z : ℕ). IsStrand shape w' id z (without_cpu c v.cpus) [] [] []) (sym (put_else (put w.current id w.next) n (suc w.next) id apart ∙ put_here w.current id w.next)) record {
           keeper = put_else (put (λ t. cond (eqb (w.keeper t) id) n (w.keeper t)) w.next id) (suc w.next) n w.next (λ e. omega arith) ∙ put_here (λ t. cond (eqb (w.keeper t) id) n (w.keeper t)) w.next id;
           numbered = omega arith;
           team = put_else (put w.team w.next (without_cpu c v.cpus)) (suc w.next) (c ∷ []) w.next (λ e. omega arith) ∙ put_here w.team w.next (without_cpu c v.cpus);
           steps_are = λ k. sym (no_turns_yet w n w.next 0 (w.log k) (omega arith) (r.tagged k));
           stand = tt;
           kept_are = λ k below is found. refl;
+          touched_are = sym (no_touches_yet w n w.next w.touches (omega arith) r.of_strands);
         };
         past = subst (λ z. ArePast shape w' id z []) (sym (put_else (put w.past id []) n (done w id) id apart ∙ put_here w.past id [])) tt;
         apart = ap (λ z. is_among (put (put w.current id w.next) n (suc w.next) id) z) (put_else (put w.past id []) n (done w id) id apart ∙ put_here w.past id []);
-        idle = λ _. (refl, tt);
+        idle = λ _. ((refl, tt), tt);
       }
 
   -- any other
@@ -234,14 +246,17 @@ module _ (shape : Shape) (id c : ℕ) (v : View) (cpu : is_among c v.cpus ≡ tr
         within = ku.within;
         held = λ k. ku.held k ∙ sym (hold_else w n j k (w.core.holder k) (w.log k) (w.core.lists k) (w.lost k) mine not_id not_new);
         ascends = ku.ascends;
+        noted = ku.noted;
         hands = λ e d less. ku.hands e d less ∙ ap (λ b. is_hand_of d (w.core.owner e) && b) (sym (theirs w n j d mine not_id not_new));
         carried = λ e d less. ku.carried e d less ∙ ap (λ b. is_home_of d (w.core.home e) && b) (sym (theirs w n j d mine not_id not_new));
+        hashes = λ e d b within found. ku.hashes e d b within found;
+        readings = ku.readings;
         known = ku.known;
         bits = ku.bits;
         only = ku.only;
         losses = λ k among. lock_still_lost shape w w' k (λ found. found) (ku.losses k among);
-        strand = subst (λ (z : ℕ). IsStrand shape w' j z u.cpus u.steps u.kept) (sym (cut_current w n j not_id not_new))
-            (strand_moves shape w w' j j (w.current j) u.cpus u.steps u.kept (same_turns w n) (λ old e. kept_by_other w n j (w.current j) not_id old e) ku.strand);
+        strand = subst (λ (z : ℕ). IsStrand shape w' j z u.cpus u.steps u.kept u.touched) (sym (cut_current w n j not_id not_new))
+            (strand_moves shape w w' j j (w.current j) u.cpus u.steps u.kept u.touched (same_turns w n) (λ old e. kept_by_other w n j (w.current j) not_id old e) ku.strand);
         past = subst (λ z. ArePast shape w' j z u.ended) (sym (cut_past w n j not_id not_new))
             (past_moves shape w w' j j (w.past j) u.ended (same_turns w n) (λ t old e. kept_by_other w n j t not_id old e) ku.past);
         apart = ap (λ z. is_among z (w'.past j)) (cut_current w n j not_id not_new) ∙ (ap (is_among (w.current j)) (cut_past w n j not_id not_new) ∙ ku.apart);
@@ -290,11 +305,15 @@ module _ (shape : Shape) (id c : ℕ) (v : View) (cpu : is_among c v.cpus ≡ tr
         bit_words = r.bit_words;
         placed = r.placed;
         ranked = r.ranked;
+        hashes = r.hashes;
         legal = r.legal;
         homes = r.homes;
         seated = λ d less. at_put w.whose c n (λ i x. i < shape.cpus → x < length (set s.views id (split_from c v) ++ split_off c v ∷ [])) d (λ _. omega (arith, long)) (λ _ b. let q = r.seated d b in omega (arith, long)) less;
         tagged = λ k. tagged_moves w w' n (length (set s.views id (split_from c v) ++ split_off c v ∷ [])) (w.log k)
             (λ t below old among. subst (λ (z : ℕ). StaysListed w w' z t) (sym long) (listed_on w n t here below old among)) (r.tagged k);
+        lead = r.lead;
+        of_strands = of_strands_move w w' n (length (set s.views id (split_from c v) ++ split_off c v ∷ [])) w.touches
+            (λ t below old among. subst (λ (z : ℕ). StaysListed w w' z t) (sym long) (listed_on w n t here below old among)) r.of_strands;
         knows = λ j u f. ⊎_elim
             (λ g. ⊎_elim
             (λ t. subst (λ (z : ℕ × View). Knows shape w' z.0 z.1) (λ i. (sym t.0 i, t.1 i)) (left s r at_id apart))

@@ -9,8 +9,9 @@ use Rattle.place_core.proofs.ElementLemmas.{by_test}
 use Rattle.place_table.specs.declared.view.View.{View}
 use Rattle.place_table.specs.declared.view.Turned.{Turned}
 use Rattle.place_table.specs.declared.view.Ended.{Ended}
+use Rattle.place_table.specs.declared.view.WordStep.{WordStep}
 use Rattle.place_table.specs.Views.{is_among, current_strand, all_strands}
-use Rattle.place_table.specs.Rules.{Tagged, entries, World, turns_of, StandIn, IsStrand, ArePast, AreTagged, HaveNoSteps}
+use Rattle.place_table.specs.Rules.{Tagged, entries, World, turns_of, StandIn, IsStrand, ArePast, AreTagged, HaveNoSteps, Touch, touches_of, AreOfStrands}
 use Rattle.place_table.proofs.Worlds.{true_false, among_first}
 
 pub at_more : {A : Type 0} (l : List A) (a b : A) (j : ℕ) → get_elem? (l ++ a ∷ []) j ≡ some b → (get_elem? l j ≡ some b) ⊎ ((j ≡ length l) × (a ≡ b))
@@ -35,6 +36,13 @@ no_turns_yet w n t i (x ∷ xs) fresh tagged =
     (λ e. let below : x.0 < w.next = tagged.0.numbered in absurd (omega arith))
     (λ _. no_turns_yet w n t (suc i) xs fresh tagged.1)
 
+pub no_touches_yet : (w : World) (n t : ℕ) (xs : List Touch) → w.next ≤ t → AreOfStrands w n xs → touches_of t xs ≡ []
+no_touches_yet w n t [] fresh are = refl
+no_touches_yet w n t (x ∷ xs) fresh are =
+    by_test x.0 t (λ b. cond {A = List WordStep} b (x.1 ∷ touches_of t xs) (touches_of t xs) ≡ [])
+    (λ e. let below : x.0 < w.next = are.0.numbered in absurd (omega arith))
+    (λ _. no_touches_yet w n t xs fresh are.1)
+
 not_past : (shape : Shape) (w : World) (pass t : ℕ) (ts : List ℕ) (es : List Ended) → w.next ≤ t → ArePast shape w pass ts es → is_among t ts ≡ false
 not_past shape w pass t [] [] fresh p = refl
 not_past shape w pass t [] (e ∷ es) fresh p = absurd p
@@ -49,14 +57,15 @@ pub record SameTurns (w w' : World) : Type 0 where
   pub log : (k : ℕ) → w'.log k ≡ w.log k
   pub lost : (k : ℕ) → w'.lost k ≡ w.lost k
   pub next : w.next ≤ w'.next
+  pub touches : w'.touches ≡ w.touches
 
 -- the strand of a number is of another pass, with the CPUs that it had
 abbrev pub GoesTo : World → World → ℕ → ℕ → Type 0
 GoesTo w w' pass t = (w'.keeper t ≡ pass) × (w'.team t ≡ w.team t)
 
-pub strand_moves : (shape : Shape) (w w' : World) (pass to t : ℕ) (cpus : List ℕ) (steps : List Turned) (kept : List StrandStep) → SameTurns w w' → (t < w.next → w.keeper t ≡ pass → GoesTo w w' to t)
-    → IsStrand shape w pass t cpus steps kept → IsStrand shape w' to t cpus steps kept
-strand_moves shape w w' pass to t cpus steps kept same goes st =
+pub strand_moves : (shape : Shape) (w w' : World) (pass to t : ℕ) (cpus : List ℕ) (steps : List Turned) (kept : List StrandStep) (touched : List WordStep) → SameTurns w w' → (t < w.next → w.keeper t ≡ pass → GoesTo w w' to t)
+    → IsStrand shape w pass t cpus steps kept touched → IsStrand shape w' to t cpus steps kept touched
+strand_moves shape w w' pass to t cpus steps kept touched same goes st =
     let g = goes st.numbered st.keeper in record {
       keeper = g.0;
       numbered = (let below : t < w.next = st.numbered in omega (arith, same.next));
@@ -64,6 +73,7 @@ strand_moves shape w w' pass to t cpus steps kept same goes st =
       steps_are = λ k. st.steps_are k ∙ ap (turns_of t 0) (sym (same.log k));
       stand = subst (λ (log : ℕ → List Entry). StandIn log steps) (sym (λ i k. entries (same.log k i))) st.stand;
       kept_are = λ k below there found. st.kept_are k below there (sym (same.lost k) ∙ found);
+      touched_are = st.touched_are ∙ ap (touches_of t) (sym same.touches);
     }
 
 pub past_moves : (shape : Shape) (w w' : World) (pass to : ℕ) (ts : List ℕ) (es : List Ended) → SameTurns w w' → ((t : ℕ) → t < w.next → w.keeper t ≡ pass → GoesTo w w' to t) → ArePast shape w pass ts es → ArePast shape w' to ts es
@@ -71,7 +81,7 @@ past_moves shape w w' pass to [] [] same goes p = tt
 past_moves shape w w' pass to [] (e ∷ es) same goes p = absurd p
 past_moves shape w w' pass to (t ∷ ts) [] same goes p = absurd p
 past_moves shape w w' pass to (t ∷ ts) (e ∷ es) same goes p =
-    (strand_moves shape w w' pass to t e.cpus e.steps e.kept same (goes t) p.0, p.1, past_moves shape w w' pass to ts es same goes p.2)
+    (strand_moves shape w w' pass to t e.cpus e.steps e.kept e.touched same (goes t) p.0, p.1, past_moves shape w w' pass to ts es same goes p.2)
 
 -- each turn stays in a strand of a pass that is there
 abbrev pub StaysListed : World → World → ℕ → ℕ → Type 0
@@ -83,6 +93,13 @@ tagged_moves w w' n m [] stays tagged = tt
 tagged_moves w w' n m (x ∷ xs) stays tagged =
     let to = stays x.0 tagged.0.seated tagged.0.numbered tagged.0.listed in
     (record { seated = to.0; numbered = to.1; has_cpu = ap (is_among x.1.cpu) to.2 ∙ tagged.0.has_cpu; listed = to.3 }, tagged_moves w w' n m xs stays tagged.1)
+
+pub of_strands_move : (w w' : World) (n m : ℕ) (xs : List Touch) → ((t : ℕ) → w.keeper t < n → t < w.next → is_among t (w.current (w.keeper t) ∷ w.past (w.keeper t)) ≡ true → StaysListed w w' m t)
+    → AreOfStrands w n xs → AreOfStrands w' m xs
+of_strands_move w w' n m [] stays are = tt
+of_strands_move w w' n m (x ∷ xs) stays are =
+    let to = stays x.0 are.0.seated are.0.numbered are.0.listed in
+    (record { seated = to.0; numbered = to.1; listed = to.3 }, of_strands_move w w' n m xs stays are.1)
 
 -- a strand that has ended is kept by its pass
 pub past_keeper : (shape : Shape) (w : World) (pass t : ℕ) (ts : List ℕ) (es : List Ended) → ArePast shape w pass ts es → is_among t ts ≡ true → w.keeper t ≡ pass
@@ -115,7 +132,7 @@ past_append shape w pass (t ∷ ts) us (e ∷ es) fs p q apart = (
 pub done : World → ℕ → List ℕ
 done w pass = w.past pass ++ w.current pass ∷ []
 
-pub past_done : (shape : Shape) (w : World) (pass : ℕ) (v : View) → IsStrand shape w pass (w.current pass) v.cpus v.steps v.kept → ArePast shape w pass (w.past pass) v.ended → is_among (w.current pass) (w.past pass) ≡ false → ArePast shape w pass (done w pass) (all_strands v)
+pub past_done : (shape : Shape) (w : World) (pass : ℕ) (v : View) → IsStrand shape w pass (w.current pass) v.cpus v.steps v.kept v.touched → ArePast shape w pass (w.past pass) v.ended → is_among (w.current pass) (w.past pass) ≡ false → ArePast shape w pass (done w pass) (all_strands v)
 unfolding done
 past_done shape w pass v st p apart =
     past_append shape w pass (w.past pass) (w.current pass ∷ []) v.ended (current_strand v ∷ []) p (st, refl, tt)
@@ -133,7 +150,7 @@ among_done w pass t among =
     go true = refl
     go false = refl
 
-pub fresh_done : (shape : Shape) (w : World) (pass t : ℕ) (v : View) → IsStrand shape w pass (w.current pass) v.cpus v.steps v.kept → ArePast shape w pass (w.past pass) v.ended → w.next ≤ t → is_among t (done w pass) ≡ false
+pub fresh_done : (shape : Shape) (w : World) (pass t : ℕ) (v : View) → IsStrand shape w pass (w.current pass) v.cpus v.steps v.kept v.touched → ArePast shape w pass (w.past pass) v.ended → w.next ≤ t → is_among t (done w pass) ≡ false
 unfolding done
 fresh_done shape w pass t v st p fresh =
     among_append t (w.past pass) (w.current pass ∷ [])

@@ -55,13 +55,13 @@ turns_alike strand_at n t i (x ∷ xs) alike =
 
 -- ---- the strands of a pass with their numbers
 
-as_long : (shape : Shape) (w : World) (pass : ℕ) (ts : List ℕ) (es : List Ended) → ArePast shape w pass ts es → length ts ≡ length es
+pub as_long : (shape : Shape) (w : World) (pass : ℕ) (ts : List ℕ) (es : List Ended) → ArePast shape w pass ts es → length ts ≡ length es
 as_long shape w pass [] [] past = refl
 as_long shape w pass [] (x ∷ xs) past = absurd past
 as_long shape w pass (t ∷ ts) [] past = absurd past
 as_long shape w pass (t ∷ ts) (x ∷ xs) past = ap suc (as_long shape w pass ts xs past.2)
 
-place_within : (t : ℕ) (ts : List ℕ) → is_among t ts ≡ true → place_in t ts < length ts
+pub place_within : (t : ℕ) (ts : List ℕ) → is_among t ts ≡ true → place_in t ts < length ts
 place_within t [] among = true_false (sym among)
 place_within t (u ∷ us) among =
     by_test u t (λ b. cond b true (is_among t us) ≡ true → cond b 0 (suc (place_in t us)) < suc (length us)) (λ _ _. omega arith) (λ _ f. let less = place_within t us f in omega arith) among
@@ -70,7 +70,7 @@ place_within t (u ∷ us) among =
 pub record StrandAt (shape : Shape) (w : World) (pass : ℕ) (ts : List ℕ) (n : ℕ) (e : Ended) : Type 0 where
   pub number : ℕ
   pub listed : is_among number ts ≡ true
-  pub is : IsStrand shape w pass number e.cpus e.steps e.kept
+  pub is : IsStrand shape w pass number e.cpus e.steps e.kept e.touched
   pub alike : (t : ℕ) → is_among t ts ≡ true → eqb (place_in t ts) n ≡ eqb t number
 
 pub same_true : (t u : ℕ) → t ≡ u → true ≡ eqb t u
@@ -90,7 +90,7 @@ strand_here shape w pass (u ∷ us) [] n e past found = absurd past
 strand_here shape w pass (u ∷ us) (x ∷ xs) zero e past found = record {
   number = u;
   listed = among_first u us;
-  is = subst (λ (z : Ended). IsStrand shape w pass u z.cpus z.steps z.kept) (some_is found) past.0;
+  is = subst (λ (z : Ended). IsStrand shape w pass u z.cpus z.steps z.kept z.touched) (some_is found) past.0;
   alike = λ t among. by_test u t (λ b. eqb (cond b 0 (suc (place_in t us))) 0 ≡ eqb t u) (λ same. same_true t u (sym same)) (λ other. sym (other_false (suc (place_in t us)) 0 (omega arith)) ∙ other_false t u (λ e. other (sym e)));
 }
 strand_here shape w pass (u ∷ us) (x ∷ xs) (suc n) e past found =

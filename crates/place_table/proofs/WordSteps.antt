@@ -1,13 +1,12 @@
 -- The steps on bits, and looks at a bit, an owner and a home.
-use Rattle.std.proofs.Common.{◌≡◌, ◌≢◌, ℕ, ◌<◌, ◌⊎◌, inr, ⊎_elim, ltb, cond, Bool, true, false, List, [], ◌∷◌, ◌++◌, length, get_or, set, sym, refl, ap, ◌∙◌, subst, arith, Some, length-set, get_or-set_other, get_or-set_same}
-use Rattle.std.specs.Prelude.{◌&&◌, IsTrue}
+use Rattle.std.proofs.Common.{◌≡◌, ◌≢◌, ℕ, ◌<◌, ◌⊎◌, inl, inr, ⊎_elim, cond, Bool, true, false, List, [], ◌∷◌, ◌++◌, length, get_or, set, sym, refl, ap, ◌∙◌, subst, arith, Some, length-set, get_or-set_other, get_or-set_same, None, Option}
+use Rattle.std.specs.Prelude.{IsTrue}
 use Rattle.std.proofs.lemmas.Bool.Decides.{nat_tests}
 use mathlib.Core.Option.{some}
 use lib.ListN.{get_elem?}
 use Rattle.atomic_table.specs.Table.{State, Allows, keeps, stepped}
 use Rattle.atomic_table.proofs.Lists.{at_set, set_again}
 use Rattle.map_types.specs.declared.attr.Shape.{Shape}
-use Rattle.map_types.specs.declared.kind.DomainId.{DomainId}
 use Rattle.map_types.specs.declared.kind.DomainId.TheVariants.{Bucket}
 use Rattle.map_types.specs.Kind.{is_lru}
 use Rattle.map_types.proofs.CreationLemmas.{bounds_of_shape}
@@ -15,17 +14,16 @@ use Rattle.place_words.specs.declared.owner.Owner.{Owner}
 use Rattle.place_words.specs.declared.owner.Owner.TheVariants as owners
 use Rattle.place_words.specs.declared.home.Home.{Home}
 use Rattle.place_words.specs.declared.home.Home.TheVariants as homes
-use Rattle.place_words.specs.Codes.{HasHomeCode}
-use Rattle.map_types.specs.ElementLists.{put, times, one, IsIn}
+use Rattle.place_words.specs.Codes.{HasHomeCode, owner_code, home_code}
+use Rattle.map_types.specs.ElementLists.{put, one, IsIn}
 use Rattle.place_words.specs.Locks.{is_lock, lock_named, lock_number}
-use Rattle.place_words.specs.Openings.{is_free}
-use Rattle.place_words.proofs.LockLemmas.{named_by_number}
 use Rattle.place_core.specs.declared.step.Step.TheVariants.{Mark, Clear, Glance}
 use Rattle.place_core.specs.State.{rows}
-use Rattle.place_core.specs.Places.{Placed, Place, lies, carried, has_row, is_in_bucket, home_of_place, MayOwn}
+use Rattle.place_core.specs.State as cores
+use Rattle.place_core.specs.Places.{Placed, Place, lies, carried, home_of_place, MayOwn}
 use Rattle.place_core.specs.Ranks.{Ranked}
-use Rattle.place_core.specs.Steps.{with_bit, IsInHeldBucket, CanClear}
-use Rattle.place_core.proofs.ElementLemmas.{by_test, at_put, times_append}
+use Rattle.place_core.specs.Steps.{IsInHeldBucket, CanClear, IsHeldHome}
+use Rattle.place_core.proofs.ElementLemmas.{by_test, times_append, put_here, put_else}
 use Rattle.place_core.proofs.StepLaws.{step_keeps_places, step_keeps_ranks}
 use Rattle.place_table.specs.declared.content.Behind.{Behind}
 use Rattle.place_table.specs.declared.view.View.{View}
@@ -33,22 +31,58 @@ use Rattle.place_table.specs.declared.view.Hold.{Hold}
 use Rattle.place_table.specs.declared.view.Notes.{Notes}
 use Rattle.place_table.specs.declared.view.BitSeen.{BitSeen}
 use Rattle.place_table.specs.Laws.{StepsAs, goes_by}
-use Rattle.place_table.specs.Views.{is_among, hold_at, is_in_hand_of, bit_seen, has_all, noted, with_mark, with_clear, with_bit_read, with_owner_read, with_home_read, bits_with}
-use Rattle.place_table.specs.Rules.{World, Rule, Knows, AreTagged, owner_word, home_word, bit_word}
+use Rattle.place_table.specs.Views.{is_among, hold_at, is_in_hand_of, bit_seen, has_all, noted, with_mark, with_clear, with_bit_read, with_owner_read, with_home_read, bits_with, touching, home_known, with_reading}
+use Rattle.place_table.specs.Rules.{World, Rule, Knows, IsFresh, IsSeen, LeadTo, IsReading, HasRow, IsBrought, AreNoted}
+use Rattle.place_table.specs.Words.{owner_word, home_word, bit_word, opening_words}
 use Rattle.place_table.specs.Plays.{Seated, Marks, Clears, SeesBit, SeesOwner, SeesHome, OwnerFits}
-use Rattle.place_table.proofs.Locks.{allows_of, found_at, elements_there}
-use Rattle.place_table.proofs.Worlds.{by_bool, true_false, some_is, none_some, hold_of_is, has_mine, in_hand_is, own_hand, all_here, here_all, others, lock_still_lost, strand_stays, past_stays, tagged_stays, SameStrands, knows_none}
+use Rattle.place_table.proofs.Locks.{allows_of, found_at, elements_there, there}
+use Rattle.place_table.proofs.Worlds.{by_bool, true_false, some_is, none_some, hold_of_is, has_mine, all_here, here_all, others, lock_still_lost, past_stays, tagged_stays, SameStrands, knows_none, hash_stands}
+use Rattle.place_table.proofs.Readings.{IsNew, still_is, read_home_known}
+use Rattle.place_table.proofs.OwnersSeen.{owner_fits}
+use Rattle.place_table.specs.declared.view.HomeIn.{HomeIn}
+use Rattle.place_table.specs.declared.view.WordStep.{WordStep}
+use Rattle.place_table.proofs.StepLog.{touches_with, lead_with, of_strands_with, strand_with, past_same, other_same, reads_more}
+use Rattle.place_table.proofs.NotesDone.{noted_mark, noted_clear, noted_bit, noted_home, noted_owner}
 
 -- with other notes a pass knows the same, and what it keeps of bits has to be so
 abbrev AreSo : World → List BitSeen → Type 0
 AreSo w bits = (e : ℕ) (bit : Bool) → bit_seen e bits ≡ Some bit → w.core.bit e ≡ bit
 
--- other bits
-abbrev bitted : World → ℕ → Bool → World
-bitted w e b = record { core = with_bit w.core e b; log = w.log; lost = w.lost; whose = w.whose; keeper = w.keeper; team = w.team; current = w.current; past = w.past; next = w.next }
+-- the core with other bits
+abbrev core_with : cores.State → (ℕ → Bool) → cores.State
+core_with core f = record { holder = core.holder; lists = core.lists; owner = core.owner; home = core.home; bit = f }
 
-same_strands : (w : World) (e : ℕ) (b : Bool) → SameStrands w (bitted w e b)
-same_strands w e b = record { keeper = λ _. refl; team = λ _. refl; next = refl; current = λ _. refl; past = λ _. refl; whose = λ _. refl; still = λ _ z. z }
+-- other bits, and one step more
+abbrev bitted : World → ℕ → (ℕ → Bool) → WordStep → World
+bitted w pass f x = record {
+  core = core_with w.core f;
+  log = w.log;
+  lost = w.lost;
+  whose = w.whose;
+  keeper = w.keeper;
+  team = w.team;
+  current = w.current;
+  past = w.past;
+  next = w.next;
+  hash = w.hash;
+  touches = touches_with w pass x;
+}
+
+-- one step more
+abbrev looked : World → ℕ → WordStep → World
+looked w pass x = record {
+  core = w.core;
+  log = w.log;
+  lost = w.lost;
+  whose = w.whose;
+  keeper = w.keeper;
+  team = w.team;
+  current = w.current;
+  past = w.past;
+  next = w.next;
+  hash = w.hash;
+  touches = touches_with w pass x;
+}
 
 -- what a pass keeps of bits after one is known, and that only a pass with all CPUs keeps any
 learnt : (shape : Shape) (w : World) (pass : ℕ) (v : View) (f : ℕ → Bool) (e : ℕ) (b : Bool) → Knows shape w pass v → f e ≡ b → ((x : ℕ) → x ≢ e → f x ≡ w.core.bit x)
@@ -70,34 +104,55 @@ only_all shape w pass v e b kn =
     (λ _. kn.only)
 
 module _ (shape : Shape) (s : State Behind View) (r : Rule shape s) (pass : ℕ) (v : View) (at_pass : get_elem? s.views pass ≡ some v) (notes : List Notes) where
-  -- a bit becomes b, by a pass that has this CPU
-  bit_rule : (e : ℕ) (b : Bool) (cs : List (ℕ × Behind)) (c : ℕ) → e < shape.elements → is_among c v.cpus ≡ true → Placed shape (with_bit r.world.core e b) → Ranked shape (with_bit r.world.core e b)
-      → Rule shape (stepped s (bit_word shape e) (one b) pass cs (noted notes (bits_with e b v) v) keeps)
-  bit_rule e b cs c real cpu placed ranked =
+  -- what other passes know of bits where this one has a CPU
+  no_others : (c : ℕ) → is_among c v.cpus ≡ true → (f : ℕ → Bool) (j : ℕ) (u : View) → get_elem? s.views j ≡ some u → j ≢ pass → (y : ℕ) (bit : Bool) → bit_seen y u.bits ≡ Some bit → f y ≡ bit
+  no_others c cpu f j u at other y bit found =
+      let w = r.world in let kn = r.knows pass v at_pass in
+      let no_more = knows_none shape w pass j u c (r.knows j u at) (kn.within c cpu) (has_mine shape w pass v c kn cpu) other in
+      absurd (none_some (sym (ap (bit_seen y) no_more.1) ∙ found))
+
+  -- a step on the bit of e, which is b from then on
+  bit_rule : (e n : ℕ) (b : Bool) (f : ℕ → Bool) (seen : Option ℕ) (cs : List (ℕ × Behind)) → e < shape.elements → n ≡ one b → f e ≡ b → ((y : ℕ) → y ≢ e → f y ≡ r.world.core.bit y) → IsSeen seen (one (r.world.core.bit e)) → (v.cpus ≡ [] → seen ≡ Some (one b)) → AreNoted shape (touching (bit_word shape e) seen (one b) v) v.held notes
+      → ((j : ℕ) (u : View) → get_elem? s.views j ≡ some u → j ≢ pass → (y : ℕ) (bit : Bool) → bit_seen y u.bits ≡ Some bit → f y ≡ bit)
+      → Placed shape (core_with r.world.core f) → Ranked shape (core_with r.world.core f)
+      → Rule shape (stepped s (bit_word shape e) n pass cs (noted notes (bits_with e b v) (touching (bit_word shape e) seen (one b) v) v.readings v) keeps)
+  bit_rule e n b f seen cs real n_is here_is else_is seen_is only_read are_noted others_know placed ranked =
       let i : ℕ = bit_word shape e in
-      let w = r.world in let w' : World = bitted w e b in
+      let x : WordStep = record { word = i; seen = seen; left = one b } in
+      let w = r.world in let w' : World = bitted w pass f x in
       let kn = r.knows pass v at_pass in
-      let nv : View = noted notes (bits_with e b v) v in
-      let same = same_strands w e b in
-      let mine = has_mine shape w pass v c kn cpu in
+      let nv : View = noted notes (bits_with e b v) (touching i seen (one b) v) v.readings v in
+      let same : SameStrands w w' = record { keeper = λ _. refl; team = λ _. refl; next = refl; current = λ _. refl; past = λ _. refl; whose = λ _. refl; still = λ _ z. z } in
       record {
         world = w';
         is_shape = r.is_shape;
         plain = r.plain;
-        words = length-set s.words i (one b) ∙ r.words;
+        words = length-set s.words i n ∙ r.words;
         slots = r.slots;
-        lock_words = λ m h. get_or-set_other s.words i m (one b) 0 (λ y. omega arith) ∙ r.lock_words m h;
-        owner_words = λ x h. get_or-set_other s.words i (owner_word shape x) (one b) 0 (λ y. omega arith) ∙ r.owner_words x h;
-        home_words = λ x h. get_or-set_other s.words i (home_word shape x) (one b) 0 (λ y. omega arith) ∙ r.home_words x h;
-        bit_words = λ x h. at_put w.core.bit e b (λ j y. j < shape.elements → get_or (set s.words i (one b)) (bit_word shape j) 0 ≡ one y) x
-            (λ _. get_or-set_same s.words i (one b) 0 (omega (arith, r.words)))
-            (λ ne h. get_or-set_other s.words i (bit_word shape x) (one b) 0 (λ y. ne (omega arith)) ∙ r.bit_words x h) h;
+        lock_words = λ m h. get_or-set_other s.words i m n 0 (λ y. omega arith) ∙ r.lock_words m h;
+        owner_words = λ y h. get_or-set_other s.words i (owner_word shape y) n 0 (λ z. omega arith) ∙ r.owner_words y h;
+        home_words = λ y h. get_or-set_other s.words i (home_word shape y) n 0 (λ z. omega arith) ∙ r.home_words y h;
+        bit_words = λ y h. by_test y e (λ _. get_or (set s.words i n) (bit_word shape y) 0 ≡ one (f y))
+            (λ is_same. subst (λ (z : ℕ). get_or (set s.words i n) (bit_word shape z) 0 ≡ one (f z)) (sym is_same) (get_or-set_same s.words i n 0 (omega (arith, r.words)) ∙ (n_is ∙ ap one (sym here_is))))
+            (λ ne. get_or-set_other s.words i (bit_word shape y) n 0 (λ z. ne (omega arith)) ∙ (r.bit_words y h ∙ ap one (sym (else_is y ne))));
         placed = placed;
         ranked = ranked;
+        hashes = λ lru. let right = r.hashes lru in record {
+          in_bucket = right.in_bucket;
+          have = λ k y no_bucket inside. ⊎_elim
+              (λ (had : HasRow shape w.log w.hash k y). inl record { stored = had.stored })
+              (⊎_elim
+              (λ (fresh : IsFresh w.core.holder w.core.owner k y). inr (inl record { cpu = fresh.cpu; held = fresh.held; in_hand = fresh.in_hand }))
+              (λ (br : IsBrought shape w.core.holder w.log w.hash k y). inr (inr record { cpu = br.cpu; from = br.from; held = br.held; holds = br.holds; low = br.low; row = record { stored = br.row.stored } })))
+              (right.have k y no_bucket inside);
+        };
         legal = r.legal;
         homes = r.homes;
-        seated = λ x h. subst (λ (z : ℕ). w.whose x < z) (sym (length-set s.views pass nv)) (r.seated x h);
+        seated = λ c h. subst (λ (z : ℕ). w.whose c < z) (sym (length-set s.views pass nv)) (r.seated c h);
         tagged = λ k. tagged_stays w w' (length s.views) (length (set s.views pass nv)) (w.log k) (sym (length-set s.views pass nv)) same (r.tagged k);
+        lead = λ m below. subst (λ (z : ℕ). LeadTo m (get_or (opening_words shape) m 0) (touches_with w pass x) (get_or (set s.words i z) m 0)) (sym n_is)
+            (lead_with shape s r (w.current pass) x (omega (arith, r.words)) (subst (IsSeen seen) (sym (r.bit_words e real)) seen_is) m below);
+        of_strands = of_strands_with shape w pass v kn x w' (length s.views) (length (set s.views pass nv)) (there s.views pass v at_pass) (sym (length-set s.views pass nv)) same r.of_strands;
         knows = λ j u h. ⊎_elim
             (λ t. subst (λ (z : ℕ × View). Knows shape w' z.0 z.1) (λ i. (sym t.0 i, t.1 i)) record {
               shape_is = kn.shape_is;
@@ -107,48 +162,57 @@ module _ (shape : Shape) (s : State Behind View) (r : Rule shape s) (pass : ℕ)
               ascends = kn.ascends;
               hands = kn.hands;
               carried = kn.carried;
+              hashes = λ y d bucket within found. hash_stands shape w.hash w'.hash v.hand y d bucket (kn.hashes y d bucket within found) (λ _. refl);
+              readings = kn.readings;
               known = kn.known;
-              bits = learnt shape w pass v (put w.core.bit e b) e b kn (at_put w.core.bit e b (λ j y. j ≡ e → y ≡ b) e (λ _. refl) (λ n f. absurd (n f)) refl) (λ x other. at_put w.core.bit e b (λ j y. j ≢ e → y ≡ w.core.bit j) x (λ n. absurd (n refl)) (λ _ _. refl) other);
+              bits = learnt shape w pass v f e b kn here_is else_is;
               only = only_all shape w pass v e b kn;
               losses = λ k among. lock_still_lost shape w w' k (λ lo. lo) (kn.losses k among);
-              strand = strand_stays shape w w' pass (w.current pass) v.cpus v.steps v.kept kn.strand.keeper (λ z. z) refl (λ _. refl) (λ _ z. z) (λ _ z. z) kn.strand;
-              past = past_stays shape w w' pass (w.past pass) v.ended same (λ _ _ _ _. refl) (λ _ z. z) kn.past;
+              noted = are_noted;
+              strand = strand_with shape w pass v kn x w' same (λ _. refl) (λ _ z. z) refl;
+              past = past_stays shape w w' pass (w.past pass) v.ended same (λ _ _ _ _. refl) (λ _ z. z) (λ t among _. past_same shape w pass v kn x t among) kn.past;
               apart = kn.apart;
-              idle = kn.idle;
+              idle = λ empty. let was = kn.idle empty in ((was.0.0, reads_more v.touched x was.0.1 (only_read empty)), was.1);
             })
-            (λ t. let ku = r.knows j u t.1 in
-            let no_more = knows_none shape w pass j u c ku (kn.within c cpu) mine t.0 in
-            others shape w w' j u same ku (λ _. refl) (λ _ _ _. refl) (λ _ _ _. refl) (λ _ _ _. refl) (λ _ z. z) ku.known (λ x bit f. absurd (none_some (sym (ap (bit_seen x) no_more.1) ∙ f))))
+            (λ t. others shape w w' j u same (r.knows j u t.1) (λ _. refl) (λ _ _ _. refl) (λ _ _ _. refl) (λ _ _ _. refl) (λ _ z. z) (r.knows j u t.1).known (others_know j u t.1 t.0) (λ _ _ _ _. refl)
+            (λ tag own. other_same shape w pass v kn x j tag t.0 own) (λ _ _ _ _ _ _ still. still))
             (at_set s.views pass j nv u h);
       }
 
-  -- a look at the word i, by which the pass comes to know no bit or one
-  look_rule : (i : ℕ) (cs : List (ℕ × Behind)) (bits : List BitSeen) → i < length s.words → AreSo r.world bits → ((v.known ≡ []) × (bits ≡ [])) ⊎ ((c : ℕ) → c < shape.cpus → is_among c v.cpus ≡ true)
+  -- a look at the word i, which is n, by which the pass comes to know no bit or one
+  look_rule : (i n : ℕ) (cs : List (ℕ × Behind)) (bits : List BitSeen) (readings : List HomeIn) → ((x c : ℕ) (read : Home) → c < shape.cpus → home_known x c readings ≡ Some read → IsReading shape r.world.core.holder r.world.log r.world.core.home v.hand x c read) → i < length s.words → get_or s.words i 0 ≡ n → AreNoted shape (touching i (Some n) n v) v.held notes → AreSo r.world bits → ((v.known ≡ []) × (bits ≡ [])) ⊎ ((c : ℕ) → c < shape.cpus → is_among c v.cpus ≡ true)
       → (e : ℕ) → e < shape.elements
-      → (after : Rule shape (stepped s i (get_or s.words i 0) pass cs (noted notes bits v) keeps)) × goes_by shape (Glance 0 e) 0 r.world.core after.world.core
-  look_rule i cs bits inside so only e real =
-      let w = r.world in let kn = r.knows pass v at_pass in
-      let nv : View = noted notes bits v in
+      → (after : Rule shape (stepped s i (get_or s.words i 0) pass cs (noted notes bits (touching i (Some n) n v) readings v) keeps)) × goes_by shape (Glance 0 e) 0 r.world.core after.world.core
+  look_rule i n cs bits readings are_read inside found_is are_noted so only e real =
+      let x : WordStep = record { word = i; seen = Some n; left = n } in
+      let w = r.world in let w' : World = looked w pass x in
+      let kn = r.knows pass v at_pass in
+      let nv : View = noted notes bits (touching i (Some n) n v) readings v in
+      let same : SameStrands w w' = record { keeper = λ _. refl; team = λ _. refl; next = refl; current = λ _. refl; past = λ _. refl; whose = λ _. refl; still = λ _ z. z } in
       let back : set s.words i (get_or s.words i 0) ≡ s.words = set_again s.words i (get_or s.words i 0) (found_at s.words i inside) in
       let bounds = bounds_of_shape shape r.is_shape in (
         record {
-          world = w;
+          world = w';
           is_shape = r.is_shape;
           plain = r.plain;
           words = length-set s.words i (get_or s.words i 0) ∙ r.words;
           slots = r.slots;
           lock_words = λ m h. ap (λ (l : List ℕ). get_or l m 0) back ∙ r.lock_words m h;
-          owner_words = λ x h. ap (λ (l : List ℕ). get_or l (owner_word shape x) 0) back ∙ r.owner_words x h;
-          home_words = λ x h. ap (λ (l : List ℕ). get_or l (home_word shape x) 0) back ∙ r.home_words x h;
-          bit_words = λ x h. ap (λ (l : List ℕ). get_or l (bit_word shape x) 0) back ∙ r.bit_words x h;
+          owner_words = λ y h. ap (λ (l : List ℕ). get_or l (owner_word shape y) 0) back ∙ r.owner_words y h;
+          home_words = λ y h. ap (λ (l : List ℕ). get_or l (home_word shape y) 0) back ∙ r.home_words y h;
+          bit_words = λ y h. ap (λ (l : List ℕ). get_or l (bit_word shape y) 0) back ∙ r.bit_words y h;
           placed = r.placed;
           ranked = r.ranked;
+          hashes = r.hashes;
           legal = r.legal;
           homes = r.homes;
-          seated = λ x h. subst (λ (z : ℕ). w.whose x < z) (sym (length-set s.views pass nv)) (r.seated x h);
-          tagged = λ k. subst (λ (z : ℕ). AreTagged w z (w.log k)) (sym (length-set s.views pass nv)) (r.tagged k);
+          seated = λ y h. subst (λ (z : ℕ). w.whose y < z) (sym (length-set s.views pass nv)) (r.seated y h);
+          tagged = λ k. tagged_stays w w' (length s.views) (length (set s.views pass nv)) (w.log k) (sym (length-set s.views pass nv)) same (r.tagged k);
+          lead = λ m below. subst (λ (z : ℕ). LeadTo m (get_or (opening_words shape) m 0) (touches_with w pass x) (get_or (set s.words i z) m 0)) (sym found_is)
+              (lead_with shape s r (w.current pass) x inside (sym found_is) m below);
+          of_strands = of_strands_with shape w pass v kn x w' (length s.views) (length (set s.views pass nv)) (there s.views pass v at_pass) (sym (length-set s.views pass nv)) same r.of_strands;
           knows = λ j u h. ⊎_elim
-              (λ t. subst (λ (z : ℕ × View). Knows shape w z.0 z.1) (λ i. (sym t.0 i, t.1 i)) record {
+              (λ t. subst (λ (z : ℕ × View). Knows shape w' z.0 z.1) (λ i. (sym t.0 i, t.1 i)) record {
                 shape_is = kn.shape_is;
                 cpus = kn.cpus;
                 within = kn.within;
@@ -156,16 +220,20 @@ module _ (shape : Shape) (s : State Behind View) (r : Rule shape s) (pass : ℕ)
                 ascends = kn.ascends;
                 hands = kn.hands;
                 carried = kn.carried;
+                hashes = λ y d b within found. hash_stands shape w.hash w'.hash v.hand y d b (kn.hashes y d b within found) (λ _. refl);
+                readings = are_read;
                 known = kn.known;
                 bits = so;
                 only = only;
-                losses = kn.losses;
-                strand = kn.strand;
-                past = kn.past;
+                losses = λ k among. lock_still_lost shape w w' k (λ lo. lo) (kn.losses k among);
+                noted = are_noted;
+                strand = strand_with shape w pass v kn x w' same (λ _. refl) (λ _ z. z) refl;
+                past = past_stays shape w w' pass (w.past pass) v.ended same (λ _ _ _ _. refl) (λ _ z. z) (λ t among _. past_same shape w pass v kn x t among) kn.past;
                 apart = kn.apart;
-                idle = kn.idle;
+                idle = λ empty. let was = kn.idle empty in ((was.0.0, reads_more v.touched x was.0.1 refl), was.1);
               })
-              (λ t. r.knows j u t.1)
+              (λ t. others shape w w' j u same (r.knows j u t.1) (λ _. refl) (λ _ _ _. refl) (λ _ _ _. refl) (λ _ _ _. refl) (λ _ z. z) (r.knows j u t.1).known (r.knows j u t.1).bits (λ _ _ _ _. refl)
+              (λ tag own. other_same shape w pass v kn x j tag t.0 own) (λ _ _ _ _ _ _ still. still))
               (at_set s.views pass j nv u h);
         },
         record { enabled = (bounds.some_cpu, real); changed = refl },
@@ -200,17 +268,21 @@ pub marks_step : (shape : Shape) (slots pass : ℕ) (me : Seated) (e bucket : �
 unfolding bit_rule
 marks_step shape slots pass me e bucket hold there found inside s r wide at_pass _ =
     let can = in_held_bucket shape s r pass me.0 e bucket hold at_pass there found inside in
+    let w = r.world in let kn = r.knows pass me.0 at_pass in
     let bounds = bounds_of_shape shape r.is_shape in (
-      noted (with_mark e me.0.notes) (bits_with e true me.0) me.0,
+      noted (with_mark e me.0.notes) (bits_with e true me.0) (touching (bit_word shape e) None 1 me.0) me.0.readings me.0,
       keeps,
       tt,
       (
-        bit_rule shape s r pass me.0 at_pass (with_mark e me.0.notes) e true me.1 hold.cpu can.0.real can.1
+        bit_rule shape s r pass me.0 at_pass (with_mark e me.0.notes) e 1 true (put w.core.bit e true) None me.1 can.0.real refl
+            (put_here w.core.bit e true) (λ y ne. put_else w.core.bit e true y ne) tt (λ empty. true_false (sym can.1 ∙ ap (is_among hold.cpu) empty))
+            (noted_mark shape me.0.touched (record { word = bit_word shape e; seen = None; left = 1 } ∷ []) me.0.held me.0.notes e kn.noted (inl refl))
+            (no_others shape s r pass me.0 at_pass (with_mark e me.0.notes) hold.cpu can.1 (put w.core.bit e true))
             (step_keeps_places shape r.world.core (Mark hold.cpu e bucket) bounds can.0 r.placed)
             (step_keeps_ranks shape r.world.core (Mark hold.cpu e bucket) can.0 r.ranked),
         record { enabled = can.0; changed = refl },
       ),
-      refl,
+      (λ i. (noted (with_mark e me.0.notes) (bits_with e true me.0) (touching (bit_word (sym kn.shape_is i) e) None 1 me.0) me.0.readings me.0, me.1)),
     )
 
 pub marks : (shape : Shape) (slots pass : ℕ) (me : Seated) (e bucket i : ℕ) (hold : Hold) → i ≡ bit_word shape e → bucket < shape.buckets → hold_at (lock_number shape (Bucket bucket)) me.0.held ≡ Some hold → IsIn e hold.now.first
@@ -221,46 +293,61 @@ marks shape slots pass me e bucket i hold is there found inside =
 
 -- Clears
 
-pub clears_step : (shape : Shape) (slots pass : ℕ) (me : Seated) (e c : ℕ) → e < shape.elements → is_among c me.0.cpus ≡ true → is_in_hand_of e c me.0.hand ≡ true
+-- of an element in the CPU's hand, or on the lists of a lock that it holds
+pub clears_by : (shape : Shape) (slots pass : ℕ) (me : Seated) (e c : ℕ) → e < shape.elements → is_among c me.0.cpus ≡ true
+    → ((s : State Behind View) (r : Rule shape s) → get_elem? s.views pass ≡ some me.0 → IsHeldHome shape r.world.core c (r.world.core.home e) ⊎ (r.world.core.owner e ≡ owners.Hand c))
     → StepsAs shape slots pass me (bit_word shape e) (λ _. 0) (goes_by shape (Clear c e)) (Clears e me)
 unfolding bit_rule
-clears_step shape slots pass me e c real cpu in_hand s r wide at_pass _ =
+clears_by shape slots pass me e c real cpu allowed s r wide at_pass _ =
     let kn = r.knows pass me.0 at_pass in
     let bit : Bool = r.world.core.bit e in
     let bounds = bounds_of_shape shape r.is_shape in
-    let can : CanClear shape r.world.core c e = record { is_cpu = kn.within c cpu; real = real; allowed = inr (in_hand_is shape r.world pass me.0 e c kn cpu in_hand) } in (
-      noted (with_clear e bit me.0.notes) (bits_with e false me.0) me.0,
+    let can : CanClear shape r.world.core c e = record { is_cpu = kn.within c cpu; real = real; allowed = allowed s r at_pass } in (
+      noted (with_clear e bit me.0.notes) (bits_with e false me.0) (touching (bit_word shape e) (Some (one bit)) 0 me.0) me.0.readings me.0,
       keeps,
       tt,
       (
-        bit_rule shape s r pass me.0 at_pass (with_clear e bit me.0.notes) e false me.1 c real cpu
+        bit_rule shape s r pass me.0 at_pass (with_clear e bit me.0.notes) e 0 false (put r.world.core.bit e false) (Some (one bit)) me.1 real refl
+            (put_here r.world.core.bit e false) (λ y ne. put_else r.world.core.bit e false y ne) refl (λ empty. true_false (sym cpu ∙ ap (is_among c) empty))
+            (noted_clear shape me.0.touched (record { word = bit_word shape e; seen = Some (one bit); left = 0 } ∷ []) me.0.held me.0.notes e bit kn.noted (inl refl))
+            (no_others shape s r pass me.0 at_pass (with_clear e bit me.0.notes) c cpu (put r.world.core.bit e false))
             (step_keeps_places shape r.world.core (Clear c e) bounds can r.placed)
             (step_keeps_ranks shape r.world.core (Clear c e) can r.ranked),
         record { enabled = can; changed = refl },
       ),
-      record { bit = bit; found_is = r.bit_words e real; known = λ known f. kn.bits e known f; after_is = refl },
+      record {
+        bit = bit;
+        found_is = r.bit_words e real;
+        known = λ known f. kn.bits e known f;
+        after_is = λ i. (noted (with_clear e bit me.0.notes) (bits_with e false me.0) (touching (bit_word (sym kn.shape_is i) e) (Some (one bit)) 0 me.0) me.0.readings me.0, me.1);
+      },
     )
-
-pub clears : (shape : Shape) (slots pass : ℕ) (me : Seated) (e c i : ℕ) → i ≡ bit_word shape e → e < shape.elements → is_among c me.0.cpus ≡ true → is_in_hand_of e c me.0.hand ≡ true
-    → Allows (Rule shape) slots pass me i (λ _. 0) (Clears e me)
-clears shape slots pass me e c i is real cpu in_hand =
-    subst (λ (z : ℕ). Allows (Rule shape) slots pass me z (λ _. 0) (Clears e me)) (sym is)
-    (allows_of shape slots pass me (bit_word shape e) (λ _. 0) (goes_by shape (Clear c e)) (Clears e me) (clears_step shape slots pass me e c real cpu in_hand))
 
 -- Looks
 
 pub sees_bit_step : (shape : Shape) (slots pass : ℕ) (me : Seated) (e : ℕ) → e < shape.elements → StepsAs shape slots pass me (bit_word shape e) (λ n. n) (goes_by shape (Glance 0 e)) (SeesBit e me)
-unfolding look_rule
+unfolding bit_rule
 sees_bit_step shape slots pass me e real s r wide at_pass _ =
     let kn = r.knows pass me.0 at_pass in
     let w = r.world in
-    let bit : Bool = w.core.bit e in (
-      noted (with_bit_read e bit me.0.notes) (bits_with e bit me.0) me.0,
+    let bit : Bool = w.core.bit e in
+    let bounds = bounds_of_shape shape r.is_shape in (
+      noted (with_bit_read e bit me.0.notes) (bits_with e bit me.0) (touching (bit_word shape e) (Some (one bit)) (one bit) me.0) me.0.readings me.0,
       keeps,
       tt,
-      look_rule shape s r pass me.0 at_pass (with_bit_read e bit me.0.notes) (bit_word shape e) me.1 (bits_with e bit me.0) (omega (arith, r.words))
-          (learnt shape w pass me.0 w.core.bit e bit kn refl (λ _ _. refl)) (only_all shape w pass me.0 e bit kn) e real,
-      record { bit = bit; found_is = r.bit_words e real; known = λ known f. kn.bits e known f; after_is = refl },
+      (
+        bit_rule shape s r pass me.0 at_pass (with_bit_read e bit me.0.notes) e (get_or s.words (bit_word shape e) 0) bit w.core.bit (Some (one bit)) me.1 real (r.bit_words e real)
+            refl (λ _ _. refl) refl (λ _. refl)
+            (noted_bit shape me.0.touched (record { word = bit_word shape e; seen = Some (one bit); left = one bit } ∷ []) me.0.held me.0.notes e bit kn.noted (inl refl))
+            (λ j u at _ y known found. (r.knows j u at).bits y known found) r.placed r.ranked,
+        record { enabled = (bounds.some_cpu, real); changed = refl },
+      ),
+      record {
+        bit = bit;
+        found_is = r.bit_words e real;
+        known = λ known f. kn.bits e known f;
+        after_is = λ i. (noted (with_bit_read e bit me.0.notes) (bits_with e bit me.0) (touching (bit_word (sym kn.shape_is i) e) (Some (one bit)) (one bit) me.0) me.0.readings me.0, me.1);
+      },
     )
 
 pub sees_bit : (shape : Shape) (slots pass : ℕ) (me : Seated) (e i : ℕ) → i ≡ bit_word shape e → e < shape.elements → Allows (Rule shape) slots pass me i (λ n. n) (SeesBit e me)
@@ -268,58 +355,23 @@ sees_bit shape slots pass me e i is real =
     subst (λ (z : ℕ). Allows (Rule shape) slots pass me z (λ n. n) (SeesBit e me)) (sym is)
     (allows_of shape slots pass me (bit_word shape e) (λ n. n) (goes_by shape (Glance 0 e)) (SeesBit e me) (sees_bit_step shape slots pass me e real))
 
-ltb_is : (a b : ℕ) → a < b → ltb a b ≡ true
-ltb_is a b less = grind (arith, nat_tests)
-
-row_in_bucket : (shape : Shape) (lock : DomainId) (bucket e : ℕ) (n : ℕ) (owner : Owner) (here : Bool) → lock ≡ Bucket bucket → e < shape.elements
-    → n ≡ one (ltb e shape.elements && has_row (is_lru shape.kind) lock owner here) → n ≡ one (is_in_bucket bucket owner)
-row_in_bucket shape lock bucket e n owner here is real same =
-    same ∙ ((λ i. one (ltb_is e shape.elements real i && has_row (is_lru shape.kind) (is i) owner here)))
-
-free_is : (e n : ℕ) (owner : Owner) (a here : Bool) → n ≡ one (a && (is_free owner && here)) → 0 < n → owner ≡ owners.Free
-free_is e n owners.Free a here same some_there = refl
-free_is e n (owners.Bucket b) a here same some_there = absurd (none_of a same)
-  where
-    none_of : (a : Bool) → n ≡ one (a && false) → ⊥
-    none_of true same = let zero_is : n ≡ 0 = same in omega arith
-    none_of false same = let zero_is : n ≡ 0 = same in omega arith
-free_is e n (owners.Hand c) a here same some_there = absurd (none_of a same)
-  where
-    none_of : (a : Bool) → n ≡ one (a && false) → ⊥
-    none_of true same = let zero_is : n ≡ 0 = same in omega arith
-    none_of false same = let zero_is : n ≡ 0 = same in omega arith
-
-pub owner_fits : (shape : Shape) (s : State Behind View) (r : Rule shape s) (pass : ℕ) (v : View) (e : ℕ) → get_elem? s.views pass ≡ some v → e < shape.elements → OwnerFits shape v e (r.world.core.owner e)
-owner_fits shape s r pass v e at_pass real =
-    let w = r.world in let kn = r.knows pass v at_pass in record {
-      in_held_bucket = λ bucket hold there found.
-          let k : ℕ = lock_number shape (Bucket bucket) in
-          let is : IsTrue (is_lock shape (Bucket bucket)) = ltb_is bucket shape.buckets there in
-          let at = hold_of_is w.whose pass k (w.core.holder k) (w.log k) (w.core.lists k) (w.lost k) hold (sym (kn.held k) ∙ found) in
-          row_in_bucket shape (lock_named shape k) bucket e (times e (rows hold.now)) (w.core.owner e) _ (named_by_number shape (Bucket bucket) is) real
-          (ap (λ (z : Hold). times e (rows z.now)) at.hold_is ∙ r.placed.placed.rows k e);
-      on_held_free_list = λ k hold found inside.
-          let at = hold_of_is w.whose pass k (w.core.holder k) (w.log k) (w.core.lists k) (w.lost k) hold (sym (kn.held k) ∙ found) in
-          free_is e (times e hold.now.free) (w.core.owner e) _ _ (ap (λ (z : Hold). times e z.now.free) at.hold_is ∙ r.placed.placed.free k e) inside;
-      in_own_hand = λ c has. own_hand shape w pass v e c kn has;
-    }
-
 pub sees_owner_step : (shape : Shape) (slots pass : ℕ) (me : Seated) (e : ℕ) → e < shape.elements → StepsAs shape slots pass me (owner_word shape e) (λ n. n) (goes_by shape (Glance 0 e)) (SeesOwner e me)
 unfolding look_rule
 sees_owner_step shape slots pass me e real s r wide at_pass _ =
     let kn = r.knows pass me.0 at_pass in
     let w = r.world in
     let owner : Owner = w.core.owner e in (
-      noted (with_owner_read e owner me.0.notes) me.0.bits me.0,
+      noted (with_owner_read e owner me.0.notes) me.0.bits (touching (owner_word shape e) (Some (owner_code owner)) (owner_code owner) me.0) me.0.readings me.0,
       keeps,
       tt,
-      look_rule shape s r pass me.0 at_pass (with_owner_read e owner me.0.notes) (owner_word shape e) me.1 me.0.bits (omega (arith, r.words)) kn.bits kn.only e real,
+      look_rule shape s r pass me.0 at_pass (with_owner_read e owner me.0.notes) (owner_word shape e) (owner_code owner) me.1 me.0.bits me.0.readings kn.readings (omega (arith, r.words)) (r.owner_words e real)
+          (noted_owner shape me.0.touched (record { word = owner_word shape e; seen = Some (owner_code owner); left = owner_code owner } ∷ []) me.0.held me.0.notes e owner kn.noted (inl refl)) kn.bits kn.only e real,
       record {
         owner = owner;
         found_is = r.owner_words e real;
         exists_there = subst (λ z. MayOwn z owner) (sym kn.shape_is) (r.placed.placed.owners e real);
         fits = subst (λ z. OwnerFits z me.0 e owner) (sym kn.shape_is) (owner_fits shape s r pass me.0 e at_pass real);
-        after_is = refl;
+        after_is = λ i. (noted (with_owner_read e owner me.0.notes) me.0.bits (touching (owner_word (sym kn.shape_is i) e) (Some (owner_code owner)) (owner_code owner) me.0) me.0.readings me.0, me.1);
       },
     )
 
@@ -340,11 +392,27 @@ sees_home_step shape slots pass me e real s r wide at_pass _ =
     let w = r.world in
     let home : Home = w.core.home e in
     let unlisted : home ≡ homes.Unlisted = r.placed.placed.homes e real ∙ plain_home shape (r.placed.place e) r.plain in (
-      noted (with_home_read e home me.0.notes) me.0.bits me.0,
+      noted (with_home_read e home me.0.notes) me.0.bits (touching (home_word shape e) (Some (home_code home)) (home_code home) me.0) (with_reading e home me.0.hand me.0.readings) me.0,
       keeps,
       tt,
-      look_rule shape s r pass me.0 at_pass (with_home_read e home me.0.notes) (home_word shape e) me.1 me.0.bits (omega (arith, r.words)) kn.bits kn.only e real,
-      record { home = home; found_is = r.home_words e real; has_code = subst HasHomeCode (sym unlisted) tt; plain = λ _. unlisted; after_is = refl },
+      look_rule shape s r pass me.0 at_pass (with_home_read e home me.0.notes) (home_word shape e) (home_code home) me.1 me.0.bits (with_reading e home me.0.hand me.0.readings)
+          (λ x d read within found. ⊎_elim
+          (λ (new : IsNew x d e home read me.0.hand). record {
+            real = subst (λ (z : ℕ). z < shape.elements) (sym new.same) real;
+            in_hand = subst (λ (z : ℕ). is_in_hand_of z d me.0.hand ≡ true) (sym new.same) new.in_hand;
+            still = still_is shape w.core.holder w.log x (w.core.home x) read (ap w.core.home new.same ∙ new.is);
+          })
+          (λ (old : home_known x d me.0.readings ≡ Some read). kn.readings x d read within old)
+          (read_home_known x d e home read me.0.hand me.0.readings found))
+          (omega (arith, r.words)) (r.home_words e real)
+          (noted_home shape me.0.touched (record { word = home_word shape e; seen = Some (home_code home); left = home_code home } ∷ []) me.0.held me.0.notes e home kn.noted (inl refl)) kn.bits kn.only e real,
+      record {
+        home = home;
+        found_is = r.home_words e real;
+        has_code = subst HasHomeCode (sym unlisted) tt;
+        plain = λ _. unlisted;
+        after_is = λ i. (noted (with_home_read e home me.0.notes) me.0.bits (touching (home_word (sym kn.shape_is i) e) (Some (home_code home)) (home_code home) me.0) (with_reading e home me.0.hand me.0.readings) me.0, me.1);
+      },
     )
 
 pub sees_home : (shape : Shape) (slots pass : ℕ) (me : Seated) (e i : ℕ) → i ≡ home_word shape e → e < shape.elements → Allows (Rule shape) slots pass me i (λ n. n) (SeesHome e me)

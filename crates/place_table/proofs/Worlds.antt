@@ -7,16 +7,20 @@ use Rattle.place_words.specs.declared.history.Entry.{Entry}
 use Rattle.place_words.specs.declared.history.StrandStep.{StrandStep}
 use Rattle.place_words.specs.declared.owner.Owner.{Owner}
 use Rattle.place_words.specs.declared.owner.Owner.TheVariants as owners
+use Rattle.key_hash.specs.Bucket.{bucket_number}
 use Rattle.map_types.specs.ElementLists.{put}
 use Rattle.place_words.specs.Locks.{lock_named, rank_of}
 use Rattle.place_core.specs.declared.step.Lists.{Lists}
 use Rattle.place_core.proofs.ElementLemmas.{by_test}
 use Rattle.place_table.specs.declared.view.View.{View}
 use Rattle.place_table.specs.declared.view.Hold.{Hold}
+use Rattle.place_table.specs.declared.view.InHand.{InHand}
 use Rattle.place_table.specs.declared.view.Turned.{Turned}
 use Rattle.place_table.specs.declared.view.Ended.{Ended}
+use Rattle.place_table.specs.declared.view.WordStep.{WordStep}
 use Rattle.place_table.specs.Views.{is_among, hold_at, is_in_hand_of, known_log, bit_seen, has_all_below}
-use Rattle.place_table.specs.Rules.{Tagged, entries, World, hold, hold_of, is_hand_of, is_home_of, IsAboveAll, turns_of, StandIn, logs_of, IsStrand, ArePast, IsTagged, AreTagged, IsLostLock, Knows}
+use Rattle.place_table.specs.Rules.{Tagged, entries, World, hold, hold_of, is_hand_of, is_home_of, IsAboveAll, turns_of, StandIn, logs_of, IsStrand, ArePast, IsTagged, AreTagged, IsLostLock, Knows, IsHashOf, touches_of, Touch, IsOfStrand, AreOfStrands, StillHome}
+use Rattle.place_words.specs.declared.home.Home.{Home}
 
 -- the same of four functions that change at one place
 pub at_put4 : {A B C D : Type 0} (f : ℕ → A) (g : ℕ → B) (h : ℕ → C) (l : ℕ → D) (i : ℕ) (x : A) (y : B) (z : C) (u : D) (F : ℕ → A → B → C → D → Type 0) (j : ℕ)
@@ -162,16 +166,17 @@ among_first t ts = by_test t t (λ b. cond b true (is_among t ts) ≡ true) (λ 
 abbrev pub StillStand : World → World → Type 0
 StillStand w w' = (steps : List Turned) → StandIn (logs_of w) steps → StandIn (logs_of w') steps
 
-pub strand_stays : (shape : Shape) (w w' : World) (pass t : ℕ) (cpus : List ℕ) (steps : List Turned) (kept : List StrandStep)
+pub strand_stays : (shape : Shape) (w w' : World) (pass t : ℕ) (cpus : List ℕ) (steps : List Turned) (kept : List StrandStep) (touched : List WordStep)
     → w'.keeper t ≡ pass → (t < w.next → t < w'.next) → w'.team t ≡ w.team t → ((k : ℕ) → turns_of t 0 (w'.log k) ≡ turns_of t 0 (w.log k)) → StillStand w w' → ((k : ℕ) → w'.lost k ≡ false → w.lost k ≡ false)
-    → IsStrand shape w pass t cpus steps kept → IsStrand shape w' pass t cpus steps kept
-strand_stays shape w w' pass t cpus steps kept keeper numbered team same still losses st = record {
+    → touches_of t w'.touches ≡ touches_of t w.touches → IsStrand shape w pass t cpus steps kept touched → IsStrand shape w' pass t cpus steps kept touched
+strand_stays shape w w' pass t cpus steps kept touched keeper numbered team same still losses touches st = record {
   keeper = keeper;
   numbered = numbered st.numbered;
   team = team ∙ st.team;
   steps_are = λ k. st.steps_are k ∙ sym (same k);
   stand = still steps st.stand;
   kept_are = λ k below is lo. st.kept_are k below is (losses k lo);
+  touched_are = st.touched_are ∙ sym touches;
 }
 
 -- strands have the same passes, CPUs and numbers, and their turns stand where they stood
@@ -186,17 +191,37 @@ pub record SameStrands (w w' : World) : Type 0 where
 
 pub past_stays : (shape : Shape) (w w' : World) (pass : ℕ) (ts : List ℕ) (es : List Ended) → SameStrands w w'
     → ((t k : ℕ) → is_among t ts ≡ true → w.keeper t ≡ pass → turns_of t 0 (w'.log k) ≡ turns_of t 0 (w.log k)) → ((k : ℕ) → w'.lost k ≡ false → w.lost k ≡ false)
-    → ArePast shape w pass ts es → ArePast shape w' pass ts es
-past_stays shape w w' pass [] [] same turns losses p = tt
-past_stays shape w w' pass [] (e ∷ es) same turns losses p = absurd p
-past_stays shape w w' pass (t ∷ ts) [] same turns losses p = absurd p
-past_stays shape w w' pass (t ∷ ts) (e ∷ es) same turns losses p = (
-  strand_stays shape w w' pass t e.cpus e.steps e.kept (same.keeper t ∙ p.0.keeper) (λ less. subst (λ (n : ℕ). t < n) (sym same.next) less) (same.team t)
-      (λ k. turns t k (among_first t ts) p.0.keeper) same.still losses p.0,
+    → ((t : ℕ) → is_among t ts ≡ true → w.keeper t ≡ pass → touches_of t w'.touches ≡ touches_of t w.touches) → ArePast shape w pass ts es → ArePast shape w' pass ts es
+past_stays shape w w' pass [] [] same turns losses touches p = tt
+past_stays shape w w' pass [] (e ∷ es) same turns losses touches p = absurd p
+past_stays shape w w' pass (t ∷ ts) [] same turns losses touches p = absurd p
+past_stays shape w w' pass (t ∷ ts) (e ∷ es) same turns losses touches p = (
+  strand_stays shape w w' pass t e.cpus e.steps e.kept e.touched (same.keeper t ∙ p.0.keeper) (λ less. subst (λ (n : ℕ). t < n) (sym same.next) less) (same.team t)
+      (λ k. turns t k (among_first t ts) p.0.keeper) same.still losses (touches t (among_first t ts) p.0.keeper) p.0,
   p.1,
   past_stays shape w w' pass ts es same
-      (λ u k among. turns u k (by_test t u (λ b. cond b true (is_among u ts) ≡ true) (λ _. refl) (λ _. among))) losses p.2,
+      (λ u k among. turns u k (later u among)) losses (λ u among. touches u (later u among)) p.2,
 )
+  where
+    later : (u : ℕ) → is_among u ts ≡ true → is_among u (t ∷ ts) ≡ true
+    later u among = by_test t u (λ b. cond b true (is_among u ts) ≡ true) (λ _. refl) (λ _. among)
+
+-- each step on a word stays in its strand
+pub of_strands_stay : (w w' : World) (n m : ℕ) (xs : List Touch) → n ≡ m → SameStrands w w' → AreOfStrands w n xs → AreOfStrands w' m xs
+of_strands_stay w w' n m [] e same are = tt
+of_strands_stay w w' n m (x ∷ xs) e same are = (
+  record {
+    seated = subst (λ (z : ℕ). w'.keeper x.0 < z) e (subst (λ (z : ℕ). z < n) (sym (same.keeper x.0)) are.0.seated);
+    numbered = subst (λ (z : ℕ). x.0 < z) (sym same.next) are.0.numbered;
+    listed = ap (λ (z : ℕ). is_among x.0 (w'.current z ∷ w'.past z)) (same.keeper x.0)
+        ∙ ((λ i. is_among x.0 (same.current (w.keeper x.0) i ∷ same.past (w.keeper x.0) i)) ∙ are.0.listed);
+  },
+  of_strands_stay w w' n m xs e same are.1,
+)
+
+pub of_strands_more : (w : World) (n : ℕ) (xs : List Touch) (x : Touch) → AreOfStrands w n xs → IsOfStrand w n x.0 → AreOfStrands w n (xs ++ x ∷ [])
+of_strands_more w n [] x are last = (last, tt)
+of_strands_more w n (y ∷ ys) x are last = (are.0, of_strands_more w n ys x are.1 last)
 
 -- each turn stays in its strand
 pub tagged_stays : (w w' : World) (n m : ℕ) (log : List Tagged) → n ≡ m → SameStrands w w' → AreTagged w n log → AreTagged w' m log
@@ -225,6 +250,11 @@ pub lock_still_lost : (shape : Shape) (w w' : World) (k : ℕ) → (w'.lost k �
 lock_still_lost shape w w' k found is =
     record { below = is.below; there = is.there; lost = still_lost (w.lost k) (w'.lost k) found is.lost }
 
+-- what is known of a stored hash that stays
+pub hash_stands : (shape : Shape) (hash hash' : ℕ → ℕ) (hand : List InHand) (e c b : ℕ) → IsHashOf shape hash hand e c b → (is_in_hand_of e c hand ≡ true → hash' e ≡ hash e) → IsHashOf shape hash' hand e c b
+hash_stands shape hash hash' hand e c b is stays =
+    record { in_hand = is.in_hand; bucket_is = ap (λ (h : ℕ). bucket_number h shape.buckets) (stays is.in_hand) ∙ is.bucket_is }
+
 -- THE FRAME. What a pass knows stays where its own locks, hands and strands do, and where what it keeps of turns and bits
 -- is still so.
 pub others : (shape : Shape) (w w' : World) (j : ℕ) (u : View) → SameStrands w w' → Knows shape w j u
@@ -235,8 +265,11 @@ pub others : (shape : Shape) (w w' : World) (j : ℕ) (u : View) → SameStrands
     → ((k : ℕ) → w'.lost k ≡ false → w.lost k ≡ false)
     → ((k : ℕ) (log : List Entry) → known_log k u.known ≡ Some log → entries (w'.log k) ≡ log)
     → ((e : ℕ) (bit : Bool) → bit_seen e u.bits ≡ Some bit → w'.core.bit e ≡ bit)
+    → ((e c : ℕ) → w.core.owner e ≡ owners.Hand c → w.whose c ≡ j → w'.hash e ≡ w.hash e)
+    → ((t : ℕ) → w.keeper t ≡ j → touches_of t w'.touches ≡ touches_of t w.touches)
+    → ((e c : ℕ) (read : Home) → e < shape.elements → w.core.owner e ≡ owners.Hand c → w.whose c ≡ j → StillHome shape w.core.holder w.log e (w.core.home e) read → StillHome shape w'.core.holder w'.log e (w'.core.home e) read)
     → Knows shape w' j u
-others shape w w' j u same kn holds hands carried turns losses known bits = record {
+others shape w w' j u same kn holds hands carried turns losses known bits hashes touches readings = record {
   shape_is = kn.shape_is;
   cpus = λ c less. kn.cpus c less ∙ sym (ap (λ (z : ℕ). eqb z j) (same.whose c));
   within = kn.within;
@@ -244,15 +277,20 @@ others shape w w' j u same kn holds hands carried turns losses known bits = reco
   ascends = kn.ascends;
   hands = λ e c less. kn.hands e c less ∙ sym (hands e c less);
   carried = λ e c less. kn.carried e c less ∙ sym (carried e c less);
+  hashes = λ e c b within found. hash_stands shape w.hash w'.hash u.hand e c b (kn.hashes e c b within found)
+      (λ in_hand. let is = both_true _ _ (sym (kn.hands e c within) ∙ in_hand) in hashes e c (hand_is c (w.core.owner e) is.0) (eqb-true (w.whose c) j is.1));
+  readings = λ e c read within found. let was = kn.readings e c read within found in let is = both_true _ _ (sym (kn.hands e c within) ∙ was.in_hand) in
+      record { real = was.real; in_hand = was.in_hand; still = readings e c read was.real (hand_is c (w.core.owner e) is.0) (eqb-true (w.whose c) j is.1) was.still };
   known = known;
   bits = bits;
   only = kn.only;
   losses = λ k among. lock_still_lost shape w w' k (losses k) (kn.losses k among);
-  strand = subst (λ (z : ℕ). IsStrand shape w' j z u.cpus u.steps u.kept) (sym (same.current j))
-      (strand_stays shape w w' j (w.current j) u.cpus u.steps u.kept (same.keeper (w.current j) ∙ kn.strand.keeper) (λ less. subst (λ (n : ℕ). w.current j < n) (sym same.next) less) (same.team (w.current j))
-      (λ k. turns (w.current j) k kn.strand.keeper) same.still losses kn.strand);
+  noted = kn.noted;
+  strand = subst (λ (z : ℕ). IsStrand shape w' j z u.cpus u.steps u.kept u.touched) (sym (same.current j))
+      (strand_stays shape w w' j (w.current j) u.cpus u.steps u.kept u.touched (same.keeper (w.current j) ∙ kn.strand.keeper) (λ less. subst (λ (n : ℕ). w.current j < n) (sym same.next) less) (same.team (w.current j))
+      (λ k. turns (w.current j) k kn.strand.keeper) same.still losses (touches (w.current j) kn.strand.keeper) kn.strand);
   past = subst (λ (z : List ℕ). ArePast shape w' j z u.ended) (sym (same.past j))
-      (past_stays shape w w' j (w.past j) u.ended same (λ t k _ own. turns t k own) losses kn.past);
+      (past_stays shape w w' j (w.past j) u.ended same (λ t k _ own. turns t k own) losses (λ t _ own. touches t own) kn.past);
   apart = (λ i. is_among (same.current j i) (same.past j i)) ∙ kn.apart;
   idle = kn.idle;
 }

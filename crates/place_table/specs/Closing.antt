@@ -19,8 +19,11 @@ use Rattle.place_table.specs.declared.content.Behind.{Behind}
 use Rattle.place_table.specs.Contents.{lists_of, IsSized}
 use Rattle.place_table.specs.declared.view.Ended.{Ended}
 use Rattle.place_table.specs.Views.{is_among, is_in_hand_of, known_log, bit_seen, all_strands, is_recorded}
-use Rattle.place_table.specs.Rules.{Reads, is_hand_of, turns_on, indexes, StandIn}
+use Rattle.place_table.specs.Rules.{Reads, is_hand_of, turns_on, indexes, StandIn, Touch, touches_of, LeadTo}
 use Rattle.place_table.specs.Passes.{PassView}
+use Rattle.place_table.specs.Words.{word_count, owner_word, home_word, bit_word, opening_words, lock_code}
+use Rattle.place_words.specs.Codes.{owner_code, home_code}
+use Rattle.map_types.specs.ElementLists.{one}
 
 -- what is handed out
 pub record ClosedView : Type 0 where
@@ -86,6 +89,10 @@ turns_by strand_at n [] = []
 turns_by strand_at n (turn ∷ turns) =
     if strand_at turn.0 == n then turn ∷ turns_by strand_at n turns else turns_by strand_at n turns
 
+abbrev pub AreBelow : ℕ → List Touch → Type 0
+AreBelow n [] = Unit {0}
+AreBelow n (x ∷ xs) = (x.0 < n) × AreBelow n xs
+
 -- The turns of a lock are those of the strands: each is a turn of exactly one strand, which has the CPU of the entry, and each
 -- strand has its turns in order.
 pub record AreTurnsOf (k : ℕ) (strands : List Ended) (log : List Entry) : Type 0 where
@@ -94,6 +101,22 @@ pub record AreTurnsOf (k : ℕ) (strands : List Ended) (log : List Entry) : Type
   pub within : (place : ℕ) → place < length log → strand_at place < length strands
   pub has_cpu : (place : ℕ) (entry : Entry) (strand : Ended) → slice_get log place ≡ Some entry → slice_get strands (strand_at place) ≡ Some strand → is_among entry.cpu strand.cpus ≡ true
   pub turns : (n : ℕ) (strand : Ended) → slice_get strands n ≡ Some strand → turns_on k strand.steps ≡ turns_by strand_at n (numbered 0 log)
+
+-- The steps on words are those of the strands, in one order of all of them: each saw what the one before it on its word left,
+-- from what the word was at first to what it is, and each strand has its steps in order.
+pub record AreTouchesOf (shape : Shape) (strands : List Ended) (words : List ℕ) : Type 0 where
+  -- each with its strand, by its place among them
+  pub touches : List Touch
+  pub lead : (i : ℕ) → i < word_count shape → LeadTo i (slice_index_or (opening_words shape) i 0) touches (slice_index_or words i 0)
+  pub of_strands : (n : ℕ) (strand : Ended) → slice_get strands n ≡ Some strand → strand.touched ≡ touches_of n touches
+  pub within : AreBelow (length strands) touches
+
+-- words tell who holds each lock, owners, homes and bits
+pub record AreWordsOf (shape : Shape) (core : cores.State) (words : List ℕ) : Type 0 where
+  pub locks : (k : ℕ) → k < lock_count shape → slice_index_or words k 0 ≡ lock_code (core.holder k)
+  pub owners : (e : ℕ) → e < shape.elements → slice_index_or words (owner_word shape e) 0 ≡ owner_code (core.owner e)
+  pub homes : (e : ℕ) → e < shape.elements → slice_index_or words (home_word shape e) 0 ≡ home_code (core.home e)
+  pub bits : (e : ℕ) → e < shape.elements → slice_index_or words (bit_word shape e) 0 ≡ one (core.bit e)
 
 -- What a closed table was: the turns of its locks, and who had what.
 pub record IsClosed (shape : Shape) (pass : PassView) (closed : ClosedView) : Type 0 where
@@ -115,6 +138,10 @@ pub record IsClosed (shape : Shape) (pass : PassView) (closed : ClosedView) : Ty
   pub turns : (k : ℕ) → AreTurnsOf k (all_strands pass.view) (log k)
   -- and stands there right after what the strand has before it
   pub stand : (n : ℕ) (strand : Ended) → slice_get (all_strands pass.view) n ≡ Some strand → StandIn log strand.steps
+  -- the words at the end, which tell holders, owners, homes and bits, are what all steps of the strands on them lead to
+  pub words : List ℕ
+  pub words_told : AreWordsOf shape core words
+  pub touches : AreTouchesOf shape (all_strands pass.view) words
   -- of a lock whose record isn't lost each turn is recorded
   pub recorded : (n : ℕ) (strand : Ended) → slice_get (all_strands pass.view) n ≡ Some strand
       → (k : ℕ) → k < lock_count shape → IsTrue (has_lock shape k) → lost k ≡ false → places_on (lock_named shape k) strand.kept ≡ indexes (turns_on k strand.steps)

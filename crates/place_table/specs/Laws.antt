@@ -24,9 +24,10 @@ use Rattle.place_table.specs.declared.content.Behind.{Behind}
 use Rattle.place_table.specs.declared.view.View.{View}
 use Rattle.place_table.specs.declared.view.Hold.{Hold}
 use Rattle.place_table.specs.Contents.{told, lists_of}
-use Rattle.place_table.specs.Views.{is_among, hold_at, is_in_hand_of, claimed, settled, attached, detached, split_from, split_off, joined, spent}
-use Rattle.place_table.specs.Rules.{Rule, IsAboveAll, owner_word, home_word, bit_word}
-use Rattle.place_table.specs.Plays.{Seated, MayGive, Tries, Gives, Marks, Clears, SeesBit, SeesOwner, SeesHome, IsKnownHome, MayGoHome, Rehomes}
+use Rattle.place_table.specs.Views.{is_among, hold_at, bucket_known, is_in_hand_of, claimed, settled, attached, detached, split_from, split_off, joined, spent}
+use Rattle.place_table.specs.Rules.{Rule, IsAboveAll}
+use Rattle.place_table.specs.Words.{owner_word, home_word, bit_word}
+use Rattle.place_table.specs.Plays.{Seated, MayGive, Tries, Gives, Marks, Clears, SeesBit, SeesOwner, SeesHome, IsKnownHome, MayGoHome, Rehomes, MayClear}
 
 -- A step on the word i, which becomes f of what it was, by a pass with this seat: whatever the table is then, if the rule
 -- holds, there are a view and an act of the seat after which the rule holds again, the core has gone on as it may, and this
@@ -66,10 +67,10 @@ MarkIsStep =
     (shape : Shape) (slots pass : ℕ) (me : Seated) (e bucket : ℕ) (hold : Hold) → bucket < shape.buckets → hold_at (lock_number shape (Bucket bucket)) me.0.held ≡ Some hold → IsIn e hold.now.first
     → StepsAs shape slots pass me (bit_word shape e) (λ _. 1) (goes_by shape (Mark hold.cpu e bucket)) (λ _. Marks e me)
 
--- it is cleared by a swap with 0, of an element in the hand
+-- it is cleared by a swap with 0, of an element in the hand or on the lists of a lock that is held
 abbrev pub ClearIsStep : Type 0
 ClearIsStep =
-    (shape : Shape) (slots pass : ℕ) (me : Seated) (e c : ℕ) → e < shape.elements → is_among c me.0.cpus ≡ true → is_in_hand_of e c me.0.hand ≡ true
+    (shape : Shape) (slots pass : ℕ) (me : Seated) (e c : ℕ) → e < shape.elements → is_among c me.0.cpus ≡ true → MayClear shape me.0 c e
     → StepsAs shape slots pass me (bit_word shape e) (λ _. 0) (goes_by shape (Clear c e)) (Clears e me)
 
 -- a bit, an owner or a home is read by a load, which changes nothing; any CPU of the map may look
@@ -98,6 +99,7 @@ abbrev pub AttachIsStep : Type 0
 AttachIsStep =
     (shape : Shape) (slots pass : ℕ) (me : Seated) (e bucket : ℕ) (hold : Hold) → e < shape.elements → bucket < shape.buckets → hold_at (lock_number shape (Bucket bucket)) me.0.held ≡ Some hold
     → is_among hold.cpu me.0.cpus ≡ true → is_in_hand_of e hold.cpu me.0.hand ≡ true
+    → (IsTrue (is_lru shape.kind) → (bucket_known e hold.cpu me.0.hashes ≡ Some bucket) × ((k : ℕ) (other : Hold) → hold_at k me.0.held ≡ Some other → k ≡ lock_number shape (Bucket bucket)))
     → StepsAs shape slots pass me (owner_word shape e) (λ _. 32 + bucket) (goes_by shape (Attach hold.cpu e bucket)) (λ _ after. after ≡ (attached bucket e hold.cpu me.0, me.1))
 
 -- An element of a bucket comes to the hand of the CPU that holds the bucket, by a store of 1 and the CPU.

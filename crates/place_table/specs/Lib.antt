@@ -1,5 +1,6 @@
 pub mod Closing
 pub mod Contents
+pub mod Flushes
 pub mod Known
 pub mod Laws
 pub mod Leaving
@@ -7,6 +8,9 @@ pub mod Opening
 pub mod Passes
 pub mod Plays
 pub mod Recording
+pub mod Refusals
 pub mod Rules
+pub mod StoredHashes
 pub mod TurnNotes
 pub mod Views
+pub mod Words

@@ -1,6 +1,5 @@
 -- A table at its opening: its words, its slots, and the spares that its first pass keeps.
-use Rattle.std.specs.Prelude.{◌≡◌, ℕ, ◌*◌, ◌<◌, ◌≤◌, false, List, [], ◌++◌, map, replicate, length, Option, MatchOption, IsFalse, slice_index_or}
-use Rattle.std.specs.List.{range_with_len}
+use Rattle.std.specs.Prelude.{◌≡◌, ℕ, ◌<◌, ◌≤◌, false, List, [], length, Option, MatchOption, IsFalse, slice_index_or}
 use mathlib.Core.Option.{some}
 use lib.ListN.{get_elem?}
 use Rattle.map_types.specs.declared.attr.Shape.{Shape}
@@ -8,25 +7,14 @@ use Rattle.map_types.specs.declared.kind.DomainId.{DomainId}
 use Rattle.map_types.specs.declared.kind.MapKind.{MapKind}
 use Rattle.map_types.specs.declared.kind.MapKind.TheVariants.{Hash, PercpuHash, LruHash, LruPercpuHash}
 use Rattle.map_types.specs.Stored.{Stored}
-use Rattle.place_words.specs.Codes.{owner_code}
 use Rattle.place_words.specs.Histories.{opening_content}
-use Rattle.place_words.specs.Locks.{is_lock, lock_count, lock_named}
-use Rattle.place_words.specs.Openings.{opening_owner, opening_spares}
+use Rattle.place_words.specs.Locks.{is_lock, lock_named}
+use Rattle.place_words.specs.Openings.{opening_spares}
 use Rattle.place_table.specs.declared.content.Content.{Content}
 use Rattle.place_table.specs.declared.content.Behind.{Behind}
 use Rattle.place_table.specs.Contents.{told, Fits, IsSized}
 use Rattle.place_table.specs.Rules.{KeptAs}
 use Rattle.place_table.specs.Passes.{spare_of}
-
--- the owners of all elements, as codes
-abbrev pub opening_codes : Shape → List ℕ
-opening_codes shape =
-    map owner_code (map (opening_owner shape shape.kind) (range_with_len 0 shape.elements))
-
--- Nobody holds a lock, each element has its first owner, no home is told, and no bit is set.
-unfoldable pub opening_words : Shape → List ℕ
-opening_words shape =
-    (replicate (lock_count shape) 0 ++ opening_codes shape) ++ replicate (2 * shape.elements) 0
 
 -- a content is what lies under a lock at first, and there is none where the map has no such lock
 abbrev pub IsFirstContent : Shape → DomainId → Option Content → Type 0

@@ -12,8 +12,8 @@ use Rattle.place_words.specs.declared.history.Entry.{Entry}
 use Rattle.place_words.specs.declared.history.Part.{Part}
 use Rattle.place_words.specs.declared.history.StrandStep.{StrandStep}
 use Rattle.place_words.specs.declared.owner.Owner.{Owner}
-use Rattle.place_words.specs.declared.owner.Owner.TheVariants.{Free}
 use Rattle.place_words.specs.declared.home.Home.{Home}
+use Rattle.place_words.specs.declared.home.Home.TheVariants as homes
 use Rattle.place_words.specs.declared.home.Home.TheVariants.{Unlisted}
 use Rattle.map_types.specs.Kind.{is_lru}
 use Rattle.place_words.specs.Codes.{HasHomeCode}
@@ -32,9 +32,9 @@ use Rattle.place_table.specs.declared.view.Notes.{Notes}
 use Rattle.place_table.specs.declared.view.Turned.{Turned}
 use Rattle.place_table.specs.declared.view.Ended.{Ended}
 use Rattle.place_table.specs.Contents.{told, lists_of, Fits, IsSized}
-use Rattle.place_table.specs.Views.{is_among, hold_at, is_in_hand_of, known_log, first_view, place_of, kept_step, holding, given, losing, cleared, bit_read, owner_read, home_read, rehomed, is_recorded, split_from, split_off, joined}
+use Rattle.place_table.specs.Views.{is_among, hold_at, is_in_hand_of, known_log, first_view, place_of, kept_step, holding, given, losing, cleared, bit_read, owner_read, home_read, rehomed, is_recorded, split_from, split_off, joined, bucket_known, home_known}
 use Rattle.place_table.specs.Rules.{KeptAs, IsAboveAll}
-use Rattle.place_table.specs.Plays.{AreElements, IsApartFromHands, MayPut, IsInnermost, IsKeptOrLost, IsKnownBit, OwnerFits, IsKnownHome, MayGoHome, IsNoneListed}
+use Rattle.place_table.specs.Plays.{AreElements, IsApartFromHands, MayPut, IsInnermost, IsKeptOrLost, IsKnownBit, OwnerFits, IsKnownHome, MayGoHome, MayClear}
 use Rattle.place_table.specs.TurnNotes.{NotesFit}
 
 -- What a pass is seen as: the table that it is of, its place among the table's passes, the CPU and the call of its last
@@ -116,13 +116,28 @@ with_view p v = record { table = p.table; seat = p.seat; cpu = p.cpu; call = p.c
 abbrev pub with_spares : PassView → List (Option Stored) → PassView
 with_spares p spares = record { table = p.table; seat = p.seat; cpu = p.cpu; call = p.call; view = p.view; spares = spares }
 
--- A pass is in no call: it holds no lock, and its CPUs have nothing in hand but the spares that it keeps, none of which is
--- out.
+-- The CPUs of a pass have nothing in hand but the spares that it keeps. Only a map of kind HASH has spares: on the others nothing
+-- is in hand.
+abbrev pub HasOnlyKept : PassView → Type 0
+HasOnlyKept p =
+    (e cpu : ℕ) → is_among cpu p.view.cpus ≡ true → is_in_hand_of e cpu p.view.hand ≡ true
+    → (body : Stored) × (spare_of cpu p.spares ≡ Some body) × (body.element ≡ e) × (p.view.shape.kind ≡ Hash)
+
+-- They have nothing in hand but spares, which may be out: of a CPU whose spare is out, it is the one element in its hand.
+abbrev pub HasOnlySpares : PassView → Type 0
+HasOnlySpares p =
+    (e cpu : ℕ) → is_among cpu p.view.cpus ≡ true → is_in_hand_of e cpu p.view.hand ≡ true
+    → (p.view.shape.kind ≡ Hash)
+    × MatchOption (spare_of cpu p.spares) ((other : ℕ) → is_in_hand_of other cpu p.view.hand ≡ true → other ≡ e) (λ body. body.element ≡ e)
+
+-- A pass is in no call: it holds no lock, its CPUs have nothing in hand but the spares that it keeps, none of which is out, and
+-- no element's home is in a hand of theirs.
 pub record IsInNoCall (p : PassView) : Type 0 where
   pub holds_nothing : p.view.held ≡ []
-  pub spares_only : (e cpu : ℕ) → is_among cpu p.view.cpus ≡ true → is_in_hand_of e cpu p.view.hand ≡ true → (body : Stored) × (spare_of cpu p.spares ≡ Some body) × (body.element ≡ e)
+  pub spares_only : HasOnlyKept p
   pub spares_in_hand : (cpu : ℕ) (body : Stored) → spare_of cpu p.spares ≡ Some body → is_in_hand_of body.element cpu p.view.hand ≡ true
   pub none_out : p.view.shape.kind ≡ Hash → (cpu : ℕ) → is_among cpu p.view.cpus ≡ true → (body : Stored) × (spare_of cpu p.spares ≡ Some body)
+  pub carries_nothing : p.view.carried ≡ []
 
 -- the first pass of a table, which has all CPUs and knows all
 pub record IsFirstPass (t : TableView) (p : PassView) : Type 0 where
@@ -155,6 +170,8 @@ pub record Takes (t : TableView) (lock : DomainId) (before after : PassView) (he
   pub apart : IsApartFromHands before.view hold.now
   pub legal : IsLegal t.shape lock hold.log
   pub known : (log : List Entry) → known_log (lock_number t.shape lock) before.view.known ≡ Some log → hold.log ≡ log
+  -- an element whose home was read, and is known to be this lock, is listed under it
+  pub at_home : (e c : ℕ) → c < t.shape.cpus → home_known e c after.view.readings ≡ Some (homes.In lock) → IsIn e (rows hold.now)
 
 abbrev pub entry_of : PassView → Part → Entry
 entry_of p part = record { cpu = p.cpu; call = p.call; part = part }
@@ -221,6 +238,8 @@ pub record CanAttach (t : TableView) (e bucket : ℕ) (p : PassView) : Type 0 wh
   pub held : hold_at (lock_number t.shape (Bucket bucket)) p.view.held ≡ Some hold
   pub cpu_is : hold.cpu ≡ p.cpu
   pub in_hand : is_in_hand_of e p.cpu p.view.hand ≡ true
+  -- on a map that evicts, the last hash that the element was given is of that bucket, and no other lock is held
+  pub hashed : IsTrue (is_lru t.shape.kind) → (bucket_known e p.cpu p.view.hashes ≡ Some bucket) × ((k : ℕ) (other : Hold) → hold_at k p.view.held ≡ Some other → k ≡ lock_number t.shape (Bucket bucket))
 
 -- claim asks for the head of the free list of a lock that the CPU holds
 pub record CanClaim (t : TableView) (e : ℕ) (lock : DomainId) (p : PassView) : Type 0 where
@@ -265,7 +284,6 @@ pub record Rehomed (t : TableView) (e : ℕ) (to : Home) (before after : PassVie
   pub known : (home : Home) → IsKnownHome t.shape before.view before.cpu e home → home ≡ from
   pub owner : Owner
   pub fits : OwnerFits t.shape before.view e owner
-  pub listed : owner ≡ Free → IsNoneListed before.view e
   pub after_is : after ≡ with_view before (rehomed from to owner e before.view)
 
 -- spares are those of a map of kind HASH
@@ -300,12 +318,12 @@ pub record KeptSpare (body : Stored) (before after : PassView) : Type 0 where
   pub others : SparesDiffer before.cpu before.spares after.spares
   pub after_is : after ≡ with_spares before after.spares
 
--- clear asks for an element in the CPU's hand, since a map that doesn't evict tells no home
+-- Clear asks for an element in the CPU's hand, or, on a map that evicts, on the lists of a lock that the CPU holds.
 pub record CanClear (t : TableView) (e : ℕ) (p : PassView) : Type 0 where
   pub of_table : IsPassOf t p
   pub begun : HasBegun p
   pub real : e < t.shape.elements
-  pub in_hand : is_in_hand_of e p.cpu p.view.hand ≡ true
+  pub allowed : MayClear t.shape p.view p.cpu e
 
 -- a look asks for an element of the map
 pub record CanLook (t : TableView) (e : ℕ) (p : PassView) : Type 0 where
@@ -361,6 +379,7 @@ pub record Went (before after : PassView) (more : List Turned) (lost : List ℕ)
   pub made : Made before after more lost
   pub spares : after.spares ≡ before.spares
   pub hand : after.view.hand ≡ before.view.hand
+  pub carried : after.view.carried ≡ before.view.carried
 
 -- split asks for a CPU that the pass has, in no call
 pub record CanSplit (t : TableView) (cpu : ℕ) (p : PassView) : Type 0 where

@@ -11,6 +11,8 @@ use Rattle.place_words.specs.declared.history.Part.{Part}
 use Rattle.place_words.specs.declared.history.StrandStep.{StrandStep}
 use Rattle.place_words.specs.declared.owner.Owner.{Owner}
 use Rattle.place_words.specs.declared.owner.Owner.TheVariants.{Free}
+use Rattle.place_words.specs.declared.owner.Owner.TheVariants as owners
+use Rattle.key_hash.specs.Bucket.{bucket_number}
 use Rattle.place_words.specs.declared.home.Home.{Home}
 use Rattle.place_words.specs.declared.home.Home.TheVariants as homes
 use Rattle.place_words.specs.Codes.{owner_code, home_code, HasHomeCode}
@@ -28,9 +30,11 @@ use Rattle.place_table.specs.declared.view.Hold.{Hold}
 use Rattle.place_table.specs.declared.view.InHand.{InHand}
 use Rattle.place_table.specs.declared.view.Notes.{Notes}
 use Rattle.place_table.specs.Contents.{told, lists_of, Fits}
-use Rattle.place_table.specs.Views.{is_among, hold_at, is_in_hand_of, known_log, bit_seen, holding, given, losing, kept_step, moved, marked, cleared, bit_read, owner_read, home_read, rehomed}
+use Rattle.place_table.specs.Views.{is_among, hold_at, is_in_hand_of, known_log, bit_seen, holding, given, losing, kept_step, moved, marked, cleared, bit_read, owner_read, home_read, rehomed, home_known}
 use Rattle.place_table.specs.Rules.{Reads, is_hand_of}
-use Rattle.place_table.specs.TurnNotes.{NotesFit}
+use Rattle.place_table.specs.TurnNotes.{NotesFit, InnermostFits}
+use Rattle.place_table.specs.StoredHashes.{stored_in}
+use Rattle.place_table.specs.Flushes.{flushes}
 
 -- a seat at the table: what it knows, and the slots that it has
 abbrev pub Seated : Type 0
@@ -62,6 +66,8 @@ pub record Took (k cpu : ℕ) (before after : Seated) : Type 0 where
   pub apart : IsApartFromHands before.0 hold.now
   pub legal : IsLegal before.0.shape (lock_named before.0.shape k) hold.log
   pub known : (log : List Entry) → known_log k before.0.known ≡ Some log → hold.log ≡ log
+  -- an element whose home was read, and is known to be this lock, is listed under it
+  pub at_home : (e c : ℕ) (lock : DomainId) → c < before.0.shape.cpus → home_known e c after.0.readings ≡ Some (homes.In lock) → lock_number before.0.shape lock ≡ k → IsIn e (rows hold.now)
 
 -- a lock is tried: it is taken where nobody held it, else nothing changes
 abbrev pub Tries : table.Step Behind → Seated → ℕ → Seated → Type 0
@@ -76,6 +82,11 @@ pub record MayPut (shape : Shape) (v : View) (hold : Hold) (entry : Entry) (here
   pub allowed : Allows shape entry.cpu entry.part (content shape (lock_named shape hold.lock) hold.log)
   pub same_free : (e : ℕ) → times e (lists_of (told here)).free ≡ times e hold.now.free
   pub same_rows : (e : ℕ) → times e (rows (lists_of (told here))) ≡ times e (rows hold.now)
+  -- on a map that evicts a row has a new hash only where the CPU has its element in hand: else it is that of the row that the
+  -- element had when this lock was taken, or another one that the pass holds
+  pub rows_kept : IsTrue (is_lru shape.kind) → (j e h n : ℕ) (other : Hold) → hold_at j v.held ≡ Some other → (is_in_hand_of e hold.cpu v.hand ≡ false) → stored_in (content shape (lock_named shape j) other.log) e ≡ Some h → stored_in (told here) e ≡ Some n → h ≡ n
+  -- and what was pending when a local lock was taken, and is on its lists no more, was flushed by the turn, or the CPU carries it
+  pub gone : IsTrue (is_lru shape.kind) → (c e h : ℕ) → lock_named shape hold.lock ≡ Local c → stored_in (content shape (lock_named shape hold.lock) hold.log) e ≡ Some h → times e (all_of hold.now) ≡ 0 → (is_in_hand_of e hold.cpu v.carried ≡ true) ⊎ (flushes e entry.part ≡ true)
 
 -- the history has the entry where it isn't lost, and then the strand has its step
 abbrev pub IsRecorded : Shape → View → Hold → Entry → List StrandStep → Behind → Type 0
@@ -87,6 +98,7 @@ pub record MayGive (shape : Shape) (v : View) (hold : Hold) (entry : Entry) (kep
   pub content_is : behind.content ≡ Some here
   pub may_put : MayPut shape v hold entry here
   pub records : IsRecorded shape v hold entry kept behind
+  pub noted : InnermostFits entry.part v.notes
 
 -- the steps that are recorded after a turn: the one of the turn too, or none more where the record of the lock is lost
 abbrev pub IsKeptOrLost : View → Hold → List StrandStep → Type 0
@@ -124,8 +136,8 @@ pub record GivesSome (cpu call : ℕ) (before after : Seated) : Type 0 where
   pub after_is : after ≡ (losing hold (entry_by cpu call part) before.0, rest before.1)
 
 -- other lists lie under a lock that is held, and other elements are in hand
-abbrev pub Moves : ℕ → Lists → List InHand → Seated → Seated → Type 0
-Moves k now hand before after = after ≡ (moved k now hand before.0, before.1)
+abbrev pub Moves : ℕ → Lists → List InHand → ℕ → ℕ → Seated → Seated → Type 0
+Moves k now hand word left before after = after ≡ (moved k now hand word left before.0, before.1)
 
 -- a bit was set
 abbrev pub Marks : ℕ → Seated → Seated → Type 0
@@ -149,13 +161,32 @@ pub record SeesBit (e : ℕ) (before : Seated) (found : ℕ) (after : Seated) : 
   pub known : IsKnownBit e bit before.0
   pub after_is : after ≡ (bit_read e bit before.0, before.1)
 
+-- an element is not listed under a lock that is held
+abbrev pub IsNoneListed : View → ℕ → Type 0
+IsNoneListed v e = (k : ℕ) (hold : Hold) → hold_at k v.held ≡ Some hold → times e (rows hold.now) ≡ 0
+
+-- each row that it had under a lock that is held, when that was taken, has this hash
+abbrev pub HasOnlyHash : Shape → View → ℕ → ℕ → Type 0
+HasOnlyHash shape v e hash =
+    (k h : ℕ) (hold : Hold) → hold_at k v.held ≡ Some hold → stored_in (content shape (lock_named shape k) hold.log) e ≡ Some h → h ≡ hash
+
+-- it is listed under a lock that is held, which is no bucket
+pub record IsListedHere (shape : Shape) (v : View) (e : ℕ) : Type 0 where
+  pub lock : ℕ
+  pub hold : Hold
+  pub held : hold_at lock v.held ≡ Some hold
+  pub no_bucket : IsFalse (is_bucket (lock_named shape lock))
+  pub listed : IsIn e (rows hold.now)
+
 -- An owner that what the pass knows doesn't rule out: the element is in a bucket that is held exactly where it lies there,
--- it is free where it lies on a free list that is held, and it is in the hand of a CPU of the pass exactly where the pass
--- knows of it.
+-- it is free where it lies on a free list that is held and not where it is listed under such a lock, and it is in the hand of
+-- a CPU of the pass exactly where the pass knows of it. One that is listed here is in no bucket but that of its stored hash.
 pub record OwnerFits (shape : Shape) (v : View) (e : ℕ) (owner : Owner) : Type 0 where
   pub in_held_bucket : (bucket : ℕ) (hold : Hold) → bucket < shape.buckets → hold_at (lock_number shape (Bucket bucket)) v.held ≡ Some hold → times e (rows hold.now) ≡ one (is_in_bucket bucket owner)
   pub on_held_free_list : (k : ℕ) (hold : Hold) → hold_at k v.held ≡ Some hold → IsIn e hold.now.free → owner ≡ Free
+  pub listed : owner ≡ Free → IsNoneListed v e
   pub in_own_hand : (cpu : ℕ) → is_among cpu v.cpus ≡ true → is_hand_of cpu owner ≡ is_in_hand_of e cpu v.hand
+  pub of_hash : IsTrue (is_lru shape.kind) → (hash bucket : ℕ) → IsListedHere shape v e → HasOnlyHash shape v e hash → owner ≡ owners.Bucket bucket → bucket ≡ bucket_number hash shape.buckets
 
 -- an owner was read
 pub record SeesOwner (e : ℕ) (before : Seated) (found : ℕ) (after : Seated) : Type 0 where
@@ -188,6 +219,12 @@ IsKnownHome shape v cpu e (homes.In lock) =
     (holds : HoldsLock shape v cpu lock) × IsFalse (is_bucket lock) × IsIn e (all_of holds.hold.now)
 IsKnownHome shape v cpu e (homes.Hand c) = (c ≡ cpu) × (is_in_hand_of e cpu v.carried ≡ true)
 
+-- A bit may be cleared of what is in the CPU's hand, and on a map that evicts of what stands on the lists of a lock that the
+-- CPU holds.
+abbrev pub MayClear : Shape → View → ℕ → ℕ → Type 0
+MayClear shape v cpu e =
+    (is_in_hand_of e cpu v.hand ≡ true) ⊎ (IsTrue (is_lru shape.kind) × ((lock : DomainId) × IsKnownHome shape v cpu e (homes.In lock)))
+
 -- it is free, as the pass knows
 pub record IsKnownFree (v : View) (e : ℕ) : Type 0 where
   pub lock : ℕ
@@ -207,10 +244,6 @@ MayGoHome shape v cpu e (homes.In (Bucket bucket)) = ⊥
 MayGoHome shape v cpu e (homes.In (Freelist c)) = ⊥
 MayGoHome shape v cpu e (homes.Hand c) = (c ≡ cpu) × (is_in_hand_of e cpu v.hand ≡ true)
 
--- what the pass knows to be listed is not free
-abbrev pub IsNoneListed : View → ℕ → Type 0
-IsNoneListed v e = (k : ℕ) (hold : Hold) → hold_at k v.held ≡ Some hold → times e (rows hold.now) ≡ 0
-
 -- An element went to this home from the one that it had, and each home that the pass knew it to have is that one. Which of
 -- the lists it left and joined goes by its owner.
 pub record Rehomes (e : ℕ) (to : Home) (before after : Seated) : Type 0 where
@@ -218,5 +251,4 @@ pub record Rehomes (e : ℕ) (to : Home) (before after : Seated) : Type 0 where
   pub known : (cpu : ℕ) (home : Home) → is_among cpu before.0.cpus ≡ true → IsKnownHome before.0.shape before.0 cpu e home → home ≡ from
   pub owner : Owner
   pub fits : OwnerFits before.0.shape before.0 e owner
-  pub listed : owner ≡ Free → IsNoneListed before.0 e
   pub after_is : after ≡ (rehomed from to owner e before.0, before.1)

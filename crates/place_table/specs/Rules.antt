@@ -1,10 +1,11 @@
 -- The rule of the table. It holds between any two steps on its words.
-use Rattle.std.specs.Prelude.{◌≡◌, ◌⊎◌, ℕ, suc, ◌+◌, ◌*◌, ◌==◌, ◌<◌, Bool, true, false, ◌&&◌, List, [], ◌∷◌, ◌++◌, length, Option, None, Some, MatchOption, IsTrue, slice_index_or, if◌then◌else◌}
+use Rattle.std.specs.Prelude.{◌+◌, ◌≡◌, ◌⊎◌, ℕ, suc, ◌==◌, ◌<◌, Bool, true, false, ◌&&◌, List, [], ◌∷◌, ◌++◌, length, Option, None, Some, MatchOption, MatchBool, IsTrue, slice_index_or, if◌then◌else◌, IsFalse}
 use mathlib.Core.Option.{some, none}
 use mathlib.Core.Option as maybe
 use lib.ListN.{get_elem?}
 use Rattle.atomic_table.specs.Table as table
 use Rattle.map_types.specs.declared.attr.Shape.{Shape}
+use Rattle.map_types.specs.declared.kind.DomainId.TheVariants.{Local, Global, CpuLru, Bucket, Freelist}
 use Rattle.map_types.specs.Creation.{IsShape}
 use Rattle.map_types.specs.Kind.{is_lru}
 use Rattle.place_words.specs.declared.history.Entry.{Entry}
@@ -14,22 +15,33 @@ use Rattle.place_words.specs.declared.home.Home.TheVariants as homes
 use Rattle.place_words.specs.declared.owner.Owner.{Owner}
 use Rattle.place_words.specs.declared.owner.Owner.TheVariants as owners
 use Rattle.place_words.specs.Codes.{owner_code, home_code}
-use Rattle.map_types.specs.ElementLists.{one}
+use Rattle.map_types.specs.ElementLists.{one, IsIn}
 use Rattle.place_words.specs.Histories.{content, IsLegal}
-use Rattle.place_words.specs.Locks.{is_lock, lock_named, lock_count, rank_of}
+use Rattle.place_words.specs.Locks.{is_lock, lock_named, lock_number, lock_count, rank_of}
 use Rattle.place_words.specs.Strands.{places_on}
 use Rattle.place_core.specs.declared.step.Lists.{Lists}
+use Rattle.key_hash.specs.Bucket.{bucket_number}
 use Rattle.place_core.specs.State as cores
+use Rattle.place_core.specs.State.{rows, is_bucket}
+use Rattle.place_table.specs.StoredHashes.{stored_in}
 use Rattle.place_core.specs.Places.{Placed}
 use Rattle.place_core.specs.Ranks.{Ranked}
 use Rattle.place_table.specs.declared.content.Content.{Content}
 use Rattle.place_table.specs.declared.content.Behind.{Behind}
 use Rattle.place_table.specs.declared.view.View.{View}
 use Rattle.place_table.specs.declared.view.Hold.{Hold}
+use Rattle.place_table.specs.declared.view.InHand.{InHand}
 use Rattle.place_table.specs.declared.view.Turned.{Turned}
 use Rattle.place_table.specs.declared.view.Ended.{Ended}
+use Rattle.place_table.specs.Flushes.{flushed_last}
+use Rattle.place_table.specs.declared.view.WordStep.{WordStep}
+use Rattle.place_table.specs.Words.{word_count, owner_word, home_word, bit_word, lock_code, opening_words}
 use Rattle.place_table.specs.Contents.{told, lists_of, Fits}
-use Rattle.place_table.specs.Views.{is_among, hold_at, is_in_hand_of, known_log, bit_seen, place_of}
+use Rattle.place_table.specs.Views.{is_among, hold_at, is_in_hand_of, known_log, bit_seen, place_of, bucket_known, home_known}
+use Rattle.place_table.specs.declared.view.Notes.{Notes}
+use Rattle.place_table.specs.declared.view.OwnerSeen.{OwnerSeen}
+use Rattle.place_table.specs.declared.view.BitAsked.{BitAsked}
+use Rattle.place_table.specs.declared.view.HomeSeen.{HomeSeen}
 
 -- a turn, with the number of the strand that it is a step of
 abbrev pub Tagged : Type 0
@@ -38,6 +50,10 @@ Tagged = ℕ × Entry
 abbrev pub entries : List Tagged → List Entry
 entries [] = []
 entries (turn ∷ turns) = turn.1 ∷ entries turns
+
+-- a step on a word, with the number of the strand that made it
+abbrev pub Touch : Type 0
+Touch = ℕ × WordStep
 
 -- What is true of all locks, elements and passes, whoever works there.
 pub record World : Type 0 where
@@ -55,24 +71,10 @@ pub record World : Type 0 where
   pub current : ℕ → ℕ
   pub past : ℕ → List ℕ
   pub next : ℕ
-
--- The words: first those of the locks, then the owners of the elements, their homes, and their bits.
-abbrev pub word_count : Shape → ℕ
-word_count shape = lock_count shape + 3 * shape.elements
-
-abbrev pub owner_word : Shape → ℕ → ℕ
-owner_word shape e = lock_count shape + e
-
-abbrev pub home_word : Shape → ℕ → ℕ
-home_word shape e = lock_count shape + shape.elements + e
-
-abbrev pub bit_word : Shape → ℕ → ℕ
-bit_word shape e = lock_count shape + 2 * shape.elements + e
-
--- 0 is not held, 1 and the CPU is held by it
-abbrev pub lock_code : Option ℕ → ℕ
-lock_code None = 0
-lock_code (Some cpu) = 1 + cpu
+  -- of an element the stored hash: that of the row that it was last given
+  pub hash : ℕ → ℕ
+  -- the steps on all words, in one order
+  pub touches : List Touch
 
 -- what is recorded of a lock: its turns, or nothing where that is lost
 abbrev pub KeptAs : Bool → List Entry → Behind → Type 0
@@ -130,6 +132,20 @@ turns_of strand place [] = []
 turns_of strand place (turn ∷ turns) =
     if turn.0 == strand then (place, turn.1) ∷ turns_of strand (suc place) turns else turns_of strand (suc place) turns
 
+-- the steps of one strand on words
+abbrev pub touches_of : ℕ → List Touch → List WordStep
+touches_of strand [] = []
+touches_of strand (x ∷ xs) = if x.0 == strand then x.1 ∷ touches_of strand xs else touches_of strand xs
+
+-- Steps that lead a word from one number to another: what each of those on it saw is what the one before it left.
+abbrev pub IsSeen : Option ℕ → ℕ → Type 0
+IsSeen seen now = MatchOption seen (Unit {0}) (λ found. found ≡ now)
+
+abbrev pub LeadTo : ℕ → ℕ → List Touch → ℕ → Type 0
+LeadTo word from [] to = from ≡ to
+LeadTo word from (x ∷ xs) to =
+    MatchBool (x.1.word == word) (IsSeen x.1.seen from × LeadTo word x.1.left xs to) (LeadTo word from xs to)
+
 abbrev pub indexes : List (ℕ × Entry) → List ℕ
 indexes [] = []
 indexes (turn ∷ turns) = turn.0 ∷ indexes turns
@@ -149,21 +165,22 @@ abbrev pub logs_of : World → ℕ → List Entry
 logs_of world k = entries (world.log k)
 
 -- A strand of a pass: on each lock its steps are the turns with its number, each after the turns before it there, and those
--- that are recorded are all of them where the record isn't lost.
-pub record IsStrand (shape : Shape) (world : World) (pass strand : ℕ) (cpus : List ℕ) (steps : List Turned) (kept : List StrandStep) : Type 0 where
+-- that are recorded are all of them where the record isn't lost. Its steps on words are those with its number, in their order.
+pub record IsStrand (shape : Shape) (world : World) (pass strand : ℕ) (cpus : List ℕ) (steps : List Turned) (kept : List StrandStep) (touched : List WordStep) : Type 0 where
   pub keeper : world.keeper strand ≡ pass
   pub numbered : strand < world.next
   pub team : world.team strand ≡ cpus
   pub steps_are : (k : ℕ) → turns_on k steps ≡ turns_of strand 0 (world.log k)
   pub stand : StandIn (logs_of world) steps
   pub kept_are : (k : ℕ) → k < lock_count shape → IsTrue (is_lock shape (lock_named shape k)) → world.lost k ≡ false → places_on (lock_named shape k) kept ≡ indexes (turns_on k steps)
+  pub touched_are : touched ≡ touches_of strand world.touches
 
 abbrev pub ArePast : Shape → World → ℕ → List ℕ → List Ended → Type 0
 ArePast shape world pass [] [] = Unit {0}
 ArePast shape world pass [] (e ∷ es) = ⊥
 ArePast shape world pass (strand ∷ strands) [] = ⊥
 ArePast shape world pass (strand ∷ strands) (e ∷ es) =
-    IsStrand shape world pass strand e.cpus e.steps e.kept × (is_among strand strands ≡ false) × ArePast shape world pass strands es
+    IsStrand shape world pass strand e.cpus e.steps e.kept e.touched × (is_among strand strands ≡ false) × ArePast shape world pass strands es
 
 -- each turn is a step of a strand of a pass that is there, and the strand has its CPU
 pub record IsTagged (world : World) (passes : ℕ) (turn : Tagged) : Type 0 where
@@ -176,15 +193,127 @@ abbrev pub AreTagged : World → ℕ → List Tagged → Type 0
 AreTagged world passes [] = Unit {0}
 AreTagged world passes (turn ∷ turns) = IsTagged world passes turn × AreTagged world passes turns
 
+-- each step on a word is one of a strand of a pass that is there
+pub record IsOfStrand (world : World) (passes strand : ℕ) : Type 0 where
+  pub seated : world.keeper strand < passes
+  pub numbered : strand < world.next
+  pub listed : is_among strand (world.current (world.keeper strand) ∷ world.past (world.keeper strand)) ≡ true
+
+abbrev pub AreOfStrands : World → ℕ → List Touch → Type 0
+AreOfStrands world passes [] = Unit {0}
+AreOfStrands world passes (x ∷ xs) = IsOfStrand world passes x.0 × AreOfStrands world passes xs
+
+-- steps that only read
+abbrev pub AreReads : List WordStep → Type 0
+AreReads [] = Unit {0}
+AreReads (x ∷ xs) = (x.seen ≡ Some x.left) × AreReads xs
+
 abbrev pub HaveNoSteps : List Ended → Type 0
 HaveNoSteps [] = Unit {0}
-HaveNoSteps (e ∷ es) = (e.steps ≡ []) × HaveNoSteps es
+HaveNoSteps (e ∷ es) = ((e.steps ≡ []) × AreReads e.touched) × HaveNoSteps es
 
 -- a lock of the map, the record of whose turns is lost
 pub record IsLostLock (shape : Shape) (world : World) (k : ℕ) : Type 0 where
   pub below : k < lock_count shape
   pub there : IsTrue (is_lock shape (lock_named shape k))
   pub lost : world.lost k ≡ true
+
+-- the CPU that holds the lock has the element in hand
+pub record IsFresh (holder : ℕ → Option ℕ) (owner : ℕ → Owner) (k e : ℕ) : Type 0 where
+  pub cpu : ℕ
+  pub held : holder k ≡ Some cpu
+  pub in_hand : owner e ≡ owners.Hand cpu
+
+-- an element has a row in what a lock's turns lead to, with its stored hash
+pub record HasRow (shape : Shape) (log : ℕ → List Tagged) (hash : ℕ → ℕ) (k e : ℕ) : Type 0 where
+  pub stored : stored_in (content shape (lock_named shape k) (entries (log k))) e ≡ Some (hash e)
+
+-- the CPU that holds the lock brought the element from a lock of lower rank, which it still holds and where it had its row
+pub record IsBrought (shape : Shape) (holder : ℕ → Option ℕ) (log : ℕ → List Tagged) (hash : ℕ → ℕ) (k e : ℕ) : Type 0 where
+  pub cpu : ℕ
+  pub from : ℕ
+  pub held : holder k ≡ Some cpu
+  pub holds : holder from ≡ Some cpu
+  pub low : rank_of (lock_named shape from) < rank_of (lock_named shape k)
+  pub row : HasRow shape log hash from e
+
+-- On a map that evicts: where an element is in a bucket, its stored hash is of that bucket. Each listed element has a row with it
+-- since the lock was last given back, or the lock's holder has the element in hand, or brought it there.
+pub record HashesRight (shape : Shape) (holder : ℕ → Option ℕ) (lists : ℕ → Lists) (owner : ℕ → Owner) (log : ℕ → List Tagged) (hash : ℕ → ℕ) : Type 0 where
+  pub in_bucket : (e b : ℕ) → owner e ≡ owners.Bucket b → bucket_number (hash e) shape.buckets ≡ b
+  pub have : (k e : ℕ) → IsFalse (is_bucket (lock_named shape k)) → IsIn e (rows (lists k)) → HasRow shape log hash k e ⊎ (IsFresh holder owner k e ⊎ IsBrought shape holder log hash k e)
+
+-- the stored hash of an element in the hand of a CPU is of this bucket
+pub record IsHashOf (shape : Shape) (hash : ℕ → ℕ) (hand : List InHand) (e c b : ℕ) : Type 0 where
+  pub in_hand : is_in_hand_of e c hand ≡ true
+  pub bucket_is : bucket_number (hash e) shape.buckets ≡ b
+
+-- An element was flushed from the local lists under this lock: whoever did it still holds the lock, under which it was pending
+-- when it was taken, or the last turn that put the element on pending or took it off flushed it.
+abbrev pub WasFlushed : Shape → (ℕ → Option ℕ) → (ℕ → List Tagged) → ℕ → ℕ → Type 0
+WasFlushed shape holder log k e =
+    ((cpu : ℕ) × (h : ℕ) × (holder k ≡ Some cpu) × (stored_in (content shape (lock_named shape k) (entries (log k))) e ≡ Some h)) ⊎ (flushed_last shape (lock_named shape k) e (entries (log k)) ≡ true)
+
+-- What a reading of a home still says of the home that is: a local lock is still the home, or the home is the global lists and
+-- the element was flushed from the local ones; any other home is still the home.
+abbrev pub StillHome : Shape → (ℕ → Option ℕ) → (ℕ → List Tagged) → ℕ → Home → Home → Type 0
+StillHome shape holder log e now homes.Unlisted = now ≡ homes.Unlisted
+StillHome shape holder log e now (homes.In (Local c)) = (now ≡ homes.In (Local c)) ⊎ ((now ≡ homes.In Global) × IsTrue (is_lock shape (Local c)) × WasFlushed shape holder log (lock_number shape (Local c)) e)
+StillHome shape holder log e now (homes.In Global) = now ≡ homes.In Global
+StillHome shape holder log e now (homes.In (CpuLru c)) = now ≡ homes.In (CpuLru c)
+StillHome shape holder log e now (homes.In (Bucket b)) = now ≡ homes.In (Bucket b)
+StillHome shape holder log e now (homes.In (Freelist c)) = now ≡ homes.In (Freelist c)
+StillHome shape holder log e now (homes.Hand c) = now ≡ homes.Hand c
+
+-- a reading of the home of an element in the hand of a CPU
+pub record IsReading (shape : Shape) (holder : ℕ → Option ℕ) (log : ℕ → List Tagged) (home : ℕ → Home) (hand : List InHand) (e c : ℕ) (read : Home) : Type 0 where
+  pub real : e < shape.elements
+  pub in_hand : is_in_hand_of e c hand ≡ true
+  pub still : StillHome shape holder log e (home e) read
+
+-- The steps by which a lock was taken, a bit set, a bit cleared or read, an owner read, and a home read.
+abbrev pub take_step : Hold → WordStep
+take_step hold = record { word = hold.lock; seen = Some 0; left = 1 + hold.cpu }
+
+abbrev pub mark_step : Shape → ℕ → WordStep
+mark_step shape e = record { word = bit_word shape e; seen = None; left = 1 }
+
+abbrev pub bit_step : Shape → BitAsked → WordStep
+bit_step shape x = record {
+  word = bit_word shape x.element;
+  seen = Some (one x.bit);
+  left = if x.cleared then 0 else one x.bit;
+}
+
+abbrev pub owner_step : Shape → OwnerSeen → WordStep
+owner_step shape x = record { word = owner_word shape x.element; seen = Some (owner_code x.owner); left = owner_code x.owner }
+
+abbrev pub home_step : Shape → HomeSeen → WordStep
+home_step shape x = record { word = home_word shape x.element; seen = Some (home_code x.home); left = home_code x.home }
+
+abbrev pub HasStep : WordStep → List WordStep → Type 0
+HasStep x [] = ⊥
+HasStep x (y ∷ ys) = (y ≡ x) ⊎ HasStep x ys
+
+-- each of these was done by one of these steps
+abbrev pub AreDone : {A : Type 0} → (A → WordStep) → List WordStep → List A → Type 0
+AreDone by steps [] = Unit {0}
+AreDone by steps (x ∷ xs) = HasStep (by x) steps × AreDone by steps xs
+
+-- what is noted of a turn was done by one of these steps
+pub record IsDone (shape : Shape) (steps : List WordStep) (notes : Notes) : Type 0 where
+  pub marks : AreDone (mark_step shape) steps notes.marks
+  pub asked : AreDone (bit_step shape) steps notes.asked
+  pub owners : AreDone (owner_step shape) steps notes.owners
+  pub homes : AreDone (home_step shape) steps notes.homes
+
+-- What is noted in the turn of a lock that is held was done after the lock was taken. The locks were taken one after another,
+-- and what is noted under one of them was done before the next one was taken, or handed on when that was given back.
+abbrev pub AreNoted : Shape → List WordStep → List Hold → List Notes → Type 0
+AreNoted shape steps [] notes = Unit {0}
+AreNoted shape steps (hold ∷ holds) [] = ⊥
+AreNoted shape steps (hold ∷ holds) (n ∷ notes) =
+    (before : List WordStep) × (behind : List WordStep) × (steps ≡ before ++ take_step hold ∷ behind) × IsDone shape behind n × AreNoted shape before holds notes
 
 -- What a pass knows is so.
 pub record Knows (shape : Shape) (world : World) (pass : ℕ) (v : View) : Type 0 where
@@ -199,18 +328,24 @@ pub record Knows (shape : Shape) (world : World) (pass : ℕ) (v : View) : Type 
   pub hands : (e c : ℕ) → c < shape.cpus → is_in_hand_of e c v.hand ≡ (is_hand_of c (world.core.owner e) && (world.whose c == pass))
   -- those of them that are carried
   pub carried : (e c : ℕ) → c < shape.cpus → is_in_hand_of e c v.carried ≡ (is_home_of c (world.core.home e) && (world.whose c == pass))
+  -- and the buckets of stored hashes
+  pub hashes : (e c b : ℕ) → c < shape.cpus → bucket_known e c v.hashes ≡ Some b → IsHashOf shape world.hash v.hand e c b
+  -- and the homes that were read of them
+  pub readings : (e c : ℕ) (read : Home) → c < shape.cpus → home_known e c v.readings ≡ Some read → IsReading shape world.core.holder world.log world.core.home v.hand e c read
   -- what only a pass with all CPUs keeps: turns of locks and bits
   pub known : (k : ℕ) (log : List Entry) → known_log k v.known ≡ Some log → entries (world.log k) ≡ log
   pub bits : (e : ℕ) (bit : Bool) → bit_seen e v.bits ≡ Some bit → world.core.bit e ≡ bit
   pub only : ((v.known ≡ []) × (v.bits ≡ [])) ⊎ ((c : ℕ) → c < shape.cpus → is_among c v.cpus ≡ true)
   -- the locks that it gave back without a part
   pub losses : (k : ℕ) → is_among k v.lost ≡ true → IsLostLock shape world k
+  -- what it has noted in its turns under way was done in them
+  pub noted : AreNoted shape v.touched v.held v.notes
   -- its strands
-  pub strand : IsStrand shape world pass (world.current pass) v.cpus v.steps v.kept
+  pub strand : IsStrand shape world pass (world.current pass) v.cpus v.steps v.kept v.touched
   pub past : ArePast shape world pass (world.past pass) v.ended
   pub apart : is_among (world.current pass) (world.past pass) ≡ false
-  -- one that has no CPU has no steps
-  pub idle : v.cpus ≡ [] → (v.steps ≡ []) × HaveNoSteps v.ended
+  -- one that has no CPU has no turns, and has only read words
+  pub idle : v.cpus ≡ [] → ((v.steps ≡ []) × AreReads v.touched) × HaveNoSteps v.ended
 
 pub record Rule (shape : Shape) (s : table.State Behind View) : Type 0 where
   pub world : World
@@ -226,10 +361,15 @@ pub record Rule (shape : Shape) (s : table.State Behind View) : Type 0 where
   -- read as a state of the core, the elements are in their places and the locks of each CPU are ranked
   pub placed : Placed shape world.core
   pub ranked : Ranked shape world.core
+  -- stored hashes are those of the buckets
+  pub hashes : IsTrue (is_lru shape.kind) → HashesRight shape world.core.holder world.core.lists world.core.owner world.log world.hash
   -- every history replays, and leads to what lies at home
   pub legal : (k : ℕ) → IsLegal shape (lock_named shape k) (entries (world.log k))
   pub homes : (k : ℕ) → k < lock_count shape → IsTrue (is_lock shape (lock_named shape k)) → AtHome shape k (world.core.holder k) (entries (world.log k)) (world.core.lists k) (world.lost k) (get_elem? s.homes k)
   -- each CPU is in a pass, each turn in a strand, and what each pass knows is so
   pub seated : (c : ℕ) → c < shape.cpus → world.whose c < length s.views
   pub tagged : (k : ℕ) → AreTagged world (length s.views) (world.log k)
+  -- the steps on each word lead from what it was at first to what it is, and each is one of a strand
+  pub lead : (i : ℕ) → i < word_count shape → LeadTo i (slice_index_or (opening_words shape) i 0) world.touches (slice_index_or s.words i 0)
+  pub of_strands : AreOfStrands world (length s.views) world.touches
   pub knows : (pass : ℕ) (v : View) → get_elem? s.views pass ≡ some v → Knows shape world pass v

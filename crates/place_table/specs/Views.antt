@@ -1,28 +1,45 @@
 -- What a pass knows, and how each step changes it.
-use Rattle.std.specs.Prelude.{ℕ, zero, suc, ◌==◌, Bool, true, false, not, ◌&&◌, List, [], ◌∷◌, ◌++◌, length, Option, None, Some, if◌then◌else◌}
+use Rattle.std.specs.Prelude.{ℕ, zero, suc, ◌+◌, ◌==◌, Bool, true, false, not, ◌&&◌, List, [], ◌∷◌, ◌++◌, length, Option, None, Some, if◌then◌else◌}
 use Rattle.map_types.specs.declared.attr.Shape.{Shape}
 use Rattle.map_types.specs.declared.kind.DomainId.{DomainId}
-use Rattle.map_types.specs.declared.kind.DomainId.TheVariants.{Bucket}
+use Rattle.map_types.specs.declared.kind.DomainId.TheVariants.{Bucket, Local, Global, CpuLru, Freelist}
 use Rattle.place_words.specs.declared.history.Entry.{Entry}
 use Rattle.place_words.specs.declared.history.StrandStep.{StrandStep}
 use Rattle.place_words.specs.declared.home.Home.{Home}
 use Rattle.place_words.specs.declared.home.Home.TheVariants as homes
 use Rattle.place_words.specs.declared.owner.Owner.{Owner}
+use Rattle.place_words.specs.declared.owner.Owner.TheVariants as owners
+use Rattle.place_words.specs.declared.bucket_part.BucketPart.{BucketPart}
+use Rattle.place_words.specs.declared.bucket_part.BucketPart.TheVariants.{Lookup, Update, Delete, Take, Next, First, Walk, Evict}
+use Rattle.place_words.specs.declared.bucket_part.Seen.{Seen}
+use Rattle.place_words.specs.declared.bucket_part.Seen.TheVariants.{Removed, Held}
+use Rattle.place_words.specs.declared.history.Part.{Part}
+use Rattle.place_words.specs.declared.history.Part.TheVariants as parts
+use Rattle.key_hash.specs.Bucket.{bucket_number}
+use Rattle.map_types.specs.Kind.{is_lru}
+use Rattle.place_words.specs.Histories.{Content, content, content_after}
 use Rattle.place_words.specs.Locks.{lock_count, lock_named, lock_number}
 use Rattle.place_words.specs.Openings.{opening_spares}
 use Rattle.map_types.specs.declared.kind.MapKind.{MapKind}
 use Rattle.map_types.specs.declared.kind.MapKind.TheVariants.{Hash, PercpuHash, LruHash, LruPercpuHash}
 use Rattle.place_core.specs.declared.step.Lists.{Lists}
-use Rattle.place_core.specs.State.{no_lists}
+use Rattle.place_core.specs.State.{no_lists, rows}
 use Rattle.place_core.specs.Steps.{with_free, without_free, with_row, without_row, left_by, joined_by}
+use Rattle.place_table.specs.StoredHashes.{stored_in}
 use Rattle.place_table.specs.declared.view.View.{View}
 use Rattle.place_table.specs.declared.view.Hold.{Hold}
 use Rattle.place_table.specs.declared.view.InHand.{InHand}
+use Rattle.place_table.specs.declared.view.HashIn.{HashIn}
+use Rattle.place_table.specs.declared.view.HomeIn.{HomeIn}
 use Rattle.place_table.specs.declared.view.Notes.{Notes}
 use Rattle.place_table.specs.declared.view.Known.{Known}
 use Rattle.place_table.specs.declared.view.Turned.{Turned}
 use Rattle.place_table.specs.declared.view.BitSeen.{BitSeen}
+use Rattle.place_table.specs.declared.view.WordStep.{WordStep}
+use Rattle.place_table.specs.Words.{owner_word, home_word, bit_word}
+use Rattle.place_words.specs.Codes.{owner_code, home_code}
 use Rattle.place_table.specs.declared.view.Ended.{Ended}
+use Rattle.map_types.specs.ElementLists.{times, one}
 
 abbrev pub is_among : ℕ → List ℕ → Bool
 is_among n [] = false
@@ -36,6 +53,61 @@ hold_at k (hold ∷ holds) = if hold.lock == k then Some hold else hold_at k hol
 abbrev pub is_in_hand_of : ℕ → ℕ → List InHand → Bool
 is_in_hand_of e cpu [] = false
 is_in_hand_of e cpu (x ∷ xs) = if (x.element == e) && (x.cpu == cpu) then true else is_in_hand_of e cpu xs
+
+-- the bucket of the stored hash of an element in a CPU's hand, none where it isn't known
+abbrev pub bucket_known : ℕ → ℕ → List HashIn → Option ℕ
+bucket_known e cpu [] = None
+bucket_known e cpu (x ∷ xs) = if (x.element == e) && (x.cpu == cpu) then Some x.bucket else bucket_known e cpu xs
+
+-- those that are still in these hands
+abbrev pub kept_hashes : List InHand → List HashIn → List HashIn
+kept_hashes hand [] = []
+kept_hashes hand (x ∷ xs) = if is_in_hand_of x.element x.cpu hand then x ∷ kept_hashes hand xs else kept_hashes hand xs
+
+-- those that a content which is given back gives to what is in hand
+-- the home that was read of an element in the hand of a CPU, none where none was
+abbrev pub home_known : ℕ → ℕ → List HomeIn → Option Home
+home_known e cpu [] = None
+home_known e cpu (x ∷ xs) = if (x.element == e) && (x.cpu == cpu) then Some x.home else home_known e cpu xs
+
+-- those of what is in hand, those of other elements, and one more of an element that is in hand
+abbrev pub kept_readings : List InHand → List HomeIn → List HomeIn
+kept_readings hand [] = []
+kept_readings hand (x ∷ xs) = if is_in_hand_of x.element x.cpu hand then x ∷ kept_readings hand xs else kept_readings hand xs
+
+abbrev pub without_readings : ℕ → List HomeIn → List HomeIn
+without_readings e [] = []
+without_readings e (x ∷ xs) = if x.element == e then without_readings e xs else x ∷ without_readings e xs
+
+abbrev pub with_reading : ℕ → Home → List InHand → List HomeIn → List HomeIn
+with_reading e home [] readings = readings
+with_reading e home (x ∷ xs) readings =
+    if x.element == e then record { element = e; cpu = x.cpu; home = home } ∷ with_reading e home xs readings else with_reading e home xs readings
+
+-- A lock is taken: an element that was read to be on the local lists under it, and is on them no more, is on the global ones.
+abbrev pub home_then : Shape → Hold → ℕ → Home → Home
+home_then shape hold e homes.Unlisted = homes.Unlisted
+home_then shape hold e (homes.In (Local c)) =
+    if (lock_number shape (Local c) == hold.lock) && (times e (rows hold.now) == 0) then homes.In Global else homes.In (Local c)
+home_then shape hold e (homes.In Global) = homes.In Global
+home_then shape hold e (homes.In (CpuLru c)) = homes.In (CpuLru c)
+home_then shape hold e (homes.In (Bucket b)) = homes.In (Bucket b)
+home_then shape hold e (homes.In (Freelist c)) = homes.In (Freelist c)
+home_then shape hold e (homes.Hand c) = homes.Hand c
+
+abbrev pub readings_then : Shape → Hold → List HomeIn → List HomeIn
+readings_then shape hold [] = []
+readings_then shape hold (x ∷ xs) =
+    record { element = x.element; cpu = x.cpu; home = home_then shape hold x.element x.home } ∷ readings_then shape hold xs
+
+abbrev pub hash_given : ℕ → InHand → Option ℕ → List HashIn → List HashIn
+hash_given buckets x None rest = rest
+hash_given buckets x (Some h) rest = record { element = x.element; cpu = x.cpu; bucket = bucket_number h buckets } ∷ rest
+
+abbrev pub hashes_given : ℕ → Content → List InHand → List HashIn → List HashIn
+hashes_given buckets content [] hashes = hashes
+hashes_given buckets content (x ∷ xs) hashes =
+    hash_given buckets x (stored_in content x.element) (hashes_given buckets content xs hashes)
 
 -- the turns of a lock, none where they aren't known
 abbrev pub known_log : ℕ → List Known → Option (List Entry)
@@ -85,17 +157,24 @@ first_view shape = record {
   held = [];
   hand = first_hand shape.kind shape;
   carried = [];
+  hashes = [];
+  readings = [];
   notes = [];
   known = no_turns (lock_count shape);
   bits = no_bits shape.elements;
   steps = [];
   kept = [];
+  touched = [];
   ended = [];
   lost = [];
 }
 
 abbrev pub no_notes : Notes
-no_notes = record { marks = []; clears = []; bits = []; owners = []; homes = [] }
+no_notes = record { marks = []; asked = []; owners = []; homes = [] }
+
+-- its strand has one step more on a word
+abbrev pub touching : ℕ → Option ℕ → ℕ → View → List WordStep
+touching word seen left v = v.touched ++ record { word = word; seen = seen; left = left } ∷ []
 
 -- one lock more is held
 abbrev pub holding : Hold → View → View
@@ -105,11 +184,14 @@ holding hold v = record {
   held = hold ∷ v.held;
   hand = v.hand;
   carried = v.carried;
+  hashes = v.hashes;
+  readings = readings_then v.shape hold v.readings;
   notes = no_notes ∷ v.notes;
   known = v.known;
   bits = v.bits;
   steps = v.steps;
   kept = v.kept;
+  touched = touching hold.lock (Some 0) (1 + hold.cpu) v;
   ended = v.ended;
   lost = v.lost;
 }
@@ -138,6 +220,33 @@ abbrev pub learned : Hold → Entry → View → List Known
 learned hold entry v =
     if has_all v then record { lock = hold.lock; log = hold.log ++ entry ∷ [] } ∷ v.known else v.known
 
+-- an owner that was read is noted under the lock taken last
+abbrev pub with_owner_read : ℕ → Owner → List Notes → List Notes
+with_owner_read e owner [] = []
+with_owner_read e owner (n ∷ below) = record n { owners = record { element = e; owner = owner } ∷ n.owners } ∷ below
+
+-- What a probe read under a bucket's lock, that its element is in a CPU's hand, belongs from then on to the turn around it.
+abbrev pub owners_probed : ℕ → Seen → List Notes → List Notes
+owners_probed e Removed below = below
+owners_probed e (Held holder) below = with_owner_read e (owners.Hand holder) below
+
+abbrev pub owners_passed_by : BucketPart → List Notes → List Notes
+owners_passed_by (Lookup side key got) below = below
+owners_passed_by (Update side flags key value offer put) below = below
+owners_passed_by (Delete key removed) below = below
+owners_passed_by (Take key taken) below = below
+owners_passed_by (Next key found) below = below
+owners_passed_by (First key) below = below
+owners_passed_by (Walk remove room result) below = below
+owners_passed_by (Evict e probed) below = owners_probed e probed below
+
+abbrev pub owners_passed : Part → List Notes → List Notes
+owners_passed (parts.Bucket part) below = owners_passed_by part below
+owners_passed (parts.Free part) below = below
+owners_passed (parts.Local part) below = below
+owners_passed (parts.Global part) below = below
+owners_passed (parts.Own part) below = below
+
 -- the lock taken last is given back with this entry, and these steps are recorded then
 abbrev pub given : Hold → Entry → List StrandStep → View → View
 given hold entry kept v = record {
@@ -146,11 +255,14 @@ given hold entry kept v = record {
   held = holds_below v.held;
   hand = v.hand;
   carried = v.carried;
-  notes = notes_below v.notes;
+  hashes = if is_lru v.shape.kind then hashes_given v.shape.buckets (content_after v.shape entry.cpu entry.part (content v.shape (lock_named v.shape hold.lock) hold.log)) v.hand v.hashes else v.hashes;
+  readings = v.readings;
+  notes = owners_passed entry.part (notes_below v.notes);
   known = learned hold entry v;
   bits = v.bits;
   steps = v.steps ++ turned hold.lock hold.log entry ∷ [];
   kept = kept;
+  touched = touching hold.lock None 0 v;
   ended = v.ended;
   lost = v.lost;
 }
@@ -163,11 +275,14 @@ with_lost lost v = record {
   held = v.held;
   hand = v.hand;
   carried = v.carried;
+  hashes = v.hashes;
+  readings = v.readings;
   notes = v.notes;
   known = v.known;
   bits = v.bits;
   steps = v.steps;
   kept = v.kept;
+  touched = v.touched;
   ended = v.ended;
   lost = lost;
 }
@@ -176,18 +291,21 @@ abbrev pub losing : Hold → Entry → View → View
 losing hold entry v = with_lost (hold.lock ∷ v.lost) (given hold entry v.kept v)
 
 -- other notes and other bits known
-abbrev pub noted : List Notes → List BitSeen → View → View
-noted notes bits v = record {
+abbrev pub noted : List Notes → List BitSeen → List WordStep → List HomeIn → View → View
+noted notes bits touched readings v = record {
   shape = v.shape;
   cpus = v.cpus;
   held = v.held;
   hand = v.hand;
   carried = v.carried;
+  hashes = v.hashes;
+  readings = readings;
   notes = notes;
   known = v.known;
   bits = bits;
   steps = v.steps;
   kept = v.kept;
+  touched = touched;
   ended = v.ended;
   lost = v.lost;
 }
@@ -199,15 +317,11 @@ with_mark e (n ∷ below) = record n { marks = e ∷ n.marks } ∷ below
 
 abbrev pub with_clear : ℕ → Bool → List Notes → List Notes
 with_clear e bit [] = []
-with_clear e bit (n ∷ below) = record n { clears = record { element = e; bit = bit } ∷ n.clears } ∷ below
+with_clear e bit (n ∷ below) = record n { asked = record { element = e; bit = bit; cleared = true } ∷ n.asked } ∷ below
 
 abbrev pub with_bit_read : ℕ → Bool → List Notes → List Notes
 with_bit_read e bit [] = []
-with_bit_read e bit (n ∷ below) = record n { bits = record { element = e; bit = bit } ∷ n.bits } ∷ below
-
-abbrev pub with_owner_read : ℕ → Owner → List Notes → List Notes
-with_owner_read e owner [] = []
-with_owner_read e owner (n ∷ below) = record n { owners = record { element = e; owner = owner } ∷ n.owners } ∷ below
+with_bit_read e bit (n ∷ below) = record n { asked = record { element = e; bit = bit; cleared = false } ∷ n.asked } ∷ below
 
 abbrev pub with_home_read : ℕ → Home → List Notes → List Notes
 with_home_read e home [] = []
@@ -218,20 +332,22 @@ abbrev pub bits_with : ℕ → Bool → View → List BitSeen
 bits_with e bit v = if has_all v then record { element = e; bit = bit } ∷ v.bits else v.bits
 
 abbrev pub marked : ℕ → View → View
-marked e v = noted (with_mark e v.notes) (bits_with e true v) v
+marked e v = noted (with_mark e v.notes) (bits_with e true v) (touching (bit_word v.shape e) None 1 v) v.readings v
 
 -- the bit was this, and is 0 now
 abbrev pub cleared : ℕ → Bool → View → View
-cleared e was v = noted (with_clear e was v.notes) (bits_with e false v) v
+cleared e was v = noted (with_clear e was v.notes) (bits_with e false v) (touching (bit_word v.shape e) (Some (one was)) 0 v) v.readings v
 
 abbrev pub bit_read : ℕ → Bool → View → View
-bit_read e bit v = noted (with_bit_read e bit v.notes) (bits_with e bit v) v
+bit_read e bit v = noted (with_bit_read e bit v.notes) (bits_with e bit v) (touching (bit_word v.shape e) (Some (one bit)) (one bit) v) v.readings v
 
 abbrev pub owner_read : ℕ → Owner → View → View
-owner_read e owner v = noted (with_owner_read e owner v.notes) v.bits v
+owner_read e owner v =
+    noted (with_owner_read e owner v.notes) v.bits (touching (owner_word v.shape e) (Some (owner_code owner)) (owner_code owner) v) v.readings v
 
 abbrev pub home_read : ℕ → Home → View → View
-home_read e home v = noted (with_home_read e home v.notes) v.bits v
+home_read e home v =
+    noted (with_home_read e home v.notes) v.bits (touching (home_word v.shape e) (Some (home_code home)) (home_code home) v) (with_reading e home v.hand v.readings) v
 
 -- what lies under a lock that is held, as the pass knows it, and the locks held where other lists lie under one
 abbrev pub now_at : ℕ → List Hold → Lists
@@ -254,25 +370,29 @@ without_in_hand e cpu (x ∷ xs) =
     if (x.element == e) && (x.cpu == cpu) then without_in_hand e cpu xs else x ∷ without_in_hand e cpu xs
 
 -- other lists lie under locks that are held, and other elements are in hand or carried
-abbrev pub with_places : List Hold → List InHand → List InHand → View → View
-with_places held hand carried v = record {
+abbrev pub with_places : List Hold → List InHand → List InHand → List HomeIn → List WordStep → View → View
+with_places held hand carried readings touched v = record {
   shape = v.shape;
   cpus = v.cpus;
   held = held;
   hand = hand;
   carried = carried;
+  hashes = kept_hashes hand v.hashes;
+  readings = readings;
   notes = v.notes;
   known = v.known;
   bits = v.bits;
   steps = v.steps;
   kept = v.kept;
+  touched = touched;
   ended = v.ended;
   lost = v.lost;
 }
 
--- other lists lie under one lock that is held, and other elements are in hand
-abbrev pub moved : ℕ → Lists → List InHand → View → View
-moved k now hand v = with_places (with_now k now v.held) hand v.carried v
+-- by a step that leaves a word so, other lists lie under one lock that is held, and other elements are in hand
+abbrev pub moved : ℕ → Lists → List InHand → ℕ → ℕ → View → View
+moved k now hand word left v =
+    with_places (with_now k now v.held) hand v.carried (kept_readings hand v.readings) (touching word None left v) v
 
 -- what the pass knows to lie under a lock of this name
 abbrev pub now_under : DomainId → View → Lists
@@ -281,22 +401,22 @@ now_under lock v = now_at (lock_number v.shape lock) v.held
 -- the head of a lock's free list comes to a CPU's hand
 abbrev pub claimed : DomainId → ℕ → ℕ → View → View
 claimed lock e cpu v =
-    moved (lock_number v.shape lock) (with_row lock e (without_free e (now_under lock v))) (with_in_hand e cpu v.hand) v
+    moved (lock_number v.shape lock) (with_row lock e (without_free e (now_under lock v))) (with_in_hand e cpu v.hand) (owner_word v.shape e) (1 + cpu) v
 
 -- an element in a CPU's hand goes to the head of a lock's free list
 abbrev pub settled : DomainId → ℕ → ℕ → View → View
 settled lock e cpu v =
-    moved (lock_number v.shape lock) (with_free e (without_row e (now_under lock v))) (without_in_hand e cpu v.hand) v
+    moved (lock_number v.shape lock) (with_free e (without_row e (now_under lock v))) (without_in_hand e cpu v.hand) (owner_word v.shape e) 0 v
 
 -- an element in a CPU's hand goes to the head of a bucket
 abbrev pub attached : ℕ → ℕ → ℕ → View → View
 attached bucket e cpu v =
-    moved (lock_number v.shape (Bucket bucket)) (with_row (Bucket bucket) e (now_under (Bucket bucket) v)) (without_in_hand e cpu v.hand) v
+    moved (lock_number v.shape (Bucket bucket)) (with_row (Bucket bucket) e (now_under (Bucket bucket) v)) (without_in_hand e cpu v.hand) (owner_word v.shape e) (32 + bucket) v
 
 -- an element of a bucket comes to a CPU's hand
 abbrev pub detached : ℕ → ℕ → ℕ → View → View
 detached bucket e cpu v =
-    moved (lock_number v.shape (Bucket bucket)) (without_row e (now_under (Bucket bucket) v)) (with_in_hand e cpu v.hand) v
+    moved (lock_number v.shape (Bucket bucket)) (without_row e (now_under (Bucket bucket) v)) (with_in_hand e cpu v.hand) (owner_word v.shape e) (1 + cpu) v
 
 -- An element leaves a home or comes to one: the lists of a lock that is held, or the hand of a CPU that carries it.
 abbrev pub held_without : Shape → Home → Owner → ℕ → List Hold → List Hold
@@ -324,7 +444,7 @@ carried_with (homes.Hand cpu) e carried = with_in_hand e cpu carried
 -- an element of this owner goes from one home to the head of another
 abbrev pub rehomed : Home → Home → Owner → ℕ → View → View
 rehomed from to owner e v =
-    with_places (held_with v.shape to owner e (held_without v.shape from owner e v.held)) v.hand (carried_with to e (carried_without from e v.carried)) v
+    with_places (held_with v.shape to owner e (held_without v.shape from owner e v.held)) v.hand (carried_with to e (carried_without from e v.carried)) (without_readings e v.readings) (touching (home_word v.shape e) None (home_code to) v) v
 
 -- the CPUs of a pass without one
 abbrev pub without_cpu : ℕ → List ℕ → List ℕ
@@ -342,7 +462,7 @@ in_other_hands cpu (x ∷ xs) = if x.cpu == cpu then in_other_hands cpu xs else 
 
 -- the current strand of a pass, as one that has ended, and all its strands in order, this one last
 abbrev pub current_strand : View → Ended
-current_strand v = record { cpus = v.cpus; steps = v.steps; kept = v.kept }
+current_strand v = record { cpus = v.cpus; steps = v.steps; kept = v.kept; touched = v.touched }
 
 abbrev pub all_strands : View → List Ended
 all_strands v = v.ended ++ current_strand v ∷ []
@@ -360,11 +480,14 @@ split_from cpu v = record {
   held = [];
   hand = in_other_hands cpu v.hand;
   carried = in_other_hands cpu v.carried;
+  hashes = kept_hashes (in_other_hands cpu v.hand) v.hashes;
+  readings = kept_readings (in_other_hands cpu v.hand) v.readings;
   notes = [];
   known = [];
   bits = [];
   steps = [];
   kept = [];
+  touched = [];
   ended = [];
   lost = v.lost;
 }
@@ -378,11 +501,14 @@ split_off cpu v = record {
   held = [];
   hand = in_hand_of cpu v.hand;
   carried = in_hand_of cpu v.carried;
+  hashes = kept_hashes (in_hand_of cpu v.hand) v.hashes;
+  readings = kept_readings (in_hand_of cpu v.hand) v.readings;
   notes = [];
   known = [];
   bits = [];
   steps = [];
   kept = [];
+  touched = [];
   ended = all_strands v;
   lost = v.lost;
 }
@@ -396,11 +522,14 @@ joined v other = record {
   held = [];
   hand = v.hand ++ other.hand;
   carried = v.carried ++ other.carried;
+  hashes = v.hashes ++ other.hashes;
+  readings = v.readings ++ other.readings;
   notes = [];
   known = [];
   bits = [];
   steps = [];
   kept = [];
+  touched = [];
   ended = all_strands v ++ all_strands other;
   lost = v.lost ++ other.lost;
 }
@@ -413,11 +542,14 @@ spent shape = record {
   held = [];
   hand = [];
   carried = [];
+  hashes = [];
+  readings = [];
   notes = [];
   known = [];
   bits = [];
   steps = [];
   kept = [];
+  touched = [];
   ended = [];
   lost = [];
 }

@@ -8,7 +8,8 @@ ghost use Rattle.place_words.specs.Codes.{owner_code, HasOwnerCode};
 ghost use Rattle.place_words.specs.Locks.{lock_count};
 ghost use Rattle.place_core.specs.OpeningView.{AreOpeningOwners};
 ghost use Rattle.place_table.specs.Contents.{IsSized};
-ghost use Rattle.place_table.specs.Opening.{opening_words, IsFirstContent, IsFirstSlot, AreFirstSlots, first_spares, AreBodiesOf};
+ghost use Rattle.place_table.specs.Opening.{IsFirstContent, IsFirstSlot, AreFirstSlots, first_spares, AreBodiesOf};
+ghost use Rattle.place_table.specs.Words.{opening_words};
 ghost use Rattle.place_table.specs.Passes.{IsFirstPass};
 
 use crate::content::{Behind, Content};

@@ -5,7 +5,7 @@ ghost use Rattle.std.specs.Prelude.{◌≡◌, ◌<◌, true, IsTrue};
 ghost use Rattle.place_words.specs.declared.home.Home as homes;
 ghost use Rattle.place_words.specs.Codes.{home_code};
 ghost use Rattle.place_table.specs.Views.{is_among};
-ghost use Rattle.place_table.specs.Rules.{word_count, home_word};
+ghost use Rattle.place_table.specs.Words.{word_count, home_word};
 ghost use Rattle.place_table.specs.Plays.{IsKnownHome, MayGoHome, Rehomes};
 
 use crate::rule::{Desk, Place, Rehoming, Way};

@@ -1,6 +1,7 @@
 //! Laws of the table.
 
 ghost use Rattle.place_table.specs.Laws.{TakeIsStep, GiveIsStep, ClaimIsStep, SettleIsStep, AttachIsStep, DetachIsStep, RehomeIsStep, MarkIsStep, ClearIsStep, GlanceIsStep, SplitIsNoStep, JoinIsNoStep};
+ghost use Rattle.place_table.specs.Refusals.{TellsTrue, MarkStores, ClearStores, LooksAtItsBit, LooksAtItsOwner};
 
 /// Each operation on a word of a table is the step of the core that has its name: whatever the table is when it happens,
 /// if the rule holds before it, it holds after it, and what the words and contents are read as has gone on by that step.
@@ -19,4 +20,15 @@ pub fn word_laws()
     ensures glance { GlanceIsStep }
     ensures split { SplitIsNoStep }
     ensures join { JoinIsNoStep }
+{}
+
+/// What a pass tells of a step on a word is so: the word is then what the step tells, where nobody else has made a step on
+/// it. So no table allows a mark that stores nothing, a clear that only loads, or another word's reading told as a bit's or
+/// an owner's.
+pub fn told_laws()
+    ensures told { TellsTrue }
+    ensures mark { MarkStores }
+    ensures clear { ClearStores }
+    ensures bit { LooksAtItsBit }
+    ensures owner { LooksAtItsOwner }
 {}

@@ -13,6 +13,7 @@ mod laws;
 mod left;
 mod owners;
 mod pass;
+mod points;
 mod rule;
 mod spares;
 mod split;
@@ -23,11 +24,15 @@ mod view;
 
 pub use closed::Closed;
 pub use content::{Behind, Content};
-pub use laws::word_laws;
+pub use laws::{told_laws, word_laws};
 pub use pass::Pass;
+pub use points::{At, Points};
 pub use rule::{
     About, Caller, Clearing, Cut, Cutting, Deed, Desk, Giving, Law, Losing, Marking, Merge,
     Merging, Moving, Place, ReadingBit, ReadingHome, ReadingOwner, Rehoming, Trying, Turn, Way,
 };
 pub use table::PlaceTable;
-pub use view::{BitSeen, Ended, Hold, HomeSeen, InHand, Known, Notes, OwnerSeen, Turned, View};
+pub use view::{
+    BitAsked, BitSeen, Ended, HashIn, Hold, HomeIn, HomeSeen, InHand, Known, Notes, OwnerSeen,
+    Turned, View, WordStep,
+};

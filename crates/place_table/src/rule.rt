@@ -88,7 +88,8 @@ impl<N: Caller> Play<Behind, View> for Losing<N> {
     ghost then = { λ st me n after. GivesSome N.cpu N.call me after };
 }
 
-/// What lies under a lock once an element has moved, and what is in the hands of the pass then.
+/// What lies under a lock once an element has moved, what is in the hands of the pass then, and the word that tells it, with
+/// what it is from then on.
 pub trait Deed {
     ghost use Rattle.std.specs.Prelude.{ℕ, List};
     ghost use Rattle.place_core.specs.declared.step.Lists.{Lists};
@@ -99,6 +100,10 @@ pub trait Deed {
     ghost now: { Lists };
 
     ghost hand: { List InHand };
+
+    ghost word: { ℕ };
+
+    ghost left: { ℕ };
 }
 
 impl Deed for Brand {
@@ -110,6 +115,10 @@ impl Deed for Brand {
     ghost now = { no_lists };
 
     ghost hand = { [] };
+
+    ghost word = { 0 };
+
+    ghost left = { 0 };
 }
 
 /// An element comes to a hand or leaves it.
@@ -120,7 +129,7 @@ pub struct Moving<N> {
 impl<N: Deed> Play<Behind, View> for Moving<N> {
     ghost use Rattle.place_table.specs.Plays.{Moves};
 
-    ghost then = { λ st me n after. Moves N.lock N.now N.hand me after };
+    ghost then = { λ st me n after. Moves N.lock N.now N.hand N.word N.left me after };
 }
 
 /// The element whose home changes, and its home from then on.

@@ -12,8 +12,9 @@ ghost use Rattle.place_table.specs.declared.view.Hold.{Hold};
 ghost use Rattle.place_words.specs.declared.history.Part as history;
 ghost use Rattle.place_table.specs.declared.view.Notes.{Notes};
 ghost use Rattle.place_table.specs.Views.{is_among, hold_at, is_in_hand_of, kept_step, split_from, split_off, joined};
-ghost use Rattle.place_table.specs.Rules.{word_count, owner_word, home_word, bit_word, IsAboveAll};
-ghost use Rattle.place_table.specs.Plays.{Took, MayGive, IsInnermost, Gives, GivesSome, entry_by, Marks, Clears, SeesBit, SeesOwner, SeesHome};
+ghost use Rattle.place_table.specs.Rules.{IsAboveAll};
+ghost use Rattle.place_table.specs.Words.{word_count, owner_word, home_word, bit_word};
+ghost use Rattle.place_table.specs.Plays.{MayClear, Took, MayGive, IsInnermost, Gives, GivesSome, entry_by, Marks, Clears, SeesBit, SeesOwner, SeesHome};
 ghost use Rattle.place_table.specs.Recording.{Records, entry_given};
 ghost use Rattle.place_table.specs.Passes.{without_content};
 ghost use Rattle.place_table.specs.TurnNotes.{NotesFit};
@@ -175,7 +176,7 @@ pub(crate) fn set_bit<N: About>(
     desk.store::<Marking<N>>(seat, word, 1);
 }
 
-/// Clears the bit of an element in the hand of a CPU, and answers what it was.
+/// Clears the bit of an element in the hand of a CPU or on the lists of a lock that it holds, and answers what it was.
 pub(crate) fn clear_bit<N: About>(
     desk: &Desk,
     seat: &mut Place,
@@ -186,7 +187,7 @@ pub(crate) fn clear_bit<N: About>(
     requires table { seat.old.table_id ≡ desk.now.table_id }
     requires words { (desk.now.table_id.words ≡ word_count desk.now.key) × (word ≡ bit_word desk.now.key element) }
     requires element { (element < desk.now.key.elements) × (N.element ≡ element) }
-    requires hand { (is_among cpu seat.old.me.0.cpus ≡ true) × (is_in_hand_of element cpu seat.old.me.0.hand ≡ true) }
+    requires hand { (is_among cpu seat.old.me.0.cpus ≡ true) × MayClear desk.now.key seat.old.me.0 cpu element }
     ensures seat { (seat.new.table_id ≡ seat.old.table_id) × (seat.new.id ≡ seat.old.id) }
     ensures cleared { Clears element seat.old.me result seat.new.me }
 {

@@ -4,13 +4,14 @@ ghost use Rattle.std.specs.Prelude.{◌≡◌, ◌+◌, ◌*◌, ◌<◌, ◌^�
 ghost use Rattle.map_types.specs.Kind.{is_lru};
 ghost use Rattle.place_words.specs.Locks.{lock_number, lock_count, is_lock};
 ghost use Rattle.place_table.specs.Views.{is_among, claimed, settled, attached, detached, marked};
-ghost use Rattle.place_table.specs.Rules.{word_count, owner_word, home_word, bit_word};
-ghost use Rattle.place_table.specs.Passes.{IsPassOf, HasBegun, IsInNoCall, begun, with_view, CanTake, Takes, CanGive, CanGiveSome, MayGiveBack, Gave, GaveSome, GaveBack, CanClaim, CanSettle, CanAttach, CanMark, CanRehome, Rehomed, CanClear, CanLook, Cleared, SawBit, SawOwner, SawHome};
+ghost use Rattle.place_table.specs.Words.{word_count, owner_word, home_word, bit_word};
+ghost use Rattle.place_table.specs.Passes.{IsPassOf, HasBegun, HasOnlySpares, begun, with_view, CanTake, Takes, CanGive, CanGiveSome, MayGiveBack, Gave, GaveSome, GaveBack, CanClaim, CanSettle, CanAttach, CanMark, CanRehome, Rehomed, CanClear, CanLook, Cleared, SawBit, SawOwner, SawHome};
 
 use crate::content::{Behind, Content};
 use crate::homes::rehome_word;
 use crate::owners::{attach_word, claim_word, detach_word, settle_word};
 use crate::pass::Pass;
+use crate::points::{At, Points};
 use crate::rule::Law;
 use crate::steps::{
     Recorded, clear_bit, give_lock, lose_lock, read_bit, read_home, read_owner, record_turn,
@@ -37,7 +38,7 @@ impl Model for PlaceTable {
     ghost use Rattle.std.specs.Prelude.{◌≡◌};
     ghost use Rattle.map_types.specs.Creation.{IsShape};
     ghost use Rattle.place_table.specs.Passes.{TableView};
-    ghost use Rattle.place_table.specs.Rules.{word_count};
+    ghost use Rattle.place_table.specs.Words.{word_count};
 
     ghost Value = { TableView };
 
@@ -54,11 +55,13 @@ impl PlaceTable {
         &self.shape
     }
 
-    /// Starts a call on a CPU of the pass, which is in no call. Calls are named by numbers of the caller's.
+    /// Starts a call on a CPU of the pass, which holds no lock and has nothing in hand but spares. Calls are named by numbers
+    /// of the caller's.
     pub fn begin(&self, pass: &mut Pass, cpu: u32, call: u32)
         requires table { IsPassOf self.now pass.old }
         requires cpu { is_among cpu pass.old.view.cpus ≡ true }
-        requires in_no_call { IsInNoCall pass.old }
+        requires no_lock { pass.old.view.held ≡ [] }
+        requires spares { HasOnlySpares pass.old }
         ensures { pass.new ≡ begun pass.old cpu call }
     {
         pass.cpu = cpu;
@@ -86,10 +89,24 @@ impl PlaceTable {
         requires { CanTake self.now lock pass.old }
         ensures { Takes self.now lock pass.old pass.new result }
     {
+        self.take_at(rt, pass, lock, &At { gate })
+    }
+
+    /// The same, where points are told by this thread alone.
+    pub fn take_at<R: Wait, P: Points>(
+        &self,
+        rt: &R,
+        pass: &mut Pass,
+        lock: DomainId,
+        points: &P,
+    ) -> Content
+        requires { CanTake self.now lock pass.old }
+        ensures { Takes self.now lock pass.old pass.new result }
+    {
         let shared = &self.table.shared;
         let number = lock_number(&self.shape, lock);
         take_lock(rt, shared, &mut pass.seat, number, pass.cpu);
-        gate.at(pass.cpu, Point::Took(lock));
+        points.point(pass.cpu, Point::Took(lock));
         match unload(shared, &mut pass.seat, number) {
             Some(content) => content,
             None => unreachable!(),
@@ -109,11 +126,26 @@ impl PlaceTable {
         requires { MayGiveBack self.now lock pass.old content part }
         ensures { GaveBack self.now lock pass.old pass.new content part }
     {
+        self.give_at(pass, lock, content, part, &At { gate })
+    }
+
+    /// The same, where points are told by this thread alone.
+    pub fn give_at<P: Points>(
+        &self,
+        pass: &mut Pass,
+        lock: DomainId,
+        content: Content,
+        part: Option<Part>,
+        points: &P,
+    )
+        requires { MayGiveBack self.now lock pass.old content part }
+        ensures { GaveBack self.now lock pass.old pass.new content part }
+    {
         match part {
             Some(part) => self.give_part(pass, lock, content, part),
             None => self.give_none(pass, lock, content),
         }
-        gate.at(pass.cpu, Point::Gave(lock));
+        points.point(pass.cpu, Point::Gave(lock));
     }
 
     /// Gives the lock back with a part, which is recorded where there is memory.
@@ -225,7 +257,8 @@ impl PlaceTable {
         set_bit::<Brand>(&self.table.shared, &mut pass.seat, element, word, bucket);
     }
 
-    /// Clears the bit of an element, and answers what it was. Here that is one in the CPU's hand.
+    /// Clears the bit of an element, and answers what it was. It is one in the CPU's hand, or on the lists of a lock that the CPU
+    /// holds.
     pub fn clear(&self, pass: &mut Pass, element: u32) -> bool
         requires { CanClear self.now element pass.old }
         ensures { Cleared element pass.old pass.new result }

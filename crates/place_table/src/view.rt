@@ -21,6 +21,13 @@ pub struct InHand {
     pub cpu: u64,
 }
 
+/// An element in the hand of a CPU, and the bucket of its stored hash.
+pub struct HashIn {
+    pub element: u64,
+    pub cpu: u64,
+    pub bucket: u64,
+}
+
 /// A turn that a pass made: the lock's number, the turns of the lock before it, and the entry.
 pub struct Turned {
     pub lock: u64,
@@ -32,6 +39,13 @@ pub struct Turned {
 pub struct BitSeen {
     pub element: u64,
     pub bit: bool,
+}
+
+/// A call for the bit of an element, with what it was: the bit was cleared, or only read.
+pub struct BitAsked {
+    pub element: u64,
+    pub bit: bool,
+    pub cleared: bool,
 }
 
 /// The owner of an element, as it was read.
@@ -46,11 +60,26 @@ pub struct HomeSeen {
     pub home: Home,
 }
 
+/// The home of an element in the hand of a CPU, as it was last read since it came there.
+pub struct HomeIn {
+    pub element: u64,
+    pub cpu: u64,
+    pub home: Home,
+}
+
+/// A step that a pass made on a word of the table: what it found there, where the step tells, and what is there from then
+/// on.
+pub struct WordStep {
+    pub word: u64,
+    pub seen: Option<u64>,
+    pub left: u64,
+}
+
 /// What was done and read while a lock was the last one taken of those that are held, the last first.
 pub struct Notes {
     pub marks: LinkedList<u64>,
-    pub clears: LinkedList<BitSeen>,
-    pub bits: LinkedList<BitSeen>,
+    /// The clears and the reads of bits.
+    pub asked: LinkedList<BitAsked>,
     pub owners: LinkedList<OwnerSeen>,
     pub homes: LinkedList<HomeSeen>,
 }
@@ -66,6 +95,7 @@ pub struct Ended {
     pub cpus: LinkedList<u64>,
     pub steps: LinkedList<Turned>,
     pub kept: LinkedList<StrandStep>,
+    pub touched: LinkedList<WordStep>,
 }
 
 /// What a pass knows.
@@ -77,6 +107,10 @@ pub struct View {
     pub hand: LinkedList<InHand>,
     /// Those of them that are on no lock's lists, since a hand carries them from one lock's to another's.
     pub carried: LinkedList<InHand>,
+    /// Of elements in hand the buckets of their stored hashes, where they are known. What stands first counts.
+    pub hashes: LinkedList<HashIn>,
+    /// Of elements in hand the homes that were read, where the pass hasn't moved them since. What stands first counts.
+    pub readings: LinkedList<HomeIn>,
     /// Those of the locks held, in the same order.
     pub notes: LinkedList<Notes>,
     /// Empty unless the pass has all CPUs. What stands first of a lock or an element counts.
@@ -85,6 +119,8 @@ pub struct View {
     /// The turns of the current strand, and those of them that are recorded.
     pub steps: LinkedList<Turned>,
     pub kept: LinkedList<StrandStep>,
+    /// The steps of the current strand on words.
+    pub touched: LinkedList<WordStep>,
     pub ended: LinkedList<Ended>,
     /// The locks that the pass gave back without a part: the record of their turns is lost.
     pub lost: LinkedList<u64>,

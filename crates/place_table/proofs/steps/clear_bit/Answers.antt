@@ -1,5 +1,5 @@
 use Rattle.std.proofs.Common.{arith}
-use Rattle.place_table.proofs.WordSteps.{clears}
+use Rattle.place_table.proofs.HomeSteps.{clears}
 use Rattle.place_table.proofs.steps.clear_bit.Goals as goal
 
 pub swap-requires : goal.swap-requires

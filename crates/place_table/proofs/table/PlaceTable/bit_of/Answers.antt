@@ -2,4 +2,4 @@ use Rattle.place_table.proofs.Passes.{is_pass_noted}
 use Rattle.place_table.proofs.table.PlaceTable.bit_of.Goals as goal
 
 pub invariant_of-pass : goal.invariant_of-pass
-invariant_of-pass c = is_pass_noted _ _ _ _ _ _ _ c.pass.invariant c.read_bit.ensures.seen.after_is
+invariant_of-pass c = is_pass_noted _ _ _ _ _ _ _ _ _ c.pass.invariant c.read_bit.ensures.seen.after_is

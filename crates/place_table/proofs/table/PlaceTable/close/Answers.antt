@@ -1,7 +1,7 @@
 use Rattle.std.proofs.Common.{◌≡◌, ℕ, ◌∙◌, ◌++◌, ◌∷◌, [], ap, get_or, length, arith}
 use Rattle.std.proofs.lemmas.List.{length-map}
 use Rattle.std.specs.Slots.{slots_items}
-use Rattle.place_table.specs.Rules.{word_count}
+use Rattle.place_table.specs.Words.{word_count}
 use Rattle.place_table.specs.Views.{current_strand}
 use Rattle.place_table.specs.Passes.{PassView, TableView}
 use Rattle.place_table.proofs.Closes.{at_its_end, if_closed}
@@ -31,7 +31,7 @@ returns c =
     let contents = contents_apart c.self.inside.shape e.log e.lost slots c.empty_out.new.contents.items e.slots_are c.empty_out.ensures.contents in
     let histories = histories_apart c.self.inside.shape e.log e.lost slots c.empty_out.new.histories.items e.slots_are c.empty_out.ensures.histories in
     let all_words : c.word_count.result ≡ word_count c.self.inside.shape = c.word_count.ensures ∙ c.self.invariant.1 in
-    let marked = c.in_ok-marked.ensures e.core.bit (λ n less. ap (λ (i : ℕ). get_or words i 0) (omega (arith, all_words)) ∙ e.bit_words n less) in
+    let marked = c.in_ok-marked.ensures e.core.bit (λ n less. ap (λ (i : ℕ). get_or words i 0) (omega (arith, all_words)) ∙ e.words_told.bits n less) in
     let finished = c.finish-ended.ensures v.ended (current_strand v) c.pass.invariant.ended_are c.pass.invariant.cpus_are c.pass.invariant.strand_is in
     if_closed c.self.inside.shape c.args.self.shape _ c.args.pass words slots c.left.result e c.pass.invariant.hands_real c.pass.invariant.ended_within c.pass.invariant.within table c.pass.view_is
     (c.left.ensures e.log e.lost e.core.bit (v.ended ++ current_strand v ∷ []) contents histories marked finished)

@@ -2,7 +2,7 @@ use Rattle.std.proofs.Common.{refl, ap, ◌∙◌, ◌≡◌, ℕ, List, length,
 use Rattle.map_types.proofs.CreationLemmas.{bounds_of_shape}
 use Rattle.place_table.specs.declared.content.Behind.{Behind}
 use Rattle.place_table.specs.declared.view.View.{View}
-use Rattle.place_table.specs.Opening.{opening_words}
+use Rattle.place_table.specs.Words.{opening_words}
 use Rattle.place_table.proofs.FirstPass.{first_is_pass, is_first_pass}
 use Rattle.place_table.proofs.FirstWords.{length_words}
 use Rattle.place_table.proofs.Opens.{opens}

@@ -8,7 +8,7 @@ unreachable-requires c =
     c.in-None.ensures sees.owner (read_has_code c.args.self.now _ c.args.pass.now _ _ _ (search rules) c.requires.of_table (ap (λ z. z.view) c.pass.view_is) sees) (sym sees.found_is)
 
 pub invariant_of-pass : goal.invariant_of-pass
-invariant_of-pass c = is_pass_noted _ _ _ _ _ _ _ c.pass.invariant c.read_owner.ensures.seen.after_is
+invariant_of-pass c = is_pass_noted _ _ _ _ _ _ _ _ _ c.pass.invariant c.read_owner.ensures.seen.after_is
 
 pub returns : goal.returns
 returns c =

@@ -1,6 +1,7 @@
 use Rattle.place_words.specs.Locks.{lock_number}
 use Rattle.place_core.specs.Steps.{with_free, without_row}
 use Rattle.place_table.specs.Views.{now_under, without_in_hand}
+use Rattle.place_table.specs.Words.{owner_word}
 use Rattle.place_table.proofs.table.PlaceTable.settle.Given as goal
 
 abbrev pub ghosts-settle_word : goal.ghosts-settle_word
@@ -8,4 +9,6 @@ ghosts-settle_word a = record {
   lock = lock_number a.seat.now.me.0.shape a.lock;
   now = with_free a.element (without_row a.element (now_under a.lock a.seat.now.me.0));
   hand = without_in_hand a.element a.cpu a.seat.now.me.0.hand;
+  word = owner_word a.seat.now.me.0.shape a.element;
+  left = 0;
 }

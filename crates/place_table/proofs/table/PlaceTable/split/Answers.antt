@@ -1,4 +1,4 @@
-use Rattle.std.proofs.Common.{◌≡◌, true, Option, refl, ap, sym, subst, ◌∙◌}
+use Rattle.std.proofs.Common.{◌≡◌, true, Option, ap, sym, subst, ◌∙◌}
 use Rattle.std.specs.Prelude.{Vec}
 use Rattle.std.specs.Global.{Global}
 use Rattle.map_types.specs.Creation.{IsShape}

@@ -1,5 +1,5 @@
 use Rattle.place_table.proofs.Passes.{is_pass_taken}
-use Rattle.place_table.proofs.table.PlaceTable.take.Goals as goal
+use Rattle.place_table.proofs.table.PlaceTable.take_at.Goals as goal
 
 pub invariant_of-pass : goal.invariant_of-pass
 invariant_of-pass g c =

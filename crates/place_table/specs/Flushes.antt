@@ -1,0 +1,47 @@
+-- Elements that a CPU's local lists lost to the global ones, as histories tell it.
+use Rattle.std.specs.Prelude.{ℕ, Bool, true, false, ◌==◌, List, [], ◌∷◌, Option, None, Some, if◌then◌else◌}
+use Rattle.map_types.specs.declared.attr.Shape.{Shape}
+use Rattle.map_types.specs.declared.kind.DomainId.{DomainId}
+use Rattle.place_words.specs.declared.history.Entry.{Entry}
+use Rattle.place_words.specs.declared.history.Part.{Part}
+use Rattle.place_words.specs.declared.history.Part.TheVariants as parts
+use Rattle.place_words.specs.declared.list_part.LocalPart.{LocalPart}
+use Rattle.place_words.specs.declared.list_part.LocalPart.TheVariants as local
+use Rattle.place_words.specs.declared.visits.Visit.{Visit}
+use Rattle.place_words.specs.Histories.{Content, content_after, opening_content}
+use Rattle.place_table.specs.StoredHashes.{stored_in}
+
+abbrev pub is_visited : ℕ → List Visit → Bool
+is_visited e [] = false
+is_visited e (x ∷ xs) = if x.element == e then true else is_visited e xs
+
+abbrev pub local_flushes : ℕ → LocalPart → Bool
+local_flushes e (local.Pop hash element) = false
+local_flushes e (local.Refill hash flushed gained got) = is_visited e flushed
+local_flushes e (local.Steal got first second) = false
+local_flushes e (local.Add hash element cursor) = false
+local_flushes e (local.Push element done) = false
+
+-- a part flushes the element
+abbrev pub flushes : ℕ → Part → Bool
+flushes e (parts.Bucket part) = false
+flushes e (parts.Free part) = false
+flushes e (parts.Local part) = local_flushes e part
+flushes e (parts.Global part) = false
+flushes e (parts.Own part) = false
+
+-- Whether the last turn so far that put an element on pending or took it off is one that flushed it: by whether the element
+-- has a row before a turn and after it.
+abbrev pub flushed_then : Bool → Bool → Option ℕ → Option ℕ → Bool
+flushed_then was by_it before (Some h) = false
+flushed_then was by_it (Some h) None = by_it
+flushed_then was by_it None None = was
+
+unfoldable pub flushed_from : Shape → ℕ → Bool → Content → List Entry → Bool
+flushed_from shape e was before [] = was
+flushed_from shape e was before (entry ∷ entries) =
+    let now = content_after shape entry.cpu entry.part before in
+    flushed_from shape e (flushed_then was (flushes e entry.part) (stored_in before e) (stored_in now e)) now entries
+
+abbrev pub flushed_last : Shape → DomainId → ℕ → List Entry → Bool
+flushed_last shape lock e entries = flushed_from shape e false (opening_content shape lock) entries

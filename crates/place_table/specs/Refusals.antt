@@ -1,0 +1,65 @@
+-- What a pass tells of its steps on words is so. The rule allows no step that is told otherwise than it is done.
+use Rattle.std.specs.Prelude.{◌≡◌, ◌≢◌, ℕ, ◌<◌, List, [], ◌∷◌, ◌++◌, length, slice_index_or, slice_set}
+use mathlib.Core.Option.{some}
+use lib.ListN.{get_elem?}
+use Rattle.atomic_table.specs.Table as table
+use Rattle.atomic_table.specs.Table.{Act, Allows, stepped}
+use Rattle.map_types.specs.declared.attr.Shape.{Shape}
+use Rattle.place_words.specs.declared.owner.Owner.TheVariants as owners
+use Rattle.place_table.specs.declared.content.Behind.{Behind}
+use Rattle.place_table.specs.declared.view.View.{View}
+use Rattle.place_table.specs.declared.view.Ended.{Ended}
+use Rattle.place_table.specs.declared.view.WordStep.{WordStep}
+use Rattle.place_table.specs.Views.{owner_read}
+use Rattle.place_table.specs.Words.{word_count, owner_word, bit_word}
+use Rattle.place_table.specs.Rules.{Rule}
+use Rattle.place_table.specs.Plays.{Seated, Marks, Clears, SeesBit}
+
+-- none of these steps is on this word
+abbrev pub AreOff : ℕ → List WordStep → Type 0
+AreOff word [] = Unit {0}
+AreOff word (x ∷ xs) = (x.word ≢ word) × AreOff word xs
+
+-- no strand of a pass has made a step on the word
+abbrev pub HaveNotTouched : ℕ → List Ended → Type 0
+HaveNotTouched word [] = Unit {0}
+HaveNotTouched word (x ∷ xs) = AreOff word x.touched × HaveNotTouched word xs
+
+abbrev pub HasNotTouched : ℕ → View → Type 0
+HasNotTouched word v = AreOff word v.touched × HaveNotTouched word v.ended
+
+-- a pass with this view is there, and no strand but its current one has made a step on the word
+pub record IsAlone (s : table.State Behind View) (pass word : ℕ) (v : View) : Type 0 where
+  pub seated : get_elem? s.views pass ≡ some v
+  pub past : HaveNotTouched word v.ended
+  pub others : (other : ℕ) (u : View) → get_elem? s.views other ≡ some u → other ≢ pass → HasNotTouched word u
+
+-- What a step tells that it left in a word is there after it.
+abbrev pub TellsTrue : Type 0
+TellsTrue =
+    (shape : Shape) (s : table.State Behind View) (pass word i n : ℕ) (v u : View) (slots : List (ℕ × Behind)) (act : Act Behind) (x : WordStep) → IsAlone s pass word v → Rule shape (stepped s i n pass slots u act)
+    → word < word_count shape → x.word ≡ word → u.touched ≡ v.touched ++ x ∷ [] → u.ended ≡ v.ended → slice_index_or (slice_set s.words i n) word 0 ≡ x.left
+
+-- a mark that stores nothing isn't allowed where the bit isn't set
+abbrev pub MarkStores : Type 0
+MarkStores =
+    (shape : Shape) (slots pass e : ℕ) (me : Seated) (s : table.State Behind View) → Rule shape s → length s.homes ≡ slots → IsAlone s pass (bit_word shape e) me.0 → e < shape.elements → slice_index_or s.words (bit_word shape e) 0 ≡ 0
+    → ¬ Allows (Rule shape) slots pass me (bit_word shape e) (λ n. n) (λ _. Marks e me)
+
+-- a clear that only loads isn't allowed where it is set
+abbrev pub ClearStores : Type 0
+ClearStores =
+    (shape : Shape) (slots pass e : ℕ) (me : Seated) (s : table.State Behind View) → Rule shape s → length s.homes ≡ slots → IsAlone s pass (bit_word shape e) me.0 → e < shape.elements → slice_index_or s.words (bit_word shape e) 0 ≡ 1
+    → ¬ Allows (Rule shape) slots pass me (bit_word shape e) (λ n. n) (Clears e me)
+
+-- the bit of another element, told as this one's, isn't allowed where the two differ
+abbrev pub LooksAtItsBit : Type 0
+LooksAtItsBit =
+    (shape : Shape) (slots pass e d : ℕ) (me : Seated) (s : table.State Behind View) → Rule shape s → length s.homes ≡ slots → IsAlone s pass (bit_word shape e) me.0 → e < shape.elements → d < shape.elements
+    → slice_index_or s.words (bit_word shape d) 0 ≡ 1 → slice_index_or s.words (bit_word shape e) 0 ≡ 0 → ¬ Allows (Rule shape) slots pass me (bit_word shape d) (λ n. n) (SeesBit e me)
+
+-- an owner that is told as free, by a step on another word, isn't allowed where the element isn't free
+abbrev pub LooksAtItsOwner : Type 0
+LooksAtItsOwner =
+    (shape : Shape) (slots pass e i : ℕ) (f : ℕ → ℕ) (me : Seated) (s : table.State Behind View) → Rule shape s → length s.homes ≡ slots → IsAlone s pass (owner_word shape e) me.0 → e < shape.elements
+    → owner_word shape e ≢ i → slice_index_or s.words i 0 < 18446744073709551616 → 0 < slice_index_or s.words (owner_word shape e) 0 → ¬ Allows (Rule shape) slots pass me i f (λ _ after. after ≡ (owner_read e owners.Free me.0, me.1))

@@ -1,0 +1,35 @@
+-- The words of a table: where they stand, and what they are at first.
+use Rattle.std.specs.Prelude.{ℕ, ◌+◌, ◌*◌, List, ◌++◌, map, replicate, Option, None, Some}
+use Rattle.std.specs.List.{range_with_len}
+use Rattle.map_types.specs.declared.attr.Shape.{Shape}
+use Rattle.place_words.specs.Codes.{owner_code}
+use Rattle.place_words.specs.Locks.{lock_count}
+use Rattle.place_words.specs.Openings.{opening_owner}
+
+-- First those of the locks, then the owners of the elements, their homes, and their bits.
+abbrev pub word_count : Shape → ℕ
+word_count shape = lock_count shape + 3 * shape.elements
+
+abbrev pub owner_word : Shape → ℕ → ℕ
+owner_word shape e = lock_count shape + e
+
+abbrev pub home_word : Shape → ℕ → ℕ
+home_word shape e = lock_count shape + shape.elements + e
+
+abbrev pub bit_word : Shape → ℕ → ℕ
+bit_word shape e = lock_count shape + 2 * shape.elements + e
+
+-- 0 is not held, 1 and the CPU is held by it
+abbrev pub lock_code : Option ℕ → ℕ
+lock_code None = 0
+lock_code (Some cpu) = 1 + cpu
+
+-- the owners of all elements, as codes
+abbrev pub opening_codes : Shape → List ℕ
+opening_codes shape =
+    map owner_code (map (opening_owner shape shape.kind) (range_with_len 0 shape.elements))
+
+-- Nobody holds a lock, each element has its first owner, no home is told, and no bit is set.
+unfoldable pub opening_words : Shape → List ℕ
+opening_words shape =
+    (replicate (lock_count shape) 0 ++ opening_codes shape) ++ replicate (2 * shape.elements) 0
