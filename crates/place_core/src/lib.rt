@@ -13,5 +13,5 @@ mod step;
 
 pub use laws::{place_laws, reached_laws, step_laws, wait_laws};
 pub use pure_core::Core;
-pub use start::{free_at_first, owners_at_first, spares_at_first};
+pub use start::{free_at_first, home_at_first, owners_at_first, spares_at_first};
 pub use step::{CoreRefusal, Lists, Step};

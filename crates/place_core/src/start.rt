@@ -89,7 +89,7 @@ fn owner_at_first(kind: MapKind, spares: &[u32], element: u32) -> Owner
 
 /// Where the home of an element is at first.
 #[tactic(auto, unfolding(crate::specs::Opening::opening_home))]
-fn home_at_first(shape: &Shape, element: u32) -> Home
+pub fn home_at_first(shape: &Shape, element: u32) -> Home
     requires shape { IsShape shape.now }
     requires element { element < shape.now.elements }
     ensures { result ≡ opening_home shape.now element }

@@ -68,7 +68,7 @@ found_there e (body ∷ bodies) some =
     (λ other is. found_there e bodies is)
     some
 
-when_none : (b : Bool) (n : ℕ) → n ≡ 0 → cond b n 0 ≡ 0
+pub when_none : (b : Bool) (n : ℕ) → n ≡ 0 → cond b n 0 ≡ 0
 when_none true n none = none
 when_none false n none = refl
 
@@ -113,7 +113,7 @@ module _ (shape : Shape) (cpu : ℕ) (rows : List Row) where
     unfolding AllowsInBucket
     may_evict some = found_there x (bodies_at contents (bucket_number hash shape.buckets)) some
 
-    evicted : ((lock : DomainId) → IsFit shape lock (contents lock)) → 1 ≤ times x (numbers (bodies_at contents (bucket_number hash shape.buckets))) → (e bucket : ℕ)
+    pub evicted : ((lock : DomainId) → IsFit shape lock (contents lock)) → 1 ≤ times x (numbers (bodies_at contents (bucket_number hash shape.buckets))) → (e bucket : ℕ)
         → times e (numbers (bodies_at left bucket)) + cond (eqb (bucket_number hash shape.buckets) bucket) (times e (x ∷ [])) 0 ≡ times e (numbers (bodies_at contents bucket))
     evicted fits some e bucket =
         let home : ℕ = bucket_number hash shape.buckets in

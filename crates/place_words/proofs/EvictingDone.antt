@@ -48,10 +48,10 @@ pub record IsServed (shape : Shape) (cpu number : ℕ) (state : State) (verb : V
 
 -- What an update puts that was offered an element
 
-record IsOffered (shape : Shape) (flags : ℕ) (key : List ℕ) (bodies : List Stored) (e : ℕ) (put : Put) : Type 0 where
-  may : AllowsPut shape flags key put bodies
-  may_put : MayPut shape e put
-  moved : (x : ℕ) → times x (brought_by_put put) + times x (option_to_list (left_over e put)) ≡ times x (taken_by_put put) + times x (e ∷ [])
+pub record IsOffered (shape : Shape) (flags : ℕ) (key : List ℕ) (bodies : List Stored) (e : ℕ) (put : Put) : Type 0 where
+  pub may : AllowsPut shape flags key put bodies
+  pub may_put : MayPut shape e put
+  pub moved : (x : ℕ) → times x (brought_by_put put) + times x (option_to_list (left_over e put)) ≡ times x (taken_by_put put) + times x (e ∷ [])
 
 module _ (shape : Shape) (flags : ℕ) (key : List ℕ) (bodies : List Stored) where
   with_old : (old : Stored) (Fact : Stored → Type 0) → present key bodies ≡ Some old → Fact old → MatchOption (present key bodies) ⊥ Fact
@@ -75,7 +75,7 @@ module _ (shape : Shape) (flags : ℕ) (key : List ℕ) (bodies : List Stored) w
     moved = λ x. omega arith;
   }
 
-  offered_put : (e : ℕ) (found : Option Stored) → present key bodies ≡ found → IsOffered shape flags key bodies e (put_offered shape flags e found)
+  pub offered_put : (e : ℕ) (found : Option Stored) → present key bodies ≡ found → IsOffered shape flags key bodies e (put_offered shape flags e found)
   offered_put e None is = absent_offered e (eqb flags 2) refl is
   offered_put e (Some old) is = present_offered e old (eqb flags 1) (is_percpu shape.kind) refl refl is
 
@@ -93,11 +93,11 @@ alone_moves None x = refl
 alone_moves (Some old) x = refl
 
 -- what a delete takes out
-delete_moves : (key : List ℕ) (gone : Option ℕ) (x : ℕ) → times x (brought_to_bucket (Delete key gone)) + times x (option_to_list gone) ≡ times x (taken_from_bucket (Delete key gone)) + times x []
+pub delete_moves : (key : List ℕ) (gone : Option ℕ) (x : ℕ) → times x (brought_to_bucket (Delete key gone)) + times x (option_to_list gone) ≡ times x (taken_from_bucket (Delete key gone)) + times x []
 delete_moves key None x = refl
 delete_moves key (Some e) x = omega arith
 
-take_moves : (key : List ℕ) (gone : Option (ℕ × List ℕ)) (x : ℕ) → times x (brought_to_bucket (Take key gone)) + times x (option_to_list (element_gone gone)) ≡ times x (taken_from_bucket (Take key gone)) + times x []
+pub take_moves : (key : List ℕ) (gone : Option (ℕ × List ℕ)) (x : ℕ) → times x (brought_to_bucket (Take key gone)) + times x (option_to_list (element_gone gone)) ≡ times x (taken_from_bucket (Take key gone)) + times x []
 take_moves key None x = refl
 take_moves key (Some e) x = omega arith
 
@@ -174,7 +174,7 @@ module _ (shape : Shape) (cpu number : ℕ) (supplies : Supplies shape cpu) wher
           settled = settled_anywhere 0 (bucket_turned shape cpu (lies_in shape state) (bucket_of_key shape key) (Lookup side key got) [] [] (at_key key) may (λ x. refl));
         }
 
-    out_is : (gone : Option ℕ) (turn : Turn) → taken_out shape cpu number state (option_to_list gone) turn ≡ turn ∷ all_freed shape cpu number (turned shape cpu number turn state) (option_to_list gone)
+    pub out_is : (gone : Option ℕ) (turn : Turn) → taken_out shape cpu number state (option_to_list gone) turn ≡ turn ∷ all_freed shape cpu number (turned shape cpu number turn state) (option_to_list gone)
     out_is gone turn =
         cond-true (is_lru shape.kind) _ _ lru ∙ ap (λ (es : List ℕ). turn ∷ all_freed shape cpu number (turned shape cpu number turn state) es) (one_turned gone)
 
@@ -227,7 +227,7 @@ module _ (shape : Shape) (cpu number : ℕ) (supplies : Supplies shape cpu) wher
       abbrev IsDoneBy : Does → Type 0
       IsDoneBy did = IsServed shape cpu number state (verbs.Update side flags key value) did
 
-      may_update : (offer : Option ℕ) (put : Put) (bodies : List Stored) → AllowsPut shape flags key put bodies → AllowsInBucket shape cpu (Update side flags key value offer put) bodies
+      pub may_update : (offer : Option ℕ) (put : Put) (bodies : List Stored) → AllowsPut shape flags key put bodies → AllowsInBucket shape cpu (Update side flags key value offer put) bodies
       unfolding AllowsInBucket
       may_update offer put bodies may = may
 

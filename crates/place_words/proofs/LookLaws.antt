@@ -58,7 +58,7 @@ zero_eq b = grind (arith)
 or_same : (a b c x y z : Bool) → a ≡ x → b ≡ y → c ≡ z → (a || (b || c)) ≡ (x || (y || z))
 or_same a b c x y z p q r = grind (arith, p, q, r)
 
-shift_set : (row : Row) (scans target rows : ℕ) (walk : List Look) → ends_at (suc scans) (suc target) (suc rows) (spared row ∷ walk) ≡ ends_at scans (suc target) rows walk
+pub shift_set : (row : Row) (scans target rows : ℕ) (walk : List Look) → ends_at (suc scans) (suc target) (suc rows) (spared row ∷ walk) ≡ ends_at scans (suc target) rows walk
 shift_set row scans target rows walk = or_same _ _ _ _ _ _ (suc_eq (length walk) scans) refl (suc_eq (length walk) rows)
 
 pub count_suc : (row : Row) (walk : List Look) → count_by look_removed (removed row ∷ walk) ≡ suc (count_by look_removed walk)
@@ -66,10 +66,10 @@ count_suc row walk =
     let counted : count_by look_removed (removed row ∷ walk) ≡ 1 + count_by look_removed walk = sum_by-cons _ (removed row) walk in
     omega (arith, counted)
 
-shift_not : (row : Row) (scans target rows : ℕ) (walk : List Look) → ends_at (suc scans) (suc target) (suc rows) (removed row ∷ walk) ≡ ends_at scans target rows walk
+pub shift_not : (row : Row) (scans target rows : ℕ) (walk : List Look) → ends_at (suc scans) (suc target) (suc rows) (removed row ∷ walk) ≡ ends_at scans target rows walk
 shift_not row scans target rows walk = or_same _ _ _ _ _ _ (suc_eq (length walk) scans) (ap (λ n. n == suc target) (count_suc row walk) ∙ suc_eq (count_by look_removed walk) target) (suc_eq (length walk) rows)
 
-none_ends : (scans target rows : ℕ) → ends_at (suc scans) (suc target) (suc rows) [] ≡ false
+pub none_ends : (scans target rows : ℕ) → ends_at (suc scans) (suc target) (suc rows) [] ≡ false
 none_ends scans target rows = or_same _ _ _ _ _ _ (zero_eq scans) (zero_eq target) (zero_eq rows)
 
 ends_set : (row : Row) (scans target rows : ℕ) (walk : List Look) → IsFirstEnd (ends_at scans (suc target) rows) walk → (k : ℕ) → k < suc (length walk)
@@ -95,7 +95,7 @@ or_true true b = refl
 or_true false true = refl
 or_true false false = refl
 
-or_mid : (a b : Bool) → (a || (true || b)) ≡ true
+pub or_mid : (a b : Bool) → (a || (true || b)) ≡ true
 or_mid true b = refl
 or_mid false b = refl
 

@@ -117,7 +117,7 @@ module _ (shape : Shape) (cpu : ℕ) (contents : DomainId → Content) (hash : �
 -- An element is taken from the own set
 
 module _ (shape : Shape) (cpu number key_hash : ℕ) (state : State) (apart : shape.common ≡ false) (within : cpu < shape.cpus) (settled : IsSettled shape (lies_in shape state) (bucket_number key_hash shape.buckets) []) where
-  own_lies : lies_in shape state (CpuLru cpu) ≡ in_own (own_at shape state cpu)
+  pub own_lies : lies_in shape state (CpuLru cpu) ≡ in_own (own_at shape state cpu)
   own_lies = let found = one_set (lies_in shape state (CpuLru cpu)) _ (settled.fit (CpuLru cpu)) in found.1 ∙ ap (λ (content : Content). in_own (set_of_content content)) (sym found.1)
     where
       set_of_content : Content → ListSet

@@ -50,7 +50,7 @@ module _ (scans : ℕ) (set : Listed) (visits : List Visit) (e : ℕ) where
       let visited : List Row = inactive_visited scans set in
       omega (arith, rows_append e any (reverse (those (was_set visits) visited)) set.active, rows_reverse e any (those (was_set visits) visited), rows_those e any (was_set visits) visited, rows_without e any (was_set visits) set.inactive)
 
-  visited_few : rows_of e any (inactive_visited scans set) ≤ rows_of e any set.inactive
+  pub visited_few : rows_of e any (inactive_visited scans set) ≤ rows_of e any set.inactive
   unfolding inactive_visited
   visited_few =
       omega (arith, rows_cut e any scans (inactive_order set.cursor set.inactive), order_rows set.cursor set.inactive e any)

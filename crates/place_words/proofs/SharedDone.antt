@@ -151,7 +151,7 @@ module _ (shape : Shape) (cpu number key_hash : ℕ) (state : State) (shared : s
         subst (λ (c : DomainId → Content). IsSettled shape c home (option_to_list (refill_got refill))) (sym lies_last)
         (refill_settles shape cpu key_hash state.bits (lies_in shape state) set lists shared within all_there own_there.0 none_free settled)
 
-    settled_then : IsSettled shape (lies_in shape state_then) home (option_to_list (refill_got refill))
+    pub settled_then : IsSettled shape (lies_in shape state_then) home (option_to_list (refill_got refill))
     settled_then = subst (λ (c : DomainId → Content). IsSettled shape c home (option_to_list (refill_got refill))) (sym (lies_after_all shape cpu number refill_turns state)) settled_last
 
     -- the own lists then

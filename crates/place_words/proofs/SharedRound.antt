@@ -59,7 +59,7 @@ steal_form bits [] pending =
     (stolen_of (freed first second), first, second, refl)
 
 -- one that gets nothing
-none_form : (bits : ℕ → Bool) (free : List ℕ) (pending : List Row) → steal_got (steal_of bits free pending) ≡ None → steal_of bits free pending ≡ local.Steal Nothing [] []
+pub none_form : (bits : ℕ → Bool) (free : List ℕ) (pending : List Row) → steal_got (steal_of bits free pending) ≡ None → steal_of bits free pending ≡ local.Steal Nothing [] []
 none_form bits free pending none =
     let empty = steal_none bits free pending none in
     ap (λ (es : List ℕ). steal_of bits es pending) empty.0 ∙ ap (λ (rows : List Row). steal_of bits [] rows) empty.1
@@ -76,7 +76,7 @@ either_same : (b : Bool) (x y : Content) → x ≡ y → cond b x y ≡ y
 either_same true x y same = same
 either_same false x y same = refl
 
-after_nothing : (shape : Shape) (cpu from : ℕ) (contents : DomainId → Content) → after_turn shape cpu contents (on_lock (Local from) (parts.Local (local.Steal Nothing [] []))) ≡ contents
+pub after_nothing : (shape : Shape) (cpu from : ℕ) (contents : DomainId → Content) → after_turn shape cpu contents (on_lock (Local from) (parts.Local (local.Steal Nothing [] []))) ≡ contents
 after_nothing shape cpu from contents = fun_ext (λ lock. either_same (is_same_lock (Local from) lock) _ _ (nothing_leaves shape cpu (contents lock)))
 
 -- a chase that was computed from contents that are the same

@@ -140,7 +140,7 @@ either_less : (b : Bool) (e n : ℕ) (first second : List Row) → rows_of e any
 either_less true e n first second p q = omega (arith, rows_any e first, p)
 either_less false e n first second p q = omega (arith, rows_any e second, q)
 
-forced_there : (lists : Listed) (looks : List Look) (e : ℕ) → times e (elements_of (forced_rows (after_looks lists looks))) ≤ in_set e any lists
+pub forced_there : (lists : Listed) (looks : List Look) (e : ℕ) → times e (elements_of (forced_rows (after_looks lists looks))) ≤ in_set e any lists
 unfolding after_looks
 forced_there lists looks e =
     let walked : List Row = take (length looks) (reverse lists.inactive) in

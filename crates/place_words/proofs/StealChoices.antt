@@ -38,10 +38,10 @@ sparing_probed bits [] = probed0
 sparing_probed bits (row ∷ rows) = probed_step (bits row.element) row (sparing_over bits rows) [] (sparing_probed bits rows) probed0
 
 -- whether the last of these looks removed something
-abbrev last_removed : List Look → Bool
+abbrev pub last_removed : List Look → Bool
 last_removed walk = unwrap_or (option_map look_removed (last_of walk)) false
 
-abbrev sparing_ends : ℕ → List Look → Bool
+abbrev pub sparing_ends : ℕ → List Look → Bool
 sparing_ends n walk = last_removed walk || length walk == n
 
 -- the last of a list with one more element at its head
@@ -61,10 +61,10 @@ suc_eq a b = grind (arith)
 or_both : (a b x y : Bool) → a ≡ x → b ≡ y → (a || b) ≡ (x || y)
 or_both a b x y p q = grind (arith, p, q)
 
-sparing_more : (row : Row) (n : ℕ) (walk : List Look) → sparing_ends (suc n) (spared row ∷ walk) ≡ sparing_ends n walk
+pub sparing_more : (row : Row) (n : ℕ) (walk : List Look) → sparing_ends (suc n) (spared row ∷ walk) ≡ sparing_ends n walk
 sparing_more row n walk = or_both _ _ _ _ (last_more (spared row) walk refl) (suc_eq (length walk) n)
 
-not_yet : (n : ℕ) → sparing_ends (suc n) [] ≡ false
+pub not_yet : (n : ℕ) → sparing_ends (suc n) [] ≡ false
 not_yet n = grind (arith)
 
 goes_past : (row : Row) (n : ℕ) (walk : List Look) → IsFirstEnd (sparing_ends n) walk → (k : ℕ) → k < suc (length walk) → sparing_ends (suc n) (take k (spared row ∷ walk)) ≡ false

@@ -1,12 +1,12 @@
 //! Rows in a vector.
 
-ghost use Rattle.std.specs.Prelude.{◌≡◌, ◌<◌, ◌≤◌, ℕ, length, reverse, position, slice_get, vec_capacity, IfSome};
+ghost use Rattle.std.specs.Prelude.{◌≡◌, ◌<◌, ◌≤◌, ℕ, length, reverse, position, slice_get, vec_capacity, IfOk, IfSome};
 ghost use Rattle.map_types.specs.ElementLists.{times};
 ghost use Rattle.map_types.specs.Listed.{elements_of};
 ghost use Rattle.row_list.specs.RowWords.{AreRows, is_of, row_before, row_after};
 
 use crate::{Row, Rows};
-use map_types::NoMemory;
+use map_types::{List, NoMemory, Numbers};
 use std::alloc::Global;
 
 /// Rows in a vector, which is searched for an element from the tail on.
@@ -60,9 +60,20 @@ impl Rows for PlainRows {
         Some(self.items.remove(at))
     }
 
+    fn elements(&self, alloc: Global) -> Result<Numbers, NoMemory> {
+        Ok(List::of(elements_in(alloc, &self.items)?))
+    }
+
     fn len(&self) -> u32 {
         self.items.len() as u32
     }
+}
+
+/// The elements of rows that lie tail first, head first.
+fn elements_in(alloc: Global, items: &[Row]) -> Result<Vec<u32>, NoMemory>
+    ensures { IfOk result (λ elements. elements.items ≡ elements_of (reverse items.now)) }
+{
+    Ok(items.iter().rev().map(|row| row.element).collect(alloc)?)
 }
 
 /// Where the row of an element lies.

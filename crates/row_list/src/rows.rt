@@ -7,7 +7,7 @@ ghost use Rattle.map_types.specs.Listed.{elements_of};
 ghost use Rattle.row_list.specs.RowWords.{row_of, without_row, head_row, tail_row, row_before, row_after, AreRows, spare_of};
 
 use crate::Row;
-use map_types::NoMemory;
+use map_types::{NoMemory, Numbers};
 use std::alloc::Global;
 
 /// A list of rows, head first, with distinct elements below a bound that no call changes. It has room for as many more
@@ -58,6 +58,10 @@ pub trait Rows: Drop {
         ensures present { IsSome result ↔ IsIn element (elements_of (rows self.old)) }
         ensures rows { rows self.new ≡ without_row element (rows self.old) }
         ensures bound { bound self.new ≡ bound self.old };
+
+    /// The elements of the rows, head first.
+    fn elements(&self, alloc: Global) -> Result<Numbers, NoMemory>
+        ensures { IfOk result (λ elements. elements ≡ elements_of (rows self.now)) };
 
     /// How many rows there are.
     fn len(&self) -> u32
