@@ -1,6 +1,6 @@
 -- The last state of a table whose one pass has all CPUs and holds no lock.
 use Rattle.std.proofs.Common.{◌≡◌, ◌≢◌, ℕ, ◌<◌, cond, Bool, true, false, List, [], ◌∷◌, length, sym, refl, ap, ◌∙◌, subst, Option, Some, None}
-use Rattle.std.specs.Prelude.{◌||◌, IsTrue, All, slice_get, Result, Ok, Err, IfOk}
+use Rattle.std.specs.Prelude.{◌||◌, IsTrue, All, slice_get, unwrap_or, Result, Ok, Err, IfOk}
 use mathlib.Core.Option.{some}
 use lib.ListN.{get_elem?}
 use Rattle.atomic_table.specs.Table.{State, Final, Seen}
@@ -10,8 +10,10 @@ use Rattle.map_types.specs.declared.kind.DomainId.TheVariants as named
 use Rattle.map_types.specs.Stored.{Stored}
 use Rattle.place_words.specs.declared.history.Entry.{Entry}
 use Rattle.place_words.specs.declared.history.Strand.{Strand}
-use Rattle.place_words.specs.Histories.{in_bucket, content, IsLegal}
+use Rattle.place_words.specs.Histories as histories
+use Rattle.place_words.specs.Histories.{bucket_in, content, IsLegal}
 use Rattle.place_words.specs.Locks.{is_lock, lock_named, lock_number, lock_count}
+use Rattle.place_words.specs.Logs.{bucket_at}
 use Rattle.place_words.specs.Strands.{places_on, AreSharedOut}
 use Rattle.place_words.proofs.LockLemmas.{named_by_number, number_within}
 use Rattle.place_core.specs.State as cores
@@ -26,11 +28,12 @@ use Rattle.place_table.specs.Contents.{told, lists_of, Fits, IsSized}
 use Rattle.place_table.specs.Views.{is_among, hold_at, is_in_hand_of, known_log, bit_seen, current_strand, all_strands}
 use Rattle.place_table.specs.Rules.{World, Rule, Knows, entries, hold_of, is_hand_of, turns_on, turns_of, indexes, StandIn, ArePast, HaveNoSteps, touches_of, IsOfStrand, AreReads}
 use Rattle.place_table.specs.Passes.{PassView, HasCpusOf, HandsReal}
-use Rattle.place_table.specs.Closing.{ClosedView, AreSlots, has_lock, strands_told, AreTurnsOf, IsClosed, AreTouchesOf, AreWordsOf}
+use Rattle.place_table.specs.Closing.{ClosedView, AreSlots, has_lock, strands_told, state_left, AreTurnsOf, IsClosed, AreTouchesOf, AreWordsOf}
 use Rattle.place_table.specs.Leaving.{WasLeft}
 use Rattle.place_table.proofs.Worlds.{true_false, none_some, hold_of_mine, has_mine, own_hand}
 use Rattle.place_table.proofs.Locks.{free_home, seat_at}
 use Rattle.place_table.proofs.Leaves.{passes_below, any_of}
+use Rattle.place_table.proofs.MapLeft.{bucket_left}
 use Rattle.place_table.proofs.Parted.{all_within}
 use Rattle.place_table.proofs.SharedOut.{item_there, shared_told}
 use Rattle.place_table.proofs.StrandMoves.{done, past_done, among_done}
@@ -40,6 +43,8 @@ use Rattle.place_table.proofs.Touches.{are_touches_of}
 -- what was true at the end, before anything is handed out
 pub record AtEnd (shape : Shape) (v : View) (words : List ℕ) (slots : List Behind) : Type 0 where
   pub shape_is : v.shape ≡ shape
+  -- no lists are shared
+  pub own_lists : shape.common ≡ false
   pub log : ℕ → List Entry
   pub lost : ℕ → Bool
   pub core : cores.State
@@ -145,6 +150,7 @@ module _ (shape : Shape) (s : State Behind View) (r : Rule shape s) (pass : ℕ)
   at_end words slots words_are counted given_back =
       let w = r.world in let kn = r.knows pass v at_pass in record {
         shape_is = kn.shape_is;
+        own_lists = r.own_lists;
         log = λ k. entries (w.log k);
         lost = w.lost;
         core = w.core;
@@ -156,7 +162,7 @@ module _ (shape : Shape) (s : State Behind View) (r : Rule shape s) (pass : ℕ)
         known = kn.known;
         bits = kn.bits;
         words_told = subst (AreWordsOf shape w.core) words_are record { locks = r.lock_words; owners = r.owner_words; homes = r.home_words; bits = r.bit_words };
-        touches = subst (AreTouchesOf shape (all_strands v)) words_are (are_touches_of shape w pass (length s.views) (done w pass) (all_strands v) s.words strands r.of_strands r.lead only_reads);
+        touches = subst (AreTouchesOf shape (all_strands v)) words_are (are_touches_of shape w pass (length s.views) (done w pass) (all_strands v) s.words strands r.in_time r.of_strands r.lead only_reads);
         turns = λ k. are_turns_of shape w pass (length s.views) k (done w pass) (all_strands v) strands (r.tagged k) (listed k);
         stand = λ n strand at_n. (strand_here shape w pass (done w pass) (all_strands v) n strand strands at_n).is.stand;
         recorded = λ n strand at_n. (strand_here shape w pass (done w pass) (all_strands v) n strand strands at_n).is.kept_are;
@@ -183,23 +189,22 @@ neither true y e = true_false e
 neither false y e = (refl, e)
 
 -- the bodies of a bucket have the sizes of the map
-told_sized : (shape : Shape) (bucket : ℕ) (here : Content) (bodies : List Stored) → Fits shape (named.Bucket bucket) here → in_bucket bodies ≡ told here → All (IsSized shape) bodies
-told_sized shape bucket (lying.Bucket chain) bodies fits same = subst (All (IsSized shape)) (sym (one_bucket bodies chain.bodies same)) fits
-  where
-    one_bucket : (xs ys : List Stored) → in_bucket xs ≡ in_bucket ys → xs ≡ ys
-    one_bucket xs ys same = cc
-told_sized shape bucket (lying.Freelist freelist) bodies fits same = absurd fits
+told_sized : (shape : Shape) (bucket : ℕ) (here : Content) → Fits shape (named.Bucket bucket) here → All (IsSized shape) (unwrap_or (bucket_in (told here)) [])
+told_sized shape bucket (lying.Bucket chain) fits = fits
+told_sized shape bucket (lying.Freelist freelist) fits = absurd fits
+told_sized shape bucket (lying.Set set) fits = absurd fits
 
-bodies_sized : (shape : Shape) (v : View) (words : List ℕ) (slots : List Behind) (e : AtEnd shape v words slots) (bucket : ℕ) (bodies : List Stored) → bucket < shape.buckets
-    → in_bucket bodies ≡ content shape (named.Bucket bucket) (e.log (lock_number shape (named.Bucket bucket))) → All (IsSized shape) bodies
-bodies_sized shape v words slots e bucket bodies less are =
+bodies_sized : (shape : Shape) (v : View) (words : List ℕ) (slots : List Behind) (e : AtEnd shape v words slots) (bit : ℕ → Bool) (spares : List (Option Stored)) (bucket : ℕ) → bucket < shape.buckets
+    → All (IsSized shape) (bucket_at shape (state_left shape e.log bit spares) bucket)
+bodies_sized shape v words slots e bit spares bucket less =
     let lock = named.Bucket bucket in
     let k : ℕ = lock_number shape lock in
     let there = passes_below bucket shape.buckets less in
     let same : lock_named shape k ≡ lock = named_by_number shape lock there in
     let at = e.slots_are.each k (number_within shape lock there) (passes_named lock k same there) in
-    told_sized shape bucket at.2.here bodies (subst (λ (l : DomainId). Fits shape l at.2.here) same at.2.fits)
-    (are ∙ (ap (λ (l : DomainId). content shape l (e.log k)) (sym same) ∙ sym at.2.told_is))
+    subst (λ (c : histories.Content). All (IsSized shape) (unwrap_or (bucket_in c) []))
+    (at.2.told_is ∙ ap (λ (l : DomainId). content shape l (e.log k)) same)
+    (told_sized shape bucket at.2.here (subst (λ (l : DomainId). Fits shape l at.2.here) same at.2.fits))
   where
     passes_named : (lock : DomainId) (k : ℕ) → lock_named shape k ≡ lock → is_lock shape lock ≡ true → has_lock shape k ≡ true
     passes_named lock k same there = ap (is_lock shape) same ∙ there
@@ -216,7 +221,7 @@ module _ (shape : Shape) (p : PassView) (words : List ℕ) (slots : List Behind)
     lies = e.lies;
     hands = e.hands;
     in_hand = λ x c has. let real = hands x c has in (real.0, mine c real.1);
-    sized = λ bucket less. bodies_sized shape p.view words slots e bucket _ less (was.left.buckets_are bucket less);
+    sized = λ bucket less. subst (All (IsSized shape)) (sym (bucket_left was.left bucket less)) (bodies_sized shape p.view words slots e e.core.bit p.spares bucket less);
     known = e.known;
     bits = e.bits;
     turns = e.turns;

@@ -1,18 +1,23 @@
 -- What lies under each lock at first.
 use Rattle.std.proofs.Common.{◌≡◌, ℕ, suc, ◌+◌, ◌<◌, ◌≤◌, Bool, true, false, not, ◌&&◌, cond, ltb, List, [], ◌∷◌, ◌++◌, length, ap, ◌∙◌, sym, subst, ⊎_elim, ◌⊎◌, arith}
-use Rattle.std.specs.Prelude.{filter}
+use Rattle.std.specs.Prelude.{filter, nat_lt}
 use Rattle.std.proofs.lemmas.Bool.{cases_Bool, cases_eq, and_parts, ltb-true}
 use Rattle.std.proofs.lemmas.List.{length-append}
 use Rattle.atomic_table.proofs.Lists.{at_last, at_longer}
 use Rattle.map_types.specs.declared.attr.Shape.{Shape}
 use Rattle.map_types.specs.declared.kind.DomainId.{DomainId}
 use Rattle.map_types.specs.declared.kind.DomainId.TheVariants.{Local, Global, CpuLru, Freelist}
+use Rattle.map_types.specs.ElementLists.{one, times, IsIn}
 use Rattle.map_types.specs.Shape.{HasBounds}
 use Rattle.map_types.specs.Kind.{is_lru}
-use Rattle.place_words.specs.Locks.{is_lock}
+use Rattle.place_words.specs.Locks.{is_lock, lock_number}
+use Rattle.place_words.proofs.LockLemmas.{named_by_number}
 use Rattle.place_words.specs.Openings.{is_free, opening_owner, opening_stack, opening_free}
 use Rattle.place_words.specs.Shares.{share_count}
+use Rattle.place_core.specs.Opening.{opening, opening_lists}
+use Rattle.place_core.proofs.OpeningLaws.{opening_placed}
 use Rattle.place_core.proofs.OpeningLemmas.{first_next, first_up, first_of_all}
+use Rattle.place_core.proofs.RowLemmas.{stands_where}
 use Rattle.place_table.specs.declared.content.Behind.{Behind}
 use Rattle.place_table.specs.Opening.{IsFirstSlot, AreFirstSlots}
 use Rattle.place_table.proofs.FirstSpares.{length_stack}
@@ -24,27 +29,18 @@ pub not_common : (shape : Shape) → HasBounds shape → is_lru shape.kind ≡ f
 not_common shape bounds plain =
     ⊎_elim
     (λ (common : shape.common ≡ true). let lru = bounds.common_evicts common in absurd cc)
-    (λ (apart : shape.common ≡ false). apart)
+    (λ (own : shape.common ≡ false). own)
     (cases_Bool shape.common)
 
--- and has neither local nor global lists, nor list sets
-pub no_local : (shape : Shape) (cpu : ℕ) → HasBounds shape → is_lru shape.kind ≡ false → is_lock shape (Local cpu) ≡ false
-no_local shape cpu bounds plain = ap (λ b. b && ltb cpu shape.cpus) (not_common shape bounds plain)
+-- a map whose CPUs share no lists has neither local nor global ones
+pub no_local : (shape : Shape) (cpu : ℕ) → shape.common ≡ false → is_lock shape (Local cpu) ≡ false
+no_local shape cpu own = ap (λ b. b && ltb cpu shape.cpus) own
 
-pub no_global : (shape : Shape) → HasBounds shape → is_lru shape.kind ≡ false → is_lock shape Global ≡ false
-no_global shape bounds plain = not_common shape bounds plain
-
-pub no_set : (shape : Shape) (cpu : ℕ) → is_lru shape.kind ≡ false → is_lock shape (CpuLru cpu) ≡ false
-no_set shape cpu plain = ap (λ b. (b && not shape.common) && ltb cpu shape.cpus) plain
-
-pub no_lists : (shape : Shape) (lock : DomainId) → HasBounds shape → is_lru shape.kind ≡ false → ((cpu : ℕ) × (lock ≡ Local cpu)) ⊎ ((lock ≡ Global) ⊎ ((cpu : ℕ) × (lock ≡ CpuLru cpu))) → is_lock shape lock ≡ false
-no_lists shape lock bounds plain among =
+pub no_lists : (shape : Shape) (lock : DomainId) → shape.common ≡ false → ((cpu : ℕ) × (lock ≡ Local cpu)) ⊎ (lock ≡ Global) → is_lock shape lock ≡ false
+no_lists shape lock own among =
     ⊎_elim
-    (λ (local : (cpu : ℕ) × (lock ≡ Local cpu)). ap (is_lock shape) local.1 ∙ no_local shape local.0 bounds plain)
-    (λ (others : (lock ≡ Global) ⊎ ((cpu : ℕ) × (lock ≡ CpuLru cpu))). ⊎_elim
-    (λ (global : lock ≡ Global). ap (is_lock shape) global ∙ no_global shape bounds plain)
-    (λ (set : (cpu : ℕ) × (lock ≡ CpuLru cpu)). ap (is_lock shape) set.1 ∙ no_set shape set.0 plain)
-    others)
+    (λ (local : (cpu : ℕ) × (lock ≡ Local cpu)). ap (is_lock shape) local.1 ∙ no_local shape local.0 own)
+    (λ (global : lock ≡ Global). ap (is_lock shape) global ∙ own)
     among
 
 -- Free lists
@@ -71,13 +67,42 @@ share_in_list shape cpu true within =
     omega arith
 share_in_list shape cpu false within = omega arith
 
--- a freelist has room for what lies there
+-- a freelist has room for what lies there, and so has a list set
 pub free_few : (shape : Shape) (lock : DomainId) (cpu : ℕ) → HasBounds shape → is_lock shape lock ≡ true → lock ≡ Freelist cpu → length (opening_free shape lock) ≤ shape.elements
 unfolding opening_free
 free_few shape lock cpu bounds is lock_is =
     let there : is_lock shape (Freelist cpu) ≡ true = ap (is_lock shape) (sym lock_is) ∙ is in
     let few : cpu < shape.cpus = ltb-true cpu shape.cpus (and_parts (not (is_lru shape.kind)) (ltb cpu shape.cpus) there).1 in
     subst (λ (d : DomainId). length (opening_free shape d) ≤ shape.elements) (sym lock_is) (share_in_list shape cpu (is_lock shape (Freelist cpu)) (share_within shape cpu bounds few))
+
+pub free_few_in_set : (shape : Shape) (lock : DomainId) (cpu : ℕ) → HasBounds shape → is_lock shape lock ≡ true → lock ≡ CpuLru cpu → length (opening_free shape lock) ≤ shape.elements
+unfolding opening_free
+free_few_in_set shape lock cpu bounds is lock_is =
+    let there : is_lock shape (CpuLru cpu) ≡ true = ap (is_lock shape) (sym lock_is) ∙ is in
+    let few : cpu < shape.cpus = ltb-true cpu shape.cpus (and_parts (is_lru shape.kind && not shape.common) (ltb cpu shape.cpus) there).1 in
+    subst (λ (d : DomainId). length (opening_free shape d) ≤ shape.elements) (sym lock_is) (share_in_list shape cpu (is_lock shape (CpuLru cpu)) (share_within shape cpu bounds few))
+
+-- what is free under a lock are elements of the map, each once
+times_free : (shape : Shape) (lock : DomainId) (e : ℕ) → HasBounds shape → is_lock shape lock ≡ true → (t : Bool) × (times e (opening_free shape lock) ≡ one (nat_lt e shape.elements && t))
+unfolding opening opening_lists
+times_free shape lock e bounds is =
+    let p = opening_placed shape bounds in
+    let k : ℕ = lock_number shape lock in
+    (_, ap (λ (d : DomainId). times e (opening_free shape d)) (sym (named_by_number shape lock is)) ∙ p.placed.free k e)
+
+pub free_once : (shape : Shape) (lock : DomainId) → HasBounds shape → is_lock shape lock ≡ true → (e : ℕ) → times e (opening_free shape lock) ≤ 1
+free_once shape lock bounds is e =
+    let counted = times_free shape lock e bounds is in
+    at_most (nat_lt e shape.elements && counted.0) counted.1
+  where
+    at_most : {n : ℕ} (b : Bool) → n ≡ one b → n ≤ 1
+    at_most true same = omega (arith, same)
+    at_most false same = omega (arith, same)
+
+pub free_real : (shape : Shape) (lock : DomainId) → HasBounds shape → is_lock shape lock ≡ true → (e : ℕ) → IsIn e (opening_free shape lock) → e < shape.elements
+free_real shape lock bounds is e inside =
+    let counted = times_free shape lock e bounds is in
+    (stands_where shape.elements e _ _ counted.1 inside).real
 
 -- Slots
 

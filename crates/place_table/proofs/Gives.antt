@@ -1,6 +1,7 @@
 -- From what a take tells to what a give asks.
 use Rattle.std.proofs.Common.{◌≡◌, ℕ, zero, suc, ◌<◌, cond, Bool, true, false, List, [], ◌∷◌, ◌++◌, sym, refl, ap, ◌∙◌, subst, arith, Option, Some, MatchOption}
-use Rattle.std.specs.Prelude.{IsTrue}
+use Rattle.std.specs.Prelude.{IsTrue, All}
+use Rattle.std.proofs.lemmas.List.Elements.{All-nil, All-head}
 use Rattle.map_types.specs.declared.attr.Shape.{Shape}
 use Rattle.map_types.specs.declared.kind.DomainId.{DomainId}
 use Rattle.map_types.specs.declared.kind.DomainId.TheVariants.{Bucket}
@@ -14,6 +15,7 @@ use Rattle.place_words.specs.Buckets.{AllowsInBucket, bucket_after}
 use Rattle.map_types.specs.ElementLists.{times, one}
 use Rattle.place_words.specs.Histories.{content, content_after, Allows}
 use Rattle.place_words.specs.Locks.{is_lock, lock_named}
+use Rattle.place_words.specs.SerialOrder.{probes_in}
 use Rattle.place_words.proofs.LockLemmas.{named_by_number}
 use Rattle.place_core.specs.State.{rows}
 use Rattle.place_table.specs.declared.content.Content.{Content}
@@ -30,19 +32,19 @@ use Rattle.place_table.specs.declared.view.BitSeen.{BitSeen}
 use Rattle.place_table.specs.declared.view.Turned.{Turned}
 use Rattle.place_table.proofs.Going.{goes_noted, made_on}
 use Rattle.place_table.specs.Views.{no_notes, is_among, is_in_hand_of, noted, with_clear, with_owner_read, bits_with, numbers_below, touching, owners_passed}
-use Rattle.place_table.specs.TurnNotes.{NotesFit, WasReadInHand, PartNotesFit}
+use Rattle.place_table.specs.TurnNotes.{NotesFit, WasReadInHand, ProbeFits, CameToHand}
 use Rattle.place_table.specs.Passes.{PassView, TableView, IsPassOf, HasBegun, Takes, CanGive, Went, HasOnlySpares, IsInNoCall, IsFirstPass, SawOwner, Cleared, with_view, spare_of}
 use Rattle.place_table.specs.declared.view.WordStep.{WordStep}
 use Rattle.place_table.specs.declared.view.HomeIn.{HomeIn}
-use Rattle.place_table.proofs.StoredHashes.{stored_listed, none_stored}
+use Rattle.place_table.proofs.StoredHashes.{stored_listed, HasNoHashes, none_stored}
 use Rattle.place_words.specs.declared.bucket_part.Seen.TheVariants.{Removed, Held}
 use Rattle.place_table.specs.Words.{owner_word, bit_word}
 use Rattle.place_words.specs.Codes.{owner_code}
 
--- what was taken may be given back by a part that changes nothing
-pub unchanged : (t : TableView) (lock : DomainId) (p q : PassView) (here : Content) (part : Part) → Takes t lock p q here → IsPassOf t q → HasBegun q → IsTrue (is_lock t.shape lock)
-    → Allows t.shape q.cpu part (told here) → content_after t.shape q.cpu part (told here) ≡ told here → NotesFit t.shape part no_notes → CanGive t lock q here part
-unchanged t lock p q here part took of_table begun there allowed same notes_fit =
+-- a bucket or a freelist that was taken may be given back by a part that changes nothing
+pub unchanged : (t : TableView) (lock : DomainId) (p q : PassView) (here : Content) (part : Part) → HasNoHashes lock → (took : Takes t lock p q here) → IsPassOf t q → HasBegun q → IsTrue (is_lock t.shape lock)
+    → Allows t.shape q.cpu part (told here) → content_after t.shape q.cpu part (told here) ≡ told here → NotesFit t.shape q.view took.hold part no_notes → CanGive t lock q here part
+unchanged t lock p q here part no_hashes took of_table begun there allowed same notes_fit =
     let named : lock_named t.shape took.hold.lock ≡ lock = ap (lock_named t.shape) took.lock_is ∙ named_by_number t.shape lock there in
     let told_there : told here ≡ content t.shape (lock_named t.shape took.hold.lock) took.hold.log = took.told_is ∙ ap (λ (d : DomainId). content t.shape d took.hold.log) (sym named) in record {
       of_table = of_table;
@@ -62,7 +64,7 @@ unchanged t lock p q here part took of_table begun there allowed same notes_fit 
         allowed = subst (Allows t.shape q.cpu part) told_there allowed;
         same_free = λ e. ap (λ l. times e l.free) (sym took.now);
         same_rows = λ e. ap (λ l. times e (rows l)) (sym took.now);
-        rows_kept = λ lru j e h n other _ _ _ is. absurd (none_stored here e n is);
+        rows_kept = λ lru j e h n other _ _ _ is. absurd (none_stored t.shape lock here e n no_hashes took.fits is);
         gone = λ lru c e h _ was none.
             let inside = stored_listed (told here) e h (ap (λ z. stored_in z e) told_there ∙ was) in
             let both = times_append e took.hold.now.free (rows took.hold.now) in
@@ -73,7 +75,7 @@ unchanged t lock p q here part took of_table begun there allowed same notes_fit 
     }
 
 -- a turn in which no owner was read hands none on to the turn around it
-pub none_passed : (part : Part) (notes : Notes) (below : List Notes) → notes.owners ≡ [] → PartNotesFit part notes → owners_passed part below ≡ below
+pub none_passed : (part : Part) (notes : Notes) (below : List Notes) → notes.owners ≡ [] → All (ProbeFits notes.owners) (probes_in part) → owners_passed part below ≡ below
 none_passed (parts.Bucket (Lookup side key got)) notes below none fit = refl
 none_passed (parts.Bucket (Update side flags key value offer put)) notes below none fit = refl
 none_passed (parts.Bucket (Delete key removed)) notes below none fit = refl
@@ -82,7 +84,8 @@ none_passed (parts.Bucket (Next key found)) notes below none fit = refl
 none_passed (parts.Bucket (First key)) notes below none fit = refl
 none_passed (parts.Bucket (Walk remove room result)) notes below none fit = refl
 none_passed (parts.Bucket (Evict e Removed)) notes below none fit = refl
-none_passed (parts.Bucket (Evict e (Held holder))) notes below none fit = absurd (subst (WasReadInHand e holder) none fit)
+none_passed (parts.Bucket (Evict e (Held holder))) notes below none fit =
+    absurd (subst (WasReadInHand e holder) none (All-head (ProbeFits notes.owners) (record { element = e; probed = Held holder }) [] fit))
 none_passed (parts.Free part) notes below none fit = refl
 none_passed (parts.Local part) notes below none fit = refl
 none_passed (parts.Global part) notes below none fit = refl
@@ -122,11 +125,13 @@ pub told_first : (t : TableView) (bucket : ℕ) (p q : PassView) (chain : BodyLi
     → CanGive t (Bucket bucket) q (contents.Bucket chain) (parts.Bucket (First (first_key chain.bodies)))
 unfolding AllowsInBucket bucket_after
 told_first t bucket p q chain took of_table begun there =
-    unchanged t (Bucket bucket) p q (contents.Bucket chain) (parts.Bucket (First (first_key chain.bodies))) took (taken_of_table t (Bucket bucket) p q (contents.Bucket chain) took of_table) (taken_begun t (Bucket bucket) p q (contents.Bucket chain) took begun) there
+    unchanged t (Bucket bucket) p q (contents.Bucket chain) (parts.Bucket (First (first_key chain.bodies))) tt took (taken_of_table t (Bucket bucket) p q (contents.Bucket chain) took of_table) (taken_begun t (Bucket bucket) p q (contents.Bucket chain) took begun) there
     refl refl record {
+      served = tt;
       marks_are = by_bool (is_lru t.shape.kind) (λ b. [] ≡ cond {A = List ℕ} b [] []) (λ _. refl) (λ _. refl);
-      no_clears = refl;
-      seen = tt;
+      clears_are = refl;
+      held = All-nil (ProbeFits []);
+      came = All-nil (CameToHand q.view took.hold no_notes);
     }
 
 -- a look, or a bit cleared, where no lock is held
@@ -154,7 +159,7 @@ went_on p q r first second lost more_lost a b = record {
 -- an owner was read
 pub went_owner : (t : TableView) (e : ℕ) (p q : PassView) (owner : Owner) → p.view.notes ≡ [] → SawOwner t e p q owner → Went p q [] []
 went_owner t e p q owner none_noted saw =
-    went_noted p q (with_owner_read e owner p.view.notes) p.view.bits (touching (owner_word p.view.shape e) (Some (owner_code owner)) (owner_code owner) p.view) p.view.readings saw.after_is (no_read p.view.notes none_noted)
+    went_noted p q (with_owner_read e owner p.view.notes) p.view.bits (touching saw.at (owner_word p.view.shape e) (Some (owner_code owner)) (owner_code owner) p.view) p.view.readings saw.after_is (no_read p.view.notes none_noted)
   where
     no_read : (notes : List Notes) → notes ≡ [] → with_owner_read e owner notes ≡ notes
     no_read [] empty = refl
@@ -164,7 +169,7 @@ went_owner t e p q owner none_noted saw =
 pub went_cleared : (t : TableView) (e : ℕ) (p q r : PassView) (owner : Owner) (bit : Bool) → p.view.notes ≡ [] → SawOwner t e p q owner → Cleared e q r bit → Went p r [] []
 went_cleared t e p q r owner bit none_noted saw was_cleared =
     let first = went_owner t e p q owner none_noted saw in
-    went_on p q r [] [] [] [] first (went_noted q r (with_clear e bit q.view.notes) (bits_with e false q.view) (touching (bit_word q.view.shape e) (Some (one bit)) 0 q.view) q.view.readings was_cleared.after_is (no_clear q.view.notes (first.made.notes ∙ none_noted)))
+    went_on p q r [] [] [] [] first (went_noted q r (with_clear e bit q.view.notes) (bits_with e false q.view) (touching was_cleared.at (bit_word q.view.shape e) (Some (one bit)) 0 q.view) q.view.readings was_cleared.after_is (no_clear q.view.notes (first.made.notes ∙ none_noted)))
   where
     no_clear : (notes : List Notes) → notes ≡ [] → with_clear e bit notes ≡ notes
     no_clear [] empty = refl

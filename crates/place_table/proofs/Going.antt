@@ -15,13 +15,14 @@ use Rattle.place_table.specs.declared.content.Content.{Content}
 use Rattle.place_table.specs.declared.view.View.{View}
 use Rattle.place_table.specs.declared.view.Hold.{Hold}
 use Rattle.place_table.specs.declared.view.InHand.{InHand}
+use Rattle.place_table.specs.declared.view.HashIn.{HashIn}
 use Rattle.place_table.specs.declared.view.Notes.{Notes}
 use Rattle.place_table.specs.declared.view.BitSeen.{BitSeen}
 use Rattle.place_table.specs.declared.view.Turned.{Turned}
 use Rattle.place_table.specs.Known.{AreAllowedAt, log_then, log_after_all, GoOn, bit_then, bit_after_all, BitTouch, SeesBit, SeeOn, Learns, KnowsAll, FollowOn, log_after, logs_after}
 use Rattle.place_table.specs.Plays.{IsKnownBit}
 use Rattle.place_table.specs.Passes.{PassView, TableView, IsPassOf, HasBegun, Takes, CanGive, Gave, GaveSome, IsKeptOf, Goes, Made, with_view, with_spares, entry_of}
-use Rattle.place_table.specs.Views.{has_all, has_all_below, known_log, bit_seen, bits_with, marked, cleared, bit_read, learned, moved, noted, turned, place_of, kept_step, holding, is_among}
+use Rattle.place_table.specs.Views.{has_all, has_all_below, known_log, bit_seen, bits_with, marked, cleared, bit_read, learned, moved, noted, turned, place_of, kept_step, holding, is_among, with_hashes}
 use Rattle.place_table.proofs.Entries.{append_nil}
 use Rattle.place_table.specs.declared.view.WordStep.{WordStep}
 use Rattle.place_table.specs.declared.view.HomeIn.{HomeIn}
@@ -85,8 +86,8 @@ goes_took t lock p q here took =
       lost_is = refl;
     }
 
-pub goes_moved : (k : ℕ) (now : Lists) (hand : List InHand) (word left : ℕ) (p q : PassView) → q ≡ with_view p (moved k now hand word left p.view) → Goes p q [] []
-goes_moved k now hand word left p q is =
+pub goes_moved : {hashes : List HashIn} (at k : ℕ) (now : Lists) (hand : List InHand) (notes : List Notes) (word left : ℕ) (p q : PassView) → q ≡ with_view p (with_hashes hashes (moved at k now hand notes word left p.view)) → Goes p q [] []
+goes_moved {hashes} at k now hand notes word left p q is =
     subst (λ (z : PassView). Goes p z [] []) (sym is) record {
       table = refl;
       seat = refl;
@@ -245,9 +246,9 @@ pub learns_none : (shape : Shape) (v : View) → Learns shape v v [] []
 learns_none shape v = learns_nothing shape v v refl refl refl refl
 
 -- what was moved
-pub learns_moved : (shape : Shape) (k : ℕ) (now : Lists) (hand : List InHand) (word left : ℕ) (p q : PassView) → q ≡ with_view p (moved k now hand word left p.view) → Learns shape p.view q.view [] []
-learns_moved shape k now hand word left p q is =
-    subst (λ (z : PassView). Learns shape p.view z.view [] []) (sym is) (learns_nothing shape p.view (moved k now hand word left p.view) refl refl refl refl)
+pub learns_moved : {hashes : List HashIn} (shape : Shape) (at k : ℕ) (now : Lists) (hand : List InHand) (notes : List Notes) (word left : ℕ) (p q : PassView) → q ≡ with_view p (with_hashes hashes (moved at k now hand notes word left p.view)) → Learns shape p.view q.view [] []
+learns_moved {hashes} shape at k now hand notes word left p q is =
+    subst (λ (z : PassView). Learns shape p.view z.view [] []) (sym is) (learns_nothing shape p.view (with_hashes hashes (moved at k now hand notes word left p.view)) refl refl refl refl)
 
 -- A step on a bit: what it saw is what was known of the bit, and what it left is known from then on.
 learns_touched : (shape : Shape) (v w : View) (e : ℕ) (seen : Option Bool) (left : Bool) → w.known ≡ v.known → w.bits ≡ bits_with e left v → w.cpus ≡ v.cpus → w.shape ≡ v.shape
@@ -266,14 +267,14 @@ learns_touched shape v w e seen left known bits cpus same sees = record {
     by_known None sees = tt
     by_known (Some bit) sees = sees bit refl
 
-pub learns_marked : (shape : Shape) (e : ℕ) (v : View) → Learns shape v (marked e v) [] (record { element = e; seen = None; left = true } ∷ [])
-learns_marked shape e v = learns_touched shape v (marked e v) e None true refl refl refl refl (λ known is. tt)
+pub learns_marked : (shape : Shape) (at e : ℕ) (v : View) → Learns shape v (marked at e v) [] (record { element = e; seen = None; left = true } ∷ [])
+learns_marked shape at e v = learns_touched shape v (marked at e v) e None true refl refl refl refl (λ known is. tt)
 
-pub learns_cleared : (shape : Shape) (e : ℕ) (was : Bool) (v : View) → IsKnownBit e was v → Learns shape v (cleared e was v) [] (record { element = e; seen = Some was; left = false } ∷ [])
-learns_cleared shape e was v known = learns_touched shape v (cleared e was v) e (Some was) false refl refl refl refl known
+pub learns_cleared : (shape : Shape) (at e : ℕ) (was : Bool) (v : View) → IsKnownBit e was v → Learns shape v (cleared at e was v) [] (record { element = e; seen = Some was; left = false } ∷ [])
+learns_cleared shape at e was v known = learns_touched shape v (cleared at e was v) e (Some was) false refl refl refl refl known
 
-pub learns_bit_read : (shape : Shape) (e : ℕ) (bit : Bool) (v : View) → IsKnownBit e bit v → Learns shape v (bit_read e bit v) [] (record { element = e; seen = Some bit; left = bit } ∷ [])
-learns_bit_read shape e bit v known = learns_touched shape v (bit_read e bit v) e (Some bit) bit refl refl refl refl known
+pub learns_bit_read : (shape : Shape) (at e : ℕ) (bit : Bool) (v : View) → IsKnownBit e bit v → Learns shape v (bit_read at e bit v) [] (record { element = e; seen = Some bit; left = bit } ∷ [])
+learns_bit_read shape at e bit v known = learns_touched shape v (bit_read at e bit v) e (Some bit) bit refl refl refl refl known
 
 -- turns of other locks leave the turns of this one
 abbrev pub AreElsewhere : ℕ → List Turned → Type 0
@@ -327,7 +328,7 @@ learns_given t lock q r back inner part w can legal told apart knows known bits 
 -- a take tells nothing of turns
 pub learns_took : (t : TableView) (lock : DomainId) (p q : PassView) (here : Content) → Takes t lock p q here → Learns t.shape p.view q.view [] []
 learns_took t lock p q here took =
-    subst (λ (z : PassView). Learns t.shape p.view z.view [] []) (sym took.after_is) (learns_nothing t.shape p.view (holding took.hold p.view) refl refl refl refl)
+    subst (λ (z : PassView). Learns t.shape p.view z.view [] []) (sym took.after_is) (learns_nothing t.shape p.view (holding took.at took.hold p.view) refl refl refl refl)
 
 -- the same from its take
 pub learns_turn : (t : TableView) (lock : DomainId) (p q r : PassView) (here back : Content) (inner : List Turned) (part : Part) (w : View) → Takes t lock p q here → (can : CanGive t lock r back part)

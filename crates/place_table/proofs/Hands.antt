@@ -16,6 +16,7 @@ use Rattle.place_table.specs.declared.content.Behind.{Behind}
 use Rattle.place_table.specs.declared.view.Hold.{Hold}
 use Rattle.place_table.specs.declared.view.InHand.{InHand}
 use Rattle.place_table.specs.declared.strands.Finished.{Finished}
+use Rattle.place_table.specs.declared.view.Notes.{Notes}
 use Rattle.place_table.specs.declared.view.View.{View}
 use Rattle.place_table.specs.Passes.{Carries, HandsReal, IsPass}
 use Rattle.place_table.specs.Plays.{Seated}
@@ -23,6 +24,7 @@ use Rattle.place_table.specs.Rules.{is_hand_of, is_home_of, IsAboveAll, Ascends}
 use Rattle.place_table.specs.Views.{is_among, hold_at, is_in_hand_of, now_at, with_now, with_in_hand, without_in_hand, with_places}
 use Rattle.place_table.proofs.Worlds.{by_bool, some_is, none_some}
 use Rattle.place_table.specs.declared.view.HomeIn.{HomeIn}
+use Rattle.place_table.specs.declared.view.HashIn.{HashIn}
 use Rattle.place_table.specs.declared.view.WordStep.{WordStep}
 
 -- Locks that are held
@@ -187,25 +189,26 @@ real_with shape cpus e cpu hand all real mine x c in_hand =
     (λ _ f. all x c f))
     (λ _ f. all x c f) in_hand
 
+-- what is in hand without an element was in hand
+pub was_in_hand : (e cpu x c : ℕ) (hand : List InHand) → is_in_hand_of x c (without_in_hand e cpu hand) ≡ true → is_in_hand_of x c hand ≡ true
+was_in_hand e cpu x c [] is = is
+was_in_hand e cpu x c (one ∷ others) is = by_bool ((eqb one.element e) && (eqb one.cpu cpu))
+    (λ b. is_in_hand_of x c (cond b (without_in_hand e cpu others) (one ∷ without_in_hand e cpu others)) ≡ true → cond (eqb one.element x && eqb one.cpu c) true (is_in_hand_of x c others) ≡ true)
+    (λ _ f. or_true (eqb one.element x && eqb one.cpu c) (was_in_hand e cpu x c others f))
+    (λ _ f. by_bool (eqb one.element x && eqb one.cpu c) (λ b. cond b true (is_in_hand_of x c (without_in_hand e cpu others)) ≡ true → cond b true (is_in_hand_of x c others) ≡ true)
+    (λ _ _. refl) (λ _ later. was_in_hand e cpu x c others later) f) is
+  where
+    or_true : (b : Bool) → is_in_hand_of x c others ≡ true → cond b true (is_in_hand_of x c others) ≡ true
+    or_true true f = refl
+    or_true false f = f
+
 pub real_without : (shape : Shape) (cpus : List ℕ) (e cpu : ℕ) (hand : List InHand) → HandsReal shape cpus hand → HandsReal shape cpus (without_in_hand e cpu hand)
 real_without shape cpus e cpu hand all x c in_hand = all x c (was_in_hand e cpu x c hand in_hand)
-  where
-    was_in_hand : (e cpu x c : ℕ) (hand : List InHand) → is_in_hand_of x c (without_in_hand e cpu hand) ≡ true → is_in_hand_of x c hand ≡ true
-    was_in_hand e cpu x c [] is = is
-    was_in_hand e cpu x c (one ∷ others) is = by_bool ((eqb one.element e) && (eqb one.cpu cpu))
-        (λ b. is_in_hand_of x c (cond b (without_in_hand e cpu others) (one ∷ without_in_hand e cpu others)) ≡ true → cond (eqb one.element x && eqb one.cpu c) true (is_in_hand_of x c others) ≡ true)
-        (λ _ f. or_true (eqb one.element x && eqb one.cpu c) (was_in_hand e cpu x c others f))
-        (λ _ f. by_bool (eqb one.element x && eqb one.cpu c) (λ b. cond b true (is_in_hand_of x c (without_in_hand e cpu others)) ≡ true → cond b true (is_in_hand_of x c others) ≡ true)
-        (λ _ _. refl) (λ _ later. was_in_hand e cpu x c others later) f) is
-      where
-        or_true : (b : Bool) → is_in_hand_of x c others ≡ true → cond b true (is_in_hand_of x c others) ≡ true
-        or_true true f = refl
-        or_true false f = f
 
 -- a pass whose elements have moved
-pub is_pass_moved : {flags : List Bool} {ended : Option (Vec Finished Global)} (v : View) (slots : List (ℕ × Behind)) (strand : List StrandStep) (spares : List (Option Stored)) (held : List Hold) (hand carried : List InHand) (readings : List HomeIn) (touched : List WordStep) (after : Seated) → IsPass v slots strand spares flags ended
-    → Carries held slots → HandsReal v.shape v.cpus hand → after ≡ (with_places held hand carried readings touched v, slots) → IsPass after.0 after.1 strand spares flags ended
-is_pass_moved {flags} {ended} v slots strand spares held hand carried readings touched after pass carries real after_is =
+pub is_pass_moved : {flags : List Bool} {ended : Option (Vec Finished Global)} (v : View) (slots : List (ℕ × Behind)) (strand : List StrandStep) (spares : List (Option Stored)) (held : List Hold) (hand carried : List InHand) (readings : List HomeIn) (notes : List Notes) (touched : List WordStep) (hashes : List HashIn) (after : Seated) → IsPass v slots strand spares flags ended
+    → Carries held slots → HandsReal v.shape v.cpus hand → after ≡ (record (with_places held hand carried readings notes touched v) { hashes = hashes }, slots) → IsPass after.0 after.1 strand spares flags ended
+is_pass_moved {flags} {ended} v slots strand spares held hand carried readings notes touched hashes after pass carries real after_is =
     subst (λ (z : Seated). IsPass z.0 z.1 strand spares flags ended) (sym after_is) record {
       carries = carries;
       strand_is = pass.strand_is;

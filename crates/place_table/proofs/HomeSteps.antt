@@ -1,5 +1,5 @@
 -- The step on a home word: an element goes from the lists of a lock, or from a hand that carries it, to others.
-use Rattle.std.proofs.Common.{◌≡◌, ◌≢◌, ℕ, ◌+◌, ◌<◌, ◌⊎◌, inl, inr, ⊎_elim, cond, Bool, true, List, get_or, set, sym, refl, ap, ◌∙◌, subst, arith, get_or-set_other, get_or-set_same, None}
+use Rattle.std.proofs.Common.{◌≡◌, ◌≢◌, ℕ, ◌+◌, ◌<◌, ◌⊎◌, inl, inr, ⊎_elim, cond, Bool, true, false, List, [], ◌∷◌, get_or, set, sym, refl, ap, ◌∙◌, subst, arith, get_or-set_other, get_or-set_same, None, Some, Option}
 use Rattle.std.specs.Prelude.{IsTrue, IsFalse}
 use Rattle.std.proofs.lemmas.Bool.{and_parts, eqb-true}
 use mathlib.Core.Option.{some}
@@ -14,15 +14,15 @@ use Rattle.place_words.specs.declared.home.Home.{Home}
 use Rattle.place_words.specs.declared.home.Home.TheVariants as homes
 use Rattle.place_words.specs.declared.owner.Owner.{Owner}
 use Rattle.place_words.specs.declared.owner.Owner.TheVariants as owners
-use Rattle.place_words.specs.Codes.{home_code}
+use Rattle.place_words.specs.Codes.{home_code, HasHomeCode}
 use Rattle.map_types.specs.ElementLists.{put, times, IsIn}
 use Rattle.place_words.specs.Locks.{is_lock, lock_named, lock_number}
 use Rattle.place_words.specs.Openings.{is_free}
 use Rattle.place_words.proofs.LockLemmas.{named_by_number}
 use Rattle.place_core.specs.declared.step.Lists.{Lists}
-use Rattle.place_core.specs.declared.step.Step.TheVariants.{Rehome, Clear}
+use Rattle.place_core.specs.declared.step.Step.TheVariants.{Rehome, Clear, Glance}
 use Rattle.place_core.specs.State.{rows, is_bucket}
-use Rattle.place_core.specs.Places.{lies, lies_at, has_row, home_of_place}
+use Rattle.place_core.specs.Places.{Place, lies, carried, lies_at, has_row, home_of_place, MayLie}
 use Rattle.place_core.specs.Steps.{Holds, left_by, joined_by, MayLeave, MayEnter, IsFreeOrInHand, CanRehome, after_leaving, after_joining, CanClear, IsHeldHome}
 use Rattle.place_core.specs.Steps as steps
 use Rattle.place_core.specs.Wholeness.{all_of}
@@ -34,21 +34,26 @@ use Rattle.place_table.specs.declared.view.View.{View}
 use Rattle.place_table.specs.declared.view.Hold.{Hold}
 use Rattle.place_table.specs.declared.view.InHand.{InHand}
 use Rattle.place_table.specs.Laws.{StepsAs, goes_by}
-use Rattle.place_table.specs.Views.{is_among, hold_at, is_in_hand_of, now_at, with_now, with_places, held_without, held_with, carried_without, carried_with, without_readings, noted, with_clear, bits_with, touching}
+use Rattle.place_table.specs.Views.{is_among, hold_at, is_in_hand_of, now_at, with_now, with_places, held_without, held_with, carried_without, carried_with, with_come_home, came_at, without_readings, kept_hashes, noted, with_clear, with_home_read, with_reading, bits_with, touching}
 use Rattle.place_table.specs.Views as views
-use Rattle.place_table.specs.Rules.{World, Rule, Ascends, is_home_of, StillHome}
+use Rattle.place_table.specs.Rules.{World, Rule, Ascends, is_home_of, StillHome, IsHashed, HasCome, hold, hold_of}
 use Rattle.place_table.specs.Words.{owner_word, home_word, bit_word}
 use Rattle.place_table.specs.Passes.{PassView, TableView, Carries, IsPassOf, HasBegun, with_view, Rehomed}
-use Rattle.place_table.specs.Plays.{Seated, HoldsLock, IsKnownHome, IsKnownFree, MayGoHome, OwnerFits, Rehomes, Clears, MayClear}
+use Rattle.place_table.specs.Plays.{Seated, HoldsLock, IsKnownHome, IsKnownFree, MayGoHome, OwnerFits, HomeFits, Rehomes, Clears, MayClear, SeesHome}
 use Rattle.place_table.proofs.Hands.{ascends_now, carries_now, AreInHands, comes_to_hand, leaves_hand, stays_in_hand, IsHomeOfPass}
 use Rattle.place_table.proofs.Locks.{allows_of}
-use Rattle.place_table.proofs.PlaceSteps.{IsHeldByPass, AreHeld, now_is, held_moved, place_rule, now_there, holds_there}
-use Rattle.place_table.proofs.WordSteps.{clears_by}
+use Rattle.place_table.proofs.PlaceSteps.{IsHeldByPass, AreHeld, now_is, held_moved, place_rule, hashes_kept, now_there, holds_there}
+use Rattle.place_table.proofs.WordSteps.{clears_by, look_rule}
 use Rattle.place_table.proofs.OwnersSeen.{owner_fits}
-use Rattle.place_table.proofs.Worlds.{both_true, has_mine, in_hand_is}
-use Rattle.place_table.proofs.Readings.{without_home, still_flushed}
+use Rattle.place_table.proofs.Worlds.{both_true, some_is, has_mine, hand_is, in_hand_is, hold_of_mine, hashed_stands, hashed_away, IsAway}
+use Rattle.place_table.proofs.Readings.{without_home, still_flushed, still_is, IsNew, read_home_known, home_in_set}
 use Rattle.place_table.proofs.Rehomes.{hashes_rehomed}
-use Rattle.place_table.proofs.NotesDone.{noted_with, noted_without}
+use Rattle.place_table.proofs.NotesDone.{noted_with, noted_without, noted_home_come, noted_home, word_off}
+use Rattle.place_table.proofs.Came.{came_home_read, came_with, came_without, came_home, came_here}
+use Rattle.place_table.proofs.StoredHashes.{kept_there}
+use Rattle.place_table.specs.declared.view.WordStep.{WordStep}
+use Rattle.place_table.proofs.StepLog.{made}
+use Rattle.place_table.proofs.CodeLemmas.{has_home_code}
 
 -- the home is a lock that a CPU of the pass holds, or the hand of one
 abbrev IsInReach : Shape → World → ℕ → Home → Type 0
@@ -201,9 +206,94 @@ module _ (shape : Shape) (s : State Behind View) (r : Rule shape s) (pass : ℕ)
   enters_known (homes.In (Freelist d)) may = absurd may
   enters_known (homes.Hand d) may = (may.0, owner_known may.1)
 
+  -- a lock where it may go is one that the CPU holds
+  entered : (to : Home) → MayEnter shape r.world.core c (r.world.core.owner e) to → (lock : DomainId) → to ≡ homes.In lock → Holds shape r.world.core c lock
+  entered to may lock at = go to may at
+    where
+      same_lock : (a b : DomainId) → homes.In a ≡ homes.In b → a ≡ b
+      same_lock a b is = cc
+
+      no_lock : (x : ℕ) → homes.Hand x ≡ homes.In lock → ⊥
+      no_lock x is = cc
+
+      go : (to : Home) → MayEnter shape r.world.core c (r.world.core.owner e) to → to ≡ homes.In lock → Holds shape r.world.core c lock
+      go homes.Unlisted may at = absurd may
+      go (homes.In (Local x)) may at = subst (Holds shape r.world.core c) (same_lock (Local x) lock at) may.0
+      go (homes.In Global) may at = subst (Holds shape r.world.core c) (same_lock Global lock at) may
+      go (homes.In (CpuLru x)) may at = absurd may
+      go (homes.In (Bucket b)) may at = absurd may
+      go (homes.In (Freelist x)) may at = absurd may
+      go (homes.Hand x) may at = absurd (no_lock x at)
+
+  -- what is in the hand of another CPU goes from a lock that this one holds to another that it holds
+  goes_away : (to : Home) → CanRehome shape r.world.core c e to → (d : ℕ) (lock : DomainId) → r.world.core.owner e ≡ owners.Hand d → d ≢ c → to ≡ homes.In lock → IsAway shape r.world.core.holder r.world.core.holder (r.world.core.home e) d lock
+  goes_away to can d lock in_hand other at = go (r.world.core.home e) refl
+    where
+      same_owner : (a b : ℕ) → owners.Hand a ≡ owners.Hand b → a ≡ b
+      same_owner a b is = cc
+
+      same_hand : (a b : ℕ) → homes.Hand a ≡ homes.Hand b → a ≡ b
+      same_hand a b is = cc
+
+      no_lock : (l : DomainId) (x : ℕ) → homes.In l ≡ homes.Hand x → ⊥
+      no_lock l x is = cc
+
+      evicts : IsTrue (is_lru shape.kind)
+      evicts = (bounds_of_shape shape r.is_shape).common_evicts can.common
+
+      carrier : (x : ℕ) → r.world.core.home e ≡ homes.Hand x → (place : Place) → r.placed.place e ≡ place → x ≡ d
+      carrier x is (lies k) at_place = absurd (no_lock (lock_named shape k) x (sym (r.placed.placed.homes e real ∙ (ap (home_of_place shape) at_place ∙ ap (λ (b : Bool). cond b (homes.In (lock_named shape k)) homes.Unlisted) evicts)) ∙ is))
+      carrier x is (carried y) at_place =
+          let its : y ≡ x = same_hand y x (sym (r.placed.placed.homes e real ∙ (ap (home_of_place shape) at_place ∙ ap (λ (b : Bool). cond b (homes.Hand y) homes.Unlisted) evicts)) ∙ is) in
+          let may : MayLie shape e (r.world.core.owner e) (carried y) = subst (MayLie shape e (r.world.core.owner e)) at_place (r.placed.placed.places e real) in
+          sym its ∙ same_owner y d (sym may.1 ∙ in_hand)
+
+      go : (from : Home) → r.world.core.home e ≡ from → IsAway shape r.world.core.holder r.world.core.holder (r.world.core.home e) d lock
+      go homes.Unlisted is = absurd (subst (MayLeave shape r.world.core c) is can.from_there)
+      go (homes.In from) is =
+          let holds : Holds shape r.world.core c from = subst (MayLeave shape r.world.core c) is can.from_there in record {
+            from = from;
+            was = is;
+            left = λ held. other (some_is (sym held ∙ holds.held));
+            now = λ held. other (some_is (sym held ∙ (entered to can.to_there lock at).held));
+          }
+      go (homes.Hand x) is =
+          let by_it : x ≡ c = subst (MayLeave shape r.world.core c) is can.from_there in
+          absurd (other (sym (carrier x is (r.placed.place e) refl) ∙ by_it))
+
+  -- what came stays noted, whatever lies under the locks
+  came_then : (to : Home) (m : ℕ) → came_at m (held_with shape to (r.world.core.owner e) e (held_without shape (r.world.core.home e) (r.world.core.owner e) e v.held)) (with_come_home v.shape to e v.held v.notes) ≡ came_at m v.held (with_come_home v.shape to e v.held v.notes)
+  came_then to m =
+      let notes = with_come_home v.shape to e v.held v.notes in
+      came_with shape to (r.world.core.owner e) e m (held_without shape (r.world.core.home e) (r.world.core.owner e) e v.held) notes ∙ came_without shape (r.world.core.home e) (r.world.core.owner e) e m v.held notes
+
+  -- and it comes there in the turn of the lock where it goes, or is in the hand of another CPU
+  hashed_home : (to : Home) → CanRehome shape r.world.core c e to → IsTrue (is_lru shape.kind) → (d : ℕ) (lock : DomainId) → d < shape.cpus → is_in_hand_of e d v.hand ≡ true → to ≡ homes.In lock
+      → IsHashed shape r.world.core.holder r.world.log r.world.hash (kept_hashes v.hand v.hashes) (came_at (lock_number shape lock) (held_with shape to (r.world.core.owner e) e (held_without shape (r.world.core.home e) (r.world.core.owner e) e v.held)) (with_come_home v.shape to e v.held v.notes)) (lock_number shape lock) e d
+  hashed_home to can lru d lock within in_hand at =
+      let w = r.world in let kn = r.knows pass v at_pass in
+      let k : ℕ = lock_number shape lock in
+      let came : List ℕ = came_at k (held_with shape to (w.core.owner e) e (held_without shape (w.core.home e) (w.core.owner e) e v.held)) (with_come_home v.shape to e v.held v.notes) in
+      by_test d c (λ _. IsHashed shape w.core.holder w.log w.hash (kept_hashes v.hand v.hashes) came k e d)
+      (λ same.
+      let holds = entered to can.to_there lock at in
+      let mine = has_mine shape w pass v c kn has in
+      let found : hold_at k v.held ≡ Some (hold k c (w.log k) (w.core.lists k) (w.lost k)) = kn.held k ∙ (ap (λ (z : Option ℕ). hold_of pass w.whose k z (w.log k) (w.core.lists k) (w.lost k)) holds.held ∙ hold_of_mine w.whose pass k c (w.log k) (w.core.lists k) (w.lost k) mine) in
+      let come : HasCome w.core.holder came k e d = record {
+        held = holds.held ∙ ap Some (sym same);
+        inside = ap (is_among e) (came_then to k)
+            ∙ ((λ i. is_among e (came_at k v.held (with_come_home (kn.shape_is i) (at i) e v.held v.notes))) ∙ came_here shape v.touched k e (hold k c (w.log k) (w.core.lists k) (w.lost k)) v.held v.notes kn.noted found);
+      } in
+      record { from = inr (inr come); row = λ _. inr (inr come) })
+      (λ other.
+      let owner_is : w.core.owner e ≡ owners.Hand d = hand_is d (w.core.owner e) (both_true _ _ (sym (kn.hands e d within) ∙ in_hand)).0 in
+      let away = goes_away to can d lock owner_is other at in
+      let j : ℕ = lock_number shape away.from in
+      hashed_away shape w.core.holder w.core.holder w.log w.log w.hash w.hash v.hashes (kept_hashes v.hand v.hashes) (came_at j v.held v.notes) came j k e d away.left away.now (kept_there e d v.hand v.hashes in_hand) (kn.hashed lru e d away.from real within in_hand away.was))
+
   -- the home is another from now on
   home_rule : (to : Home) (cs : List (ℕ × Behind)) → (can : CanRehome shape r.world.core c e to)
-      → (after : Rule shape (stepped s (home_word shape e) (home_code to) pass cs (with_places (held_with shape to (r.world.core.owner e) e (held_without shape (r.world.core.home e) (r.world.core.owner e) e v.held)) v.hand (carried_with to e (carried_without (r.world.core.home e) e v.carried)) (without_readings e v.readings) (touching (home_word shape e) None (home_code to) v) v) keeps))
+      → (after : Rule shape (stepped s (home_word shape e) (home_code to) pass cs (with_places (held_with shape to (r.world.core.owner e) e (held_without shape (r.world.core.home e) (r.world.core.owner e) e v.held)) v.hand (carried_with to e (carried_without (r.world.core.home e) e v.carried)) (without_readings e v.readings) (with_come_home v.shape to e v.held v.notes) (touching (made r.world) (home_word shape e) None (home_code to) v) v) keeps))
       × (after.world.core ≡ steps.rehomed shape r.world.core e to)
   home_rule to cs can =
       let i : ℕ = home_word shape e in let code : ℕ = home_code to in
@@ -216,12 +306,12 @@ module _ (shape : Shape) (s : State Behind View) (r : Rule shape s) (pass : ℕ)
       let away : ℕ → Lists = after_leaving shape from owner e w.core.lists in
       let lists : ℕ → Lists = after_joining shape to owner e away in
       let on_the_way : ℕ → Home = put w.core.home e homes.Unlisted in
-      place_rule shape s r pass v at_pass lists w.core.owner (put w.core.home e to) i code c has (held_with shape to owner e (held_without shape from owner e v.held)) v.hand (carried_with to e (carried_without from e v.carried)) (without_readings e v.readings) cs (omega arith) (omega arith)
+      place_rule shape s r pass v at_pass lists w.core.owner (put w.core.home e to) i code c has (held_with shape to owner e (held_without shape from owner e v.held)) v.hand (carried_with to e (carried_without from e v.carried)) (without_readings e v.readings) (with_come_home v.shape to e v.held v.notes) (kept_hashes v.hand v.hashes) cs (omega arith) (omega arith)
       (λ x below. get_or-set_other s.words i (owner_word shape x) code 0 (λ y. omega arith) ∙ r.owner_words x below)
       (λ x below. at_put w.core.home e to (λ j h. j < shape.elements → get_or (set s.words i code) (home_word shape j) 0 ≡ home_code h) x
       (λ _. get_or-set_same s.words i code 0 (omega (arith, r.words)))
       (λ ne below. get_or-set_other s.words i (home_word shape x) code 0 (λ y. ne (omega arith)) ∙ r.home_words x below) below)
-      (noted_with shape v.touched to owner e (held_without shape from owner e v.held) v.notes (noted_without shape v.touched from owner e v.held v.notes kn.noted))
+      (let notes = with_come_home v.shape to e v.held v.notes in noted_with shape v.touched to owner e (held_without shape from owner e v.held) notes (noted_without shape v.touched from owner e v.held notes (noted_home_come shape v.shape v.touched to e v.held v.notes kn.noted)))
       record {
         under = λ k. ⊎_elim
             (λ (stays : lists k ≡ away k). ⊎_elim
@@ -242,6 +332,21 @@ module _ (shape : Shape) (s : State Behind View) (r : Rule shape s) (pass : ℕ)
         placed = step_keeps_places shape w.core (Rehome c e to) bounds can r.placed;
         ranked = step_keeps_ranks shape w.core (Rehome c e to) can r.ranked;
         hashes = λ lru. hashes_rehomed shape w.core r.placed w.log w.hash (r.hashes lru) lru c e to can (step_keeps_places shape w.core (Rehome c e to) bounds can r.placed);
+        are_hashes = (
+          hashes_kept shape w pass v kn v.hand,
+          (λ lru x d its x_real within in_hand at. by_test x e (λ _. IsHashed shape w.core.holder w.log w.hash (kept_hashes v.hand v.hashes) (came_at (lock_number shape its) (held_with shape to owner e (held_without shape from owner e v.held)) (with_come_home v.shape to e v.held v.notes)) (lock_number shape its) x d)
+              (λ same. subst (λ (y : ℕ). IsHashed shape w.core.holder w.log w.hash (kept_hashes v.hand v.hashes) (came_at (lock_number shape its) (held_with shape to owner e (held_without shape from owner e v.held)) (with_come_home v.shape to e v.held v.notes)) (lock_number shape its) y d) (sym same)
+              (hashed_home to can lru d its within (ap (λ (y : ℕ). is_in_hand_of y d v.hand) (sym same) ∙ in_hand) (sym (put_here w.core.home e to) ∙ (ap (put w.core.home e to) (sym same) ∙ at))))
+              (λ other. let m : ℕ = lock_number shape its in
+              hashed_stands shape w.core.holder w.core.holder w.log w.log w.hash w.hash v.hashes (kept_hashes v.hand v.hashes) (came_at m v.held v.notes) (came_at m (held_with shape to owner e (held_without shape from owner e v.held)) (with_come_home v.shape to e v.held v.notes)) m x d
+              (λ i on. (on, refl)) (λ on. on) refl (kept_there x d v.hand v.hashes in_hand)
+              (λ inside. ap (is_among x) (came_then to m) ∙ came_home v.shape to e m x v.held v.notes inside)
+              (kn.hashed lru x d its x_real within in_hand (sym (put_else w.core.home e to x other) ∙ at)))),
+        );
+        at_home = λ x d its x_real in_hand theirs at. by_test x e (λ _. (w.core.home x ≡ homes.In its) ⊎ IsAway shape w.core.holder w.core.holder (w.core.home x) d its)
+            (λ same. inr (subst (λ (y : ℕ). IsAway shape w.core.holder w.core.holder (w.core.home y) d its) (sym same)
+            (goes_away to can d its (ap w.core.owner (sym same) ∙ in_hand) (λ is. theirs (ap w.whose is ∙ mine)) (sym (put_here w.core.home e to) ∙ (ap (put w.core.home e to) (sym same) ∙ at)))))
+            (λ other. inl (sym (put_else w.core.home e to x other) ∙ at));
         are_read = λ x d read within found.
             let k = without_home x d read e v.readings found in let was = kn.readings x d read within k.1 in
             record { real = was.real; in_hand = was.in_hand; still = subst (λ (z : Home). StillHome shape w.core.holder w.log x z read) (sym (put_else w.core.home e to x k.0)) was.still };
@@ -267,7 +372,7 @@ rehomes_step shape slots pass me c e from to common real has known may s r wide 
       to_there = enters_known shape s r pass v at_pass c e has real to may;
     } in
     let rule = home_rule shape s r pass v at_pass c e has real to me.1 can in (
-      with_places (held_with shape to owner e (held_without shape (w.core.home e) owner e v.held)) v.hand (carried_with to e (carried_without (w.core.home e) e v.carried)) (without_readings e v.readings) (touching (home_word shape e) None (home_code to) v) v,
+      with_places (held_with shape to owner e (held_without shape (w.core.home e) owner e v.held)) v.hand (carried_with to e (carried_without (w.core.home e) e v.carried)) (without_readings e v.readings) (with_come_home v.shape to e v.held v.notes) (touching (made w) (home_word shape e) None (home_code to) v) v,
       keeps,
       tt,
       (rule.0, record { enabled = can; changed = rule.1 }),
@@ -276,7 +381,8 @@ rehomes_step shape slots pass me c e from to common real has known may s r wide 
         known = λ cpu home mine at_home. sym (home_known shape s r pass v at_pass cpu e mine real home evicts (subst (λ (z : Shape). IsKnownHome z v cpu e home) kn.shape_is at_home));
         owner = owner;
         fits = subst (λ z. OwnerFits z v e owner) (sym kn.shape_is) (owner_fits shape s r pass v e at_pass real);
-        after_is = λ i. (with_places (held_with (sym kn.shape_is i) to owner e (held_without (sym kn.shape_is i) (w.core.home e) owner e v.held)) v.hand (carried_with to e (carried_without (w.core.home e) e v.carried)) (without_readings e v.readings) (touching (home_word (sym kn.shape_is i) e) None (home_code to) v) v, me.1);
+        at = made w;
+        after_is = λ i. (with_places (held_with (sym kn.shape_is i) to owner e (held_without (sym kn.shape_is i) (w.core.home e) owner e v.held)) v.hand (carried_with to e (carried_without (w.core.home e) e v.carried)) (without_readings e v.readings) (with_come_home v.shape to e v.held v.notes) (touching (made w) (home_word (sym kn.shape_is i) e) None (home_code to) v) v, me.1);
       },
     )
 
@@ -309,7 +415,8 @@ rehomed_of t e to before after old new of_table begun old_is moved after_is = re
       (moved.known before.cpu home (ap (λ (v : View). is_among before.cpu v.cpus) old_is ∙ begun));
   owner = moved.owner;
   fits = subst (λ (z : Shape × View). OwnerFits z.0 z.1 e moved.owner) (λ i. ((ap (λ (v : View). v.shape) old_is ∙ of_table.1) i, old_is i)) moved.fits;
-  after_is = after_is ∙ (ap (λ (z : Seated). with_view before z.0) moved.after_is ∙ ap (λ (v : View). with_view before (views.rehomed moved.from to moved.owner e v)) old_is);
+  at = moved.at;
+  after_is = after_is ∙ (ap (λ (z : Seated). with_view before z.0) moved.after_is ∙ ap (λ (v : View). with_view before (views.rehomed moved.at moved.from to moved.owner e v)) old_is);
 }
 
 -- Clears, of what is in hand or stands at a home that is held
@@ -332,3 +439,56 @@ pub clears : (shape : Shape) (slots pass : ℕ) (me : Seated) (e c i : ℕ) → 
 clears shape slots pass me e c i is real cpu may =
     subst (λ (z : ℕ). Allows (Rule shape) slots pass me z (λ _. 0) (Clears e me)) (sym is)
     (allows_of shape slots pass me (bit_word shape e) (λ _. 0) (goes_by shape (Clear c e)) (Clears e me) (clears_step shape slots pass me e c real cpu may))
+
+-- Looks at a home
+
+-- a map that doesn't evict tells no home
+plain_home : (shape : Shape) (place : Place) → is_lru shape.kind ≡ false → home_of_place shape place ≡ homes.Unlisted
+plain_home shape (lies k) plain = ap (λ (b : Bool). cond b (homes.In (lock_named shape k)) homes.Unlisted) plain
+plain_home shape (carried c) plain = ap (λ (b : Bool). cond b (homes.Hand c) homes.Unlisted) plain
+
+-- what a pass knows doesn't rule out the home that an element has
+home_fits : (shape : Shape) (s : State Behind View) (r : Rule shape s) (pass : ℕ) (v : View) → get_elem? s.views pass ≡ some v → (e : ℕ) → e < shape.elements → HomeFits shape v e (r.world.core.home e)
+home_fits shape s r pass v at_pass e real = let w = r.world in record {
+  plain = λ plain. r.placed.placed.homes e real ∙ plain_home shape (r.placed.place e) plain;
+  lives = λ lru own. home_in_set shape w.core.holder w.core.lists w.core.owner w.core.home r.placed.place r.placed.placed w.log e real lru own;
+  known = λ lru cpu known mine at_home. home_known shape s r pass v at_pass cpu e mine real known lru at_home;
+}
+
+pub sees_home_step : (shape : Shape) (slots pass : ℕ) (me : Seated) (e : ℕ) → e < shape.elements → StepsAs shape slots pass me (home_word shape e) (λ n. n) (goes_by shape (Glance 0 e)) (SeesHome e me)
+unfolding look_rule
+sees_home_step shape slots pass me e real s r wide at_pass _ =
+    let kn = r.knows pass me.0 at_pass in
+    let w = r.world in
+    let home : Home = w.core.home e in
+    let home_is : home ≡ home_of_place shape (r.placed.place e) = r.placed.placed.homes e real in
+    let x : WordStep = record { at = made w; word = home_word shape e; seen = Some (home_code home); left = home_code home } in (
+      noted (with_home_read e home me.0.notes) me.0.bits (touching (made w) (home_word shape e) (Some (home_code home)) (home_code home) me.0) (with_reading e home me.0.hand me.0.readings) me.0,
+      keeps,
+      tt,
+      look_rule shape s r pass me.0 at_pass (with_home_read e home me.0.notes) (λ k. came_home_read e home k me.0.held me.0.notes) (home_word shape e) (home_code home) me.1 me.0.bits (with_reading e home me.0.hand me.0.readings)
+          (λ x d read within found. ⊎_elim
+          (λ (new : IsNew x d e home read me.0.hand). record {
+            real = subst (λ (z : ℕ). z < shape.elements) (sym new.same) real;
+            in_hand = subst (λ (z : ℕ). is_in_hand_of z d me.0.hand ≡ true) (sym new.same) new.in_hand;
+            still = still_is shape w.core.holder w.log x (w.core.home x) read (ap w.core.home new.same ∙ new.is);
+          })
+          (λ (old : views.home_known x d me.0.readings ≡ Some read). kn.readings x d read within old)
+          (read_home_known x d e home read me.0.hand me.0.readings found))
+          (omega (arith, r.words)) (r.home_words e real)
+          (omega arith)
+          (noted_home shape me.0.touched (x ∷ []) me.0.held me.0.notes e home kn.noted (word_off shape me.0.touched x me.0.held me.0.notes kn.noted (omega arith)) (inl refl)) kn.bits kn.only e real,
+      record {
+        home = home;
+        found_is = r.home_words e real;
+        has_code = subst HasHomeCode (sym home_is) (has_home_code shape e (w.core.owner e) (r.placed.place e) (bounds_of_shape shape r.is_shape) (r.placed.placed.owners e real) (r.placed.placed.places e real));
+        fits = subst (λ z. HomeFits z me.0 e home) (sym kn.shape_is) (home_fits shape s r pass me.0 at_pass e real);
+        at = made w;
+        after_is = λ i. (noted (with_home_read e home me.0.notes) me.0.bits (touching (made w) (home_word (sym kn.shape_is i) e) (Some (home_code home)) (home_code home) me.0) (with_reading e home me.0.hand me.0.readings) me.0, me.1);
+      },
+    )
+
+pub sees_home : (shape : Shape) (slots pass : ℕ) (me : Seated) (e i : ℕ) → i ≡ home_word shape e → e < shape.elements → Allows (Rule shape) slots pass me i (λ n. n) (SeesHome e me)
+sees_home shape slots pass me e i is real =
+    subst (λ (z : ℕ). Allows (Rule shape) slots pass me z (λ n. n) (SeesHome e me)) (sym is)
+    (allows_of shape slots pass me (home_word shape e) (λ n. n) (goes_by shape (Glance 0 e)) (SeesHome e me) (sees_home_step shape slots pass me e real))

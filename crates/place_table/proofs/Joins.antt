@@ -13,8 +13,11 @@ use Rattle.place_table.specs.declared.content.Behind.{Behind}
 use Rattle.place_table.specs.declared.view.View.{View}
 use Rattle.place_table.specs.declared.view.InHand.{InHand}
 use Rattle.place_table.specs.declared.view.HashIn.{HashIn}
-use Rattle.place_table.specs.Views.{is_among, hold_at, is_in_hand_of, bucket_known, current_strand, all_strands, joined, spent, home_known}
-use Rattle.place_table.specs.Rules.{Tagged, World, hold, hold_of, is_hand_of, is_home_of, IsStrand, ArePast, IsLostLock, Knows, Rule}
+use Rattle.place_table.specs.declared.view.Hold.{Hold}
+use Rattle.place_table.specs.declared.view.Notes.{Notes}
+use Rattle.place_words.specs.Locks.{lock_number}
+use Rattle.place_table.specs.Views.{is_among, hold_at, is_in_hand_of, hash_known, came_at, current_strand, all_strands, joined, spent, home_known}
+use Rattle.place_table.specs.Rules.{Tagged, World, hold, hold_of, is_hand_of, is_home_of, IsStrand, ArePast, IsLostLock, IsHashed, HasHash, HasCome, HasRow, IsBrought, Knows, Rule}
 use Rattle.place_table.proofs.Worlds.{true_false, by_bool, none_some, lock_still_lost}
 use Rattle.place_table.proofs.Locks.{there}
 use Rattle.place_table.proofs.Splits.{and_false}
@@ -22,11 +25,48 @@ use Rattle.place_table.proofs.StrandMoves.{among_append, among_later, no_turns_y
 use Rattle.place_table.proofs.Readings.{append_home, or_there}
 
 -- what is known, and what is in hand, in one of two lists
-known_append : (e d b : ℕ) (xs ys : List HashIn) → bucket_known e d (xs ++ ys) ≡ Some b → (bucket_known e d xs ≡ Some b) ⊎ (bucket_known e d ys ≡ Some b)
-known_append e d b [] ys found = inr found
-known_append e d b (x ∷ xs) ys found =
-    by_bool (eqb x.element e && eqb x.cpu d) (λ t. cond t (Some x.bucket) (bucket_known e d (xs ++ ys)) ≡ Some b → (cond t (Some x.bucket) (bucket_known e d xs) ≡ Some b) ⊎ (bucket_known e d ys ≡ Some b))
-    (λ _ f. inl f) (λ _ f. known_append e d b xs ys f) found
+known_append : (e d : ℕ) (noted : HashIn) (xs ys : List HashIn) → hash_known e d (xs ++ ys) ≡ Some noted → (hash_known e d xs ≡ Some noted) ⊎ (hash_known e d ys ≡ Some noted)
+known_append e d noted [] ys found = inr found
+known_append e d noted (x ∷ xs) ys found =
+    by_bool (eqb x.element e && eqb x.cpu d) (λ t. cond t (Some x) (hash_known e d (xs ++ ys)) ≡ Some noted → (cond t (Some x) (hash_known e d xs) ≡ Some noted) ⊎ (hash_known e d ys ≡ Some noted))
+    (λ _ f. inl f) (λ _ f. known_append e d noted xs ys f) found
+
+known_first : (e d : ℕ) (noted : HashIn) (xs ys : List HashIn) → hash_known e d xs ≡ Some noted → hash_known e d (xs ++ ys) ≡ Some noted
+known_first e d noted [] ys found = absurd (none_some found)
+known_first e d noted (x ∷ xs) ys found =
+    by_bool (eqb x.element e && eqb x.cpu d) (λ t. cond t (Some x) (hash_known e d xs) ≡ Some noted → cond t (Some x) (hash_known e d (xs ++ ys)) ≡ Some noted)
+    (λ _ f. f) (λ _ f. known_first e d noted xs ys f) found
+
+known_second : (e d : ℕ) (xs ys : List HashIn) → hash_known e d xs ≡ None → hash_known e d (xs ++ ys) ≡ hash_known e d ys
+known_second e d [] ys none = refl
+known_second e d (x ∷ xs) ys none =
+    by_bool (eqb x.element e && eqb x.cpu d) (λ t. cond t (Some x) (hash_known e d xs) ≡ None → cond t (Some x) (hash_known e d (xs ++ ys)) ≡ hash_known e d ys)
+    (λ _ f. absurd (none_some (sym f))) (λ _ f. known_second e d xs ys f) none
+
+none_noted : (e d : ℕ) (hashes : List HashIn) (known : Option HashIn) → hash_known e d hashes ≡ known → ((noted : HashIn) → hash_known e d hashes ≡ Some noted → ⊥) → hash_known e d hashes ≡ None
+none_noted e d hashes None is none = is
+none_noted e d hashes (Some noted) is none = absurd (none noted is)
+
+-- what is known of the stored hash of an element in hand, where no lock is held and more is noted
+hashed_with : (shape : Shape) (holder : ℕ → Option ℕ) (log : ℕ → List Tagged) (hash : ℕ → ℕ) (hashes hashes' : List HashIn) (notes : List Notes) (held : List Hold) (k e c : ℕ) → held ≡ [] → ((noted : HashIn) → hash_known e c hashes ≡ Some noted → hash_known e c hashes' ≡ Some noted)
+    → IsHashed shape holder log hash hashes (came_at k held notes) k e c → IsHashed shape holder log hash hashes' [] k e c
+hashed_with shape holder log hash hashes hashes' notes held k e c none_held more is = record {
+  from = ⊎_elim
+      (λ (gave : HasHash true hashes e c). inl record { noted = gave.noted; last = more gave.noted gave.last; given_is = gave.given_is })
+      (⊎_elim
+      (λ (off : HasHash false hashes e c). inr (inl record { noted = off.noted; last = more off.noted off.last; given_is = off.given_is }))
+      (λ (come : HasCome holder (came_at k held notes) k e c). no_came come))
+      is.from;
+  row = λ on. ⊎_elim
+      (λ (had : HasRow shape log hash k e). inl had)
+      (⊎_elim
+      (λ (brought : IsBrought shape holder log hash k e). inr (inl brought))
+      (λ (come : HasCome holder (came_at k held notes) k e c). no_came come))
+      (is.row on);
+}
+  where
+    no_came : {A : Type 0} → HasCome holder (came_at k held notes) k e c → A
+    no_came {A} come = true_false (sym come.inside ∙ ap (λ (l : List Hold). is_among e (came_at k l notes)) none_held)
 
 pub hand_append : (e d : ℕ) (xs ys : List InHand) → is_in_hand_of e d (xs ++ ys) ≡ cond (is_in_hand_of e d xs) true (is_in_hand_of e d ys)
 hand_append e d [] ys = refl
@@ -186,10 +226,16 @@ module _ (shape : Shape) (id other : ℕ) (v u : View) (apart : other ≢ id) (n
         noted = tt;
         hands = λ e d less. hand_both w e d (is_hand_of d (w.core.owner e)) v.hand u.hand (kn.hands e d less) (ku.hands e d less);
         carried = λ e d less. hand_both w e d (is_home_of d (w.core.home e)) v.carried u.carried (kn.carried e d less) (ku.carried e d less);
-        hashes = λ e d b within found. ⊎_elim
-            (λ (first : bucket_known e d v.hashes ≡ Some b). let is = kn.hashes e d b within first in record { in_hand = hand_append e d v.hand u.hand ∙ ap (λ (t : Bool). cond t true (is_in_hand_of e d u.hand)) is.in_hand; bucket_is = is.bucket_is })
-            (λ (second : bucket_known e d u.hashes ≡ Some b). let is = ku.hashes e d b within second in record { in_hand = hand_append e d v.hand u.hand ∙ or_there (is_in_hand_of e d v.hand) (is_in_hand_of e d u.hand) is.in_hand; bucket_is = is.bucket_is })
-            (known_append e d b v.hashes u.hashes found);
+        hashes = λ e d noted within found. ⊎_elim
+            (λ (first : hash_known e d v.hashes ≡ Some noted). let is = kn.hashes e d noted within first in record { in_hand = hand_append e d v.hand u.hand ∙ ap (λ (t : Bool). cond t true (is_in_hand_of e d u.hand)) is.in_hand; bucket_is = is.bucket_is })
+            (λ (second : hash_known e d u.hashes ≡ Some noted). let is = ku.hashes e d noted within second in record { in_hand = hand_append e d v.hand u.hand ∙ or_there (is_in_hand_of e d v.hand) (is_in_hand_of e d u.hand) is.in_hand; bucket_is = is.bucket_is })
+            (known_append e d noted v.hashes u.hashes found);
+        hashed = λ lru e d lock real within in_hand at. let k : ℕ = lock_number shape lock in
+            by_bool (is_in_hand_of e d v.hand) (λ t. is_in_hand_of e d v.hand ≡ t → IsHashed shape w.core.holder w.log w.hash (v.hashes ++ u.hashes) [] k e d)
+            (λ first _. hashed_with shape w.core.holder w.log w.hash v.hashes (v.hashes ++ u.hashes) v.notes v.held k e d no_lock (λ noted found. known_first e d noted v.hashes u.hashes found) (kn.hashed lru e d lock real within first at))
+            (λ not_first _. hashed_with shape w.core.holder w.log w.hash u.hashes (v.hashes ++ u.hashes) u.notes u.held k e d nor_lock
+            (λ noted found. known_second e d v.hashes u.hashes (none_noted e d v.hashes (hash_known e d v.hashes) refl (λ before known. true_false (sym (kn.hashes e d before within known).in_hand ∙ not_first))) ∙ found)
+            (ku.hashed lru e d lock real within (sym (hand_append e d v.hand u.hand ∙ ap (λ (t : Bool). cond t true (is_in_hand_of e d u.hand)) not_first) ∙ in_hand) at)) refl;
         readings = λ e d read within found. ⊎_elim
             (λ (first : home_known e d v.readings ≡ Some read). let is = kn.readings e d read within first in record { real = is.real; in_hand = hand_append e d v.hand u.hand ∙ ap (λ (t : Bool). cond t true (is_in_hand_of e d u.hand)) is.in_hand; still = is.still })
             (λ (second : home_known e d u.readings ≡ Some read). let is = ku.readings e d read within second in record { real = is.real; in_hand = hand_append e d v.hand u.hand ∙ or_there (is_in_hand_of e d v.hand) (is_in_hand_of e d u.hand) is.in_hand; still = is.still })
@@ -231,7 +277,8 @@ module _ (shape : Shape) (id other : ℕ) (v u : View) (apart : other ≢ id) (n
         noted = tt;
         hands = λ e d less. sym (ap (λ t. is_hand_of d (w.core.owner e) && t) (fold_other (w.whose d)) ∙ and_false (is_hand_of d (w.core.owner e)));
         carried = λ e d less. sym (ap (λ t. is_home_of d (w.core.home e) && t) (fold_other (w.whose d)) ∙ and_false (is_home_of d (w.core.home e)));
-        hashes = λ e d b within found. absurd (none_some found);
+        hashes = λ e d noted within found. absurd (none_some found);
+        hashed = λ lru e d lock real within in_hand at. true_false (sym in_hand);
         readings = λ e d read within found. absurd (none_some found);
         known = λ k log f. absurd (none_some f);
         bits = λ e bit f. absurd (none_some f);
@@ -264,7 +311,8 @@ module _ (shape : Shape) (id other : ℕ) (v u : View) (apart : other ≢ id) (n
         noted = kx.noted;
         hands = λ e d less. kx.hands e d less ∙ ap (λ b. is_hand_of d (w.core.owner e) && b) (sym (fold_else (w.whose d) j not_id not_other));
         carried = λ e d less. kx.carried e d less ∙ ap (λ b. is_home_of d (w.core.home e) && b) (sym (fold_else (w.whose d) j not_id not_other));
-        hashes = λ e d b within found. kx.hashes e d b within found;
+        hashes = λ e d noted within found. kx.hashes e d noted within found;
+        hashed = kx.hashed;
         readings = kx.readings;
         known = kx.known;
         bits = kx.bits;
@@ -317,7 +365,7 @@ module _ (shape : Shape) (id other : ℕ) (v u : View) (apart : other ≢ id) (n
       let long : length (set (set s.views id both) other gone) ≡ length s.views = length-set (set s.views id both) other gone ∙ length-set s.views id both in record {
         world = w';
         is_shape = r.is_shape;
-        plain = r.plain;
+        own_lists = r.own_lists;
         words = r.words;
         slots = r.slots;
         lock_words = r.lock_words;
@@ -332,6 +380,8 @@ module _ (shape : Shape) (id other : ℕ) (v u : View) (apart : other ≢ id) (n
         seated = λ d less. subst (λ (z : ℕ). fold_in (w.whose d) < z) (sym long) (fold_below (w.whose d) (length s.views) here (r.seated d less));
         tagged = λ k. tagged_moves w w' (length s.views) (length (set (set s.views id both) other gone)) (w.log k)
             (λ t below old among. subst (λ (z : ℕ). StaysListed w w' z t) (sym long) (listed_on w (length s.views) t here below old among)) (r.tagged k);
+        in_time = r.in_time;
+        gave_back = r.gave_back;
         lead = r.lead;
         of_strands = of_strands_move w w' (length s.views) (length (set (set s.views id both) other gone)) w.touches
             (λ t below old among. subst (λ (z : ℕ). StaysListed w w' z t) (sym long) (listed_on w (length s.views) t here below old among)) r.of_strands;

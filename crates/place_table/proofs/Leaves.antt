@@ -1,10 +1,13 @@
 -- What is left of the slots of a closed table.
-use Rattle.std.proofs.Common.{◌≡◌, ℕ, zero, suc, ◌+◌, ◌-◌, ◌<◌, ◌≤◌, Bool, true, false, cond, List, [], ◌∷◌, ◌++◌, length, get_or, take, drop, map, nat_lt, sym, refl, ap, ◌∙◌, add-one, append-nil, subst, arith, Option, Some, None, Vec, Global}
+use Rattle.std.proofs.Common.{◌≡◌, ℕ, zero, suc, ◌+◌, ◌-◌, ◌<◌, ◌≤◌, Bool, true, false, cond, List, [], ◌∷◌, ◌++◌, length, get_or, take, drop, map, nat_lt, ⊎_elim, sym, refl, ap, ◌∙◌, add-one, append-nil, subst, arith, Option, Some, None, Vec, Global}
 use mathlib.Core.Option.{some, some-injective, some-ne-none}
 use lib.ListN.{get_elem?}
-use Rattle.std.specs.Prelude.{IsTrue, not, filter, slice_get, slice_range, All, ◌||◌, ◌&&◌}
-use Rattle.std.specs.List.{range_with_len, list_any}
-use Rattle.std.proofs.lemmas.List.{take_more, map-append, get_or_default, get_or-map, get_or-take, get_or-drop, length-map, length-take-le, length-drop}
+use Rattle.std.specs.Prelude.{IsTrue, not, filter, slice_get, slice_range, All, ◌||◌, ◌&&◌, option_map, option_to_list, unwrap_or}
+use Rattle.std.specs.List.{flat_map, range_with_len, list_any}
+use Rattle.std.proofs.lemmas.Bool.{cases_Bool}
+use Rattle.std.proofs.lemmas.Grind.{flat_map-append}
+use Rattle.std.proofs.lemmas.List.{take_more, map-append, get_or_default, get_or-map, get_or-take, get_or-drop, length-map, length-take-le, length-drop, ext_get_or}
+use Rattle.std.proofs.lemmas.List.FromFn.{length-map-range_with_len, get_or-map-range_with_len}
 use Rattle.std.proofs.lemmas.List.Elements.{filter-append}
 use Rattle.std.proofs.lemmas.List.Folds.{list_any-append}
 use Rattle.std.proofs.lemmas.Option.{get_or_from_slice_get, slice_get_within}
@@ -14,19 +17,25 @@ use Rattle.map_types.specs.declared.kind.DomainId.{DomainId}
 use Rattle.map_types.specs.declared.kind.DomainId.TheVariants as named
 use Rattle.map_types.specs.Kind.{is_lru}
 use Rattle.map_types.specs.Stored.{Stored}
+use Rattle.place_words.specs.declared.finals.Finals.{Finals}
+use Rattle.place_words.specs.declared.finals.SetFinal.{SetFinal}
 use Rattle.place_words.specs.declared.history.Entry.{Entry}
 use Rattle.place_words.specs.declared.history.LockHistory.{LockHistory}
-use Rattle.place_words.specs.Histories.{in_bucket, on_freelist, content}
-use Rattle.place_words.specs.Locks.{is_lock, lock_named, lock_number, lock_count, first_bucket, first_freelist}
+use Rattle.place_words.specs.Histories as histories
+use Rattle.place_words.specs.Histories.{content, bucket_in, freelist_in, own_in}
+use Rattle.place_words.specs.Locks.{is_lock, lock_named, lock_number, lock_count, first_set, first_bucket, first_freelist}
+use Rattle.place_words.specs.Logs.{State, bucket_at, freelist_at, locals_at, globals_at, own_at, final_set, final_local, where_lock, finals_of}
+use Rattle.place_words.specs.Sets.{new_set}
 use Rattle.place_words.proofs.LockLemmas.{named_by_number, number_within}
+use Rattle.place_words.proofs.RestCounts.{filter_range}
 use Rattle.place_core.proofs.ElementLemmas.{by_test}
 use Rattle.place_table.specs.declared.content.Behind.{Behind}
 use Rattle.place_table.specs.declared.content.Content.{Content}
 use Rattle.place_table.specs.declared.content.Content.TheVariants as lying
 use Rattle.place_table.specs.Contents.{told, Fits}
-use Rattle.place_table.specs.Closing.{AreSlots, has_lock, all_locks, history_of, spare_numbers}
+use Rattle.place_table.specs.Closing.{AreSlots, has_lock, all_locks, history_of, state_left}
 use Rattle.place_table.proofs.Worlds.{by_bool}
-use Rattle.place_table.specs.Leaving.{Logs, bodies_in, numbers_in, HasSizedBodies, IsHistory, HaveHistories, AreContents, AreKept}
+use Rattle.place_table.specs.Leaving.{Logs, bodies_in, numbers_in, set_in, freelists_in, sets_in, spares_in, HasSizedBodies, IsHistory, HaveHistories, AreContents, AreKept}
 
 -- one body more of a copy
 pub take_body : (bodies done now : List Stored) (place : ℕ) (body : Stored) → done ≡ take place bodies → slice_get bodies place ≡ Some body → now ≡ done ++ body ∷ [] → now ≡ take (place + 1) bodies
@@ -147,31 +156,35 @@ any_of shape lost k below there_is is = any_between (has_lock shape) lost k 0 (l
 
 -- ---- spares
 
-spare_numbers-append : (xs ys : List (Option Stored)) → spare_numbers (xs ++ ys) ≡ spare_numbers xs ++ spare_numbers ys
-spare_numbers-append [] ys = refl
-spare_numbers-append (None ∷ xs) ys = spare_numbers-append xs ys
-spare_numbers-append (Some x ∷ xs) ys = ap (λ (list : List ℕ). x.element ∷ list) (spare_numbers-append xs ys)
+abbrev pub number_of : Option Stored → List ℕ
+number_of spare = option_to_list (option_map (λ (body : Stored). body.element) spare)
 
-spare_more : (spares : List (Option Stored)) (i : ℕ) (spare : Option Stored) → i < length spares → spare ≡ get_or spares i spare → spare_numbers (take (i + 1) spares) ≡ spare_numbers (take i spares) ++ spare_numbers (spare ∷ [])
-spare_more spares i spare within is =
-    ap spare_numbers (take_more spares i spare within ∙ ap (λ (x : Option Stored). take i spares ++ x ∷ []) (sym is)) ∙ spare_numbers-append (take i spares) (spare ∷ [])
+abbrev pub spares_below : List (Option Stored) → ℕ → List ℕ
+spares_below spares n = flat_map (λ cpu. number_of (get_or spares cpu None)) (range_with_len 0 n)
 
--- a CPU's spare, and none
-pub spare_kept : (spares : List (Option Stored)) (i : ℕ) (spare : Option Stored) (body : Stored) (done now : List ℕ) (element : ℕ) → i < length spares → spare ≡ get_or spares i spare
-    → spare ≡ Some body → element ≡ body.element → now ≡ done ++ element ∷ [] → done ≡ spare_numbers (take i spares) → now ≡ spare_numbers (take (i + 1) spares)
-spare_kept spares i spare body done now element within at is number pushed so_far =
+-- one CPU more, with its spare or without one
+spares_more : (spares : List (Option Stored)) (cpu : ℕ) (spare : Option Stored) → cpu < length spares → spare ≡ get_or spares cpu spare → spares_below spares (cpu + 1) ≡ spares_below spares cpu ++ number_of spare
+spares_more spares cpu spare within at =
+    ap (flat_map (λ c. number_of (get_or spares c None))) (below_more cpu)
+    ∙ flat_map-append (λ c. number_of (get_or spares c None)) (range_with_len 0 cpu) (cpu ∷ [])
+    ∙ ap (λ (last : List ℕ). spares_below spares cpu ++ last) (append-nil (number_of (get_or spares cpu None)))
+    ∙ ap (λ (one : Option Stored). spares_below spares cpu ++ number_of one) (get_or_default spares cpu None spare within ∙ sym at)
+
+pub spare_kept : (spares : List (Option Stored)) (cpu : ℕ) (spare : Option Stored) (body : Stored) (done now : List ℕ) (element : ℕ) → cpu < length spares → spare ≡ get_or spares cpu spare
+    → spare ≡ Some body → element ≡ body.element → now ≡ done ++ element ∷ [] → done ≡ spares_below spares cpu → now ≡ spares_below spares (cpu + 1)
+spare_kept spares cpu spare body done now element within at is number pushed so_far =
     pushed ∙ ap (λ (list : List ℕ). list ++ element ∷ []) so_far
-    ∙ ap (λ (e : ℕ). spare_numbers (take i spares) ++ e ∷ []) number
-    ∙ ap (λ (one : Option Stored). spare_numbers (take i spares) ++ spare_numbers (one ∷ [])) (sym is)
-    ∙ sym (spare_more spares i spare within at)
+    ∙ ap (λ (e : ℕ). spares_below spares cpu ++ e ∷ []) number
+    ∙ ap (λ (one : Option Stored). spares_below spares cpu ++ number_of one) (sym is)
+    ∙ sym (spares_more spares cpu spare within at)
 
-pub no_spare : (spares : List (Option Stored)) (i : ℕ) (spare : Option Stored) (done : List ℕ) → i < length spares → spare ≡ get_or spares i spare → spare ≡ None → done ≡ spare_numbers (take i spares) → done ≡ spare_numbers (take (i + 1) spares)
-no_spare spares i spare done within at none so_far =
-    so_far ∙ sym (append-nil (spare_numbers (take i spares)))
-    ∙ ap (λ (one : Option Stored). spare_numbers (take i spares) ++ spare_numbers (one ∷ [])) (sym none)
-    ∙ sym (spare_more spares i spare within at)
+pub no_spare : (spares : List (Option Stored)) (cpu : ℕ) (spare : Option Stored) (done : List ℕ) → cpu < length spares → spare ≡ get_or spares cpu spare → spare ≡ None → done ≡ spares_below spares cpu → done ≡ spares_below spares (cpu + 1)
+no_spare spares cpu spare done within at none so_far =
+    so_far ∙ sym (append-nil (spares_below spares cpu))
+    ∙ ap (λ (one : Option Stored). spares_below spares cpu ++ number_of one) (sym none)
+    ∙ sym (spares_more spares cpu spare within at)
 
--- ---- buckets and freelists
+-- ---- what the map holds
 
 pub passes_below : (k n : ℕ) → k < n → nat_lt k n ≡ true
 passes_below k n less = grind (arith, nat_tests)
@@ -185,49 +198,121 @@ at_lock shape log contents lock there lies =
     let at = lies k (number_within shape lock there) (ap (is_lock shape) same ∙ there) in
     (at.0, at.1, at.2 ∙ ap (λ (l : DomainId). content shape l (log k)) same, subst (λ (l : DomainId). Fits shape l at.0) same at.3)
 
-bucket_told : (shape : Shape) (bucket : ℕ) (here : Content) → Fits shape (named.Bucket bucket) here → in_bucket (bodies_in (Some here)) ≡ told here
+bucket_told : (shape : Shape) (bucket : ℕ) (here : Content) → Fits shape (named.Bucket bucket) here → bodies_in (Some here) ≡ unwrap_or (bucket_in (told here)) []
 bucket_told shape bucket (lying.Bucket chain) fits = refl
 bucket_told shape bucket (lying.Freelist freelist) fits = absurd fits
+bucket_told shape bucket (lying.Set set) fits = absurd fits
 
-freelist_told : (shape : Shape) (cpu : ℕ) (here : Content) → Fits shape (named.Freelist cpu) here → on_freelist (numbers_in (Some here)) ≡ told here
+freelist_told : (shape : Shape) (cpu : ℕ) (here : Content) → Fits shape (named.Freelist cpu) here → numbers_in (Some here) ≡ unwrap_or (freelist_in (told here)) []
 freelist_told shape cpu (lying.Bucket chain) fits = absurd fits
 freelist_told shape cpu (lying.Freelist freelist) fits = refl
+freelist_told shape cpu (lying.Set set) fits = absurd fits
 
--- the contents of the buckets' locks are their bodies
-pub buckets_told : (shape : Shape) (log : Logs) (contents : List (Option Content)) (first count : ℕ) (buckets : List (List Stored)) → AreContents shape log contents → length contents ≡ lock_count shape → first ≡ first_bucket shape → count ≡ shape.buckets
-    → buckets ≡ map bodies_in (take count (drop first contents)) → (length buckets ≡ shape.buckets) × ((bucket : ℕ) → bucket < shape.buckets → in_bucket (get_or buckets bucket []) ≡ content shape (named.Bucket bucket) (log (lock_number shape (named.Bucket bucket))))
-buckets_told shape log contents first count buckets lies counted first_is count_is are =
-    let long : length (take count (drop first contents)) ≡ count = length-take-le count (drop first contents) (simp length-drop (omega arith)) in (
-      ap length are ∙ length-map (take count (drop first contents)) bodies_in ∙ long ∙ count_is,
-      λ bucket within.
-          let at = at_lock shape log contents (named.Bucket bucket) (passes_below bucket shape.buckets within) lies in
-          let here : get_or buckets bucket [] ≡ bodies_in (Some at.0) =
-          ap (λ (l : List (List Stored)). get_or l bucket []) are
-          ∙ get_or-map bodies_in (take count (drop first contents)) bucket None [] (subst (λ (n : ℕ). bucket < n) (sym long) (omega arith))
-          ∙ ap bodies_in (get_or-take count (drop first contents) bucket None (omega arith) ∙ get_or-drop first contents bucket None
-          ∙ ap (λ (i : ℕ). get_or contents (i + bucket) None) first_is ∙ at.1) in
-          ap in_bucket here ∙ bucket_told shape bucket at.0 at.3 ∙ at.2,
-    )
+set_is_told : (shape : Shape) (cpu : ℕ) (here : Content) → Fits shape (named.CpuLru cpu) here → set_in (Some here) ≡ final_set (unwrap_or (own_in (told here)) (new_set []))
+set_is_told shape cpu (lying.Bucket chain) fits = absurd fits
+set_is_told shape cpu (lying.Freelist freelist) fits = absurd fits
+set_is_told shape cpu (lying.Set set) fits = refl
 
--- and those of the freelists' locks their elements
-pub freelists_told : (shape : Shape) (log : Logs) (contents : List (Option Content)) (first : ℕ) (freelists : List (List ℕ)) → is_lru shape.kind ≡ false → AreContents shape log contents → length contents ≡ lock_count shape → first ≡ first_freelist shape
-    → freelists ≡ map numbers_in (drop first contents) → (length freelists ≡ shape.cpus) × ((cpu : ℕ) → cpu < shape.cpus → on_freelist (get_or freelists cpu []) ≡ content shape (named.Freelist cpu) (log (lock_number shape (named.Freelist cpu))))
-freelists_told shape log contents first freelists plain lies counted first_is are = (
-  ap length are ∙ length-map (drop first contents) numbers_in ∙ simp length-drop (omega arith),
-  λ cpu within.
-      let there : is_lock shape (named.Freelist cpu) ≡ true =
-      ap (λ (b : Bool). not b && nat_lt cpu shape.cpus) plain ∙ passes_below cpu shape.cpus within in
-      let at = at_lock shape log contents (named.Freelist cpu) there lies in
-      let here : get_or freelists cpu [] ≡ numbers_in (Some at.0) =
-      ap (λ (l : List (List ℕ)). get_or l cpu []) are
-      ∙ get_or-map numbers_in (drop first contents) cpu None [] (simp length-drop (omega arith))
-      ∙ ap numbers_in (get_or-drop first contents cpu None ∙ ap (λ (i : ℕ). get_or contents (i + cpu) None) first_is ∙ at.1) in
-      ap on_freelist here ∙ freelist_told shape cpu at.0 at.3 ∙ at.2,
-)
+-- what is told of the locks of one sort, where the map has all of them and where it has none
+where_all : {A : Type 0} (shape : Shape) (lock : ℕ → DomainId) (tell : ℕ → A) (n : ℕ) (d : A) (items : List A) → ((k : ℕ) → k < n → is_lock shape (lock k) ≡ true) → length items ≡ n → ((k : ℕ) → k < n → get_or items k d ≡ tell k)
+    → items ≡ where_lock shape lock tell (range_with_len 0 n)
+where_all shape lock tell n d items there long each =
+    ext_get_or d items (map tell (range_with_len 0 n)) (long ∙ sym (length-map-range_with_len tell 0 n))
+    (λ k less. each k (omega arith) ∙ sym (get_or-map-range_with_len tell 0 n k k d (omega arith) (omega arith)))
+    ∙ sym (ap (map tell) (filter_range (λ k. is_lock shape (lock k)) 0 n (λ k less. there k (omega arith))))
+
+pub where_none : {A : Type 0} (shape : Shape) (lock : ℕ → DomainId) (tell : ℕ → A) (names : List ℕ) → ((k : ℕ) → is_lock shape (lock k) ≡ false) → where_lock shape lock tell names ≡ []
+where_none shape lock tell [] none = refl
+where_none shape lock tell (name ∷ names) none =
+    let rest : List ℕ = filter (λ k. is_lock shape (lock k)) names in
+    ap (λ (b : Bool). map tell (cond b (name ∷ rest) rest)) (none name) ∙ where_none shape lock tell names none
+
+module _ (shape : Shape) (log : Logs) (bit : ℕ → Bool) (spares : List (Option Stored)) (contents : List (Option Content)) (lies : AreContents shape log contents) (counted : length contents ≡ lock_count shape) where
+  -- the contents of the buckets' locks are their bodies
+  buckets_told : (first count : ℕ) (buckets : List (List Stored)) → first ≡ first_bucket shape → count ≡ shape.buckets → buckets ≡ map bodies_in (take count (drop first contents))
+      → buckets ≡ where_lock shape named.Bucket (bucket_at shape (state_left shape log bit spares)) (range_with_len 0 shape.buckets)
+  buckets_told first count buckets first_is count_is are =
+      let long : length (take count (drop first contents)) ≡ count = length-take-le count (drop first contents) (simp length-drop (omega arith)) in
+      where_all shape named.Bucket (bucket_at shape (state_left shape log bit spares)) shape.buckets [] buckets (λ bucket within. passes_below bucket shape.buckets within)
+      (ap length are ∙ length-map (take count (drop first contents)) bodies_in ∙ long ∙ count_is)
+      (λ bucket within.
+      let at = at_lock shape log contents (named.Bucket bucket) (passes_below bucket shape.buckets within) lies in
+      ap (λ (l : List (List Stored)). get_or l bucket []) are
+      ∙ get_or-map bodies_in (take count (drop first contents)) bucket None [] (subst (λ (n : ℕ). bucket < n) (sym long) (omega arith))
+      ∙ ap bodies_in (get_or-take count (drop first contents) bucket None (omega arith) ∙ get_or-drop first contents bucket None
+      ∙ ap (λ (i : ℕ). get_or contents (i + bucket) None) first_is ∙ at.1)
+      ∙ bucket_told shape bucket at.0 at.3
+      ∙ ap (λ (c : histories.Content). unwrap_or (bucket_in c) []) at.2)
+
+  -- those of the freelists' locks their elements, where the map doesn't evict
+  freelists_told : (freelists : List (List ℕ)) → freelists ≡ freelists_in shape contents → freelists ≡ where_lock shape named.Freelist (freelist_at shape (state_left shape log bit spares)) (range_with_len 0 shape.cpus)
+  freelists_told freelists are =
+      ⊎_elim
+      (λ (evicts : is_lru shape.kind ≡ true).
+      are ∙ ap (λ (b : Bool). cond {A = List (List ℕ)} b [] (map numbers_in (drop (first_freelist shape) contents))) evicts
+      ∙ sym (where_none shape named.Freelist (freelist_at shape (state_left shape log bit spares)) (range_with_len 0 shape.cpus) (λ cpu. ap (λ (b : Bool). not b && nat_lt cpu shape.cpus) evicts)))
+      (λ (plain : is_lru shape.kind ≡ false).
+      let these : freelists ≡ map numbers_in (drop (first_freelist shape) contents) =
+      are ∙ ap (λ (b : Bool). cond {A = List (List ℕ)} b [] (map numbers_in (drop (first_freelist shape) contents))) plain in
+      let there : (cpu : ℕ) → cpu < shape.cpus → is_lock shape (named.Freelist cpu) ≡ true = λ cpu within. ap (λ (b : Bool). not b && nat_lt cpu shape.cpus) plain ∙ passes_below cpu shape.cpus within in
+      where_all shape named.Freelist (freelist_at shape (state_left shape log bit spares)) shape.cpus [] freelists there
+      (ap length these ∙ length-map (drop (first_freelist shape) contents) numbers_in ∙ simp length-drop (omega arith))
+      (λ cpu within.
+      let at = at_lock shape log contents (named.Freelist cpu) (there cpu within) lies in
+      ap (λ (l : List (List ℕ)). get_or l cpu []) these
+      ∙ get_or-map numbers_in (drop (first_freelist shape) contents) cpu None [] (simp length-drop (omega arith))
+      ∙ ap numbers_in (get_or-drop (first_freelist shape) contents cpu None ∙ at.1)
+      ∙ freelist_told shape cpu at.0 at.3
+      ∙ ap (λ (c : histories.Content). unwrap_or (freelist_in c) []) at.2))
+      (cases_Bool (is_lru shape.kind))
+
+  -- and those of the list sets' locks their elements and cursors, where each CPU has its own
+  sets_told : (sets : List SetFinal) → shape.common ≡ false → sets ≡ sets_in shape contents → sets ≡ where_lock shape named.CpuLru (λ cpu. final_set (own_at shape (state_left shape log bit spares) cpu)) (range_with_len 0 shape.cpus)
+  sets_told sets apart are =
+      let run : List (Option Content) = drop (first_set shape) (take (first_bucket shape) contents) in
+      let tell : ℕ → SetFinal = λ cpu. final_set (own_at shape (state_left shape log bit spares) cpu) in
+      ⊎_elim
+      (λ (evicts : is_lru shape.kind ≡ true).
+      let these : sets ≡ map set_in run = are ∙ ap (λ (b : Bool). cond {A = List SetFinal} b (map set_in run) []) evicts in
+      let front : length (take (first_bucket shape) contents) ≡ first_bucket shape = length-take-le (first_bucket shape) contents (omega arith) in
+      let long : length run ≡ shape.cpus = simp length-drop (omega arith) in
+      let there : (cpu : ℕ) → cpu < shape.cpus → is_lock shape (named.CpuLru cpu) ≡ true = λ cpu within.
+      ap (λ (b : Bool). (b && not shape.common) && nat_lt cpu shape.cpus) evicts ∙ ap (λ (b : Bool). not b && nat_lt cpu shape.cpus) apart ∙ passes_below cpu shape.cpus within in
+      where_all shape named.CpuLru tell shape.cpus (final_set (new_set [])) sets there (ap length these ∙ length-map run set_in ∙ long)
+      (λ cpu within.
+      let at = at_lock shape log contents (named.CpuLru cpu) (there cpu within) lies in
+      ap (λ (l : List SetFinal). get_or l cpu (final_set (new_set []))) these
+      ∙ get_or-map set_in run cpu None (final_set (new_set [])) (subst (λ (n : ℕ). cpu < n) (sym long) within)
+      ∙ ap set_in (get_or-drop (first_set shape) (take (first_bucket shape) contents) cpu None ∙ get_or-take (first_bucket shape) contents (first_set shape + cpu) None (omega arith) ∙ at.1)
+      ∙ set_is_told shape cpu at.0 at.3
+      ∙ ap (λ (c : histories.Content). final_set (unwrap_or (own_in c) (new_set []))) at.2))
+      (λ (plain : is_lru shape.kind ≡ false).
+      are ∙ ap (λ (b : Bool). cond {A = List SetFinal} b (map set_in run) []) plain
+      ∙ sym (where_none shape named.CpuLru tell (range_with_len 0 shape.cpus) (λ cpu. ap (λ (b : Bool). (b && not shape.common) && nat_lt cpu shape.cpus) plain)))
+      (cases_Bool (is_lru shape.kind))
+
+  -- all that is handed out of the map
+  pub finals_left : (first count : ℕ) (finals : Finals) → shape.common ≡ false → first ≡ first_bucket shape → count ≡ shape.buckets
+      → finals.buckets ≡ map bodies_in (take count (drop first contents)) → finals.freelists ≡ freelists_in shape contents → finals.spares ≡ spares_in shape spares
+      → finals.sets ≡ sets_in shape contents → finals.locals ≡ [] → finals.marked ≡ filter bit (range_with_len 0 shape.elements)
+      → finals ≡ finals_of shape (state_left shape log bit spares)
+  unfolding finals_of
+  finals_left first count finals apart first_is count_is buckets freelists spares_are sets locals marked =
+      let state : State = state_left shape log bit spares in
+      let cpus : List ℕ = range_with_len 0 shape.cpus in
+      let own : finals.sets ≡ where_lock shape (λ one. named.Global) (λ one. final_set (globals_at shape state)) (range_with_len 0 1) ++ where_lock shape named.CpuLru (λ cpu. final_set (own_at shape state cpu)) cpus =
+      sets_told finals.sets apart sets
+      ∙ sym (ap (λ (l : List SetFinal). l ++ where_lock shape named.CpuLru (λ cpu. final_set (own_at shape state cpu)) cpus) (where_none shape (λ one. named.Global) (λ one. final_set (globals_at shape state)) (range_with_len 0 1) (λ one. apart))) in
+      let none : finals.locals ≡ where_lock shape named.Local (λ cpu. final_local (locals_at shape state cpu)) cpus =
+      locals ∙ sym (where_none shape named.Local (λ cpu. final_local (locals_at shape state cpu)) cpus (λ cpu. ap (λ (b : Bool). b && nat_lt cpu shape.cpus) apart)) in
+      let all_buckets = buckets_told first count finals.buckets first_is count_is buckets in
+      let all_freelists = freelists_told finals.freelists freelists in
+      λ i. record { buckets = all_buckets i; freelists = all_freelists i; spares = spares_are i; sets = own i; locals = none i; marked = marked i }
 
 bucket_sized : (shape : Shape) (bucket : ℕ) (here : Content) → Fits shape (named.Bucket bucket) here → HasSizedBodies shape (Some here)
 bucket_sized shape bucket (lying.Bucket chain) fits = fits
 bucket_sized shape bucket (lying.Freelist freelist) fits = absurd fits
+bucket_sized shape bucket (lying.Set set) fits = absurd fits
 
 -- the bodies under the buckets' locks have the sizes of the map
 pub buckets_sized : (shape : Shape) (log : Logs) (contents : List (Option Content)) → AreContents shape log contents → length contents ≡ lock_count shape → All (HasSizedBodies shape) (slice_range contents (first_bucket shape) (first_freelist shape))

@@ -1,7 +1,10 @@
+pub mod BucketTurns
+pub mod Came
 pub mod Closes
 pub mod CodeLemmas
 pub mod Entries
 pub mod FirstPass
+pub mod FirstSets
 pub mod FirstSlots
 pub mod FirstSpares
 pub mod FirstWords
@@ -9,11 +12,13 @@ pub mod Flags
 pub mod Gives
 pub mod Going
 pub mod Hands
+pub mod HashSteps
 pub mod HomeSteps
 pub mod JoinedSpares
 pub mod Joins
 pub mod Leaves
 pub mod Locks
+pub mod MapLeft
 pub mod NotesDone
 pub mod OneStrand
 pub mod Opens
@@ -30,9 +35,11 @@ pub mod Splits
 pub mod StoredHashes
 pub mod Stands
 pub mod StepLog
+pub mod StepOrder
 pub mod StrandMoves
 pub mod StrandNumbers
 pub mod StrandsLeft
 pub mod Touches
+pub mod TurnClears
 pub mod WordSteps
 pub mod Worlds

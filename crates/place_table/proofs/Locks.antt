@@ -1,6 +1,6 @@
 -- The steps on a lock word: a lock is taken with its slot, and given back with a turn.
 use Rattle.std.proofs.Common.{◌≡◌, ◌≢◌, ℕ, zero, suc, ◌+◌, ◌<◌, ◌≤◌, ◌⊎◌, inl, inr, ⊎_elim, eqb, cond, Bool, true, false, List, [], ◌∷◌, ◌++◌, length, get_or, set, sym, refl, ap, ◌∙◌, subst, arith, Option, Some, None, length-append, length-set, get_or-set_other, get_or-set_same}
-use Rattle.std.specs.Prelude.{◌&&◌, IsTrue, MatchOption, nat_lt}
+use Rattle.std.specs.Prelude.{◌&&◌, IsTrue, IsFalse, MatchOption, nat_lt}
 use Rattle.std.proofs.lemmas.Bool.{ltb-true}
 use mathlib.Core.Option.{some, none, some-ne-none}
 use mathlib.Core.Option as maybe
@@ -16,12 +16,13 @@ use Rattle.place_words.specs.declared.history.Entry.{Entry}
 use Rattle.place_words.specs.declared.home.Home.TheVariants as homes
 use Rattle.place_words.specs.declared.history.Part.{Part}
 use Rattle.place_words.specs.declared.history.StrandStep.{StrandStep}
-use Rattle.map_types.specs.ElementLists.{put, one, times}
+use Rattle.map_types.specs.ElementLists.{put, one, times, IsIn}
 use Rattle.key_hash.specs.Bucket.{bucket_number}
 use Rattle.place_words.specs.Histories as histories
 use Rattle.place_words.specs.Histories.{content, content_after, IsLegal}
 use Rattle.place_words.specs.Locks.{is_lock, lock_named, lock_number, lock_count, rank_of}
 use Rattle.place_words.specs.Strands.{places_on}
+use Rattle.place_words.specs.Takings.{set_of}
 use Rattle.place_words.proofs.HistoryLemmas.{content_more, legal_more}
 use Rattle.place_words.proofs.LockLemmas.{named_by_number, number_of_named, one_number, number_within, same_lock, other_lock}
 use Rattle.place_core.specs.declared.step.Lists.{Lists}
@@ -29,10 +30,10 @@ use Rattle.place_core.specs.declared.step.Step.TheVariants.{Take, Give}
 use Rattle.place_words.specs.declared.owner.Owner.{Owner}
 use Rattle.place_words.specs.declared.owner.Owner.TheVariants as owners
 use Rattle.place_words.specs.Openings.{is_free}
-use Rattle.place_core.specs.Places.{lies_at, has_row}
+use Rattle.place_core.specs.Places.{lies_at, has_row, home_of_place}
 use Rattle.map_types.specs.Kind.{is_lru}
 use Rattle.place_core.specs.State as cores
-use Rattle.place_core.specs.State.{rows, HasOnlyItsLists, HasCursorInside}
+use Rattle.place_core.specs.State.{rows, is_bucket, HasOnlyItsLists, HasCursorInside}
 use Rattle.place_core.specs.Steps.{CanTake, taken, CanGive, given}
 use Rattle.place_core.proofs.ElementLemmas.{by_test, at_put, put_here}
 use Rattle.place_core.proofs.StepLaws.{step_keeps_places, step_keeps_ranks}
@@ -46,23 +47,26 @@ use Rattle.place_table.specs.Contents.{told, lists_of, Fits}
 use Rattle.place_table.specs.Laws.{StepsAs, goes_if, goes_by}
 use Rattle.place_table.specs.declared.view.Turned.{Turned}
 use Rattle.place_table.specs.Views as views
-use Rattle.place_table.specs.Views.{is_among, hold_at, known_log, holding, has_all, is_in_hand_of, bucket_known, home_then, owners_passed, notes_below}
-use Rattle.place_table.specs.Rules.{World, Rule, Knows, AtHome, Reads, Tagged, entries, hold, hold_of, IsAboveAll, Ascends, turns_on, turns_of, indexes, logs_of, AreTagged, IsFresh, HashesRight, AreOfStrands, StillHome, HasRow, IsBrought, LeadTo, AreNoted}
+use Rattle.place_table.specs.Views.{is_among, hold_at, known_log, holding, has_all, is_in_hand_of, home_then, owners_passed, notes_below}
+use Rattle.place_table.specs.Rules.{World, Rule, Knows, givers, strands_of, AtHome, Reads, Tagged, entries, hold, hold_of, IsAboveAll, Ascends, turns_on, turns_of, indexes, logs_of, AreTagged, IsFresh, HashesRight, AreOfStrands, StillHome, HasRow, IsBrought, IsHashed, HasCome, is_hand_of, LeadTo, AreNoted}
 use Rattle.place_table.specs.Words.{lock_code, owner_word, home_word, bit_word, opening_words}
 use Rattle.place_table.specs.Plays.{Seated, Tries, AreElements, IsApartFromHands, MayPut, MayGive, IsRecorded, IsKeptOrLost, Gives, GivesSome, entry_by}
 use Rattle.place_table.specs.TurnNotes.{NotesFit}
 use Rattle.place_table.specs.StoredHashes.{stored_in}
-use Rattle.place_table.proofs.StoredHashes.{renewed, hashes_gave, hash_stays, IsGiven, IsOlder, given_known}
+use Rattle.place_table.proofs.StoredHashes.{renewed, hashes_gave, hash_stays, hashed_gave, IsGiven, IsOlder, given_known, given_kept, given_new, in_all, lies_on}
+use Rattle.place_table.proofs.Came.{came_first, came_other, came_passed}
+use Rattle.place_table.proofs.HashSteps.{no_bucket_home, hashed_taken}
 use Rattle.place_table.proofs.Entries.{append_nil, entries_more, entries_length, turns_of_same, turns_of_other, turns_on_same, turns_on_other, places_on_same, places_on_other, indexes_more}
 use Rattle.place_table.proofs.Stands.{Grows, stand_more, stand_behind}
 use Rattle.place_table.proofs.Worlds.{at_put4, by_bool, true_false, some_is, none_some, hold_of_mine, IsMineOrFree, hold_of_other, HoldIs, hold_of_is, hold_at_first, hold_at_other, none_below, above_each, has_mine, in_hand_is, lock_still_lost, all_here, here_all, among_first, others, past_stays, tagged_stays, tagged_more, SameStrands, knows_none, hash_stands, hand_is, both_true}
-use Rattle.place_table.proofs.Readings.{still_took, still_gave, home_is_hand, then_known, then_still, at_home_then}
+use Rattle.place_table.proofs.Readings.{still_took, still_gave, home_is_hand, then_known, then_still, at_home_then, listed_at_home, listed_in_set}
 use Rattle.place_table.specs.Flushes.{flushes}
 use Rattle.place_words.specs.declared.home.Home.{Home}
+use Rattle.place_table.specs.declared.view.HashIn.{HashIn}
 use Rattle.place_core.specs.Wholeness.{all_of}
 use Rattle.place_table.specs.declared.view.WordStep.{WordStep}
-use Rattle.place_table.proofs.StepLog.{touches_with, lead_with, of_strands_with, strand_with, mine_more, past_same, other_same}
-use Rattle.place_table.proofs.NotesDone.{noted_gave}
+use Rattle.place_table.proofs.StepLog.{made, time_more, givers_other, givers_here, strands_more, touches_with, lead_with, of_strands_with, strand_with, mine_more, past_same, other_same}
+use Rattle.place_table.proofs.NotesDone.{none_off, noted_gave}
 
 -- a step that is told as one of the core is one that the rule allows
 pub allows_of : (shape : Shape) (slots pass : ℕ) (me : Seated) (i : ℕ) (f : ℕ → ℕ) (goes : ℕ → cores.State → cores.State → Type 0) (told_then : ℕ → Seated → Type 0)
@@ -91,7 +95,7 @@ pub same_rule : (shape : Shape) (s : State Behind View) (r : Rule shape s) (word
 same_rule shape s r words views e f = record {
   world = r.world;
   is_shape = r.is_shape;
-  plain = r.plain;
+  own_lists = r.own_lists;
   words = ap length e ∙ r.words;
   slots = r.slots;
   lock_words = λ k below. ap (λ (l : List ℕ). get_or l k 0) e ∙ r.lock_words k below;
@@ -106,7 +110,9 @@ same_rule shape s r words views e f = record {
   seated = λ c less. subst (λ (l : List View). r.world.whose c < length l) (sym f) (r.seated c less);
   tagged = λ k. subst (λ (l : List View). AreTagged r.world (length l) (r.world.log k)) (sym f) (r.tagged k);
   lead = λ i below. subst (λ (l : List ℕ). LeadTo i (get_or (opening_words shape) i 0) r.world.touches (get_or l i 0)) (sym e) (r.lead i below);
+  in_time = r.in_time;
   of_strands = subst (λ (l : List View). AreOfStrands r.world (length l) r.world.touches) (sym f) r.of_strands;
+  gave_back = r.gave_back;
   knows = λ j u at. r.knows j u (sym (ap (λ (l : List View). get_elem? l j) f) ∙ at);
 }
 
@@ -137,14 +143,16 @@ elements_there shape s r k = record {
 }
 
 -- and what is in the hand of a CPU of a pass is on no free list and in no bucket
-pub apart_there : (shape : Shape) (s : State Behind View) (r : Rule shape s) (pass : ℕ) (v : View) → get_elem? s.views pass ≡ some v → (k : ℕ) → IsApartFromHands v (r.world.core.lists k)
+pub apart_there : (shape : Shape) (s : State Behind View) (r : Rule shape s) (pass : ℕ) (v : View) → get_elem? s.views pass ≡ some v → (k : ℕ) → IsApartFromHands v (lock_named shape k) (r.world.core.lists k)
 apart_there shape s r pass v at_pass k e c has in_hand =
     let w = r.world in let kn = r.knows pass v at_pass in
     let owner : w.core.owner e ≡ owners.Hand c = in_hand_is shape w pass v e c kn has in_hand in (
       r.placed.placed.free k e ∙ (ap (λ (o : Owner). one (nat_lt e shape.elements && (is_free o && lies_at k (r.placed.place e)))) owner ∙ none_and (nat_lt e shape.elements)),
-      λ plain. r.placed.placed.rows k e ∙ ((λ i. one (nat_lt e shape.elements && has_row (is_lru shape.kind) (lock_named shape k) (owner i) (lies_at k (r.placed.place e))))
-          ∙ (ap (λ (b : Bool). one (nat_lt e shape.elements && has_row b (lock_named shape k) (owners.Hand c) (lies_at k (r.placed.place e)))) r.plain
-          ∙ (ap (λ (b : Bool). one (nat_lt e shape.elements && b)) (no_row (lock_named shape k) (lies_at k (r.placed.place e))) ∙ none_and (nat_lt e shape.elements)))),
+      λ apart. r.placed.placed.rows k e ∙ ((λ i. one (nat_lt e shape.elements && has_row (is_lru shape.kind) (lock_named shape k) (owner i) (lies_at k (r.placed.place e))))
+          ∙ (ap (λ (b : Bool). one (nat_lt e shape.elements && b)) (⊎_elim
+          (λ (plain : is_lru v.shape.kind ≡ false). ap (λ (b : Bool). has_row b (lock_named shape k) (owners.Hand c) (lies_at k (r.placed.place e))) (ap (λ z. is_lru z.kind) (sym kn.shape_is) ∙ plain) ∙ no_row (lock_named shape k) (lies_at k (r.placed.place e)))
+          (λ (bucket : IsTrue (is_bucket (lock_named shape k))). no_row_there (is_lru shape.kind) (lock_named shape k) (lies_at k (r.placed.place e)) bucket)
+          apart) ∙ none_and (nat_lt e shape.elements))),
     )
   where
     none_and : (b : Bool) → one (b && false) ≡ 0
@@ -158,6 +166,13 @@ apart_there shape s r pass v at_pass k e c has in_hand =
     no_row (Bucket x) here = refl
     no_row (Freelist x) here = refl
 
+    no_row_there : (lru : Bool) (lock : DomainId) (here : Bool) → IsTrue (is_bucket lock) → has_row lru lock (owners.Hand c) here ≡ false
+    no_row_there lru (Local x) here bucket = true_false (sym bucket)
+    no_row_there lru Global here bucket = true_false (sym bucket)
+    no_row_there lru (CpuLru x) here bucket = true_false (sym bucket)
+    no_row_there lru (Bucket x) here bucket = refl
+    no_row_there lru (Freelist x) here bucket = true_false (sym bucket)
+
 module _ (shape : Shape) (slots pass : ℕ) (me : Seated) (lock : DomainId) (c : ℕ) (cpu : is_among c me.0.cpus ≡ true) (is : IsTrue (is_lock shape lock)) (above : IsAboveAll shape (rank_of lock) me.0.held) where
   can_take : (s : State Behind View) (r : Rule shape s) → get_elem? s.views pass ≡ some me.0 → r.world.core.holder (lock_number shape lock) ≡ None → CanTake shape r.world.core c lock
   can_take s r at free =
@@ -170,17 +185,17 @@ module _ (shape : Shape) (slots pass : ℕ) (me : Seated) (lock : DomainId) (c :
             ∙ hold_of_mine r.world.whose pass j c (r.world.log j) (r.world.core.lists j) (r.world.lost j) mine));
       }
 
-  took_step : WordStep
-  took_step = record { word = lock_number shape lock; seen = Some 0; left = 1 + c }
+  took_step : World → WordStep
+  took_step w = record { at = made w; word = lock_number shape lock; seen = Some 0; left = 1 + c }
 
   took_world : World → World
-  took_world w = record { core = taken shape w.core c lock; log = w.log; lost = w.lost; whose = w.whose; keeper = w.keeper; team = w.team; current = w.current; past = w.past; next = w.next; hash = w.hash; touches = touches_with w pass took_step }
+  took_world w = record { core = taken shape w.core c lock; log = w.log; lost = w.lost; whose = w.whose; keeper = w.keeper; team = w.team; current = w.current; past = w.past; next = w.next; hash = w.hash; touches = touches_with w pass (took_step w) }
 
   took_hold : World → Hold
   took_hold w = hold (lock_number shape lock) c (w.log (lock_number shape lock)) (w.core.lists (lock_number shape lock)) (w.lost (lock_number shape lock))
 
   took_rule : (s : State Behind View) (r : Rule shape s) → get_elem? s.views pass ≡ some me.0 → r.world.core.holder (lock_number shape lock) ≡ None
-      → (after : Rule shape record { words = set s.words (lock_number shape lock) (1 + c); homes = set s.homes (lock_number shape lock) none; views = set s.views pass (holding (took_hold r.world) me.0) })
+      → (after : Rule shape record { words = set s.words (lock_number shape lock) (1 + c); homes = set s.homes (lock_number shape lock) none; views = set s.views pass (holding (made r.world) (took_hold r.world) me.0) })
       × goes_by shape (Take c lock) 0 r.world.core after.world.core
   unfolding took_step took_world took_hold
   took_rule s r at_pass free =
@@ -189,14 +204,15 @@ module _ (shape : Shape) (slots pass : ℕ) (me : Seated) (lock : DomainId) (c :
       let real : k < lock_count shape = number_within shape lock is in
       let h : Hold = hold k c (w.log k) (w.core.lists k) (w.lost k) in
       let w' : World = took_world w in
-      let nv : View = holding h v in
+      let nv : View = holding (made w) h v in
+      let x : WordStep = took_step w in
       let can = can_take s r at_pass free in
       let bounds = bounds_of_shape shape r.is_shape in
       let same : SameStrands w w' = record { keeper = λ _. refl; team = λ _. refl; next = refl; current = λ _. refl; past = λ _. refl; whose = λ _. refl; still = λ _ z. z } in (
         record {
           world = w';
           is_shape = r.is_shape;
-          plain = r.plain;
+          own_lists = r.own_lists;
           words = length-set s.words k (1 + c) ∙ r.words;
           slots = length-set s.homes k none ∙ r.slots;
           lock_words = λ m below. at_put w.core.holder k (Some c) (λ i x. i < lock_count shape → get_or (set s.words k (1 + c)) i 0 ≡ lock_code x) m
@@ -224,8 +240,10 @@ module _ (shape : Shape) (slots pass : ℕ) (me : Seated) (lock : DomainId) (c :
               (λ ne below there_is. subst (λ z. AtHome shape m (w.core.holder m) (entries (w.log m)) (w.core.lists m) (w.lost m) z) (sym (set_else s.homes k m none ne)) (r.homes m below there_is)) below there_is;
           seated = λ x less. subst (λ (z : ℕ). w.whose x < z) (sym (length-set s.views pass nv)) (r.seated x less);
           tagged = λ m. tagged_stays w w' (length s.views) (length (set s.views pass nv)) (w.log m) (sym (length-set s.views pass nv)) same (r.tagged m);
-          lead = lead_with shape s r (w.current pass) took_step (omega (arith, r.words, real)) (sym (r.lock_words k real ∙ ap lock_code free));
-          of_strands = of_strands_with shape w pass v kn took_step w' (length s.views) (length (set s.views pass nv)) (there s.views pass v at_pass) (sym (length-set s.views pass nv)) same r.of_strands;
+          in_time = time_more w.touches (w.current pass, x) r.in_time refl;
+          gave_back = λ m below. givers_other m w.touches (w.current pass, x) (λ _ zero_left. absurd (omega (arith, zero_left))) ∙ r.gave_back m below;
+          lead = lead_with shape s r (w.current pass) x (omega (arith, r.words, real)) (sym (r.lock_words k real ∙ ap lock_code free));
+          of_strands = of_strands_with shape w pass v kn x w' (length s.views) (length (set s.views pass nv)) (there s.views pass v at_pass) (sym (length-set s.views pass nv)) same r.of_strands;
           knows = λ j u f. ⊎_elim
               (λ t. subst (λ (z : ℕ × View). Knows shape w' z.0 z.1) (λ i. (sym t.0 i, t.1 i)) record {
                 shape_is = kn.shape_is;
@@ -237,7 +255,11 @@ module _ (shape : Shape) (slots pass : ℕ) (me : Seated) (lock : DomainId) (c :
                 ascends = (subst (λ (d : DomainId). IsAboveAll shape (rank_of d) v.held) (sym (named_by_number shape lock is)) above, kn.ascends);
                 hands = kn.hands;
                 carried = kn.carried;
-                hashes = λ x d b within found. hash_stands shape w.hash w'.hash v.hand x d b (kn.hashes x d b within found) (λ _. refl);
+                hashes = λ x d noted within found. hash_stands shape w.hash w'.hash v.hand x d noted.bucket (kn.hashes x d noted within found) (λ _. refl);
+                hashed = λ lru x d at real_x within in_hand at_home.
+                    let owner_is : w.core.owner x ≡ owners.Hand d = hand_is d (w.core.owner x) (both_true _ _ (sym (kn.hands x d within) ∙ in_hand)).0 in
+                    hashed_taken shape w.core.holder w.core.lists w.core.owner w.core.home r.placed.place r.placed.placed w.log w.hash (r.hashes lru) lru x at real_x at_home (ap is_free owner_is)
+                    k c free h refl v.held v.notes v.hashes d (kn.hashed lru x d at real_x within in_hand at_home);
                 readings = λ x d read within found.
                     let then = then_known x d read v.shape h v.readings found in
                     let was = kn.readings x d then.0 within then.1 in
@@ -253,9 +275,9 @@ module _ (shape : Shape) (slots pass : ℕ) (me : Seated) (lock : DomainId) (c :
                 bits = kn.bits;
                 only = kn.only;
                 losses = λ j among. lock_still_lost shape w w' j (λ lo. lo) (kn.losses j among);
-                noted = (v.touched, [], refl, record { marks = tt; asked = tt; owners = tt; homes = tt }, kn.noted);
-                strand = strand_with shape w pass v kn took_step w' same (λ _. refl) (λ _ z. z) refl;
-                past = past_stays shape w w' pass (w.past pass) v.ended same (λ _ _ _ _. refl) (λ _ z. z) (λ t among _. past_same shape w pass v kn took_step t among) kn.past;
+                noted = (v.touched, [], made w, refl, real, none_off (h ∷ v.held), record { marks = tt; asked = tt; owners = tt; homes = tt }, kn.noted);
+                strand = strand_with shape w pass v kn x w' same (λ _. refl) (λ _ z. z) refl;
+                past = past_stays shape w w' pass (w.past pass) v.ended same (λ _ _ _ _. refl) (λ _ z. z) (λ t among _. past_same shape w pass v kn x t among) kn.past;
                 apart = kn.apart;
                 idle = λ empty. true_false (sym cpu ∙ ap (is_among c) empty);
               })
@@ -270,7 +292,8 @@ module _ (shape : Shape) (slots pass : ℕ) (me : Seated) (lock : DomainId) (c :
               ku.known
               ku.bits
               (λ _ _ _ _. refl)
-              (λ tag own. other_same shape w pass v kn took_step j tag t.0 own)
+              (λ _ _ _ _ _ _ at. inl at)
+              (λ tag own. other_same shape w pass v kn x j tag t.0 own)
               (λ x d read _ _ _ still. still_took shape w.core.holder w.log k c x (w.core.home x) read still))
               (at_set s.views pass j nv u f);
         },
@@ -291,7 +314,7 @@ module _ (shape : Shape) (slots pass : ℕ) (me : Seated) (lock : DomainId) (c :
       let home = free_home shape k (w.core.holder k) (entries (w.log k)) (w.core.lists k) (w.lost k) (get_elem? s.homes k) free (r.homes k real (subst (λ (d : DomainId). IsTrue (is_lock shape d)) (sym named) is)) in
       let h : Hold = hold k c (w.log k) (w.core.lists k) (w.lost k) in
       let rule = took_rule s r at_pass free in (
-        holding h me.0,
+        holding (made w) h me.0,
         takes k home.0.0,
         home.0.1,
         (rule.0, ((λ _. rule.1), λ miss. absurd (miss hit))),
@@ -301,11 +324,12 @@ module _ (shape : Shape) (slots pass : ℕ) (me : Seated) (lock : DomainId) (c :
             hold = h;
             lock = refl;
             cpu_is = omega arith;
+            at = made w;
             after_is = refl;
             reads = subst (λ z. Reads z k (entries (w.log k)) (w.lost k) home.0.0) (sym kn.shape_is) home.0.2;
             now = home.1 ∙ ap (λ z. lists_of (content z (lock_named z k) (entries (w.log k)))) (sym kn.shape_is);
             elements = subst (λ z. AreElements z (w.core.lists k)) (sym kn.shape_is) (elements_there shape s r k);
-            apart = apart_there shape s r pass me.0 at_pass k;
+            apart = subst (λ z. IsApartFromHands me.0 (lock_named z k) (w.core.lists k)) (sym kn.shape_is) (apart_there shape s r pass me.0 at_pass k);
             legal = subst (λ z. IsLegal z (lock_named z k) (entries (w.log k))) (sym kn.shape_is) (r.legal k);
             known = λ log f. kn.known k log f;
             at_home = λ x d other within found at.
@@ -315,6 +339,11 @@ module _ (shape : Shape) (slots pass : ℕ) (me : Seated) (lock : DomainId) (c :
                 let owner_is : w.core.owner x ≡ owners.Hand d = hand_is d (w.core.owner x) (both_true _ _ (sym (kn.hands x d less) ∙ was.in_hand)).0 in
                 let is : home_then shape h x then.0 ≡ homes.In other = ap (λ (z : Shape). home_then z h x then.0) (sym kn.shape_is) ∙ then.2 in
                 at_home_then shape w.core.holder w.core.lists w.core.owner w.core.home r.placed.place r.placed.placed w.log h refl x d other then.0 was.real owner_is was.still is (ap (λ (z : Shape). lock_number z other) (sym kn.shape_is) ∙ at);
+            lives = λ lru own x d real mine in_hand at.
+                let owner_is : w.core.owner x ≡ owners.Hand d = in_hand_is shape w pass me.0 x d kn mine in_hand in
+                subst (λ (j : ℕ). IsIn x (rows (w.core.lists j))) (ap (λ (z : Shape). lock_number z (CpuLru (set_of z x))) (sym kn.shape_is) ∙ at)
+                (listed_in_set shape w.core.holder w.core.lists w.core.owner w.core.home r.placed.place r.placed.placed w.log x (subst (λ (z : Shape). x < z.elements) kn.shape_is real) (ap is_free owner_is)
+                (ap (λ (z : Shape). is_lru z.kind) (sym kn.shape_is) ∙ lru) (ap (λ (z : Shape). z.common) (sym kn.shape_is) ∙ own));
           }),
           λ miss. absurd (miss hit),
         ),
@@ -337,22 +366,32 @@ tries_at shape slots pass me k c code cpu is above code_is =
 
 -- Lists as given back
 
--- what lies under a lock of one kind has only the lists of that kind, and no cursor
+-- what lies under a lock of one kind has only the lists of that kind, and its cursor in its place
 fits_lists : (shape : Shape) (lock : DomainId) (here : Content) → Fits shape lock here → HasOnlyItsLists lock (lists_of (told here))
 fits_lists shape (Bucket b) (contents.Bucket chain) fits = (refl, refl)
 fits_lists shape (Bucket b) (contents.Freelist freelist) fits = absurd fits
+fits_lists shape (Bucket b) (contents.Set set) fits = absurd fits
 fits_lists shape (Freelist c) (contents.Freelist freelist) fits = (refl, refl)
 fits_lists shape (Freelist c) (contents.Bucket chain) fits = absurd fits
+fits_lists shape (Freelist c) (contents.Set set) fits = absurd fits
 fits_lists shape (Local c) (contents.Bucket chain) fits = absurd fits
 fits_lists shape (Local c) (contents.Freelist freelist) fits = absurd fits
+fits_lists shape (Local c) (contents.Set set) fits = absurd fits
 fits_lists shape Global (contents.Bucket chain) fits = absurd fits
 fits_lists shape Global (contents.Freelist freelist) fits = absurd fits
+fits_lists shape Global (contents.Set set) fits = absurd fits
 fits_lists shape (CpuLru c) (contents.Bucket chain) fits = absurd fits
 fits_lists shape (CpuLru c) (contents.Freelist freelist) fits = absurd fits
+fits_lists shape (CpuLru c) (contents.Set set) fits = tt
 
-no_cursor : (here : Content) → HasCursorInside (lists_of (told here))
-no_cursor (contents.Bucket chain) = tt
-no_cursor (contents.Freelist freelist) = tt
+fits_cursor : (shape : Shape) (lock : DomainId) (here : Content) → Fits shape lock here → HasCursorInside (lists_of (told here))
+fits_cursor shape lock (contents.Bucket chain) fits = tt
+fits_cursor shape lock (contents.Freelist freelist) fits = tt
+fits_cursor shape (Bucket b) (contents.Set set) fits = absurd fits
+fits_cursor shape (Freelist c) (contents.Set set) fits = absurd fits
+fits_cursor shape (Local c) (contents.Set set) fits = absurd fits
+fits_cursor shape Global (contents.Set set) fits = absurd fits
+fits_cursor shape (CpuLru c) (contents.Set set) fits = fits.whole.placed
 
 -- what follows of the record of a lock, where there is one and where there is none
 pub lost_of : {A : Type 0} → Option A → Bool
@@ -376,8 +415,8 @@ kept_or_lost shape v h e kept b shape_is rec =
 
 module _ (shape : Shape) (slots pass : ℕ) (v : View) (b : Behind) (cs : List (ℕ × Behind)) (lock : DomainId) (h : Hold) (below : List Hold) (is_held : v.held ≡ h ∷ below) (is : IsTrue (is_lock shape lock)) (at_lock : h.lock ≡ lock_number shape lock)
     (e : Entry) (kept : List StrandStep) (may : MayGive shape v h e kept b) where
-  gave_step : WordStep
-  gave_step = record { word = h.lock; seen = None; left = 0 }
+  gave_step : World → WordStep
+  gave_step w = record { at = made w; word = h.lock; seen = None; left = 0 }
 
   gave_world : World → World
   gave_world w = record {
@@ -391,7 +430,7 @@ module _ (shape : Shape) (slots pass : ℕ) (v : View) (b : Behind) (cs : List (
     past = w.past;
     next = w.next;
     hash = λ x. renewed (is_lru shape.kind) (stored_in (told may.here) x) (w.hash x);
-    touches = touches_with w pass gave_step;
+    touches = touches_with w pass (gave_step w);
   }
 
   -- the hold, as the world has it
@@ -415,53 +454,87 @@ module _ (shape : Shape) (slots pass : ℕ) (v : View) (b : Behind) (cs : List (
       let m = put_back_there w kn in
       let named = named_by_number shape lock is in
       let there = elements_there shape s r k in
+      let fits : Fits shape lock may.here = subst (λ (d : DomainId). Fits shape d may.here) named m.fits in
       record {
         holds = record { is_cpu = r.ranked.within h.cpu k at.holder_is; is_lock = is; held = at.holder_is };
-        fit = fits_lists shape lock may.here (subst (λ (d : DomainId). Fits shape d may.here) named m.fits);
+        fit = fits_lists shape lock may.here fits;
         same_free = m.same_free;
         same_rows = m.same_rows;
         free_once = λ x. subst (λ (n : ℕ). n ≤ 1) (sym (m.same_free x)) (there.free_once x);
         rows_once = λ x. subst (λ (n : ℕ). n ≤ 1) (sym (m.same_rows x)) (there.rows_once x);
-        cursor = no_cursor may.here;
+        cursor = fits_cursor shape lock may.here fits;
       }
 
   same_hands : (c d : ℕ) → owners.Hand c ≡ owners.Hand d → c ≡ d
   same_hands c d e = cc
 
-  own_hand_none : (s : State Behind View) (r : Rule shape s) → get_elem? s.views pass ≡ some v → (x : ℕ) → r.world.core.owner x ≢ owners.Hand h.cpu → is_in_hand_of x h.cpu v.hand ≡ false
-  own_hand_none s r at_pass x other =
+  -- what came in the turn and is in the hand of its CPU
+  fresh : ℕ → Bool
+  fresh x = is_in_hand_of x h.cpu v.hand && is_among x (views.came_last v.notes)
+
+  came_is : views.came_at (lock_number shape lock) v.held v.notes ≡ views.came_last v.notes
+  came_is = (λ i. views.came_at (sym at_lock i) (is_held i) v.notes) ∙ came_first h below v.notes
+
+  fresh_there : (s : State Behind View) (r : Rule shape s) → get_elem? s.views pass ≡ some v → (x : ℕ) → fresh x ≡ true → r.world.core.owner x ≡ owners.Hand h.cpu
+  unfolding fresh
+  fresh_there s r at_pass x is =
       let w = r.world in let kn = r.knows pass v at_pass in
       let at = found_hold w kn in
-      by_bool (is_in_hand_of x h.cpu v.hand) (λ t. t ≡ false)
-      (λ in_hand. absurd (other (hand_is h.cpu (w.core.owner x) (both_true _ _ (sym (kn.hands x h.cpu (r.ranked.within h.cpu (lock_number shape lock) at.holder_is)) ∙ in_hand)).0)))
-      (λ _. refl)
+      hand_is h.cpu (w.core.owner x) (both_true _ _ (sym (kn.hands x h.cpu (r.ranked.within h.cpu (lock_number shape lock) at.holder_is)) ∙ (both_true _ _ is).0)).0
 
-  own_hashes : (s : State Behind View) (r : Rule shape s) → get_elem? s.views pass ≡ some v → (x c b : ℕ) → c < shape.cpus → bucket_known x c (views.given h e kept v).hashes ≡ Some b → (is_in_hand_of x c v.hand ≡ true) × (bucket_number (renewed (is_lru shape.kind) (stored_in (told may.here) x) (r.world.hash x)) shape.buckets ≡ b)
-  unfolding gave_world
-  own_hashes s r at_pass x c b within found =
+  -- what is in its hand and listed there, and didn't come in the turn, has a row there or was brought
+  rowed_there : (s : State Behind View) (r : Rule shape s) → get_elem? s.views pass ≡ some v → IsTrue (is_lru shape.kind) → (x : ℕ) → fresh x ≡ false → r.world.core.owner x ≡ owners.Hand h.cpu → IsIn x (rows (r.world.core.lists (lock_number shape lock)))
+      → HasRow shape r.world.log r.world.hash (lock_number shape lock) x ⊎ IsBrought shape r.world.core.holder r.world.log r.world.hash (lock_number shape lock) x
+  unfolding fresh
+  rowed_there s r at_pass lru x other owner_is listed =
+      let w = r.world in let k : ℕ = lock_number shape lock in let kn = r.knows pass v at_pass in
+      let at = found_hold w kn in
+      let within : h.cpu < shape.cpus = r.ranked.within h.cpu k at.holder_is in
+      let in_hand : is_in_hand_of x h.cpu v.hand ≡ true = kn.hands x h.cpu within ∙ ((λ i. is_hand_of h.cpu (owner_is i) && eqb (at.mine i) pass) ∙ by_test h.cpu h.cpu (λ t. (t && eqb pass pass) ≡ true) (λ _. by_test pass pass (λ t. t ≡ true) (λ _. refl) (λ ne. absurd (ne refl))) (λ ne. absurd (ne refl))) in
+      let real : x < shape.elements = (elements_there shape s r k).rows_real x listed in
+      let no_bucket : IsFalse (is_bucket lock) = by_bool (is_bucket lock) (λ t. t ≡ false)
+      (λ bucket. let none = (apart_there shape s r pass v at_pass k x h.cpu (kn.cpus h.cpu within ∙ (ap (λ (z : ℕ). eqb z pass) at.mine ∙ by_test pass pass (λ t. t ≡ true) (λ _. refl) (λ ne. absurd (ne refl)))) in_hand).1 (inr (ap is_bucket (named_by_number shape lock is) ∙ bucket)) in absurd (omega (arith, none, listed)))
+      (λ _. refl) in
+      let home_is : w.core.home x ≡ homes.In lock = r.placed.placed.homes x real ∙ (ap (home_of_place shape) (lies_on shape w.core.lists w.core.owner w.core.home r.placed.place r.placed.placed k x (ap is_bucket (named_by_number shape lock is) ∙ no_bucket) (in_all x (w.core.lists k) listed))
+      ∙ (ap (λ (b : Bool). cond b (homes.In (lock_named shape k)) homes.Unlisted) lru ∙ ap homes.In (named_by_number shape lock is))) in
+      ⊎_elim
+      (λ (had : HasRow shape w.log w.hash k x). inl had)
+      (⊎_elim
+      (λ (brought : IsBrought shape w.core.holder w.log w.hash k x). inr brought)
+      (λ (come : HasCome w.core.holder (views.came_at k v.held v.notes) k x h.cpu). true_false (sym (λ i. in_hand i && (ap (is_among x) (sym came_is) ∙ come.inside) i) ∙ other)))
+      ((kn.hashed lru x h.cpu lock real within in_hand home_is).row at.holder_is)
+
+  own_hashes : (s : State Behind View) (r : Rule shape s) → get_elem? s.views pass ≡ some v → (x c : ℕ) (noted : HashIn) → c < shape.cpus → (IsTrue (is_lru shape.kind) → fresh x ≡ false → renewed true (stored_in (told may.here) x) (r.world.hash x) ≡ r.world.hash x) → views.hash_known x c (views.given (made r.world) h e kept v).hashes ≡ Some noted → (is_in_hand_of x c v.hand ≡ true) × (bucket_number (renewed (is_lru shape.kind) (stored_in (told may.here) x) (r.world.hash x)) shape.buckets ≡ noted.bucket)
+  unfolding gave_world fresh
+  own_hashes s r at_pass x c noted within stays found =
       let w = r.world in let kn = r.knows pass v at_pass in
+      let came : List ℕ = views.came_last v.notes in
       let here : histories.Content = content_after v.shape e.cpu e.part (content v.shape (lock_named v.shape h.lock) h.log) in
       let same : here ≡ told may.here = ap (λ z. content_after z e.cpu e.part (content z (lock_named z h.lock) h.log)) kn.shape_is ∙ sym may.may_put.told_is in
-      by_bool (is_lru shape.kind) (λ t. is_lru shape.kind ≡ t → bucket_known x c (cond t (views.hashes_given v.shape.buckets here v.hand v.hashes) v.hashes) ≡ Some b → (is_in_hand_of x c v.hand ≡ true) × (bucket_number (renewed t (stored_in (told may.here) x) (w.hash x)) shape.buckets ≡ b))
+      by_bool (is_lru shape.kind) (λ t. is_lru shape.kind ≡ t → views.hash_known x c (cond t (views.hashes_given h.cpu v.shape.buckets here came v.hand v.hashes) v.hashes) ≡ Some noted → (is_in_hand_of x c v.hand ≡ true) × (bucket_number (renewed t (stored_in (told may.here) x) (w.hash x)) shape.buckets ≡ noted.bucket))
       (λ lru _ f. ⊎_elim
-      (λ (given : IsGiven here v.shape.buckets x c b v.hand). (
+      (λ (given : IsGiven here v.shape.buckets x c noted v.hand). (
         given.in_hand,
         ap (λ (o : Option ℕ). bucket_number (renewed true o (w.hash x)) shape.buckets) (sym (ap (λ z. stored_in z x) same) ∙ given.stored) ∙ (ap (λ z. bucket_number given.hash z.buckets) (sym kn.shape_is) ∙ given.bucket_is),
       ))
-      (λ (older : IsOlder here x c b v.hand v.hashes). let was = kn.hashes x c b within older.known in (
+      (λ (older : IsOlder here h.cpu came x c noted v.hand v.hashes). let was = kn.hashes x c noted within older.known in (
         was.in_hand,
-        ap (λ (o : Option ℕ). bucket_number (renewed true o (w.hash x)) shape.buckets) (sym (ap (λ z. stored_in z x) same) ∙ older.none_stored was.in_hand) ∙ was.bucket_is,
+        by_bool (fresh x) (λ t. fresh x ≡ t → bucket_number (renewed true (stored_in (told may.here) x) (w.hash x)) shape.buckets ≡ noted.bucket)
+            (λ yes _.
+            let mine : c ≡ h.cpu = same_hands c h.cpu (sym (hand_is c (w.core.owner x) (both_true _ _ (sym (kn.hands x c within) ∙ was.in_hand)).0) ∙ fresh_there s r at_pass x yes) in
+            ap (λ (o : Option ℕ). bucket_number (renewed true o (w.hash x)) shape.buckets) (sym (ap (λ z. stored_in z x) same) ∙ older.none_stored mine was.in_hand (both_true _ _ yes).1) ∙ was.bucket_is)
+            (λ no _. ap (λ (n : ℕ). bucket_number n shape.buckets) (stays lru no) ∙ was.bucket_is) refl,
       ))
-      (given_known here v.shape.buckets x c b v.hand v.hashes f))
-      (λ _ _ f. let was = kn.hashes x c b within f in (was.in_hand, was.bucket_is)) refl
-      (ap (λ z. bucket_known x c (cond (is_lru z.kind) (views.hashes_given v.shape.buckets here v.hand v.hashes) v.hashes)) (sym kn.shape_is) ∙ found)
+      (given_known here h.cpu v.shape.buckets came x c v.hashes noted v.hand f))
+      (λ _ _ f. let was = kn.hashes x c noted within f in (was.in_hand, was.bucket_is)) refl
+      (ap (λ z. views.hash_known x c (cond (is_lru z.kind) (views.hashes_given h.cpu v.shape.buckets here came v.hand v.hashes) v.hashes)) (sym kn.shape_is) ∙ found)
 
   -- the pass may come to know that the record of this lock is lost
   gave_rule : (s : State Behind View) (r : Rule shape s) → get_elem? s.views pass ≡ some v
       → (known_lost : List ℕ) → ((m : ℕ) → is_among m known_lost ≡ true → (is_among m v.lost ≡ true) ⊎ ((m ≡ lock_number shape lock) × (lost_of b.history ≡ true)))
-      → (after : Rule shape record { words = set s.words (lock_number shape lock) 0; homes = set s.homes (lock_number shape lock) (some b); views = set s.views pass (views.with_lost known_lost (views.given h e kept v)) })
+      → (after : Rule shape record { words = set s.words (lock_number shape lock) 0; homes = set s.homes (lock_number shape lock) (some b); views = set s.views pass (views.with_lost known_lost (views.given (made r.world) h e kept v)) })
       × goes_by shape (Give h.cpu lock (lists_of (told may.here))) 0 r.world.core after.world.core
-  unfolding gave_step gave_world
+  unfolding gave_step gave_world fresh
   gave_rule s r at_pass known_lost is_lost =
       let k : ℕ = lock_number shape lock in
       let w = r.world in let kn = r.knows pass v at_pass in
@@ -479,7 +552,8 @@ module _ (shape : Shape) (slots pass : ℕ) (v : View) (b : Behind) (cs : List (
       let es_is : entries l' ≡ es ++ e ∷ [] = entries_more (w.log k) (w.current pass, e) in
       let content_is : content shape (lock_named shape k) (entries l') ≡ told may.here = ap (content shape (lock_named shape k)) es_is ∙ (content_more shape (lock_named shape k) es e ∙ sym m0.told_is) in
       let w' : World = gave_world w in
-      let nv : View = views.with_lost known_lost (views.given h e kept v) in
+      let nv : View = views.with_lost known_lost (views.given (made w) h e kept v) in
+      let last : WordStep = gave_step w in
       let new_turn : Turned = views.turned h.lock h.log e in
       let grown : (m : ℕ) → Grows (entries (w.log m)) (entries (put w.log k l' m)) = λ m. at_put w.log k l' (λ i l. Grows (entries (w.log i)) (entries l)) m (e ∷ [], es_is) (λ _. ([], sym (append_nil _))) in
       let same : SameStrands w w' = record { keeper = λ _. refl; team = λ _. refl; next = refl; current = λ _. refl; past = λ _. refl; whose = λ _. refl; still = λ steps z. stand_more (logs_of w) (logs_of w') steps grown z } in
@@ -496,19 +570,22 @@ module _ (shape : Shape) (slots pass : ℕ) (v : View) (b : Behind) (cs : List (
       let innermost : (m : ℕ) → m ≢ k → w.core.holder m ≡ Some h.cpu → rank_of (lock_named shape m) < rank_of (lock_named shape k) = λ m ne holds.
       let there_is : hold_at m below ≡ Some (hold m h.cpu (w.log m) (w.core.lists m) (w.lost m)) = sym (hold_at_other m h below (λ y. ne (y ∙ at_lock))) ∙ (sym (ap (hold_at m) is_held) ∙ (kn.held m ∙ (ap (λ (z : Option ℕ). hold_of pass w.whose m z (w.log m) (w.core.lists m) (w.lost m)) holds ∙ hold_of_mine w.whose pass m h.cpu (w.log m) (w.core.lists m) (w.lost m) at.mine))) in
       above_each shape (rank_of (lock_named shape k)) below m (hold m h.cpu (w.log m) (w.core.lists m) (w.lost m)) (subst (λ (z : ℕ). IsAboveAll shape (rank_of (lock_named shape z)) below) at_lock ranks.0) there_is in
-      let rows_stay : IsTrue (is_lru shape.kind) → (j x n m : ℕ) → w.core.owner x ≢ owners.Hand h.cpu → w.core.holder j ≡ Some h.cpu → stored_in (content shape (lock_named shape j) (entries (w.log j))) x ≡ Some n → stored_in (told may.here) x ≡ Some m → n ≡ m = λ lru j x n m other holds.
-      m0.rows_kept lru j x n m (hold j h.cpu (w.log j) (w.core.lists j) (w.lost j)) (kn.held j ∙ (ap (λ (z : Option ℕ). hold_of pass w.whose j z (w.log j) (w.core.lists j) (w.lost j)) holds ∙ hold_of_mine w.whose pass j h.cpu (w.log j) (w.core.lists j) (w.lost j) at.mine)) (own_hand_none s r at_pass x other) in
+      let rows_stay : IsTrue (is_lru shape.kind) → (j x n m : ℕ) → fresh x ≡ false → w.core.holder j ≡ Some h.cpu → stored_in (content shape (lock_named shape j) (entries (w.log j))) x ≡ Some n → stored_in (told may.here) x ≡ Some m → n ≡ m = λ lru j x n m other holds.
+      m0.rows_kept lru j x n m (hold j h.cpu (w.log j) (w.core.lists j) (w.lost j)) (kn.held j ∙ (ap (λ (z : Option ℕ). hold_of pass w.whose j z (w.log j) (w.core.lists j) (w.lost j)) holds ∙ hold_of_mine w.whose pass j h.cpu (w.log j) (w.core.lists j) (w.lost j) at.mine)) other in
       let gone_there : IsTrue (is_lru shape.kind) → (c x n : ℕ) → lock_named shape k ≡ Local c → stored_in (content shape (lock_named shape k) es) x ≡ Some n → times x (all_of (w.core.lists k)) ≡ 0 → (w.core.home x ≡ homes.Hand h.cpu) ⊎ (flushes x e.part ≡ true) = λ lru c x n named was none. ⊎_elim
       (λ (off : is_in_hand_of x h.cpu v.carried ≡ true). inl (home_is_hand h.cpu (w.core.home x) (both_true _ _ (sym (kn.carried x h.cpu (r.ranked.within h.cpu k at.holder_is)) ∙ off)).0))
       (λ (by_it : flushes x e.part ≡ true). inr by_it)
       (m0.gone lru c x n named was none) in
       let still_there : (x : ℕ) (read : Home) → x < shape.elements → StillHome shape w.core.holder w.log x (w.core.home x) read → StillHome shape (put w.core.holder k None) (put w.log k l') x (w.core.home x) read =
       still_gave shape w.core.holder w.core.lists w.core.owner w.core.home r.placed.place r.placed.placed w.log k h.cpu may.here m0.fits l' e es_is content_is m0.same_rows gone_there in
+      let hash_there : IsTrue (is_lru shape.kind) → (x : ℕ) → fresh x ≡ false → renewed true (stored_in (told may.here) x) (w.hash x) ≡ w.hash x = λ lru x other.
+      hash_stays shape w.core.holder w.core.lists w.core.owner w.core.home r.placed.place r.placed.placed w.log w.hash (r.hashes lru) k h.cpu at.holder_is may.here m0.fits l' content_is m0.same_rows innermost fresh (fresh_there s r at_pass) (rowed_there s r at_pass lru) (rows_stay lru) x other in
+      let held_now : w.core.holder k ≡ Some h.cpu = at.holder_is in
       let counted : length h.log ≡ length (w.log k) + 0 = ap length log_is ∙ (entries_length (w.log k) ∙ (let g : length (w.log k) ≡ length (w.log k) + 0 = omega arith in g)) in (
         record {
           world = w';
           is_shape = r.is_shape;
-          plain = r.plain;
+          own_lists = r.own_lists;
           words = length-set s.words k 0 ∙ r.words;
           slots = length-set s.homes k (some b) ∙ r.slots;
           lock_words = λ m within. at_put w.core.holder k None (λ i x. i < lock_count shape → get_or (set s.words k 0) i 0 ≡ lock_code x) m
@@ -520,7 +597,7 @@ module _ (shape : Shape) (slots pass : ℕ) (v : View) (b : Behind) (cs : List (
           placed = step_keeps_places shape w.core (Give h.cpu lock n') bounds can r.placed;
           ranked = step_keeps_ranks shape w.core (Give h.cpu lock n') can r.ranked;
           hashes = λ lru. subst (λ (t : Bool). HashesRight shape (put w.core.holder k None) (put w.core.lists k n') w.core.owner (put w.log k l') (λ x. renewed t (stored_in (told may.here) x) (w.hash x))) (sym lru)
-              (hashes_gave shape w.core.holder w.core.lists w.core.owner w.core.home r.placed.place r.placed.placed w.log w.hash (r.hashes lru) k h.cpu at.holder_is may.here m0.fits l' content_is m0.same_rows innermost (rows_stay lru));
+              (hashes_gave shape w.core.holder w.core.lists w.core.owner w.core.home r.placed.place r.placed.placed w.log w.hash (r.hashes lru) k h.cpu at.holder_is may.here m0.fits l' content_is m0.same_rows innermost fresh (fresh_there s r at_pass) (rowed_there s r at_pass lru) (rows_stay lru));
           legal = λ m. at_put w.log k l' (λ i l. IsLegal shape (lock_named shape i) (entries l)) m
               (subst (IsLegal shape (lock_named shape k)) (sym es_is) (legal_more shape (lock_named shape k) es e (r.legal k) m0.allowed))
               (λ _. r.legal m);
@@ -550,9 +627,13 @@ module _ (shape : Shape) (slots pass : ℕ) (v : View) (b : Behind) (cs : List (
                 listed = subst (λ (z : ℕ). is_among (w.current pass) (w.current z ∷ w.past z) ≡ true) (sym kn.strand.keeper) (among_first (w.current pass) (w.past pass));
               })
               (λ _. r.tagged m));
-          lead = λ m within. subst (λ (z : ℕ). LeadTo m (get_or (opening_words shape) m 0) (w.touches ++ (w.current pass, record { word = z; seen = None; left = 0 }) ∷ []) (get_or (set s.words k 0) m 0)) (sym at_lock)
-              (lead_with shape s r (w.current pass) record { word = k; seen = None; left = 0 } (omega (arith, r.words, real)) tt m within);
-          of_strands = of_strands_with shape w pass v kn gave_step w' (length s.views) (length (set s.views pass nv)) (there s.views pass v at_pass) (sym (length-set s.views pass nv)) same r.of_strands;
+          in_time = time_more w.touches (w.current pass, last) r.in_time refl;
+          gave_back = λ m within. at_put w.log k l' (λ i l. givers i (touches_with w pass last) ≡ strands_of l) m
+              (givers_here k w.touches (w.current pass, last) at_lock refl ∙ (ap (λ (z : List ℕ). z ++ w.current pass ∷ []) (r.gave_back k real) ∙ sym (strands_more (w.log k) (w.current pass, e))))
+              (λ ne. givers_other m w.touches (w.current pass, last) (λ y _. ne (sym y ∙ at_lock)) ∙ r.gave_back m within);
+          lead = λ m within. subst (λ (z : ℕ). LeadTo m (get_or (opening_words shape) m 0) (w.touches ++ (w.current pass, record { at = made w; word = z; seen = None; left = 0 }) ∷ []) (get_or (set s.words k 0) m 0)) (sym at_lock)
+              (lead_with shape s r (w.current pass) record { at = made w; word = k; seen = None; left = 0 } (omega (arith, r.words, real)) tt m within);
+          of_strands = of_strands_with shape w pass v kn last w' (length s.views) (length (set s.views pass nv)) (there s.views pass v at_pass) (sym (length-set s.views pass nv)) same r.of_strands;
           knows = λ j u f. ⊎_elim
               (λ t. subst (λ (z : ℕ × View). Knows shape w' z.0 z.1) (λ i. (sym t.0 i, t.1 i)) record {
                 shape_is = kn.shape_is;
@@ -564,7 +645,25 @@ module _ (shape : Shape) (slots pass : ℕ) (v : View) (b : Behind) (cs : List (
                 ascends = subst (Ascends shape) (sym (ap views.holds_below is_held)) ranks.1;
                 hands = kn.hands;
                 carried = kn.carried;
-                hashes = λ x d b within found. let own = own_hashes s r at_pass x d b within found in record { in_hand = own.0; bucket_is = own.1 };
+                hashes = λ x d noted within found. let own = own_hashes s r at_pass x d noted within (λ lru. hash_there lru x) found in record { in_hand = own.0; bucket_is = own.1 };
+                hashed = λ lru x d at real_x within in_hand at_home.
+                    let m : ℕ = lock_number shape at in
+                    let owner_is : w.core.owner x ≡ owners.Hand d = hand_is d (w.core.owner x) (both_true _ _ (sym (kn.hands x d within) ∙ in_hand)).0 in
+                    let here : histories.Content = content_after v.shape e.cpu e.part (content v.shape (lock_named v.shape h.lock) h.log) in
+                    let here_is : here ≡ told may.here = ap (λ z. content_after z e.cpu e.part (content z (lock_named z h.lock) h.log)) kn.shape_is ∙ sym may.may_put.told_is in
+                    let came : List ℕ = views.came_last v.notes in
+                    let hashes' : List HashIn = views.hashes_given h.cpu v.shape.buckets here came v.hand v.hashes in
+                    let came' : List ℕ = views.came_at m (views.holds_below v.held) (owners_passed e.part (notes_below v.notes)) in
+                    subst (λ (t : Bool). IsHashed shape (put w.core.holder k None) (put w.log k l') (λ y. renewed t (stored_in (told may.here) y) (w.hash y)) (cond (is_lru v.shape.kind) hashes' v.hashes) came' m x d) (sym lru)
+                    (subst (λ (t : Bool). IsHashed shape (put w.core.holder k None) (put w.log k l') (λ y. renewed true (stored_in (told may.here) y) (w.hash y)) (cond t hashes' v.hashes) came' m x d) (sym (ap (λ z. is_lru z.kind) kn.shape_is ∙ lru))
+                    (hashed_gave shape w.core.holder w.core.lists w.core.owner w.core.home r.placed.place r.placed.placed w.log w.hash (r.hashes lru) k h.cpu held_now may.here m0.fits l' content_is m0.same_rows innermost fresh (fresh_there s r at_pass) (rowed_there s r at_pass lru) (rows_stay lru)
+                    v.hashes hashes' (views.came_at m v.held v.notes) came' m x d
+                    (no_bucket_home shape w.core.lists w.core.owner w.core.home r.placed.place r.placed.placed lru x at real_x at_home)
+                    (listed_at_home shape w.core.holder w.core.lists w.core.owner w.core.home r.placed.place r.placed.placed w.log x at real_x (ap is_free owner_is) at_home)
+                    (λ noted found. given_kept here h.cpu v.shape.buckets came x d v.hashes v.hand record { noted = noted; last = found })
+                    (λ mine inside same_lock n stored. given_new here h.cpu v.shape.buckets came x d v.hashes n v.hand in_hand mine (ap (is_among x) (sym came_is) ∙ (ap (λ (z : ℕ). is_among x (views.came_at z v.held v.notes)) (sym same_lock) ∙ inside)) (ap (λ z. stored_in z x) here_is ∙ stored))
+                    (λ ne. ap (λ (l : List Hold). views.came_at m (views.holds_below l) (owners_passed e.part (notes_below v.notes))) is_held ∙ (came_passed e.part m below (notes_below v.notes) ∙ (sym (came_other m h below v.notes (λ y. ne (y ∙ at_lock))) ∙ ap (λ (l : List Hold). views.came_at m l v.notes) (sym is_held))))
+                    (kn.hashed lru x d at real_x within in_hand at_home)));
                 readings = λ x d read within found. let was = kn.readings x d read within found in record { real = was.real; in_hand = was.in_hand; still = still_there x read was.real was.still };
                 known = λ m log. by_bool (has_all v) (λ t. known_log m (cond t (record { lock = h.lock; log = h.log ++ e ∷ [] } ∷ v.known) v.known) ≡ Some log → entries (put w.log k l' m) ≡ log)
                     (λ _. at_put w.log k l' (λ i l. cond (eqb h.lock i) (Some (h.log ++ e ∷ [])) (known_log i v.known) ≡ Some log → entries l ≡ log) m
@@ -584,8 +683,8 @@ module _ (shape : Shape) (slots pass : ℕ) (v : View) (b : Behind) (cs : List (
                       lost = at_put w.lost k lo' (λ i lo. i ≡ k → lo ≡ true) m (λ _. here.1) (λ ne same. absurd (ne same)) here.0;
                     })
                     (is_lost m among);
-                noted = subst (λ (l : List Hold). AreNoted shape (v.touched ++ gave_step ∷ []) l (owners_passed e.part (notes_below v.notes))) (sym (ap views.holds_below is_held))
-                    (noted_gave shape v.touched gave_step h below v.notes e.part (subst (λ (l : List Hold). AreNoted shape v.touched l v.notes) is_held kn.noted) may.noted);
+                noted = subst (λ (l : List Hold). AreNoted shape (v.touched ++ last ∷ []) l (owners_passed e.part (notes_below v.notes))) (sym (ap views.holds_below is_held))
+                    (noted_gave shape v v.touched last h below v.notes e.part refl ranks.0 (subst (λ (l : List Hold). AreNoted shape v.touched l v.notes) is_held kn.noted) may.noted);
                 strand = record {
                   keeper = kn.strand.keeper;
                   numbered = kn.strand.numbered;
@@ -604,11 +703,11 @@ module _ (shape : Shape) (slots pass : ℕ) (v : View) (b : Behind) (cs : List (
                       ∙ (ap (λ (z : List ℕ). z ++ length es ∷ []) (kn.strand.kept_are k within there_is p.0)
                       ∙ sym (ap indexes on_here ∙ (indexes_more (turns_on k v.steps) ((length h.log, e) ∷ []) ∙ ap (λ (n : ℕ). indexes (turns_on k v.steps) ++ n ∷ []) (ap length log_is)))))))
                       (λ ne within there_is lo. kept_else m ne ∙ (kn.strand.kept_are m within there_is lo ∙ ap indexes (sym (on_else m ne)))) within there_is;
-                  touched_are = mine_more shape w pass v kn gave_step;
+                  touched_are = mine_more shape w pass v kn last;
                 };
                 past = past_stays shape w w' pass (w.past pass) v.ended same
                     (λ t m among own. at_put w.log k l' (λ i l. turns_of t 0 l ≡ turns_of t 0 (w.log i)) m (turns_of_other t (w.current pass) 0 (w.log k) e (λ is_same. true_false (sym among ∙ (ap (λ (z : ℕ). is_among z (w.past pass)) (sym is_same) ∙ kn.apart)))) (λ _. refl))
-                    losses (λ t among _. past_same shape w pass v kn gave_step t among) kn.past;
+                    losses (λ t among _. past_same shape w pass v kn last t among) kn.past;
                 apart = kn.apart;
                 idle = λ empty. true_false (sym m0.cpu ∙ ap (is_among e.cpu) empty);
               })
@@ -625,10 +724,11 @@ module _ (shape : Shape) (slots pass : ℕ) (v : View) (b : Behind) (cs : List (
               (λ m log f. absurd (none_some (sym (ap (known_log m) no_more.0) ∙ f)))
               ku.bits
               (λ x d in_hand theirs. by_bool (is_lru shape.kind) (λ t. is_lru shape.kind ≡ t → renewed t (stored_in (told may.here) x) (w.hash x) ≡ w.hash x)
-              (λ lru _. hash_stays shape w.core.holder w.core.lists w.core.owner w.core.home r.placed.place r.placed.placed w.log w.hash (r.hashes lru) k h.cpu at.holder_is may.here m0.fits l' content_is m0.same_rows innermost (rows_stay lru) x
-              (λ own. t.0 (sym theirs ∙ (ap w.whose (same_hands d h.cpu (sym in_hand ∙ own)) ∙ at.mine))))
+              (λ lru _. hash_there lru x (by_bool (fresh x) (λ t. t ≡ false)
+              (λ yes. absurd (t.0 (sym theirs ∙ (ap w.whose (same_hands d h.cpu (sym in_hand ∙ fresh_there s r at_pass x yes)) ∙ at.mine)))) (λ _. refl)))
               (λ _ _. refl) refl)
-              (λ tag own. other_same shape w pass v kn gave_step j tag t.0 own)
+              (λ _ _ _ _ _ _ at. inl at)
+              (λ tag own. other_same shape w pass v kn last j tag t.0 own)
               (λ x d read real _ _ still. still_there x read real still))
               (at_set s.views pass j nv u f);
         },
@@ -637,11 +737,11 @@ module _ (shape : Shape) (slots pass : ℕ) (v : View) (b : Behind) (cs : List (
 
   pub gives_back : StepsAs shape slots pass (v, (lock_number shape lock, b) ∷ cs) (lock_number shape lock) (λ _. 0) (goes_by shape (Give h.cpu lock (lists_of (told may.here)))) (λ _. Gives e kept (v, (lock_number shape lock, b) ∷ cs))
   gives_back s r wide at_pass _ = (
-    views.given h e kept v,
+    views.given (made r.world) h e kept v,
     gives,
     tt,
     gave_rule s r at_pass v.lost (λ m among. inl among),
-    record { hold = h; below = below; innermost = is_held; kept_is = kept_or_lost shape v h e kept b (r.knows pass v at_pass).shape_is may.records; after_is = refl },
+    record { hold = h; below = below; innermost = is_held; kept_is = kept_or_lost shape v h e kept b (r.knows pass v at_pass).shape_is may.records; at = made r.world; after_is = refl },
   )
 
 -- the same, at the seat and the number that a caller has
@@ -663,7 +763,7 @@ none_recorded shape v h e b rec =
 
 -- the same with no record, by some part of a CPU and a call
 pub gives_some : (shape : Shape) (slots pass : ℕ) (me : Seated) (b : Behind) (h : Hold) (below : List Hold) (k cpu call : ℕ) (part : Part) (notes : Notes) (notes_below : List Notes) → me.1 ≡ (k, b) ∷ rest me.1 → me.0.held ≡ h ∷ below → h.lock ≡ k → IsTrue (is_lock shape (lock_named shape k))
-    → MayGive shape me.0 h (entry_by cpu call part) me.0.kept b → me.0.notes ≡ notes ∷ notes_below → NotesFit shape part notes → Allows (Rule shape) slots pass me k (λ _. 0) (λ _. GivesSome cpu call me)
+    → MayGive shape me.0 h (entry_by cpu call part) me.0.kept b → me.0.notes ≡ notes ∷ notes_below → NotesFit shape me.0 h part notes → Allows (Rule shape) slots pass me k (λ _. 0) (λ _. GivesSome cpu call me)
 gives_some shape slots pass me b h below k cpu call part notes notes_below slots_are held at_lock is may notes_are notes_fit s r wide at_pass small =
     let num = number_of_named shape k in
     let e : Entry = entry_by cpu call part in
@@ -671,10 +771,10 @@ gives_some shape slots pass me b h below k cpu call part notes notes_below slots
     let rule = gave_rule shape slots pass me.0 b (rest me.1) (lock_named shape k) h below held is (at_lock ∙ sym num) e me.0.kept may s r at_pass (h.lock ∷ me.0.lost)
     (λ m among. by_test h.lock m (λ t. cond t true (is_among m me.0.lost) ≡ true → (is_among m me.0.lost ≡ true) ⊎ ((m ≡ lock_number shape (lock_named shape k)) × (lost_of b.history ≡ true)))
     (λ same _. inr (sym same ∙ (at_lock ∙ sym num), none_recorded shape me.0 h e b may.records)) (λ _ f. inl f) among) in (
-      views.losing h e me.0,
+      views.losing (made r.world) h e me.0,
       gives,
       tt,
-      subst (λ (z : ℕ × List (ℕ × Behind)). Rule shape record { words = set s.words z.0 0; homes = put_back s.homes z.1; views = set s.views pass (views.losing h e me.0) }) (λ i. (num i, (ap (λ (y : ℕ). (y, b) ∷ rest me.1) num ∙ sym slots_are) i)) rule.0,
+      subst (λ (z : ℕ × List (ℕ × Behind)). Rule shape record { words = set s.words z.0 0; homes = put_back s.homes z.1; views = set s.views pass (views.losing (made r.world) h e me.0) }) (λ i. (num i, (ap (λ (y : ℕ). (y, b) ∷ rest me.1) num ∙ sym slots_are) i)) rule.0,
       record {
         hold = h;
         below = below;
@@ -686,7 +786,8 @@ gives_some shape slots pass me b h below k cpu call part notes notes_below slots
         notes = notes;
         notes_below = notes_below;
         notes_are = notes_are;
-        notes_fit = subst (λ z. NotesFit z part notes) (sym kn.shape_is) notes_fit;
+        notes_fit = subst (λ z. NotesFit z me.0 h part notes) (sym kn.shape_is) notes_fit;
+        at = made r.world;
         after_is = refl;
       },
     )

@@ -1,5 +1,6 @@
 -- What a pass has noted in its turns under way was done by steps of its strand.
-use Rattle.std.proofs.Common.{◌≡◌, ℕ, inl, inr, ⊎_elim, cond, Bool, List, [], ◌∷◌, ◌++◌, sym, ap, ◌∙◌, subst, append_assoc, true, false}
+use Rattle.std.proofs.Common.{◌≡◌, ℕ, ◌<◌, ◌≤◌, arith, inl, inr, ⊎_elim, cond, Bool, List, [], ◌∷◌, ◌++◌, sym, ap, ◌∙◌, subst, append_assoc, true, false}
+use Rattle.std.proofs.lemmas.List.Elements.{All-head}
 use Rattle.map_types.specs.declared.attr.Shape.{Shape}
 use Rattle.place_words.specs.declared.bucket_part.BucketPart.TheVariants.{Lookup, Update, Delete, Take, Next, First, Walk, Evict}
 use Rattle.place_words.specs.declared.bucket_part.Seen.TheVariants.{Removed, Held}
@@ -9,29 +10,30 @@ use Rattle.place_words.specs.declared.home.Home.{Home}
 use Rattle.place_words.specs.declared.home.Home.TheVariants as homes
 use Rattle.place_words.specs.declared.owner.Owner.{Owner}
 use Rattle.place_words.specs.declared.owner.Owner.TheVariants as owners
-use Rattle.place_words.specs.Locks.{lock_number}
+use Rattle.place_words.specs.Locks.{lock_number, lock_count, lock_named, rank_of}
 use Rattle.place_core.specs.declared.step.Lists.{Lists}
 use Rattle.place_core.specs.Steps.{left_by, joined_by}
 use Rattle.place_core.proofs.ElementLemmas.{by_test}
 use Rattle.place_table.specs.declared.view.Hold.{Hold}
+use Rattle.place_table.specs.declared.view.View.{View}
 use Rattle.place_table.specs.declared.view.Notes.{Notes}
 use Rattle.place_table.specs.declared.view.OwnerSeen.{OwnerSeen}
 use Rattle.place_table.specs.declared.view.WordStep.{WordStep}
-use Rattle.place_table.specs.Views.{now_at, with_now, held_without, held_with, with_mark, with_clear, with_bit_read, with_home_read, with_owner_read, notes_below, owners_passed}
-use Rattle.place_table.specs.TurnNotes.{WasReadInHand, InnermostFits}
-use Rattle.place_table.specs.Rules.{take_step, HasStep, AreNoted, mark_step, bit_step, owner_step, home_step, AreDone, IsDone}
+use Rattle.place_table.specs.Views.{now_at, with_now, held_without, held_with, with_came, with_come_home, with_mark, with_clear, with_bit_read, with_home_read, with_owner_read, notes_below, owners_passed}
+use Rattle.place_table.specs.TurnNotes.{WasReadInHand, ProbeFits, NotesFit, InnermostFits}
+use Rattle.place_table.specs.Rules.{IsAboveAll, AreOff, AreOffHeld, take_step, HasStep, AreNoted, mark_step, bit_step, owner_step, home_step, AreDone, IsDone}
 
 -- Steps among others
 
-has_more : (x : WordStep) (xs more : List WordStep) → HasStep x xs → HasStep x (xs ++ more)
+has_more : (x : ℕ → WordStep) (xs more : List WordStep) → HasStep x xs → HasStep x (xs ++ more)
 has_more x [] more has = absurd has
-has_more x (y ∷ ys) more has = ⊎_elim (λ (same : y ≡ x). inl same) (λ (later : HasStep x ys). inr (has_more x ys more later)) has
+has_more x (y ∷ ys) more has = ⊎_elim (λ (same : y ≡ x y.at). inl same) (λ (later : HasStep x ys). inr (has_more x ys more later)) has
 
-has_behind : (x : WordStep) (xs more : List WordStep) → HasStep x more → HasStep x (xs ++ more)
+has_behind : (x : ℕ → WordStep) (xs more : List WordStep) → HasStep x more → HasStep x (xs ++ more)
 has_behind x [] more has = has
 has_behind x (y ∷ ys) more has = inr (has_behind x ys more has)
 
-are_more : {A : Type 0} (by : A → WordStep) (steps more : List WordStep) (xs : List A) → AreDone by steps xs → AreDone by (steps ++ more) xs
+are_more : {A : Type 0} (by : A → ℕ → WordStep) (steps more : List WordStep) (xs : List A) → AreDone by steps xs → AreDone by (steps ++ more) xs
 are_more by steps more [] are = tt
 are_more by steps more (x ∷ xs) are = (has_more (by x) steps more are.0, are_more by steps more xs are.1)
 
@@ -52,80 +54,153 @@ was_read shape steps e c (x ∷ xs) are was =
     (λ (later : WasReadInHand e c xs). was_read shape steps e c xs are.1 later)
     was
 
+-- Steps on other words than those of locks that are held
+
+off_both : (word : ℕ) (steps more : List WordStep) → AreOff word steps → AreOff word more → AreOff word (steps ++ more)
+off_both word [] more off then = then
+off_both word (x ∷ xs) more off then = (off.0, off_both word xs more off.1 then)
+
+pub off_more : (holds : List Hold) (steps more : List WordStep) → AreOffHeld holds steps → AreOffHeld holds more → AreOffHeld holds (steps ++ more)
+off_more [] steps more off then = tt
+off_more (h ∷ hs) steps more off then = (off_both h.lock steps more off.0 then.0, off_more hs steps more off.1 then.1)
+
+-- no step is on any
+pub none_off : (holds : List Hold) → AreOffHeld holds []
+none_off [] = tt
+none_off (h ∷ hs) = (tt, none_off hs)
+
+off_now : (k : ℕ) (now : Lists) (holds : List Hold) (steps : List WordStep) → AreOffHeld holds steps → AreOffHeld (with_now k now holds) steps
+off_now k now [] steps off = tt
+off_now k now (h ∷ hs) steps off =
+    by_test h.lock k (λ b. AreOffHeld (cond b (record { lock = h.lock; cpu = h.cpu; log = h.log; now = now; lost = h.lost } ∷ hs) (h ∷ with_now k now hs)) steps)
+    (λ _. off) (λ _. (off.0, off_now k now hs steps off.1))
+
+-- one on the word of a lock whose rank is above theirs is on none of theirs
+pub above_off : (shape : Shape) (x : WordStep) (holds : List Hold) → IsAboveAll shape (rank_of (lock_named shape x.word)) holds → AreOffHeld holds (x ∷ [])
+above_off shape x [] above = tt
+above_off shape x (h ∷ hs) above = (
+  (
+    (λ same.
+        let low : rank_of (lock_named shape h.lock) < rank_of (lock_named shape h.lock) = subst (λ (z : ℕ). rank_of (lock_named shape h.lock) < rank_of (lock_named shape z)) same above.0 in
+        omega arith),
+    tt,
+  ),
+  above_off shape x hs above.1,
+)
+
+-- and so is one on a word behind those of locks
+pub word_off : (shape : Shape) (steps : List WordStep) (x : WordStep) (holds : List Hold) (notes : List Notes) → AreNoted shape steps holds notes → lock_count shape ≤ x.word → AreOffHeld holds (x ∷ [])
+word_off shape steps x [] notes are behind = tt
+word_off shape steps x (h ∷ hs) [] are behind = absurd are
+word_off shape steps x (h ∷ hs) (n ∷ ns) are behind = (((λ same. let real = are.4 in omega arith), tt), word_off shape are.0 x hs ns are.7 behind)
+
 -- The strand has more steps
 
-pub noted_more : (shape : Shape) (steps more : List WordStep) (holds : List Hold) (notes : List Notes) → AreNoted shape steps holds notes → AreNoted shape (steps ++ more) holds notes
-noted_more shape steps more [] notes are = tt
-noted_more shape steps more (h ∷ hs) [] are = absurd are
-noted_more shape steps more (h ∷ hs) (n ∷ ns) are = (
+pub noted_more : (shape : Shape) (steps more : List WordStep) (holds : List Hold) (notes : List Notes) → AreNoted shape steps holds notes → AreOffHeld holds more → AreNoted shape (steps ++ more) holds notes
+noted_more shape steps more [] notes are off = tt
+noted_more shape steps more (h ∷ hs) [] are off = absurd are
+noted_more shape steps more (h ∷ hs) (n ∷ ns) are off = (
   are.0,
   are.1 ++ more,
-  ap (λ (l : List WordStep). l ++ more) are.2 ∙ append_assoc are.0 (take_step h ∷ are.1) more,
-  done_more shape are.1 more n are.3,
+  are.2,
+  ap (λ (l : List WordStep). l ++ more) are.3 ∙ append_assoc are.0 (take_step h are.2 ∷ are.1) more,
   are.4,
+  off_more (h ∷ hs) are.1 more are.5 off,
+  done_more shape are.1 more n are.6,
+  are.7,
 )
 
 -- Among them is one of which a note is made.
 
-pub noted_mark : (shape : Shape) (steps more : List WordStep) (holds : List Hold) (notes : List Notes) (e : ℕ) → AreNoted shape steps holds notes → HasStep (mark_step shape e) more → AreNoted shape (steps ++ more) holds (with_mark e notes)
-noted_mark shape steps more [] notes e are has = tt
-noted_mark shape steps more (h ∷ hs) [] e are has = absurd are
-noted_mark shape steps more (h ∷ hs) (n ∷ ns) e are has =
-    let done = done_more shape are.1 more n are.3 in (
+pub noted_mark : (shape : Shape) (steps more : List WordStep) (holds : List Hold) (notes : List Notes) (e : ℕ) → AreNoted shape steps holds notes → AreOffHeld holds more → HasStep (mark_step shape e) more → AreNoted shape (steps ++ more) holds (with_mark e notes)
+noted_mark shape steps more [] notes e are off has = tt
+noted_mark shape steps more (h ∷ hs) [] e are off has = absurd are
+noted_mark shape steps more (h ∷ hs) (n ∷ ns) e are off has =
+    let done = done_more shape are.1 more n are.6 in (
       are.0,
       are.1 ++ more,
-      ap (λ (l : List WordStep). l ++ more) are.2 ∙ append_assoc are.0 (take_step h ∷ are.1) more,
+      are.2,
+      ap (λ (l : List WordStep). l ++ more) are.3 ∙ append_assoc are.0 (take_step h are.2 ∷ are.1) more,
+      are.4,
+      off_more (h ∷ hs) are.1 more are.5 off,
       record { marks = (has_behind (mark_step shape e) are.1 more has, done.marks); asked = done.asked; owners = done.owners; homes = done.homes },
-      are.4,
+      are.7,
     )
 
-pub noted_clear : (shape : Shape) (steps more : List WordStep) (holds : List Hold) (notes : List Notes) (e : ℕ) (bit : Bool) → AreNoted shape steps holds notes → HasStep (bit_step shape record { element = e; bit = bit; cleared = true }) more → AreNoted shape (steps ++ more) holds (with_clear e bit notes)
-noted_clear shape steps more [] notes e bit are has = tt
-noted_clear shape steps more (h ∷ hs) [] e bit are has = absurd are
-noted_clear shape steps more (h ∷ hs) (n ∷ ns) e bit are has =
-    let done = done_more shape are.1 more n are.3 in (
+pub noted_clear : (shape : Shape) (steps more : List WordStep) (holds : List Hold) (notes : List Notes) (e : ℕ) (bit : Bool) → AreNoted shape steps holds notes → AreOffHeld holds more → HasStep (bit_step shape record { element = e; bit = bit; cleared = true }) more → AreNoted shape (steps ++ more) holds (with_clear e bit notes)
+noted_clear shape steps more [] notes e bit are off has = tt
+noted_clear shape steps more (h ∷ hs) [] e bit are off has = absurd are
+noted_clear shape steps more (h ∷ hs) (n ∷ ns) e bit are off has =
+    let done = done_more shape are.1 more n are.6 in (
       are.0,
       are.1 ++ more,
-      ap (λ (l : List WordStep). l ++ more) are.2 ∙ append_assoc are.0 (take_step h ∷ are.1) more,
+      are.2,
+      ap (λ (l : List WordStep). l ++ more) are.3 ∙ append_assoc are.0 (take_step h are.2 ∷ are.1) more,
+      are.4,
+      off_more (h ∷ hs) are.1 more are.5 off,
       record { marks = done.marks; asked = (has_behind (bit_step shape record { element = e; bit = bit; cleared = true }) are.1 more has, done.asked); owners = done.owners; homes = done.homes },
-      are.4,
+      are.7,
     )
 
-pub noted_bit : (shape : Shape) (steps more : List WordStep) (holds : List Hold) (notes : List Notes) (e : ℕ) (bit : Bool) → AreNoted shape steps holds notes → HasStep (bit_step shape record { element = e; bit = bit; cleared = false }) more → AreNoted shape (steps ++ more) holds (with_bit_read e bit notes)
-noted_bit shape steps more [] notes e bit are has = tt
-noted_bit shape steps more (h ∷ hs) [] e bit are has = absurd are
-noted_bit shape steps more (h ∷ hs) (n ∷ ns) e bit are has =
-    let done = done_more shape are.1 more n are.3 in (
+pub noted_bit : (shape : Shape) (steps more : List WordStep) (holds : List Hold) (notes : List Notes) (e : ℕ) (bit : Bool) → AreNoted shape steps holds notes → AreOffHeld holds more → HasStep (bit_step shape record { element = e; bit = bit; cleared = false }) more → AreNoted shape (steps ++ more) holds (with_bit_read e bit notes)
+noted_bit shape steps more [] notes e bit are off has = tt
+noted_bit shape steps more (h ∷ hs) [] e bit are off has = absurd are
+noted_bit shape steps more (h ∷ hs) (n ∷ ns) e bit are off has =
+    let done = done_more shape are.1 more n are.6 in (
       are.0,
       are.1 ++ more,
-      ap (λ (l : List WordStep). l ++ more) are.2 ∙ append_assoc are.0 (take_step h ∷ are.1) more,
+      are.2,
+      ap (λ (l : List WordStep). l ++ more) are.3 ∙ append_assoc are.0 (take_step h are.2 ∷ are.1) more,
+      are.4,
+      off_more (h ∷ hs) are.1 more are.5 off,
       record { marks = done.marks; asked = (has_behind (bit_step shape record { element = e; bit = bit; cleared = false }) are.1 more has, done.asked); owners = done.owners; homes = done.homes },
-      are.4,
+      are.7,
     )
 
-pub noted_owner : (shape : Shape) (steps more : List WordStep) (holds : List Hold) (notes : List Notes) (e : ℕ) (owner : Owner) → AreNoted shape steps holds notes → HasStep (owner_step shape record { element = e; owner = owner }) more → AreNoted shape (steps ++ more) holds (with_owner_read e owner notes)
-noted_owner shape steps more [] notes e owner are has = tt
-noted_owner shape steps more (h ∷ hs) [] e owner are has = absurd are
-noted_owner shape steps more (h ∷ hs) (n ∷ ns) e owner are has =
-    let done = done_more shape are.1 more n are.3 in (
+pub noted_owner : (shape : Shape) (steps more : List WordStep) (holds : List Hold) (notes : List Notes) (e : ℕ) (owner : Owner) → AreNoted shape steps holds notes → AreOffHeld holds more → HasStep (owner_step shape record { element = e; owner = owner }) more → AreNoted shape (steps ++ more) holds (with_owner_read e owner notes)
+noted_owner shape steps more [] notes e owner are off has = tt
+noted_owner shape steps more (h ∷ hs) [] e owner are off has = absurd are
+noted_owner shape steps more (h ∷ hs) (n ∷ ns) e owner are off has =
+    let done = done_more shape are.1 more n are.6 in (
       are.0,
       are.1 ++ more,
-      ap (λ (l : List WordStep). l ++ more) are.2 ∙ append_assoc are.0 (take_step h ∷ are.1) more,
+      are.2,
+      ap (λ (l : List WordStep). l ++ more) are.3 ∙ append_assoc are.0 (take_step h are.2 ∷ are.1) more,
+      are.4,
+      off_more (h ∷ hs) are.1 more are.5 off,
       record { marks = done.marks; asked = done.asked; owners = (has_behind (owner_step shape record { element = e; owner = owner }) are.1 more has, done.owners); homes = done.homes },
-      are.4,
+      are.7,
     )
 
-pub noted_home : (shape : Shape) (steps more : List WordStep) (holds : List Hold) (notes : List Notes) (e : ℕ) (home : Home) → AreNoted shape steps holds notes → HasStep (home_step shape record { element = e; home = home }) more → AreNoted shape (steps ++ more) holds (with_home_read e home notes)
-noted_home shape steps more [] notes e home are has = tt
-noted_home shape steps more (h ∷ hs) [] e home are has = absurd are
-noted_home shape steps more (h ∷ hs) (n ∷ ns) e home are has =
-    let done = done_more shape are.1 more n are.3 in (
+pub noted_home : (shape : Shape) (steps more : List WordStep) (holds : List Hold) (notes : List Notes) (e : ℕ) (home : Home) → AreNoted shape steps holds notes → AreOffHeld holds more → HasStep (home_step shape record { element = e; home = home }) more → AreNoted shape (steps ++ more) holds (with_home_read e home notes)
+noted_home shape steps more [] notes e home are off has = tt
+noted_home shape steps more (h ∷ hs) [] e home are off has = absurd are
+noted_home shape steps more (h ∷ hs) (n ∷ ns) e home are off has =
+    let done = done_more shape are.1 more n are.6 in (
       are.0,
       are.1 ++ more,
-      ap (λ (l : List WordStep). l ++ more) are.2 ∙ append_assoc are.0 (take_step h ∷ are.1) more,
-      record { marks = done.marks; asked = done.asked; owners = done.owners; homes = (has_behind (home_step shape record { element = e; home = home }) are.1 more has, done.homes) },
+      are.2,
+      ap (λ (l : List WordStep). l ++ more) are.3 ∙ append_assoc are.0 (take_step h are.2 ∷ are.1) more,
       are.4,
+      off_more (h ∷ hs) are.1 more are.5 off,
+      record { marks = done.marks; asked = done.asked; owners = done.owners; homes = (has_behind (home_step shape record { element = e; home = home }) are.1 more has, done.homes) },
+      are.7,
     )
+
+-- An element came, of which no more is noted than that
+
+pub noted_came : (shape : Shape) (steps : List WordStep) (k e : ℕ) (holds : List Hold) (notes : List Notes) → AreNoted shape steps holds notes → AreNoted shape steps holds (with_came k e holds notes)
+noted_came shape steps k e [] notes are = tt
+noted_came shape steps k e (h ∷ hs) [] are = absurd are
+noted_came shape steps k e (h ∷ hs) (n ∷ ns) are =
+    by_test h.lock k (λ b. AreNoted shape steps (h ∷ hs) (cond b (record n { came = e ∷ n.came } ∷ ns) (n ∷ with_came k e hs ns)))
+    (λ _. (are.0, are.1, are.2, are.3, are.4, are.5, record { marks = are.6.marks; asked = are.6.asked; owners = are.6.owners; homes = are.6.homes }, are.7))
+    (λ _. (are.0, are.1, are.2, are.3, are.4, are.5, are.6, noted_came shape are.0 k e hs ns are.7))
+
+pub noted_home_come : (shape other : Shape) (steps : List WordStep) (home : Home) (e : ℕ) (holds : List Hold) (notes : List Notes) → AreNoted shape steps holds notes → AreNoted shape steps holds (with_come_home other home e holds notes)
+noted_home_come shape other steps homes.Unlisted e holds notes are = are
+noted_home_come shape other steps (homes.In lock) e holds notes are = noted_came shape steps (lock_number other lock) e holds notes are
+noted_home_come shape other steps (homes.Hand c) e holds notes are = are
 
 -- Other lists lie under locks that are held
 
@@ -134,7 +209,7 @@ noted_now shape steps k now [] notes are = tt
 noted_now shape steps k now (h ∷ hs) [] are = absurd are
 noted_now shape steps k now (h ∷ hs) (n ∷ ns) are =
     by_test h.lock k (λ b. AreNoted shape steps (cond b (record { lock = h.lock; cpu = h.cpu; log = h.log; now = now; lost = h.lost } ∷ hs) (h ∷ with_now k now hs)) (n ∷ ns))
-    (λ _. are) (λ _. (are.0, are.1, are.2, are.3, noted_now shape are.0 k now hs ns are.4))
+    (λ _. are) (λ _. (are.0, are.1, are.2, are.3, are.4, (are.5.0, off_now k now hs are.1 are.5.1), are.6, noted_now shape are.0 k now hs ns are.7))
 
 pub noted_without : (shape : Shape) (steps : List WordStep) (home : Home) (owner : Owner) (e : ℕ) (holds : List Hold) (notes : List Notes) → AreNoted shape steps holds notes → AreNoted shape steps (held_without shape home owner e holds) notes
 noted_without shape steps homes.Unlisted owner e holds notes are = are
@@ -148,17 +223,25 @@ noted_with shape steps (homes.Hand c) owner e holds notes are = are
 
 -- A lock is given back, and what a probe read under it is handed on.
 
-pub noted_gave : (shape : Shape) (steps : List WordStep) (x : WordStep) (h : Hold) (below : List Hold) (notes : List Notes) (part : Part) → AreNoted shape steps (h ∷ below) notes → InnermostFits part notes → AreNoted shape (steps ++ x ∷ []) below (owners_passed part (notes_below notes))
-noted_gave shape steps x h below [] part are fits = absurd are
-noted_gave shape steps x h below (n ∷ ns) part are fits = go part fits
+pub noted_gave : (shape : Shape) (v : View) (steps : List WordStep) (x : WordStep) (h : Hold) (below : List Hold) (notes : List Notes) (part : Part) → x.word ≡ h.lock → IsAboveAll shape (rank_of (lock_named shape h.lock)) below → AreNoted shape steps (h ∷ below) notes → InnermostFits shape v h part notes → AreNoted shape (steps ++ x ∷ []) below (owners_passed part (notes_below notes))
+noted_gave shape v steps x h below [] part at above are fits = absurd are
+noted_gave shape v steps x h below (n ∷ ns) part at above are fits = go part fits
   where
-    long : are.0 ++ (take_step h ∷ (are.1 ++ x ∷ [])) ≡ steps ++ x ∷ []
-    long = sym (ap (λ (l : List WordStep). l ++ x ∷ []) are.2 ∙ append_assoc are.0 (take_step h ∷ are.1) (x ∷ []))
+    since : List WordStep
+    since = take_step h are.2 ∷ (are.1 ++ x ∷ [])
+
+    long : are.0 ++ since ≡ steps ++ x ∷ []
+    long = sym (ap (λ (l : List WordStep). l ++ x ∷ []) are.3 ∙ append_assoc are.0 (take_step h are.2 ∷ are.1) (x ∷ []))
+
+    off : AreOffHeld below since
+    off =
+        off_more below (take_step h are.2 ∷ []) (are.1 ++ x ∷ []) (above_off shape (take_step h are.2) below above)
+        (off_more below are.1 (x ∷ []) are.5.1 (above_off shape x below (subst (λ (z : ℕ). IsAboveAll shape (rank_of (lock_named shape z)) below) (sym at) above)))
 
     stays : AreNoted shape (steps ++ x ∷ []) below ns
-    stays = subst (λ (l : List WordStep). AreNoted shape l below ns) long (noted_more shape are.0 (take_step h ∷ (are.1 ++ x ∷ [])) below ns are.4)
+    stays = subst (λ (l : List WordStep). AreNoted shape l below ns) long (noted_more shape are.0 since below ns are.7 off)
 
-    go : (part : Part) → InnermostFits part (n ∷ ns) → AreNoted shape (steps ++ x ∷ []) below (owners_passed part ns)
+    go : (part : Part) → NotesFit shape v h part n → AreNoted shape (steps ++ x ∷ []) below (owners_passed part ns)
     go (parts.Bucket (Lookup side key got)) fits = stays
     go (parts.Bucket (Update side flags key value offer put)) fits = stays
     go (parts.Bucket (Delete key removed)) fits = stays
@@ -169,8 +252,8 @@ noted_gave shape steps x h below (n ∷ ns) part are fits = go part fits
     go (parts.Bucket (Evict e Removed)) fits = stays
     go (parts.Bucket (Evict e (Held holder))) fits =
         subst (λ (l : List WordStep). AreNoted shape l below (with_owner_read e (owners.Hand holder) ns)) long
-        (noted_owner shape are.0 (take_step h ∷ (are.1 ++ x ∷ [])) below ns e (owners.Hand holder) are.4
-        (inr (has_more (owner_step shape record { element = e; owner = owners.Hand holder }) are.1 (x ∷ []) (was_read shape are.1 e holder n.owners are.3.owners fits))))
+        (noted_owner shape are.0 since below ns e (owners.Hand holder) are.7 off
+        (inr (has_more (owner_step shape record { element = e; owner = owners.Hand holder }) are.1 (x ∷ []) (was_read shape are.1 e holder n.owners are.6.owners (All-head (ProbeFits n.owners) (record { element = e; probed = Held holder }) [] fits.held)))))
     go (parts.Free part) fits = stays
     go (parts.Local part) fits = stays
     go (parts.Global part) fits = stays

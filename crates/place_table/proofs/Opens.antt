@@ -1,5 +1,6 @@
 -- A table at its opening keeps the rule, and its first pass is in no call.
-use Rattle.std.proofs.Common.{◌≡◌, ℕ, zero, suc, ◌<◌, ◌/◌, Bool, true, false, ◌&&◌, cond, ltb, List, [], ◌∷◌, map, Option, None, Some, refl, ap, ◌∙◌, sym, subst, inr, arith}
+use Rattle.std.proofs.Common.{◌≡◌, ℕ, zero, suc, ◌<◌, ◌/◌, Bool, true, false, ◌&&◌, cond, eqb, ltb, List, [], ◌∷◌, map, Option, None, Some, refl, ap, ◌∙◌, sym, subst, inr, arith}
+use Rattle.std.specs.Prelude.{position, IsTrue}
 use Rattle.std.proofs.lemmas.Bool.{lt-ltb}
 use Rattle.std.proofs.lemmas.List.{length-map}
 use mathlib.Core.Option.{some, some-ne-none, some-injective}
@@ -9,6 +10,8 @@ use Rattle.atomic_table.proofs.Lists.{at_map}
 use Rattle.map_types.specs.declared.attr.Shape.{Shape}
 use Rattle.map_types.specs.declared.kind.DomainId.{DomainId}
 use Rattle.map_types.specs.declared.kind.DomainId.TheVariants.{Local, Global, CpuLru, Bucket, Freelist}
+use Rattle.map_types.specs.declared.kind.MapKind.{MapKind}
+use Rattle.map_types.specs.declared.kind.MapKind.TheVariants.{Hash, PercpuHash, LruHash, LruPercpuHash}
 use Rattle.map_types.specs.Creation.{IsShape}
 use Rattle.map_types.specs.Shape.{HasBounds}
 use Rattle.map_types.specs.Kind.{is_lru}
@@ -19,7 +22,7 @@ use Rattle.place_words.specs.declared.owner.Owner.TheVariants as owners
 use Rattle.place_words.specs.Codes.{owner_code, home_code}
 use Rattle.place_words.specs.Histories.{opening_content, replayed, AllAllowed}
 use Rattle.place_words.specs.Locks.{is_lock, lock_named, lock_count}
-use Rattle.place_words.specs.Openings.{opening_owner, opening_free}
+use Rattle.place_words.specs.Openings.{spare_owner, opening_owner, opening_spares, opening_free}
 use Rattle.place_core.specs.declared.step.Lists.{Lists}
 use Rattle.place_core.specs.Opening.{opening, opening_home, opening_lists}
 use Rattle.place_core.proofs.OpeningLaws.{opening_placed, opening_ranked}
@@ -30,14 +33,14 @@ use Rattle.place_table.specs.declared.content.Content.{Content}
 use Rattle.place_table.specs.declared.view.View.{View}
 use Rattle.place_table.specs.Contents.{lists_of}
 use Rattle.place_table.proofs.Worlds.{none_some, true_false}
-use Rattle.place_table.specs.Views.{is_among, known_log, bit_seen, numbers_below, no_turns, no_bits, first_view}
-use Rattle.place_table.specs.Rules.{World, Rule, Knows, Reads, AtHome, is_hand_of, is_home_of}
-use Rattle.place_table.specs.Words.{home_word, bit_word}
+use Rattle.place_table.specs.Views.{is_among, is_in_hand_of, first_hand, known_log, bit_seen, numbers_below, no_turns, no_bits, first_view}
+use Rattle.place_table.specs.Rules.{World, Rule, Knows, Reads, AtHome, Tagged, HashesRight, is_hand_of, is_home_of}
+use Rattle.place_table.specs.Words.{bit_word}
 use Rattle.place_table.specs.Opening.{IsFirstContent, IsFirstSlot, AreFirstSlots}
 use Rattle.place_table.specs.Words.{opening_words}
-use Rattle.place_table.proofs.FirstSlots.{not_common, no_local, no_global, no_set}
+use Rattle.place_table.proofs.FirstSlots.{no_local}
 use Rattle.place_table.proofs.FirstSpares.{hand_at_first}
-use Rattle.place_table.proofs.FirstWords.{length_words, first_lock_word, first_owner_word, first_later_word}
+use Rattle.place_table.proofs.FirstWords.{length_words, first_home, first_lock_word, first_owner_word, first_home_word, first_bit_word}
 
 -- What the first pass knows
 
@@ -83,32 +86,21 @@ reads_first shape k behind slot there = go behind.content refl slot.content
 abbrev free_only : List ℕ → Lists
 free_only xs = record { free = xs; first = []; second = []; cursor = None }
 
-lists_first : (shape : Shape) (lock : DomainId) → HasBounds shape → is_lru shape.kind ≡ false → is_lock shape lock ≡ true → free_only (opening_free shape lock) ≡ lists_of (opening_content shape lock)
-lists_first shape (Local cpu) bounds plain there = let gone = no_local shape cpu bounds plain in absurd cc
-lists_first shape Global bounds plain there = let gone = no_global shape bounds plain in absurd cc
-lists_first shape (CpuLru cpu) bounds plain there = let gone = no_set shape cpu plain in absurd cc
-lists_first shape (Bucket bucket) bounds plain there = ap free_only (sym (free_bucket shape (Bucket bucket) bucket refl))
-lists_first shape (Freelist cpu) bounds plain there = refl
+lists_first : (shape : Shape) (lock : DomainId) → shape.common ≡ false → is_lock shape lock ≡ true → free_only (opening_free shape lock) ≡ lists_of (opening_content shape lock)
+lists_first shape (Local cpu) own there = true_false (sym there ∙ no_local shape cpu own)
+lists_first shape Global own there = true_false (sym there ∙ own)
+lists_first shape (CpuLru cpu) own there = refl
+lists_first shape (Bucket bucket) own there = ap free_only (sym (free_bucket shape (Bucket bucket) bucket refl))
+lists_first shape (Freelist cpu) own there = refl
 
-home_first : (shape : Shape) → HasBounds shape → is_lru shape.kind ≡ false → (slots : List Behind) → AreFirstSlots shape (lock_count shape) slots → (k : ℕ) → k < lock_count shape → is_lock shape (lock_named shape k) ≡ true
+slot_first : (shape : Shape) → shape.common ≡ false → (slots : List Behind) → AreFirstSlots shape (lock_count shape) slots → (k : ℕ) → k < lock_count shape → is_lock shape (lock_named shape k) ≡ true
     → AtHome shape k None [] (opening_lists shape k) false (get_elem? (map some slots) k)
 unfolding replayed opening_lists
-home_first shape bounds plain slots are k within there =
+slot_first shape own slots are k within there =
     let found = are.each k within in
-    ((found.0, at_map some slots k found.0 found.1, reads_first shape k found.0 found.2 there), lists_first shape (lock_named shape k) bounds plain there)
+    ((found.0, at_map some slots k found.0 found.1, reads_first shape k found.0 found.2 there), lists_first shape (lock_named shape k) own there)
 
--- Words
-
-home_word_first : (shape : Shape) (e : ℕ) → HasBounds shape → is_lru shape.kind ≡ false → home_code ((opening shape).home e) ≡ 0
-unfolding opening opening_home
-home_word_first shape e bounds plain = either (ltb e shape.elements)
-  where
-    unlisted : home_code (opening_home shape e) ≡ 0
-    unlisted = rw (not_common shape bounds plain, plain) refl
-
-    either : (b : Bool) → home_code (cond b (opening_home shape e) homes.Unlisted) ≡ 0
-    either true = unlisted
-    either false = refl
+-- Elements
 
 owner_first : (shape : Shape) (e : ℕ) → e < shape.elements → (opening shape).owner e ≡ opening_owner shape shape.kind e
 unfolding opening
@@ -124,6 +116,30 @@ not_carried_first shape e c = either (ltb e shape.elements) shape.common (is_lru
     either true false true = refl
     either true false false = refl
     either false common lru = refl
+
+-- no element is in a bucket
+in_no_bucket : (shape : Shape) (e b : ℕ) → (opening shape).owner e ≡ owners.Bucket b → ⊥
+unfolding opening opening_owner
+in_no_bucket shape e b is = at (ltb e shape.elements) shape.kind is
+  where
+    of_spare : (found : Option ℕ) → spare_owner found ≡ owners.Bucket b → ⊥
+    of_spare None same = cc
+    of_spare (Some cpu) same = cc
+
+    at : (real : Bool) (kind : MapKind) → cond real (opening_owner shape kind e) owners.Free ≡ owners.Bucket b → ⊥
+    at false kind same = cc
+    at true Hash same = of_spare (position (λ spare. eqb spare e) (opening_spares shape)) same
+    at true PercpuHash same = cc
+    at true LruHash same = cc
+    at true LruPercpuHash same = cc
+
+-- and none is listed
+hashes_first : (shape : Shape) (log : ℕ → List Tagged) (hash : ℕ → ℕ) → HashesRight shape (opening shape).holder (opening shape).lists (opening shape).owner log hash
+unfolding opening opening_lists
+hashes_first shape log hash = record {
+  in_bucket = λ e b is. absurd (in_no_bucket shape e b is);
+  have = λ k e no_bucket inside. absurd (let none : 0 < 0 = inside in omega arith);
+}
 
 -- The rule
 
@@ -146,6 +162,13 @@ and_true : (a : Bool) → a ≡ (a && true)
 and_true true = refl
 and_true false = refl
 
+-- on a map that evicts nothing is in hand at first
+none_in_hand : (shape : Shape) (kind : MapKind) (e c : ℕ) → IsTrue (is_lru kind) → is_in_hand_of e c (first_hand kind shape) ≡ false
+none_in_hand shape Hash e c lru = true_false (sym lru)
+none_in_hand shape PercpuHash e c lru = true_false (sym lru)
+none_in_hand shape LruHash e c lru = refl
+none_in_hand shape LruPercpuHash e c lru = refl
+
 first_knows : (shape : Shape) → HasBounds shape → Knows shape (first_world shape) 0 (first_view shape)
 unfolding opening
 first_knows shape bounds = record {
@@ -157,7 +180,8 @@ first_knows shape bounds = record {
   noted = tt;
   hands = λ e c few. hand_at_first shape bounds e c ∙ and_true (is_hand_of c ((opening shape).owner e));
   carried = λ e c few. not_carried_first shape e c;
-  hashes = λ e c b within found. absurd (none_some found);
+  hashes = λ e c noted within found. absurd (none_some found);
+  hashed = λ lru e c lock real within in_hand at. true_false (sym in_hand ∙ none_in_hand shape shape.kind e c lru);
   readings = λ e c read within found. absurd (none_some found);
   known = λ k log is. known_first k (lock_count shape) log is;
   bits = λ e bit is. bit_first e shape.elements bit is;
@@ -169,29 +193,31 @@ first_knows shape bounds = record {
   idle = λ _. ((refl, tt), tt);
 }
 
-opens_at : (shape : Shape) (slots : List Behind) → IsShape shape → is_lru shape.kind ≡ false → AreFirstSlots shape (lock_count shape) slots → Rule shape (table.opening (opening_words shape) slots (first_view shape))
+opens_at : (shape : Shape) (slots : List Behind) → IsShape shape → shape.common ≡ false → AreFirstSlots shape (lock_count shape) slots → Rule shape (table.opening (opening_words shape) slots (first_view shape))
 unfolding opening AllAllowed
-opens_at shape slots is_one plain are =
+opens_at shape slots is_one own are =
     let bounds = bounds_of_shape shape is_one in
     record {
       world = first_world shape;
       is_shape = is_one;
-      plain = plain;
+      own_lists = own;
       words = length_words shape;
       slots = length-map slots some ∙ are.count;
       lock_words = λ k within. first_lock_word shape k within;
       owner_words = λ e real. first_owner_word shape e real ∙ ap owner_code (sym (owner_first shape e real));
-      home_words = λ e real. first_later_word shape (home_word shape e) (omega arith) ∙ sym (home_word_first shape e bounds plain);
-      bit_words = λ e real. first_later_word shape (bit_word shape e) (omega arith);
+      home_words = λ e real. first_home_word shape e real ∙ ap home_code (sym (first_home shape e real));
+      bit_words = λ e real. first_bit_word shape (bit_word shape e) (omega arith);
       placed = opening_placed shape bounds;
       ranked = opening_ranked shape;
-      hashes = λ lru. true_false (sym lru ∙ plain);
+      hashes = λ lru. hashes_first shape (λ k. []) (λ e. 0);
       legal = λ k. tt;
-      homes = λ k within there. home_first shape bounds plain slots are k within there;
+      homes = λ k within there. slot_first shape own slots are k within there;
       seated = λ c few. omega arith;
       tagged = λ k. tt;
+      in_time = tt;
       lead = λ i below. refl;
       of_strands = tt;
+      gave_back = λ k below. refl;
       knows = λ pass v at. first_seat bounds pass v at;
     }
   where
@@ -199,6 +225,6 @@ opens_at shape slots is_one plain are =
     first_seat bounds zero v at = subst (Knows shape (first_world shape) 0) (some-injective (first_view shape) v at) (first_knows shape bounds)
     first_seat bounds (suc pass) v at = absurd (some-ne-none v (sym at))
 
-pub opens : (shape : Shape) (words : List ℕ) (slots : List Behind) → IsShape shape → is_lru shape.kind ≡ false → words ≡ opening_words shape → AreFirstSlots shape (lock_count shape) slots → Rule shape (table.opening words slots (first_view shape))
-opens shape words slots is_one plain words_are are =
-    subst (λ (ws : List ℕ). Rule shape (table.opening ws slots (first_view shape))) (sym words_are) (opens_at shape slots is_one plain are)
+pub opens : (shape : Shape) (words : List ℕ) (slots : List Behind) → IsShape shape → shape.common ≡ false → words ≡ opening_words shape → AreFirstSlots shape (lock_count shape) slots → Rule shape (table.opening words slots (first_view shape))
+opens shape words slots is_one own words_are are =
+    subst (λ (ws : List ℕ). Rule shape (table.opening ws slots (first_view shape))) (sym words_are) (opens_at shape slots is_one own are)

@@ -1,7 +1,7 @@
 -- The steps on an owner word: an element comes to a hand or leaves it, and what lies under a lock that is held changes.
-use Rattle.std.proofs.Common.{◌≡◌, ℕ, ◌+◌, ◌<◌, ◌⊎◌, inl, inr, true, List, Option, get_or, set, sym, refl, ap, ◌∙◌, subst, arith, Some, get_or-set_other, get_or-set_same}
-use Rattle.std.specs.Prelude.{IsTrue, IsFalse}
-use Rattle.std.proofs.lemmas.Bool.{and_parts}
+use Rattle.std.proofs.Common.{◌≡◌, ℕ, ◌+◌, ◌<◌, ◌⊎◌, inl, inr, eqb, cond, ⊎_elim, Bool, true, false, List, ◌∷◌, Option, get_or, set, sym, refl, ap, ◌∙◌, subst, arith, Some, get_or-set_other, get_or-set_same}
+use Rattle.std.specs.Prelude.{◌&&◌, IsTrue, IsFalse}
+use Rattle.std.proofs.lemmas.Bool.{and_parts, eqb-true}
 use Rattle.std.proofs.lemmas.Bool.Decides.{nat_tests}
 use mathlib.Core.Option.{some}
 use lib.ListN.{get_elem?}
@@ -13,6 +13,7 @@ use Rattle.map_types.specs.Kind.{is_lru}
 use Rattle.map_types.proofs.CreationLemmas.{bounds_of_shape}
 use Rattle.place_words.specs.declared.owner.Owner.{Owner}
 use Rattle.place_words.specs.declared.owner.Owner.TheVariants as owners
+use Rattle.place_words.specs.declared.home.Home.TheVariants as homes
 use Rattle.place_words.specs.Codes.{owner_code}
 use Rattle.map_types.specs.ElementLists.{put, IsIn, IsHead}
 use Rattle.place_words.specs.Locks.{is_lock, lock_number}
@@ -21,55 +22,61 @@ use Rattle.place_core.specs.declared.step.Lists.{Lists}
 use Rattle.place_core.specs.declared.step.Step.{Step}
 use Rattle.place_core.specs.declared.step.Step.TheVariants.{Claim, Settle, Attach, Detach}
 use Rattle.place_core.specs.State.{rows, is_bucket}
-use Rattle.place_core.specs.Places.{Placed, lies_at}
+use Rattle.place_core.specs.Places.{Placed, Place, lies, carried, lies_at, home_of_place, MayLie}
 use Rattle.place_core.specs.Ranks.{Ranked}
-use Rattle.place_core.specs.Steps.{lists_under, with_free, without_free, with_row, without_row, with_owner, CanClaim, CanSettle, CanAttach, IsInHeldBucket, IsEnabled, after, CoreStep}
+use Rattle.place_core.specs.Steps.{lists_under, with_free, without_free, with_row, without_row, with_owner, CanClaim, CanSettle, CanAttach, IsLockHome, IsInHeldBucket, IsEnabled, after, CoreStep}
 use Rattle.place_core.proofs.ElementLemmas.{at_put, put_here, put_else, by_test}
 use Rattle.place_core.proofs.OwnerSteps.{was_inside}
-use Rattle.place_core.proofs.RowLemmas.{stands_where, free_is, head_is_in}
+use Rattle.place_core.proofs.RowLemmas.{stands_where, free_is, head_is_in, lies_is}
 use Rattle.place_core.proofs.StepLaws.{step_keeps_places, step_keeps_ranks}
 use Rattle.place_table.specs.declared.content.Behind.{Behind}
+use Rattle.place_table.specs.declared.view.Notes.{Notes}
 use Rattle.place_table.specs.declared.view.View.{View}
 use Rattle.place_table.specs.declared.view.Hold.{Hold}
 use Rattle.place_table.specs.declared.view.InHand.{InHand}
+use Rattle.place_table.specs.declared.view.HashIn.{HashIn}
+use Rattle.key_hash.specs.Bucket.{bucket_number}
 use Rattle.place_table.specs.Laws.{StepsAs, goes_by}
 use Rattle.place_table.specs.Views as views
-use Rattle.place_table.specs.Views.{is_among, hold_at, is_in_hand_of, now_at, now_under, with_now, with_in_hand, without_in_hand, moved, kept_readings}
-use Rattle.place_table.specs.Rules.{Rule, is_hand_of}
+use Rattle.place_table.specs.Views.{is_among, hold_at, is_in_hand_of, now_at, now_under, with_now, with_came, with_in_hand, without_in_hand, moved, kept_readings, kept_hashes, hash_known, came_at}
+use Rattle.place_table.specs.Rules.{Rule, World, Knows, AreNoted, is_hand_of, is_home_of, IsHashOf, IsHashed, HasCome, HasRow, IsBrought}
 use Rattle.place_table.specs.Words.{owner_word, home_word}
-use Rattle.place_table.specs.Plays.{Seated}
-use Rattle.place_table.proofs.Hands.{ascends_now, AreInHands, comes_to_hand, leaves_hand, IsOwnerOfPass}
+use Rattle.place_table.specs.Plays.{Seated, Claims, Settles, Attaches, Detaches}
+use Rattle.place_table.proofs.Hands.{ascends_now, AreInHands, comes_to_hand, leaves_hand, was_in_hand, IsOwnerOfPass}
 use Rattle.place_table.proofs.Locks.{allows_of}
-use Rattle.place_table.proofs.PlaceSteps.{IsHeldByPass, now_is, held_moved, place_rule, held_there, by_pass_there, now_there, holds_there, readings_kept}
+use Rattle.place_table.proofs.PlaceSteps.{IsHeldByPass, AreHashes, now_is, held_moved, place_rule, held_there, by_pass_there, now_there, holds_there, readings_kept, hashes_kept}
+use Rattle.place_table.proofs.Came.{came_now, came_more, came_here}
+use Rattle.place_table.proofs.HashSteps.{lies_home, row_of_bucket, hashed_kept}
 use Rattle.place_words.specs.Locks.{lock_named}
 use Rattle.place_words.proofs.LockLemmas.{named_by_number}
 use Rattle.place_table.specs.Rules.{HashesRight, hold_of}
 use Rattle.place_table.specs.Views.{bucket_known}
 use Rattle.place_table.proofs.Locks.{elements_there}
-use Rattle.place_table.proofs.StoredHashes.{hashes_claimed, hashes_settled, hashes_attached, hashes_detached}
+use Rattle.place_table.proofs.StoredHashes.{bucket_noted, hashes_claimed, hashes_settled, hashes_attached, hashes_detached}
 use Rattle.place_table.proofs.Worlds.{hold_of_mine}
 use Rattle.place_table.proofs.WordSteps.{in_held_bucket}
-use Rattle.place_table.proofs.Worlds.{true_false, in_hand_is}
-use Rattle.place_table.proofs.NotesDone.{noted_now}
+use Rattle.place_table.proofs.Worlds.{true_false, by_bool, both_true, some_is, in_hand_is, hashed_stands}
+use Rattle.place_table.proofs.NotesDone.{noted_came, noted_now}
+use Rattle.place_table.proofs.StepLog.{made}
 
 module _ (shape : Shape) (s : State Behind View) (r : Rule shape s) (pass : ℕ) (v : View) (at_pass : get_elem? s.views pass ≡ some v) (lock : DomainId) (h : Hold) (found : hold_at (lock_number shape lock) v.held ≡ Some h)
-    (e : ℕ) (owner : Owner) (hand : List InHand) (cs : List (ℕ × Behind)) (real : e < shape.elements) (was : IsOwnerOfPass r.world.whose pass (r.world.core.owner e)) (is : IsOwnerOfPass r.world.whose pass owner)
-    (in_hands : AreInHands is_hand_of shape.cpus pass r.world.whose (put r.world.core.owner e owner) hand) where
+    (e : ℕ) (owner : Owner) (hand : List InHand) (notes : List Notes) (hashes : List HashIn) (cs : List (ℕ × Behind)) (real : e < shape.elements) (was : IsOwnerOfPass r.world.whose pass (r.world.core.owner e)) (is : IsOwnerOfPass r.world.whose pass owner)
+    (in_hands : AreInHands is_hand_of shape.cpus pass r.world.whose (put r.world.core.owner e owner) hand) (are_noted : AreNoted shape v.touched v.held notes) where
   -- the element has this owner from now on, and under the lock lies this
-  owner_rule : (now : Lists) → (IsTrue (is_lru shape.kind) → HashesRight shape r.world.core.holder (put r.world.core.lists (lock_number shape lock) now) (put r.world.core.owner e owner) r.world.log r.world.hash) → Placed shape (with_owner shape r.world.core e owner lock now) → Ranked shape (with_owner shape r.world.core e owner lock now)
-      → (after : Rule shape (stepped s (owner_word shape e) (owner_code owner) pass cs (moved (lock_number shape lock) now hand (owner_word shape e) (owner_code owner) v) keeps)) × (after.world.core ≡ with_owner shape r.world.core e owner lock now)
-  owner_rule now hashes placed ranked =
+  owner_rule : (now : Lists) → AreHashes shape r.world r.world.core.home hand hashes (with_now (lock_number shape lock) now v.held) notes → (IsTrue (is_lru shape.kind) → HashesRight shape r.world.core.holder (put r.world.core.lists (lock_number shape lock) now) (put r.world.core.owner e owner) r.world.log r.world.hash) → Placed shape (with_owner shape r.world.core e owner lock now) → Ranked shape (with_owner shape r.world.core e owner lock now)
+      → (after : Rule shape (stepped s (owner_word shape e) (owner_code owner) pass cs (record (moved (made r.world) (lock_number shape lock) now hand notes (owner_word shape e) (owner_code owner) v) { hashes = hashes }) keeps)) × (after.world.core ≡ with_owner shape r.world.core e owner lock now)
+  owner_rule now are_hashes right placed ranked =
       let i : ℕ = owner_word shape e in let k : ℕ = lock_number shape lock in let code : ℕ = owner_code owner in
       let w = r.world in let kn = r.knows pass v at_pass in
       let by_pass = by_pass_there shape s r pass v at_pass k h found in
       let at = held_there shape s r pass v at_pass k h found in
       let held_by : is_among h.cpu v.cpus ≡ true = kn.cpus h.cpu (r.ranked.within h.cpu k at.holder_is) ∙ by_test (w.whose h.cpu) pass (λ t. t ≡ true) (λ _. refl) (λ n. absurd (n at.mine)) in
-      place_rule shape s r pass v at_pass (put w.core.lists k now) (put w.core.owner e owner) w.core.home i code h.cpu held_by (with_now k now v.held) hand v.carried (kept_readings hand v.readings) cs (omega arith) (omega arith)
+      place_rule shape s r pass v at_pass (put w.core.lists k now) (put w.core.owner e owner) w.core.home i code h.cpu held_by (with_now k now v.held) hand v.carried (kept_readings hand v.readings) notes hashes cs (omega arith) (omega arith)
       (λ x below. at_put w.core.owner e owner (λ j o. j < shape.elements → get_or (set s.words i code) (owner_word shape j) 0 ≡ owner_code o) x
       (λ _. get_or-set_same s.words i code 0 (omega (arith, r.words)))
       (λ ne below. get_or-set_other s.words i (owner_word shape x) code 0 (λ y. ne (omega arith)) ∙ r.owner_words x below) below)
       (λ x below. get_or-set_other s.words i (home_word shape x) code 0 (λ y. omega arith) ∙ r.home_words x below)
-      (noted_now shape v.touched k now v.held v.notes kn.noted)
+      (noted_now shape v.touched k now v.held notes are_noted)
       record {
         under = λ m. at_put w.core.lists k now (λ j l. (l ≡ w.core.lists j) ⊎ IsHeldByPass w pass j) m (inr by_pass) (λ _. inl refl);
         owners = λ x. at_put w.core.owner e owner (λ j o. (o ≡ w.core.owner j) ⊎ (IsOwnerOfPass w.whose pass (w.core.owner j) × IsOwnerOfPass w.whose pass o)) x (inr (was, is)) (λ _. inl refl);
@@ -80,40 +87,42 @@ module _ (shape : Shape) (s : State Behind View) (r : Rule shape s) (pass : ℕ)
         are_carried = kn.carried;
         placed = placed;
         ranked = ranked;
-        hashes = hashes;
+        hashes = right;
+        are_hashes = are_hashes;
+        at_home = λ _ _ _ _ _ _ at. inl at;
         are_read = readings_kept shape w pass v kn hand;
         still = λ _ _ _ _ _ still. still;
       }
 
   -- a step of the core that does so
-  owner_step : (step : Step) (change : Lists → Lists) → IsEnabled shape r.world.core step → after shape r.world.core step ≡ with_owner shape r.world.core e owner lock (change (lists_under shape r.world.core lock))
+  owner_step : (step : Step) (change : Lists → Lists) → ((now : Lists) → AreHashes shape r.world r.world.core.home hand hashes (with_now (lock_number shape lock) now v.held) notes) → IsEnabled shape r.world.core step → after shape r.world.core step ≡ with_owner shape r.world.core e owner lock (change (lists_under shape r.world.core lock))
       → (IsTrue (is_lru shape.kind) → HashesRight shape r.world.core.holder (put r.world.core.lists (lock_number shape lock) (change (lists_under shape r.world.core lock))) (put r.world.core.owner e owner) r.world.log r.world.hash)
       → (nv : View) × (a : Act Behind) × Valid s.homes cs a × ((now : Rule shape (stepped s (owner_word shape e) (owner_code owner) pass cs nv a)) × CoreStep shape r.world.core step now.world.core)
-      × ◌≡◌ {A = Seated} (nv, carried_after cs a) (moved (lock_number v.shape lock) (change (now_under lock v)) hand (owner_word v.shape e) (owner_code owner) v, cs)
-  owner_step step change can after_is hashes =
+      × ((at : ℕ) × ◌≡◌ {A = Seated} (nv, carried_after cs a) (record (moved at (lock_number v.shape lock) (change (now_under lock v)) hand notes (owner_word v.shape e) (owner_code owner) v) { hashes = hashes }, cs))
+  owner_step step change are_hashes can after_is right =
       let k : ℕ = lock_number shape lock in
       let w = r.world in let kn = r.knows pass v at_pass in
       let bounds = bounds_of_shape shape r.is_shape in
-      let rule = owner_rule (change (w.core.lists k)) hashes (subst (Placed shape) after_is (step_keeps_places shape w.core step bounds can r.placed)) (subst (Ranked shape) after_is (step_keeps_ranks shape w.core step can r.ranked)) in
+      let rule = owner_rule (change (w.core.lists k)) (are_hashes (change (w.core.lists k))) right (subst (Placed shape) after_is (step_keeps_places shape w.core step bounds can r.placed)) (subst (Ranked shape) after_is (step_keeps_ranks shape w.core step can r.ranked)) in
       let told : w.core.lists k ≡ now_under lock v =
       sym (now_is w pass k w.core.lists v.held kn.held (by_pass_there shape s r pass v at_pass k h found)) ∙ ap (λ (z : Shape). now_at (lock_number z lock) v.held) (sym kn.shape_is) in (
-        moved k (change (w.core.lists k)) hand (owner_word shape e) (owner_code owner) v,
+        record (moved (made w) k (change (w.core.lists k)) hand notes (owner_word shape e) (owner_code owner) v) { hashes = hashes },
         keeps,
         tt,
         (rule.0, record { enabled = can; changed = rule.1 ∙ sym after_is }),
-        (λ i. (moved (lock_number (sym kn.shape_is i) lock) (change (told i)) hand (owner_word (sym kn.shape_is i) e) (owner_code owner) v, cs)),
+        (made w, (λ i. (record (moved (made w) (lock_number (sym kn.shape_is i) lock) (change (told i)) hand notes (owner_word (sym kn.shape_is i) e) (owner_code owner) v) { hashes = hashes }, cs))),
       )
 
 -- a step, at the word, the code and the view that a caller has
-at_caller : (shape : Shape) (slots pass : ℕ) (me : Seated) (i j code number : ℕ) (view told : View) → i ≡ j → code ≡ number → view ≡ told
-    → Allows (Rule shape) slots pass me j (λ _. number) (λ _ after. after ≡ (told, me.1)) → Allows (Rule shape) slots pass me i (λ _. code) (λ _ after. after ≡ (view, me.1))
+at_caller : (shape : Shape) (slots pass : ℕ) (me : Seated) (i j code number : ℕ) (view told : ℕ → View) → i ≡ j → code ≡ number → ((at : ℕ) → view at ≡ told at)
+    → Allows (Rule shape) slots pass me j (λ _. number) (λ _ after. (at : ℕ) × (after ≡ (told at, me.1))) → Allows (Rule shape) slots pass me i (λ _. code) (λ _ after. (at : ℕ) × (after ≡ (view at, me.1)))
 at_caller shape slots pass me i j code number view told i_is code_is view_is allows =
-    subst (λ (z : ℕ × ℕ × View). Allows (Rule shape) slots pass me z.0 (λ _. z.1) (λ _ after. after ≡ (z.2, me.1))) (λ n. (sym i_is n, sym code_is n, sym view_is n)) allows
+    subst (λ (z : ℕ × ℕ × (ℕ → View)). Allows (Rule shape) slots pass me z.0 (λ _. z.1) (λ _ after. (at : ℕ) × (after ≡ (z.2 at, me.1)))) (λ n. (sym i_is n, sym code_is n, (λ at. sym (view_is at) n))) allows
 
 -- Claim
 
 pub claims_step : (shape : Shape) (slots pass : ℕ) (me : Seated) (e : ℕ) (lock : DomainId) (hold : Hold) → e < shape.elements → IsTrue (is_lock shape lock) → hold_at (lock_number shape lock) me.0.held ≡ Some hold → IsHead e hold.now.free
-    → StepsAs shape slots pass me (owner_word shape e) (λ _. 1 + hold.cpu) (goes_by shape (Claim hold.cpu e lock)) (λ _ after. after ≡ (views.claimed lock e hold.cpu me.0, me.1))
+    → StepsAs shape slots pass me (owner_word shape e) (λ _. 1 + hold.cpu) (goes_by shape (Claim hold.cpu e lock)) (λ _. Claims lock e hold.cpu me)
 claims_step shape slots pass me e lock hold real is found head s r wide at_pass _ =
     let k : ℕ = lock_number shape lock in
     let v = me.0 in let w = r.world in let kn = r.knows pass v at_pass in
@@ -122,24 +131,48 @@ claims_step shape slots pass me e lock hold real is found head s r wide at_pass 
     let can : CanClaim shape w.core hold.cpu e lock = record { holds = holds_there shape s r pass v at_pass lock hold found is; real = real; head = first } in
     let stands = stands_where shape.elements e _ _ (r.placed.placed.free k e) (head_is_in e _ first) in
     let was : w.core.owner e ≡ owners.Free = free_is (w.core.owner e) (and_parts (is_free (w.core.owner e)) (lies_at k (r.placed.place e)) stands.stands).0 in
-    owner_step shape s r pass v at_pass lock hold found e (owners.Hand hold.cpu) (with_in_hand e hold.cpu v.hand) me.1 real (subst (IsOwnerOfPass w.whose pass) (sym was) tt) at.mine
+    owner_step shape s r pass v at_pass lock hold found e (owners.Hand hold.cpu) (with_in_hand e hold.cpu v.hand) (with_came (lock_number v.shape lock) e v.held v.notes) (kept_hashes (with_in_hand e hold.cpu v.hand) v.hashes) me.1 real (subst (IsOwnerOfPass w.whose pass) (sym was) tt) at.mine
     (comes_to_hand is_hand_of shape.cpus pass e hold.cpu w.whose w.core.owner (put w.core.owner e (owners.Hand hold.cpu)) v.hand (λ x. put_else w.core.owner e (owners.Hand hold.cpu) x) kn.hands
-    at.mine (λ c. ap (is_hand_of c) was) (λ c. ap (is_hand_of c) (put_here w.core.owner e (owners.Hand hold.cpu))))
-    (Claim hold.cpu e lock) (λ l. with_row lock e (without_free e l)) can refl
+    at.mine (λ c. ap (is_hand_of c) was) (λ c. ap (is_hand_of c) (put_here w.core.owner e (owners.Hand hold.cpu)))) (noted_came shape v.touched (lock_number v.shape lock) e v.held v.notes kn.noted)
+    (Claim hold.cpu e lock) (λ l. with_row lock e (without_free e l))
+    (λ now. (
+      hashes_kept shape w pass v kn (with_in_hand e hold.cpu v.hand),
+      λ lru x d its x_real within in_hand at_home.
+          by_bool (eqb e x && eqb hold.cpu d) (λ t. (eqb e x && eqb hold.cpu d) ≡ t → cond t true (is_in_hand_of x d v.hand) ≡ true → IsHashed shape w.core.holder w.log w.hash (kept_hashes (with_in_hand e hold.cpu v.hand) v.hashes) (came_at (lock_number shape its) (with_now k now v.held) (with_came (lock_number v.shape lock) e v.held v.notes)) (lock_number shape its) x d)
+          (λ hit _ _.
+          let both = both_true _ _ hit in
+          let same : e ≡ x = eqb-true e x both.0 in
+          let its_k : k ≡ lock_number shape its = lies_home shape w.core.lists w.core.owner w.core.home r.placed.place r.placed.placed lru x its x_real at_home k
+          (ap r.placed.place (sym same) ∙ lies_is k (r.placed.place e) (and_parts (is_free (w.core.owner e)) (lies_at k (r.placed.place e)) stands.stands).1) in
+          let come : HasCome w.core.holder (came_at (lock_number shape its) (with_now k now v.held) (with_came (lock_number v.shape lock) e v.held v.notes)) (lock_number shape its) x d = record {
+            held = ap w.core.holder (sym its_k) ∙ (at.holder_is ∙ ap Some (eqb-true hold.cpu d both.1));
+            inside = ap (is_among x) (came_now k (lock_number shape its) now v.held (with_came (lock_number v.shape lock) e v.held v.notes))
+                ∙ ((λ i. is_among (sym same i) (came_at (sym its_k i) v.held (with_came (lock_number (kn.shape_is i) lock) e v.held v.notes))) ∙ came_here shape v.touched k e hold v.held v.notes kn.noted found);
+          } in
+          record { from = inr (inr come); row = λ _. inr (inr come) })
+          (λ _ _ there. hashed_kept shape w pass v kn k now (with_in_hand e hold.cpu v.hand) (with_came (lock_number v.shape lock) e v.held v.notes) (λ m y inside. came_more (lock_number v.shape lock) e m y v.held v.notes inside) lru x d its x_real within there in_hand at_home) refl in_hand,
+    )) can refl
     (λ lru. hashes_claimed shape w.core.holder w.core.lists w.core.owner w.core.home r.placed.place r.placed.placed w.log w.hash (r.hashes lru) lock k e hold.cpu at.holder_is first)
 
-pub claims : (shape : Shape) (slots pass : ℕ) (me : Seated) (e c i code : ℕ) (lock : DomainId) (hold : Hold) (view : View) → i ≡ owner_word shape e → code ≡ 1 + c → hold.cpu ≡ c → view ≡ views.claimed lock e c me.0
+pub claims : (shape : Shape) (slots pass : ℕ) (me : Seated) (e c i code : ℕ) (lock : DomainId) (hold : Hold) (view : ℕ → View) → i ≡ owner_word shape e → code ≡ 1 + c → hold.cpu ≡ c → ((at : ℕ) → view at ≡ views.claimed at lock e c me.0)
     → e < shape.elements → IsTrue (is_lock shape lock) → hold_at (lock_number shape lock) me.0.held ≡ Some hold → IsHead e hold.now.free
-    → Allows (Rule shape) slots pass me i (λ _. code) (λ _ after. after ≡ (view, me.1))
+    → Allows (Rule shape) slots pass me i (λ _. code) (λ _ after. (at : ℕ) × (after ≡ (view at, me.1)))
 claims shape slots pass me e c i code lock hold view i_is code_is cpu_is view_is real is found head =
-    at_caller shape slots pass me i _ code _ view _ i_is (code_is ∙ ap (λ (n : ℕ). 1 + n) (sym cpu_is)) (view_is ∙ ap (λ (n : ℕ). views.claimed lock e n me.0) (sym cpu_is))
-    (allows_of shape slots pass me (owner_word shape e) (λ _. 1 + hold.cpu) (goes_by shape (Claim hold.cpu e lock)) (λ _ after. after ≡ (views.claimed lock e hold.cpu me.0, me.1)) (claims_step shape slots pass me e lock hold real is found head))
+    at_caller shape slots pass me i _ code _ view _ i_is (code_is ∙ ap (λ (n : ℕ). 1 + n) (sym cpu_is)) (λ at. view_is at ∙ ap (λ (n : ℕ). views.claimed at lock e n me.0) (sym cpu_is))
+    (allows_of shape slots pass me (owner_word shape e) (λ _. 1 + hold.cpu) (goes_by shape (Claim hold.cpu e lock)) (λ _. Claims lock e hold.cpu me) (claims_step shape slots pass me e lock hold real is found head))
 
 -- Settle
 
+-- an element leaves a hand
+hashes_left : (shape : Shape) (w : World) (pass : ℕ) (v : View) → Knows shape w pass v → (k e cpu : ℕ) (now : Lists) → AreHashes shape w w.core.home (without_in_hand e cpu v.hand) (kept_hashes (without_in_hand e cpu v.hand) v.hashes) (with_now k now v.held) v.notes
+hashes_left shape w pass v kn k e cpu now = (
+  hashes_kept shape w pass v kn (without_in_hand e cpu v.hand),
+  λ lru x d its x_real within in_hand at_home. hashed_kept shape w pass v kn k now (without_in_hand e cpu v.hand) v.notes (λ m y inside. inside) lru x d its x_real within (was_in_hand e cpu x d v.hand in_hand) in_hand at_home,
+)
+
 pub settles_step : (shape : Shape) (slots pass : ℕ) (me : Seated) (e : ℕ) (lock : DomainId) (hold : Hold) → e < shape.elements → IsTrue (is_lock shape lock) → hold_at (lock_number shape lock) me.0.held ≡ Some hold → IsFalse (is_bucket lock)
     → is_among hold.cpu me.0.cpus ≡ true → is_in_hand_of e hold.cpu me.0.hand ≡ true → (IsTrue (is_lru shape.kind) → IsIn e (rows hold.now))
-    → StepsAs shape slots pass me (owner_word shape e) (λ _. 0) (goes_by shape (Settle hold.cpu e lock)) (λ _ after. after ≡ (views.settled lock e hold.cpu me.0, me.1))
+    → StepsAs shape slots pass me (owner_word shape e) (λ _. 0) (goes_by shape (Settle hold.cpu e lock)) (λ _. Settles lock e hold.cpu me)
 settles_step shape slots pass me e lock hold real is found has_free_list has in_hand listed s r wide at_pass _ =
     let v = me.0 in let w = r.world in let kn = r.knows pass v at_pass in
     let at = held_there shape s r pass v at_pass (lock_number shape lock) hold found in
@@ -151,58 +184,79 @@ settles_step shape slots pass me e lock hold real is found has_free_list has in_
       in_hand = was;
       listed = λ lru. subst (λ (z : Lists). IsIn e (rows z)) (now_there shape s r pass v at_pass (lock_number shape lock) hold found) (listed lru);
     } in
-    owner_step shape s r pass v at_pass lock hold found e owners.Free (without_in_hand e hold.cpu v.hand) me.1 real (subst (IsOwnerOfPass w.whose pass) (sym was) at.mine) tt
+    owner_step shape s r pass v at_pass lock hold found e owners.Free (without_in_hand e hold.cpu v.hand) v.notes (kept_hashes (without_in_hand e hold.cpu v.hand) v.hashes) me.1 real (subst (IsOwnerOfPass w.whose pass) (sym was) at.mine) tt
     (leaves_hand is_hand_of shape.cpus pass e hold.cpu w.whose w.core.owner (put w.core.owner e owners.Free) v.hand (λ x. put_else w.core.owner e owners.Free x) kn.hands
-    (λ c. ap (is_hand_of c) was) (λ c. ap (is_hand_of c) (put_here w.core.owner e owners.Free)))
-    (Settle hold.cpu e lock) (λ l. with_free e (without_row e l)) can refl
+    (λ c. ap (is_hand_of c) was) (λ c. ap (is_hand_of c) (put_here w.core.owner e owners.Free))) kn.noted
+    (Settle hold.cpu e lock) (λ l. with_free e (without_row e l)) (hashes_left shape w pass v kn (lock_number shape lock) e hold.cpu) can refl
     (λ lru. hashes_settled shape w.core.holder w.core.lists w.core.owner w.core.home r.placed.place r.placed.placed w.log w.hash (r.hashes lru) lock (lock_number shape lock) e hold.cpu at.holder_is (subst (λ (d : DomainId). IsFalse (is_bucket d)) (sym (named_by_number shape lock is)) has_free_list) (can.listed lru) ((elements_there shape s r (lock_number shape lock)).rows_once e))
 
-pub settles : (shape : Shape) (slots pass : ℕ) (me : Seated) (e c i : ℕ) (lock : DomainId) (hold : Hold) (view : View) → i ≡ owner_word shape e → hold.cpu ≡ c → view ≡ views.settled lock e c me.0
+pub settles : (shape : Shape) (slots pass : ℕ) (me : Seated) (e c i : ℕ) (lock : DomainId) (hold : Hold) (view : ℕ → View) → i ≡ owner_word shape e → hold.cpu ≡ c → ((at : ℕ) → view at ≡ views.settled at lock e c me.0)
     → e < shape.elements → IsTrue (is_lock shape lock) → hold_at (lock_number shape lock) me.0.held ≡ Some hold → IsFalse (is_bucket lock)
     → is_among c me.0.cpus ≡ true → is_in_hand_of e c me.0.hand ≡ true → (IsTrue (is_lru shape.kind) → IsIn e (rows hold.now))
-    → Allows (Rule shape) slots pass me i (λ _. 0) (λ _ after. after ≡ (view, me.1))
+    → Allows (Rule shape) slots pass me i (λ _. 0) (λ _ after. (at : ℕ) × (after ≡ (view at, me.1)))
 settles shape slots pass me e c i lock hold view i_is cpu_is view_is real is found has_free_list has in_hand listed =
-    at_caller shape slots pass me i _ 0 0 view _ i_is refl (view_is ∙ ap (λ (n : ℕ). views.settled lock e n me.0) (sym cpu_is))
-    (allows_of shape slots pass me (owner_word shape e) (λ _. 0) (goes_by shape (Settle hold.cpu e lock)) (λ _ after. after ≡ (views.settled lock e hold.cpu me.0, me.1))
+    at_caller shape slots pass me i _ 0 0 view _ i_is refl (λ at. view_is at ∙ ap (λ (n : ℕ). views.settled at lock e n me.0) (sym cpu_is))
+    (allows_of shape slots pass me (owner_word shape e) (λ _. 0) (goes_by shape (Settle hold.cpu e lock)) (λ _. Settles lock e hold.cpu me)
     (settles_step shape slots pass me e lock hold real is found has_free_list (ap (λ (n : ℕ). is_among n me.0.cpus) cpu_is ∙ has) (ap (λ (n : ℕ). is_in_hand_of e n me.0.hand) cpu_is ∙ in_hand) listed))
 
 -- Attach
 
+same_hand : (a b : ℕ) → owners.Hand a ≡ owners.Hand b → a ≡ b
+same_hand a b is = cc
+
+-- the home of what a CPU has in hand and doesn't carry is a lock
+lock_home : (shape : Shape) (s : State Behind View) (r : Rule shape s) (pass : ℕ) (v : View) → get_elem? s.views pass ≡ some v → (e c : ℕ) → e < shape.elements → is_among c v.cpus ≡ true → r.world.core.owner e ≡ owners.Hand c
+    → IsTrue (is_lru shape.kind) → is_in_hand_of e c v.carried ≡ false → IsLockHome (r.world.core.home e)
+lock_home shape s r pass v at_pass e c real has was lru free_hand = go (r.placed.place e) refl
+  where
+    go : (place : Place) → r.placed.place e ≡ place → IsLockHome (r.world.core.home e)
+    go (lies k) is =
+        subst IsLockHome (sym (r.placed.placed.homes e real ∙ (ap (home_of_place shape) is ∙ ap (λ (b : Bool). cond b (homes.In (lock_named shape k)) homes.Unlisted) lru))) tt
+    go (carried x) is =
+        let w = r.world in let kn = r.knows pass v at_pass in
+        let may : MayLie shape e (w.core.owner e) (carried x) = subst (MayLie shape e (w.core.owner e)) is (r.placed.placed.places e real) in
+        let home_is : w.core.home e ≡ homes.Hand c = r.placed.placed.homes e real ∙ (ap (home_of_place shape) is ∙ (ap (λ (b : Bool). cond b (homes.Hand x) homes.Unlisted) lru ∙ ap homes.Hand (same_hand x c (sym may.1 ∙ was)))) in
+        let it_is : is_home_of c (w.core.home e) ≡ true = ap (is_home_of c) home_is ∙ by_test c c (λ t. t ≡ true) (λ _. refl) (λ n. absurd (n refl)) in
+        let ours : eqb (w.whose c) pass ≡ true = sym (kn.cpus c (kn.within c has)) ∙ has in
+        true_false (sym (kn.carried e c (kn.within c has) ∙ (λ i. it_is i && ours i)) ∙ free_hand)
+
 pub attaches_step : (shape : Shape) (slots pass : ℕ) (me : Seated) (e bucket : ℕ) (hold : Hold) → e < shape.elements → bucket < shape.buckets → hold_at (lock_number shape (Bucket bucket)) me.0.held ≡ Some hold
     → is_among hold.cpu me.0.cpus ≡ true → is_in_hand_of e hold.cpu me.0.hand ≡ true
+    → (IsTrue (is_lru shape.kind) → is_in_hand_of e hold.cpu me.0.carried ≡ false)
     → (IsTrue (is_lru shape.kind) → (bucket_known e hold.cpu me.0.hashes ≡ Some bucket) × ((k : ℕ) (other : Hold) → hold_at k me.0.held ≡ Some other → k ≡ lock_number shape (Bucket bucket)))
-    → StepsAs shape slots pass me (owner_word shape e) (λ _. 32 + bucket) (goes_by shape (Attach hold.cpu e bucket)) (λ _ after. after ≡ (views.attached bucket e hold.cpu me.0, me.1))
-attaches_step shape slots pass me e bucket hold real there found has in_hand hashed s r wide at_pass _ =
+    → StepsAs shape slots pass me (owner_word shape e) (λ _. 32 + bucket) (goes_by shape (Attach hold.cpu e bucket)) (λ _. Attaches bucket e hold.cpu me)
+attaches_step shape slots pass me e bucket hold real there found has in_hand not_carried hashed s r wide at_pass _ =
     let lock : DomainId = Bucket bucket in
     let v = me.0 in let w = r.world in let kn = r.knows pass v at_pass in
     let at = held_there shape s r pass v at_pass (lock_number shape lock) hold found in
     let is : IsTrue (is_lock shape lock) = grind (arith, nat_tests) in
     let was : w.core.owner e ≡ owners.Hand hold.cpu = in_hand_is shape w pass v e hold.cpu kn has in_hand in
     let can : CanAttach shape w.core hold.cpu e bucket =
-    record { holds = holds_there shape s r pass v at_pass lock hold found is; real = real; in_hand = was; not_carried = λ lru. true_false (sym lru ∙ r.plain) } in
-    owner_step shape s r pass v at_pass lock hold found e (owners.Bucket bucket) (without_in_hand e hold.cpu v.hand) me.1 real (subst (IsOwnerOfPass w.whose pass) (sym was) at.mine) tt
+    record { holds = holds_there shape s r pass v at_pass lock hold found is; real = real; in_hand = was; not_carried = λ lru. lock_home shape s r pass v at_pass e hold.cpu real has was lru (not_carried lru) } in
+    owner_step shape s r pass v at_pass lock hold found e (owners.Bucket bucket) (without_in_hand e hold.cpu v.hand) v.notes (kept_hashes (without_in_hand e hold.cpu v.hand) v.hashes) me.1 real (subst (IsOwnerOfPass w.whose pass) (sym was) at.mine) tt
     (leaves_hand is_hand_of shape.cpus pass e hold.cpu w.whose w.core.owner (put w.core.owner e (owners.Bucket bucket)) v.hand (λ x. put_else w.core.owner e (owners.Bucket bucket) x) kn.hands
-    (λ c. ap (is_hand_of c) was) (λ c. ap (is_hand_of c) (put_here w.core.owner e (owners.Bucket bucket))))
-    (Attach hold.cpu e bucket) (λ l. with_row lock e l) can refl
+    (λ c. ap (is_hand_of c) was) (λ c. ap (is_hand_of c) (put_here w.core.owner e (owners.Bucket bucket)))) kn.noted
+    (Attach hold.cpu e bucket) (λ l. with_row lock e l) (hashes_left shape w pass v kn (lock_number shape lock) e hold.cpu) can refl
     (λ lru. hashes_attached shape w.core.holder w.core.lists w.core.owner w.core.home r.placed.place r.placed.placed w.log w.hash (r.hashes lru) lock (lock_number shape lock) e hold.cpu at.holder_is
-    (ap is_bucket (named_by_number shape lock is)) bucket (kn.hashes e hold.cpu bucket (kn.within hold.cpu has) (hashed lru).0).bucket_is was
+    (ap is_bucket (named_by_number shape lock is)) bucket (let known = bucket_noted e hold.cpu bucket v.hashes (hashed lru).0 in (kn.hashes e hold.cpu known.0 (kn.within hold.cpu has) known.1).bucket_is ∙ known.2) was
     (λ m nb held.
     let only : m ≡ lock_number shape lock = (hashed lru).1 m _ (kn.held m ∙ (ap (λ (z : Option ℕ). hold_of pass w.whose m z (w.log m) (w.core.lists m) (w.lost m)) held ∙ hold_of_mine w.whose pass m hold.cpu (w.log m) (w.core.lists m) (w.lost m) at.mine)) in
     true_false (sym (ap is_bucket (ap (lock_named shape) only ∙ named_by_number shape lock is)) ∙ nb)))
 
-pub attaches : (shape : Shape) (slots pass : ℕ) (me : Seated) (e bucket c i code : ℕ) (hold : Hold) (view : View) → i ≡ owner_word shape e → code ≡ 32 + bucket → hold.cpu ≡ c → view ≡ views.attached bucket e c me.0
+pub attaches : (shape : Shape) (slots pass : ℕ) (me : Seated) (e bucket c i code : ℕ) (hold : Hold) (view : ℕ → View) → i ≡ owner_word shape e → code ≡ 32 + bucket → hold.cpu ≡ c → ((at : ℕ) → view at ≡ views.attached at bucket e c me.0)
     → e < shape.elements → bucket < shape.buckets → hold_at (lock_number shape (Bucket bucket)) me.0.held ≡ Some hold → is_among c me.0.cpus ≡ true → is_in_hand_of e c me.0.hand ≡ true
+    → (IsTrue (is_lru shape.kind) → is_in_hand_of e c me.0.carried ≡ false)
     → (IsTrue (is_lru shape.kind) → (bucket_known e c me.0.hashes ≡ Some bucket) × ((k : ℕ) (other : Hold) → hold_at k me.0.held ≡ Some other → k ≡ lock_number shape (Bucket bucket)))
-    → Allows (Rule shape) slots pass me i (λ _. code) (λ _ after. after ≡ (view, me.1))
-attaches shape slots pass me e bucket c i code hold view i_is code_is cpu_is view_is real there found has in_hand hashed =
-    at_caller shape slots pass me i _ code _ view _ i_is code_is (view_is ∙ ap (λ (n : ℕ). views.attached bucket e n me.0) (sym cpu_is))
-    (allows_of shape slots pass me (owner_word shape e) (λ _. 32 + bucket) (goes_by shape (Attach hold.cpu e bucket)) (λ _ after. after ≡ (views.attached bucket e hold.cpu me.0, me.1))
-    (attaches_step shape slots pass me e bucket hold real there found (ap (λ (n : ℕ). is_among n me.0.cpus) cpu_is ∙ has) (ap (λ (n : ℕ). is_in_hand_of e n me.0.hand) cpu_is ∙ in_hand) (λ lru. (ap (λ (n : ℕ). bucket_known e n me.0.hashes) cpu_is ∙ (hashed lru).0, (hashed lru).1))))
+    → Allows (Rule shape) slots pass me i (λ _. code) (λ _ after. (at : ℕ) × (after ≡ (view at, me.1)))
+attaches shape slots pass me e bucket c i code hold view i_is code_is cpu_is view_is real there found has in_hand not_carried hashed =
+    at_caller shape slots pass me i _ code _ view _ i_is code_is (λ at. view_is at ∙ ap (λ (n : ℕ). views.attached at bucket e n me.0) (sym cpu_is))
+    (allows_of shape slots pass me (owner_word shape e) (λ _. 32 + bucket) (goes_by shape (Attach hold.cpu e bucket)) (λ _. Attaches bucket e hold.cpu me)
+    (attaches_step shape slots pass me e bucket hold real there found (ap (λ (n : ℕ). is_among n me.0.cpus) cpu_is ∙ has) (ap (λ (n : ℕ). is_in_hand_of e n me.0.hand) cpu_is ∙ in_hand) (λ lru. ap (λ (n : ℕ). is_in_hand_of e n me.0.carried) cpu_is ∙ not_carried lru) (λ lru. (ap (λ (n : ℕ). bucket_known e n me.0.hashes) cpu_is ∙ (hashed lru).0, (hashed lru).1))))
 
 -- Detach
 
 pub detaches_step : (shape : Shape) (slots pass : ℕ) (me : Seated) (e bucket : ℕ) (hold : Hold) → bucket < shape.buckets → hold_at (lock_number shape (Bucket bucket)) me.0.held ≡ Some hold → IsIn e hold.now.first
-    → StepsAs shape slots pass me (owner_word shape e) (λ _. 1 + hold.cpu) (goes_by shape (Detach hold.cpu e bucket)) (λ _ after. after ≡ (views.detached bucket e hold.cpu me.0, me.1))
+    → StepsAs shape slots pass me (owner_word shape e) (λ _. 1 + hold.cpu) (goes_by shape (Detach hold.cpu e bucket)) (λ _. Detaches bucket e hold.cpu me)
 detaches_step shape slots pass me e bucket hold there found inside s r wide at_pass _ =
     let lock : DomainId = Bucket bucket in
     let v = me.0 in let w = r.world in let kn = r.knows pass v at_pass in
@@ -210,16 +264,41 @@ detaches_step shape slots pass me e bucket hold there found inside s r wide at_p
     let bounds = bounds_of_shape shape r.is_shape in
     let can : IsInHeldBucket shape w.core hold.cpu e bucket = (in_held_bucket shape s r pass v e bucket hold at_pass there found inside).0 in
     let was : w.core.owner e ≡ owners.Bucket bucket = was_inside shape w.core r.placed.place bounds r.placed.placed hold.cpu e bucket can in
-    owner_step shape s r pass v at_pass lock hold found e (owners.Hand hold.cpu) (with_in_hand e hold.cpu v.hand) me.1 can.real (subst (IsOwnerOfPass w.whose pass) (sym was) tt) at.mine
+    let hand : List InHand = with_in_hand e hold.cpu v.hand in
+    let new : HashIn = record { element = e; cpu = hold.cpu; bucket = bucket; given = false } in
+    let kept : List HashIn = kept_hashes hand v.hashes in
+    owner_step shape s r pass v at_pass lock hold found e (owners.Hand hold.cpu) (with_in_hand e hold.cpu v.hand) v.notes (cond (is_lru v.shape.kind) (new ∷ kept_hashes (with_in_hand e hold.cpu v.hand) v.hashes) (kept_hashes (with_in_hand e hold.cpu v.hand) v.hashes)) me.1 can.real (subst (IsOwnerOfPass w.whose pass) (sym was) tt) at.mine
     (comes_to_hand is_hand_of shape.cpus pass e hold.cpu w.whose w.core.owner (put w.core.owner e (owners.Hand hold.cpu)) v.hand (λ x. put_else w.core.owner e (owners.Hand hold.cpu) x) kn.hands
-    at.mine (λ c. ap (is_hand_of c) was) (λ c. ap (is_hand_of c) (put_here w.core.owner e (owners.Hand hold.cpu))))
-    (Detach hold.cpu e bucket) (λ l. without_row e l) can refl
+    at.mine (λ c. ap (is_hand_of c) was) (λ c. ap (is_hand_of c) (put_here w.core.owner e (owners.Hand hold.cpu)))) kn.noted
+    (Detach hold.cpu e bucket) (λ l. without_row e l)
+    (λ now. by_bool (is_lru shape.kind) (λ t. is_lru shape.kind ≡ t → AreHashes shape w w.core.home hand (cond (is_lru v.shape.kind) (new ∷ kept) kept) (with_now (lock_number shape lock) now v.held) v.notes)
+    (λ lru _. subst (λ (t : Bool). AreHashes shape w w.core.home hand (cond t (new ∷ kept) kept) (with_now (lock_number shape lock) now v.held) v.notes) (sym (ap (λ z. is_lru z.kind) kn.shape_is ∙ lru)) (
+      (λ x d noted within known. by_bool (eqb e x && eqb hold.cpu d) (λ t. (eqb e x && eqb hold.cpu d) ≡ t → cond t (Some new) (hash_known x d kept) ≡ Some noted → IsHashOf shape w.hash hand x d noted.bucket)
+          (λ hit _ is. record {
+            in_hand = ap (λ (t : Bool). cond t true (is_in_hand_of x d v.hand)) hit;
+            bucket_is = ap (λ (y : ℕ). bucket_number (w.hash y) shape.buckets) (sym (eqb-true e x (both_true _ _ hit).0)) ∙ ((r.hashes lru).in_bucket e bucket was ∙ ap (λ (n : HashIn). n.bucket) (some_is is));
+          })
+          (λ _ _ is. hashes_kept shape w pass v kn hand x d noted within is) refl known),
+      (λ _ x d its x_real within in_hand at_home. by_bool (eqb e x && eqb hold.cpu d) (λ t. (eqb e x && eqb hold.cpu d) ≡ t → cond t true (is_in_hand_of x d v.hand) ≡ true → IsHashed shape w.core.holder w.log w.hash (new ∷ kept) (came_at (lock_number shape its) (with_now (lock_number shape lock) now v.held) v.notes) (lock_number shape its) x d)
+          (λ hit _ _. let same : e ≡ x = eqb-true e x (both_true _ _ hit).0 in record {
+            from = inr (inl record { noted = new; last = ap (λ (t : Bool). cond t (Some new) (hash_known x d kept)) hit; given_is = refl });
+            row = λ _. ⊎_elim (λ (had : HasRow shape w.log w.hash (lock_number shape its) x). inl had) (λ (brought : IsBrought shape w.core.holder w.log w.hash (lock_number shape its) x). inr (inl brought))
+                (row_of_bucket shape w.core.holder w.core.lists w.core.owner w.core.home r.placed.place r.placed.placed w.log w.hash (r.hashes lru) lru x its x_real at_home (ap (λ (y : ℕ). is_free (w.core.owner y)) (sym same) ∙ ap is_free was) bucket (ap w.core.owner (sym same) ∙ was));
+          })
+          (λ miss _ there. hashed_stands shape w.core.holder w.core.holder w.log w.log w.hash w.hash kept (new ∷ kept) (came_at (lock_number shape its) (with_now (lock_number shape lock) now v.held) v.notes) (came_at (lock_number shape its) (with_now (lock_number shape lock) now v.held) v.notes) (lock_number shape its) x d
+          (λ i on. (on, refl)) (λ on. on) refl (ap (λ (t : Bool). cond t (Some new) (hash_known x d kept)) miss) (λ inside. inside)
+          (hashed_kept shape w pass v kn (lock_number shape lock) now hand v.notes (λ m y inside. inside) lru x d its x_real within there in_hand at_home)) refl in_hand),
+    ))
+    (λ plain _. subst (λ (t : Bool). AreHashes shape w w.core.home hand (cond t (new ∷ kept) kept) (with_now (lock_number shape lock) now v.held) v.notes) (sym (ap (λ z. is_lru z.kind) kn.shape_is ∙ plain)) (
+      hashes_kept shape w pass v kn hand,
+      (λ lru. true_false (sym lru ∙ plain)),
+    )) refl) can refl
     (λ lru. hashes_detached shape w.core.holder w.core.lists w.core.owner w.core.home r.placed.place r.placed.placed w.log w.hash (r.hashes lru) lock (lock_number shape lock) e hold.cpu at.holder_is (ap is_bucket (named_by_number shape lock (let is : IsTrue (is_lock shape lock) = grind (arith, nat_tests) in is))) bucket was)
 
-pub detaches : (shape : Shape) (slots pass : ℕ) (me : Seated) (e bucket c i code : ℕ) (hold : Hold) (view : View) → i ≡ owner_word shape e → code ≡ 1 + c → hold.cpu ≡ c → view ≡ views.detached bucket e c me.0
+pub detaches : (shape : Shape) (slots pass : ℕ) (me : Seated) (e bucket c i code : ℕ) (hold : Hold) (view : ℕ → View) → i ≡ owner_word shape e → code ≡ 1 + c → hold.cpu ≡ c → ((at : ℕ) → view at ≡ views.detached at bucket e c me.0)
     → bucket < shape.buckets → hold_at (lock_number shape (Bucket bucket)) me.0.held ≡ Some hold → IsIn e hold.now.first
-    → Allows (Rule shape) slots pass me i (λ _. code) (λ _ after. after ≡ (view, me.1))
+    → Allows (Rule shape) slots pass me i (λ _. code) (λ _ after. (at : ℕ) × (after ≡ (view at, me.1)))
 detaches shape slots pass me e bucket c i code hold view i_is code_is cpu_is view_is there found inside =
-    at_caller shape slots pass me i _ code _ view _ i_is (code_is ∙ ap (λ (n : ℕ). 1 + n) (sym cpu_is)) (view_is ∙ ap (λ (n : ℕ). views.detached bucket e n me.0) (sym cpu_is))
-    (allows_of shape slots pass me (owner_word shape e) (λ _. 1 + hold.cpu) (goes_by shape (Detach hold.cpu e bucket)) (λ _ after. after ≡ (views.detached bucket e hold.cpu me.0, me.1))
+    at_caller shape slots pass me i _ code _ view _ i_is (code_is ∙ ap (λ (n : ℕ). 1 + n) (sym cpu_is)) (λ at. view_is at ∙ ap (λ (n : ℕ). views.detached at bucket e n me.0) (sym cpu_is))
+    (allows_of shape slots pass me (owner_word shape e) (λ _. 1 + hold.cpu) (goes_by shape (Detach hold.cpu e bucket)) (λ _. Detaches bucket e hold.cpu me)
     (detaches_step shape slots pass me e bucket hold there found inside))

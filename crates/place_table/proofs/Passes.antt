@@ -1,11 +1,13 @@
 -- From what the steps of a seat tell to what a caller with a pass knows.
 use Rattle.std.proofs.Common.{◌≡◌, ℕ, Bool, true, false, List, [], ◌∷◌, ◌++◌, length, Option, Some, None, MatchOption, sym, refl, ap, ◌∙◌, subst, ⊎_elim, arith}
-use Rattle.std.specs.Prelude.{◌<◌, Vec, IfSome}
+use Rattle.std.specs.Prelude.{◌<◌, Vec, IfSome, IsTrue}
 use Rattle.std.specs.Global.{Global}
 use Rattle.atomic_table.specs.Table.{rest}
 use Rattle.map_types.specs.Stored.{Stored}
 use Rattle.map_types.specs.declared.attr.Shape.{Shape}
 use Rattle.map_types.specs.declared.kind.DomainId.{DomainId}
+use Rattle.map_types.specs.declared.kind.DomainId.TheVariants.{CpuLru}
+use Rattle.map_types.specs.Kind.{is_lru}
 use Rattle.map_types.specs.Creation.{IsShape}
 use Rattle.map_types.proofs.CreationLemmas.{bounds_of_shape}
 use Rattle.place_words.specs.declared.history.Entry.{Entry}
@@ -13,7 +15,9 @@ use Rattle.place_words.specs.declared.history.Part.{Part}
 use Rattle.place_words.specs.declared.history.StrandStep.{StrandStep}
 use Rattle.place_words.specs.declared.owner.Owner.{Owner}
 use Rattle.place_words.specs.Codes.{owner_code, HasOwnerCode}
-use Rattle.place_words.specs.Locks.{lock_named, lock_number}
+use Rattle.place_words.specs.Histories.{content, IsLegal}
+use Rattle.place_words.specs.Locks.{is_lock, lock_named, lock_number}
+use Rattle.place_words.specs.Takings.{set_of}
 use Rattle.place_words.proofs.LockLemmas.{named_by_number}
 use Rattle.place_core.specs.Places.{MayOwn}
 use Rattle.place_table.specs.declared.content.Behind.{Behind}
@@ -26,12 +30,12 @@ use Rattle.place_table.specs.declared.view.Notes.{Notes}
 use Rattle.place_table.specs.declared.view.BitSeen.{BitSeen}
 use Rattle.place_table.specs.Rules.{KeptAs}
 use Rattle.place_core.proofs.ElementLemmas.{by_test}
-use Rattle.place_table.specs.Contents.{IsSized}
-use Rattle.place_table.specs.Views.{is_among, holding, given, with_lost, losing, holds_below, noted, owner_read}
+use Rattle.place_table.specs.Contents.{told, lists_of, Fits, IsSized}
+use Rattle.place_table.specs.Views.{is_among, is_in_hand_of, known_log, home_known, holding, given, with_lost, losing, holds_below, noted, owner_read}
 use Rattle.place_table.specs.Recording.{IsLost, RecordsIn, Records, recorded_step, last_from, last_in, entry_given, no_entry}
-use Rattle.place_table.specs.Plays.{Seated, Took, Gives, GivesSome, entry_by, IsKeptOrLost, MayPut, MayGive, OwnerFits, SeesOwner}
+use Rattle.place_table.specs.Plays.{Seated, Took, AreElements, IsApartFromHands, Gives, GivesSome, entry_by, IsKeptOrLost, MayPut, MayGive, OwnerFits, SeesOwner}
 use Rattle.place_table.specs.TurnNotes.{NotesFit, InnermostFits}
-use Rattle.place_table.specs.Passes.{PassView, TableView, Carries, IsPass, IsPassOf, with_view, without_content, entry_of, HasBegun, SparesDiffer, CanGive, Gave, GaveSome, SawOwner, spare_of}
+use Rattle.place_table.specs.Passes.{PassView, TableView, Carries, HandsReal, IsPass, IsPassOf, with_view, without_content, entry_of, HasBegun, SparesDiffer, Takes, CanGive, Gave, GaveSome, SawOwner, spare_of}
 use Rattle.place_table.proofs.CodeLemmas.{one_owner, has_owner_code}
 use Rattle.place_table.proofs.Worlds.{some_is}
 use Rattle.place_table.specs.declared.view.WordStep.{WordStep}
@@ -51,7 +55,7 @@ pub is_pass_taken : {flags : List Bool} {ended : Option (Vec Finished Global)} (
     → (b : Behind) → taken.1 ≡ (k, b) ∷ rest taken.1 → out ≡ (taken.0, (k, without_content b) ∷ rest taken.1) → IsPass out.0 out.1 strand spares flags ended
 is_pass_taken {flags} {ended} v slots strand spares k cpu taken out pass took b slot left =
     let b_is : b ≡ took.behind = same_behind taken.1 k b took.behind (rest taken.1) slots slot (ap (λ (z : Seated). z.1) took.after_is) in
-    let out_is : out ≡ (holding took.hold v, (k, without_content took.behind) ∷ slots) = left ∙ (λ i. ((took.after_is i).0, (k, without_content (b_is i)) ∷ rest (took.after_is i).1)) in
+    let out_is : out ≡ (holding took.at took.hold v, (k, without_content took.behind) ∷ slots) = left ∙ (λ i. ((took.after_is i).0, (k, without_content (b_is i)) ∷ rest (took.after_is i).1)) in
     subst (λ (z : Seated). IsPass z.0 z.1 strand spares flags ended) (sym out_is) record {
       carries = (sym took.lock, refl, took.reads.kept, pass.carries);
       strand_is = pass.strand_is;
@@ -61,6 +65,37 @@ is_pass_taken {flags} {ended} v slots strand spares k cpu taken out pass took b 
       within = pass.within;
       ended_within = pass.ended_within;
       hands_real = pass.hands_real;
+    }
+
+-- what a caller with a pass knows then
+pub takes_of : (t : TableView) (lock : DomainId) (before after : PassView) (here : Content) (k cpu : ℕ) (old taken out : Seated) (b : Behind) → IsTrue (is_lock t.shape lock) → HandsReal old.0.shape old.0.cpus old.0.hand → before.view.shape ≡ t.shape → k ≡ lock_number t.shape lock → cpu ≡ before.cpu → old.0 ≡ before.view
+    → Took k cpu old taken → taken.1 ≡ (k, b) ∷ rest taken.1 → Some here ≡ b.content → out ≡ (taken.0, (k, without_content b) ∷ rest taken.1) → after ≡ with_view before out.0 → Takes t lock before after here
+takes_of t lock before after here k cpu old taken out b is real before_shape k_is cpu_is old_is took slot content_is left after_is =
+    let b_is : b ≡ took.behind = same_behind taken.1 k b took.behind (rest taken.1) old.1 slot (ap (λ (z : Seated). z.1) took.after_is) in
+    let shape_is : old.0.shape ≡ t.shape = ap (λ (v : View). v.shape) old_is ∙ before_shape in
+    let named : lock_named t.shape k ≡ lock = ap (lock_named t.shape) k_is ∙ named_by_number t.shape lock is in
+    let here_is : took.reads.here ≡ here = some_is (sym took.reads.content_is ∙ (ap (λ (x : Behind). x.content) (sym b_is) ∙ sym content_is)) in
+    let content_then : content old.0.shape (lock_named old.0.shape k) took.hold.log ≡ content t.shape lock took.hold.log = ap (λ (z : Shape). content z (lock_named z k) took.hold.log) shape_is ∙ ap (λ (d : DomainId). content t.shape d took.hold.log) named in
+    let told_then : told here ≡ content t.shape lock took.hold.log = ap told (sym here_is) ∙ (took.reads.told_is ∙ content_then) in
+    let view_is : after.view ≡ taken.0 = ap (λ (z : PassView). z.view) after_is ∙ ap (λ (z : Seated). z.0) left in
+    record {
+      hold = took.hold;
+      lock_is = took.lock ∙ k_is;
+      cpu_is = took.cpu_is ∙ cpu_is;
+      at = took.at;
+      after_is = after_is ∙ (ap (λ (z : Seated). with_view before z.0) left ∙ (ap (λ (z : Seated). with_view before z.0) took.after_is ∙ ap (λ (v : View). with_view before (holding took.at took.hold v)) old_is));
+      told_is = told_then;
+      fits = subst (λ (z : Content). Fits t.shape lock z) here_is (subst (λ (d : DomainId). Fits t.shape d took.reads.here) named (subst (λ (z : Shape). Fits z (lock_named z k) took.reads.here) shape_is took.reads.fits));
+      now = took.now ∙ ap lists_of (content_then ∙ sym told_then);
+      elements = subst (λ (z : Shape). AreElements z took.hold.now) shape_is took.elements;
+      apart = subst (λ (v : View). IsApartFromHands v lock took.hold.now) old_is (subst (λ (d : DomainId). IsApartFromHands old.0 d took.hold.now) named (subst (λ (z : Shape). IsApartFromHands old.0 (lock_named z k) took.hold.now) shape_is took.apart));
+      legal = subst (λ (d : DomainId). IsLegal t.shape d took.hold.log) named (subst (λ (z : Shape). IsLegal z (lock_named z k) took.hold.log) shape_is took.legal);
+      known = λ log found. took.known log ((λ i. known_log (k_is i) ((old_is i).known)) ∙ found);
+      at_home = λ e c within found. took.at_home e c lock (subst (λ (z : Shape). c < z.cpus) (sym shape_is) within) (ap (λ (v : View). home_known e c v.readings) (sym view_is) ∙ found) (ap (λ (z : Shape). lock_number z lock) shape_is ∙ sym k_is);
+      lives = λ lru own e c mine in_hand at.
+          let held : is_in_hand_of e c old.0.hand ≡ true = ap (λ (v : View). is_in_hand_of e c v.hand) old_is ∙ in_hand in
+          took.lives (ap (λ (z : Shape). is_lru z.kind) shape_is ∙ lru) (ap (λ (z : Shape). z.common) shape_is ∙ own) e c (real e c held).0 (ap (λ (v : View). is_among c v.cpus) old_is ∙ mine) held
+          (ap (λ (z : Shape). lock_number z (CpuLru (set_of z e))) shape_is ∙ (ap (lock_number t.shape) (sym at) ∙ sym k_is));
     }
 
 -- what a pass carries for the lock that it took last
@@ -155,7 +190,8 @@ may_give t lock p here part can key v found entry e strand now recorded key_is v
       may_put = may_put_at t.shape key p.view v hold (entry_of p part) e here key_is v_is (e_is ∙ entry_is) can.may_put;
       records = subst (λ (z : List StrandStep × DomainId × Entry). MatchOption recorded.history (now ≡ z.0) (λ u. (hold.lost ≡ false) × (u.items ≡ hold.log ++ z.2 ∷ []) × (now ≡ z.0 ++ recorded_step z.1 (length hold.log) ∷ [])))
           (λ i. (strand_kept i, sym named i, sym e_is i)) (one_more found.history lock entry strand now recorded hold.lost hold.log kept records);
-      noted = subst (λ (z : Part × List Notes). InnermostFits z.0 z.1) (λ i. (ap (λ (y : Entry). y.part) (sym (e_is ∙ entry_is)) i, sym (ap (λ (z : View). z.notes) v_is ∙ can.notes_are) i)) can.notes_fit.seen;
+      noted = subst (λ (z : Shape × View × Part × List Notes). InnermostFits z.0 z.1 hold z.2 z.3)
+          (λ i. (sym key_is i, sym v_is i, ap (λ (y : Entry). y.part) (sym (e_is ∙ entry_is)) i, sym (ap (λ (z : View). z.notes) v_is ∙ can.notes_are) i)) can.notes_fit;
     }
 
 -- and with nothing recorded
@@ -166,13 +202,13 @@ may_lose t lock p here part can key v key_is v_is = record {
   content_is = refl;
   may_put = may_put_at t.shape key p.view v can.hold (entry_of p part) (entry_of p part) here key_is v_is refl can.may_put;
   records = refl;
-  noted = subst (InnermostFits part) (sym (ap (λ (z : View). z.notes) v_is ∙ can.notes_are)) can.notes_fit.seen;
+  noted = subst (λ (z : Shape × View × List Notes). InnermostFits z.0 z.1 can.hold part z.2) (λ i. (sym key_is i, sym v_is i, sym (ap (λ (z : View). z.notes) v_is ∙ can.notes_are) i)) can.notes_fit;
 }
 
 -- a pass once its lock is given back
-is_pass_back : {flags : List Bool} {ended : Option (Vec Finished Global)} (v : View) (slots : List (ℕ × Behind)) (strand now : List StrandStep) (spares : List (Option Stored)) (hold : Hold) (entry : Entry) (kept : List StrandStep) (lost : List ℕ) (after : Seated) → IsPass v slots strand spares flags ended
-    → after ≡ (with_lost lost (given hold entry kept v), rest slots) → now ≡ kept → IsPass after.0 after.1 now spares flags ended
-is_pass_back {flags} {ended} v slots strand now spares hold entry kept lost after pass after_is now_is =
+is_pass_back : {flags : List Bool} {ended : Option (Vec Finished Global)} (v : View) (slots : List (ℕ × Behind)) (strand now : List StrandStep) (spares : List (Option Stored)) (at : ℕ) (hold : Hold) (entry : Entry) (kept : List StrandStep) (lost : List ℕ) (after : Seated) → IsPass v slots strand spares flags ended
+    → after ≡ (with_lost lost (given at hold entry kept v), rest slots) → now ≡ kept → IsPass after.0 after.1 now spares flags ended
+is_pass_back {flags} {ended} v slots strand now spares at hold entry kept lost after pass after_is now_is =
     subst (λ (z : Seated). IsPass z.0 z.1 now spares flags ended) (sym after_is) record {
       carries = carries_below v.held slots pass.carries;
       strand_is = now_is;
@@ -187,15 +223,15 @@ is_pass_back {flags} {ended} v slots strand now spares hold entry kept lost afte
 pub is_pass_given : {flags : List Bool} {ended : Option (Vec Finished Global)} (v : View) (slots : List (ℕ × Behind)) (strand now : List StrandStep) (spares : List (Option Stored)) (entry : Entry) (kept : List StrandStep) (put after : Seated) → IsPass v slots strand spares flags ended
     → put.0 ≡ v → rest put.1 ≡ rest slots → Gives entry kept put after → now ≡ kept → IsPass after.0 after.1 now spares flags ended
 is_pass_given v slots strand now spares entry kept put after pass put_is below_is gives now_is =
-    let after_is : after ≡ (given gives.hold entry kept v, rest slots) = gives.after_is ∙ (λ i. (given gives.hold entry kept (put_is i), below_is i)) in
-    is_pass_back v slots strand now spares gives.hold entry kept v.lost after pass after_is now_is
+    let after_is : after ≡ (given gives.at gives.hold entry kept v, rest slots) = gives.after_is ∙ (λ i. (given gives.at gives.hold entry kept (put_is i), below_is i)) in
+    is_pass_back v slots strand now spares gives.at gives.hold entry kept v.lost after pass after_is now_is
 
 -- and the same without a part
 pub is_pass_lost : {flags : List Bool} {ended : Option (Vec Finished Global)} (v : View) (slots : List (ℕ × Behind)) (strand : List StrandStep) (spares : List (Option Stored)) (cpu call : ℕ) (put after : Seated) → IsPass v slots strand spares flags ended
     → put.0 ≡ v → rest put.1 ≡ rest slots → GivesSome cpu call put after → IsPass after.0 after.1 strand spares flags ended
 is_pass_lost v slots strand spares cpu call put after pass put_is below_is gives =
-    let after_is : after ≡ (losing gives.hold (entry_by cpu call gives.part) v, rest slots) = gives.after_is ∙ (λ i. (losing gives.hold (entry_by cpu call gives.part) (put_is i), below_is i)) in
-    is_pass_back v slots strand strand spares gives.hold (entry_by cpu call gives.part) v.kept (gives.hold.lock ∷ v.lost) after pass after_is pass.strand_is
+    let after_is : after ≡ (losing gives.at gives.hold (entry_by cpu call gives.part) v, rest slots) = gives.after_is ∙ (λ i. (losing gives.at gives.hold (entry_by cpu call gives.part) (put_is i), below_is i)) in
+    is_pass_back v slots strand strand spares gives.at gives.hold (entry_by cpu call gives.part) v.kept (gives.hold.lock ∷ v.lost) after pass after_is pass.strand_is
 
 pub gave_of : (before after : PassView) (part : Part) (entry : Entry) (kept : List StrandStep) (put given_seat : Seated) → put.0 ≡ before.view → entry ≡ entry_of before part → Gives entry kept put given_seat → after ≡ with_view before given_seat.0 → Gave before after part
 gave_of before after part entry kept put given_seat put_is entry_is gives after_is = record {
@@ -204,7 +240,8 @@ gave_of before after part entry kept put given_seat put_is entry_is gives after_
   innermost = ap (λ (z : View). z.held) (sym put_is) ∙ gives.innermost;
   kept = kept;
   kept_is = subst (λ (z : View). IsKeptOrLost z gives.hold kept) put_is gives.kept_is;
-  after_is = after_is ∙ (ap (λ (z : Seated). with_view before z.0) gives.after_is ∙ (λ i. with_view before (given gives.hold (entry_is i) kept (put_is i))));
+  at = gives.at;
+  after_is = after_is ∙ (ap (λ (z : Seated). with_view before z.0) gives.after_is ∙ (λ i. with_view before (given gives.at gives.hold (entry_is i) kept (put_is i))));
 }
 
 -- a lock was given back with nothing recorded, by a part that could be given
@@ -230,9 +267,10 @@ gave_some_of t lock before after here part can put given_seat behind k put_is sl
         there = can.there;
         lock_is = ap (λ (z : Hold). z.lock) same_hold ∙ can.lock_is;
         may_put = may;
-        notes_fit = subst (λ (z : Shape). NotesFit z some.part some.notes) shape_is some.notes_fit;
+        notes_fit = subst (λ (z : Shape × View). NotesFit z.0 z.1 some.hold some.part some.notes) (λ i. (shape_is i, put_is i)) some.notes_fit;
       };
-      after_is = after_is ∙ (ap (λ (z : Seated). with_view before z.0) some.after_is ∙ ap (λ (z : View). with_view before (losing some.hold (entry_of before some.part) z)) put_is);
+      at = some.at;
+      after_is = after_is ∙ (ap (λ (z : Seated). with_view before z.0) some.after_is ∙ ap (λ (z : View). with_view before (losing some.at some.hold (entry_of before some.part) z)) put_is);
     }
   where
     same_head : {A : Type 0} {x y : A} {xs ys : List A} → x ∷ xs ≡ y ∷ ys → x ≡ y
@@ -257,7 +295,8 @@ saw_owner t e before after old new found owner is of_table old_is sees has code 
     record {
       exists_there = subst (λ (z : Shape × Owner). MayOwn z.0 z.1) (λ i. (shape_is i, same i)) sees.exists_there;
       fits = subst (λ (z : Shape × View × Owner). OwnerFits z.0 z.1 e z.2) (λ i. (shape_is i, old_is i, same i)) sees.fits;
-      after_is = after_is ∙ (ap (λ (z : Seated). with_view before z.0) sees.after_is ∙ (λ i. with_view before (owner_read e (same i) (old_is i))));
+      at = sees.at;
+      after_is = after_is ∙ (ap (λ (z : Seated). with_view before z.0) sees.after_is ∙ (λ i. with_view before (owner_read sees.at e (same i) (old_is i))));
     }
 
 -- the CPU of a pass is one of the sixteen at most that a map has

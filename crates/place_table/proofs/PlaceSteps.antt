@@ -9,6 +9,7 @@ use Rattle.atomic_table.proofs.Lists.{at_set}
 use Rattle.map_types.specs.declared.attr.Shape.{Shape}
 use Rattle.map_types.specs.declared.kind.DomainId.{DomainId}
 use Rattle.place_words.specs.declared.home.Home.{Home}
+use Rattle.place_words.specs.declared.home.Home.TheVariants as homed
 use Rattle.place_words.specs.declared.owner.Owner.{Owner}
 use Rattle.place_words.specs.declared.owner.Owner.TheVariants as owned
 use Rattle.place_words.specs.Codes.{owner_code, home_code}
@@ -24,19 +25,21 @@ use Rattle.place_table.specs.declared.content.Behind.{Behind}
 use Rattle.place_table.specs.declared.view.View.{View}
 use Rattle.place_table.specs.declared.view.Hold.{Hold}
 use Rattle.place_table.specs.declared.view.InHand.{InHand}
-use Rattle.place_table.specs.Views.{hold_at, now_at, with_now, with_places, home_known, kept_readings, touching, is_among}
-use Rattle.place_table.specs.Rules.{World, Rule, Knows, HashesRight, AtHome, Ascends, entries, hold, hold_of, is_hand_of, is_home_of, StillHome, IsReading, AreNoted}
+use Rattle.place_table.specs.declared.view.HashIn.{HashIn}
+use Rattle.place_table.specs.declared.view.Notes.{Notes}
+use Rattle.place_table.specs.Views.{hold_at, now_at, with_now, with_places, home_known, hash_known, kept_hashes, kept_readings, touching, is_among, is_in_hand_of, came_at}
+use Rattle.place_table.specs.Rules.{World, Rule, Knows, HashesRight, AtHome, Ascends, entries, hold, hold_of, is_hand_of, is_home_of, StillHome, IsReading, IsHashOf, IsHashed, AreNoted}
 use Rattle.place_table.specs.Words.{owner_word, home_word, bit_word}
 use Rattle.map_types.specs.Kind.{is_lru}
 use Rattle.place_table.proofs.StoredHashes.{kept_known}
 use Rattle.place_table.proofs.Hands.{now_at_is, hold_at_now, hold_at_else, AreInHands, IsOwnerOfPass, IsHomeOfPass, not_their_owner, not_their_home}
-use Rattle.place_table.proofs.Worlds.{true_false, hold_of_mine, IsMineOrFree, hold_of_other, HoldIs, hold_of_is, others, lock_still_lost, past_stays, tagged_stays, SameStrands}
+use Rattle.place_table.proofs.Worlds.{true_false, hold_of_mine, IsMineOrFree, hold_of_other, HoldIs, hold_of_is, others, IsAway, lock_still_lost, past_stays, tagged_stays, SameStrands}
 use Rattle.place_table.proofs.Readings.{kept_home}
 use Rattle.place_table.specs.declared.view.HomeIn.{HomeIn}
-use Rattle.place_table.proofs.StepLog.{touches_with, lead_with, of_strands_with, strand_with, past_same, other_same}
+use Rattle.place_table.proofs.StepLog.{made, time_more, givers_other, touches_with, lead_with, of_strands_with, strand_with, past_same, other_same}
 use Rattle.place_table.specs.declared.view.WordStep.{WordStep}
 use Rattle.place_table.proofs.Locks.{there}
-use Rattle.place_table.proofs.NotesDone.{noted_more}
+use Rattle.place_table.proofs.NotesDone.{word_off, noted_more}
 
 -- a CPU of the pass holds the lock
 pub record IsHeldByPass (w : World) (pass k : ℕ) : Type 0 where
@@ -69,8 +72,14 @@ held_moved w pass k lists held now are by_pass m =
 abbrev pub core_moved : World → (ℕ → Lists) → (ℕ → Owner) → (ℕ → Home) → cores.State
 core_moved w lists owner home = record { holder = w.core.holder; lists = lists; owner = owner; home = home; bit = w.core.bit }
 
+-- these are the hashes of what is in hand, where these homes, hands, holds and notes are
+abbrev pub AreHashes : Shape → World → (ℕ → Home) → List InHand → List HashIn → List Hold → List Notes → Type 0
+AreHashes shape w home hand hashes held notes =
+    ((e c : ℕ) (noted : HashIn) → c < shape.cpus → hash_known e c hashes ≡ Some noted → IsHashOf shape w.hash hand e c noted.bucket)
+    × (IsTrue (is_lru shape.kind) → (e c : ℕ) (lock : DomainId) → e < shape.elements → c < shape.cpus → is_in_hand_of e c hand ≡ true → home e ≡ homed.In lock → IsHashed shape w.core.holder w.log w.hash hashes (came_at (lock_number shape lock) held notes) (lock_number shape lock) e c)
+
 -- What a step shows that changes places, and what the pass knows then.
-pub record MovesPlaces (shape : Shape) (w : World) (pass : ℕ) (lists : ℕ → Lists) (owner : ℕ → Owner) (home : ℕ → Home) (held : List Hold) (hand carried : List InHand) (readings : List HomeIn) : Type 0 where
+pub record MovesPlaces (shape : Shape) (w : World) (pass : ℕ) (lists : ℕ → Lists) (owner : ℕ → Owner) (home : ℕ → Home) (held : List Hold) (hand carried : List InHand) (readings : List HomeIn) (notes : List Notes) (noted : List HashIn) : Type 0 where
   pub under : (k : ℕ) → (lists k ≡ w.core.lists k) ⊎ IsHeldByPass w pass k
   pub owners : (e : ℕ) → (owner e ≡ w.core.owner e) ⊎ (IsOwnerOfPass w.whose pass (w.core.owner e) × IsOwnerOfPass w.whose pass (owner e))
   pub homes : (e : ℕ) → (home e ≡ w.core.home e) ⊎ (IsHomeOfPass w.whose pass (w.core.home e) × IsHomeOfPass w.whose pass (home e))
@@ -82,7 +91,9 @@ pub record MovesPlaces (shape : Shape) (w : World) (pass : ℕ) (lists : ℕ →
   pub ranked : Ranked shape (core_moved w lists owner home)
   pub hashes : IsTrue (is_lru shape.kind) → HashesRight shape w.core.holder lists owner w.log w.hash
   pub are_read : (e c : ℕ) (read : Home) → c < shape.cpus → home_known e c readings ≡ Some read → IsReading shape w.core.holder w.log home hand e c read
-  -- and what others read of what they have in hand
+  pub are_hashes : AreHashes shape w home hand noted held notes
+  -- and what others have in hand, and what they read of it
+  pub at_home : (e c : ℕ) (lock : DomainId) → e < shape.elements → w.core.owner e ≡ owned.Hand c → ¬ (w.whose c ≡ pass) → home e ≡ homed.In lock → (w.core.home e ≡ homed.In lock) ⊎ IsAway shape w.core.holder w.core.holder (w.core.home e) c lock
   pub still : (e c : ℕ) (read : Home) → w.core.owner e ≡ owned.Hand c → ¬ (w.whose c ≡ pass) → StillHome shape w.core.holder w.log e (w.core.home e) read → StillHome shape w.core.holder w.log e (home e) read
 
 module _ (shape : Shape) (s : State Behind View) (r : Rule shape s) (pass : ℕ) (v : View) (at_pass : get_elem? s.views pass ≡ some v) (lists : ℕ → Lists) (owner : ℕ → Owner) (home : ℕ → Home) where
@@ -102,23 +113,24 @@ module _ (shape : Shape) (s : State Behind View) (r : Rule shape s) (pass : ℕ)
   }
 
   -- the word i becomes n, by a CPU of the pass
-  pub place_rule : (i n : ℕ) (c : ℕ) (mine : is_among c v.cpus ≡ true) (held : List Hold) (hand carried : List InHand) (readings : List HomeIn) (cs : List (ℕ × Behind)) → lock_count shape ≤ i → i < bit_word shape 0
+  pub place_rule : (i n : ℕ) (c : ℕ) (mine : is_among c v.cpus ≡ true) (held : List Hold) (hand carried : List InHand) (readings : List HomeIn) (notes : List Notes) (hashes : List HashIn) (cs : List (ℕ × Behind)) → lock_count shape ≤ i → i < bit_word shape 0
       → ((e : ℕ) → e < shape.elements → get_or (set s.words i n) (owner_word shape e) 0 ≡ owner_code (owner e))
       → ((e : ℕ) → e < shape.elements → get_or (set s.words i n) (home_word shape e) 0 ≡ home_code (home e))
-      → AreNoted shape v.touched held v.notes
-      → MovesPlaces shape r.world pass lists owner home held hand carried readings
-      → (after : Rule shape (stepped s i n pass cs (with_places held hand carried readings (touching i None n v) v) keeps)) × (after.world.core ≡ core_moved r.world lists owner home)
+      → AreNoted shape v.touched held notes
+      → MovesPlaces shape r.world pass lists owner home held hand carried readings notes hashes
+      → (after : Rule shape (stepped s i n pass cs (record (with_places held hand carried readings notes (touching (made r.world) i None n v) v) { hashes = hashes }) keeps)) × (after.world.core ≡ core_moved r.world lists owner home)
   unfolding moved_world
-  place_rule i n c mine held hand carried readings cs above below owner_words home_words are_noted moves =
-      let x : WordStep = record { word = i; seen = None; left = n } in
-      let w = r.world in let w' : World = moved_world w x in
+  place_rule i n c mine held hand carried readings notes hashes cs above below owner_words home_words are_noted moves =
+      let w = r.world in
+      let x : WordStep = record { at = made w; word = i; seen = None; left = n } in
+      let w' : World = moved_world w x in
       let kn = r.knows pass v at_pass in
-      let nv : View = with_places held hand carried readings (touching i None n v) v in
+      let nv : View = record (with_places held hand carried readings notes (touching (made w) i None n v) v) { hashes = hashes } in
       let same : SameStrands w w' = record { keeper = λ _. refl; team = λ _. refl; next = refl; current = λ _. refl; past = λ _. refl; whose = λ _. refl; still = λ _ z. z } in (
         record {
           world = w';
           is_shape = r.is_shape;
-          plain = r.plain;
+          own_lists = r.own_lists;
           words = length-set s.words i n ∙ r.words;
           slots = r.slots;
           lock_words = λ k real. get_or-set_other s.words i k n 0 (λ y. omega arith) ∙ r.lock_words k real;
@@ -135,6 +147,8 @@ module _ (shape : Shape) (s : State Behind View) (r : Rule shape s) (pass : ℕ)
               (moves.under k);
           seated = λ c less. subst (λ (z : ℕ). w.whose c < z) (sym (length-set s.views pass nv)) (r.seated c less);
           tagged = λ k. tagged_stays w w' (length s.views) (length (set s.views pass nv)) (w.log k) (sym (length-set s.views pass nv)) same (r.tagged k);
+          in_time = time_more w.touches (w.current pass, x) r.in_time refl;
+          gave_back = λ k real. givers_other k w.touches (w.current pass, x) (λ at _. omega arith) ∙ r.gave_back k real;
           lead = lead_with shape s r (w.current pass) x (omega (arith, r.words, below)) tt;
           of_strands = of_strands_with shape w pass v kn x w' (length s.views) (length (set s.views pass nv)) (there s.views pass v at_pass) (sym (length-set s.views pass nv)) same r.of_strands;
           knows = λ j u f. ⊎_elim
@@ -146,13 +160,14 @@ module _ (shape : Shape) (s : State Behind View) (r : Rule shape s) (pass : ℕ)
                 ascends = moves.ascends;
                 hands = moves.in_hands;
                 carried = moves.are_carried;
-                hashes = λ x d b within found. let k = kept_known x d b hand v.hashes found in let is = kn.hashes x d b within k.0 in record { in_hand = k.1; bucket_is = is.bucket_is };
+                hashes = moves.are_hashes.0;
+                hashed = moves.are_hashes.1;
                 readings = moves.are_read;
                 known = kn.known;
                 bits = kn.bits;
                 only = kn.only;
                 losses = λ k among. lock_still_lost shape w w' k (λ lo. lo) (kn.losses k among);
-                noted = noted_more shape v.touched (x ∷ []) held v.notes are_noted;
+                noted = noted_more shape v.touched (x ∷ []) held notes are_noted (word_off shape v.touched x held notes are_noted above);
                 strand = strand_with shape w pass v kn x w' same (λ _. refl) (λ _ z. z) refl;
                 past = past_stays shape w w' pass (w.past pass) v.ended same (λ _ _ _ _. refl) (λ _ z. z) (λ t among _. past_same shape w pass v kn x t among) kn.past;
                 apart = kn.apart;
@@ -178,6 +193,7 @@ module _ (shape : Shape) (s : State Behind View) (r : Rule shape s) (pass : ℕ)
               ku.known
               ku.bits
               (λ _ _ _ _. refl)
+              (λ e c lock e_real in_hand theirs at. moves.at_home e c lock e_real in_hand (λ ours. t.0 (sym theirs ∙ ours)) at)
               (λ tag own. other_same shape w pass v kn x j tag t.0 own)
               (λ e c read _ in_hand theirs still. moves.still e c read in_hand (λ ours. t.0 (sym theirs ∙ ours)) still))
               (at_set s.views pass j nv u f);
@@ -189,6 +205,11 @@ module _ (shape : Shape) (s : State Behind View) (r : Rule shape s) (pass : ℕ)
 pub readings_kept : (shape : Shape) (w : World) (pass : ℕ) (v : View) (kn : Knows shape w pass v) (hand : List InHand) → (e c : ℕ) (read : Home) → c < shape.cpus → home_known e c (kept_readings hand v.readings) ≡ Some read → IsReading shape w.core.holder w.log w.core.home hand e c read
 readings_kept shape w pass v kn hand e c read within found =
     let k = kept_home e c read hand v.readings found in let was = kn.readings e c read within k.0 in record { real = was.real; in_hand = k.1; still = was.still }
+
+-- hashes of what is still in hand
+pub hashes_kept : (shape : Shape) (w : World) (pass : ℕ) (v : View) (kn : Knows shape w pass v) (hand : List InHand) → (e c : ℕ) (noted : HashIn) → c < shape.cpus → hash_known e c (kept_hashes hand v.hashes) ≡ Some noted → IsHashOf shape w.hash hand e c noted.bucket
+hashes_kept shape w pass v kn hand e c noted within found =
+    let k = kept_known e c noted hand v.hashes found in record { in_hand = k.1; bucket_is = (kn.hashes e c noted within k.0).bucket_is }
 
 -- a lock that the pass knows to be held
 module _ (shape : Shape) (s : State Behind View) (r : Rule shape s) (pass : ℕ) (v : View) (at_pass : get_elem? s.views pass ≡ some v) (k : ℕ) (h : Hold) (found : hold_at k v.held ≡ Some h) where

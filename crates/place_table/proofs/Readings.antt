@@ -16,6 +16,7 @@ use Rattle.place_words.specs.Histories.{content, content_after, opening_content,
 use Rattle.place_words.specs.Histories as histories
 use Rattle.place_words.specs.Locks.{is_lock, lock_named, lock_number, rank_of}
 use Rattle.place_words.specs.Openings.{is_free}
+use Rattle.place_words.specs.Takings.{set_of}
 use Rattle.place_words.proofs.HistoryLemmas.{content_more}
 use Rattle.place_words.proofs.LockLemmas.{named_by_number, number_of_named}
 use Rattle.place_core.specs.declared.step.Lists.{Lists}
@@ -452,6 +453,25 @@ module _ (shape : Shape) (holder : ℕ → Option ℕ) (lists : ℕ → Lists) (
       go (carried x) is =
           let lru : is_lru shape.kind ≡ true = evicts (place e) (is_lru shape.kind) refl is_home in
           absurd (no_hand x (sym (ap (home_of_place shape) is ∙ ap (λ (b : Bool). cond b (homes.Hand x) homes.Unlisted) lru) ∙ is_home))
+
+  -- where each CPU has a list set of its own, its home is the set where it lives
+  pub home_in_set : (e : ℕ) → e < shape.elements → is_lru shape.kind ≡ true → shape.common ≡ false → home e ≡ homes.In (CpuLru (set_of shape e))
+  home_in_set e real lru own = p.homes e real ∙ in_set (place e) (p.places e real)
+    where
+      its_lock : (lock : DomainId) → MayLieUnder shape e lock → lock ≡ CpuLru (set_of shape e)
+      its_lock (Local c) may = true_false (sym (both_true shape.common (nat_lt c shape.cpus) may).0 ∙ own)
+      its_lock Global may = true_false (sym may ∙ own)
+      its_lock (CpuLru c) may = ap CpuLru may.1
+      its_lock (Bucket b) may = absurd may
+      its_lock (Freelist c) may = true_false (sym (both_true (not (is_lru shape.kind)) (nat_lt c shape.cpus) may).0 ∙ ap not lru)
+
+      in_set : (x : Place) → MayLie shape e (owner e) x → home_of_place shape x ≡ homes.In (CpuLru (set_of shape e))
+      in_set (lies k) may = ap (λ (b : Bool). cond b (homes.In (lock_named shape k)) homes.Unlisted) lru ∙ ap homes.In (its_lock (lock_named shape k) may)
+      in_set (carried c) may = true_false (sym may.0 ∙ own)
+
+  -- and it is listed there
+  pub listed_in_set : (e : ℕ) → e < shape.elements → is_free (owner e) ≡ false → is_lru shape.kind ≡ true → shape.common ≡ false → IsIn e (rows (lists (lock_number shape (CpuLru (set_of shape e)))))
+  listed_in_set e real not_free lru own = listed_at_home e (CpuLru (set_of shape e)) real not_free (home_in_set e real lru own)
 
   module _ (h : Hold) (now : h.now ≡ lists h.lock) where
     pub then_still : (e c : ℕ) (old : Home) → e < shape.elements → owner e ≡ owners.Hand c → StillHome shape holder log e (home e) old → StillHome shape holder log e (home e) (home_then shape h e old)

@@ -1,24 +1,29 @@
 -- A CPU is split off to a new pass.
 use Rattle.std.proofs.Common.{◌≡◌, ◌≢◌, ℕ, suc, ◌<◌, ⊎_elim, inl, eqb, cond, Bool, true, false, List, [], ◌∷◌, ◌++◌, length, set, sym, refl, ap, ◌∙◌, subst, arith, Option, Some, None, length-set, length-append}
-use Rattle.std.specs.Prelude.{◌&&◌}
+use Rattle.std.specs.Prelude.{◌&&◌, IsTrue}
 use lib.ListN.{get_elem?}
 use mathlib.Core.Option.{some}
 use Rattle.atomic_table.specs.Table.{State, Splits}
 use Rattle.atomic_table.proofs.Lists.{at_set}
 use Rattle.map_types.specs.declared.attr.Shape.{Shape}
 use Rattle.map_types.specs.ElementLists.{put}
+use Rattle.map_types.specs.Kind.{is_lru}
+use Rattle.map_types.specs.declared.kind.DomainId.{DomainId}
+use Rattle.place_words.specs.declared.home.Home.TheVariants as homes
+use Rattle.place_words.specs.Locks.{lock_number}
+use Rattle.place_table.specs.declared.view.Hold.{Hold}
 use Rattle.place_core.specs.declared.step.Lists.{Lists}
 use Rattle.place_core.proofs.ElementLemmas.{by_test, at_put, put_here, put_else}
 use Rattle.place_table.specs.declared.content.Behind.{Behind}
 use Rattle.place_table.specs.declared.view.View.{View}
 use Rattle.place_table.specs.declared.view.InHand.{InHand}
-use Rattle.place_table.specs.Views.{is_among, hold_at, is_in_hand_of, without_cpu, in_hand_of, in_other_hands, all_strands, split_from, split_off}
-use Rattle.place_table.specs.Rules.{Tagged, World, hold, hold_of, is_hand_of, is_home_of, IsStrand, ArePast, Knows, Rule}
-use Rattle.place_table.proofs.StoredHashes.{kept_known}
-use Rattle.place_table.proofs.Worlds.{true_false, none_some, has_mine, lock_still_lost}
+use Rattle.place_table.specs.Views.{is_among, hold_at, is_in_hand_of, kept_hashes, came_at, without_cpu, in_hand_of, in_other_hands, all_strands, split_from, split_off}
+use Rattle.place_table.specs.Rules.{Tagged, World, hold, hold_of, is_hand_of, is_home_of, IsStrand, ArePast, IsHashed, Knows, Rule}
+use Rattle.place_table.proofs.StoredHashes.{kept_there}
+use Rattle.place_table.proofs.Worlds.{true_false, none_some, has_mine, lock_still_lost, hashed_stands}
 use Rattle.place_table.proofs.Locks.{there}
 use Rattle.place_table.proofs.StrandMoves.{at_more, no_turns_yet, no_touches_yet, of_strands_move, SameTurns, GoesTo, StaysListed, strand_moves, past_moves, tagged_moves, done, past_done, among_done, fresh_done, is_one, not_one}
-use Rattle.place_table.proofs.PlaceSteps.{readings_kept}
+use Rattle.place_table.proofs.PlaceSteps.{readings_kept, hashes_kept}
 
 -- CPUs and hands without one CPU, and of one CPU alone
 
@@ -160,6 +165,15 @@ module _ (shape : Shape) (id c : ℕ) (v : View) (cpu : is_among c v.cpus ≡ tr
       (λ _. others_same e c hand ∙ sym (ap (λ t. F c && t) (not_one n id (λ f. apart (sym f))) ∙ and_false (F c)))
       (λ other is. others_other e d c hand other ∙ is other) own
 
+  -- what is known of stored hashes goes with the hand
+  hashed_apart : (w : World) → Knows shape w id v → IsTrue (is_lru shape.kind) → (hand : List InHand) (e d : ℕ) (lock : DomainId) → e < shape.elements → d < shape.cpus → is_in_hand_of e d v.hand ≡ true → is_in_hand_of e d hand ≡ true → w.core.home e ≡ homes.In lock
+      → IsHashed shape w.core.holder w.log w.hash (kept_hashes hand v.hashes) [] (lock_number shape lock) e d
+  hashed_apart w kn lru hand e d lock real within was there at =
+      let k : ℕ = lock_number shape lock in
+      hashed_stands shape w.core.holder w.core.holder w.log w.log w.hash w.hash v.hashes (kept_hashes hand v.hashes) (came_at k v.held v.notes) [] k e d
+      (λ i on. (on, refl)) (λ on. on) refl (kept_there e d hand v.hashes there)
+      (λ inside. ap (λ (l : List Hold). is_among e (came_at k l v.notes)) (sym no_lock) ∙ inside) (kn.hashed lru e d lock real within was at)
+
   -- the new pass
   right : (s : State Behind View) (r : Rule shape s) → get_elem? s.views id ≡ some v → Knows shape (cut r.world (length s.views)) (length s.views) (split_off c v)
   unfolding cut
@@ -175,7 +189,10 @@ module _ (shape : Shape) (id c : ℕ) (v : View) (cpu : is_among c v.cpus ≡ tr
         noted = tt;
         hands = λ e d less. hand_right w n e d (λ i. is_hand_of i (w.core.owner e)) v.hand mine (λ _. r.seated d less) (kn.hands e c (kn.within c cpu));
         carried = λ e d less. hand_right w n e d (λ i. is_home_of i (w.core.home e)) v.carried mine (λ _. r.seated d less) (kn.carried e c (kn.within c cpu));
-        hashes = λ e d b within found. let k = kept_known e d b (in_hand_of c v.hand) v.hashes found in record { in_hand = k.1; bucket_is = (kn.hashes e d b within k.0).bucket_is };
+        hashes = hashes_kept shape w id v kn (in_hand_of c v.hand);
+        hashed = λ lru e d lock real within in_hand at. by_test d c (λ _. IsHashed shape w.core.holder w.log w.hash (kept_hashes (in_hand_of c v.hand) v.hashes) [] (lock_number shape lock) e d)
+            (λ same. hashed_apart w kn lru (in_hand_of c v.hand) e d lock real within (ap (λ (z : ℕ). is_in_hand_of e z v.hand) same ∙ (sym (own_same e c v.hand) ∙ (ap (λ (z : ℕ). is_in_hand_of e z (in_hand_of c v.hand)) (sym same) ∙ in_hand))) in_hand at)
+            (λ other. true_false (sym in_hand ∙ own_other e d c v.hand other));
         readings = readings_kept shape w id v kn (in_hand_of c v.hand);
         known = λ k log f. absurd (none_some f);
         bits = λ e bit f. absurd (none_some f);
@@ -214,7 +231,10 @@ module _ (shape : Shape) (id c : ℕ) (v : View) (cpu : is_among c v.cpus ≡ tr
         noted = tt;
         hands = λ e d less. hand_left w n e d (λ i. is_hand_of i (w.core.owner e)) v.hand apart (λ _. kn.hands e d less);
         carried = λ e d less. hand_left w n e d (λ i. is_home_of i (w.core.home e)) v.carried apart (λ _. kn.carried e d less);
-        hashes = λ e d b within found. let k = kept_known e d b (in_other_hands c v.hand) v.hashes found in record { in_hand = k.1; bucket_is = (kn.hashes e d b within k.0).bucket_is };
+        hashes = hashes_kept shape w id v kn (in_other_hands c v.hand);
+        hashed = λ lru e d lock real within in_hand at. by_test d c (λ _. IsHashed shape w.core.holder w.log w.hash (kept_hashes (in_other_hands c v.hand) v.hashes) [] (lock_number shape lock) e d)
+            (λ same. true_false (sym in_hand ∙ (ap (λ (z : ℕ). is_in_hand_of e z (in_other_hands c v.hand)) same ∙ others_same e c v.hand)))
+            (λ other. hashed_apart w kn lru (in_other_hands c v.hand) e d lock real within (sym (others_other e d c v.hand other) ∙ in_hand) in_hand at);
         readings = readings_kept shape w id v kn (in_other_hands c v.hand);
         known = λ k log f. absurd (none_some f);
         bits = λ e bit f. absurd (none_some f);
@@ -249,7 +269,8 @@ module _ (shape : Shape) (id c : ℕ) (v : View) (cpu : is_among c v.cpus ≡ tr
         noted = ku.noted;
         hands = λ e d less. ku.hands e d less ∙ ap (λ b. is_hand_of d (w.core.owner e) && b) (sym (theirs w n j d mine not_id not_new));
         carried = λ e d less. ku.carried e d less ∙ ap (λ b. is_home_of d (w.core.home e) && b) (sym (theirs w n j d mine not_id not_new));
-        hashes = λ e d b within found. ku.hashes e d b within found;
+        hashes = λ e d noted within found. ku.hashes e d noted within found;
+        hashed = ku.hashed;
         readings = ku.readings;
         known = ku.known;
         bits = ku.bits;
@@ -296,7 +317,7 @@ module _ (shape : Shape) (id c : ℕ) (v : View) (cpu : is_among c v.cpus ≡ tr
       let w' : World = cut w n in record {
         world = w';
         is_shape = r.is_shape;
-        plain = r.plain;
+        own_lists = r.own_lists;
         words = r.words;
         slots = r.slots;
         lock_words = r.lock_words;
@@ -311,6 +332,8 @@ module _ (shape : Shape) (id c : ℕ) (v : View) (cpu : is_among c v.cpus ≡ tr
         seated = λ d less. at_put w.whose c n (λ i x. i < shape.cpus → x < length (set s.views id (split_from c v) ++ split_off c v ∷ [])) d (λ _. omega (arith, long)) (λ _ b. let q = r.seated d b in omega (arith, long)) less;
         tagged = λ k. tagged_moves w w' n (length (set s.views id (split_from c v) ++ split_off c v ∷ [])) (w.log k)
             (λ t below old among. subst (λ (z : ℕ). StaysListed w w' z t) (sym long) (listed_on w n t here below old among)) (r.tagged k);
+        in_time = r.in_time;
+        gave_back = r.gave_back;
         lead = r.lead;
         of_strands = of_strands_move w w' n (length (set s.views id (split_from c v) ++ split_off c v ∷ [])) w.touches
             (λ t below old among. subst (λ (z : ℕ). StaysListed w w' z t) (sym long) (listed_on w n t here below old among)) r.of_strands;

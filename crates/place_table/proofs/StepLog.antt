@@ -1,6 +1,7 @@
 -- One step more on a word, of the current strand of a pass.
-use Rattle.std.proofs.Common.{◌≡◌, ◌≢◌, ℕ, ◌<◌, true, false, List, [], ◌∷◌, ◌++◌, length, get_or, set, sym, refl, ap, ◌∙◌, subst, Some, get_or-set_other, get_or-set_same}
-use Rattle.std.specs.Prelude.{MatchBool}
+use Rattle.std.proofs.Common.{◌≡◌, ◌≢◌, ℕ, suc, ◌+◌, ◌<◌, eqb, cond, arith, true, false, List, [], ◌∷◌, ◌++◌, length, get_or, set, sym, refl, ap, ◌∙◌, subst, Some, get_or-set_other, get_or-set_same}
+use Rattle.std.specs.Prelude.{MatchBool, ◌&&◌}
+use Rattle.std.proofs.lemmas.Bool.{eqb-true}
 use Rattle.atomic_table.specs.Table.{State}
 use Rattle.map_types.specs.declared.attr.Shape.{Shape}
 use Rattle.place_core.proofs.ElementLemmas.{by_test}
@@ -9,9 +10,9 @@ use Rattle.place_table.specs.declared.view.View.{View}
 use Rattle.place_table.specs.declared.view.WordStep.{WordStep}
 use Rattle.place_table.specs.Views.{is_among}
 use Rattle.place_table.specs.Words.{word_count, opening_words}
-use Rattle.place_table.specs.Rules.{World, Rule, Knows, Touch, touches_of, turns_of, IsSeen, LeadTo, IsStrand, AreOfStrands, AreReads}
+use Rattle.place_table.specs.Rules.{World, Rule, Knows, Tagged, Touch, AreInTime, givers, strands_of, touches_of, turns_of, IsSeen, LeadTo, IsStrand, AreOfStrands, AreReads}
 use Rattle.place_table.proofs.Entries.{touches_of_same, touches_of_other}
-use Rattle.place_table.proofs.Worlds.{true_false, among_first, SameStrands, of_strands_stay, of_strands_more}
+use Rattle.place_table.proofs.Worlds.{true_false, by_bool, both_true, among_first, SameStrands, of_strands_stay, of_strands_more}
 
 -- What leads a word on
 
@@ -36,6 +37,41 @@ lead_set i from words xs t x inside seen lead =
     (λ same. subst (LeadTo i from (xs ++ (t, x) ∷ [])) (sym (ap (λ (z : ℕ). get_or (set words x.word x.left) z 0) (sym same) ∙ get_or-set_same words x.word x.left 0 inside))
     (lead_here i from (get_or words i 0) xs t x same lead (subst (λ (z : ℕ). IsSeen x.seen (get_or words z 0)) same seen)))
     (λ other. subst (LeadTo i from (xs ++ (t, x) ∷ [])) (sym (get_or-set_other words x.word i x.left 0 (λ same. other (sym same)))) (lead_else i from (get_or words i 0) xs t x other lead))
+
+-- In the order in which they were made
+
+-- the number of the next step
+abbrev pub made : World → ℕ
+made w = length w.touches
+
+time_from : (n : ℕ) (xs : List Touch) (x : Touch) → AreInTime n xs → x.1.at ≡ length xs + n → AreInTime n (xs ++ x ∷ [])
+time_from n [] x are next = (omega (arith, next), tt)
+time_from n (y ∷ ys) x are next = (are.0, time_from (suc n) ys x are.1 (let later : x.1.at ≡ length ys + suc n = omega (arith, next) in later))
+
+pub time_more : (xs : List Touch) (x : Touch) → AreInTime 0 xs → x.1.at ≡ length xs → AreInTime 0 (xs ++ x ∷ [])
+time_more xs x are next = time_from 0 xs x are (omega (arith, next))
+
+-- The strands that gave a lock back
+
+pub givers_other : (k : ℕ) (xs : List Touch) (x : Touch) → (x.1.word ≡ k → x.1.left ≡ 0 → ⊥) → givers k (xs ++ x ∷ []) ≡ givers k xs
+givers_other k [] x other =
+    by_bool (eqb x.1.word k && eqb x.1.left 0) (λ b. (eqb x.1.word k && eqb x.1.left 0) ≡ b → cond {A = List ℕ} b (x.0 ∷ []) [] ≡ [])
+    (λ _ is. let parts = both_true _ _ is in absurd (other (eqb-true x.1.word k parts.0) (eqb-true x.1.left 0 parts.1))) (λ _ _. refl) refl
+givers_other k (y ∷ ys) x other =
+    ap (λ (l : List ℕ). cond {A = List ℕ} (eqb y.1.word k && eqb y.1.left 0) (y.0 ∷ l) l) (givers_other k ys x other)
+
+pub givers_here : (k : ℕ) (xs : List Touch) (x : Touch) → x.1.word ≡ k → x.1.left ≡ 0 → givers k (xs ++ x ∷ []) ≡ givers k xs ++ x.0 ∷ []
+givers_here k [] x at zero_left =
+    by_test x.1.word k (λ b. cond {A = List ℕ} (b && eqb x.1.left 0) (x.0 ∷ []) [] ≡ x.0 ∷ [])
+    (λ _. by_test x.1.left 0 (λ b. cond {A = List ℕ} b (x.0 ∷ []) [] ≡ x.0 ∷ []) (λ _. refl) (λ n. absurd (n zero_left))) (λ n. absurd (n at))
+givers_here k (y ∷ ys) x at zero_left =
+    let rest = givers_here k ys x at zero_left in
+    by_bool (eqb y.1.word k && eqb y.1.left 0) (λ b. cond {A = List ℕ} b (y.0 ∷ givers k (ys ++ x ∷ [])) (givers k (ys ++ x ∷ [])) ≡ cond {A = List ℕ} b (y.0 ∷ givers k ys) (givers k ys) ++ x.0 ∷ [])
+    (λ _. ap (λ (l : List ℕ). y.0 ∷ l) rest) (λ _. rest)
+
+pub strands_more : (log : List Tagged) (x : Tagged) → strands_of (log ++ x ∷ []) ≡ strands_of log ++ x.0 ∷ []
+strands_more [] x = refl
+strands_more (y ∷ ys) x = ap (λ (l : List ℕ). y.0 ∷ l) (strands_more ys x)
 
 -- The steps of the strands
 

@@ -33,8 +33,8 @@ use Rattle.place_table.specs.declared.view.InHand.{InHand}
 use Rattle.place_table.specs.declared.view.HashIn.{HashIn}
 use Rattle.place_table.specs.Contents.{told, lists_of, Fits}
 use Rattle.place_table.specs.StoredHashes.{stored_in}
-use Rattle.place_table.specs.Views.{is_in_hand_of, bucket_known, kept_hashes, hash_given, hashes_given}
-use Rattle.place_table.specs.Rules.{Tagged, entries, IsFresh, HashesRight, HasRow, IsBrought}
+use Rattle.place_table.specs.Views.{is_among, is_in_hand_of, hash_known, bucket_known, kept_hashes, hash_given, hashes_given}
+use Rattle.place_table.specs.Rules.{Tagged, entries, IsFresh, HashesRight, HasRow, IsBrought, IsHashed, HasHash, HasCome}
 use Rattle.place_table.proofs.Worlds.{by_bool, true_false, some_is, none_some, both_true}
 
 -- What a row tells
@@ -58,23 +58,58 @@ pub stored_no_bucket : (shape : Shape) (lock : DomainId) (here : Content) (e h :
 unfolding stored_in
 stored_no_bucket shape lock (contents.Bucket chain) e h fits is = absurd (none_some is)
 stored_no_bucket shape lock (contents.Freelist freelist) e h fits is = absurd (none_some is)
+stored_no_bucket shape (Local c) (contents.Set set) e h fits is = refl
+stored_no_bucket shape Global (contents.Set set) e h fits is = refl
+stored_no_bucket shape (CpuLru c) (contents.Set set) e h fits is = refl
+stored_no_bucket shape (Bucket b) (contents.Set set) e h fits is = absurd fits
+stored_no_bucket shape (Freelist c) (contents.Set set) e h fits is = refl
+
+-- and one of their elements has a hash
+is_stored : (e : ℕ) (rows : List Row) → IsIn e (elements_of rows) → (h : ℕ) × (stored_hash e rows ≡ Some h)
+is_stored e [] inside = absurd (let none : 0 < 0 = inside in omega arith)
+is_stored e (row ∷ rows) inside =
+    by_test row.element e (λ b. 0 < cond b (suc (times e (elements_of rows))) (times e (elements_of rows)) → (h : ℕ) × (option_map (λ (r : Row). r.hash) (cond b (Some row) (find (λ (r : Row). r.element == e) rows)) ≡ Some h))
+    (λ _ _. (row.hash, refl)) (λ _ later. is_stored e rows later) inside
 
 pub listed_stored : (shape : Shape) (lock : DomainId) (here : Content) (e : ℕ) → Fits shape lock here → IsFalse (is_bucket lock) → IsIn e (rows (lists_of (told here))) → (h : ℕ) × (stored_in (told here) e ≡ Some h)
+unfolding stored_in
 listed_stored shape (Bucket b) here e fits no_bucket inside = absurd cc
 listed_stored shape (Freelist c) (contents.Freelist freelist) e fits no_bucket inside = let none_there : 0 < 0 = inside in absurd (omega arith)
 listed_stored shape (Freelist c) (contents.Bucket chain) e fits no_bucket inside = absurd fits
+listed_stored shape (Freelist c) (contents.Set set) e fits no_bucket inside = absurd fits
 listed_stored shape (Local c) (contents.Bucket chain) e fits no_bucket inside = absurd fits
 listed_stored shape (Local c) (contents.Freelist freelist) e fits no_bucket inside = absurd fits
+listed_stored shape (Local c) (contents.Set set) e fits no_bucket inside = absurd fits
 listed_stored shape Global (contents.Bucket chain) e fits no_bucket inside = absurd fits
 listed_stored shape Global (contents.Freelist freelist) e fits no_bucket inside = absurd fits
+listed_stored shape Global (contents.Set set) e fits no_bucket inside = absurd fits
 listed_stored shape (CpuLru c) (contents.Bucket chain) e fits no_bucket inside = absurd fits
 listed_stored shape (CpuLru c) (contents.Freelist freelist) e fits no_bucket inside = absurd fits
+listed_stored shape (CpuLru c) (contents.Set set) e fits no_bucket inside =
+    is_stored e (set.active ++ set.inactive) (subst (IsIn e) (sym (map-append (λ (row : Row). row.element) set.active set.inactive)) inside)
 
--- no content that the table has is of rows with hashes
-pub none_stored : (here : Content) (e n : ℕ) → stored_in (told here) e ≡ Some n → ⊥
+-- the locks of buckets and freelists, under which no row has a hash
+abbrev pub HasNoHashes : DomainId → Type 0
+HasNoHashes (Local c) = ⊥
+HasNoHashes Global = ⊥
+HasNoHashes (CpuLru c) = ⊥
+HasNoHashes (Bucket b) = Unit {0}
+HasNoHashes (Freelist c) = Unit {0}
+
+pub none_stored : (shape : Shape) (lock : DomainId) (here : Content) (e n : ℕ) → HasNoHashes lock → Fits shape lock here → stored_in (told here) e ≡ Some n → ⊥
 unfolding stored_in
-none_stored (contents.Bucket chain) e n is = none_some is
-none_stored (contents.Freelist freelist) e n is = none_some is
+none_stored shape lock (contents.Bucket chain) e n no_hashes fits is = none_some is
+none_stored shape lock (contents.Freelist freelist) e n no_hashes fits is = none_some is
+none_stored shape (Local c) (contents.Set set) e n no_hashes fits is = no_hashes
+none_stored shape Global (contents.Set set) e n no_hashes fits is = no_hashes
+none_stored shape (CpuLru c) (contents.Set set) e n no_hashes fits is = no_hashes
+none_stored shape (Bucket b) (contents.Set set) e n no_hashes fits is = fits
+none_stored shape (Freelist c) (contents.Set set) e n no_hashes fits is = fits
+
+-- something is noted of the stored hash of an element in the hand of a CPU
+pub record IsNoted (e c : ℕ) (hashes : List HashIn) : Type 0 where
+  pub noted : HashIn
+  pub last : hash_known e c hashes ≡ Some noted
 
 -- the stored hash once a lock is given back
 abbrev pub renewed : Bool → Option ℕ → ℕ → ℕ
@@ -101,17 +136,19 @@ lies_on shape lists owner home place p k e no_bucket inside =
 same_lies : (i j : ℕ) → lies i ≡ lies j → i ≡ j
 same_lies i j e = cc
 
--- A lock that this CPU holds, the last that it took, is given back with a content whose rows have new hashes only for what is in
--- the CPU's hand.
+-- A lock that this CPU holds, the last that it took, is given back with a content whose rows have new hashes only for what came in
+-- the turn and is in the CPU's hand.
 module _ (shape : Shape) (holder : ℕ → Option ℕ) (lists : ℕ → Lists) (owner : ℕ → Owner) (home : ℕ → Home) (place : ℕ → Place) (p : PlacedAt shape lists owner home place) (log : ℕ → List Tagged) (hash : ℕ → ℕ) (right : HashesRight shape holder lists owner log hash)
     (k cpu : ℕ) (held : holder k ≡ Some cpu) (here : Content) (fits : Fits shape (lock_named shape k) here) (l' : List Tagged) (new_is : content shape (lock_named shape k) (entries l') ≡ told here)
     (same_rows : (e : ℕ) → times e (rows (lists_of (told here))) ≡ times e (rows (lists k)))
     (innermost : (m : ℕ) → m ≢ k → holder m ≡ Some cpu → rank_of (lock_named shape m) < rank_of (lock_named shape k))
-    (kept : (j e h n : ℕ) → owner e ≢ owners.Hand cpu → holder j ≡ Some cpu → stored_in (content shape (lock_named shape j) (entries (log j))) e ≡ Some h → stored_in (told here) e ≡ Some n → h ≡ n) where
+    (fresh : ℕ → Bool) (fresh_is : (e : ℕ) → fresh e ≡ true → owner e ≡ owners.Hand cpu)
+    (rowed : (e : ℕ) → fresh e ≡ false → owner e ≡ owners.Hand cpu → IsIn e (rows (lists k)) → HasRow shape log hash k e ⊎ IsBrought shape holder log hash k e)
+    (kept : (j e h n : ℕ) → fresh e ≡ false → holder j ≡ Some cpu → stored_in (content shape (lock_named shape j) (entries (log j))) e ≡ Some h → stored_in (told here) e ≡ Some n → h ≡ n) where
   pub was_listed : (e n : ℕ) → stored_in (told here) e ≡ Some n → IsIn e (rows (lists k))
   was_listed e n is = let inside = stored_listed (told here) e n is in let same = same_rows e in omega (arith, same)
 
-  pub hash_stays : (e : ℕ) → owner e ≢ owners.Hand cpu → renewed true (stored_in (told here) e) (hash e) ≡ hash e
+  pub hash_stays : (e : ℕ) → fresh e ≡ false → renewed true (stored_in (told here) e) (hash e) ≡ hash e
   hash_stays e other = go (stored_in (told here) e) refl
     where
       go : (found : Option ℕ) → stored_in (told here) e ≡ found → renewed true found (hash e) ≡ hash e
@@ -119,11 +156,12 @@ module _ (shape : Shape) (holder : ℕ → Option ℕ) (lists : ℕ → Lists) (
       go (Some n) is =
           let no_bucket = stored_no_bucket shape (lock_named shape k) here e n fits is in
           let listed = was_listed e n is in
-          ⊎_elim
-          (λ (had : HasRow shape log hash k e). sym (kept k e (hash e) n other held had.stored is))
+          let by_row : HasRow shape log hash k e → n ≡ hash e = λ had. sym (kept k e (hash e) n other held had.stored is) in
+          let by_lock : IsBrought shape holder log hash k e → n ≡ hash e = λ brought. sym (kept brought.from e (hash e) n other (brought.holds ∙ (sym brought.held ∙ held)) brought.row.stored is) in
+          ⊎_elim by_row
           (⊎_elim
-          (λ (fresh : IsFresh holder owner k e). absurd (other (fresh.in_hand ∙ ap owners.Hand (some_is (sym fresh.held ∙ held)))))
-          (λ (brought : IsBrought shape holder log hash k e). sym (kept brought.from e (hash e) n other (brought.holds ∙ (sym brought.held ∙ held)) brought.row.stored is)))
+          (λ (f : IsFresh holder owner k e). ⊎_elim by_row by_lock (rowed e other (f.in_hand ∙ ap owners.Hand (some_is (sym f.held ∙ held))) listed))
+          by_lock)
           (right.have k e no_bucket listed)
 
   abbrev IsListed : ℕ → ℕ → Type 0
@@ -135,9 +173,64 @@ module _ (shape : Shape) (holder : ℕ → Option ℕ) (lists : ℕ → Lists) (
     stored = ap (λ (l : List Tagged). stored_in (content shape (lock_named shape m) (entries l)) e) (put_else log k l' m ne) ∙ (had.stored ∙ ap Some (sym same));
   }
 
+  elsewhere : (m e : ℕ) → IsFalse (is_bucket (lock_named shape m)) → m ≢ k → IsIn e (all_of (lists m)) → (found : Option ℕ) → stored_in (told here) e ≡ found → renewed true found (hash e) ≡ hash e
+  elsewhere m e nb ne inside None is = refl
+  elsewhere m e nb ne inside (Some n) is =
+      let no_bucket = stored_no_bucket shape (lock_named shape k) here e n fits is in
+      let there = lies_on shape lists owner home place p k e no_bucket (in_all e (lists k) (was_listed e n is)) in
+      absurd (ne (same_lies m k (sym (lies_on shape lists owner home place p m e nb inside) ∙ there)))
+
+  -- and so does what is brought from one that is still held
+  brought_stays : (m e : ℕ) → m ≢ k → renewed true (stored_in (told here) e) (hash e) ≡ hash e → IsBrought shape holder log hash m e → IsBrought shape (put holder k None) (put log k l') (λ x. renewed true (stored_in (told here) x) (hash x)) m e
+  brought_stays m e ne same brought =
+      let holds : put holder k None m ≡ holder m = put_else holder k None m ne in
+      by_test brought.from k (λ _. IsBrought shape (put holder k None) (put log k l') (λ x. renewed true (stored_in (told here) x) (hash x)) m e)
+      (λ is_k.
+      let cpu_is : brought.cpu ≡ cpu = some_is (sym brought.holds ∙ (ap holder is_k ∙ held)) in
+      let above = innermost m ne (brought.held ∙ ap Some cpu_is) in
+      let low : rank_of (lock_named shape k) < rank_of (lock_named shape m) = subst (λ (z : ℕ). rank_of (lock_named shape z) < rank_of (lock_named shape m)) is_k brought.low in
+      absurd (omega (arith, above, low)))
+      (λ other. record { cpu = brought.cpu; from = brought.from; held = holds ∙ brought.held; holds = put_else holder k None brought.from other ∙ brought.holds; low = brought.low; row = row_stays brought.from e other same brought.row })
+
+  -- what a pass knows of the stored hash of what is in the hand of a CPU
+  pub hashed_gave : (hashes hashes' : List HashIn) (came came' : List ℕ) (m e c : ℕ) → IsFalse (is_bucket (lock_named shape m)) → IsIn e (rows (lists m))
+      → ((noted : HashIn) → hash_known e c hashes ≡ Some noted → IsNoted e c hashes') → (c ≡ cpu → is_among e came ≡ true → m ≡ k → (n : ℕ) → stored_in (told here) e ≡ Some n → IsNoted e c hashes') → (m ≢ k → came' ≡ came)
+      → IsHashed shape holder log hash hashes came m e c → IsHashed shape (put holder k None) (put log k l') (λ x. renewed true (stored_in (told here) x) (hash x)) hashes' came' m e c
+  hashed_gave hashes hashes' came came' m e c nb inside noted given same_came is = record {
+    from = ⊎_elim
+        (λ (gave : HasHash true hashes e c). has_hash (noted gave.noted gave.last))
+        (⊎_elim
+        (λ (off : HasHash false hashes e c). has_hash (noted off.noted off.last))
+        (λ (come : HasCome holder came m e c). by_test m k (λ _. HasHash true hashes' e c ⊎ (HasHash false hashes' e c ⊎ HasCome (put holder k None) came' m e c))
+        (λ same.
+        let at_k : IsIn e (rows (lists_of (told here))) = (let there : IsIn e (rows (lists k)) = subst (λ (z : ℕ). IsIn e (rows (lists z))) same inside in let counted = same_rows e in omega (arith, counted)) in
+        let row = listed_stored shape (lock_named shape k) here e fits (subst (λ (z : ℕ). IsFalse (is_bucket (lock_named shape z))) same nb) at_k in
+        has_hash (given (some_is (sym come.held ∙ (ap holder same ∙ held))) come.inside same row.0 row.1))
+        (λ ne. inr (inr (comes ne come)))))
+        is.from;
+    row = λ held'. by_test m k (λ _. HasRow shape (put log k l') (λ x. renewed true (stored_in (told here) x) (hash x)) m e ⊎ (IsBrought shape (put holder k None) (put log k l') (λ x. renewed true (stored_in (told here) x) (hash x)) m e ⊎ HasCome (put holder k None) came' m e c))
+        (λ same. absurd (none_some (sym (ap (put holder k None) same ∙ put_here holder k None) ∙ held')))
+        (λ ne.
+        let stays : renewed true (stored_in (told here) e) (hash e) ≡ hash e = elsewhere m e nb ne (in_all e (lists m) inside) (stored_in (told here) e) refl in
+        ⊎_elim
+        (λ (had : HasRow shape log hash m e). inl (row_stays m e ne stays had))
+        (⊎_elim
+        (λ (brought : IsBrought shape holder log hash m e). inr (inl (brought_stays m e ne stays brought)))
+        (λ (come : HasCome holder came m e c). inr (inr (comes ne come))))
+        (is.row (sym (put_else holder k None m ne) ∙ held')));
+  }
+    where
+      comes : m ≢ k → HasCome holder came m e c → HasCome (put holder k None) came' m e c
+      comes ne come = record { held = put_else holder k None m ne ∙ come.held; inside = ap (is_among e) (same_came ne) ∙ come.inside }
+
+      has_hash : IsNoted e c hashes' → HasHash true hashes' e c ⊎ (HasHash false hashes' e c ⊎ HasCome (put holder k None) came' m e c)
+      has_hash is = by_bool is.noted.given (λ t. is.noted.given ≡ t → HasHash true hashes' e c ⊎ (HasHash false hashes' e c ⊎ HasCome (put holder k None) came' m e c))
+          (λ _ yes. inl record { noted = is.noted; last = is.last; given_is = yes })
+          (λ _ no. inr (inl record { noted = is.noted; last = is.last; given_is = no })) refl
+
   pub hashes_gave : HashesRight shape (put holder k None) (put lists k (lists_of (told here))) owner (put log k l') (λ e. renewed true (stored_in (told here) e) (hash e))
   hashes_gave = record {
-    in_bucket = λ e b is. ap (λ (h : ℕ). bucket_number h shape.buckets) (hash_stays e (λ in_hand. not_both b cpu (sym is ∙ in_hand))) ∙ right.in_bucket e b is;
+    in_bucket = λ e b is. ap (λ (h : ℕ). bucket_number h shape.buckets) (hash_stays e (by_bool (fresh e) (λ t. t ≡ false) (λ yes. absurd (not_both b cpu (sym is ∙ fresh_is e yes))) (λ _. refl))) ∙ right.in_bucket e b is;
     have = λ m e no_bucket inside. by_test m k (λ _. IsListed m e)
         (λ same. subst (λ (z : ℕ). IsListed z e) (sym same) (at_k e (subst (λ (z : ℕ). IsFalse (is_bucket (lock_named shape z))) same no_bucket)
         (subst (λ (l : Lists). IsIn e (rows l)) (ap (put lists k (lists_of (told here))) same ∙ put_here lists k (lists_of (told here))) inside)))
@@ -146,13 +239,6 @@ module _ (shape : Shape) (holder : ℕ → Option ℕ) (lists : ℕ → Lists) (
     where
       not_both : (b c : ℕ) → owners.Bucket b ≡ owners.Hand c → ⊥
       not_both b c e = cc
-
-      elsewhere : (m e : ℕ) → IsFalse (is_bucket (lock_named shape m)) → m ≢ k → IsIn e (all_of (lists m)) → (found : Option ℕ) → stored_in (told here) e ≡ found → renewed true found (hash e) ≡ hash e
-      elsewhere m e nb ne inside None is = refl
-      elsewhere m e nb ne inside (Some n) is =
-          let no_bucket = stored_no_bucket shape (lock_named shape k) here e n fits is in
-          let there = lies_on shape lists owner home place p k e no_bucket (in_all e (lists k) (was_listed e n is)) in
-          absurd (ne (same_lies m k (sym (lies_on shape lists owner home place p m e nb inside) ∙ there)))
 
       at_k : (e : ℕ) → IsFalse (is_bucket (lock_named shape k)) → IsIn e (rows (lists_of (told here))) → IsListed k e
       at_k e nb inside =
@@ -169,74 +255,120 @@ module _ (shape : Shape) (holder : ℕ → Option ℕ) (lists : ℕ → Lists) (
           (λ (had : HasRow shape log hash m e). inl (row_stays m e ne same had))
           (⊎_elim
           (λ (fresh : IsFresh holder owner m e). inr (inl record { cpu = fresh.cpu; held = holds ∙ fresh.held; in_hand = fresh.in_hand }))
-          (λ (brought : IsBrought shape holder log hash m e). by_test brought.from k (λ _. IsListed m e)
-          (λ is_k.
-          let cpu_is : brought.cpu ≡ cpu = some_is (sym brought.holds ∙ (ap holder is_k ∙ held)) in
-          let above = innermost m ne (brought.held ∙ ap Some cpu_is) in
-          let low : rank_of (lock_named shape k) < rank_of (lock_named shape m) = subst (λ (z : ℕ). rank_of (lock_named shape z) < rank_of (lock_named shape m)) is_k brought.low in
-          absurd (omega (arith, above, low)))
-          (λ other. inr (inr record { cpu = brought.cpu; from = brought.from; held = holds ∙ brought.held; holds = put_else holder k None brought.from other ∙ brought.holds; low = brought.low; row = row_stays brought.from e other same brought.row }))))
+          (λ (brought : IsBrought shape holder log hash m e). inr (inr (brought_stays m e ne same brought))))
           (right.have m e nb inside)
 
 -- What passes know
 
-pub kept_known : (e c b : ℕ) (hand : List InHand) (hashes : List HashIn) → bucket_known e c (kept_hashes hand hashes) ≡ Some b → (bucket_known e c hashes ≡ Some b) × (is_in_hand_of e c hand ≡ true)
-kept_known e c b hand [] is = absurd (none_some is)
-kept_known e c b hand (x ∷ xs) is =
-    by_bool (is_in_hand_of x.element x.cpu hand) (λ t. bucket_known e c (cond t (x ∷ kept_hashes hand xs) (kept_hashes hand xs)) ≡ Some b → (bucket_known e c (x ∷ xs) ≡ Some b) × (is_in_hand_of e c hand ≡ true))
-    (λ there f. by_bool (eqb x.element e && eqb x.cpu c) (λ t. cond t (Some x.bucket) (bucket_known e c (kept_hashes hand xs)) ≡ Some b → (cond t (Some x.bucket) (bucket_known e c xs) ≡ Some b) × (is_in_hand_of e c hand ≡ true))
-    (λ same g. (g, same_hand same there)) (λ _ g. kept_known e c b hand xs g) f)
-    (λ gone f. by_bool (eqb x.element e && eqb x.cpu c) (λ t. (cond t (Some x.bucket) (bucket_known e c xs) ≡ Some b) × (is_in_hand_of e c hand ≡ true))
-    (λ same. true_false (sym (kept_known e c b hand xs f).1 ∙ same_none same gone))
-    (λ _. kept_known e c b hand xs f)) is
-  where
-    same_hand : (eqb x.element e && eqb x.cpu c) ≡ true → is_in_hand_of x.element x.cpu hand ≡ true → is_in_hand_of e c hand ≡ true
-    same_hand same there = let both = both_true _ _ same in ((λ i. is_in_hand_of (sym (eqb-true x.element e both.0) i) (sym (eqb-true x.cpu c both.1) i) hand)) ∙ there
+same_hand : (e c : ℕ) (x : HashIn) (hand : List InHand) → (eqb x.element e && eqb x.cpu c) ≡ true → is_in_hand_of e c hand ≡ is_in_hand_of x.element x.cpu hand
+same_hand e c x hand same = let both = both_true _ _ same in λ i. is_in_hand_of (sym (eqb-true x.element e both.0) i) (sym (eqb-true x.cpu c both.1) i) hand
 
-    same_none : (eqb x.element e && eqb x.cpu c) ≡ true → is_in_hand_of x.element x.cpu hand ≡ false → is_in_hand_of e c hand ≡ false
-    same_none same gone = let both = both_true _ _ same in ((λ i. is_in_hand_of (sym (eqb-true x.element e both.0) i) (sym (eqb-true x.cpu c both.1) i) hand)) ∙ gone
+pub kept_there : (e c : ℕ) (hand : List InHand) (hashes : List HashIn) → is_in_hand_of e c hand ≡ true → hash_known e c (kept_hashes hand hashes) ≡ hash_known e c hashes
+kept_there e c hand [] there = refl
+kept_there e c hand (x ∷ xs) there =
+    by_bool (is_in_hand_of x.element x.cpu hand) (λ t. hash_known e c (cond t (x ∷ kept_hashes hand xs) (kept_hashes hand xs)) ≡ hash_known e c (x ∷ xs))
+    (λ _. ap (cond (eqb x.element e && eqb x.cpu c) (Some x)) (kept_there e c hand xs there))
+    (λ gone. by_bool (eqb x.element e && eqb x.cpu c) (λ t. hash_known e c (kept_hashes hand xs) ≡ cond t (Some x) (hash_known e c xs))
+    (λ same. true_false (sym there ∙ (same_hand e c x hand same ∙ gone)))
+    (λ _. kept_there e c hand xs there))
+
+pub kept_known : (e c : ℕ) (noted : HashIn) (hand : List InHand) (hashes : List HashIn) → hash_known e c (kept_hashes hand hashes) ≡ Some noted → (hash_known e c hashes ≡ Some noted) × (is_in_hand_of e c hand ≡ true)
+kept_known e c noted hand [] is = absurd (none_some is)
+kept_known e c noted hand (x ∷ xs) is =
+    by_bool (is_in_hand_of x.element x.cpu hand) (λ t. hash_known e c (cond t (x ∷ kept_hashes hand xs) (kept_hashes hand xs)) ≡ Some noted → (hash_known e c (x ∷ xs) ≡ Some noted) × (is_in_hand_of e c hand ≡ true))
+    (λ there f. by_bool (eqb x.element e && eqb x.cpu c) (λ t. (eqb x.element e && eqb x.cpu c) ≡ t → cond t (Some x) (hash_known e c (kept_hashes hand xs)) ≡ Some noted → (cond t (Some x) (hash_known e c xs) ≡ Some noted) × (is_in_hand_of e c hand ≡ true))
+    (λ same _ g. (g, same_hand e c x hand same ∙ there)) (λ _ _ g. kept_known e c noted hand xs g) refl f)
+    (λ gone f. by_bool (eqb x.element e && eqb x.cpu c) (λ t. (cond t (Some x) (hash_known e c xs) ≡ Some noted) × (is_in_hand_of e c hand ≡ true))
+    (λ same. true_false (sym (kept_known e c noted hand xs f).1 ∙ (same_hand e c x hand same ∙ gone)))
+    (λ _. kept_known e c noted hand xs f)) is
+
+-- the bucket of a hash that was given is that of what was noted last
+pub bucket_noted : (e c b : ℕ) (hashes : List HashIn) → bucket_known e c hashes ≡ Some b → (noted : HashIn) × (hash_known e c hashes ≡ Some noted) × (noted.bucket ≡ b)
+bucket_noted e c b [] is = absurd (none_some is)
+bucket_noted e c b (x ∷ xs) is =
+    by_bool (eqb x.element e && eqb x.cpu c) (λ t. cond t (cond x.given (Some x.bucket) None) (bucket_known e c xs) ≡ Some b → (noted : HashIn) × (cond t (Some x) (hash_known e c xs) ≡ Some noted) × (noted.bucket ≡ b))
+    (λ _ f. (x, refl, by_bool x.given (λ t. cond t (Some x.bucket) None ≡ Some b → x.bucket ≡ b) (λ _ g. some_is g) (λ _ g. absurd (none_some g)) f))
+    (λ _ f. bucket_noted e c b xs f) is
 
 -- from a content that is given back
-pub record IsGiven (content : histories.Content) (buckets x c b : ℕ) (hand : List InHand) : Type 0 where
+pub record IsGiven (content : histories.Content) (buckets x c : ℕ) (noted : HashIn) (hand : List InHand) : Type 0 where
   pub hash : ℕ
   pub in_hand : is_in_hand_of x c hand ≡ true
   pub stored : stored_in content x ≡ Some hash
-  pub bucket_is : bucket_number hash buckets ≡ b
+  pub bucket_is : bucket_number hash buckets ≡ noted.bucket
 
-pub record IsOlder (content : histories.Content) (x c b : ℕ) (hand : List InHand) (hashes : List HashIn) : Type 0 where
-  pub known : bucket_known x c hashes ≡ Some b
-  pub none_stored : is_in_hand_of x c hand ≡ true → stored_in content x ≡ None
+pub record IsOlder (content : histories.Content) (cpu : ℕ) (came : List ℕ) (x c : ℕ) (noted : HashIn) (hand : List InHand) (hashes : List HashIn) : Type 0 where
+  pub known : hash_known x c hashes ≡ Some noted
+  pub none_stored : c ≡ cpu → is_in_hand_of x c hand ≡ true → is_among x came ≡ true → stored_in content x ≡ None
 
-pub given_known : (content : histories.Content) (buckets x c b : ℕ) (hand : List InHand) (hashes : List HashIn) → bucket_known x c (hashes_given buckets content hand hashes) ≡ Some b → IsGiven content buckets x c b hand ⊎ IsOlder content x c b hand hashes
-given_known content buckets x c b [] hashes found = inr record { known = found; none_stored = λ in_hand. true_false (sym in_hand) }
-given_known content buckets x c b (y ∷ ys) hashes found = go (stored_in content y.element) refl found (given_known content buckets x c b ys hashes)
-  where
-    Before : Type 0
-    Before = bucket_known x c (hashes_given buckets content ys hashes) ≡ Some b → IsGiven content buckets x c b ys ⊎ IsOlder content x c b ys hashes
+module _ (content : histories.Content) (cpu buckets : ℕ) (came : List ℕ) (x c : ℕ) (hashes : List HashIn) where
+  pub given_known : (noted : HashIn) (hand : List InHand) → hash_known x c (hashes_given cpu buckets content came hand hashes) ≡ Some noted → IsGiven content buckets x c noted hand ⊎ IsOlder content cpu came x c noted hand hashes
+  given_known noted [] found = inr record { known = found; none_stored = λ _ in_hand _. true_false (sym in_hand) }
+  given_known noted (y ∷ ys) found =
+      by_bool (eqb y.cpu cpu && is_among y.element came) (λ t. hash_known x c (cond t (hash_given buckets y (stored_in content y.element) (hashes_given cpu buckets content came ys hashes)) (hashes_given cpu buckets content came ys hashes)) ≡ Some noted → IsGiven content buckets x c noted (y ∷ ys) ⊎ IsOlder content cpu came x c noted (y ∷ ys) hashes)
+      (λ _ f. go (stored_in content y.element) refl f (given_known noted ys))
+      (λ other f. miss (eqb y.element x && eqb y.cpu c) refl
+      (λ is mine inside. let both = both_true _ _ is in
+      true_false (sym (all_here (eqb-true y.cpu c both.1 ∙ mine) (ap (λ (n : ℕ). is_among n came) (eqb-true y.element x both.0) ∙ inside)) ∙ other))
+      (given_known noted ys f)) found
+    where
+      all_here : {p : ℕ} {t : Bool} → p ≡ cpu → t ≡ true → (eqb p cpu && t) ≡ true
+      all_here {p} {t} same is = (λ i. eqb (same i) cpu && is i) ∙ by_test cpu cpu (λ b. (b && true) ≡ true) (λ _. refl) (λ other. absurd (other refl))
 
-    or_later : (t : Bool) → is_in_hand_of x c ys ≡ true → cond t true (is_in_hand_of x c ys) ≡ true
-    or_later true later = refl
-    or_later false later = later
+      Before : Type 0
+      Before = hash_known x c (hashes_given cpu buckets content came ys hashes) ≡ Some noted → IsGiven content buckets x c noted ys ⊎ IsOlder content cpu came x c noted ys hashes
 
-    miss : (t : Bool) → (eqb y.element x && eqb y.cpu c) ≡ t → (t ≡ true → stored_in content x ≡ None) → IsGiven content buckets x c b ys ⊎ IsOlder content x c b ys hashes → IsGiven content buckets x c b (y ∷ ys) ⊎ IsOlder content x c b (y ∷ ys) hashes
-    miss t is none_here before =
-        ⊎_elim
-        (λ (given : IsGiven content buckets x c b ys). inl record { hash = given.hash; in_hand = or_later (eqb y.element x && eqb y.cpu c) given.in_hand; stored = given.stored; bucket_is = given.bucket_is })
-        (λ (older : IsOlder content x c b ys hashes). inr record {
-          known = older.known;
-          none_stored = λ in_hand. by_bool t (λ u. t ≡ u → stored_in content x ≡ None) (λ yes _. none_here yes) (λ no _. older.none_stored (sym (ap (λ (u : Bool). cond u true (is_in_hand_of x c ys)) (is ∙ no)) ∙ in_hand)) refl;
-        })
-        before
+      or_later : (t : Bool) → is_in_hand_of x c ys ≡ true → cond t true (is_in_hand_of x c ys) ≡ true
+      or_later true later = refl
+      or_later false later = later
 
-    here : (eqb y.element x && eqb y.cpu c) ≡ true → stored_in content y.element ≡ stored_in content x
-    here is = ap (stored_in content) (eqb-true y.element x (both_true _ _ is).0)
+      miss : (t : Bool) → (eqb y.element x && eqb y.cpu c) ≡ t → (t ≡ true → c ≡ cpu → is_among x came ≡ true → stored_in content x ≡ None) → IsGiven content buckets x c noted ys ⊎ IsOlder content cpu came x c noted ys hashes → IsGiven content buckets x c noted (y ∷ ys) ⊎ IsOlder content cpu came x c noted (y ∷ ys) hashes
+      miss t is none_here before =
+          ⊎_elim
+          (λ (given : IsGiven content buckets x c noted ys). inl record { hash = given.hash; in_hand = or_later (eqb y.element x && eqb y.cpu c) given.in_hand; stored = given.stored; bucket_is = given.bucket_is })
+          (λ (older : IsOlder content cpu came x c noted ys hashes). inr record {
+            known = older.known;
+            none_stored = λ mine in_hand inside. by_bool t (λ u. t ≡ u → stored_in content x ≡ None) (λ yes _. none_here yes mine inside) (λ no _. older.none_stored mine (sym (ap (λ (u : Bool). cond u true (is_in_hand_of x c ys)) (is ∙ no)) ∙ in_hand) inside) refl;
+          })
+          before
 
-    go : (at : Option ℕ) → stored_in content y.element ≡ at → bucket_known x c (hash_given buckets y at (hashes_given buckets content ys hashes)) ≡ Some b → Before → IsGiven content buckets x c b (y ∷ ys) ⊎ IsOlder content x c b (y ∷ ys) hashes
-    go None at found before = miss (eqb y.element x && eqb y.cpu c) refl (λ is. sym (here is) ∙ at) (before found)
-    go (Some h) at found before =
-        by_bool (eqb y.element x && eqb y.cpu c) (λ t. (eqb y.element x && eqb y.cpu c) ≡ t → cond t (Some (bucket_number h buckets)) (bucket_known x c (hashes_given buckets content ys hashes)) ≡ Some b → IsGiven content buckets x c b (y ∷ ys) ⊎ IsOlder content x c b (y ∷ ys) hashes)
-        (λ yes _ f. inl record { hash = h; in_hand = ap (λ (u : Bool). cond u true (is_in_hand_of x c ys)) yes; stored = sym (here yes) ∙ at; bucket_is = some_is f })
-        (λ no _ f. miss false no (λ u. true_false (sym u)) (before f)) refl found
+      here : (eqb y.element x && eqb y.cpu c) ≡ true → stored_in content y.element ≡ stored_in content x
+      here is = ap (stored_in content) (eqb-true y.element x (both_true _ _ is).0)
+
+      go : (at : Option ℕ) → stored_in content y.element ≡ at → hash_known x c (hash_given buckets y at (hashes_given cpu buckets content came ys hashes)) ≡ Some noted → Before → IsGiven content buckets x c noted (y ∷ ys) ⊎ IsOlder content cpu came x c noted (y ∷ ys) hashes
+      go None at found before = miss (eqb y.element x && eqb y.cpu c) refl (λ is _ _. sym (here is) ∙ at) (before found)
+      go (Some h) at found before =
+          let new : HashIn = record { element = y.element; cpu = y.cpu; bucket = bucket_number h buckets; given = true } in
+          by_bool (eqb y.element x && eqb y.cpu c) (λ t. (eqb y.element x && eqb y.cpu c) ≡ t → cond t (Some new) (hash_known x c (hashes_given cpu buckets content came ys hashes)) ≡ Some noted → IsGiven content buckets x c noted (y ∷ ys) ⊎ IsOlder content cpu came x c noted (y ∷ ys) hashes)
+          (λ yes _ f. inl record { hash = h; in_hand = ap (λ (u : Bool). cond u true (is_in_hand_of x c ys)) yes; stored = sym (here yes) ∙ at; bucket_is = ap (λ (n : HashIn). n.bucket) (some_is f) })
+          (λ no _ f. miss false no (λ u _ _. true_false (sym u)) (before f)) refl found
+
+  -- something is noted then of what had something noted, and of what came and has a row there
+  given_more : (t : Bool) (y : InHand) (at : Option ℕ) (rest : List HashIn) → IsNoted x c rest → IsNoted x c (cond t (hash_given buckets y at rest) rest)
+  given_more false y at rest is = is
+  given_more true y None rest is = is
+  given_more true y (Some h) rest is =
+      let new : HashIn = record { element = y.element; cpu = y.cpu; bucket = bucket_number h buckets; given = true } in
+      by_bool (eqb y.element x && eqb y.cpu c) (λ t. cond t (Some new) (hash_known x c rest) ≡ hash_known x c (new ∷ rest) → IsNoted x c (new ∷ rest))
+      (λ _ same. record { noted = new; last = sym same })
+      (λ _ same. record { noted = is.noted; last = sym same ∙ is.last }) refl
+
+  pub given_kept : (hand : List InHand) → IsNoted x c hashes → IsNoted x c (hashes_given cpu buckets content came hand hashes)
+  given_kept [] is = is
+  given_kept (y ∷ ys) is = given_more (eqb y.cpu cpu && is_among y.element came) y (stored_in content y.element) (hashes_given cpu buckets content came ys hashes) (given_kept ys is)
+
+  pub given_new : (h : ℕ) (hand : List InHand) → is_in_hand_of x c hand ≡ true → c ≡ cpu → is_among x came ≡ true → stored_in content x ≡ Some h → IsNoted x c (hashes_given cpu buckets content came hand hashes)
+  given_new h [] in_hand mine inside stored = true_false (sym in_hand)
+  given_new h (y ∷ ys) in_hand mine inside stored =
+      let rest : List HashIn = hashes_given cpu buckets content came ys hashes in
+      let new : HashIn = record { element = y.element; cpu = y.cpu; bucket = bucket_number h buckets; given = true } in
+      by_bool (eqb y.element x && eqb y.cpu c) (λ t. (eqb y.element x && eqb y.cpu c) ≡ t → cond t true (is_in_hand_of x c ys) ≡ true → IsNoted x c (hashes_given cpu buckets content came (y ∷ ys) hashes))
+      (λ _ yes _.
+      let both = both_true _ _ yes in
+      let its : (eqb y.cpu cpu && is_among y.element came) ≡ true = (λ i. eqb (eqb-true y.cpu c both.1 i) cpu && is_among (eqb-true y.element x both.0 i) came) ∙ ((λ i. eqb (mine i) cpu && inside i) ∙ by_test cpu cpu (λ t. (t && true) ≡ true) (λ _. refl) (λ other. absurd (other refl))) in
+      let at : stored_in content y.element ≡ Some h = ap (stored_in content) (eqb-true y.element x both.0) ∙ stored in
+      record { noted = new; last = (λ i. hash_known x c (cond (its i) (hash_given buckets y (at i) rest) rest)) ∙ ap (λ (t : Bool). cond t (Some new) (hash_known x c rest)) yes })
+      (λ _ no later. given_more (eqb y.cpu cpu && is_among y.element came) y (stored_in content y.element) rest (given_new h ys later mine inside stored)) refl in_hand
 
 -- An element has another owner, and under one lock lie other lists.
 module _ (shape : Shape) (holder : ℕ → Option ℕ) (lists : ℕ → Lists) (owner : ℕ → Owner) (log : ℕ → List Tagged) (hash : ℕ → ℕ) (right : HashesRight shape holder lists owner log hash) (k e : ℕ) (new : Lists) (to : Owner) where

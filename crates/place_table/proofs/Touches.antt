@@ -1,5 +1,5 @@
 -- The steps on words, as those of the strands of one pass.
-use Rattle.std.proofs.Common.{◌≡◌, ℕ, ◌<◌, eqb, cond, Bool, true, false, List, [], ◌∷◌, length, get_or, sym, refl, ap, ◌∙◌, subst, Some}
+use Rattle.std.proofs.Common.{◌≡◌, ℕ, suc, ◌<◌, ◌≤◌, arith, eqb, cond, Bool, true, false, List, [], ◌∷◌, length, get_or, sym, refl, ap, ◌∙◌, subst, Some}
 use Rattle.std.specs.Prelude.{MatchBool}
 use Rattle.map_types.specs.declared.attr.Shape.{Shape}
 use Rattle.place_core.proofs.ElementLemmas.{by_test}
@@ -7,8 +7,8 @@ use Rattle.place_table.specs.declared.view.Ended.{Ended}
 use Rattle.place_table.specs.declared.view.WordStep.{WordStep}
 use Rattle.place_table.specs.Views.{is_among}
 use Rattle.place_table.specs.Words.{word_count, opening_words}
-use Rattle.place_table.specs.Rules.{World, Touch, touches_of, IsSeen, LeadTo, IsOfStrand, AreOfStrands, ArePast, AreReads}
-use Rattle.place_table.specs.Closing.{AreTouchesOf, AreBelow}
+use Rattle.place_table.specs.Rules.{World, Touch, AreInTime, touches_of, IsSeen, LeadTo, IsOfStrand, AreOfStrands, ArePast, AreReads}
+use Rattle.place_table.specs.Closing.{AreTouchesOf, AreInOrder, AreBelow}
 use Rattle.place_table.proofs.Worlds.{true_false, by_bool}
 use Rattle.place_table.proofs.StrandNumbers.{place_in, place_within, as_long, strand_here, other_false}
 
@@ -58,10 +58,18 @@ alike_on ts n number listed alike (x ∷ xs) =
     (λ among. ap (λ (l : List WordStep). cond {A = List WordStep} (eqb x.0 number) (x.1 ∷ l) l) rest ∙ ap (λ (b : Bool). cond {A = List WordStep} b (x.1 ∷ touches_of n (retagged ts xs)) (touches_of n (retagged ts xs))) (sym (alike x.0 among)))
     (λ out. ap (λ (b : Bool). cond {A = List WordStep} b (x.1 ∷ touches_of number xs) (touches_of number xs)) (sym (other_false x.0 number (λ same. true_false (sym listed ∙ (ap (λ (z : ℕ). is_among z ts) (sym same) ∙ out))))) ∙ rest)
 
-pub are_touches_of : (shape : Shape) (w : World) (pass passes : ℕ) (ts : List ℕ) (es : List Ended) (words : List ℕ) → ArePast shape w pass ts es → AreOfStrands w passes w.touches
+-- in the order in which they were made
+in_order : (n m : ℕ) (ts : List ℕ) (xs : List Touch) → n ≤ m → AreInTime m xs → AreInOrder n (retagged ts xs)
+in_order n m ts [] low are = tt
+in_order n m ts (x ∷ xs) low are =
+    by_bool (is_among x.0 ts) (λ b. AreInOrder n (cond b ((place_in x.0 ts, x.1) ∷ retagged ts xs) (retagged ts xs)))
+    (λ _. (omega (arith, low, are.0), in_order (suc x.1.at) (suc m) ts xs (omega (arith, are.0)) are.1)) (λ _. in_order n (suc m) ts xs (omega (arith, low)) are.1)
+
+pub are_touches_of : (shape : Shape) (w : World) (pass passes : ℕ) (ts : List ℕ) (es : List Ended) (words : List ℕ) → ArePast shape w pass ts es → AreInTime 0 w.touches → AreOfStrands w passes w.touches
     → ((i : ℕ) → i < word_count shape → LeadTo i (get_or (opening_words shape) i 0) w.touches (get_or words i 0)) → ((t : ℕ) → IsOfStrand w passes t → is_among t ts ≡ false → AreReads (touches_of t w.touches)) → AreTouchesOf shape es words
-are_touches_of shape w pass passes ts es words past of lead reads = record {
+are_touches_of shape w pass passes ts es words past time of lead reads = record {
   touches = retagged ts w.touches;
+  in_order = in_order 0 0 ts w.touches (omega arith) time;
   lead = λ i below. lead_on w passes ts i (get_or (opening_words shape) i 0) (get_or words i 0) w.touches of reads (lead i below);
   of_strands = λ n strand at. let here = strand_here shape w pass ts es n strand past at in here.is.touched_are ∙ alike_on ts n here.number here.listed here.alike w.touches;
   within = below_all ts (length es) w.touches (as_long shape w pass ts es past);

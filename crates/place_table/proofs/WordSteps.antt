@@ -1,5 +1,5 @@
 -- The steps on bits, and looks at a bit, an owner and a home.
-use Rattle.std.proofs.Common.{◌≡◌, ◌≢◌, ℕ, ◌<◌, ◌⊎◌, inl, inr, ⊎_elim, cond, Bool, true, false, List, [], ◌∷◌, ◌++◌, length, get_or, set, sym, refl, ap, ◌∙◌, subst, arith, Some, length-set, get_or-set_other, get_or-set_same, None, Option}
+use Rattle.std.proofs.Common.{◌≡◌, ◌≢◌, ℕ, ◌<◌, ◌≤◌, ◌⊎◌, inl, inr, ⊎_elim, cond, Bool, true, false, List, [], ◌∷◌, ◌++◌, length, get_or, set, sym, refl, ap, ◌∙◌, subst, arith, Some, length-set, get_or-set_other, get_or-set_same, None, Option}
 use Rattle.std.specs.Prelude.{IsTrue}
 use Rattle.std.proofs.lemmas.Bool.Decides.{nat_tests}
 use mathlib.Core.Option.{some}
@@ -8,19 +8,17 @@ use Rattle.atomic_table.specs.Table.{State, Allows, keeps, stepped}
 use Rattle.atomic_table.proofs.Lists.{at_set, set_again}
 use Rattle.map_types.specs.declared.attr.Shape.{Shape}
 use Rattle.map_types.specs.declared.kind.DomainId.TheVariants.{Bucket}
-use Rattle.map_types.specs.Kind.{is_lru}
 use Rattle.map_types.proofs.CreationLemmas.{bounds_of_shape}
 use Rattle.place_words.specs.declared.owner.Owner.{Owner}
 use Rattle.place_words.specs.declared.owner.Owner.TheVariants as owners
 use Rattle.place_words.specs.declared.home.Home.{Home}
-use Rattle.place_words.specs.declared.home.Home.TheVariants as homes
-use Rattle.place_words.specs.Codes.{HasHomeCode, owner_code, home_code}
+use Rattle.place_words.specs.Codes.{owner_code}
 use Rattle.map_types.specs.ElementLists.{put, one, IsIn}
-use Rattle.place_words.specs.Locks.{is_lock, lock_named, lock_number}
+use Rattle.place_words.specs.Locks.{is_lock, lock_count, lock_number}
 use Rattle.place_core.specs.declared.step.Step.TheVariants.{Mark, Clear, Glance}
 use Rattle.place_core.specs.State.{rows}
 use Rattle.place_core.specs.State as cores
-use Rattle.place_core.specs.Places.{Placed, Place, lies, carried, home_of_place, MayOwn}
+use Rattle.place_core.specs.Places.{Placed, MayOwn}
 use Rattle.place_core.specs.Ranks.{Ranked}
 use Rattle.place_core.specs.Steps.{IsInHeldBucket, CanClear, IsHeldHome}
 use Rattle.place_core.proofs.ElementLemmas.{by_test, times_append, put_here, put_else}
@@ -31,18 +29,18 @@ use Rattle.place_table.specs.declared.view.Hold.{Hold}
 use Rattle.place_table.specs.declared.view.Notes.{Notes}
 use Rattle.place_table.specs.declared.view.BitSeen.{BitSeen}
 use Rattle.place_table.specs.Laws.{StepsAs, goes_by}
-use Rattle.place_table.specs.Views.{is_among, hold_at, is_in_hand_of, bit_seen, has_all, noted, with_mark, with_clear, with_bit_read, with_owner_read, with_home_read, bits_with, touching, home_known, with_reading}
+use Rattle.place_table.specs.Views.{is_among, hold_at, bit_seen, has_all, noted, with_mark, with_clear, with_bit_read, with_owner_read, bits_with, touching, home_known, came_at}
 use Rattle.place_table.specs.Rules.{World, Rule, Knows, IsFresh, IsSeen, LeadTo, IsReading, HasRow, IsBrought, AreNoted}
 use Rattle.place_table.specs.Words.{owner_word, home_word, bit_word, opening_words}
-use Rattle.place_table.specs.Plays.{Seated, Marks, Clears, SeesBit, SeesOwner, SeesHome, OwnerFits}
+use Rattle.place_table.specs.Plays.{Seated, Marks, Clears, SeesBit, SeesOwner, OwnerFits}
+use Rattle.place_table.proofs.Came.{came_marked, came_cleared, came_bit_read, came_owner_read}
 use Rattle.place_table.proofs.Locks.{allows_of, found_at, elements_there, there}
-use Rattle.place_table.proofs.Worlds.{by_bool, true_false, some_is, none_some, hold_of_is, has_mine, all_here, here_all, others, lock_still_lost, past_stays, tagged_stays, SameStrands, knows_none, hash_stands}
-use Rattle.place_table.proofs.Readings.{IsNew, still_is, read_home_known}
+use Rattle.place_table.proofs.Worlds.{by_bool, true_false, some_is, none_some, hold_of_is, has_mine, all_here, here_all, others, hashed_stands, lock_still_lost, past_stays, tagged_stays, SameStrands, knows_none, hash_stands}
 use Rattle.place_table.proofs.OwnersSeen.{owner_fits}
 use Rattle.place_table.specs.declared.view.HomeIn.{HomeIn}
 use Rattle.place_table.specs.declared.view.WordStep.{WordStep}
-use Rattle.place_table.proofs.StepLog.{touches_with, lead_with, of_strands_with, strand_with, past_same, other_same, reads_more}
-use Rattle.place_table.proofs.NotesDone.{noted_mark, noted_clear, noted_bit, noted_home, noted_owner}
+use Rattle.place_table.proofs.StepLog.{made, time_more, givers_other, touches_with, lead_with, of_strands_with, strand_with, past_same, other_same, reads_more}
+use Rattle.place_table.proofs.NotesDone.{word_off, noted_mark, noted_clear, noted_bit, noted_owner}
 
 -- with other notes a pass knows the same, and what it keeps of bits has to be so
 abbrev AreSo : World → List BitSeen → Type 0
@@ -103,7 +101,7 @@ only_all shape w pass v e b kn =
     (λ all. inr (λ c less. here_all v.shape.cpus v.cpus all c (subst (λ z. c < z.cpus) (sym kn.shape_is) less)))
     (λ _. kn.only)
 
-module _ (shape : Shape) (s : State Behind View) (r : Rule shape s) (pass : ℕ) (v : View) (at_pass : get_elem? s.views pass ≡ some v) (notes : List Notes) where
+module _ (shape : Shape) (s : State Behind View) (r : Rule shape s) (pass : ℕ) (v : View) (at_pass : get_elem? s.views pass ≡ some v) (notes : List Notes) (same_came : (k : ℕ) → came_at k v.held notes ≡ came_at k v.held v.notes) where
   -- what other passes know of bits where this one has a CPU
   no_others : (c : ℕ) → is_among c v.cpus ≡ true → (f : ℕ → Bool) (j : ℕ) (u : View) → get_elem? s.views j ≡ some u → j ≢ pass → (y : ℕ) (bit : Bool) → bit_seen y u.bits ≡ Some bit → f y ≡ bit
   no_others c cpu f j u at other y bit found =
@@ -112,21 +110,22 @@ module _ (shape : Shape) (s : State Behind View) (r : Rule shape s) (pass : ℕ)
       absurd (none_some (sym (ap (bit_seen y) no_more.1) ∙ found))
 
   -- a step on the bit of e, which is b from then on
-  bit_rule : (e n : ℕ) (b : Bool) (f : ℕ → Bool) (seen : Option ℕ) (cs : List (ℕ × Behind)) → e < shape.elements → n ≡ one b → f e ≡ b → ((y : ℕ) → y ≢ e → f y ≡ r.world.core.bit y) → IsSeen seen (one (r.world.core.bit e)) → (v.cpus ≡ [] → seen ≡ Some (one b)) → AreNoted shape (touching (bit_word shape e) seen (one b) v) v.held notes
+  bit_rule : (e n : ℕ) (b : Bool) (f : ℕ → Bool) (seen : Option ℕ) (cs : List (ℕ × Behind)) → e < shape.elements → n ≡ one b → f e ≡ b → ((y : ℕ) → y ≢ e → f y ≡ r.world.core.bit y) → IsSeen seen (one (r.world.core.bit e)) → (v.cpus ≡ [] → seen ≡ Some (one b)) → AreNoted shape (touching (made r.world) (bit_word shape e) seen (one b) v) v.held notes
       → ((j : ℕ) (u : View) → get_elem? s.views j ≡ some u → j ≢ pass → (y : ℕ) (bit : Bool) → bit_seen y u.bits ≡ Some bit → f y ≡ bit)
       → Placed shape (core_with r.world.core f) → Ranked shape (core_with r.world.core f)
-      → Rule shape (stepped s (bit_word shape e) n pass cs (noted notes (bits_with e b v) (touching (bit_word shape e) seen (one b) v) v.readings v) keeps)
+      → Rule shape (stepped s (bit_word shape e) n pass cs (noted notes (bits_with e b v) (touching (made r.world) (bit_word shape e) seen (one b) v) v.readings v) keeps)
   bit_rule e n b f seen cs real n_is here_is else_is seen_is only_read are_noted others_know placed ranked =
       let i : ℕ = bit_word shape e in
-      let x : WordStep = record { word = i; seen = seen; left = one b } in
-      let w = r.world in let w' : World = bitted w pass f x in
+      let w = r.world in
+      let x : WordStep = record { at = made w; word = i; seen = seen; left = one b } in
+      let w' : World = bitted w pass f x in
       let kn = r.knows pass v at_pass in
-      let nv : View = noted notes (bits_with e b v) (touching i seen (one b) v) v.readings v in
+      let nv : View = noted notes (bits_with e b v) (touching (made w) i seen (one b) v) v.readings v in
       let same : SameStrands w w' = record { keeper = λ _. refl; team = λ _. refl; next = refl; current = λ _. refl; past = λ _. refl; whose = λ _. refl; still = λ _ z. z } in
       record {
         world = w';
         is_shape = r.is_shape;
-        plain = r.plain;
+        own_lists = r.own_lists;
         words = length-set s.words i n ∙ r.words;
         slots = r.slots;
         lock_words = λ m h. get_or-set_other s.words i m n 0 (λ y. omega arith) ∙ r.lock_words m h;
@@ -150,6 +149,8 @@ module _ (shape : Shape) (s : State Behind View) (r : Rule shape s) (pass : ℕ)
         homes = r.homes;
         seated = λ c h. subst (λ (z : ℕ). w.whose c < z) (sym (length-set s.views pass nv)) (r.seated c h);
         tagged = λ k. tagged_stays w w' (length s.views) (length (set s.views pass nv)) (w.log k) (sym (length-set s.views pass nv)) same (r.tagged k);
+        in_time = time_more w.touches (w.current pass, x) r.in_time refl;
+        gave_back = λ m below. givers_other m w.touches (w.current pass, x) (λ at _. omega arith) ∙ r.gave_back m below;
         lead = λ m below. subst (λ (z : ℕ). LeadTo m (get_or (opening_words shape) m 0) (touches_with w pass x) (get_or (set s.words i z) m 0)) (sym n_is)
             (lead_with shape s r (w.current pass) x (omega (arith, r.words)) (subst (IsSeen seen) (sym (r.bit_words e real)) seen_is) m below);
         of_strands = of_strands_with shape w pass v kn x w' (length s.views) (length (set s.views pass nv)) (there s.views pass v at_pass) (sym (length-set s.views pass nv)) same r.of_strands;
@@ -162,7 +163,10 @@ module _ (shape : Shape) (s : State Behind View) (r : Rule shape s) (pass : ℕ)
               ascends = kn.ascends;
               hands = kn.hands;
               carried = kn.carried;
-              hashes = λ y d bucket within found. hash_stands shape w.hash w'.hash v.hand y d bucket (kn.hashes y d bucket within found) (λ _. refl);
+              hashed = λ lru y d lock real within in_hand at. let k : ℕ = lock_number shape lock in
+                  hashed_stands shape w.core.holder w'.core.holder w.log w'.log w.hash w'.hash v.hashes v.hashes (came_at k v.held v.notes) (came_at k v.held notes) k y d
+                  (λ m held. (held, refl)) (λ held. held) refl refl (λ inside. ap (is_among y) (same_came k) ∙ inside) (kn.hashed lru y d lock real within in_hand at);
+              hashes = λ y d noted within found. hash_stands shape w.hash w'.hash v.hand y d noted.bucket (kn.hashes y d noted within found) (λ _. refl);
               readings = kn.readings;
               known = kn.known;
               bits = learnt shape w pass v f e b kn here_is else_is;
@@ -174,27 +178,28 @@ module _ (shape : Shape) (s : State Behind View) (r : Rule shape s) (pass : ℕ)
               apart = kn.apart;
               idle = λ empty. let was = kn.idle empty in ((was.0.0, reads_more v.touched x was.0.1 (only_read empty)), was.1);
             })
-            (λ t. others shape w w' j u same (r.knows j u t.1) (λ _. refl) (λ _ _ _. refl) (λ _ _ _. refl) (λ _ _ _. refl) (λ _ z. z) (r.knows j u t.1).known (others_know j u t.1 t.0) (λ _ _ _ _. refl)
+            (λ t. others shape w w' j u same (r.knows j u t.1) (λ _. refl) (λ _ _ _. refl) (λ _ _ _. refl) (λ _ _ _. refl) (λ _ z. z) (r.knows j u t.1).known (others_know j u t.1 t.0) (λ _ _ _ _. refl) (λ _ _ _ _ _ _ at. inl at)
             (λ tag own. other_same shape w pass v kn x j tag t.0 own) (λ _ _ _ _ _ _ still. still))
             (at_set s.views pass j nv u h);
       }
 
   -- a look at the word i, which is n, by which the pass comes to know no bit or one
-  look_rule : (i n : ℕ) (cs : List (ℕ × Behind)) (bits : List BitSeen) (readings : List HomeIn) → ((x c : ℕ) (read : Home) → c < shape.cpus → home_known x c readings ≡ Some read → IsReading shape r.world.core.holder r.world.log r.world.core.home v.hand x c read) → i < length s.words → get_or s.words i 0 ≡ n → AreNoted shape (touching i (Some n) n v) v.held notes → AreSo r.world bits → ((v.known ≡ []) × (bits ≡ [])) ⊎ ((c : ℕ) → c < shape.cpus → is_among c v.cpus ≡ true)
+  unfoldable pub look_rule : (i n : ℕ) (cs : List (ℕ × Behind)) (bits : List BitSeen) (readings : List HomeIn) → ((x c : ℕ) (read : Home) → c < shape.cpus → home_known x c readings ≡ Some read → IsReading shape r.world.core.holder r.world.log r.world.core.home v.hand x c read) → i < length s.words → get_or s.words i 0 ≡ n → lock_count shape ≤ i → AreNoted shape (touching (made r.world) i (Some n) n v) v.held notes → AreSo r.world bits → ((v.known ≡ []) × (bits ≡ [])) ⊎ ((c : ℕ) → c < shape.cpus → is_among c v.cpus ≡ true)
       → (e : ℕ) → e < shape.elements
-      → (after : Rule shape (stepped s i (get_or s.words i 0) pass cs (noted notes bits (touching i (Some n) n v) readings v) keeps)) × goes_by shape (Glance 0 e) 0 r.world.core after.world.core
-  look_rule i n cs bits readings are_read inside found_is are_noted so only e real =
-      let x : WordStep = record { word = i; seen = Some n; left = n } in
-      let w = r.world in let w' : World = looked w pass x in
+      → (after : Rule shape (stepped s i (get_or s.words i 0) pass cs (noted notes bits (touching (made r.world) i (Some n) n v) readings v) keeps)) × goes_by shape (Glance 0 e) 0 r.world.core after.world.core
+  look_rule i n cs bits readings are_read inside found_is behind are_noted so only e real =
+      let w = r.world in
+      let x : WordStep = record { at = made w; word = i; seen = Some n; left = n } in
+      let w' : World = looked w pass x in
       let kn = r.knows pass v at_pass in
-      let nv : View = noted notes bits (touching i (Some n) n v) readings v in
+      let nv : View = noted notes bits (touching (made w) i (Some n) n v) readings v in
       let same : SameStrands w w' = record { keeper = λ _. refl; team = λ _. refl; next = refl; current = λ _. refl; past = λ _. refl; whose = λ _. refl; still = λ _ z. z } in
       let back : set s.words i (get_or s.words i 0) ≡ s.words = set_again s.words i (get_or s.words i 0) (found_at s.words i inside) in
       let bounds = bounds_of_shape shape r.is_shape in (
         record {
           world = w';
           is_shape = r.is_shape;
-          plain = r.plain;
+          own_lists = r.own_lists;
           words = length-set s.words i (get_or s.words i 0) ∙ r.words;
           slots = r.slots;
           lock_words = λ m h. ap (λ (l : List ℕ). get_or l m 0) back ∙ r.lock_words m h;
@@ -208,6 +213,8 @@ module _ (shape : Shape) (s : State Behind View) (r : Rule shape s) (pass : ℕ)
           homes = r.homes;
           seated = λ y h. subst (λ (z : ℕ). w.whose y < z) (sym (length-set s.views pass nv)) (r.seated y h);
           tagged = λ k. tagged_stays w w' (length s.views) (length (set s.views pass nv)) (w.log k) (sym (length-set s.views pass nv)) same (r.tagged k);
+          in_time = time_more w.touches (w.current pass, x) r.in_time refl;
+          gave_back = λ m below. givers_other m w.touches (w.current pass, x) (λ at _. omega arith) ∙ r.gave_back m below;
           lead = λ m below. subst (λ (z : ℕ). LeadTo m (get_or (opening_words shape) m 0) (touches_with w pass x) (get_or (set s.words i z) m 0)) (sym found_is)
               (lead_with shape s r (w.current pass) x inside (sym found_is) m below);
           of_strands = of_strands_with shape w pass v kn x w' (length s.views) (length (set s.views pass nv)) (there s.views pass v at_pass) (sym (length-set s.views pass nv)) same r.of_strands;
@@ -220,7 +227,10 @@ module _ (shape : Shape) (s : State Behind View) (r : Rule shape s) (pass : ℕ)
                 ascends = kn.ascends;
                 hands = kn.hands;
                 carried = kn.carried;
-                hashes = λ y d b within found. hash_stands shape w.hash w'.hash v.hand y d b (kn.hashes y d b within found) (λ _. refl);
+                hashed = λ lru y d lock real within in_hand at. let k : ℕ = lock_number shape lock in
+                    hashed_stands shape w.core.holder w'.core.holder w.log w'.log w.hash w'.hash v.hashes v.hashes (came_at k v.held v.notes) (came_at k v.held notes) k y d
+                    (λ m held. (held, refl)) (λ held. held) refl refl (λ inside. ap (is_among y) (same_came k) ∙ inside) (kn.hashed lru y d lock real within in_hand at);
+                hashes = λ y d noted within found. hash_stands shape w.hash w'.hash v.hand y d noted.bucket (kn.hashes y d noted within found) (λ _. refl);
                 readings = are_read;
                 known = kn.known;
                 bits = so;
@@ -232,7 +242,7 @@ module _ (shape : Shape) (s : State Behind View) (r : Rule shape s) (pass : ℕ)
                 apart = kn.apart;
                 idle = λ empty. let was = kn.idle empty in ((was.0.0, reads_more v.touched x was.0.1 refl), was.1);
               })
-              (λ t. others shape w w' j u same (r.knows j u t.1) (λ _. refl) (λ _ _ _. refl) (λ _ _ _. refl) (λ _ _ _. refl) (λ _ z. z) (r.knows j u t.1).known (r.knows j u t.1).bits (λ _ _ _ _. refl)
+              (λ t. others shape w w' j u same (r.knows j u t.1) (λ _. refl) (λ _ _ _. refl) (λ _ _ _. refl) (λ _ _ _. refl) (λ _ z. z) (r.knows j u t.1).known (r.knows j u t.1).bits (λ _ _ _ _. refl) (λ _ _ _ _ _ _ at. inl at)
               (λ tag own. other_same shape w pass v kn x j tag t.0 own) (λ _ _ _ _ _ _ still. still))
               (at_set s.views pass j nv u h);
         },
@@ -269,20 +279,21 @@ unfolding bit_rule
 marks_step shape slots pass me e bucket hold there found inside s r wide at_pass _ =
     let can = in_held_bucket shape s r pass me.0 e bucket hold at_pass there found inside in
     let w = r.world in let kn = r.knows pass me.0 at_pass in
+    let x : WordStep = record { at = made w; word = bit_word shape e; seen = None; left = 1 } in
     let bounds = bounds_of_shape shape r.is_shape in (
-      noted (with_mark e me.0.notes) (bits_with e true me.0) (touching (bit_word shape e) None 1 me.0) me.0.readings me.0,
+      noted (with_mark e me.0.notes) (bits_with e true me.0) (touching (made r.world) (bit_word shape e) None 1 me.0) me.0.readings me.0,
       keeps,
       tt,
       (
-        bit_rule shape s r pass me.0 at_pass (with_mark e me.0.notes) e 1 true (put w.core.bit e true) None me.1 can.0.real refl
+        bit_rule shape s r pass me.0 at_pass (with_mark e me.0.notes) (λ k. came_marked e k me.0.held me.0.notes) e 1 true (put w.core.bit e true) None me.1 can.0.real refl
             (put_here w.core.bit e true) (λ y ne. put_else w.core.bit e true y ne) tt (λ empty. true_false (sym can.1 ∙ ap (is_among hold.cpu) empty))
-            (noted_mark shape me.0.touched (record { word = bit_word shape e; seen = None; left = 1 } ∷ []) me.0.held me.0.notes e kn.noted (inl refl))
-            (no_others shape s r pass me.0 at_pass (with_mark e me.0.notes) hold.cpu can.1 (put w.core.bit e true))
+            (noted_mark shape me.0.touched (x ∷ []) me.0.held me.0.notes e kn.noted (word_off shape me.0.touched x me.0.held me.0.notes kn.noted (omega arith)) (inl refl))
+            (no_others shape s r pass me.0 at_pass (with_mark e me.0.notes) (λ k. came_marked e k me.0.held me.0.notes) hold.cpu can.1 (put w.core.bit e true))
             (step_keeps_places shape r.world.core (Mark hold.cpu e bucket) bounds can.0 r.placed)
             (step_keeps_ranks shape r.world.core (Mark hold.cpu e bucket) can.0 r.ranked),
         record { enabled = can.0; changed = refl },
       ),
-      (λ i. (noted (with_mark e me.0.notes) (bits_with e true me.0) (touching (bit_word (sym kn.shape_is i) e) None 1 me.0) me.0.readings me.0, me.1)),
+      (made w, (λ i. (noted (with_mark e me.0.notes) (bits_with e true me.0) (touching (made w) (bit_word (sym kn.shape_is i) e) None 1 me.0) me.0.readings me.0, me.1))),
     )
 
 pub marks : (shape : Shape) (slots pass : ℕ) (me : Seated) (e bucket i : ℕ) (hold : Hold) → i ≡ bit_word shape e → bucket < shape.buckets → hold_at (lock_number shape (Bucket bucket)) me.0.held ≡ Some hold → IsIn e hold.now.first
@@ -301,16 +312,17 @@ unfolding bit_rule
 clears_by shape slots pass me e c real cpu allowed s r wide at_pass _ =
     let kn = r.knows pass me.0 at_pass in
     let bit : Bool = r.world.core.bit e in
+    let x : WordStep = record { at = made r.world; word = bit_word shape e; seen = Some (one bit); left = 0 } in
     let bounds = bounds_of_shape shape r.is_shape in
     let can : CanClear shape r.world.core c e = record { is_cpu = kn.within c cpu; real = real; allowed = allowed s r at_pass } in (
-      noted (with_clear e bit me.0.notes) (bits_with e false me.0) (touching (bit_word shape e) (Some (one bit)) 0 me.0) me.0.readings me.0,
+      noted (with_clear e bit me.0.notes) (bits_with e false me.0) (touching (made r.world) (bit_word shape e) (Some (one bit)) 0 me.0) me.0.readings me.0,
       keeps,
       tt,
       (
-        bit_rule shape s r pass me.0 at_pass (with_clear e bit me.0.notes) e 0 false (put r.world.core.bit e false) (Some (one bit)) me.1 real refl
+        bit_rule shape s r pass me.0 at_pass (with_clear e bit me.0.notes) (λ k. came_cleared e bit k me.0.held me.0.notes) e 0 false (put r.world.core.bit e false) (Some (one bit)) me.1 real refl
             (put_here r.world.core.bit e false) (λ y ne. put_else r.world.core.bit e false y ne) refl (λ empty. true_false (sym cpu ∙ ap (is_among c) empty))
-            (noted_clear shape me.0.touched (record { word = bit_word shape e; seen = Some (one bit); left = 0 } ∷ []) me.0.held me.0.notes e bit kn.noted (inl refl))
-            (no_others shape s r pass me.0 at_pass (with_clear e bit me.0.notes) c cpu (put r.world.core.bit e false))
+            (noted_clear shape me.0.touched (x ∷ []) me.0.held me.0.notes e bit kn.noted (word_off shape me.0.touched x me.0.held me.0.notes kn.noted (omega arith)) (inl refl))
+            (no_others shape s r pass me.0 at_pass (with_clear e bit me.0.notes) (λ k. came_cleared e bit k me.0.held me.0.notes) c cpu (put r.world.core.bit e false))
             (step_keeps_places shape r.world.core (Clear c e) bounds can r.placed)
             (step_keeps_ranks shape r.world.core (Clear c e) can r.ranked),
         record { enabled = can; changed = refl },
@@ -319,7 +331,8 @@ clears_by shape slots pass me e c real cpu allowed s r wide at_pass _ =
         bit = bit;
         found_is = r.bit_words e real;
         known = λ known f. kn.bits e known f;
-        after_is = λ i. (noted (with_clear e bit me.0.notes) (bits_with e false me.0) (touching (bit_word (sym kn.shape_is i) e) (Some (one bit)) 0 me.0) me.0.readings me.0, me.1);
+        at = made r.world;
+        after_is = λ i. (noted (with_clear e bit me.0.notes) (bits_with e false me.0) (touching (made r.world) (bit_word (sym kn.shape_is i) e) (Some (one bit)) 0 me.0) me.0.readings me.0, me.1);
       },
     )
 
@@ -331,14 +344,15 @@ sees_bit_step shape slots pass me e real s r wide at_pass _ =
     let kn = r.knows pass me.0 at_pass in
     let w = r.world in
     let bit : Bool = w.core.bit e in
+    let x : WordStep = record { at = made w; word = bit_word shape e; seen = Some (one bit); left = one bit } in
     let bounds = bounds_of_shape shape r.is_shape in (
-      noted (with_bit_read e bit me.0.notes) (bits_with e bit me.0) (touching (bit_word shape e) (Some (one bit)) (one bit) me.0) me.0.readings me.0,
+      noted (with_bit_read e bit me.0.notes) (bits_with e bit me.0) (touching (made w) (bit_word shape e) (Some (one bit)) (one bit) me.0) me.0.readings me.0,
       keeps,
       tt,
       (
-        bit_rule shape s r pass me.0 at_pass (with_bit_read e bit me.0.notes) e (get_or s.words (bit_word shape e) 0) bit w.core.bit (Some (one bit)) me.1 real (r.bit_words e real)
+        bit_rule shape s r pass me.0 at_pass (with_bit_read e bit me.0.notes) (λ k. came_bit_read e bit k me.0.held me.0.notes) e (get_or s.words (bit_word shape e) 0) bit w.core.bit (Some (one bit)) me.1 real (r.bit_words e real)
             refl (λ _ _. refl) refl (λ _. refl)
-            (noted_bit shape me.0.touched (record { word = bit_word shape e; seen = Some (one bit); left = one bit } ∷ []) me.0.held me.0.notes e bit kn.noted (inl refl))
+            (noted_bit shape me.0.touched (x ∷ []) me.0.held me.0.notes e bit kn.noted (word_off shape me.0.touched x me.0.held me.0.notes kn.noted (omega arith)) (inl refl))
             (λ j u at _ y known found. (r.knows j u at).bits y known found) r.placed r.ranked,
         record { enabled = (bounds.some_cpu, real); changed = refl },
       ),
@@ -346,7 +360,8 @@ sees_bit_step shape slots pass me e real s r wide at_pass _ =
         bit = bit;
         found_is = r.bit_words e real;
         known = λ known f. kn.bits e known f;
-        after_is = λ i. (noted (with_bit_read e bit me.0.notes) (bits_with e bit me.0) (touching (bit_word (sym kn.shape_is i) e) (Some (one bit)) (one bit) me.0) me.0.readings me.0, me.1);
+        at = made w;
+        after_is = λ i. (noted (with_bit_read e bit me.0.notes) (bits_with e bit me.0) (touching (made w) (bit_word (sym kn.shape_is i) e) (Some (one bit)) (one bit) me.0) me.0.readings me.0, me.1);
       },
     )
 
@@ -360,18 +375,21 @@ unfolding look_rule
 sees_owner_step shape slots pass me e real s r wide at_pass _ =
     let kn = r.knows pass me.0 at_pass in
     let w = r.world in
-    let owner : Owner = w.core.owner e in (
-      noted (with_owner_read e owner me.0.notes) me.0.bits (touching (owner_word shape e) (Some (owner_code owner)) (owner_code owner) me.0) me.0.readings me.0,
+    let owner : Owner = w.core.owner e in
+    let x : WordStep = record { at = made w; word = owner_word shape e; seen = Some (owner_code owner); left = owner_code owner } in (
+      noted (with_owner_read e owner me.0.notes) me.0.bits (touching (made w) (owner_word shape e) (Some (owner_code owner)) (owner_code owner) me.0) me.0.readings me.0,
       keeps,
       tt,
-      look_rule shape s r pass me.0 at_pass (with_owner_read e owner me.0.notes) (owner_word shape e) (owner_code owner) me.1 me.0.bits me.0.readings kn.readings (omega (arith, r.words)) (r.owner_words e real)
-          (noted_owner shape me.0.touched (record { word = owner_word shape e; seen = Some (owner_code owner); left = owner_code owner } ∷ []) me.0.held me.0.notes e owner kn.noted (inl refl)) kn.bits kn.only e real,
+      look_rule shape s r pass me.0 at_pass (with_owner_read e owner me.0.notes) (λ k. came_owner_read e owner k me.0.held me.0.notes) (owner_word shape e) (owner_code owner) me.1 me.0.bits me.0.readings kn.readings (omega (arith, r.words)) (r.owner_words e real)
+          (omega arith)
+          (noted_owner shape me.0.touched (x ∷ []) me.0.held me.0.notes e owner kn.noted (word_off shape me.0.touched x me.0.held me.0.notes kn.noted (omega arith)) (inl refl)) kn.bits kn.only e real,
       record {
         owner = owner;
         found_is = r.owner_words e real;
         exists_there = subst (λ z. MayOwn z owner) (sym kn.shape_is) (r.placed.placed.owners e real);
         fits = subst (λ z. OwnerFits z me.0 e owner) (sym kn.shape_is) (owner_fits shape s r pass me.0 e at_pass real);
-        after_is = λ i. (noted (with_owner_read e owner me.0.notes) me.0.bits (touching (owner_word (sym kn.shape_is i) e) (Some (owner_code owner)) (owner_code owner) me.0) me.0.readings me.0, me.1);
+        at = made w;
+        after_is = λ i. (noted (with_owner_read e owner me.0.notes) me.0.bits (touching (made w) (owner_word (sym kn.shape_is i) e) (Some (owner_code owner)) (owner_code owner) me.0) me.0.readings me.0, me.1);
       },
     )
 
@@ -379,43 +397,3 @@ pub sees_owner : (shape : Shape) (slots pass : ℕ) (me : Seated) (e i : ℕ) �
 sees_owner shape slots pass me e i is real =
     subst (λ (z : ℕ). Allows (Rule shape) slots pass me z (λ n. n) (SeesOwner e me)) (sym is)
     (allows_of shape slots pass me (owner_word shape e) (λ n. n) (goes_by shape (Glance 0 e)) (SeesOwner e me) (sees_owner_step shape slots pass me e real))
-
--- a map that doesn't evict tells no home
-plain_home : (shape : Shape) (place : Place) → is_lru shape.kind ≡ false → home_of_place shape place ≡ homes.Unlisted
-plain_home shape (lies k) plain = ap (λ (b : Bool). cond b (homes.In (lock_named shape k)) homes.Unlisted) plain
-plain_home shape (carried c) plain = ap (λ (b : Bool). cond b (homes.Hand c) homes.Unlisted) plain
-
-pub sees_home_step : (shape : Shape) (slots pass : ℕ) (me : Seated) (e : ℕ) → e < shape.elements → StepsAs shape slots pass me (home_word shape e) (λ n. n) (goes_by shape (Glance 0 e)) (SeesHome e me)
-unfolding look_rule
-sees_home_step shape slots pass me e real s r wide at_pass _ =
-    let kn = r.knows pass me.0 at_pass in
-    let w = r.world in
-    let home : Home = w.core.home e in
-    let unlisted : home ≡ homes.Unlisted = r.placed.placed.homes e real ∙ plain_home shape (r.placed.place e) r.plain in (
-      noted (with_home_read e home me.0.notes) me.0.bits (touching (home_word shape e) (Some (home_code home)) (home_code home) me.0) (with_reading e home me.0.hand me.0.readings) me.0,
-      keeps,
-      tt,
-      look_rule shape s r pass me.0 at_pass (with_home_read e home me.0.notes) (home_word shape e) (home_code home) me.1 me.0.bits (with_reading e home me.0.hand me.0.readings)
-          (λ x d read within found. ⊎_elim
-          (λ (new : IsNew x d e home read me.0.hand). record {
-            real = subst (λ (z : ℕ). z < shape.elements) (sym new.same) real;
-            in_hand = subst (λ (z : ℕ). is_in_hand_of z d me.0.hand ≡ true) (sym new.same) new.in_hand;
-            still = still_is shape w.core.holder w.log x (w.core.home x) read (ap w.core.home new.same ∙ new.is);
-          })
-          (λ (old : home_known x d me.0.readings ≡ Some read). kn.readings x d read within old)
-          (read_home_known x d e home read me.0.hand me.0.readings found))
-          (omega (arith, r.words)) (r.home_words e real)
-          (noted_home shape me.0.touched (record { word = home_word shape e; seen = Some (home_code home); left = home_code home } ∷ []) me.0.held me.0.notes e home kn.noted (inl refl)) kn.bits kn.only e real,
-      record {
-        home = home;
-        found_is = r.home_words e real;
-        has_code = subst HasHomeCode (sym unlisted) tt;
-        plain = λ _. unlisted;
-        after_is = λ i. (noted (with_home_read e home me.0.notes) me.0.bits (touching (home_word (sym kn.shape_is i) e) (Some (home_code home)) (home_code home) me.0) (with_reading e home me.0.hand me.0.readings) me.0, me.1);
-      },
-    )
-
-pub sees_home : (shape : Shape) (slots pass : ℕ) (me : Seated) (e i : ℕ) → i ≡ home_word shape e → e < shape.elements → Allows (Rule shape) slots pass me i (λ n. n) (SeesHome e me)
-sees_home shape slots pass me e i is real =
-    subst (λ (z : ℕ). Allows (Rule shape) slots pass me z (λ n. n) (SeesHome e me)) (sym is)
-    (allows_of shape slots pass me (home_word shape e) (λ n. n) (goes_by shape (Glance 0 e)) (SeesHome e me) (sees_home_step shape slots pass me e real))

@@ -9,18 +9,23 @@ use Rattle.place_words.specs.declared.owner.Owner.{Owner}
 use Rattle.place_words.specs.declared.owner.Owner.TheVariants as owners
 use Rattle.key_hash.specs.Bucket.{bucket_number}
 use Rattle.map_types.specs.ElementLists.{put}
-use Rattle.place_words.specs.Locks.{lock_named, rank_of}
+use Rattle.place_words.specs.Histories.{content}
+use Rattle.place_words.specs.Locks.{lock_named, lock_number, rank_of}
 use Rattle.place_core.specs.declared.step.Lists.{Lists}
 use Rattle.place_core.proofs.ElementLemmas.{by_test}
 use Rattle.place_table.specs.declared.view.View.{View}
 use Rattle.place_table.specs.declared.view.Hold.{Hold}
 use Rattle.place_table.specs.declared.view.InHand.{InHand}
+use Rattle.place_table.specs.declared.view.HashIn.{HashIn}
+use Rattle.place_table.specs.StoredHashes.{stored_in}
 use Rattle.place_table.specs.declared.view.Turned.{Turned}
 use Rattle.place_table.specs.declared.view.Ended.{Ended}
 use Rattle.place_table.specs.declared.view.WordStep.{WordStep}
-use Rattle.place_table.specs.Views.{is_among, hold_at, is_in_hand_of, known_log, bit_seen, has_all_below}
-use Rattle.place_table.specs.Rules.{Tagged, entries, World, hold, hold_of, is_hand_of, is_home_of, IsAboveAll, turns_of, StandIn, logs_of, IsStrand, ArePast, IsTagged, AreTagged, IsLostLock, Knows, IsHashOf, touches_of, Touch, IsOfStrand, AreOfStrands, StillHome}
+use Rattle.place_table.specs.Views.{is_among, hold_at, is_in_hand_of, known_log, bit_seen, has_all_below, hash_known, came_at}
+use Rattle.place_table.specs.Rules.{Tagged, entries, World, hold, hold_of, is_hand_of, is_home_of, IsAboveAll, turns_of, StandIn, logs_of, IsStrand, ArePast, IsTagged, AreTagged, IsLostLock, Knows, IsHashOf, IsHashed, HasHash, HasCome, HasRow, IsBrought, touches_of, Touch, IsOfStrand, AreOfStrands, StillHome}
 use Rattle.place_words.specs.declared.home.Home.{Home}
+use Rattle.place_words.specs.declared.home.Home.TheVariants as homes
+use Rattle.map_types.specs.declared.kind.DomainId.{DomainId}
 
 -- the same of four functions that change at one place
 pub at_put4 : {A B C D : Type 0} (f : ℕ → A) (g : ℕ → B) (h : ℕ → C) (l : ℕ → D) (i : ℕ) (x : A) (y : B) (z : C) (u : D) (F : ℕ → A → B → C → D → Type 0) (j : ℕ)
@@ -255,6 +260,61 @@ pub hash_stands : (shape : Shape) (hash hash' : ℕ → ℕ) (hand : List InHand
 hash_stands shape hash hash' hand e c b is stays =
     record { in_hand = is.in_hand; bucket_is = ap (λ (h : ℕ). bucket_number h shape.buckets) (stays is.in_hand) ∙ is.bucket_is }
 
+-- a lock that a pass holds as before has the holder and the turns that it had
+same_hold : (whose whose' : ℕ → ℕ) (j k c : ℕ) (holder holder' : Option ℕ) (log log' : List Tagged) (lists lists' : Lists) (lost lost' : Bool) → whose c ≡ j → hold_of j whose' k holder' log' lists' lost' ≡ hold_of j whose k holder log lists lost → holder ≡ Some c → (holder' ≡ Some c) × (entries log' ≡ entries log)
+same_hold whose whose' j k c holder holder' log log' lists lists' lost lost' mine same held =
+    let is = hold_of_is whose' j k holder' log' lists' lost' (hold k c log lists lost) (same ∙ (ap (λ (z : Option ℕ). hold_of j whose k z log lists lost) held ∙ hold_of_mine whose j k c log lists lost mine)) in
+    (is.holder_is, sym (ap (λ (h : Hold). h.log) is.hold_is))
+
+-- where the locks that a CPU holds stay, with their turns, what is known of the stored hash of an element in its hand does
+pub hashed_stands : (shape : Shape) (holder holder' : ℕ → Option ℕ) (log log' : ℕ → List Tagged) (hash hash' : ℕ → ℕ) (hashes hashes' : List HashIn) (came came' : List ℕ) (k e c : ℕ)
+    → ((m : ℕ) → holder m ≡ Some c → (holder' m ≡ Some c) × (entries (log' m) ≡ entries (log m))) → (holder' k ≡ Some c → holder k ≡ Some c) → hash' e ≡ hash e
+    → hash_known e c hashes' ≡ hash_known e c hashes → (is_among e came ≡ true → is_among e came' ≡ true)
+    → IsHashed shape holder log hash hashes came k e c → IsHashed shape holder' log' hash' hashes' came' k e c
+hashed_stands shape holder holder' log log' hash hash' hashes hashes' came came' k e c forth back stays noted inside is = record {
+  from = ⊎_elim
+      (λ (gave : HasHash true hashes e c). inl record { noted = gave.noted; last = noted ∙ gave.last; given_is = gave.given_is })
+      (⊎_elim
+      (λ (off : HasHash false hashes e c). inr (inl record { noted = off.noted; last = noted ∙ off.last; given_is = off.given_is }))
+      (λ (come : HasCome holder came k e c). inr (inr (comes come))))
+      is.from;
+  row = λ held. let was = back held in ⊎_elim
+      (λ (had : HasRow shape log hash k e). inl (row k was had))
+      (⊎_elim
+      (λ (br : IsBrought shape holder log hash k e).
+      let same : br.cpu ≡ c = some_is (sym br.held ∙ was) in
+      let from : holder br.from ≡ Some c = br.holds ∙ ap Some same in
+      inr (inl record { cpu = c; from = br.from; held = held; holds = (forth br.from from).0; low = br.low; row = row br.from from br.row }))
+      (λ (come : HasCome holder came k e c). inr (inr (comes come))))
+      (is.row was);
+}
+  where
+    comes : HasCome holder came k e c → HasCome holder' came' k e c
+    comes come = record { held = (forth k come.held).0; inside = inside come.inside }
+
+    row : (m : ℕ) → holder m ≡ Some c → HasRow shape log hash m e → HasRow shape log' hash' m e
+    row m held had = record { stored = ap (λ (l : List Entry). stored_in (content shape (lock_named shape m) l) e) (forth m held).1 ∙ (had.stored ∙ ap Some (sym stays)) }
+
+-- the home of an element in the hand of a CPU goes from a lock that the CPU doesn't hold to another that it doesn't hold
+pub record IsAway (shape : Shape) (holder holder' : ℕ → Option ℕ) (home : Home) (c : ℕ) (lock : DomainId) : Type 0 where
+  pub from : DomainId
+  pub was : home ≡ homes.In from
+  pub left : holder (lock_number shape from) ≡ Some c → ⊥
+  pub now : holder' (lock_number shape lock) ≡ Some c → ⊥
+
+-- then where its stored hash is from stays, and of its row nothing is asked
+pub hashed_away : (shape : Shape) (holder holder' : ℕ → Option ℕ) (log log' : ℕ → List Tagged) (hash hash' : ℕ → ℕ) (hashes hashes' : List HashIn) (came came' : List ℕ) (j k e c : ℕ) → (holder j ≡ Some c → ⊥) → (holder' k ≡ Some c → ⊥) → hash_known e c hashes' ≡ hash_known e c hashes
+    → IsHashed shape holder log hash hashes came j e c → IsHashed shape holder' log' hash' hashes' came' k e c
+hashed_away shape holder holder' log log' hash hash' hashes hashes' came came' j k e c left now noted is = record {
+  from = ⊎_elim
+      (λ (gave : HasHash true hashes e c). inl record { noted = gave.noted; last = noted ∙ gave.last; given_is = gave.given_is })
+      (⊎_elim
+      (λ (off : HasHash false hashes e c). inr (inl record { noted = off.noted; last = noted ∙ off.last; given_is = off.given_is }))
+      (λ (come : HasCome holder came j e c). absurd (left come.held)))
+      is.from;
+  row = λ held. absurd (now held);
+}
+
 -- THE FRAME. What a pass knows stays where its own locks, hands and strands do, and where what it keeps of turns and bits
 -- is still so.
 pub others : (shape : Shape) (w w' : World) (j : ℕ) (u : View) → SameStrands w w' → Knows shape w j u
@@ -266,10 +326,11 @@ pub others : (shape : Shape) (w w' : World) (j : ℕ) (u : View) → SameStrands
     → ((k : ℕ) (log : List Entry) → known_log k u.known ≡ Some log → entries (w'.log k) ≡ log)
     → ((e : ℕ) (bit : Bool) → bit_seen e u.bits ≡ Some bit → w'.core.bit e ≡ bit)
     → ((e c : ℕ) → w.core.owner e ≡ owners.Hand c → w.whose c ≡ j → w'.hash e ≡ w.hash e)
+    → ((e c : ℕ) (lock : DomainId) → e < shape.elements → w.core.owner e ≡ owners.Hand c → w.whose c ≡ j → w'.core.home e ≡ homes.In lock → (w.core.home e ≡ homes.In lock) ⊎ IsAway shape w.core.holder w'.core.holder (w.core.home e) c lock)
     → ((t : ℕ) → w.keeper t ≡ j → touches_of t w'.touches ≡ touches_of t w.touches)
     → ((e c : ℕ) (read : Home) → e < shape.elements → w.core.owner e ≡ owners.Hand c → w.whose c ≡ j → StillHome shape w.core.holder w.log e (w.core.home e) read → StillHome shape w'.core.holder w'.log e (w'.core.home e) read)
     → Knows shape w' j u
-others shape w w' j u same kn holds hands carried turns losses known bits hashes touches readings = record {
+others shape w w' j u same kn holds hands carried turns losses known bits hashes at_home touches readings = record {
   shape_is = kn.shape_is;
   cpus = λ c less. kn.cpus c less ∙ sym (ap (λ (z : ℕ). eqb z j) (same.whose c));
   within = kn.within;
@@ -277,7 +338,19 @@ others shape w w' j u same kn holds hands carried turns losses known bits hashes
   ascends = kn.ascends;
   hands = λ e c less. kn.hands e c less ∙ sym (hands e c less);
   carried = λ e c less. kn.carried e c less ∙ sym (carried e c less);
-  hashes = λ e c b within found. hash_stands shape w.hash w'.hash u.hand e c b (kn.hashes e c b within found)
+  hashed = λ lru e c lock real within in_hand at.
+      let is = both_true _ _ (sym (kn.hands e c within) ∙ in_hand) in
+      let own : w.core.owner e ≡ owners.Hand c = hand_is c (w.core.owner e) is.0 in
+      let theirs : w.whose c ≡ j = eqb-true (w.whose c) j is.1 in
+      let k : ℕ = lock_number shape lock in ⊎_elim
+      (λ (stays : w.core.home e ≡ homes.In lock). hashed_stands shape w.core.holder w'.core.holder w.log w'.log w.hash w'.hash u.hashes u.hashes (came_at k u.held u.notes) (came_at k u.held u.notes) k e c
+      (λ m held. same_hold w.whose w'.whose j m c (w.core.holder m) (w'.core.holder m) (w.log m) (w'.log m) (w.core.lists m) (w'.core.lists m) (w.lost m) (w'.lost m) theirs (holds m) held)
+      (λ held. (same_hold w'.whose w.whose j k c (w'.core.holder k) (w.core.holder k) (w'.log k) (w.log k) (w'.core.lists k) (w.core.lists k) (w'.lost k) (w.lost k) (same.whose c ∙ theirs) (sym (holds k)) held).0)
+      (hashes e c own theirs) refl (λ inside. inside) (kn.hashed lru e c lock real within in_hand stays))
+      (λ (away : IsAway shape w.core.holder w'.core.holder (w.core.home e) c lock). let j : ℕ = lock_number shape away.from in
+      hashed_away shape w.core.holder w'.core.holder w.log w'.log w.hash w'.hash u.hashes u.hashes (came_at j u.held u.notes) (came_at k u.held u.notes) j k e c away.left away.now refl (kn.hashed lru e c away.from real within in_hand away.was))
+      (at_home e c lock real own theirs at);
+  hashes = λ e c noted within found. hash_stands shape w.hash w'.hash u.hand e c noted.bucket (kn.hashes e c noted within found)
       (λ in_hand. let is = both_true _ _ (sym (kn.hands e c within) ∙ in_hand) in hashes e c (hand_is c (w.core.owner e) is.0) (eqb-true (w.whose c) j is.1));
   readings = λ e c read within found. let was = kn.readings e c read within found in let is = both_true _ _ (sym (kn.hands e c within) ∙ was.in_hand) in
       record { real = was.real; in_hand = was.in_hand; still = readings e c read was.real (hand_is c (w.core.owner e) is.0) (eqb-true (w.whose c) j is.1) was.still };

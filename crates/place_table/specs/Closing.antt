@@ -1,17 +1,17 @@
 -- What a closed table leaves: each history leads to what lay under its lock, and each turn is a step of one strand.
-use Rattle.std.specs.Prelude.{◌≡◌, ℕ, suc, ◌<◌, ◌==◌, Bool, true, false, not, All, List, [], ◌∷◌, length, map, filter, Option, None, Some, slice_get, slice_index_or, IsTrue, if◌then◌else◌}
+use Rattle.std.specs.Prelude.{◌≡◌, ℕ, suc, ◌<◌, ◌≤◌, ◌==◌, Bool, true, false, not, All, List, [], ◌∷◌, length, map, filter, Option, None, Some, slice_get, slice_index_or, option_map, IsTrue, if◌then◌else◌}
 use Rattle.std.specs.List.{range_with_len, list_any}
 use mathlib.Core.Option.{some}
 use lib.ListN.{get_elem?}
 use Rattle.map_types.specs.declared.attr.Shape.{Shape}
-use Rattle.map_types.specs.declared.kind.DomainId.TheVariants.{Bucket, Freelist}
 use Rattle.map_types.specs.Stored.{Stored}
 use Rattle.place_words.specs.declared.finals.Finals.{Finals}
 use Rattle.place_words.specs.declared.history.Entry.{Entry}
 use Rattle.place_words.specs.declared.history.LockHistory.{LockHistory}
 use Rattle.place_words.specs.declared.history.Strand.{Strand}
-use Rattle.place_words.specs.Histories.{in_bucket, on_freelist, content, IsLegal}
+use Rattle.place_words.specs.Histories.{content, IsLegal}
 use Rattle.place_words.specs.Locks.{is_lock, lock_named, lock_number, lock_count}
+use Rattle.place_words.specs.Logs.{State, finals_of}
 use Rattle.place_words.specs.Strands.{AreSharedOut, places_on}
 use Rattle.place_core.specs.State as cores
 use Rattle.place_core.specs.Places.{Placed}
@@ -20,7 +20,7 @@ use Rattle.place_table.specs.Contents.{lists_of, IsSized}
 use Rattle.place_table.specs.declared.view.Ended.{Ended}
 use Rattle.place_table.specs.Views.{is_among, is_in_hand_of, known_log, bit_seen, all_strands, is_recorded}
 use Rattle.place_table.specs.Rules.{Reads, is_hand_of, turns_on, indexes, StandIn, Touch, touches_of, LeadTo}
-use Rattle.place_table.specs.Passes.{PassView}
+use Rattle.place_table.specs.Passes.{PassView, spare_of}
 use Rattle.place_table.specs.Words.{word_count, owner_word, home_word, bit_word, opening_words, lock_code}
 use Rattle.place_words.specs.Codes.{owner_code, home_code}
 use Rattle.map_types.specs.ElementLists.{one}
@@ -58,25 +58,21 @@ strand_told shape strand = record { cpus = filter (λ cpu. is_among cpu strand.c
 abbrev pub strands_told : Shape → List Ended → List Strand
 strands_told shape strands = map (strand_told shape) (filter is_recorded strands)
 
--- the elements of the spares that are kept, in the order of their CPUs
-abbrev pub spare_numbers : List (Option Stored) → List ℕ
-spare_numbers [] = []
-spare_numbers (None ∷ spares) = spare_numbers spares
-spare_numbers (Some body ∷ spares) = body.element ∷ spare_numbers spares
+-- what is known of the map once the turns of its locks were made, with these bits and the spares that are kept
+abbrev pub state_left : Shape → (ℕ → List Entry) → (ℕ → Bool) → List (Option Stored) → State
+state_left shape log bit spares = record {
+  logs = λ lock. log (lock_number shape lock);
+  bits = bit;
+  spares = λ cpu. option_map (λ (body : Stored). body.element) (spare_of cpu spares);
+}
 
--- what is handed out of the turns, the bits, the strands and the spares
+-- What is handed out of the turns and the strands, and what the map holds then, as it is told of a run in serial order: of each
+-- lock that the map has, what its turns lead to.
 pub record IsLeft (shape : Shape) (log : ℕ → List Entry) (lost : ℕ → Bool) (bit : ℕ → Bool) (strands_lost : Bool) (strands : List Ended) (spares : List (Option Stored)) (closed : ClosedView) : Type 0 where
   pub histories_are : closed.histories ≡ histories_of shape log lost
   pub lost_is : closed.lost ≡ list_any lost (all_locks shape)
   pub strands_are : closed.strands ≡ (if strands_lost then [] else strands_told shape strands)
-  pub buckets_counted : length closed.finals.buckets ≡ shape.buckets
-  pub buckets_are : (bucket : ℕ) → bucket < shape.buckets → in_bucket (slice_index_or closed.finals.buckets bucket []) ≡ content shape (Bucket bucket) (log (lock_number shape (Bucket bucket)))
-  pub freelists_counted : length closed.finals.freelists ≡ shape.cpus
-  pub freelists_are : (cpu : ℕ) → cpu < shape.cpus → on_freelist (slice_index_or closed.finals.freelists cpu []) ≡ content shape (Freelist cpu) (log (lock_number shape (Freelist cpu)))
-  pub spares_are : closed.finals.spares ≡ spare_numbers spares
-  pub no_sets : closed.finals.sets ≡ []
-  pub no_locals : closed.finals.locals ≡ []
-  pub marked_are : closed.finals.marked ≡ filter bit (range_with_len 0 shape.elements)
+  pub finals_are : closed.finals ≡ finals_of shape (state_left shape log bit spares)
 
 -- the entries of a history with their places in it
 abbrev pub numbered : ℕ → List Entry → List (ℕ × Entry)
@@ -89,6 +85,12 @@ turns_by strand_at n [] = []
 turns_by strand_at n (turn ∷ turns) =
     if strand_at turn.0 == n then turn ∷ turns_by strand_at n turns else turns_by strand_at n turns
 
+-- Steps in the order in which they were made, each after at least so many: each has a number above that of the one before it.
+abbrev pub AreInOrder : ℕ → List Touch → Type 0
+AreInOrder n [] = Unit {0}
+AreInOrder n (x ∷ xs) = (n ≤ x.1.at) × AreInOrder (suc x.1.at) xs
+
+-- each of these is a step of one of so many strands
 abbrev pub AreBelow : ℕ → List Touch → Type 0
 AreBelow n [] = Unit {0}
 AreBelow n (x ∷ xs) = (x.0 < n) × AreBelow n xs
@@ -102,11 +104,13 @@ pub record AreTurnsOf (k : ℕ) (strands : List Ended) (log : List Entry) : Type
   pub has_cpu : (place : ℕ) (entry : Entry) (strand : Ended) → slice_get log place ≡ Some entry → slice_get strands (strand_at place) ≡ Some strand → is_among entry.cpu strand.cpus ≡ true
   pub turns : (n : ℕ) (strand : Ended) → slice_get strands n ≡ Some strand → turns_on k strand.steps ≡ turns_by strand_at n (numbered 0 log)
 
--- The steps on words are those of the strands, in one order of all of them: each saw what the one before it on its word left,
--- from what the word was at first to what it is, and each strand has its steps in order.
+-- The steps on words are those of the strands, in the order in which they were made: each saw what the one before it on its word
+-- left, from what the word was at first to what it is, and each strand has its steps in order. Their numbers ascend; those that are
+-- left out were made by passes without a CPU, which only read.
 pub record AreTouchesOf (shape : Shape) (strands : List Ended) (words : List ℕ) : Type 0 where
   -- each with its strand, by its place among them
   pub touches : List Touch
+  pub in_order : AreInOrder 0 touches
   pub lead : (i : ℕ) → i < word_count shape → LeadTo i (slice_index_or (opening_words shape) i 0) touches (slice_index_or words i 0)
   pub of_strands : (n : ℕ) (strand : Ended) → slice_get strands n ≡ Some strand → strand.touched ≡ touches_of n touches
   pub within : AreBelow (length strands) touches

@@ -1,5 +1,5 @@
 -- Each operation on a word of the table is the step of the core that has its name, and the rule holds before and after it.
-use Rattle.std.specs.Prelude.{◌≡◌, ◌≢◌, ℕ, ◌+◌, ◌<◌, ◌==◌, true, List, [], ◌∷◌, ◌++◌, Some, IsTrue, IsFalse, length, slice_index, slice_set}
+use Rattle.std.specs.Prelude.{◌≡◌, ◌≢◌, ℕ, ◌+◌, ◌<◌, ◌==◌, true, false, List, [], ◌∷◌, ◌++◌, Some, IsTrue, IsFalse, length, slice_index, slice_set}
 use mathlib.Core.Option.{some, none}
 use lib.ListN.{get_elem?}
 use prog.Atomic.{either}
@@ -24,10 +24,10 @@ use Rattle.place_table.specs.declared.content.Behind.{Behind}
 use Rattle.place_table.specs.declared.view.View.{View}
 use Rattle.place_table.specs.declared.view.Hold.{Hold}
 use Rattle.place_table.specs.Contents.{told, lists_of}
-use Rattle.place_table.specs.Views.{is_among, hold_at, bucket_known, is_in_hand_of, claimed, settled, attached, detached, split_from, split_off, joined, spent}
+use Rattle.place_table.specs.Views.{is_among, hold_at, bucket_known, is_in_hand_of, split_from, split_off, joined, spent}
 use Rattle.place_table.specs.Rules.{Rule, IsAboveAll}
 use Rattle.place_table.specs.Words.{owner_word, home_word, bit_word}
-use Rattle.place_table.specs.Plays.{Seated, MayGive, Tries, Gives, Marks, Clears, SeesBit, SeesOwner, SeesHome, IsKnownHome, MayGoHome, Rehomes, MayClear}
+use Rattle.place_table.specs.Plays.{Seated, MayGive, Tries, Gives, Claims, Settles, Attaches, Detaches, Marks, Clears, SeesBit, SeesOwner, SeesHome, IsKnownHome, MayGoHome, Rehomes, MayClear}
 
 -- A step on the word i, which becomes f of what it was, by a pass with this seat: whatever the table is then, if the rule
 -- holds, there are a view and an act of the seat after which the rule holds again, the core has gone on as it may, and this
@@ -85,28 +85,29 @@ GlanceIsStep =
 abbrev pub ClaimIsStep : Type 0
 ClaimIsStep =
     (shape : Shape) (slots pass : ℕ) (me : Seated) (e : ℕ) (lock : DomainId) (hold : Hold) → e < shape.elements → IsTrue (is_lock shape lock) → hold_at (lock_number shape lock) me.0.held ≡ Some hold → IsHead e hold.now.free
-    → StepsAs shape slots pass me (owner_word shape e) (λ _. 1 + hold.cpu) (goes_by shape (Claim hold.cpu e lock)) (λ _ after. after ≡ (claimed lock e hold.cpu me.0, me.1))
+    → StepsAs shape slots pass me (owner_word shape e) (λ _. 1 + hold.cpu) (goes_by shape (Claim hold.cpu e lock)) (λ _. Claims lock e hold.cpu me)
 
 -- It goes to the head of a lock's free list by a store of 0.
 abbrev pub SettleIsStep : Type 0
 SettleIsStep =
     (shape : Shape) (slots pass : ℕ) (me : Seated) (e : ℕ) (lock : DomainId) (hold : Hold) → e < shape.elements → IsTrue (is_lock shape lock) → hold_at (lock_number shape lock) me.0.held ≡ Some hold → IsFalse (is_bucket lock)
     → is_among hold.cpu me.0.cpus ≡ true → is_in_hand_of e hold.cpu me.0.hand ≡ true → (IsTrue (is_lru shape.kind) → IsIn e (rows hold.now))
-    → StepsAs shape slots pass me (owner_word shape e) (λ _. 0) (goes_by shape (Settle hold.cpu e lock)) (λ _ after. after ≡ (settled lock e hold.cpu me.0, me.1))
+    → StepsAs shape slots pass me (owner_word shape e) (λ _. 0) (goes_by shape (Settle hold.cpu e lock)) (λ _. Settles lock e hold.cpu me)
 
--- It goes to the head of a bucket by a store of 32 and the bucket.
+-- It goes to the head of a bucket by a store of 32 and the bucket. On a map that evicts the CPU doesn't carry it.
 abbrev pub AttachIsStep : Type 0
 AttachIsStep =
     (shape : Shape) (slots pass : ℕ) (me : Seated) (e bucket : ℕ) (hold : Hold) → e < shape.elements → bucket < shape.buckets → hold_at (lock_number shape (Bucket bucket)) me.0.held ≡ Some hold
     → is_among hold.cpu me.0.cpus ≡ true → is_in_hand_of e hold.cpu me.0.hand ≡ true
+    → (IsTrue (is_lru shape.kind) → is_in_hand_of e hold.cpu me.0.carried ≡ false)
     → (IsTrue (is_lru shape.kind) → (bucket_known e hold.cpu me.0.hashes ≡ Some bucket) × ((k : ℕ) (other : Hold) → hold_at k me.0.held ≡ Some other → k ≡ lock_number shape (Bucket bucket)))
-    → StepsAs shape slots pass me (owner_word shape e) (λ _. 32 + bucket) (goes_by shape (Attach hold.cpu e bucket)) (λ _ after. after ≡ (attached bucket e hold.cpu me.0, me.1))
+    → StepsAs shape slots pass me (owner_word shape e) (λ _. 32 + bucket) (goes_by shape (Attach hold.cpu e bucket)) (λ _. Attaches bucket e hold.cpu me)
 
 -- An element of a bucket comes to the hand of the CPU that holds the bucket, by a store of 1 and the CPU.
 abbrev pub DetachIsStep : Type 0
 DetachIsStep =
     (shape : Shape) (slots pass : ℕ) (me : Seated) (e bucket : ℕ) (hold : Hold) → bucket < shape.buckets → hold_at (lock_number shape (Bucket bucket)) me.0.held ≡ Some hold → IsIn e hold.now.first
-    → StepsAs shape slots pass me (owner_word shape e) (λ _. 1 + hold.cpu) (goes_by shape (Detach hold.cpu e bucket)) (λ _ after. after ≡ (detached bucket e hold.cpu me.0, me.1))
+    → StepsAs shape slots pass me (owner_word shape e) (λ _. 1 + hold.cpu) (goes_by shape (Detach hold.cpu e bucket)) (λ _. Detaches bucket e hold.cpu me)
 
 -- The home of an element becomes another by a store of its code, and the element goes from the one's lists to the head of
 -- the other's.

@@ -1,20 +1,25 @@
 -- What the slots of a closed table leave.
-use Rattle.std.specs.Prelude.{◌≡◌, ℕ, ◌<◌, Bool, true, false, not, List, [], map, filter, Option, None, Some, MatchOption, All, Vec, slice_index_or, ◌||◌, if◌then◌else◌}
+use Rattle.std.specs.Prelude.{◌≡◌, ℕ, ◌<◌, Bool, true, false, not, List, [], map, filter, take, drop, Option, None, Some, MatchOption, option_map, option_to_list, All, Vec, slice_index_or, ◌||◌, if◌then◌else◌}
 use Rattle.std.specs.Global.{Global}
-use Rattle.std.specs.List.{range_with_len, list_any}
+use Rattle.std.specs.List.{flat_map, range_with_len, list_any}
 use Rattle.map_types.specs.declared.attr.Shape.{Shape}
+use Rattle.map_types.specs.Kind.{is_lru}
 use Rattle.map_types.specs.Stored.{Stored}
 use Rattle.cpu_freelist.specs.Stack.{numbers}
+use Rattle.place_words.specs.declared.finals.SetFinal.{SetFinal}
 use Rattle.place_words.specs.declared.history.Entry.{Entry}
 use Rattle.place_words.specs.declared.history.LockHistory.{LockHistory}
 use Rattle.place_words.specs.declared.history.Strand.{Strand}
 use Rattle.place_words.specs.Histories.{content}
-use Rattle.place_words.specs.Locks.{lock_named, lock_count}
+use Rattle.place_words.specs.Locks.{lock_named, lock_count, first_set, first_bucket, first_freelist}
+use Rattle.place_words.specs.Logs.{final_set}
+use Rattle.place_words.specs.Sets.{new_set}
 use Rattle.place_table.specs.declared.content.Content.{Content}
-use Rattle.place_table.specs.declared.content.Content.TheVariants.{Bucket, Freelist}
-use Rattle.place_table.specs.Contents.{told, Fits, IsSized}
+use Rattle.place_table.specs.declared.content.Content.TheVariants.{Bucket, Freelist, Set}
+use Rattle.place_table.specs.Contents.{told, set_told, Fits, IsSized}
 use Rattle.place_table.specs.declared.strands.Finished.{Finished}
 use Rattle.place_table.specs.declared.view.Ended.{Ended}
+use Rattle.place_table.specs.Passes.{spare_of}
 use Rattle.place_table.specs.Closing.{ClosedView, has_lock, history_of, strands_told, IsLeft}
 
 -- of each lock by number its turns
@@ -26,11 +31,31 @@ abbrev pub bodies_in : Option Content → List Stored
 bodies_in None = []
 bodies_in (Some (Bucket chain)) = chain.bodies
 bodies_in (Some (Freelist freelist)) = []
+bodies_in (Some (Set set)) = []
 
 abbrev pub numbers_in : Option Content → List ℕ
 numbers_in None = []
 numbers_in (Some (Bucket chain)) = []
 numbers_in (Some (Freelist freelist)) = numbers freelist
+numbers_in (Some (Set set)) = []
+
+-- the elements of a list set, and its cursor
+abbrev pub set_in : Option Content → SetFinal
+set_in None = final_set (new_set [])
+set_in (Some (Bucket chain)) = final_set (new_set [])
+set_in (Some (Freelist freelist)) = final_set (new_set [])
+set_in (Some (Set set)) = final_set (set_told set)
+
+-- the freelists of a map that doesn't evict, and the list sets of one that does, by CPU
+abbrev pub freelists_in : Shape → List (Option Content) → List (List ℕ)
+freelists_in shape contents = if is_lru shape.kind then [] else map numbers_in (drop (first_freelist shape) contents)
+
+abbrev pub sets_in : Shape → List (Option Content) → List SetFinal
+sets_in shape contents = if is_lru shape.kind then map set_in (drop (first_set shape) (take (first_bucket shape) contents)) else []
+
+-- the elements of the spares that are kept, in the order of their CPUs
+abbrev pub spares_in : Shape → List (Option Stored) → List ℕ
+spares_in shape spares = flat_map (λ cpu. option_to_list (option_map (λ (body : Stored). body.element) (spare_of cpu spares))) (range_with_len 0 shape.cpus)
 
 -- the bodies of a bucket have the sizes of the map
 abbrev pub HasSizedBodies : Shape → Option Content → Type 0

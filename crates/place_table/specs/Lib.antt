@@ -1,6 +1,8 @@
+pub mod Calls
 pub mod Closing
 pub mod Contents
 pub mod Flushes
+pub mod InBucket
 pub mod Known
 pub mod Laws
 pub mod Leaving

@@ -1,11 +1,12 @@
--- What a caller of the table knows of its pass: what each call asks, and what it leaves.
+-- What a caller of the table knows of its pass: what each call asks, and what it leaves. The number of a call's step on a word,
+-- `at`, is how many steps on words had been made before it.
 use Rattle.std.specs.Prelude.{◌≡◌, ◌≢◌, ◌⊎◌, ℕ, ◌<◌, Bool, true, false, List, [], ◌∷◌, ◌++◌, map, filter, Option, None, Some, MatchOption, IfSome, IsTrue, IsFalse, All, Vec, slice_index_or}
 use Rattle.std.specs.Global.{Global}
 use Rattle.std.specs.List.{range_with_len}
 use Rattle.atomic_table.specs.Seated.{TableId}
 use Rattle.map_types.specs.declared.attr.Shape.{Shape}
 use Rattle.map_types.specs.declared.kind.DomainId.{DomainId}
-use Rattle.map_types.specs.declared.kind.DomainId.TheVariants.{Bucket}
+use Rattle.map_types.specs.declared.kind.DomainId.TheVariants.{CpuLru, Bucket}
 use Rattle.map_types.specs.declared.kind.MapKind.TheVariants.{Hash}
 use Rattle.map_types.specs.Stored.{Stored}
 use Rattle.place_words.specs.declared.history.Entry.{Entry}
@@ -14,12 +15,12 @@ use Rattle.place_words.specs.declared.history.StrandStep.{StrandStep}
 use Rattle.place_words.specs.declared.owner.Owner.{Owner}
 use Rattle.place_words.specs.declared.home.Home.{Home}
 use Rattle.place_words.specs.declared.home.Home.TheVariants as homes
-use Rattle.place_words.specs.declared.home.Home.TheVariants.{Unlisted}
 use Rattle.map_types.specs.Kind.{is_lru}
 use Rattle.place_words.specs.Codes.{HasHomeCode}
 use Rattle.map_types.specs.ElementLists.{IsIn, IsHead}
 use Rattle.place_words.specs.Histories.{content, IsLegal}
 use Rattle.place_words.specs.Locks.{lock_number, rank_of, is_lock}
+use Rattle.place_words.specs.Takings.{set_of}
 use Rattle.place_core.specs.State.{rows, is_bucket}
 use Rattle.place_core.specs.Places.{MayOwn}
 use Rattle.place_table.specs.declared.content.Content.{Content}
@@ -32,9 +33,9 @@ use Rattle.place_table.specs.declared.view.Notes.{Notes}
 use Rattle.place_table.specs.declared.view.Turned.{Turned}
 use Rattle.place_table.specs.declared.view.Ended.{Ended}
 use Rattle.place_table.specs.Contents.{told, lists_of, Fits, IsSized}
-use Rattle.place_table.specs.Views.{is_among, hold_at, is_in_hand_of, known_log, first_view, place_of, kept_step, holding, given, losing, cleared, bit_read, owner_read, home_read, rehomed, is_recorded, split_from, split_off, joined, bucket_known, home_known}
+use Rattle.place_table.specs.Views.{is_among, hold_at, is_in_hand_of, known_log, first_view, place_of, kept_step, holding, given, losing, claimed, settled, attached, detached, marked, cleared, bit_read, owner_read, home_read, rehomed, is_recorded, split_from, split_off, joined, bucket_known, home_known}
 use Rattle.place_table.specs.Rules.{KeptAs, IsAboveAll}
-use Rattle.place_table.specs.Plays.{AreElements, IsApartFromHands, MayPut, IsInnermost, IsKeptOrLost, IsKnownBit, OwnerFits, IsKnownHome, MayGoHome, MayClear}
+use Rattle.place_table.specs.Plays.{AreElements, IsApartFromHands, MayPut, IsInnermost, IsKeptOrLost, IsKnownBit, OwnerFits, IsKnownHome, HomeFits, MayGoHome, MayClear}
 use Rattle.place_table.specs.TurnNotes.{NotesFit}
 
 -- What a pass is seen as: the table that it is of, its place among the table's passes, the CPU and the call of its last
@@ -162,16 +163,19 @@ pub record Takes (t : TableView) (lock : DomainId) (before after : PassView) (he
   pub hold : Hold
   pub lock_is : hold.lock ≡ lock_number t.shape lock
   pub cpu_is : hold.cpu ≡ before.cpu
-  pub after_is : after ≡ with_view before (holding hold before.view)
+  pub at : ℕ
+  pub after_is : after ≡ with_view before (holding at hold before.view)
   pub told_is : told here ≡ content t.shape lock hold.log
   pub fits : Fits t.shape lock here
   pub now : hold.now ≡ lists_of (told here)
   pub elements : AreElements t.shape hold.now
-  pub apart : IsApartFromHands before.view hold.now
+  pub apart : IsApartFromHands before.view lock hold.now
   pub legal : IsLegal t.shape lock hold.log
   pub known : (log : List Entry) → known_log (lock_number t.shape lock) before.view.known ≡ Some log → hold.log ≡ log
   -- an element whose home was read, and is known to be this lock, is listed under it
   pub at_home : (e c : ℕ) → c < t.shape.cpus → home_known e c after.view.readings ≡ Some (homes.In lock) → IsIn e (rows hold.now)
+  -- where each CPU has a list set of its own, what is in the hand of a CPU of the pass is listed in the set where it lives
+  pub lives : IsTrue (is_lru t.shape.kind) → t.shape.common ≡ false → (e c : ℕ) → is_among c before.view.cpus ≡ true → is_in_hand_of e c before.view.hand ≡ true → lock ≡ CpuLru (set_of t.shape e) → IsIn e (rows hold.now)
 
 abbrev pub entry_of : PassView → Part → Entry
 entry_of p part = record { cpu = p.cpu; call = p.call; part = part }
@@ -190,7 +194,7 @@ pub record CanGive (t : TableView) (lock : DomainId) (p : PassView) (here : Cont
   pub there : IsTrue (is_lock t.shape lock)
   pub lock_is : hold.lock ≡ lock_number t.shape lock
   pub may_put : MayPut t.shape p.view hold (entry_of p part) here
-  pub notes_fit : NotesFit t.shape part notes
+  pub notes_fit : NotesFit t.shape p.view hold part notes
 
 -- what give leaves: the strand has one step more, which is recorded, or lost with the history of the lock
 pub record Gave (before after : PassView) (part : Part) : Type 0 where
@@ -199,7 +203,8 @@ pub record Gave (before after : PassView) (part : Part) : Type 0 where
   pub innermost : IsInnermost before.view hold below
   pub kept : List StrandStep
   pub kept_is : IsKeptOrLost before.view hold kept
-  pub after_is : after ≡ with_view before (given hold (entry_of before part) kept before.view)
+  pub at : ℕ
+  pub after_is : after ≡ with_view before (given at hold (entry_of before part) kept before.view)
 
 -- where there is no part, some part could be given
 abbrev pub CanGiveSome : TableView → DomainId → PassView → Content → Type 0
@@ -212,7 +217,8 @@ MayGiveBack t lock p here part = MatchOption part (CanGiveSome t lock p here) (�
 pub record GaveSome (t : TableView) (lock : DomainId) (before after : PassView) (here : Content) : Type 0 where
   pub part : Part
   pub can : CanGive t lock before here part
-  pub after_is : after ≡ with_view before (losing can.hold (entry_of before part) before.view)
+  pub at : ℕ
+  pub after_is : after ≡ with_view before (losing at can.hold (entry_of before part) before.view)
 
 abbrev pub GaveBack : TableView → DomainId → PassView → PassView → Content → Option Part → Type 0
 GaveBack t lock before after here part =
@@ -238,7 +244,9 @@ pub record CanAttach (t : TableView) (e bucket : ℕ) (p : PassView) : Type 0 wh
   pub held : hold_at (lock_number t.shape (Bucket bucket)) p.view.held ≡ Some hold
   pub cpu_is : hold.cpu ≡ p.cpu
   pub in_hand : is_in_hand_of e p.cpu p.view.hand ≡ true
-  -- on a map that evicts, the last hash that the element was given is of that bucket, and no other lock is held
+  -- on a map that evicts the CPU doesn't carry it
+  pub not_carried : IsTrue (is_lru t.shape.kind) → is_in_hand_of e p.cpu p.view.carried ≡ false
+  -- there the last hash that the element was given is of that bucket, and no other lock is held
   pub hashed : IsTrue (is_lru t.shape.kind) → (bucket_known e p.cpu p.view.hashes ≡ Some bucket) × ((k : ℕ) (other : Hold) → hold_at k p.view.held ≡ Some other → k ≡ lock_number t.shape (Bucket bucket))
 
 -- claim asks for the head of the free list of a lock that the CPU holds
@@ -284,7 +292,24 @@ pub record Rehomed (t : TableView) (e : ℕ) (to : Home) (before after : PassVie
   pub known : (home : Home) → IsKnownHome t.shape before.view before.cpu e home → home ≡ from
   pub owner : Owner
   pub fits : OwnerFits t.shape before.view e owner
-  pub after_is : after ≡ with_view before (rehomed from to owner e before.view)
+  pub at : ℕ
+  pub after_is : after ≡ with_view before (rehomed at from to owner e before.view)
+
+-- what claim, settle, attach, detach and mark leave
+abbrev pub Claimed : DomainId → ℕ → PassView → PassView → Type 0
+Claimed lock e before after = (at : ℕ) × (after ≡ with_view before (claimed at lock e before.cpu before.view))
+
+abbrev pub Settled : DomainId → ℕ → PassView → PassView → Type 0
+Settled lock e before after = (at : ℕ) × (after ≡ with_view before (settled at lock e before.cpu before.view))
+
+abbrev pub Attached : ℕ → ℕ → PassView → PassView → Type 0
+Attached bucket e before after = (at : ℕ) × (after ≡ with_view before (attached at bucket e before.cpu before.view))
+
+abbrev pub Detached : ℕ → ℕ → PassView → PassView → Type 0
+Detached bucket e before after = (at : ℕ) × (after ≡ with_view before (detached at bucket e before.cpu before.view))
+
+abbrev pub Marked : ℕ → PassView → PassView → Type 0
+Marked e before after = (at : ℕ) × (after ≡ with_view before (marked at e before.view))
 
 -- spares are those of a map of kind HASH
 pub record CanSpare (t : TableView) (p : PassView) : Type 0 where
@@ -332,21 +357,25 @@ pub record CanLook (t : TableView) (e : ℕ) (p : PassView) : Type 0 where
 
 pub record Cleared (e : ℕ) (before after : PassView) (bit : Bool) : Type 0 where
   pub known : IsKnownBit e bit before.view
-  pub after_is : after ≡ with_view before (cleared e bit before.view)
+  pub at : ℕ
+  pub after_is : after ≡ with_view before (cleared at e bit before.view)
 
 pub record SawBit (e : ℕ) (before after : PassView) (bit : Bool) : Type 0 where
   pub known : IsKnownBit e bit before.view
-  pub after_is : after ≡ with_view before (bit_read e bit before.view)
+  pub at : ℕ
+  pub after_is : after ≡ with_view before (bit_read at e bit before.view)
 
 pub record SawOwner (t : TableView) (e : ℕ) (before after : PassView) (owner : Owner) : Type 0 where
   pub exists_there : MayOwn t.shape owner
   pub fits : OwnerFits t.shape before.view e owner
-  pub after_is : after ≡ with_view before (owner_read e owner before.view)
+  pub at : ℕ
+  pub after_is : after ≡ with_view before (owner_read at e owner before.view)
 
 pub record SawHome (t : TableView) (e : ℕ) (before after : PassView) (home : Home) : Type 0 where
   pub has_code : HasHomeCode home
-  pub plain : is_lru t.shape.kind ≡ false → home ≡ Unlisted
-  pub after_is : after ≡ with_view before (home_read e home before.view)
+  pub fits : HomeFits t.shape before.view e home
+  pub at : ℕ
+  pub after_is : after ≡ with_view before (home_read at e home before.view)
 
 -- Of these turns, in order, some are recorded behind what was recorded before.
 abbrev pub IsKeptOf : Shape → List Turned → List StrandStep → List StrandStep → Type 0

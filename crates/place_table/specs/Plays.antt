@@ -1,5 +1,6 @@
--- What each step on a word tells of the pass that makes it.
-use Rattle.std.specs.Prelude.{◌≡◌, ◌≢◌, ◌⊎◌, ℕ, ◌<◌, ◌≤◌, ◌-◌, Bool, true, false, List, [], ◌∷◌, ◌++◌, length, Some, MatchOption, IsTrue, IsFalse}
+-- What each step on a word tells of the pass that makes it. Its number, `at`, is how many steps on words had been made before it.
+-- A pass doesn't know it: the rule ties it to the order of all steps.
+use Rattle.std.specs.Prelude.{◌≡◌, ◌≢◌, ◌⊎◌, ◌&&◌, ℕ, ◌<◌, ◌≤◌, ◌-◌, Bool, true, false, List, [], ◌∷◌, ◌++◌, length, Some, MatchOption, IsTrue, IsFalse}
 use Rattle.atomic_table.specs.Table as table
 use Rattle.atomic_table.specs.Table.{Me, rest}
 use Rattle.map_types.specs.declared.attr.Shape.{Shape}
@@ -19,6 +20,7 @@ use Rattle.place_words.specs.Codes.{owner_code, home_code, HasHomeCode}
 use Rattle.map_types.specs.ElementLists.{one, times, IsIn}
 use Rattle.place_words.specs.Histories.{content, content_after, Allows, IsLegal}
 use Rattle.place_words.specs.Locks.{is_lock, lock_named, lock_number}
+use Rattle.place_words.specs.Takings.{set_of}
 use Rattle.place_core.specs.declared.step.Lists.{Lists}
 use Rattle.place_core.specs.State.{rows, is_bucket}
 use Rattle.place_core.specs.Places.{is_in_bucket, MayOwn}
@@ -28,9 +30,10 @@ use Rattle.place_table.specs.declared.content.Behind.{Behind}
 use Rattle.place_table.specs.declared.view.View.{View}
 use Rattle.place_table.specs.declared.view.Hold.{Hold}
 use Rattle.place_table.specs.declared.view.InHand.{InHand}
+use Rattle.place_table.specs.declared.view.HashIn.{HashIn}
 use Rattle.place_table.specs.declared.view.Notes.{Notes}
 use Rattle.place_table.specs.Contents.{told, lists_of, Fits}
-use Rattle.place_table.specs.Views.{is_among, hold_at, is_in_hand_of, known_log, bit_seen, holding, given, losing, kept_step, moved, marked, cleared, bit_read, owner_read, home_read, rehomed, home_known}
+use Rattle.place_table.specs.Views.{is_among, hold_at, is_in_hand_of, known_log, bit_seen, holding, given, losing, kept_step, moved, with_hashes, claimed, settled, attached, detached, marked, cleared, bit_read, owner_read, home_read, rehomed, home_known, came_last}
 use Rattle.place_table.specs.Rules.{Reads, is_hand_of}
 use Rattle.place_table.specs.TurnNotes.{NotesFit, InnermostFits}
 use Rattle.place_table.specs.StoredHashes.{stored_in}
@@ -47,11 +50,12 @@ pub record AreElements (shape : Shape) (lists : Lists) : Type 0 where
   pub free_real : (e : ℕ) → IsIn e lists.free → e < shape.elements
   pub rows_real : (e : ℕ) → IsIn e (rows lists) → e < shape.elements
 
--- What is in the hand of a CPU of the pass is on no free list and in no bucket. On a map that evicts it may be listed.
-abbrev pub IsApartFromHands : View → Lists → Type 0
-IsApartFromHands v lists =
+-- What is in the hand of a CPU of the pass is on no free list and in no bucket. On a map that evicts it may be listed under a lock
+-- that is no bucket.
+abbrev pub IsApartFromHands : View → DomainId → Lists → Type 0
+IsApartFromHands v lock lists =
     (e cpu : ℕ) → is_among cpu v.cpus ≡ true → is_in_hand_of e cpu v.hand ≡ true
-    → (times e lists.free ≡ 0) × (is_lru v.shape.kind ≡ false → times e (rows lists) ≡ 0)
+    → (times e lists.free ≡ 0) × ((is_lru v.shape.kind ≡ false) ⊎ IsTrue (is_bucket lock) → times e (rows lists) ≡ 0)
 
 -- A lock was taken by a CPU: its slot, and what the pass knows of it from then on.
 pub record Took (k cpu : ℕ) (before after : Seated) : Type 0 where
@@ -59,15 +63,18 @@ pub record Took (k cpu : ℕ) (before after : Seated) : Type 0 where
   pub hold : Hold
   pub lock : hold.lock ≡ k
   pub cpu_is : hold.cpu ≡ cpu
-  pub after_is : after ≡ (holding hold before.0, (k, behind) ∷ before.1)
+  pub at : ℕ
+  pub after_is : after ≡ (holding at hold before.0, (k, behind) ∷ before.1)
   pub reads : Reads before.0.shape k hold.log hold.lost behind
   pub now : hold.now ≡ lists_of (content before.0.shape (lock_named before.0.shape k) hold.log)
   pub elements : AreElements before.0.shape hold.now
-  pub apart : IsApartFromHands before.0 hold.now
+  pub apart : IsApartFromHands before.0 (lock_named before.0.shape k) hold.now
   pub legal : IsLegal before.0.shape (lock_named before.0.shape k) hold.log
   pub known : (log : List Entry) → known_log k before.0.known ≡ Some log → hold.log ≡ log
   -- an element whose home was read, and is known to be this lock, is listed under it
   pub at_home : (e c : ℕ) (lock : DomainId) → c < before.0.shape.cpus → home_known e c after.0.readings ≡ Some (homes.In lock) → lock_number before.0.shape lock ≡ k → IsIn e (rows hold.now)
+  -- where each CPU has a list set of its own, what is in the hand of a CPU of the pass is listed in the set where it lives
+  pub lives : IsTrue (is_lru before.0.shape.kind) → before.0.shape.common ≡ false → (e c : ℕ) → e < before.0.shape.elements → is_among c before.0.cpus ≡ true → is_in_hand_of e c before.0.hand ≡ true → lock_number before.0.shape (CpuLru (set_of before.0.shape e)) ≡ k → IsIn e (rows hold.now)
 
 -- a lock is tried: it is taken where nobody held it, else nothing changes
 abbrev pub Tries : table.Step Behind → Seated → ℕ → Seated → Type 0
@@ -82,9 +89,9 @@ pub record MayPut (shape : Shape) (v : View) (hold : Hold) (entry : Entry) (here
   pub allowed : Allows shape entry.cpu entry.part (content shape (lock_named shape hold.lock) hold.log)
   pub same_free : (e : ℕ) → times e (lists_of (told here)).free ≡ times e hold.now.free
   pub same_rows : (e : ℕ) → times e (rows (lists_of (told here))) ≡ times e (rows hold.now)
-  -- on a map that evicts a row has a new hash only where the CPU has its element in hand: else it is that of the row that the
-  -- element had when this lock was taken, or another one that the pass holds
-  pub rows_kept : IsTrue (is_lru shape.kind) → (j e h n : ℕ) (other : Hold) → hold_at j v.held ≡ Some other → (is_in_hand_of e hold.cpu v.hand ≡ false) → stored_in (content shape (lock_named shape j) other.log) e ≡ Some h → stored_in (told here) e ≡ Some n → h ≡ n
+  -- on a map that evicts a row has a new hash only where its element came in this turn and is in the CPU's hand: else it is that
+  -- of the row that the element had when this lock was taken, or another one that the pass holds
+  pub rows_kept : IsTrue (is_lru shape.kind) → (j e h n : ℕ) (other : Hold) → hold_at j v.held ≡ Some other → (is_in_hand_of e hold.cpu v.hand && is_among e (came_last v.notes)) ≡ false → stored_in (content shape (lock_named shape j) other.log) e ≡ Some h → stored_in (told here) e ≡ Some n → h ≡ n
   -- and what was pending when a local lock was taken, and is on its lists no more, was flushed by the turn, or the CPU carries it
   pub gone : IsTrue (is_lru shape.kind) → (c e h : ℕ) → lock_named shape hold.lock ≡ Local c → stored_in (content shape (lock_named shape hold.lock) hold.log) e ≡ Some h → times e (all_of hold.now) ≡ 0 → (is_in_hand_of e hold.cpu v.carried ≡ true) ⊎ (flushes e entry.part ≡ true)
 
@@ -98,7 +105,7 @@ pub record MayGive (shape : Shape) (v : View) (hold : Hold) (entry : Entry) (kep
   pub content_is : behind.content ≡ Some here
   pub may_put : MayPut shape v hold entry here
   pub records : IsRecorded shape v hold entry kept behind
-  pub noted : InnermostFits entry.part v.notes
+  pub noted : InnermostFits shape v hold entry.part v.notes
 
 -- the steps that are recorded after a turn: the one of the turn too, or none more where the record of the lock is lost
 abbrev pub IsKeptOrLost : View → Hold → List StrandStep → Type 0
@@ -114,7 +121,8 @@ pub record Gives (entry : Entry) (kept : List StrandStep) (before after : Seated
   pub below : List Hold
   pub innermost : IsInnermost before.0 hold below
   pub kept_is : IsKeptOrLost before.0 hold kept
-  pub after_is : after ≡ (given hold entry kept before.0, rest before.1)
+  pub at : ℕ
+  pub after_is : after ≡ (given at hold entry kept before.0, rest before.1)
 
 -- the entry of a CPU's turn in a call
 abbrev pub entry_by : ℕ → ℕ → Part → Entry
@@ -132,16 +140,34 @@ pub record GivesSome (cpu call : ℕ) (before after : Seated) : Type 0 where
   pub notes : Notes
   pub notes_below : List Notes
   pub notes_are : before.0.notes ≡ notes ∷ notes_below
-  pub notes_fit : NotesFit before.0.shape part notes
-  pub after_is : after ≡ (losing hold (entry_by cpu call part) before.0, rest before.1)
+  pub notes_fit : NotesFit before.0.shape before.0 hold part notes
+  pub at : ℕ
+  pub after_is : after ≡ (losing at hold (entry_by cpu call part) before.0, rest before.1)
 
--- other lists lie under a lock that is held, and other elements are in hand
-abbrev pub Moves : ℕ → Lists → List InHand → ℕ → ℕ → Seated → Seated → Type 0
-Moves k now hand word left before after = after ≡ (moved k now hand word left before.0, before.1)
+-- other lists lie under a lock that is held, other elements are in hand, with these hashes, and these notes are made
+abbrev pub Moves : ℕ → Lists → List InHand → List HashIn → List Notes → ℕ → ℕ → Seated → Seated → Type 0
+Moves k now hand hashes notes word left before after =
+    (at : ℕ) × (after ≡ (with_hashes hashes (moved at k now hand notes word left before.0), before.1))
+
+-- the head of a lock's free list came to the hand of a CPU
+abbrev pub Claims : DomainId → ℕ → ℕ → Seated → Seated → Type 0
+Claims lock e cpu before after = (at : ℕ) × (after ≡ (claimed at lock e cpu before.0, before.1))
+
+-- an element in the hand of a CPU went to the head of a lock's free list
+abbrev pub Settles : DomainId → ℕ → ℕ → Seated → Seated → Type 0
+Settles lock e cpu before after = (at : ℕ) × (after ≡ (settled at lock e cpu before.0, before.1))
+
+-- an element in the hand of a CPU went to the head of a bucket
+abbrev pub Attaches : ℕ → ℕ → ℕ → Seated → Seated → Type 0
+Attaches bucket e cpu before after = (at : ℕ) × (after ≡ (attached at bucket e cpu before.0, before.1))
+
+-- an element of a bucket came to the hand of a CPU
+abbrev pub Detaches : ℕ → ℕ → ℕ → Seated → Seated → Type 0
+Detaches bucket e cpu before after = (at : ℕ) × (after ≡ (detached at bucket e cpu before.0, before.1))
 
 -- a bit was set
 abbrev pub Marks : ℕ → Seated → Seated → Type 0
-Marks e before after = after ≡ (marked e before.0, before.1)
+Marks e before after = (at : ℕ) × (after ≡ (marked at e before.0, before.1))
 
 -- where the pass knew the bit, this is it
 abbrev pub IsKnownBit : ℕ → Bool → View → Type 0
@@ -152,14 +178,16 @@ pub record Clears (e : ℕ) (before : Seated) (found : ℕ) (after : Seated) : T
   pub bit : Bool
   pub found_is : found ≡ one bit
   pub known : IsKnownBit e bit before.0
-  pub after_is : after ≡ (cleared e bit before.0, before.1)
+  pub at : ℕ
+  pub after_is : after ≡ (cleared at e bit before.0, before.1)
 
 -- a bit was read
 pub record SeesBit (e : ℕ) (before : Seated) (found : ℕ) (after : Seated) : Type 0 where
   pub bit : Bool
   pub found_is : found ≡ one bit
   pub known : IsKnownBit e bit before.0
-  pub after_is : after ≡ (bit_read e bit before.0, before.1)
+  pub at : ℕ
+  pub after_is : after ≡ (bit_read at e bit before.0, before.1)
 
 -- an element is not listed under a lock that is held
 abbrev pub IsNoneListed : View → ℕ → Type 0
@@ -194,15 +222,8 @@ pub record SeesOwner (e : ℕ) (before : Seated) (found : ℕ) (after : Seated) 
   pub found_is : found ≡ owner_code owner
   pub exists_there : MayOwn before.0.shape owner
   pub fits : OwnerFits before.0.shape before.0 e owner
-  pub after_is : after ≡ (owner_read e owner before.0, before.1)
-
--- a home was read, of which a map that doesn't evict tells nothing
-pub record SeesHome (e : ℕ) (before : Seated) (found : ℕ) (after : Seated) : Type 0 where
-  pub home : Home
-  pub found_is : found ≡ home_code home
-  pub has_code : HasHomeCode home
-  pub plain : is_lru before.0.shape.kind ≡ false → home ≡ homes.Unlisted
-  pub after_is : after ≡ (home_read e home before.0, before.1)
+  pub at : ℕ
+  pub after_is : after ≡ (owner_read at e owner before.0, before.1)
 
 -- the CPU holds the lock, as the pass knows
 pub record HoldsLock (shape : Shape) (v : View) (cpu : ℕ) (lock : DomainId) : Type 0 where
@@ -218,6 +239,22 @@ IsKnownHome shape v cpu e homes.Unlisted = ⊥
 IsKnownHome shape v cpu e (homes.In lock) =
     (holds : HoldsLock shape v cpu lock) × IsFalse (is_bucket lock) × IsIn e (all_of holds.hold.now)
 IsKnownHome shape v cpu e (homes.Hand c) = (c ≡ cpu) × (is_in_hand_of e cpu v.carried ≡ true)
+
+-- A home that what the pass knows doesn't rule out. A map that doesn't evict tells of none. On one that does, where each CPU has a
+-- list set of its own, an element's home is the set in which it lives; and a home that the pass knows is the one that is read.
+pub record HomeFits (shape : Shape) (v : View) (e : ℕ) (home : Home) : Type 0 where
+  pub plain : is_lru shape.kind ≡ false → home ≡ homes.Unlisted
+  pub lives : IsTrue (is_lru shape.kind) → shape.common ≡ false → home ≡ homes.In (CpuLru (set_of shape e))
+  pub known : IsTrue (is_lru shape.kind) → (cpu : ℕ) (known : Home) → is_among cpu v.cpus ≡ true → IsKnownHome shape v cpu e known → home ≡ known
+
+-- a home was read
+pub record SeesHome (e : ℕ) (before : Seated) (found : ℕ) (after : Seated) : Type 0 where
+  pub home : Home
+  pub found_is : found ≡ home_code home
+  pub has_code : HasHomeCode home
+  pub fits : HomeFits before.0.shape before.0 e home
+  pub at : ℕ
+  pub after_is : after ≡ (home_read at e home before.0, before.1)
 
 -- A bit may be cleared of what is in the CPU's hand, and on a map that evicts of what stands on the lists of a lock that the
 -- CPU holds.
@@ -251,4 +288,5 @@ pub record Rehomes (e : ℕ) (to : Home) (before after : Seated) : Type 0 where
   pub known : (cpu : ℕ) (home : Home) → is_among cpu before.0.cpus ≡ true → IsKnownHome before.0.shape before.0 cpu e home → home ≡ from
   pub owner : Owner
   pub fits : OwnerFits before.0.shape before.0 e owner
-  pub after_is : after ≡ (rehomed from to owner e before.0, before.1)
+  pub at : ℕ
+  pub after_is : after ≡ (rehomed at from to owner e before.0, before.1)

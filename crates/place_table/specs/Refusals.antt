@@ -8,58 +8,47 @@ use Rattle.map_types.specs.declared.attr.Shape.{Shape}
 use Rattle.place_words.specs.declared.owner.Owner.TheVariants as owners
 use Rattle.place_table.specs.declared.content.Behind.{Behind}
 use Rattle.place_table.specs.declared.view.View.{View}
-use Rattle.place_table.specs.declared.view.Ended.{Ended}
 use Rattle.place_table.specs.declared.view.WordStep.{WordStep}
 use Rattle.place_table.specs.Views.{owner_read}
 use Rattle.place_table.specs.Words.{word_count, owner_word, bit_word}
-use Rattle.place_table.specs.Rules.{Rule}
+use Rattle.place_table.specs.Rules.{Rule, IsSeen}
 use Rattle.place_table.specs.Plays.{Seated, Marks, Clears, SeesBit}
 
--- none of these steps is on this word
-abbrev pub AreOff : ℕ → List WordStep → Type 0
-AreOff word [] = Unit {0}
-AreOff word (x ∷ xs) = (x.word ≢ word) × AreOff word xs
+-- A step is told as it was done: what it tells that it saw in its word was there, what it tells that it left is there after it, and
+-- its number is how many steps had been made.
+pub record IsToldTrue (before after : List ℕ) (made : ℕ) (x : WordStep) : Type 0 where
+  pub saw : IsSeen x.seen (slice_index_or before x.word 0)
+  pub left : slice_index_or after x.word 0 ≡ x.left
+  pub numbered : x.at ≡ made
 
--- no strand of a pass has made a step on the word
-abbrev pub HaveNotTouched : ℕ → List Ended → Type 0
-HaveNotTouched word [] = Unit {0}
-HaveNotTouched word (x ∷ xs) = AreOff word x.touched × HaveNotTouched word xs
-
-abbrev pub HasNotTouched : ℕ → View → Type 0
-HasNotTouched word v = AreOff word v.touched × HaveNotTouched word v.ended
-
--- a pass with this view is there, and no strand but its current one has made a step on the word
-pub record IsAlone (s : table.State Behind View) (pass word : ℕ) (v : View) : Type 0 where
-  pub seated : get_elem? s.views pass ≡ some v
-  pub past : HaveNotTouched word v.ended
-  pub others : (other : ℕ) (u : View) → get_elem? s.views other ≡ some u → other ≢ pass → HasNotTouched word u
-
--- What a step tells that it left in a word is there after it.
+-- Whatever the table and the pass are: where the rule holds before and after, and the pass's strand has one step more, that step is
+-- told as it was done.
 abbrev pub TellsTrue : Type 0
 TellsTrue =
-    (shape : Shape) (s : table.State Behind View) (pass word i n : ℕ) (v u : View) (slots : List (ℕ × Behind)) (act : Act Behind) (x : WordStep) → IsAlone s pass word v → Rule shape (stepped s i n pass slots u act)
-    → word < word_count shape → x.word ≡ word → u.touched ≡ v.touched ++ x ∷ [] → u.ended ≡ v.ended → slice_index_or (slice_set s.words i n) word 0 ≡ x.left
+    (shape : Shape) (s : table.State Behind View) (pass i n : ℕ) (v u : View) (slots : List (ℕ × Behind)) (act : Act Behind) (x : WordStep) (r : Rule shape s) → get_elem? s.views pass ≡ some v → Rule shape (stepped s i n pass slots u act)
+    → x.word < word_count shape → u.touched ≡ v.touched ++ x ∷ [] → u.ended ≡ v.ended → IsToldTrue s.words (slice_set s.words i n) (length r.world.touches) x
 
 -- a mark that stores nothing isn't allowed where the bit isn't set
 abbrev pub MarkStores : Type 0
 MarkStores =
-    (shape : Shape) (slots pass e : ℕ) (me : Seated) (s : table.State Behind View) → Rule shape s → length s.homes ≡ slots → IsAlone s pass (bit_word shape e) me.0 → e < shape.elements → slice_index_or s.words (bit_word shape e) 0 ≡ 0
+    (shape : Shape) (slots pass e : ℕ) (me : Seated) (s : table.State Behind View) → Rule shape s → length s.homes ≡ slots → get_elem? s.views pass ≡ some me.0 → e < shape.elements → slice_index_or s.words (bit_word shape e) 0 ≡ 0
     → ¬ Allows (Rule shape) slots pass me (bit_word shape e) (λ n. n) (λ _. Marks e me)
 
 -- a clear that only loads isn't allowed where it is set
 abbrev pub ClearStores : Type 0
 ClearStores =
-    (shape : Shape) (slots pass e : ℕ) (me : Seated) (s : table.State Behind View) → Rule shape s → length s.homes ≡ slots → IsAlone s pass (bit_word shape e) me.0 → e < shape.elements → slice_index_or s.words (bit_word shape e) 0 ≡ 1
+    (shape : Shape) (slots pass e : ℕ) (me : Seated) (s : table.State Behind View) → Rule shape s → length s.homes ≡ slots → get_elem? s.views pass ≡ some me.0 → e < shape.elements → slice_index_or s.words (bit_word shape e) 0 ≡ 1
     → ¬ Allows (Rule shape) slots pass me (bit_word shape e) (λ n. n) (Clears e me)
 
 -- the bit of another element, told as this one's, isn't allowed where the two differ
 abbrev pub LooksAtItsBit : Type 0
 LooksAtItsBit =
-    (shape : Shape) (slots pass e d : ℕ) (me : Seated) (s : table.State Behind View) → Rule shape s → length s.homes ≡ slots → IsAlone s pass (bit_word shape e) me.0 → e < shape.elements → d < shape.elements
+    (shape : Shape) (slots pass e d : ℕ) (me : Seated) (s : table.State Behind View) → Rule shape s → length s.homes ≡ slots → get_elem? s.views pass ≡ some me.0 → e < shape.elements → d < shape.elements
     → slice_index_or s.words (bit_word shape d) 0 ≡ 1 → slice_index_or s.words (bit_word shape e) 0 ≡ 0 → ¬ Allows (Rule shape) slots pass me (bit_word shape d) (λ n. n) (SeesBit e me)
 
 -- an owner that is told as free, by a step on another word, isn't allowed where the element isn't free
 abbrev pub LooksAtItsOwner : Type 0
 LooksAtItsOwner =
-    (shape : Shape) (slots pass e i : ℕ) (f : ℕ → ℕ) (me : Seated) (s : table.State Behind View) → Rule shape s → length s.homes ≡ slots → IsAlone s pass (owner_word shape e) me.0 → e < shape.elements
-    → owner_word shape e ≢ i → slice_index_or s.words i 0 < 18446744073709551616 → 0 < slice_index_or s.words (owner_word shape e) 0 → ¬ Allows (Rule shape) slots pass me i f (λ _ after. after ≡ (owner_read e owners.Free me.0, me.1))
+    (shape : Shape) (slots pass e i : ℕ) (f : ℕ → ℕ) (me : Seated) (s : table.State Behind View) → Rule shape s → length s.homes ≡ slots → get_elem? s.views pass ≡ some me.0 → e < shape.elements
+    → owner_word shape e ≢ i → slice_index_or s.words i 0 < 18446744073709551616 → 0 < slice_index_or s.words (owner_word shape e) 0
+    → ¬ Allows (Rule shape) slots pass me i f (λ _ after. (at : ℕ) × (after ≡ (owner_read at e owners.Free me.0, me.1)))

@@ -1,10 +1,11 @@
 -- The rule of the table. It holds between any two steps on its words.
-use Rattle.std.specs.Prelude.{◌+◌, ◌≡◌, ◌⊎◌, ℕ, suc, ◌==◌, ◌<◌, Bool, true, false, ◌&&◌, List, [], ◌∷◌, ◌++◌, length, Option, None, Some, MatchOption, MatchBool, IsTrue, slice_index_or, if◌then◌else◌, IsFalse}
+use Rattle.std.specs.Prelude.{◌+◌, ◌≡◌, ◌≢◌, ◌⊎◌, ℕ, suc, ◌==◌, ◌<◌, Bool, true, false, ◌&&◌, List, [], ◌∷◌, ◌++◌, length, Option, None, Some, MatchOption, MatchBool, IsTrue, slice_index_or, if◌then◌else◌, IsFalse}
 use mathlib.Core.Option.{some, none}
 use mathlib.Core.Option as maybe
 use lib.ListN.{get_elem?}
 use Rattle.atomic_table.specs.Table as table
 use Rattle.map_types.specs.declared.attr.Shape.{Shape}
+use Rattle.map_types.specs.declared.kind.DomainId.{DomainId}
 use Rattle.map_types.specs.declared.kind.DomainId.TheVariants.{Local, Global, CpuLru, Bucket, Freelist}
 use Rattle.map_types.specs.Creation.{IsShape}
 use Rattle.map_types.specs.Kind.{is_lru}
@@ -31,13 +32,14 @@ use Rattle.place_table.specs.declared.content.Behind.{Behind}
 use Rattle.place_table.specs.declared.view.View.{View}
 use Rattle.place_table.specs.declared.view.Hold.{Hold}
 use Rattle.place_table.specs.declared.view.InHand.{InHand}
+use Rattle.place_table.specs.declared.view.HashIn.{HashIn}
 use Rattle.place_table.specs.declared.view.Turned.{Turned}
 use Rattle.place_table.specs.declared.view.Ended.{Ended}
 use Rattle.place_table.specs.Flushes.{flushed_last}
 use Rattle.place_table.specs.declared.view.WordStep.{WordStep}
 use Rattle.place_table.specs.Words.{word_count, owner_word, home_word, bit_word, lock_code, opening_words}
 use Rattle.place_table.specs.Contents.{told, lists_of, Fits}
-use Rattle.place_table.specs.Views.{is_among, hold_at, is_in_hand_of, known_log, bit_seen, place_of, bucket_known, home_known}
+use Rattle.place_table.specs.Views.{is_among, hold_at, is_in_hand_of, known_log, bit_seen, place_of, hash_known, home_known, came_at}
 use Rattle.place_table.specs.declared.view.Notes.{Notes}
 use Rattle.place_table.specs.declared.view.OwnerSeen.{OwnerSeen}
 use Rattle.place_table.specs.declared.view.BitAsked.{BitAsked}
@@ -73,7 +75,7 @@ pub record World : Type 0 where
   pub next : ℕ
   -- of an element the stored hash: that of the row that it was last given
   pub hash : ℕ → ℕ
-  -- the steps on all words, in one order
+  -- the steps on all words, in the order in which they were made
   pub touches : List Touch
 
 -- what is recorded of a lock: its turns, or nothing where that is lost
@@ -136,6 +138,26 @@ turns_of strand place (turn ∷ turns) =
 abbrev pub touches_of : ℕ → List Touch → List WordStep
 touches_of strand [] = []
 touches_of strand (x ∷ xs) = if x.0 == strand then x.1 ∷ touches_of strand xs else touches_of strand xs
+
+-- Steps in the order in which they were made, of which so many had been made before: each tells how many came before it.
+abbrev pub AreInTime : ℕ → List Touch → Type 0
+AreInTime n [] = Unit {0}
+AreInTime n (x ∷ xs) = (x.1.at ≡ n) × AreInTime (suc n) xs
+
+-- the strands that gave a lock back, in order: those of the steps on its word that left 0
+abbrev pub givers : ℕ → List Touch → List ℕ
+givers k [] = []
+givers k (x ∷ xs) = if (x.1.word == k) && (x.1.left == 0) then x.0 ∷ givers k xs else givers k xs
+
+-- the strands of turns, in order
+abbrev pub strands_of : List Tagged → List ℕ
+strands_of [] = []
+strands_of (turn ∷ turns) = turn.0 ∷ strands_of turns
+
+-- none of these steps is on this word
+abbrev pub AreOff : ℕ → List WordStep → Type 0
+AreOff word [] = Unit {0}
+AreOff word (x ∷ xs) = (x.word ≢ word) × AreOff word xs
 
 -- Steps that lead a word from one number to another: what each of those on it saw is what the one before it left.
 abbrev pub IsSeen : Option ℕ → ℕ → Type 0
@@ -248,6 +270,26 @@ pub record IsHashOf (shape : Shape) (hash : ℕ → ℕ) (hand : List InHand) (e
   pub in_hand : is_in_hand_of e c hand ≡ true
   pub bucket_is : bucket_number (hash e) shape.buckets ≡ b
 
+-- the CPU holds the lock, and the element is among those that came there in the turn under way: the pass claimed it or brought it in
+pub record HasCome (holder : ℕ → Option ℕ) (came : List ℕ) (k e c : ℕ) : Type 0 where
+  pub held : holder k ≡ Some c
+  pub inside : is_among e came ≡ true
+
+-- what the pass noted last of the stored hash of an element in the hand of a CPU: it gave the hash, or it detached the element
+-- from the bucket of the hash
+pub record HasHash (given : Bool) (hashes : List HashIn) (e c : ℕ) : Type 0 where
+  pub noted : HashIn
+  pub last : hash_known e c hashes ≡ Some noted
+  pub given_is : noted.given ≡ given
+
+-- Of an element in the hand of a CPU of the pass that is listed under a lock: its stored hash is of the bucket of the last one that
+-- the pass gave it since it last was free or in a bucket; or of the bucket from which the pass detached it, and the pass has given
+-- it none since; or the pass claimed it or brought it in during a turn still under way. Where the CPU holds the lock, the element
+-- has a row there with its stored hash since the lock was last given back, or was brought, or has come in the turn under way.
+pub record IsHashed (shape : Shape) (holder : ℕ → Option ℕ) (log : ℕ → List Tagged) (hash : ℕ → ℕ) (hashes : List HashIn) (came : List ℕ) (k e c : ℕ) : Type 0 where
+  pub from : HasHash true hashes e c ⊎ (HasHash false hashes e c ⊎ HasCome holder came k e c)
+  pub row : holder k ≡ Some c → HasRow shape log hash k e ⊎ (IsBrought shape holder log hash k e ⊎ HasCome holder came k e c)
+
 -- An element was flushed from the local lists under this lock: whoever did it still holds the lock, under which it was pending
 -- when it was taken, or the last turn that put the element on pending or took it off flushed it.
 abbrev pub WasFlushed : Shape → (ℕ → Option ℕ) → (ℕ → List Tagged) → ℕ → ℕ → Type 0
@@ -271,32 +313,34 @@ pub record IsReading (shape : Shape) (holder : ℕ → Option ℕ) (log : ℕ �
   pub in_hand : is_in_hand_of e c hand ≡ true
   pub still : StillHome shape holder log e (home e) read
 
--- The steps by which a lock was taken, a bit set, a bit cleared or read, an owner read, and a home read.
-abbrev pub take_step : Hold → WordStep
-take_step hold = record { word = hold.lock; seen = Some 0; left = 1 + hold.cpu }
+-- The steps by which a lock was taken, a bit set, a bit cleared or read, an owner read, and a home read, each with its number.
+abbrev pub take_step : Hold → ℕ → WordStep
+take_step hold at = record { at = at; word = hold.lock; seen = Some 0; left = 1 + hold.cpu }
 
-abbrev pub mark_step : Shape → ℕ → WordStep
-mark_step shape e = record { word = bit_word shape e; seen = None; left = 1 }
+abbrev pub mark_step : Shape → ℕ → ℕ → WordStep
+mark_step shape e at = record { at = at; word = bit_word shape e; seen = None; left = 1 }
 
-abbrev pub bit_step : Shape → BitAsked → WordStep
-bit_step shape x = record {
+abbrev pub bit_step : Shape → BitAsked → ℕ → WordStep
+bit_step shape x at = record {
+  at = at;
   word = bit_word shape x.element;
   seen = Some (one x.bit);
   left = if x.cleared then 0 else one x.bit;
 }
 
-abbrev pub owner_step : Shape → OwnerSeen → WordStep
-owner_step shape x = record { word = owner_word shape x.element; seen = Some (owner_code x.owner); left = owner_code x.owner }
+abbrev pub owner_step : Shape → OwnerSeen → ℕ → WordStep
+owner_step shape x at = record { at = at; word = owner_word shape x.element; seen = Some (owner_code x.owner); left = owner_code x.owner }
 
-abbrev pub home_step : Shape → HomeSeen → WordStep
-home_step shape x = record { word = home_word shape x.element; seen = Some (home_code x.home); left = home_code x.home }
+abbrev pub home_step : Shape → HomeSeen → ℕ → WordStep
+home_step shape x at = record { at = at; word = home_word shape x.element; seen = Some (home_code x.home); left = home_code x.home }
 
-abbrev pub HasStep : WordStep → List WordStep → Type 0
+-- one of these steps is this one, whenever it was made
+abbrev pub HasStep : (ℕ → WordStep) → List WordStep → Type 0
 HasStep x [] = ⊥
-HasStep x (y ∷ ys) = (y ≡ x) ⊎ HasStep x ys
+HasStep x (y ∷ ys) = (y ≡ x y.at) ⊎ HasStep x ys
 
 -- each of these was done by one of these steps
-abbrev pub AreDone : {A : Type 0} → (A → WordStep) → List WordStep → List A → Type 0
+abbrev pub AreDone : {A : Type 0} → (A → ℕ → WordStep) → List WordStep → List A → Type 0
 AreDone by steps [] = Unit {0}
 AreDone by steps (x ∷ xs) = HasStep (by x) steps × AreDone by steps xs
 
@@ -307,13 +351,20 @@ pub record IsDone (shape : Shape) (steps : List WordStep) (notes : Notes) : Type
   pub owners : AreDone (owner_step shape) steps notes.owners
   pub homes : AreDone (home_step shape) steps notes.homes
 
--- What is noted in the turn of a lock that is held was done after the lock was taken. The locks were taken one after another,
--- and what is noted under one of them was done before the next one was taken, or handed on when that was given back.
+-- none of these steps is on the word of one of these locks
+abbrev pub AreOffHeld : List Hold → List WordStep → Type 0
+AreOffHeld [] steps = Unit {0}
+AreOffHeld (hold ∷ holds) steps = AreOff hold.lock steps × AreOffHeld holds steps
+
+-- What is noted in the turn of a lock that is held, which is one of the map's, was done after the lock was taken. Since then the
+-- pass has made no step on the word of that lock, or of one taken before it that is still held: so this was its last take. The
+-- locks were taken one after another, and what is noted under one of them was done before the next one was taken, or handed on
+-- when that was given back.
 abbrev pub AreNoted : Shape → List WordStep → List Hold → List Notes → Type 0
 AreNoted shape steps [] notes = Unit {0}
 AreNoted shape steps (hold ∷ holds) [] = ⊥
 AreNoted shape steps (hold ∷ holds) (n ∷ notes) =
-    (before : List WordStep) × (behind : List WordStep) × (steps ≡ before ++ take_step hold ∷ behind) × IsDone shape behind n × AreNoted shape before holds notes
+    (before : List WordStep) × (behind : List WordStep) × (at : ℕ) × (steps ≡ before ++ take_step hold at ∷ behind) × (hold.lock < lock_count shape) × AreOffHeld (hold ∷ holds) behind × IsDone shape behind n × AreNoted shape before holds notes
 
 -- What a pass knows is so.
 pub record Knows (shape : Shape) (world : World) (pass : ℕ) (v : View) : Type 0 where
@@ -328,8 +379,9 @@ pub record Knows (shape : Shape) (world : World) (pass : ℕ) (v : View) : Type 
   pub hands : (e c : ℕ) → c < shape.cpus → is_in_hand_of e c v.hand ≡ (is_hand_of c (world.core.owner e) && (world.whose c == pass))
   -- those of them that are carried
   pub carried : (e c : ℕ) → c < shape.cpus → is_in_hand_of e c v.carried ≡ (is_home_of c (world.core.home e) && (world.whose c == pass))
-  -- and the buckets of stored hashes
-  pub hashes : (e c b : ℕ) → c < shape.cpus → bucket_known e c v.hashes ≡ Some b → IsHashOf shape world.hash v.hand e c b
+  -- and the buckets of stored hashes, on a map that evicts of each that is listed
+  pub hashes : (e c : ℕ) (noted : HashIn) → c < shape.cpus → hash_known e c v.hashes ≡ Some noted → IsHashOf shape world.hash v.hand e c noted.bucket
+  pub hashed : IsTrue (is_lru shape.kind) → (e c : ℕ) (lock : DomainId) → e < shape.elements → c < shape.cpus → is_in_hand_of e c v.hand ≡ true → world.core.home e ≡ homes.In lock → IsHashed shape world.core.holder world.log world.hash v.hashes (came_at (lock_number shape lock) v.held v.notes) (lock_number shape lock) e c
   -- and the homes that were read of them
   pub readings : (e c : ℕ) (read : Home) → c < shape.cpus → home_known e c v.readings ≡ Some read → IsReading shape world.core.holder world.log world.core.home v.hand e c read
   -- what only a pass with all CPUs keeps: turns of locks and bits
@@ -350,7 +402,7 @@ pub record Knows (shape : Shape) (world : World) (pass : ℕ) (v : View) : Type 
 pub record Rule (shape : Shape) (s : table.State Behind View) : Type 0 where
   pub world : World
   pub is_shape : IsShape shape
-  pub plain : is_lru shape.kind ≡ false
+  pub own_lists : shape.common ≡ false
   pub words : length s.words ≡ word_count shape
   pub slots : length s.homes ≡ lock_count shape
   -- the words tell holders, owners, homes and bits
@@ -369,7 +421,10 @@ pub record Rule (shape : Shape) (s : table.State Behind View) : Type 0 where
   -- each CPU is in a pass, each turn in a strand, and what each pass knows is so
   pub seated : (c : ℕ) → c < shape.cpus → world.whose c < length s.views
   pub tagged : (k : ℕ) → AreTagged world (length s.views) (world.log k)
-  -- the steps on each word lead from what it was at first to what it is, and each is one of a strand
+  -- The steps on words are in the order in which they were made. Those on each word lead from what it was at first to what it is,
+  -- each is one of a strand, and a lock's turns are those of the strands that gave it back, in order.
+  pub in_time : AreInTime 0 world.touches
   pub lead : (i : ℕ) → i < word_count shape → LeadTo i (slice_index_or (opening_words shape) i 0) world.touches (slice_index_or s.words i 0)
   pub of_strands : AreOfStrands world (length s.views) world.touches
+  pub gave_back : (k : ℕ) → k < lock_count shape → givers k world.touches ≡ strands_of (world.log k)
   pub knows : (pass : ℕ) (v : View) → get_elem? s.views pass ≡ some v → Knows shape world pass v

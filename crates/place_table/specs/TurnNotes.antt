@@ -1,58 +1,95 @@
 -- What was done and read in a turn, against what its part tells.
-use Rattle.std.specs.Prelude.{◌≡◌, ◌⊎◌, ℕ, List, [], ◌∷◌, if◌then◌else◌}
+use Rattle.std.specs.Prelude.{◌≡◌, ◌⊎◌, ℕ, Bool, true, All, List, [], ◌∷◌, ◌++◌, reverse, option_to_list, if◌then◌else◌}
 use Rattle.map_types.specs.declared.attr.Shape.{Shape}
-use Rattle.place_words.specs.declared.bucket_part.BucketPart.{BucketPart}
-use Rattle.place_words.specs.declared.bucket_part.BucketPart.TheVariants.{Lookup, Update, Delete, Take, Next, First, Walk, Evict}
+use Rattle.map_types.specs.ElementLists.{IsIn}
 use Rattle.place_words.specs.declared.bucket_part.Seen.{Seen}
 use Rattle.place_words.specs.declared.bucket_part.Seen.TheVariants.{Removed, Held}
 use Rattle.place_words.specs.declared.history.Part.{Part}
 use Rattle.place_words.specs.declared.history.Part.TheVariants as parts
+use Rattle.place_words.specs.declared.list_part.OwnPart.{OwnPart}
+use Rattle.place_words.specs.declared.list_part.OwnPart.TheVariants as own
 use Rattle.place_words.specs.declared.owner.Owner.TheVariants.{Hand}
-use Rattle.place_words.specs.Histories.{marks}
+use Rattle.place_words.specs.declared.visits.Try.{Try}
+use Rattle.place_words.specs.declared.visits.Visit.{Visit}
+use Rattle.place_words.specs.Histories.{marks, bits_cleared, also_cleared}
+use Rattle.place_words.specs.SerialOrder.{probes_in}
+use Rattle.place_table.specs.declared.view.View.{View}
+use Rattle.place_table.specs.declared.view.Hold.{Hold}
 use Rattle.place_table.specs.declared.view.Notes.{Notes}
 use Rattle.place_table.specs.declared.view.OwnerSeen.{OwnerSeen}
 use Rattle.place_table.specs.declared.view.BitAsked.{BitAsked}
+use Rattle.place_table.specs.Views.{is_in_hand_of}
 
--- the owner of an element was read as the hand of a CPU while the lock was the last one taken
+-- Bits
+
+-- of some calls for bits the clears, with what they found
+abbrev pub clears_among : List BitAsked → List Visit
+clears_among [] = []
+clears_among (x ∷ xs) = if x.cleared then record { element = x.element; bit = x.bit } ∷ clears_among xs else clears_among xs
+
+-- those of a turn, in the order in which they were made
+abbrev pub clears_noted : Notes → List Visit
+clears_noted notes = clears_among (reverse notes.asked)
+
+-- The clears of a turn: those that its part tells, in their order, and one of each of these elements besides, wherever it stands
+-- among them.
+abbrev pub AreCleared : List ℕ → List Visit → List Visit → Type 0
+AreCleared [] told clears = clears ≡ told
+AreCleared (e ∷ es) told clears =
+    (before : List Visit) × (bit : Bool) × (behind : List Visit) × (clears ≡ before ++ (record { element = e; bit = bit }) ∷ behind) × AreCleared es told (before ++ behind)
+
+-- Owners
+
+-- the owner of an element was read as the hand of a CPU while the lock was the last one taken, or by a turn inside that told it
 abbrev pub WasReadInHand : ℕ → ℕ → List OwnerSeen → Type 0
 WasReadInHand e cpu [] = ⊥
 WasReadInHand e cpu (x ∷ xs) = ((x.element ≡ e) × (x.owner ≡ Hand cpu)) ⊎ WasReadInHand e cpu xs
 
-abbrev pub SeenFits : ℕ → Seen → Notes → Type 0
-SeenFits e Removed notes = Unit {0}
-SeenFits e (Held holder) notes = WasReadInHand e holder notes.owners
-
 -- a probe that found its element in a hand has read that in this turn
-abbrev pub BucketNotesFit : BucketPart → Notes → Type 0
-BucketNotesFit (Lookup side key got) notes = Unit {0}
-BucketNotesFit (Update side flags key value offer put) notes = Unit {0}
-BucketNotesFit (Delete key _) notes = Unit {0}
-BucketNotesFit (Take key _) notes = Unit {0}
-BucketNotesFit (Next key found) notes = Unit {0}
-BucketNotesFit (First key) notes = Unit {0}
-BucketNotesFit (Walk remove room result) notes = Unit {0}
-BucketNotesFit (Evict e probed) notes = SeenFits e probed notes
+abbrev pub SeenFits : ℕ → Seen → List OwnerSeen → Type 0
+SeenFits e Removed owners = Unit {0}
+SeenFits e (Held holder) owners = WasReadInHand e holder owners
 
-abbrev pub PartNotesFit : Part → Notes → Type 0
-PartNotesFit (parts.Bucket part) notes = BucketNotesFit part notes
-PartNotesFit (parts.Free part) notes = Unit {0}
-PartNotesFit (parts.Local part) notes = ⊥
-PartNotesFit (parts.Global part) notes = ⊥
-PartNotesFit (parts.Own part) notes = ⊥
+abbrev pub ProbeFits : List OwnerSeen → Try → Type 0
+ProbeFits owners probe = SeenFits probe.element probe.probed owners
+
+-- Elements that are given out
+
+-- the element that an own turn gives out
+abbrev pub given_by_own : OwnPart → List ℕ
+given_by_own (own.Turn hash active inactive shrink got) = option_to_list got
+given_by_own (own.Push e) = []
+
+-- Whether the parts of this sort are told of turns: those of lists that the CPUs of a map share are not yet.
+abbrev pub IsServedPart : Part → Type 0
+IsServedPart (parts.Bucket part) = Unit {0}
+IsServedPart (parts.Free part) = Unit {0}
+IsServedPart (parts.Local part) = ⊥
+IsServedPart (parts.Global part) = ⊥
+IsServedPart (parts.Own part) = Unit {0}
+
+abbrev pub given_out_by : Part → List ℕ
+given_out_by (parts.Bucket part) = []
+given_out_by (parts.Free part) = []
+given_out_by (parts.Local part) = []
+given_out_by (parts.Global part) = []
+given_out_by (parts.Own part) = given_by_own part
+
+-- it came to the CPU in this turn, and is in the CPU's hand
+abbrev pub CameToHand : View → Hold → Notes → ℕ → Type 0
+CameToHand v hold notes e = IsIn e notes.came × (is_in_hand_of e hold.cpu v.hand ≡ true)
+
+-- What was done in the turn is what the part tells: the bits that were set are those that the part sets; those that were cleared
+-- are those that it tells, in their order, and those of the elements that it gives out or pushes free; what a probe found in a
+-- hand was read there; and what the turn gives out came to the CPU in it.
+pub record NotesFit (shape : Shape) (v : View) (hold : Hold) (part : Part) (notes : Notes) : Type 0 where
+  pub served : IsServedPart part
+  pub marks_are : notes.marks ≡ marks shape part
+  pub clears_are : AreCleared (also_cleared part) (bits_cleared part) (clears_noted notes)
+  pub held : All (ProbeFits notes.owners) (probes_in part)
+  pub came : All (CameToHand v hold notes) (given_out_by part)
 
 -- the same of the innermost turn
-abbrev pub InnermostFits : Part → List Notes → Type 0
-InnermostFits part [] = Unit {0}
-InnermostFits part (notes ∷ below) = PartNotesFit part notes
-
--- the elements that were cleared, the last first
-abbrev pub cleared_in : List BitAsked → List ℕ
-cleared_in [] = []
-cleared_in (x ∷ xs) = if x.cleared then x.element ∷ cleared_in xs else cleared_in xs
-
--- What was done in the turn is what the part tells: the bits that were set are those that the part sets, and a turn of a
--- bucket or a freelist clears none.
-pub record NotesFit (shape : Shape) (part : Part) (notes : Notes) : Type 0 where
-  pub marks_are : notes.marks ≡ marks shape part
-  pub no_clears : cleared_in notes.asked ≡ []
-  pub seen : PartNotesFit part notes
+abbrev pub InnermostFits : Shape → View → Hold → Part → List Notes → Type 0
+InnermostFits shape v hold part [] = ⊥
+InnermostFits shape v hold part (notes ∷ below) = NotesFit shape v hold part notes

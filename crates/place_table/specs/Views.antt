@@ -54,17 +54,22 @@ abbrev pub is_in_hand_of : ℕ → ℕ → List InHand → Bool
 is_in_hand_of e cpu [] = false
 is_in_hand_of e cpu (x ∷ xs) = if (x.element == e) && (x.cpu == cpu) then true else is_in_hand_of e cpu xs
 
--- the bucket of the stored hash of an element in a CPU's hand, none where it isn't known
+-- what was last noted of the stored hash of an element in a CPU's hand
+abbrev pub hash_known : ℕ → ℕ → List HashIn → Option HashIn
+hash_known e cpu [] = None
+hash_known e cpu (x ∷ xs) = if (x.element == e) && (x.cpu == cpu) then Some x else hash_known e cpu xs
+
+-- the bucket of the last hash that was given to an element in a CPU's hand, none where none was given since it came there
 abbrev pub bucket_known : ℕ → ℕ → List HashIn → Option ℕ
 bucket_known e cpu [] = None
-bucket_known e cpu (x ∷ xs) = if (x.element == e) && (x.cpu == cpu) then Some x.bucket else bucket_known e cpu xs
+bucket_known e cpu (x ∷ xs) =
+    if (x.element == e) && (x.cpu == cpu) then (if x.given then Some x.bucket else None) else bucket_known e cpu xs
 
 -- those that are still in these hands
 abbrev pub kept_hashes : List InHand → List HashIn → List HashIn
 kept_hashes hand [] = []
 kept_hashes hand (x ∷ xs) = if is_in_hand_of x.element x.cpu hand then x ∷ kept_hashes hand xs else kept_hashes hand xs
 
--- those that a content which is given back gives to what is in hand
 -- the home that was read of an element in the hand of a CPU, none where none was
 abbrev pub home_known : ℕ → ℕ → List HomeIn → Option Home
 home_known e cpu [] = None
@@ -102,12 +107,14 @@ readings_then shape hold (x ∷ xs) =
 
 abbrev pub hash_given : ℕ → InHand → Option ℕ → List HashIn → List HashIn
 hash_given buckets x None rest = rest
-hash_given buckets x (Some h) rest = record { element = x.element; cpu = x.cpu; bucket = bucket_number h buckets } ∷ rest
+hash_given buckets x (Some h) rest = record { element = x.element; cpu = x.cpu; bucket = bucket_number h buckets; given = true } ∷ rest
 
-abbrev pub hashes_given : ℕ → Content → List InHand → List HashIn → List HashIn
-hashes_given buckets content [] hashes = hashes
-hashes_given buckets content (x ∷ xs) hashes =
-    hash_given buckets x (stored_in content x.element) (hashes_given buckets content xs hashes)
+-- those that a content which a CPU gives back gives to what came in that turn and is in its hand
+abbrev pub hashes_given : ℕ → ℕ → Content → List ℕ → List InHand → List HashIn → List HashIn
+hashes_given cpu buckets content came [] hashes = hashes
+hashes_given cpu buckets content came (x ∷ xs) hashes =
+    if (x.cpu == cpu) && is_among x.element came then hash_given buckets x (stored_in content x.element) (hashes_given cpu buckets content came xs hashes)
+    else hashes_given cpu buckets content came xs hashes
 
 -- the turns of a lock, none where they aren't known
 abbrev pub known_log : ℕ → List Known → Option (List Entry)
@@ -170,15 +177,15 @@ first_view shape = record {
 }
 
 abbrev pub no_notes : Notes
-no_notes = record { marks = []; asked = []; owners = []; homes = [] }
+no_notes = record { came = []; marks = []; asked = []; owners = []; homes = [] }
 
--- its strand has one step more on a word
-abbrev pub touching : ℕ → Option ℕ → ℕ → View → List WordStep
-touching word seen left v = v.touched ++ record { word = word; seen = seen; left = left } ∷ []
+-- Its strand has one step more on a word. This one and those below are numbered: so many steps on words had been made before.
+abbrev pub touching : ℕ → ℕ → Option ℕ → ℕ → View → List WordStep
+touching at word seen left v = v.touched ++ record { at = at; word = word; seen = seen; left = left } ∷ []
 
 -- one lock more is held
-abbrev pub holding : Hold → View → View
-holding hold v = record {
+abbrev pub holding : ℕ → Hold → View → View
+holding at hold v = record {
   shape = v.shape;
   cpus = v.cpus;
   held = hold ∷ v.held;
@@ -191,7 +198,7 @@ holding hold v = record {
   bits = v.bits;
   steps = v.steps;
   kept = v.kept;
-  touched = touching hold.lock (Some 0) (1 + hold.cpu) v;
+  touched = touching at hold.lock (Some 0) (1 + hold.cpu) v;
   ended = v.ended;
   lost = v.lost;
 }
@@ -203,6 +210,16 @@ holds_below (hold ∷ holds) = holds
 abbrev pub notes_below : List Notes → List Notes
 notes_below [] = []
 notes_below (notes ∷ below) = below
+
+-- the elements that came in the turn of a lock that is held, and those of the lock taken last
+abbrev pub came_at : ℕ → List Hold → List Notes → List ℕ
+came_at k [] notes = []
+came_at k (hold ∷ holds) [] = []
+came_at k (hold ∷ holds) (n ∷ notes) = if hold.lock == k then n.came else came_at k holds notes
+
+abbrev pub came_last : List Notes → List ℕ
+came_last [] = []
+came_last (n ∷ notes) = n.came
 
 -- a turn of the lock k, after these turns there
 abbrev pub turned : ℕ → List Entry → Entry → Turned
@@ -248,21 +265,21 @@ owners_passed (parts.Global part) below = below
 owners_passed (parts.Own part) below = below
 
 -- the lock taken last is given back with this entry, and these steps are recorded then
-abbrev pub given : Hold → Entry → List StrandStep → View → View
-given hold entry kept v = record {
+abbrev pub given : ℕ → Hold → Entry → List StrandStep → View → View
+given at hold entry kept v = record {
   shape = v.shape;
   cpus = v.cpus;
   held = holds_below v.held;
   hand = v.hand;
   carried = v.carried;
-  hashes = if is_lru v.shape.kind then hashes_given v.shape.buckets (content_after v.shape entry.cpu entry.part (content v.shape (lock_named v.shape hold.lock) hold.log)) v.hand v.hashes else v.hashes;
+  hashes = if is_lru v.shape.kind then hashes_given hold.cpu v.shape.buckets (content_after v.shape entry.cpu entry.part (content v.shape (lock_named v.shape hold.lock) hold.log)) (came_last v.notes) v.hand v.hashes else v.hashes;
   readings = v.readings;
   notes = owners_passed entry.part (notes_below v.notes);
   known = learned hold entry v;
   bits = v.bits;
   steps = v.steps ++ turned hold.lock hold.log entry ∷ [];
   kept = kept;
-  touched = touching hold.lock None 0 v;
+  touched = touching at hold.lock None 0 v;
   ended = v.ended;
   lost = v.lost;
 }
@@ -287,8 +304,8 @@ with_lost lost v = record {
   lost = lost;
 }
 
-abbrev pub losing : Hold → Entry → View → View
-losing hold entry v = with_lost (hold.lock ∷ v.lost) (given hold entry v.kept v)
+abbrev pub losing : ℕ → Hold → Entry → View → View
+losing at hold entry v = with_lost (hold.lock ∷ v.lost) (given at hold entry v.kept v)
 
 -- other notes and other bits known
 abbrev pub noted : List Notes → List BitSeen → List WordStep → List HomeIn → View → View
@@ -331,23 +348,23 @@ with_home_read e home (n ∷ below) = record n { homes = record { element = e; h
 abbrev pub bits_with : ℕ → Bool → View → List BitSeen
 bits_with e bit v = if has_all v then record { element = e; bit = bit } ∷ v.bits else v.bits
 
-abbrev pub marked : ℕ → View → View
-marked e v = noted (with_mark e v.notes) (bits_with e true v) (touching (bit_word v.shape e) None 1 v) v.readings v
+abbrev pub marked : ℕ → ℕ → View → View
+marked at e v = noted (with_mark e v.notes) (bits_with e true v) (touching at (bit_word v.shape e) None 1 v) v.readings v
 
 -- the bit was this, and is 0 now
-abbrev pub cleared : ℕ → Bool → View → View
-cleared e was v = noted (with_clear e was v.notes) (bits_with e false v) (touching (bit_word v.shape e) (Some (one was)) 0 v) v.readings v
+abbrev pub cleared : ℕ → ℕ → Bool → View → View
+cleared at e was v = noted (with_clear e was v.notes) (bits_with e false v) (touching at (bit_word v.shape e) (Some (one was)) 0 v) v.readings v
 
-abbrev pub bit_read : ℕ → Bool → View → View
-bit_read e bit v = noted (with_bit_read e bit v.notes) (bits_with e bit v) (touching (bit_word v.shape e) (Some (one bit)) (one bit) v) v.readings v
+abbrev pub bit_read : ℕ → ℕ → Bool → View → View
+bit_read at e bit v = noted (with_bit_read e bit v.notes) (bits_with e bit v) (touching at (bit_word v.shape e) (Some (one bit)) (one bit) v) v.readings v
 
-abbrev pub owner_read : ℕ → Owner → View → View
-owner_read e owner v =
-    noted (with_owner_read e owner v.notes) v.bits (touching (owner_word v.shape e) (Some (owner_code owner)) (owner_code owner) v) v.readings v
+abbrev pub owner_read : ℕ → ℕ → Owner → View → View
+owner_read at e owner v =
+    noted (with_owner_read e owner v.notes) v.bits (touching at (owner_word v.shape e) (Some (owner_code owner)) (owner_code owner) v) v.readings v
 
-abbrev pub home_read : ℕ → Home → View → View
-home_read e home v =
-    noted (with_home_read e home v.notes) v.bits (touching (home_word v.shape e) (Some (home_code home)) (home_code home) v) (with_reading e home v.hand v.readings) v
+abbrev pub home_read : ℕ → ℕ → Home → View → View
+home_read at e home v =
+    noted (with_home_read e home v.notes) v.bits (touching at (home_word v.shape e) (Some (home_code home)) (home_code home) v) (with_reading e home v.hand v.readings) v
 
 -- what lies under a lock that is held, as the pass knows it, and the locks held where other lists lie under one
 abbrev pub now_at : ℕ → List Hold → Lists
@@ -360,6 +377,12 @@ with_now k now (hold ∷ holds) =
     if hold.lock == k then record { lock = hold.lock; cpu = hold.cpu; log = hold.log; now = now; lost = hold.lost } ∷ holds
     else hold ∷ with_now k now holds
 
+-- an element comes from the free list of a lock, or to its lists from another home, in the turn of that lock
+abbrev pub with_came : ℕ → ℕ → List Hold → List Notes → List Notes
+with_came k e [] notes = notes
+with_came k e (hold ∷ holds) [] = []
+with_came k e (hold ∷ holds) (n ∷ notes) = if hold.lock == k then record n { came = e ∷ n.came } ∷ notes else n ∷ with_came k e holds notes
+
 -- an element comes to the hand of a CPU, or leaves it
 abbrev pub with_in_hand : ℕ → ℕ → List InHand → List InHand
 with_in_hand e cpu hand = record { element = e; cpu = cpu } ∷ hand
@@ -369,9 +392,15 @@ without_in_hand e cpu [] = []
 without_in_hand e cpu (x ∷ xs) =
     if (x.element == e) && (x.cpu == cpu) then without_in_hand e cpu xs else x ∷ without_in_hand e cpu xs
 
--- other lists lie under locks that are held, and other elements are in hand or carried
-abbrev pub with_places : List Hold → List InHand → List InHand → List HomeIn → List WordStep → View → View
-with_places held hand carried readings touched v = record {
+-- one that comes to a home, which is noted where that is a lock
+abbrev pub with_come_home : Shape → Home → ℕ → List Hold → List Notes → List Notes
+with_come_home shape homes.Unlisted e held notes = notes
+with_come_home shape (homes.In lock) e held notes = with_came (lock_number shape lock) e held notes
+with_come_home shape (homes.Hand cpu) e held notes = notes
+
+-- other lists lie under locks that are held, other elements are in hand or carried, and other notes are made
+abbrev pub with_places : List Hold → List InHand → List InHand → List HomeIn → List Notes → List WordStep → View → View
+with_places held hand carried readings notes touched v = record {
   shape = v.shape;
   cpus = v.cpus;
   held = held;
@@ -379,7 +408,7 @@ with_places held hand carried readings touched v = record {
   carried = carried;
   hashes = kept_hashes hand v.hashes;
   readings = readings;
-  notes = v.notes;
+  notes = notes;
   known = v.known;
   bits = v.bits;
   steps = v.steps;
@@ -389,34 +418,44 @@ with_places held hand carried readings touched v = record {
   lost = v.lost;
 }
 
--- by a step that leaves a word so, other lists lie under one lock that is held, and other elements are in hand
-abbrev pub moved : ℕ → Lists → List InHand → ℕ → ℕ → View → View
-moved k now hand word left v =
-    with_places (with_now k now v.held) hand v.carried (kept_readings hand v.readings) (touching word None left v) v
+-- by a step that leaves a word so, other lists lie under one lock that is held, other elements are in hand, and these notes are
+-- made
+abbrev pub moved : ℕ → ℕ → Lists → List InHand → List Notes → ℕ → ℕ → View → View
+moved at k now hand notes word left v =
+    with_places (with_now k now v.held) hand v.carried (kept_readings hand v.readings) notes (touching at word None left v) v
 
 -- what the pass knows to lie under a lock of this name
 abbrev pub now_under : DomainId → View → Lists
 now_under lock v = now_at (lock_number v.shape lock) v.held
 
--- the head of a lock's free list comes to a CPU's hand
-abbrev pub claimed : DomainId → ℕ → ℕ → View → View
-claimed lock e cpu v =
-    moved (lock_number v.shape lock) (with_row lock e (without_free e (now_under lock v))) (with_in_hand e cpu v.hand) (owner_word v.shape e) (1 + cpu) v
+-- the head of a lock's free list comes to a CPU's hand, which is noted in the turn of that lock
+abbrev pub claimed : ℕ → DomainId → ℕ → ℕ → View → View
+claimed at lock e cpu v =
+    moved at (lock_number v.shape lock) (with_row lock e (without_free e (now_under lock v))) (with_in_hand e cpu v.hand) (with_came (lock_number v.shape lock) e v.held v.notes) (owner_word v.shape e) (1 + cpu) v
 
 -- an element in a CPU's hand goes to the head of a lock's free list
-abbrev pub settled : DomainId → ℕ → ℕ → View → View
-settled lock e cpu v =
-    moved (lock_number v.shape lock) (with_free e (without_row e (now_under lock v))) (without_in_hand e cpu v.hand) (owner_word v.shape e) 0 v
+abbrev pub settled : ℕ → DomainId → ℕ → ℕ → View → View
+settled at lock e cpu v =
+    moved at (lock_number v.shape lock) (with_free e (without_row e (now_under lock v))) (without_in_hand e cpu v.hand) v.notes (owner_word v.shape e) 0 v
 
 -- an element in a CPU's hand goes to the head of a bucket
-abbrev pub attached : ℕ → ℕ → ℕ → View → View
-attached bucket e cpu v =
-    moved (lock_number v.shape (Bucket bucket)) (with_row (Bucket bucket) e (now_under (Bucket bucket) v)) (without_in_hand e cpu v.hand) (owner_word v.shape e) (32 + bucket) v
+abbrev pub attached : ℕ → ℕ → ℕ → ℕ → View → View
+attached at bucket e cpu v =
+    moved at (lock_number v.shape (Bucket bucket)) (with_row (Bucket bucket) e (now_under (Bucket bucket) v)) (without_in_hand e cpu v.hand) v.notes (owner_word v.shape e) (32 + bucket) v
+
+-- other hashes are known
+abbrev pub with_hashes : List HashIn → View → View
+with_hashes hashes v = record v { hashes = hashes }
+
+-- On a map that evicts an element that comes to a CPU's hand from a bucket has a hash of that bucket, which wasn't given to it.
+abbrev pub with_hash_of : ℕ → ℕ → ℕ → View → View
+with_hash_of bucket e cpu v =
+    with_hashes (if is_lru v.shape.kind then record { element = e; cpu = cpu; bucket = bucket; given = false } ∷ v.hashes else v.hashes) v
 
 -- an element of a bucket comes to a CPU's hand
-abbrev pub detached : ℕ → ℕ → ℕ → View → View
-detached bucket e cpu v =
-    moved (lock_number v.shape (Bucket bucket)) (without_row e (now_under (Bucket bucket) v)) (with_in_hand e cpu v.hand) (owner_word v.shape e) (1 + cpu) v
+abbrev pub detached : ℕ → ℕ → ℕ → ℕ → View → View
+detached at bucket e cpu v =
+    with_hash_of bucket e cpu (moved at (lock_number v.shape (Bucket bucket)) (without_row e (now_under (Bucket bucket) v)) (with_in_hand e cpu v.hand) v.notes (owner_word v.shape e) (1 + cpu) v)
 
 -- An element leaves a home or comes to one: the lists of a lock that is held, or the hand of a CPU that carries it.
 abbrev pub held_without : Shape → Home → Owner → ℕ → List Hold → List Hold
@@ -441,10 +480,10 @@ carried_with homes.Unlisted e carried = carried
 carried_with (homes.In lock) e carried = carried
 carried_with (homes.Hand cpu) e carried = with_in_hand e cpu carried
 
--- an element of this owner goes from one home to the head of another
-abbrev pub rehomed : Home → Home → Owner → ℕ → View → View
-rehomed from to owner e v =
-    with_places (held_with v.shape to owner e (held_without v.shape from owner e v.held)) v.hand (carried_with to e (carried_without from e v.carried)) (without_readings e v.readings) (touching (home_word v.shape e) None (home_code to) v) v
+-- an element of this owner goes from one home to the head of another, which is noted in the turn of a lock that it comes to
+abbrev pub rehomed : ℕ → Home → Home → Owner → ℕ → View → View
+rehomed at from to owner e v =
+    with_places (held_with v.shape to owner e (held_without v.shape from owner e v.held)) v.hand (carried_with to e (carried_without from e v.carried)) (without_readings e v.readings) (with_come_home v.shape to e v.held v.notes) (touching at (home_word v.shape e) None (home_code to) v) v
 
 -- the CPUs of a pass without one
 abbrev pub without_cpu : ℕ → List ℕ → List ℕ

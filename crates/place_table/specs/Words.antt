@@ -2,9 +2,10 @@
 use Rattle.std.specs.Prelude.{ℕ, ◌+◌, ◌*◌, List, ◌++◌, map, replicate, Option, None, Some}
 use Rattle.std.specs.List.{range_with_len}
 use Rattle.map_types.specs.declared.attr.Shape.{Shape}
-use Rattle.place_words.specs.Codes.{owner_code}
+use Rattle.place_words.specs.Codes.{owner_code, home_code}
 use Rattle.place_words.specs.Locks.{lock_count}
 use Rattle.place_words.specs.Openings.{opening_owner}
+use Rattle.place_core.specs.Opening.{opening_home}
 
 -- First those of the locks, then the owners of the elements, their homes, and their bits.
 abbrev pub word_count : Shape → ℕ
@@ -29,7 +30,12 @@ abbrev pub opening_codes : Shape → List ℕ
 opening_codes shape =
     map owner_code (map (opening_owner shape shape.kind) (range_with_len 0 shape.elements))
 
--- Nobody holds a lock, each element has its first owner, no home is told, and no bit is set.
+-- and their homes
+abbrev pub opening_home_codes : Shape → List ℕ
+opening_home_codes shape =
+    map home_code (map (opening_home shape) (range_with_len 0 shape.elements))
+
+-- Nobody holds a lock, each element has its first owner and its first home, and no bit is set.
 unfoldable pub opening_words : Shape → List ℕ
 opening_words shape =
-    (replicate (lock_count shape) 0 ++ opening_codes shape) ++ replicate (2 * shape.elements) 0
+    ((replicate (lock_count shape) 0 ++ opening_codes shape) ++ opening_home_codes shape) ++ replicate shape.elements 0

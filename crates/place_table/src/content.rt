@@ -4,7 +4,12 @@ ghost use Rattle.std.specs.Prelude.{◌≡◌, None};
 
 use bucket_chain::Chain;
 use cpu_freelist::Freelist;
+use lru_lists::ListSet;
 use place_words::Entry;
+use row_list::PlainRows;
+
+/// The lists of rows of a map that evicts.
+pub type Listing = PlainRows;
 
 /// What lies under a lock.
 #[derive(Drop)]
@@ -13,6 +18,8 @@ pub enum Content {
     Bucket(Chain),
     /// The free elements of a CPU.
     Freelist(Freelist),
+    /// The active, inactive and free elements of a CPU's own set, with the cursor of its rotation.
+    Set(ListSet<Listing>),
 }
 
 /// What stands in the slot of a lock: the content, which is out while the lock is held, and the turns of the lock, none

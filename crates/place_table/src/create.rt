@@ -1,37 +1,40 @@
 //! A table at its opening.
 
-ghost use Rattle.std.specs.Prelude.{◌≡◌, ◌+◌, ◌≤◌, ◌++◌, false, [], length, map, replicate, All, IfOk, OnOk};
+ghost use Rattle.std.specs.Prelude.{◌≡◌, ◌+◌, ◌<◌, ◌≤◌, ◌++◌, ℕ, false, [], length, map, replicate, All, IfOk, OnOk};
 ghost use Rattle.map_types.specs.Creation.{IsShape};
-ghost use Rattle.map_types.specs.Kind.{is_lru};
+ghost use Rattle.map_types.specs.ElementLists.{times, IsIn};
 ghost use Rattle.place_words.specs.Bodies.{numbers};
 ghost use Rattle.place_words.specs.Codes.{owner_code, HasOwnerCode};
 ghost use Rattle.place_words.specs.Locks.{lock_count};
+ghost use Rattle.place_words.specs.Sets.{new_set};
 ghost use Rattle.place_core.specs.OpeningView.{AreOpeningOwners};
-ghost use Rattle.place_table.specs.Contents.{IsSized};
+ghost use Rattle.place_table.specs.Contents.{IsSized, FitsSet, set_told};
 ghost use Rattle.place_table.specs.Opening.{IsFirstContent, IsFirstSlot, AreFirstSlots, first_spares, AreBodiesOf};
-ghost use Rattle.place_table.specs.Words.{opening_words};
+ghost use Rattle.place_table.specs.Words.{opening_words, opening_home_codes};
 ghost use Rattle.place_table.specs.Passes.{IsFirstPass};
 
-use crate::content::{Behind, Content};
+use crate::content::{Behind, Content, Listing};
 use crate::cpus::first_cpus;
 use crate::pass::Pass;
 use crate::table::PlaceTable;
 use atomic_table::Table;
 use bucket_chain::Chain;
 use cpu_freelist::Freelist;
+use lru_lists::ListSet;
 use map_types::{DomainId, MapKind, NoMemory, Shape};
 use percpu_values::BoxedBody;
-use place_core::{free_at_first, owners_at_first, spares_at_first};
-use place_words::{Owner, is_lock, lock_named, owner_code};
+use place_core::{free_at_first, home_at_first, owners_at_first, spares_at_first};
+use place_words::{Owner, home_code, is_lock, lock_named, owner_code};
 use std::alloc::Global;
 
 impl PlaceTable {
-    /// A table at its opening, and its first pass. All buckets are empty, and the elements lie in the freelists of the CPUs,
-    /// but for the spare elements of a map of kind HASH. The pass has all CPUs and all spares, is in no call and has begun
-    /// none. Memory for all elements is found here, and only want of it is refused. Kinds that evict are not served yet.
+    /// A table at its opening, and its first pass. All buckets are empty. The elements lie in the freelists of the CPUs, but for
+    /// the spare elements of a map of kind HASH, or on a map that evicts free in the list sets of the CPUs. The pass has all
+    /// CPUs and all spares, is in no call and has begun none. Memory for all elements is found here, and only want of it is
+    /// refused. Maps whose CPUs share lists are not served yet.
     pub fn create(alloc: Global, shape: &Shape) -> Result<(PlaceTable, Pass), NoMemory>
         requires shape { IsShape shape.now }
-        requires plain { is_lru shape.now.kind ≡ false }
+        requires own_lists { shape.now.common ≡ false }
         ensures { IfOk result (λ made. (made.0.shape ≡ shape.now) × IsFirstPass made.0 made.1) }
     {
         let owners = owners_at_first(alloc, shape)?;
@@ -81,6 +84,17 @@ fn push_codes(words: &mut Vec<u64>, owners: &[Owner]) -> Result<(), NoMemory>
     Ok(())
 }
 
+/// Adds the codes of the homes of all elements.
+fn push_homes(words: &mut Vec<u64>, shape: &Shape) -> Result<(), NoMemory>
+    requires { IsShape shape.now }
+    ensures { OnOk result (words.new.items ≡ words.old.items ++ opening_home_codes shape.now) }
+{
+    for element in 0..shape.elements {
+        words.push(home_code(home_at_first(shape, element)))?;
+    }
+    Ok(())
+}
+
 /// How many locks are numbered.
 fn count_locks(shape: &Shape) -> u32
     requires { IsShape shape.now }
@@ -89,7 +103,7 @@ fn count_locks(shape: &Shape) -> u32
     3 * shape.cpus + 1 + shape.buckets
 }
 
-/// The words of the locks, of the owners, and of the homes and bits.
+/// The words of the locks, of the owners, of the homes, and of the bits.
 fn first_words(alloc: Global, shape: &Shape, owners: &[Owner]) -> Result<Vec<u64>, NoMemory>
     requires shape { IsShape shape.now }
     requires owners { AreOpeningOwners shape.now owners.now }
@@ -98,7 +112,8 @@ fn first_words(alloc: Global, shape: &Shape, owners: &[Owner]) -> Result<Vec<u64
     let mut words = Vec::new(alloc);
     push_zeros(&mut words, count_locks(shape))?;
     push_codes(&mut words, owners)?;
-    push_zeros(&mut words, 2 * shape.elements)?;
+    push_homes(&mut words, shape)?;
+    push_zeros(&mut words, shape.elements)?;
     Ok(words)
 }
 
@@ -131,6 +146,23 @@ fn freelist_of(alloc: Global, shape: &Shape, elements: &[u32]) -> Result<Freelis
     Ok(freelist)
 }
 
+/// A list set with these elements free, the first at the head, and with room for all elements of the map.
+fn set_of(alloc: Global, shape: &Shape, elements: &[u32]) -> Result<ListSet<Listing>, NoMemory>
+    requires few { length elements.now ≤ shape.now.elements }
+    requires real { (e : ℕ) → IsIn e elements.now → e < shape.now.elements }
+    requires once { (e : ℕ) → times e elements.now ≤ 1 }
+    ensures told { IfOk result (λ set. set_told set ≡ new_set elements.now) }
+    ensures fits { IfOk result (FitsSet shape.now) }
+{
+    let mut set = ListSet::create(alloc, shape.elements)?;
+    let mut left = elements.len();
+    while left > 0 {
+        left -= 1;
+        set.free_push(new_body(alloc, shape, elements[left])?);
+    }
+    Ok(set)
+}
+
 /// What lies under a lock at first, or nothing where the map has no such lock.
 fn first_content(
     alloc: Global,
@@ -139,7 +171,7 @@ fn first_content(
     lock: DomainId,
 ) -> Result<Option<Content>, NoMemory>
     requires shape { IsShape shape.now }
-    requires plain { is_lru shape.now.kind ≡ false }
+    requires own_lists { shape.now.common ≡ false }
     requires owners { AreOpeningOwners shape.now owners.now }
     ensures { IfOk result (λ content. IsFirstContent shape.now lock content) }
 {
@@ -153,15 +185,20 @@ fn first_content(
             let freelist = freelist_of(alloc, shape, free.as_slice())?;
             Ok(Some(Content::Freelist(freelist)))
         }
-        // A map that doesn't evict has no such lock.
-        DomainId::Local(_) | DomainId::Global | DomainId::CpuLru(_) => Ok(None),
+        DomainId::CpuLru(_) => {
+            let free = free_at_first(alloc, shape, owners, lock)?;
+            let set = set_of(alloc, shape, free.as_slice())?;
+            Ok(Some(Content::Set(set)))
+        }
+        // A map whose CPUs share no lists has no such lock.
+        DomainId::Local(_) | DomainId::Global => Ok(None),
     }
 }
 
 /// What stands in the slot of a lock at first.
 fn first_slot(alloc: Global, shape: &Shape, owners: &[Owner], lock: u32) -> Result<Behind, NoMemory>
     requires shape { IsShape shape.now }
-    requires plain { is_lru shape.now.kind ≡ false }
+    requires own_lists { shape.now.common ≡ false }
     requires owners { AreOpeningOwners shape.now owners.now }
     ensures { IfOk result (λ behind. IsFirstSlot shape.now lock behind) }
 {
@@ -175,7 +212,7 @@ fn first_slot(alloc: Global, shape: &Shape, owners: &[Owner], lock: u32) -> Resu
 /// What stands in the slots of all locks at first.
 fn first_slots(alloc: Global, shape: &Shape, owners: &[Owner]) -> Result<Vec<Behind>, NoMemory>
     requires shape { IsShape shape.now }
-    requires plain { is_lru shape.now.kind ≡ false }
+    requires own_lists { shape.now.common ≡ false }
     requires owners { AreOpeningOwners shape.now owners.now }
     ensures { IfOk result (λ slots. AreFirstSlots shape.now (lock_count shape.now) slots.items) }
 {

@@ -22,9 +22,9 @@ pub fn word_laws()
     ensures join { JoinIsNoStep }
 {}
 
-/// What a pass tells of a step on a word is so: the word is then what the step tells, where nobody else has made a step on
-/// it. So no table allows a mark that stores nothing, a clear that only loads, or another word's reading told as a bit's or
-/// an owner's.
+/// What a pass tells of a step on a word is so, in every table and every pass: what it saw was in the word, and what it left is
+/// there after it. So no table allows a mark that stores nothing, a clear that only loads, or another word's reading told as
+/// a bit's or an owner's.
 pub fn told_laws()
     ensures told { TellsTrue }
     ensures mark { MarkStores }

@@ -1,24 +1,29 @@
 //! What a closed table leaves, read of its slots.
 
-ghost use Rattle.std.specs.Prelude.{◌≡◌, ◌≤◌, ℕ, ◌+◌, Bool, List, true, false, All, IfOk, OnOk, drop, filter, length, map, slice_index_or, slice_range};
+ghost use Rattle.std.specs.Prelude.{◌≡◌, ◌≤◌, ℕ, ◌+◌, Bool, List, [], true, false, All, IfOk, OnOk, drop, filter, length, map, slice_index_or, slice_range, take};
 ghost use Rattle.std.specs.List.{range_with_len};
 ghost use Rattle.cpu_freelist.specs.Stack.{numbers};
+ghost use Rattle.lru_lists.specs.Sets.{numbers_of};
 ghost use Rattle.map_types.specs.Creation.{IsShape};
-ghost use Rattle.map_types.specs.Kind.{is_lru};
 ghost use Rattle.place_words.specs.Locks.{lock_count, first_bucket, first_freelist};
+ghost use Rattle.place_words.specs.Logs.{final_set};
+ghost use Rattle.place_words.specs.Sets.{new_set};
 ghost use Rattle.place_table.specs.declared.view.Ended.{Ended};
-ghost use Rattle.place_table.specs.Closing.{has_lock, spare_numbers};
-ghost use Rattle.place_table.specs.Leaving.{Logs, bodies_in, numbers_in, HasSizedBodies, IsHistory, HaveHistories, AreContents, AreKept, finished_told, AreTold, WasLeft};
+ghost use Rattle.place_table.specs.Closing.{has_lock};
+ghost use Rattle.place_table.specs.Contents.{set_told};
+ghost use Rattle.place_table.specs.Leaving.{Logs, bodies_in, numbers_in, set_in, freelists_in, sets_in, spares_in, HasSizedBodies, IsHistory, HaveHistories, AreContents, AreKept, finished_told, AreTold, WasLeft};
 ghost use Rattle.place_table.specs.Passes.{AreFinished};
 
 use crate::closed::Closed;
-use crate::content::Content;
+use crate::content::{Content, Listing};
 use crate::kept::bucket_copy;
 use crate::strands::Finished;
 use cpu_freelist::Freelist;
+use lru_lists::{ListName, ListSet};
 use map_types::{List, NoMemory, Numbers, Shape};
 use percpu_values::BoxedBody;
-use place_words::{Entry, Finals, Kept, LockHistory, Strand, is_lock, lock_named};
+use place_words::{Entry, Finals, Kept, LockHistory, SetFinal, Strand, is_lock, lock_named};
+use row_list::Rows;
 use std::alloc::Global;
 
 /// What is left of what lay in the slots, contents and histories apart, beside the marked elements, the strands and the
@@ -30,10 +35,10 @@ pub(crate) fn left(
     histories: Vec<Option<Vec<Entry>>>,
     marked: Numbers,
     ended: Option<Vec<Finished>>,
-    spares: &[Option<BoxedBody>],
+    spares: &[Option<BoxedBody>; 16],
 ) -> Result<Closed, NoMemory>
     requires shape { IsShape shape.now }
-    requires plain { is_lru shape.now.kind ≡ false }
+    requires own_lists { shape.now.common ≡ false }
     requires counted { (length contents.items ≡ lock_count shape.now) × (length histories.items ≡ lock_count shape.now) }
     requires sized { All (HasSizedBodies shape.now) (slice_range contents.items (first_bucket shape.now) (first_freelist shape.now)) }
     ensures { (log : Logs) (lost bit : ℕ → Bool) (strands : List Ended) → AreContents shape.now log contents.items → HaveHistories shape.now log lost histories.items
@@ -42,13 +47,13 @@ pub(crate) fn left(
     let first_bucket = 2 * shape.cpus as usize + 1;
     let first_freelist = first_bucket + shape.buckets as usize;
     let buckets = buckets_left(alloc, shape, &contents[first_bucket..first_freelist])?;
-    let freelists = freelists_left(alloc, contents, first_freelist)?;
+    let Lists { freelists, sets } = lists_left(alloc, shape, contents)?;
     let Turns {
         histories,
         strands,
         lost,
     } = turns_left(alloc, shape, histories, ended)?;
-    let spares = spares_left(alloc, spares)?;
+    let spares = spares_left(alloc, shape, spares)?;
     Ok(Closed {
         histories,
         strands,
@@ -56,7 +61,7 @@ pub(crate) fn left(
             buckets: List::of(buckets),
             freelists: List::of(freelists),
             spares,
-            sets: List::of(Vec::new(alloc)),
+            sets: List::of(sets),
             locals: List::of(Vec::new(alloc)),
             marked,
         },
@@ -93,6 +98,101 @@ fn bucket_left(
         Some(Content::Bucket(chain)) => bucket_copy(alloc, shape, chain),
         _ => Ok(List::of(Vec::new(alloc))),
     }
+}
+
+/// The lists of the CPUs.
+#[derive(Drop)]
+struct Lists {
+    freelists: Vec<Numbers>,
+    sets: Vec<SetFinal>,
+}
+
+/// The freelists of a map that doesn't evict, and the list sets of one that does.
+fn lists_left(
+    alloc: Global,
+    shape: &Shape,
+    contents: Vec<Option<Content>>,
+) -> Result<Lists, NoMemory>
+    requires shape { IsShape shape.now }
+    ensures freelists { IfOk result (λ lists. lists.freelists.items ≡ freelists_in shape.now contents.items) }
+    ensures sets { IfOk result (λ lists. lists.sets.items ≡ sets_in shape.now contents.items) }
+{
+    let first_set = shape.cpus as usize + 1;
+    let first_bucket = first_set + shape.cpus as usize;
+    if shape.kind.is_lru() {
+        Ok(Lists {
+            freelists: Vec::new(alloc),
+            sets: sets_left(alloc, contents, first_set, first_bucket)?,
+        })
+    } else {
+        let first_freelist = first_bucket + shape.buckets as usize;
+        Ok(Lists {
+            freelists: freelists_left(alloc, contents, first_freelist)?,
+            sets: Vec::new(alloc),
+        })
+    }
+}
+
+/// The list sets, which stand from one place up to another.
+fn sets_left(
+    alloc: Global,
+    mut contents: Vec<Option<Content>>,
+    first: usize,
+    past: usize,
+) -> Result<Vec<SetFinal>, NoMemory>
+    ensures { IfOk result (λ sets. sets.items ≡ map set_in (drop first (take past contents.items))) }
+{
+    contents.truncate(past);
+    let mut sets = Vec::new(alloc);
+    for content in contents.into_iter().skip(first) {
+        sets.push(set_left(alloc, content)?)?;
+    }
+    Ok(sets)
+}
+
+/// The elements of a list set, and its cursor.
+fn set_left(alloc: Global, content: Option<Content>) -> Result<SetFinal, NoMemory>
+    ensures { IfOk result (λ set. set ≡ set_in content) }
+{
+    match content {
+        Some(Content::Set(set)) => own_left(alloc, set),
+        _ => Ok(no_set(alloc)),
+    }
+}
+
+/// A list set without elements, with its cursor at the mark.
+fn no_set(alloc: Global) -> SetFinal
+    ensures { result ≡ final_set (new_set []) }
+{
+    SetFinal {
+        active: List::of(Vec::new(alloc)),
+        inactive: List::of(Vec::new(alloc)),
+        free: List::of(Vec::new(alloc)),
+        cursor: None,
+    }
+}
+
+/// The elements of a list set, and its cursor.
+fn own_left(alloc: Global, set: ListSet<Listing>) -> Result<SetFinal, NoMemory>
+    ensures { IfOk result (λ told. told ≡ final_set (set_told set)) }
+{
+    Ok(SetFinal {
+        active: set.rows(ListName::Active).elements(alloc)?,
+        inactive: set.rows(ListName::Inactive).elements(alloc)?,
+        cursor: set.cursor(),
+        free: free_left(alloc, set)?,
+    })
+}
+
+/// The free elements of a list set, head first.
+fn free_left(alloc: Global, mut set: ListSet<Listing>) -> Result<Numbers, NoMemory>
+    ensures { IfOk result (λ elements. elements ≡ numbers_of set.free.bodies) }
+{
+    let mut elements = Vec::new(alloc);
+    while let Some(body) = set.free_pop() {
+        elements.push(body.body().element())?;
+    }
+    Ok(List::of(elements))
 }
 
 /// The elements of the freelists, which stand from here on.
@@ -266,12 +366,17 @@ fn cpus_left(alloc: Global, count: u32, flags: &[bool; 16]) -> Result<Numbers, N
 }
 
 /// The elements of the spares that are kept, by CPU.
-fn spares_left(alloc: Global, spares: &[Option<BoxedBody>]) -> Result<Numbers, NoMemory>
-    ensures { IfOk result (λ elements. elements ≡ spare_numbers spares.now) }
+fn spares_left(
+    alloc: Global,
+    shape: &Shape,
+    spares: &[Option<BoxedBody>; 16],
+) -> Result<Numbers, NoMemory>
+    requires few { shape.now.cpus ≤ 16 }
+    ensures { IfOk result (λ elements. elements ≡ spares_in shape.now spares.now) }
 {
     let mut elements = Vec::new(alloc);
-    for spare in spares {
-        if let Some(body) = spare {
+    for cpu in 0..shape.cpus {
+        if let Some(body) = &spares[cpu as usize] {
             elements.push(body.body().element())?;
         }
     }

@@ -23,7 +23,7 @@ mod table;
 mod view;
 
 pub use closed::Closed;
-pub use content::{Behind, Content};
+pub use content::{Behind, Content, Listing};
 pub use laws::{told_laws, word_laws};
 pub use pass::Pass;
 pub use points::{At, Points};

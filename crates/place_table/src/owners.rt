@@ -1,14 +1,15 @@
 //! Steps on the owner of an element, by the seat of a pass: it comes to the hand of a CPU that holds a lock, or leaves it.
 
-ghost use Rattle.std.specs.Prelude.{◌≡◌, ◌<◌, ℕ, true, IsTrue, IsFalse, Some};
+ghost use Rattle.std.specs.Prelude.{◌≡◌, ◌<◌, ℕ, true, false, IsTrue, IsFalse, Some};
 ghost use Rattle.map_types.specs.Kind.{is_lru};
 ghost use Rattle.map_types.specs.declared.kind.DomainId.TheVariants as locks;
 ghost use Rattle.place_words.specs.Locks.{lock_number, is_lock};
 ghost use Rattle.map_types.specs.ElementLists.{IsIn, IsHead};
 ghost use Rattle.place_core.specs.State.{rows, is_bucket};
 ghost use Rattle.place_table.specs.declared.view.Hold.{Hold};
-ghost use Rattle.place_table.specs.Views.{is_among, bucket_known, hold_at, is_in_hand_of, moved, claimed, settled, attached, detached};
+ghost use Rattle.place_table.specs.Views.{is_among, bucket_known, hold_at, is_in_hand_of, moved, with_hashes, claimed, settled, attached, detached};
 ghost use Rattle.place_table.specs.Words.{word_count, owner_word};
+ghost use Rattle.place_table.specs.Plays.{Claims, Settles, Attaches, Detaches};
 
 use crate::rule::{Deed, Desk, Moving, Place};
 use map_types::DomainId;
@@ -24,11 +25,11 @@ pub(crate) fn claim_word<N: Deed>(
 )
     requires table { seat.old.table_id ≡ desk.now.table_id }
     requires words { (desk.now.table_id.words ≡ word_count desk.now.key) × (word ≡ owner_word desk.now.key element) }
-    requires deed { moved N.lock N.now N.hand N.word N.left seat.old.me.0 ≡ claimed lock element cpu seat.old.me.0 }
+    requires deed { (at : ℕ) → with_hashes N.hashes (moved at N.lock N.now N.hand N.notes N.word N.left seat.old.me.0) ≡ claimed at lock element cpu seat.old.me.0 }
     requires lock { (hold : Hold) × IsTrue (is_lock desk.now.key lock) × (hold_at (lock_number desk.now.key lock) seat.old.me.0.held ≡ Some hold) × (hold.cpu ≡ cpu) × IsHead element hold.now.free }
     requires element { element < desk.now.key.elements }
     ensures seat { (seat.new.table_id ≡ seat.old.table_id) × (seat.new.id ≡ seat.old.id) }
-    ensures claimed { seat.new.me ≡ (claimed lock element cpu seat.old.me.0, seat.old.me.1) }
+    ensures claimed { Claims lock element cpu seat.old.me seat.new.me }
 {
     let _ = lock;
     let _ = element;
@@ -46,13 +47,13 @@ pub(crate) fn settle_word<N: Deed>(
 )
     requires table { seat.old.table_id ≡ desk.now.table_id }
     requires words { (desk.now.table_id.words ≡ word_count desk.now.key) × (word ≡ owner_word desk.now.key element) }
-    requires deed { moved N.lock N.now N.hand N.word N.left seat.old.me.0 ≡ settled lock element cpu seat.old.me.0 }
+    requires deed { (at : ℕ) → with_hashes N.hashes (moved at N.lock N.now N.hand N.notes N.word N.left seat.old.me.0) ≡ settled at lock element cpu seat.old.me.0 }
     requires lock { (hold : Hold) × IsTrue (is_lock desk.now.key lock) × (hold_at (lock_number desk.now.key lock) seat.old.me.0.held ≡ Some hold) × (hold.cpu ≡ cpu) × (IsTrue (is_lru desk.now.key.kind) → IsIn element (rows hold.now)) }
     requires has_free_list { IsFalse (is_bucket lock) }
     requires element { element < desk.now.key.elements }
     requires hand { (is_among cpu seat.old.me.0.cpus ≡ true) × (is_in_hand_of element cpu seat.old.me.0.hand ≡ true) }
     ensures seat { (seat.new.table_id ≡ seat.old.table_id) × (seat.new.id ≡ seat.old.id) }
-    ensures settled { seat.new.me ≡ (settled lock element cpu seat.old.me.0, seat.old.me.1) }
+    ensures settled { Settles lock element cpu seat.old.me seat.new.me }
 {
     let _ = lock;
     let _ = element;
@@ -71,13 +72,14 @@ pub(crate) fn attach_word<N: Deed>(
 )
     requires table { seat.old.table_id ≡ desk.now.table_id }
     requires words { (desk.now.table_id.words ≡ word_count desk.now.key) × (word ≡ owner_word desk.now.key element) }
-    requires deed { moved N.lock N.now N.hand N.word N.left seat.old.me.0 ≡ attached bucket element cpu seat.old.me.0 }
+    requires deed { (at : ℕ) → with_hashes N.hashes (moved at N.lock N.now N.hand N.notes N.word N.left seat.old.me.0) ≡ attached at bucket element cpu seat.old.me.0 }
     requires bucket { (hold : Hold) × (bucket < desk.now.key.buckets) × (hold_at (lock_number desk.now.key (locks.Bucket bucket)) seat.old.me.0.held ≡ Some hold) × (hold.cpu ≡ cpu) }
     requires element { element < desk.now.key.elements }
     requires hand { (is_among cpu seat.old.me.0.cpus ≡ true) × (is_in_hand_of element cpu seat.old.me.0.hand ≡ true) }
+    requires not_carried { IsTrue (is_lru desk.now.key.kind) → is_in_hand_of element cpu seat.old.me.0.carried ≡ false }
     requires hashed { IsTrue (is_lru desk.now.key.kind) → (bucket_known element cpu seat.old.me.0.hashes ≡ Some bucket) × ((k : ℕ) (other : Hold) → hold_at k seat.old.me.0.held ≡ Some other → k ≡ lock_number desk.now.key (locks.Bucket bucket)) }
     ensures seat { (seat.new.table_id ≡ seat.old.table_id) × (seat.new.id ≡ seat.old.id) }
-    ensures attached { seat.new.me ≡ (attached bucket element cpu seat.old.me.0, seat.old.me.1) }
+    ensures attached { Attaches bucket element cpu seat.old.me seat.new.me }
 {
     let _ = element;
     let _ = cpu;
@@ -95,11 +97,11 @@ pub(crate) fn detach_word<N: Deed>(
 )
     requires table { seat.old.table_id ≡ desk.now.table_id }
     requires words { (desk.now.table_id.words ≡ word_count desk.now.key) × (word ≡ owner_word desk.now.key element) }
-    requires deed { moved N.lock N.now N.hand N.word N.left seat.old.me.0 ≡ detached bucket element cpu seat.old.me.0 }
+    requires deed { (at : ℕ) → with_hashes N.hashes (moved at N.lock N.now N.hand N.notes N.word N.left seat.old.me.0) ≡ detached at bucket element cpu seat.old.me.0 }
     requires bucket { (hold : Hold) × (bucket < desk.now.key.buckets) × (hold_at (lock_number desk.now.key (locks.Bucket bucket)) seat.old.me.0.held ≡ Some hold) × (hold.cpu ≡ cpu) × IsIn element hold.now.first }
     requires element { element < desk.now.key.elements }
     ensures seat { (seat.new.table_id ≡ seat.old.table_id) × (seat.new.id ≡ seat.old.id) }
-    ensures detached { seat.new.me ≡ (detached bucket element cpu seat.old.me.0, seat.old.me.1) }
+    ensures detached { Detaches bucket element cpu seat.old.me seat.new.me }
 {
     let _ = bucket;
     let _ = element;

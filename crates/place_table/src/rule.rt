@@ -88,18 +88,24 @@ impl<N: Caller> Play<Behind, View> for Losing<N> {
     ghost then = { λ st me n after. GivesSome N.cpu N.call me after };
 }
 
-/// What lies under a lock once an element has moved, what is in the hands of the pass then, and the word that tells it, with
-/// what it is from then on.
+/// What lies under a lock once an element has moved, what is in the hands of the pass then, what it has noted of its turns, and
+/// the word that tells it, with what it is from then on.
 pub trait Deed {
     ghost use Rattle.std.specs.Prelude.{ℕ, List};
     ghost use Rattle.place_core.specs.declared.step.Lists.{Lists};
     ghost use Rattle.place_table.specs.declared.view.InHand.{InHand};
+    ghost use Rattle.place_table.specs.declared.view.HashIn.{HashIn};
+    ghost use Rattle.place_table.specs.declared.view.Notes.{Notes};
 
     ghost lock: { ℕ };
 
     ghost now: { Lists };
 
     ghost hand: { List InHand };
+
+    ghost hashes: { List HashIn };
+
+    ghost notes: { List Notes };
 
     ghost word: { ℕ };
 
@@ -116,6 +122,10 @@ impl Deed for Brand {
 
     ghost hand = { [] };
 
+    ghost hashes = { [] };
+
+    ghost notes = { [] };
+
     ghost word = { 0 };
 
     ghost left = { 0 };
@@ -129,7 +139,7 @@ pub struct Moving<N> {
 impl<N: Deed> Play<Behind, View> for Moving<N> {
     ghost use Rattle.place_table.specs.Plays.{Moves};
 
-    ghost then = { λ st me n after. Moves N.lock N.now N.hand N.word N.left me after };
+    ghost then = { λ st me n after. Moves N.lock N.now N.hand N.hashes N.notes N.word N.left me after };
 }
 
 /// The element whose home changes, and its home from then on.

@@ -147,7 +147,7 @@ pub(crate) fn lose_lock<N: Caller>(desk: &Desk, seat: &mut Place, lock: u32, cpu
     requires words { desk.now.table_id.words ≡ word_count desk.now.key }
     requires lock { (lock < lock_count desk.now.key) × IsTrue (is_lock desk.now.key (lock_named desk.now.key lock)) }
     requires caller { (N.cpu ≡ cpu) × (N.call ≡ call) }
-    requires may { (behind : Behind) × (hold : Hold) × (below : List Hold) × (part : history.Part) × (notes : Notes) × (notes_below : List Notes) × (seat.old.me.1 ≡ (lock, behind) ∷ rest seat.old.me.1) × IsInnermost seat.old.me.0 hold below × (hold.lock ≡ lock) × MayGive desk.now.key seat.old.me.0 hold (entry_by N.cpu N.call part) seat.old.me.0.kept behind × (seat.old.me.0.notes ≡ notes ∷ notes_below) × NotesFit desk.now.key part notes }
+    requires may { (behind : Behind) × (hold : Hold) × (below : List Hold) × (part : history.Part) × (notes : Notes) × (notes_below : List Notes) × (seat.old.me.1 ≡ (lock, behind) ∷ rest seat.old.me.1) × IsInnermost seat.old.me.0 hold below × (hold.lock ≡ lock) × MayGive desk.now.key seat.old.me.0 hold (entry_by N.cpu N.call part) seat.old.me.0.kept behind × (seat.old.me.0.notes ≡ notes ∷ notes_below) × NotesFit desk.now.key seat.old.me.0 hold part notes }
     ensures seat { (seat.new.table_id ≡ seat.old.table_id) × (seat.new.id ≡ seat.old.id) }
     ensures gave { GivesSome N.cpu N.call seat.old.me seat.new.me }
 {

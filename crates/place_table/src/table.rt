@@ -3,9 +3,9 @@
 ghost use Rattle.std.specs.Prelude.{◌≡◌, ◌+◌, ◌*◌, ◌<◌, ◌^◌, true, [], MatchOption, IsTrue, if◌then◌else◌};
 ghost use Rattle.map_types.specs.Kind.{is_lru};
 ghost use Rattle.place_words.specs.Locks.{lock_number, lock_count, is_lock};
-ghost use Rattle.place_table.specs.Views.{is_among, claimed, settled, attached, detached, marked};
+ghost use Rattle.place_table.specs.Views.{is_among};
 ghost use Rattle.place_table.specs.Words.{word_count, owner_word, home_word, bit_word};
-ghost use Rattle.place_table.specs.Passes.{IsPassOf, HasBegun, HasOnlySpares, begun, with_view, CanTake, Takes, CanGive, CanGiveSome, MayGiveBack, Gave, GaveSome, GaveBack, CanClaim, CanSettle, CanAttach, CanMark, CanRehome, Rehomed, CanClear, CanLook, Cleared, SawBit, SawOwner, SawHome};
+ghost use Rattle.place_table.specs.Passes.{IsPassOf, HasBegun, HasOnlySpares, begun, CanTake, Takes, CanGive, CanGiveSome, MayGiveBack, Gave, GaveSome, GaveBack, CanClaim, Claimed, CanSettle, Settled, CanAttach, Attached, Detached, CanMark, Marked, CanRehome, Rehomed, CanClear, CanLook, Cleared, SawBit, SawOwner, SawHome};
 
 use crate::content::{Behind, Content};
 use crate::homes::rehome_word;
@@ -198,7 +198,7 @@ impl PlaceTable {
     /// Takes the head of a lock's free list into the hand of the CPU, which holds the lock.
     pub fn claim(&self, pass: &mut Pass, element: u32, lock: DomainId)
         requires { CanClaim self.now element lock pass.old }
-        ensures { pass.new ≡ with_view pass.old (claimed lock element pass.old.cpu pass.old.view) }
+        ensures { Claimed lock element pass.old pass.new }
     {
         let desk = &self.table.shared;
         let word = self.owner_word(element);
@@ -208,7 +208,7 @@ impl PlaceTable {
     /// Puts an element from the CPU's hand to the head of the free list of a lock that the CPU holds.
     pub fn settle(&self, pass: &mut Pass, element: u32, lock: DomainId)
         requires { CanSettle self.now element lock pass.old }
-        ensures { pass.new ≡ with_view pass.old (settled lock element pass.old.cpu pass.old.view) }
+        ensures { Settled lock element pass.old pass.new }
     {
         let desk = &self.table.shared;
         let cpu = pass.cpu;
@@ -216,10 +216,11 @@ impl PlaceTable {
         settle_word::<Brand>(desk, &mut pass.seat, element, word, lock, cpu);
     }
 
-    /// Puts an element from the CPU's hand to the head of a bucket that the CPU holds.
+    /// Puts an element from the CPU's hand to the head of a bucket that the CPU holds. On a map that evicts the CPU doesn't
+    /// carry it.
     pub fn attach(&self, pass: &mut Pass, element: u32, bucket: u32)
         requires { CanAttach self.now element bucket pass.old }
-        ensures { pass.new ≡ with_view pass.old (attached bucket element pass.old.cpu pass.old.view) }
+        ensures { Attached bucket element pass.old pass.new }
     {
         let desk = &self.table.shared;
         let cpu = pass.cpu;
@@ -230,7 +231,7 @@ impl PlaceTable {
     /// Takes an element of a bucket that the CPU holds into the CPU's hand.
     pub fn detach(&self, pass: &mut Pass, element: u32, bucket: u32)
         requires { CanMark self.now element bucket pass.old }
-        ensures { pass.new ≡ with_view pass.old (detached bucket element pass.old.cpu pass.old.view) }
+        ensures { Detached bucket element pass.old pass.new }
     {
         let desk = &self.table.shared;
         let word = self.owner_word(element);
@@ -251,7 +252,7 @@ impl PlaceTable {
     /// Sets the bit of an element of a bucket that the CPU holds.
     pub fn mark(&self, pass: &mut Pass, element: u32, bucket: u32)
         requires { CanMark self.now element bucket pass.old }
-        ensures { pass.new ≡ with_view pass.old (marked element pass.old.view) }
+        ensures { Marked element pass.old pass.new }
     {
         let word = self.bit_word(element);
         set_bit::<Brand>(&self.table.shared, &mut pass.seat, element, word, bucket);
@@ -276,7 +277,8 @@ impl PlaceTable {
         read_bit::<Brand>(&self.table.shared, &mut pass.seat, element, word) == 1
     }
 
-    /// The home of an element. A map that doesn't evict tells none.
+    /// The home of an element. A map that doesn't evict tells none. Where each CPU has a list set of its own, it is the set in
+    /// which the element lives.
     pub fn home_of(&self, pass: &mut Pass, element: u32) -> Home
         requires { CanLook self.now element pass.old }
         ensures { SawHome self.now element pass.old pass.new result }

@@ -21,11 +21,13 @@ pub struct InHand {
     pub cpu: u64,
 }
 
-/// An element in the hand of a CPU, and the bucket of its stored hash.
+/// An element in the hand of a CPU, and the bucket of its stored hash: the hash was given since the element came to that hand, or
+/// the element was detached from that bucket.
 pub struct HashIn {
     pub element: u64,
     pub cpu: u64,
     pub bucket: u64,
+    pub given: bool,
 }
 
 /// A turn that a pass made: the lock's number, the turns of the lock before it, and the entry.
@@ -67,9 +69,10 @@ pub struct HomeIn {
     pub home: Home,
 }
 
-/// A step that a pass made on a word of the table: what it found there, where the step tells, and what is there from then
-/// on.
+/// A step that a pass made on a word of the table: how many steps on words had been made before it, what it found there, where
+/// the step tells, and what is there from then on.
 pub struct WordStep {
+    pub at: u64,
     pub word: u64,
     pub seen: Option<u64>,
     pub left: u64,
@@ -77,6 +80,8 @@ pub struct WordStep {
 
 /// What was done and read while a lock was the last one taken of those that are held, the last first.
 pub struct Notes {
+    /// The elements that came to the CPU's hand from this lock's free list, or to its lists from another home.
+    pub came: LinkedList<u64>,
     pub marks: LinkedList<u64>,
     /// The clears and the reads of bits.
     pub asked: LinkedList<BitAsked>,

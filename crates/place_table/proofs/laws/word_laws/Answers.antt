@@ -1,7 +1,7 @@
-use Rattle.place_table.proofs.HomeSteps.{clears_step, rehomes_step}
+use Rattle.place_table.proofs.HomeSteps.{clears_step, rehomes_step, sees_home_step}
 use Rattle.place_table.proofs.Locks.{tries, gives_back}
 use Rattle.place_table.proofs.OwnerSteps.{claims_step, settles_step, attaches_step, detaches_step}
-use Rattle.place_table.proofs.WordSteps.{marks_step, sees_bit_step, sees_owner_step, sees_home_step}
+use Rattle.place_table.proofs.WordSteps.{marks_step, sees_bit_step, sees_owner_step}
 use Rattle.place_table.proofs.Joins.{joins_no_step}
 use Rattle.place_table.proofs.Splits.{splits_no_step}
 use Rattle.place_table.proofs.laws.word_laws.Goals as goal
@@ -12,7 +12,7 @@ returns c = record {
   give = λ shape slots pass v behind slots_below lock hold below innermost is at_lock entry kept may. gives_back shape slots pass v behind slots_below lock hold below innermost is at_lock entry kept may;
   claim = λ shape slots pass me e lock hold real is found head. claims_step shape slots pass me e lock hold real is found head;
   settle = λ shape slots pass me e lock hold real is found has_free_list has in_hand listed. settles_step shape slots pass me e lock hold real is found has_free_list has in_hand listed;
-  attach = λ shape slots pass me e bucket hold real there found has in_hand hashed. attaches_step shape slots pass me e bucket hold real there found has in_hand hashed;
+  attach = λ shape slots pass me e bucket hold real there found has in_hand not_carried hashed. attaches_step shape slots pass me e bucket hold real there found has in_hand not_carried hashed;
   detach = λ shape slots pass me e bucket hold there found inside. detaches_step shape slots pass me e bucket hold there found inside;
   rehome = λ shape slots pass me c e from to common real has known may. rehomes_step shape slots pass me c e from to common real has known may;
   mark = λ shape slots pass me e bucket hold there found inside. marks_step shape slots pass me e bucket hold there found inside;

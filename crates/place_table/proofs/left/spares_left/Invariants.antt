@@ -1,7 +1,7 @@
-use Rattle.std.proofs.Common.{◌≡◌, take}
-use Rattle.place_table.specs.Closing.{spare_numbers}
+use Rattle.std.proofs.Common.{◌≡◌}
+use Rattle.place_table.proofs.Leaves.{spares_below}
 use Rattle.place_table.proofs.left.spares_left.Given as goal
 
--- those of the spares so far
-abbrev pub invariant-loop-spare : goal.invariant-loop-spare
-invariant-loop-spare l = l.elements.items ≡ spare_numbers (take l.spare-index l.spares)
+-- those of the CPUs so far
+abbrev pub invariant-loop-cpu : goal.invariant-loop-cpu
+invariant-loop-cpu l = l.elements.items ≡ spares_below l.spares l.cpu

@@ -1,5 +1,5 @@
 use Rattle.std.proofs.Common.{arith}
-use Rattle.place_table.proofs.WordSteps.{sees_home}
+use Rattle.place_table.proofs.HomeSteps.{sees_home}
 use Rattle.place_table.proofs.steps.read_home.Goals as goal
 
 pub load-requires : goal.load-requires

@@ -2,6 +2,7 @@ use Rattle.std.proofs.Common.{◌≡◌, rules, refl, sym, ap, ◌∙◌, subst,
 use Rattle.map_types.specs.declared.attr.Shape.{Shape}
 use Rattle.atomic_table.specs.Table.{rest}
 use Rattle.place_table.specs.declared.content.Behind.{Behind}
+use Rattle.place_table.specs.declared.view.View.{View}
 use Rattle.place_table.specs.Passes.{PassView}
 use Rattle.place_table.specs.Plays.{MayGive, GivesSome, entry_by}
 use Rattle.place_table.specs.TurnNotes.{NotesFit}
@@ -31,7 +32,7 @@ lose_lock-requires-clause-may c =
       search rules,
       subst (λ (z : PassView). MayGive c.self.inside.table.shared.key c.exchange.new.seat.me.0 can.hold (entry_by z.cpu z.call c.requires.0) c.exchange.new.seat.me.0.kept behind) (sym c.pass.view_is) (may_lose _ _ _ _ _ can _ _ key_is view_is),
       ap (λ z. z.notes) view_is ∙ can.notes_are,
-      subst (λ (z : Shape). NotesFit z c.requires.0 can.notes) (sym key_is) can.notes_fit,
+      subst (λ (z : Shape × View). NotesFit z.0 z.1 can.hold c.requires.0 can.notes) (λ i. (sym key_is i, sym view_is i)) can.notes_fit,
     )
 
 pub invariant_of-pass : goal.invariant_of-pass

@@ -1,0 +1,98 @@
+-- A list set as it is filled at first.
+use Rattle.std.proofs.Common.{◌≡◌, ℕ, zero, suc, ◌+◌, ◌-◌, ◌<◌, ◌≤◌, cond, List, [], ◌∷◌, length, drop, get_or, All, ap, ◌∙◌, sym, subst, arith}
+use Rattle.std.proofs.Math.Seq.{drop-cons, drop-length}
+use Rattle.std.proofs.lemmas.List.{length-map, length-drop}
+use Rattle.std.proofs.lemmas.List.Elements.{All-nil, All-cons}
+use Rattle.map_types.specs.declared.attr.Shape.{Shape}
+use Rattle.map_types.specs.ElementLists.{times, IsIn}
+use Rattle.map_types.specs.Listed.{elements_of}
+use Rattle.map_types.specs.Stored.{Stored}
+use Rattle.place_words.specs.Bodies.{numbers}
+use Rattle.place_words.specs.Sets.{ListSet, new_set}
+use Rattle.lru_lists.specs.Sets.{SetView, IsSet, empty_set, times_on, with_free, pushed}
+use Rattle.place_core.proofs.ElementLemmas.{by_test, times_cons_same}
+use Rattle.place_table.specs.Contents.{set_told, IsSized, FitsSet}
+
+-- nothing is listed, and of these elements those from a place on are free
+pub record IsFilled (shape : Shape) (elements : List ℕ) (from : ℕ) (set : SetView) : Type 0 where
+  pub within : from ≤ length elements
+  pub told : set_told set ≡ new_set (drop from elements)
+  pub fits : FitsSet shape set
+
+pub filled_first : (shape : Shape) (elements : List ℕ) (set : SetView) → set ≡ empty_set shape.elements → IsSet set → IsFilled shape elements (length elements) set
+filled_first shape elements set is whole = record {
+  within = omega arith;
+  told = ap set_told is ∙ ap new_set (sym (drop-length elements));
+  fits = record {
+    sized = subst (λ (s : SetView). All (IsSized shape) s.free.bodies) (sym is) (All-nil (IsSized shape));
+    bound = ap (λ (s : SetView). s.elements) is;
+    room = ap (λ (s : SetView). length s.free.bodies + s.free.spare) is ∙ omega arith;
+    whole = whole;
+  };
+}
+
+times_drop : (e n : ℕ) (xs : List ℕ) → times e (drop n xs) ≤ times e xs
+times_drop e zero xs = omega arith
+times_drop e (suc n) [] = omega arith
+times_drop e (suc n) (x ∷ xs) =
+    let rest = times_drop e n xs in
+    by_test x e (λ b. times e (drop n xs) ≤ cond b (suc (times e xs)) (times e xs)) (λ _. omega arith) (λ _. rest)
+
+-- the element before the place may be freed next
+module _ (shape : Shape) (elements : List ℕ) (from now : ℕ) (set : SetView) (filled : IsFilled shape elements from set) (next : now + 1 ≡ from) where
+  inside : now < length elements
+  inside = let within = filled.within in omega arith
+
+  from_now : drop now elements ≡ get_or elements now 0 ∷ drop from elements
+  from_now = drop-cons elements now 0 inside ∙ ap (λ (n : ℕ). get_or elements now 0 ∷ drop n elements) (let more : suc now ≡ from = omega arith in more)
+
+  its_times : times (get_or elements now 0) (drop now elements) ≡ suc (times (get_or elements now 0) (drop from elements))
+  its_times = ap (times (get_or elements now 0)) from_now ∙ times_cons_same (get_or elements now 0) (drop from elements)
+
+  pub has_room : length elements ≤ shape.elements → 1 ≤ set.free.spare
+  has_room few =
+      let free : length set.free.bodies ≡ length elements - from =
+      sym (length-map set.free.bodies (λ (body : Stored). body.element)) ∙ (ap (λ (s : ListSet). length s.free) filled.told ∙ length-drop from elements) in
+      let room = filled.fits.room in
+      let within = inside in
+      omega arith
+
+  pub is_below : ((e : ℕ) → IsIn e elements → e < shape.elements) → get_or elements now 0 < set.elements
+  is_below real =
+      let here = its_times in
+      let fewer = times_drop (get_or elements now 0) now elements in
+      let less = real (get_or elements now 0) (omega arith) in
+      let bound = filled.fits.bound in
+      omega arith
+
+  pub is_absent : ((e : ℕ) → times e elements ≤ 1) → times_on (get_or elements now 0) set ≡ 0
+  is_absent once =
+      let e : ℕ = get_or elements now 0 in
+      let here = its_times in
+      let fewer = times_drop e now elements in
+      let at_most = once e in
+      let active : times e (elements_of set.active) ≡ 0 = ap (λ (s : ListSet). times e (elements_of s.lists.active)) filled.told in
+      let inactive : times e (elements_of set.inactive) ≡ 0 = ap (λ (s : ListSet). times e (elements_of s.lists.inactive)) filled.told in
+      let free : times e (numbers set.free.bodies) ≡ times e (drop from elements) = ap (λ (s : ListSet). times e s.free) filled.told in
+      omega arith
+
+  pub filled_next : length elements ≤ shape.elements → (body : Stored) (after : SetView) → body.element ≡ get_or elements now 0 → IsSized shape body → after ≡ with_free (pushed body set.free) set → IsSet after → IsFilled shape elements now after
+  filled_next few body after is sized after_is whole =
+      let free : numbers (body ∷ set.free.bodies) ≡ drop now elements =
+      (λ i. is i ∷ (filled.told i).free) ∙ sym from_now in
+      let room = has_room few in
+      let was = filled.fits.room in
+      let within = inside in record {
+        within = omega arith;
+        told = ap set_told after_is ∙ (λ i. record { lists = (filled.told i).lists; free = free i });
+        fits = record {
+          sized = subst (λ (s : SetView). All (IsSized shape) s.free.bodies) (sym after_is) (All-cons (IsSized shape) body set.free.bodies sized filled.fits.sized);
+          bound = ap (λ (s : SetView). s.elements) after_is ∙ filled.fits.bound;
+          room = ap (λ (s : SetView). length s.free.bodies + s.free.spare) after_is ∙ omega arith;
+          whole = whole;
+        };
+      }
+
+-- at the end all are free
+pub filled_told : (shape : Shape) (elements : List ℕ) (from : ℕ) (set : SetView) → IsFilled shape elements from set → from ≡ 0 → set_told set ≡ new_set elements
+filled_told shape elements from set filled none = filled.told ∙ ap (λ (n : ℕ). new_set (drop n elements)) none
