@@ -31,19 +31,20 @@ use Rattle.place_core.specs.Steps.{with_row}
 use Rattle.place_table.specs.declared.content.Content.TheVariants as contents
 use Rattle.place_table.specs.declared.view.Turned.{Turned}
 use Rattle.place_table.specs.Known.{turn_of}
-use Rattle.place_table.specs.Passes.{PassView, TableView, CanGive, CanAttach, GaveBack, with_view}
-use Rattle.place_table.specs.Views.{is_in_hand_of, attached, with_in_hand, without_in_hand}
+use Rattle.place_table.specs.Passes.{PassView, TableView, CanGive, CanAttach, Attached, GaveBack}
+use Rattle.place_table.specs.Views.{is_in_hand_of, with_in_hand, without_in_hand}
 use Rattle.place_table.proofs.Entries.{append_nil}
 use Rattle.place_table.proofs.Hands.{in_hand_more}
 use Rattle.place_table.proofs.Worlds.{by_bool, none_some}
 use Rattle.hash_ops.specs.Calls.{spare_element}
-use Rattle.hash_ops.specs.declared.parts.Given.{Given}
+use Rattle.bucket_entries.specs.declared.parts.Given.{Given}
 use Rattle.hash_ops.specs.Free.{CanReach, Popped, Reached}
-use Rattle.hash_ops.specs.Under.{InBucket, HasItsSpares, AnsweredWhole, Gives}
-use Rattle.hash_ops.proofs.BucketTurns.{IsTurnWith}
+use Rattle.place_table.specs.InBucket.{InBucket}
+use Rattle.hash_ops.specs.Under.{HasItsSpares, AnsweredWhole, Gives}
+use Rattle.place_table.proofs.BucketTurns.{IsTurnWith}
 use Rattle.hash_ops.proofs.HandLemmas.{hand_back}
 use Rattle.hash_ops.proofs.Pushes.{few_of}
-use Rattle.hash_ops.proofs.Under.{Under, under_nothing, under_reached, under_attached, may_reach, can_attach, can_give, left_whole, answered_whole, update_trace, rows_taken}
+use Rattle.hash_ops.proofs.Under.{Under, hold_with, none_noted, under_nothing, under_reached, under_attached, may_reach, can_attach, can_give, left_whole, answered_whole, update_trace, rows_taken}
 
 -- an absent key has no place
 pub nowhere : (key : List ℕ) (bodies : List Stored) → present key bodies ≡ None → place_of_key key bodies ≡ None
@@ -82,8 +83,8 @@ module _ (t : TableView) (bucket : ℕ) (q : PassView) (bodies : List Stored) (b
       omega arith
 
   -- the freelists were looked at
-  pub under_looked : is_lru t.shape.kind ≡ false → (r : PassView) (steps : List Turned) → Reached t q r steps → Under t b.hold b.below q r b.hold.now steps
-  under_looked plain r steps reached = under_reached t bucket q q r bodies b b.hold.now [] steps plain (under_nothing t bucket q bodies b) reached
+  pub under_looked : (r : PassView) (steps : List Turned) → Reached t q r steps → Under t b.hold b.below q r b.hold.now steps
+  under_looked r steps reached = under_reached t bucket q q r bodies b b.hold.now [] steps (under_nothing t bucket q bodies b) reached
 
   pub may_look : CanReach t q
   may_look = may_reach t bucket q q bodies b b.hold.now [] (under_nothing t bucket q bodies b)
@@ -93,14 +94,14 @@ module _ (t : TableView) (bucket : ℕ) (q r : PassView) (chain : BodyList) (b :
   module _ (popped : Popped t q r None) (turn : IsTurnWith t.shape q.cpu (Update side flags key value None puts.Full) chain.bodies chain.bodies (numbers chain.bodies)) where
     pub can_give_full : CanGive t (Bucket bucket) r (contents.Bucket chain) (parts.Bucket (Update side flags key value None puts.Full))
     can_give_full =
-        can_give t bucket q r chain.bodies b b.hold.now popped.steps chain (Update side flags key value None puts.Full) plain (under_looked t bucket q chain.bodies b plain r popped.steps popped.reached)
-        turn.turn turn.sized (rows_taken chain.bodies b.hold.now b.now) (ap (λ (l : Lists). l.free) b.now) tt
+        can_give t bucket q r chain.bodies b b.hold.now popped.steps chain (Update side flags key value None puts.Full) (under_looked t bucket q chain.bodies b r popped.steps popped.reached)
+        turn.turn turn.sized (rows_taken chain.bodies b.hold.now b.now) (ap (λ (l : Lists). l.free) b.now) (none_noted t.shape r.view (hold_with b.hold b.hold.now) (Update side flags key value None puts.Full) plain refl)
 
     pub answered_full : (s : PassView) (given : Given) (found : Part) → HasItsSpares q → Gives t bucket side flags key value given → found ≡ parts.Bucket (Update side flags key value None puts.Full) → GaveBack t (Bucket bucket) r s (contents.Bucket chain) (Some found)
         → AnsweredWhole t q s (verbs.Update side flags key value) (Refused E2big)
     answered_full s given found has gives is gave =
         let part : Part = parts.Bucket (Update side flags key value None puts.Full) in
-        let l = left_whole t bucket q r s chain.bodies b b.hold.now popped.steps (contents.Bucket chain) part found (under_looked t bucket q chain.bodies b plain r popped.steps popped.reached) can_give_full is gave in
+        let l = left_whole t bucket q r s chain.bodies b b.hold.now popped.steps (contents.Bucket chain) part found (under_looked t bucket q chain.bodies b r popped.steps popped.reached) can_give_full is gave in
         answered_whole t bucket q r s (verbs.Update side flags key value) (Refused E2big) popped.steps part (found_empty (ring q.cpu t.shape.cpus)) has l.0 l.1 popped.reached.spares (λ e c. ap (is_in_hand_of e c) popped.hand) popped.trace
         (update_trace t bucket q.cpu (spare_element q) side flags key value given puts.Full (found_empty (ring q.cpu t.shape.cpus)) gives refl)
         (sym (looked_spare (spare_element q) (ring q.cpu t.shape.cpus) (record { lock = Bucket bucket; part = part } ∷ [])))
@@ -109,17 +110,18 @@ module _ (t : TableView) (bucket : ℕ) (q r : PassView) (chain : BodyList) (b :
 module _ (t : TableView) (bucket : ℕ) (q r : PassView) (bodies : List Stored) (b : InBucket t bucket q bodies) (plain : is_lru t.shape.kind ≡ false) (was : Stored) (popped : Popped t q r (Some was)) (e : ℕ) (e_is : was.element ≡ e) where
   pub can_attach_popped : CanAttach t e bucket r
   can_attach_popped =
-      can_attach t bucket q r bodies b b.hold.now popped.steps e plain (under_looked t bucket q bodies b plain r popped.steps popped.reached)
+      can_attach t bucket q r bodies b b.hold.now popped.steps e plain (under_looked t bucket q bodies b r popped.steps popped.reached)
       ((λ i. is_in_hand_of (sym e_is i) (popped.reached.goes.cpu i) (popped.hand i)) ∙ in_hand_more was.element q.cpu q.view.hand)
 
-  module _ (r2 : PassView) (attached_is : r2 ≡ with_view r (attached bucket e r.cpu r.view)) (back : BodyList) (side : Side) (flags : ℕ) (key value : List ℕ) (turn : IsTurnWith t.shape q.cpu (Update side flags key value None (puts.Added e)) bodies back.bodies (e ∷ numbers bodies)) where
+  module _ (r2 : PassView) (attaches : Attached bucket e r r2) (back : BodyList) (side : Side) (flags : ℕ) (key value : List ℕ) (turn : IsTurnWith t.shape q.cpu (Update side flags key value None (puts.Added e)) bodies back.bodies (e ∷ numbers bodies)) where
     under_added : Under t b.hold b.below q r2 (with_row (Bucket bucket) e b.hold.now) popped.steps
-    under_added = under_attached t bucket q r r2 bodies b b.hold.now popped.steps e r.cpu (under_looked t bucket q bodies b plain r popped.steps popped.reached) attached_is
+    under_added = under_attached t bucket q r r2 bodies b b.hold.now popped.steps e (under_looked t bucket q bodies b r popped.steps popped.reached) attaches
 
     pub can_give_added : CanGive t (Bucket bucket) r2 (contents.Bucket back) (parts.Bucket (Update side flags key value None (puts.Added e)))
     can_give_added =
-        can_give t bucket q r2 bodies b (with_row (Bucket bucket) e b.hold.now) popped.steps back (Update side flags key value None (puts.Added e)) plain under_added turn.turn turn.sized
-        (λ x. turn.counts x ∙ sym (ap (λ (l : Lists). times x (rows (with_row (Bucket bucket) e l))) b.now ∙ ap (λ (l : List ℕ). times x (e ∷ l)) (append_nil (numbers bodies)))) (ap (λ (l : Lists). l.free) b.now) tt
+        can_give t bucket q r2 bodies b (with_row (Bucket bucket) e b.hold.now) popped.steps back (Update side flags key value None (puts.Added e)) under_added turn.turn turn.sized
+        (λ x. turn.counts x ∙ sym (ap (λ (l : Lists). times x (rows (with_row (Bucket bucket) e l))) b.now ∙ ap (λ (l : List ℕ). times x (e ∷ l)) (append_nil (numbers bodies)))) (ap (λ (l : Lists). l.free) b.now)
+        (none_noted t.shape r2.view (hold_with b.hold (with_row (Bucket bucket) e b.hold.now)) (Update side flags key value None (puts.Added e)) plain refl)
 
     pub answered_added : (s : PassView) (given : Given) (found : Part) → HasItsSpares q → Gives t bucket side flags key value given → found ≡ parts.Bucket (Update side flags key value None (puts.Added e)) → GaveBack t (Bucket bucket) r2 s (contents.Bucket back) (Some found)
         → AnsweredWhole t q s (verbs.Update side flags key value) Done
@@ -129,8 +131,8 @@ module _ (t : TableView) (bucket : ℕ) (q r : PassView) (bodies : List Stored) 
         let looks = map (turn_of t.shape) popped.steps in
         let pops : Pops t.shape q.cpu e looks = subst (λ (n : ℕ). Pops t.shape q.cpu n looks) e_is popped.trace in
         let hand : r2.view.hand ≡ without_in_hand was.element q.cpu (with_in_hand was.element q.cpu q.view.hand) =
-        ap (λ (z : PassView). z.view.hand) attached_is ∙ (λ i. without_in_hand (sym e_is i) (popped.reached.goes.cpu i) (popped.hand i)) in
-        answered_whole t bucket q r2 s (verbs.Update side flags key value) Done popped.steps part looks has l.0 l.1 (ap (λ (z : PassView). z.spares) attached_is ∙ popped.reached.spares)
+        ap (λ (z : PassView). z.view.hand) attaches.1 ∙ (λ i. without_in_hand (sym e_is i) (popped.reached.goes.cpu i) (popped.hand i)) in
+        answered_whole t bucket q r2 s (verbs.Update side flags key value) Done popped.steps part looks has l.0 l.1 (ap (λ (z : PassView). z.spares) attaches.1 ∙ popped.reached.spares)
         (λ x c. ap (is_in_hand_of x c) hand ∙ hand_back was.element q.cpu q.view.hand (popped.fresh.in_no_hand q.cpu b.begun) x c) refl
         (update_trace t bucket q.cpu (spare_element q) side flags key value given (puts.Added e) looks gives pops)
         (sym (popped_spare (spare_element q) t.shape q.cpu e looks (record { lock = Bucket bucket; part = part }) pops))

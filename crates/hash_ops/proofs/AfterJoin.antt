@@ -40,7 +40,7 @@ use Rattle.place_table.proofs.Going.{same_head}
 use Rattle.place_table.proofs.StrandMoves.{among_append}
 use Rattle.place_table.proofs.Worlds.{all_here, none_some, true_false}
 use Rattle.hash_ops.specs.Calls.{Called, CouldBe, IsTold, AreTold, spare_element}
-use Rattle.hash_ops.proofs.Under.{turns_alone}
+use Rattle.hash_ops.proofs.Under.{turns_alone, no_bits}
 
 -- Lists
 
@@ -236,7 +236,7 @@ pub update_then_lookup : (t : TableView) (p q r : PassView) (cpu number flags : 
     → Called t p q (verbs.Update side flags key value) Done → Called t (begun q cpu number) r (verbs.Lookup other key) reply → reply ≡ Value value
 update_then_lookup t p q r cpu number flags side other key value reply plain single has first second =
     let there = put_there t p q side flags key value plain first in
-    let x = looks_after t p q r cpu number other key (Update side flags key value None there.put) reply first.steps first.told first.lost there.inner there.last plain has first.leaves.learns first.told_are there.told_are there.last_is second in
+    let x = looks_after t p q r cpu number other key (Update side flags key value None there.put) reply first.steps first.told first.lost there.inner there.last plain has (subst (Learns t.shape p.view q.view first.steps) (no_bits t.shape first.told plain) first.leaves.learns) first.told_are there.told_are there.last_is second in
     x.reply_is ∙ read_under t.shape side other flags x.before x.after key value there.put (content t.shape (Bucket (bucket_of_key t.shape key)) x.earlier) x.got single x.may there.done x.found
 
 -- after two passes that have all CPUs between them are joined

@@ -25,13 +25,13 @@ use Rattle.place_words.proofs.BucketLaws.{key_gone, keys_stay_distinct}
 use Rattle.place_words.proofs.PlainLaws.{trace_plain}
 use Rattle.place_words.proofs.Splits.{there}
 use Rattle.place_table.specs.declared.view.Turned.{Turned}
-use Rattle.place_table.specs.Known.{turn_of, turn_at}
+use Rattle.place_table.specs.Known.{Learns, turn_of, turn_at}
 use Rattle.place_table.specs.Passes.{PassView, TableView, begun}
 use Rattle.place_table.specs.Views.{has_all}
-use Rattle.place_table.proofs.Worlds.{by_bool, none_some, true_false}
+use Rattle.place_table.proofs.Worlds.{by_bool, true_false}
 use Rattle.hash_ops.specs.Calls.{Called, spare_element}
-use Rattle.hash_ops.proofs.AfterJoin.{LooksAfter, looks_after, last_of, refused_not_done}
-use Rattle.hash_ops.proofs.Under.{turns_alone}
+use Rattle.hash_ops.proofs.AfterJoin.{looks_after, last_of, refused_not_done}
+use Rattle.hash_ops.proofs.Under.{turns_alone, no_bits}
 
 -- The keys of a bucket whose history replays are distinct
 
@@ -100,6 +100,6 @@ pub delete_then_lookup : (t : TableView) (p q r : PassView) (cpu number : ℕ) (
     → Called t p q (verbs.Delete key) Done → Called t (begun q cpu number) r (verbs.Lookup other key) reply → reply ≡ Refused Enoent
 delete_then_lookup t p q r cpu number other key reply plain has first second =
     let gone = deleted_there t p q key plain first in
-    let x = looks_after t p q r cpu number other key (Delete key (Some gone.element)) reply first.steps first.told first.lost gone.inner gone.last plain has first.leaves.learns first.told_are gone.told_are gone.last_is second in
+    let x = looks_after t p q r cpu number other key (Delete key (Some gone.element)) reply first.steps first.told first.lost gone.inner gone.last plain has (subst (Learns t.shape p.view q.view first.steps) (no_bits t.shape first.told plain) first.leaves.learns) first.told_are gone.told_are gone.last_is second in
     let here = bucket_distinct t.shape (bucket_of_key t.shape key) x.earlier x.legal in
     x.reply_is ∙ absent_after t.shape other x.before x.after gone.element key (content t.shape (Bucket (bucket_of_key t.shape key)) x.earlier) here.0 x.got here.1 here.2 x.may x.found

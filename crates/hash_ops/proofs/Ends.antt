@@ -18,28 +18,46 @@ use Rattle.place_words.specs.Bodies.{first_key}
 use Rattle.place_words.specs.Buckets.{AllowsInBucket, bucket_after}
 use Rattle.place_words.specs.Traces.{bucket_of_key}
 use Rattle.place_table.specs.declared.content.Content.TheVariants as contents
+use Rattle.place_table.specs.declared.view.View.{View}
+use Rattle.place_table.specs.declared.view.Hold.{Hold}
 use Rattle.place_table.specs.declared.view.Turned.{Turned}
 use Rattle.place_table.specs.Known.{IsBy, Learns}
-use Rattle.place_table.specs.Views.{is_in_hand_of}
+use Rattle.place_table.specs.TurnNotes.{NotesFit, ProbeFits, CameToHand}
+use Rattle.place_table.specs.Views.{is_in_hand_of, no_notes}
 use Rattle.place_table.specs.Passes.{PassView, TableView, CanGiveSome, GaveSome, Goes, spare_of}
 use Rattle.place_table.proofs.Going.{goes_nowhere, learns_none}
 use Rattle.hash_ops.specs.Calls.{CanCall, CalledWhole, FoundNoMemory, Updates, lost_turn, spare_element}
 use Rattle.hash_ops.specs.declared.map.PlainRefusal.{PlainRefusal}
 use Rattle.hash_ops.specs.declared.map.PlainRefusal.TheVariants as refusals
-use Rattle.hash_ops.specs.Under.{InBucket, HasItsSpares, Enters, Forgot, UpdateEnds}
-use Rattle.hash_ops.proofs.BucketTurns.{unchanged_turn}
+use Rattle.place_table.specs.InBucket.{InBucket}
+use Rattle.hash_ops.specs.Under.{HasItsSpares, Enters, Forgot, UpdateEnds}
+use Rattle.place_table.proofs.BucketTurns.{unchanged_turn}
 use Rattle.hash_ops.proofs.Under.{can_same, left_forgotten, idle_same, called_whole, leaves_of}
+
+-- whether the map evicts or not, there is nothing
+nothing : {A : Type 0} (evicts : Bool) → [] ≡ cond {A = List A} evicts [] []
+nothing true = refl
+nothing false = refl
 
 -- Forgetting. What is said of the first key leaves the bucket.
 first_turn : (shape : Shape) (cpu : ℕ) (bodies : List Stored) → IsTurn shape cpu (First (first_key bodies)) bodies bodies
 unfolding AllowsInBucket bucket_after
 first_turn shape cpu bodies = record { allowed = refl; left = refl }
 
-module _ (t : TableView) (bucket : ℕ) (q : PassView) (chain : BodyList) (plain : is_lru t.shape.kind ≡ false) (b : InBucket t bucket q chain.bodies) where
+first_noted : (shape : Shape) (v : View) (hold : Hold) (key : Option (List ℕ)) → NotesFit shape v hold (parts.Bucket (First key)) no_notes
+first_noted shape v hold key = record {
+  served = tt;
+  marks_are = nothing (is_lru shape.kind);
+  clears_are = refl;
+  held = All-nil (ProbeFits []);
+  came = All-nil (CameToHand v hold no_notes);
+}
+
+module _ (t : TableView) (bucket : ℕ) (q : PassView) (chain : BodyList) (b : InBucket t bucket q chain.bodies) where
   pub can_forget : CanGiveSome t (Bucket bucket) q (contents.Bucket chain)
   can_forget =
       let part = First (first_key chain.bodies) in
-      (parts.Bucket part, can_same t bucket q chain part plain b (unchanged_turn t.shape q.cpu chain.bodies b.sized part (first_turn t.shape q.cpu chain.bodies)) tt)
+      (parts.Bucket part, can_same t bucket q chain part b (unchanged_turn t.shape q.cpu chain.bodies b.sized part (first_turn t.shape q.cpu chain.bodies)) (first_noted t.shape q.view b.hold (first_key chain.bodies)))
 
   pub forgot_of : (s : PassView) → HasItsSpares q → GaveSome t (Bucket bucket) q s (contents.Bucket chain) → Forgot t bucket q s chain.bodies
   forgot_of s has gave =
@@ -102,8 +120,8 @@ called_unknown t p side flags key value can unknown = (
       in_no_call = can.in_no_call;
       by_call = All-nil (IsBy p.cpu p.call);
       other_spares = λ other _. refl;
-      bits = refl;
-      learns = learns_none t.shape p.view;
+      bits = λ _. refl;
+      learns = subst (Learns t.shape p.view p.view []) (nothing (is_lru t.shape.kind)) (learns_none t.shape p.view);
     };
     told = [];
     told_are = tt;

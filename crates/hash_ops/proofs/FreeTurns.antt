@@ -1,6 +1,6 @@
 -- A turn of a freelist, and what is left of a pass after some.
 use Rattle.std.proofs.Common.{◌≡◌, ℕ, ◌<◌, Bool, false, List, [], ◌∷◌, ◌++◌, sym, refl, ap, ◌∙◌, subst, arith, Some}
-use Rattle.std.specs.Prelude.{IsTrue, All, nat_lt, not, ◌&&◌}
+use Rattle.std.specs.Prelude.{IsTrue, All, nat_lt, not, reverse, ◌&&◌}
 use Rattle.std.proofs.lemmas.List.Elements.{All-nil, All-cons, All-head, All-tail, All-append}
 use Rattle.map_types.specs.declared.attr.Shape.{Shape}
 use Rattle.map_types.specs.declared.kind.DomainId.{DomainId}
@@ -18,13 +18,15 @@ use Rattle.place_words.proofs.LockLemmas.{named_by_number}
 use Rattle.place_core.specs.declared.step.Lists.{Lists}
 use Rattle.place_table.specs.declared.content.Content.{Content}
 use Rattle.place_table.specs.declared.content.Content.TheVariants as contents
+use Rattle.place_table.specs.declared.view.View.{View}
 use Rattle.place_table.specs.declared.view.Hold.{Hold}
+use Rattle.place_table.specs.declared.view.BitAsked.{BitAsked}
 use Rattle.place_table.specs.declared.view.Notes.{Notes}
 use Rattle.place_table.specs.declared.view.Turned.{Turned}
 use Rattle.place_table.specs.Known.{Learns}
 use Rattle.place_table.specs.Passes.{PassView, TableView, IsPassOf, CanTake, Takes, CanGive, Gave, Goes}
 use Rattle.place_table.specs.Rules.{IsAboveAll}
-use Rattle.place_table.specs.TurnNotes.{NotesFit}
+use Rattle.place_table.specs.TurnNotes.{NotesFit, ProbeFits, CameToHand, clears_among}
 use Rattle.place_table.specs.Views.{no_notes, hold_at}
 use Rattle.place_table.proofs.Gives.{taken_of_table, none_passed}
 use Rattle.place_table.proofs.Going.{same_head, AreElsewhere, given_turn, goes_on, goes_nowhere, goes_of_table, goes_begun, learns_on, learns_none}
@@ -65,21 +67,36 @@ hold_is t cpu p q here took =
 
 -- One turn of a freelist
 
-pub no_marks : (shape : Shape) (part : FreePart) → NotesFit shape (parts.Free part) no_notes
-no_marks shape part = record { marks_are = refl; no_clears = refl; seen = tt }
+-- only what came to the hand is noted
+pub record IsQuiet (notes : Notes) : Type 0 where
+  pub marks : notes.marks ≡ []
+  pub asked : notes.asked ≡ []
+  pub owners : notes.owners ≡ []
+
+pub quiet_none : IsQuiet no_notes
+quiet_none = record { marks = refl; asked = refl; owners = refl }
+
+pub quiet_fits : (shape : Shape) (v : View) (hold : Hold) (part : FreePart) (notes : Notes) → IsQuiet notes → NotesFit shape v hold (parts.Free part) notes
+quiet_fits shape v hold part notes quiet = record {
+  served = tt;
+  marks_are = quiet.marks;
+  clears_are = ap (λ (asked : List BitAsked). clears_among (reverse asked)) quiet.asked;
+  held = All-nil (ProbeFits notes.owners);
+  came = All-nil (CameToHand v hold notes);
+}
 
 -- a turn of some freelist
 abbrev IsOnFreelist : Shape → Turned → Type 0
 IsOnFreelist shape step = (c : ℕ) × (c < shape.cpus) × (step.lock ≡ lock_number shape (Freelist c))
 
 -- the turn of a freelist, with what changes in hand, leaves a pass that has reached it
-pub reached_once : (t : TableView) (cpu : ℕ) (p q r s : PassView) (here back : Content) (part : Part) (now : Lists) (took : Takes t (Freelist cpu) p q here) → cpu < t.shape.cpus → Goes q r [] [] → r.spares ≡ q.spares → r.view.bits ≡ q.view.bits → r.view.carried ≡ q.view.carried → Learns t.shape q.view r.view [] []
-    → IsUnder p r took.hold now no_notes → CanGive t (Freelist cpu) r back part → (gave : Gave r s part) → Reached t p s (given_turn r gave.hold part ∷ [])
-reached_once t cpu p q r s here back part now took within goes spares bits carried learns under can gave =
-    let made = turn_made t (Freelist cpu) p q r s here [] [] part now no_notes took goes under (λ below. none_passed part can.notes below (ap (λ (z : Notes). z.owners) (same_head (sym can.notes_are ∙ under.notes_are))) can.notes_fit.seen) gave in
+pub reached_once : (t : TableView) (cpu : ℕ) (p q r s : PassView) (here back : Content) (part : Part) (now : Lists) (notes : Notes) (took : Takes t (Freelist cpu) p q here) → IsQuiet notes → cpu < t.shape.cpus → Goes q r [] [] → r.spares ≡ q.spares → r.view.bits ≡ q.view.bits → r.view.carried ≡ q.view.carried → Learns t.shape q.view r.view [] []
+    → IsUnder p r took.hold now notes → CanGive t (Freelist cpu) r back part → (gave : Gave r s part) → Reached t p s (given_turn r gave.hold part ∷ [])
+reached_once t cpu p q r s here back part now notes took quiet within goes spares bits carried learns under can gave =
+    let made = turn_made t (Freelist cpu) p q r s here [] [] part now notes took goes under (λ below. none_passed part can.notes below (ap (λ (z : Notes). z.owners) (same_head (sym can.notes_are ∙ under.notes_are)) ∙ quiet.owners) can.notes_fit.held) gave in
     let same_cpu : r.cpu ≡ p.cpu = goes.cpu ∙ ap (λ (z : PassView). z.cpu) took.after_is in
     let same_call : r.call ≡ p.call = goes.call ∙ ap (λ (z : PassView). z.call) took.after_is in
-    let lock_is : gave.hold.lock ≡ lock_number t.shape (Freelist cpu) = ap (λ (h : Hold). h.lock) (given_hold p r s took.hold now no_notes part gave under) ∙ took.lock_is in record {
+    let lock_is : gave.hold.lock ≡ lock_number t.shape (Freelist cpu) = ap (λ (h : Hold). h.lock) (given_hold p r s took.hold now notes part gave under) ∙ took.lock_is in record {
       goes = made.goes;
       held = made.held;
       notes = made.notes;
@@ -88,14 +105,14 @@ reached_once t cpu p q r s here back part now took within goes spares bits carri
       carried = ap (λ (z : PassView). z.view.carried) gave.after_is ∙ (carried ∙ ap (λ (z : PassView). z.view.carried) took.after_is);
       by_call = All-cons (IsBy p.cpu p.call) (given_turn r gave.hold part) [] (same_cpu, same_call) (All-nil (IsBy p.cpu p.call));
       on_freelists = All-cons (IsOnFreelist t.shape) (given_turn r gave.hold part) [] (cpu, within, lock_is) (All-nil (IsOnFreelist t.shape));
-      learns = turn_learns t (Freelist cpu) p q r s here back [] part now no_notes took under can tt learns gave;
+      learns = turn_learns t (Freelist cpu) p q r s here back [] part now notes took under can tt learns gave;
     }
 
 -- and the turn is one of this freelist
-pub turn_is : (t : TableView) (cpu : ℕ) (p q r s : PassView) (here : Content) (part : FreePart) (now : Lists) (took : Takes t (Freelist cpu) p q here) → IsTrue (is_lock t.shape (Freelist cpu)) → IsUnder p r took.hold now no_notes → (gave : Gave r s (parts.Free part))
+pub turn_is : (t : TableView) (cpu : ℕ) (p q r s : PassView) (here : Content) (part : FreePart) (now : Lists) (notes : Notes) (took : Takes t (Freelist cpu) p q here) → IsTrue (is_lock t.shape (Freelist cpu)) → IsUnder p r took.hold now notes → (gave : Gave r s (parts.Free part))
     → turn_of t.shape (given_turn r gave.hold (parts.Free part)) ≡ on_freelist_of cpu part
-turn_is t cpu p q r s here part now took is_there under gave =
-    let lock_is : gave.hold.lock ≡ lock_number t.shape (Freelist cpu) = ap (λ (h : Hold). h.lock) (given_hold p r s took.hold now no_notes (parts.Free part) gave under) ∙ took.lock_is in
+turn_is t cpu p q r s here part now notes took is_there under gave =
+    let lock_is : gave.hold.lock ≡ lock_number t.shape (Freelist cpu) = ap (λ (h : Hold). h.lock) (given_hold p r s took.hold now notes (parts.Free part) gave under) ∙ took.lock_is in
     ap (λ (d : DomainId). record { lock = d; part = parts.Free part }) (ap (lock_named t.shape) lock_is ∙ named_by_number t.shape (Freelist cpu) is_there)
 
 -- Turns in their order

@@ -16,6 +16,7 @@ use Rattle.place_words.specs.Bodies.{present, numbers}
 use Rattle.map_types.specs.ElementLists.{times, without, IsIn}
 use Rattle.place_words.specs.Histories.{in_bucket}
 use Rattle.place_words.specs.Locks.{lock_number}
+use Rattle.place_words.specs.SerialOrder.{bucket_probes}
 use Rattle.place_words.specs.Traces.{Turn, IsPlainTrace, bucket_of_key, on_bucket_of, on_freelist_of, spare_after}
 use Rattle.place_words.proofs.BucketLaws.{present_is_in}
 use Rattle.place_core.specs.declared.step.Lists.{Lists}
@@ -25,17 +26,17 @@ use Rattle.place_table.specs.declared.content.Content.TheVariants as contents
 use Rattle.place_table.specs.declared.view.Turned.{Turned}
 use Rattle.place_table.specs.Contents.{lists_of, IsSized}
 use Rattle.place_table.specs.Known.{turn_of}
-use Rattle.place_table.specs.Passes.{PassView, TableView, CanMark, CanGive, MayGiveBack, GaveBack, with_view}
-use Rattle.place_table.specs.TurnNotes.{BucketNotesFit}
-use Rattle.place_table.specs.Views.{hold_at, is_in_hand_of, now_under, with_in_hand, moved, detached, no_notes}
+use Rattle.place_table.specs.Passes.{PassView, TableView, CanMark, Detached, CanGive, MayGiveBack, GaveBack, with_view}
+use Rattle.place_table.specs.Views.{hold_at, is_in_hand_of, now_under, with_in_hand, without_in_hand, moved, with_hash_of}
 use Rattle.place_table.proofs.Entries.{append_nil}
 use Rattle.place_table.proofs.Hands.{in_hand_more, now_at_is}
 use Rattle.hash_ops.specs.Calls.{spare_element}
 use Rattle.hash_ops.specs.Free.{CanPush, Pushed}
-use Rattle.hash_ops.specs.Under.{InBucket, HasItsSpares, Answered}
-use Rattle.hash_ops.proofs.BucketTurns.{IsTurnWith}
+use Rattle.place_table.specs.InBucket.{InBucket}
+use Rattle.hash_ops.specs.Under.{HasItsSpares, Answered}
+use Rattle.place_table.proofs.BucketTurns.{IsTurnWith}
 use Rattle.hash_ops.proofs.HandLemmas.{hand_back, is_real, not_in_hand}
-use Rattle.hash_ops.proofs.Under.{Under, under_nothing, under_moved, under_reached, may_reach, can_give, may_give_back, left, answered_same}
+use Rattle.hash_ops.proofs.Under.{Under, hold_with, none_noted, under_nothing, under_moved, under_reached, may_reach, can_give, may_give_back, left, answered_same}
 use Rattle.place_table.specs.Words.{owner_word}
 
 -- what lies in the bucket without the element
@@ -72,44 +73,46 @@ module _ {t : TableView} {bucket : ℕ} {q : PassView} {bodies : List Stored} (b
   }
 
   -- then the bucket holds the others
-  under_detached : (e : ℕ) → Under t b.hold b.below q (with_view q (detached bucket e q.cpu q.view)) (left_without e bodies) []
-  under_detached e =
+  under_detached : (e : ℕ) (out : PassView) → Detached bucket e q out → Under t b.hold b.below q out (left_without e bodies) []
+  under_detached e out is =
       let k : ℕ = lock_number q.view.shape (Bucket bucket) in
       let k_is : k ≡ b.hold.lock = ap (λ (s : Shape). lock_number s (Bucket bucket)) b.of_table.1 ∙ sym b.lock_is in
       let hand = with_in_hand e q.cpu q.view.hand in
       let now : now_under (Bucket bucket) q.view ≡ lists_of (in_bucket bodies) = now_at_is k q.view.held b.hold (held_here k k_is) ∙ b.now in
-      under_moved t b.hold b.below q q (with_view q (detached bucket e q.cpu q.view)) b.hold.now (left_without e bodies) [] k hand (owner_word q.view.shape e) (1 + q.cpu) (under_nothing t bucket q bodies b) k_is
-      (ap (λ (l : Lists). with_view q (moved k (without_row e l) hand (owner_word q.view.shape e) (1 + q.cpu) q.view)) now)
+      under_moved t b.hold b.below q q out b.hold.now (left_without e bodies) [] is.0 k hand (owner_word q.view.shape e) (1 + q.cpu) (under_nothing t bucket q bodies b) k_is
+      (is.1 ∙ ap (λ (l : Lists). with_view q (with_hash_of bucket e q.cpu (moved is.0 k (without_row e l) hand q.view.notes (owner_word q.view.shape e) (1 + q.cpu) q.view))) now)
 
   -- it may be pushed
-  pub can_push_detached : (body : Stored) → present body.key bodies ≡ Some body → IsSized t.shape body → CanPush t body (with_view q (detached bucket body.element q.cpu q.view))
-  can_push_detached body found sized = record {
-    can = may_reach t bucket q (with_view q (detached bucket body.element q.cpu q.view)) bodies b (left_without body.element bodies) [] (under_detached body.element);
+  pub can_push_detached : (body : Stored) → present body.key bodies ≡ Some body → IsSized t.shape body → (out : PassView) → Detached bucket body.element q out → CanPush t body out
+  can_push_detached body found sized out is = record {
+    can = may_reach t bucket q out bodies b (left_without body.element bodies) [] (under_detached body.element out is);
     real = is_real t bucket q bodies b body.key body found;
     sized = sized;
-    in_hand = in_hand_more body.element q.cpu q.view.hand;
+    in_hand = (λ i. is_in_hand_of body.element ((is.1 i).cpu) ((is.1 i).view.hand)) ∙ in_hand_more body.element q.cpu q.view.hand;
   }
 
   -- and is gone
-  pub gone_of : is_lru t.shape.kind ≡ false → (s : PassView) (body : Stored) (e : ℕ) → present body.key bodies ≡ Some body → e ≡ body.element → Pushed t body (with_view q (detached bucket body.element q.cpu q.view)) s → Gone t bucket q s bodies b e
-  gone_of plain s body e found number pushed =
-      let r : PassView = with_view q (detached bucket body.element q.cpu q.view) in
+  pub gone_of : is_lru t.shape.kind ≡ false → (s : PassView) (body : Stored) (e : ℕ) → present body.key bodies ≡ Some body → e ≡ body.element → (out : PassView) × Detached bucket body.element q out × Pushed t body out s → Gone t bucket q s bodies b e
+  gone_of plain s body e found number was_pushed =
+      let r : PassView = was_pushed.0 in
+      let is : Detached bucket body.element q r = was_pushed.1 in
+      let pushed : Pushed t body r s = was_pushed.2 in
       let none = not_in_hand t bucket q bodies b body.key body found plain q.cpu b.begun in
       subst (Gone t bucket q s bodies b) (sym number) record {
         step = pushed.step;
-        under = under_reached t bucket q r s bodies b (left_without body.element bodies) [] (pushed.step ∷ []) plain (under_detached body.element) pushed.reached;
-        turn = pushed.turn;
-        spares = pushed.reached.spares;
-        hand = λ x c. ap (is_in_hand_of x c) pushed.hand ∙ hand_back body.element q.cpu q.view.hand none x c;
+        under = under_reached t bucket q r s bodies b (left_without body.element bodies) [] (pushed.step ∷ []) (under_detached body.element r is) pushed.reached;
+        turn = pushed.turn ∙ ap (λ (z : PassView). on_freelist_of z.cpu (turns.Pushed body.element)) is.1;
+        spares = pushed.reached.spares ∙ ap (λ (z : PassView). z.spares) is.1;
+        hand = λ x c. ap (is_in_hand_of x c) (pushed.hand ∙ ap (λ (z : PassView). without_in_hand body.element z.cpu z.view.hand) is.1) ∙ hand_back body.element q.cpu q.view.hand none x c;
       }
 
 -- Once it is gone the bucket is given back
 module _ {t : TableView} {bucket : ℕ} {q r : PassView} {bodies : List Stored} {b : InBucket t bucket q bodies} {e : ℕ} (gone : Gone t bucket q r bodies b e) (plain : is_lru t.shape.kind ≡ false) (back : BodyList) (part : BucketPart)
-    (turn : IsTurnWith t.shape q.cpu part bodies back.bodies (without e (numbers bodies))) (fits : BucketNotesFit part no_notes) (found : Option Part) (is : IfSome found (λ x. x ≡ parts.Bucket part)) where
+    (turn : IsTurnWith t.shape q.cpu part bodies back.bodies (without e (numbers bodies))) (no_probes : bucket_probes part ≡ []) (found : Option Part) (is : IfSome found (λ x. x ≡ parts.Bucket part)) where
   can_give_gone : CanGive t (Bucket bucket) r (contents.Bucket back) (parts.Bucket part)
   can_give_gone =
-      can_give t bucket q r bodies b (left_without e bodies) (gone.step ∷ []) back part plain gone.under turn.turn turn.sized
-      (λ x. turn.counts x ∙ ap (times x) (sym (append_nil (without e (numbers bodies))))) refl fits
+      can_give t bucket q r bodies b (left_without e bodies) (gone.step ∷ []) back part gone.under turn.turn turn.sized
+      (λ x. turn.counts x ∙ ap (times x) (sym (append_nil (without e (numbers bodies))))) refl (none_noted t.shape r.view (hold_with b.hold (left_without e bodies)) part plain no_probes)
 
   pub may_give_gone : MayGiveBack t (Bucket bucket) r (contents.Bucket back) found
   may_give_gone = may_give_back t (Bucket bucket) r (contents.Bucket back) (parts.Bucket part) found can_give_gone is

@@ -1,6 +1,5 @@
 -- What is in the hands of a pass while an element of its bucket is on its way to a freelist.
-use Rattle.std.proofs.Common.{◌≡◌, ℕ, ◌<◌, true, false, List, sym, refl, ap, ◌∙◌, subst, arith, Some}
-use Rattle.map_types.specs.declared.attr.Shape.{Shape}
+use Rattle.std.proofs.Common.{◌≡◌, ℕ, ◌<◌, inr, true, false, List, sym, refl, ◌∙◌, subst, arith, Some}
 use Rattle.map_types.specs.Kind.{is_lru}
 use Rattle.map_types.specs.Stored.{Stored}
 use Rattle.place_words.specs.Bodies.{present, numbers}
@@ -15,7 +14,7 @@ use Rattle.place_table.specs.Views.{is_among, is_in_hand_of, with_in_hand, witho
 use Rattle.place_table.proofs.Entries.{append_nil}
 use Rattle.place_table.proofs.Hands.{in_hand_less, in_hand_more_else, in_hand_less_else}
 use Rattle.place_table.proofs.Worlds.{by_bool}
-use Rattle.hash_ops.specs.Under.{InBucket}
+use Rattle.place_table.specs.InBucket.{InBucket}
 
 -- what comes to a hand where it wasn't, and leaves it again, leaves all hands as they were
 pub hand_back : (e cpu : ℕ) (hand : List InHand) → is_in_hand_of e cpu hand ≡ false → (x c : ℕ) → is_in_hand_of x c (without_in_hand e cpu (with_in_hand e cpu hand)) ≡ is_in_hand_of x c hand
@@ -41,6 +40,6 @@ module _ (t : TableView) (bucket : ℕ) (q : PassView) (bodies : List Stored) (b
   not_in_hand plain cpu mine =
       by_bool (is_in_hand_of body.element cpu q.view.hand) (λ z. z ≡ false)
       (λ in_hand.
-      let none : times body.element (rows b.hold.now) ≡ 0 = (b.apart body.element cpu mine in_hand).1 (ap (λ (s : Shape). is_lru s.kind) b.of_table.1 ∙ plain) in
+      let none : times body.element (rows b.hold.now) ≡ 0 = (b.apart body.element cpu mine in_hand).1 (inr refl) in
       absurd (omega (arith, none, lies_there)))
       (λ _. refl)

@@ -1,6 +1,5 @@
 pub mod Added
 pub mod AfterJoin
-pub mod BucketTurns
 pub mod DeleteThenLookup
 pub mod Ends
 pub mod FreeTurns

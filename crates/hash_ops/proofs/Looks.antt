@@ -18,26 +18,28 @@ use Rattle.place_core.specs.State.{rows}
 use Rattle.place_core.specs.Steps.{without_free}
 use Rattle.place_core.proofs.ElementLemmas.{by_test, times_cons_same}
 use Rattle.place_table.specs.declared.content.Content.TheVariants as contents
+use Rattle.place_table.specs.declared.view.Notes.{Notes}
 use Rattle.place_table.specs.Contents.{IsSized}
-use Rattle.place_table.specs.Passes.{PassView, TableView, IsPassOf, HasBegun, Takes, CanClaim, CanGive, Gave, Goes, with_view}
-use Rattle.place_table.specs.Views.{no_notes, is_in_hand_of, now_under, claimed, moved, with_in_hand}
+use Rattle.place_table.specs.Passes.{PassView, TableView, IsPassOf, HasBegun, Takes, CanClaim, Claimed, CanGive, Gave, Goes, with_view}
+use Rattle.place_table.specs.Views.{no_notes, is_in_hand_of, now_under, claimed, moved, with_came, with_in_hand}
 use Rattle.place_table.proofs.Gives.{unchanged, taken_of_table, taken_begun}
 use Rattle.place_table.proofs.Going.{given_turn, goes_moved, goes_nowhere, goes_of_table, goes_begun, learns_moved, learns_none}
+use Rattle.place_table.proofs.Hands.{with_lists}
 use Rattle.place_table.proofs.Worlds.{by_bool}
 use Rattle.hash_ops.specs.Free.{CanReach, IsFresh, PoppedAmong}
-use Rattle.hash_ops.proofs.FreeTurns.{freelist_there, with_top, free_is, number_is, hold_is, no_marks, reached_once, turn_is}
+use Rattle.hash_ops.proofs.FreeTurns.{freelist_there, with_top, free_is, number_is, hold_is, IsQuiet, quiet_none, quiet_fits, reached_once, turn_is}
 use Rattle.hash_ops.proofs.Turning.{IsUnder, under_taken, under_now, under_moved, can_give}
 use Rattle.place_table.specs.Words.{owner_word}
 
 -- What was done under the lock after the look, and the part that tells of it: what was on top came to the hand.
 abbrev pub LookedUnder : ℕ → PassView → PassView → Option Stored → Part → Type 0
 LookedUnder cpu q r None part = (r ≡ q) × (part ≡ parts.Free turns.FoundEmpty)
-LookedUnder cpu q r (Some body) part = (r ≡ with_view q (claimed (Freelist cpu) body.element q.cpu q.view)) × (part ≡ parts.Free (turns.Popped body.element))
+LookedUnder cpu q r (Some body) part = Claimed (Freelist cpu) body.element q r × (part ≡ parts.Free (turns.Popped body.element))
 
-pub under_some : (cpu : ℕ) (q x r : PassView) (found : Option Stored) (body : Stored) (element : ℕ) (part : Part) → found ≡ Some body → element ≡ body.element → x ≡ with_view q (claimed (Freelist cpu) element q.cpu q.view) → r ≡ x → part ≡ parts.Free (turns.Popped element) → LookedUnder cpu q r found part
+pub under_some : (cpu : ℕ) (q x r : PassView) (found : Option Stored) (body : Stored) (element : ℕ) (part : Part) → found ≡ Some body → element ≡ body.element → Claimed (Freelist cpu) element q x → r ≡ x → part ≡ parts.Free (turns.Popped element) → LookedUnder cpu q r found part
 under_some cpu q x r found body element part is same moved_is pass_is part_is =
     subst (λ (o : Option Stored). LookedUnder cpu q r o part) (sym is) (
-      pass_is ∙ (moved_is ∙ ap (λ (e : ℕ). with_view q (claimed (Freelist cpu) e q.cpu q.view)) same),
+      (moved_is.0, pass_is ∙ (moved_is.1 ∙ ap (λ (e : ℕ). with_view q (claimed moved_is.0 (Freelist cpu) e q.cpu q.view)) same)),
       part_is ∙ ap (λ (e : ℕ). parts.Free (turns.Popped e)) same,
     )
 
@@ -47,6 +49,13 @@ under_none cpu q r found part is pass_is part_is = subst (λ (o : Option Stored)
 -- the freelist after it
 abbrev pub LookedInto : FreelistView → FreelistView → Option Stored → Type 0
 LookedInto old new found = MatchOption found ((old.bodies ≡ []) × (new ≡ old)) (λ body. old ≡ record new { bodies = body ∷ new.bodies })
+
+-- what is noted in the turn: that it came
+abbrev pub notes_popped : ℕ → Notes
+notes_popped e = record { came = e ∷ []; marks = []; asked = []; owners = []; homes = [] }
+
+quiet_popped : (e : ℕ) → IsQuiet (notes_popped e)
+quiet_popped e = record { marks = refl; asked = refl; owners = refl }
 
 module _ {t : TableView} {cpu : ℕ} {p q : PassView} {body : Stored} {f : FreelistView} (took : Takes t (Freelist cpu) p q (contents.Freelist (with_top body f))) where
   top_there : 0 < times body.element took.hold.now.free
@@ -78,14 +87,17 @@ module _ {t : TableView} {cpu : ℕ} {p q : PassView} {body : Stored} {f : Freel
   }
 
   -- what lies under the lock once it is in hand
-  under_popped : (r : PassView) → IsPassOf t p → r ≡ with_view q (claimed (Freelist cpu) body.element q.cpu q.view) → IsUnder p r took.hold (without_free body.element took.hold.now) no_notes
-  under_popped r of_table after_is =
+  under_popped : (r : PassView) → IsPassOf t p → Claimed (Freelist cpu) body.element q r → IsUnder p r took.hold (without_free body.element took.hold.now) (notes_popped body.element)
+  under_popped r of_table claims =
       let here = contents.Freelist (with_top body f) in
       let k : ℕ = lock_number q.view.shape (Freelist cpu) in
       let number : took.hold.lock ≡ k = number_is t cpu p q here took of_table in
       let before = under_taken t (Freelist cpu) p q here took in
-      under_moved p q r took.hold took.hold.now (without_free body.element took.hold.now) no_notes k (with_in_hand body.element q.cpu q.view.hand) (owner_word q.view.shape body.element) (1 + q.cpu) before number
-      (after_is ∙ ap (λ (now : Lists). with_view q (moved k (without_free body.element now) (with_in_hand body.element q.cpu q.view.hand) (owner_word q.view.shape body.element) (1 + q.cpu) q.view)) (under_now p q took.hold took.hold.now no_notes k before number))
+      let noted : with_came k body.element q.view.held q.view.notes ≡ notes_popped body.element ∷ p.view.notes =
+      ap (λ (z : PassView). with_came k body.element z.view.held z.view.notes) took.after_is
+      ∙ by_test took.hold.lock k (λ b. cond b (notes_popped body.element ∷ p.view.notes) (no_notes ∷ with_came k body.element p.view.held p.view.notes) ≡ notes_popped body.element ∷ p.view.notes) (λ _. refl) (λ other. absurd (other number)) in
+      under_moved p q r took.hold took.hold.now (without_free body.element took.hold.now) no_notes (notes_popped body.element) claims.0 k (with_in_hand body.element q.cpu q.view.hand) (with_came k body.element q.view.held q.view.notes) (owner_word q.view.shape body.element) (1 + q.cpu) before number noted
+      (claims.1 ∙ ap (λ (now : Lists). with_view q (moved claims.0 k (without_free body.element now) (with_in_hand body.element q.cpu q.view.hand) (with_came k body.element q.view.held q.view.notes) (owner_word q.view.shape body.element) (1 + q.cpu) q.view)) (under_now p q took.hold took.hold.now no_notes k before number))
 
   -- the free list under it is then the freelist that is given back
   free_popped : without body.element took.hold.now.free ≡ numbers f.bodies
@@ -93,15 +105,15 @@ module _ {t : TableView} {cpu : ℕ} {p q : PassView} {body : Stored} {f : Freel
       ap (without body.element) (free_is t cpu p q (with_top body f) took)
       ∙ by_test body.element body.element (λ b. cond b (numbers f.bodies) (body.element ∷ without body.element (numbers f.bodies)) ≡ numbers f.bodies) (λ _. refl) (λ other. absurd (other refl))
 
-  goes_popped : (r : PassView) → r ≡ with_view q (claimed (Freelist cpu) body.element q.cpu q.view) → Goes q r [] []
-  goes_popped r after_is = goes_moved (lock_number q.view.shape (Freelist cpu)) (without_free body.element (now_under (Freelist cpu) q.view)) (with_in_hand body.element q.cpu q.view.hand) (owner_word q.view.shape body.element) (1 + q.cpu) q r after_is
+  goes_popped : (r : PassView) → Claimed (Freelist cpu) body.element q r → Goes q r [] []
+  goes_popped r claims = goes_moved claims.0 (lock_number q.view.shape (Freelist cpu)) (without_free body.element (now_under (Freelist cpu) q.view)) (with_in_hand body.element q.cpu q.view.hand) (with_came (lock_number q.view.shape (Freelist cpu)) body.element q.view.held q.view.notes) (owner_word q.view.shape body.element) (1 + q.cpu) q r claims.1
 
-  can_give_popped : (r : PassView) → CanReach t p → IsTrue (is_lock t.shape (Freelist cpu)) → r ≡ with_view q (claimed (Freelist cpu) body.element q.cpu q.view) → CanGive t (Freelist cpu) r (contents.Freelist f) (parts.Free (turns.Popped body.element))
-  can_give_popped r can is_there after_is =
+  can_give_popped : (r : PassView) → CanReach t p → IsTrue (is_lock t.shape (Freelist cpu)) → Claimed (Freelist cpu) body.element q r → CanGive t (Freelist cpu) r (contents.Freelist f) (parts.Free (turns.Popped body.element))
+  can_give_popped r can is_there claims =
       let here = contents.Freelist (with_top body f) in
-      let goes = goes_popped r after_is in
-      can_give t (Freelist cpu) p q r here (contents.Freelist f) (parts.Free (turns.Popped body.element)) (without_free body.element took.hold.now) no_notes took
-      (under_popped r can.of_table after_is)
+      let goes = goes_popped r claims in
+      can_give t (Freelist cpu) p q r here (contents.Freelist f) (parts.Free (turns.Popped body.element)) (without_free body.element took.hold.now) (notes_popped body.element) took tt
+      (under_popped r can.of_table claims)
       (goes_of_table t q r [] [] goes (taken_of_table t (Freelist cpu) p q here took can.of_table))
       (goes_begun q r [] [] goes (taken_begun t (Freelist cpu) p q here took can.begun))
       is_there
@@ -110,19 +122,19 @@ module _ {t : TableView} {cpu : ℕ} {p q : PassView} {body : Stored} {f : Freel
       refl
       (λ e. ap (times e) (sym free_popped))
       (λ e. ap (λ (l : Lists). times e (rows l)) (sym took.now))
-      (no_marks t.shape (turns.Popped body.element))
+      (quiet_fits t.shape r.view (with_lists (without_free body.element took.hold.now) took.hold) (turns.Popped body.element) (notes_popped body.element) (quiet_popped body.element))
 
-  popped_once : (r s : PassView) → CanReach t p → is_lru t.shape.kind ≡ false → cpu < t.shape.cpus → r ≡ with_view q (claimed (Freelist cpu) body.element q.cpu q.view) → Gave r s (parts.Free (turns.Popped body.element)) → PoppedAmong t (cpu ∷ []) p s (Some body)
-  popped_once r s can plain within after_is gave =
+  popped_once : (r s : PassView) → CanReach t p → is_lru t.shape.kind ≡ false → cpu < t.shape.cpus → Claimed (Freelist cpu) body.element q r → Gave r s (parts.Free (turns.Popped body.element)) → PoppedAmong t (cpu ∷ []) p s (Some body)
+  popped_once r s can plain within claims gave =
       let here = contents.Freelist (with_top body f) in
       let is_there = freelist_there t.shape cpu plain within in
       let part : Part = parts.Free (turns.Popped body.element) in
       let now : Lists = without_free body.element took.hold.now in
-      let under = under_popped r can.of_table after_is in
-      let learns = learns_moved t.shape (lock_number q.view.shape (Freelist cpu)) (without_free body.element (now_under (Freelist cpu) q.view)) (with_in_hand body.element q.cpu q.view.hand) (owner_word q.view.shape body.element) (1 + q.cpu) q r after_is in
-      let turn = turn_is t cpu p q r s here (turns.Popped body.element) now took is_there under gave in record {
+      let under = under_popped r can.of_table claims in
+      let learns = learns_moved t.shape claims.0 (lock_number q.view.shape (Freelist cpu)) (without_free body.element (now_under (Freelist cpu) q.view)) (with_in_hand body.element q.cpu q.view.hand) (with_came (lock_number q.view.shape (Freelist cpu)) body.element q.view.held q.view.notes) (owner_word q.view.shape body.element) (1 + q.cpu) q r claims.1 in
+      let turn = turn_is t cpu p q r s here (turns.Popped body.element) now (notes_popped body.element) took is_there under gave in record {
         steps = given_turn r gave.hold part ∷ [];
-        reached = reached_once t cpu p q r s here (contents.Freelist f) part now took within (goes_popped r after_is) (ap (λ (z : PassView). z.spares) after_is) (ap (λ (z : PassView). z.view.bits) after_is) (ap (λ (z : PassView). z.view.carried) after_is) learns under (can_give_popped r can is_there after_is) gave;
+        reached = reached_once t cpu p q r s here (contents.Freelist f) part now (notes_popped body.element) took (quiet_popped body.element) within (goes_popped r claims) (ap (λ (z : PassView). z.spares) claims.1) (ap (λ (z : PassView). z.view.bits) claims.1) (ap (λ (z : PassView). z.view.carried) claims.1) learns under (can_give_popped r can is_there claims) gave;
         trace = record {
           passed = [];
           giver = cpu;
@@ -130,7 +142,7 @@ module _ {t : TableView} {cpu : ℕ} {p q : PassView} {body : Stored} {f : Freel
           cpus_are = refl;
           looks_are = ap (λ (x : Turn). x ∷ []) turn;
         };
-        hand = ap (λ (z : PassView). z.view.hand) gave.after_is ∙ (ap (λ (z : PassView). z.view.hand) after_is ∙ ap (λ (z : PassView). with_in_hand body.element z.cpu z.view.hand) took.after_is);
+        hand = ap (λ (z : PassView). z.view.hand) gave.after_is ∙ (ap (λ (z : PassView). z.view.hand) claims.1 ∙ ap (λ (z : PassView). with_in_hand body.element z.cpu z.view.hand) took.after_is);
         fresh = top_is_fresh;
       }
 
@@ -139,7 +151,7 @@ module _ {t : TableView} {cpu : ℕ} {p q : PassView} {f : FreelistView} (took :
   can_give_empty : CanReach t p → IsTrue (is_lock t.shape (Freelist cpu)) → f.bodies ≡ [] → CanGive t (Freelist cpu) q (contents.Freelist f) (parts.Free turns.FoundEmpty)
   can_give_empty can is_there empty =
       let here = contents.Freelist f in
-      unchanged t (Freelist cpu) p q here (parts.Free turns.FoundEmpty) took (taken_of_table t (Freelist cpu) p q here took can.of_table) (taken_begun t (Freelist cpu) p q here took can.begun) is_there (ap numbers empty) refl (no_marks t.shape turns.FoundEmpty)
+      unchanged t (Freelist cpu) p q here (parts.Free turns.FoundEmpty) tt took (taken_of_table t (Freelist cpu) p q here took can.of_table) (taken_begun t (Freelist cpu) p q here took can.begun) is_there (ap numbers empty) refl (quiet_fits t.shape q.view took.hold turns.FoundEmpty no_notes quiet_none)
 
   empty_once : (s : PassView) → CanReach t p → is_lru t.shape.kind ≡ false → cpu < t.shape.cpus → f.bodies ≡ [] → Gave q s (parts.Free turns.FoundEmpty) → PoppedAmong t (cpu ∷ []) p s None
   empty_once s can plain within empty gave =
@@ -148,9 +160,9 @@ module _ {t : TableView} {cpu : ℕ} {p q : PassView} {f : FreelistView} (took :
       let part : Part = parts.Free turns.FoundEmpty in
       let under = under_taken t (Freelist cpu) p q here took in
       let learns = learns_none t.shape q.view in
-      let turn = turn_is t cpu p q q s here turns.FoundEmpty took.hold.now took is_there under gave in record {
+      let turn = turn_is t cpu p q q s here turns.FoundEmpty took.hold.now no_notes took is_there under gave in record {
         steps = given_turn q gave.hold part ∷ [];
-        reached = reached_once t cpu p q q s here here part took.hold.now took within (goes_nowhere q) refl refl refl learns under (can_give_empty can is_there empty) gave;
+        reached = reached_once t cpu p q q s here here part took.hold.now no_notes took quiet_none within (goes_nowhere q) refl refl refl learns under (can_give_empty can is_there empty) gave;
         trace = ap (λ (x : Turn). x ∷ []) turn;
         hand = ap (λ (z : PassView). z.view.hand) gave.after_is ∙ ap (λ (z : PassView). z.view.hand) took.after_is;
         fresh = tt;

@@ -1,6 +1,6 @@
 -- What a call can answer that gives a bucket back as it lay there, without a part: what a part of it could have told. So a body
 -- that loses the record can't answer otherwise than its key stands there.
-use Rattle.std.proofs.Common.{◌≡◌, ℕ, List, [], ◌∷◌, ◌++◌, map, Option, None, Some, MatchOption, sym, refl, ap, ◌∙◌, subst}
+use Rattle.std.proofs.Common.{◌≡◌, ℕ, List, [], ◌∷◌, ◌++◌, map, Option, None, Some, MatchOption, sym, ap, ◌∙◌, subst}
 use Rattle.std.proofs.lemmas.List.{append_cancel_left}
 use Rattle.map_types.specs.declared.attr.Shape.{Shape}
 use Rattle.map_types.specs.declared.call.Verb.TheVariants as verbs
@@ -14,7 +14,6 @@ use Rattle.map_types.specs.Stored.{Stored}
 use Rattle.percpu_values.specs.BodyList.{BodyList}
 use Rattle.place_words.specs.declared.bucket_part.BucketPart.TheVariants.{Lookup, Delete}
 use Rattle.place_words.specs.declared.history.Part.{Part}
-use Rattle.place_words.specs.declared.history.Part.TheVariants as parts
 use Rattle.place_words.specs.Bodies.{present}
 use Rattle.place_words.specs.Buckets.{AllowsInBucket}
 use Rattle.place_words.specs.Histories.{Content, Allows, in_bucket, content}
@@ -29,7 +28,8 @@ use Rattle.place_table.specs.Passes.{PassView, TableView, GaveSome}
 use Rattle.place_table.proofs.Going.{given_turn, same_head}
 use Rattle.place_table.proofs.Worlds.{none_some}
 use Rattle.hash_ops.specs.Calls.{IsTold, AreTold}
-use Rattle.hash_ops.specs.Under.{InBucket, Answered, Finished}
+use Rattle.place_table.specs.InBucket.{InBucket}
+use Rattle.hash_ops.specs.Under.{Answered, Finished}
 use Rattle.hash_ops.proofs.AfterJoin.{told_allowed, told_cpu, one_told}
 use Rattle.hash_ops.proofs.Under.{bucket_there}
 

@@ -22,12 +22,13 @@ use Rattle.place_core.proofs.ElementLemmas.{by_test}
 use Rattle.place_core.proofs.TotalLemmas.{length_counts}
 use Rattle.place_table.specs.declared.content.Content.TheVariants as contents
 use Rattle.place_table.specs.Contents.{IsSized}
-use Rattle.place_table.specs.Passes.{PassView, TableView, Takes, CanGive, Gave, Goes, with_view}
-use Rattle.place_table.specs.Views.{no_notes, now_under, settled, moved, without_in_hand}
+use Rattle.place_table.specs.Passes.{PassView, TableView, Takes, Settled, CanGive, Gave, Goes, with_view}
+use Rattle.place_table.specs.Views.{no_notes, now_under, moved, without_in_hand}
 use Rattle.place_table.proofs.Gives.{taken_of_table, taken_begun}
+use Rattle.place_table.proofs.Hands.{with_lists}
 use Rattle.place_table.proofs.Going.{given_turn, goes_moved, goes_of_table, goes_begun, learns_moved}
 use Rattle.hash_ops.specs.Free.{CanPush, Pushed}
-use Rattle.hash_ops.proofs.FreeTurns.{with_top, free_is, number_is, no_marks, reached_once, turn_is}
+use Rattle.hash_ops.proofs.FreeTurns.{with_top, free_is, number_is, quiet_none, quiet_fits, reached_once, turn_is}
 use Rattle.hash_ops.proofs.Turning.{IsUnder, under_taken, under_now, under_moved, can_give}
 use Rattle.place_table.specs.Words.{owner_word}
 
@@ -71,7 +72,7 @@ module _ {t : TableView} {cpu : ℕ} {p q : PassView} {f : FreelistView} {body :
       let room = took.fits.1 in
       omega arith
 
-  module _ {r : PassView} {new : FreelistView} {e : ℕ} (is_there : IsTrue (is_lock t.shape (Freelist cpu))) (same : e ≡ body.element) (settled_is : r ≡ with_view q (settled (Freelist cpu) e q.cpu q.view)) (on_top : new ≡ with_top body f) where
+  module _ {r : PassView} {new : FreelistView} {e : ℕ} (is_there : IsTrue (is_lock t.shape (Freelist cpu))) (same : e ≡ body.element) (settles : Settled (Freelist cpu) e q r) (on_top : new ≡ with_top body f) where
     -- what lies under the lock once it is free
     under_pushed : IsUnder p r took.hold (with_free e (without_row e took.hold.now)) no_notes
     under_pushed =
@@ -79,17 +80,17 @@ module _ {t : TableView} {cpu : ℕ} {p q : PassView} {f : FreelistView} {body :
         let k : ℕ = lock_number q.view.shape (Freelist cpu) in
         let number : took.hold.lock ≡ k = number_is t cpu p q here took can.can.of_table in
         let before = under_taken t (Freelist cpu) p q here took in
-        under_moved p q r took.hold took.hold.now (with_free e (without_row e took.hold.now)) no_notes k (without_in_hand e q.cpu q.view.hand) (owner_word q.view.shape e) 0 before number
-        (settled_is ∙ ap (λ (now : Lists). with_view q (moved k (with_free e (without_row e now)) (without_in_hand e q.cpu q.view.hand) (owner_word q.view.shape e) 0 q.view)) (under_now p q took.hold took.hold.now no_notes k before number))
+        under_moved p q r took.hold took.hold.now (with_free e (without_row e took.hold.now)) no_notes no_notes settles.0 k (without_in_hand e q.cpu q.view.hand) q.view.notes (owner_word q.view.shape e) 0 before number before.notes_are
+        (settles.1 ∙ ap (λ (now : Lists). with_view q (moved settles.0 k (with_free e (without_row e now)) (without_in_hand e q.cpu q.view.hand) q.view.notes (owner_word q.view.shape e) 0 q.view)) (under_now p q took.hold took.hold.now no_notes k before number))
 
     goes_pushed : Goes q r [] []
-    goes_pushed = goes_moved (lock_number q.view.shape (Freelist cpu)) (with_free e (without_row e (now_under (Freelist cpu) q.view))) (without_in_hand e q.cpu q.view.hand) (owner_word q.view.shape e) 0 q r settled_is
+    goes_pushed = goes_moved settles.0 (lock_number q.view.shape (Freelist cpu)) (with_free e (without_row e (now_under (Freelist cpu) q.view))) (without_in_hand e q.cpu q.view.hand) q.view.notes (owner_word q.view.shape e) 0 q r settles.1
 
     pub can_give_pushed : CanGive t (Freelist cpu) r (contents.Freelist new) (parts.Free (turns.Pushed e))
     can_give_pushed =
         let here = contents.Freelist f in
         let given : CanGive t (Freelist cpu) r (contents.Freelist (with_top body f)) (parts.Free (turns.Pushed e)) =
-        can_give t (Freelist cpu) p q r here (contents.Freelist (with_top body f)) (parts.Free (turns.Pushed e)) (with_free e (without_row e took.hold.now)) no_notes took
+        can_give t (Freelist cpu) p q r here (contents.Freelist (with_top body f)) (parts.Free (turns.Pushed e)) (with_free e (without_row e took.hold.now)) no_notes took tt
         under_pushed
         (goes_of_table t q r [] [] goes_pushed (taken_of_table t (Freelist cpu) p q here took can.can.of_table))
         (goes_begun q r [] [] goes_pushed (taken_begun t (Freelist cpu) p q here took can.can.begun))
@@ -99,7 +100,7 @@ module _ {t : TableView} {cpu : ℕ} {p q : PassView} {f : FreelistView} {body :
         (ap (λ (x : ℕ). on_freelist (x ∷ numbers f.bodies)) (sym same))
         (λ x. λ i. times x (sym same i ∷ sym (free_is t cpu p q f took) i))
         (λ x. ap (λ (l : Lists). times x (rows (without_row e l))) (sym took.now))
-        (no_marks t.shape (turns.Pushed e)) in
+        (quiet_fits t.shape r.view (with_lists (with_free e (without_row e took.hold.now)) took.hold) (turns.Pushed e) no_notes quiet_none) in
         subst (λ (z : FreelistView). CanGive t (Freelist cpu) r (contents.Freelist z) (parts.Free (turns.Pushed e))) (sym on_top) given
 
     pub pushed_once : (s : PassView) → cpu ≡ p.cpu → cpu < t.shape.cpus → Gave r s (parts.Free (turns.Pushed e)) → Pushed t body p s
@@ -107,9 +108,9 @@ module _ {t : TableView} {cpu : ℕ} {p q : PassView} {f : FreelistView} {body :
         let here = contents.Freelist f in
         let part : Part = parts.Free (turns.Pushed e) in
         let now : Lists = with_free e (without_row e took.hold.now) in
-        let learns = learns_moved t.shape (lock_number q.view.shape (Freelist cpu)) (with_free e (without_row e (now_under (Freelist cpu) q.view))) (without_in_hand e q.cpu q.view.hand) (owner_word q.view.shape e) 0 q r settled_is in record {
+        let learns = learns_moved t.shape settles.0 (lock_number q.view.shape (Freelist cpu)) (with_free e (without_row e (now_under (Freelist cpu) q.view))) (without_in_hand e q.cpu q.view.hand) q.view.notes (owner_word q.view.shape e) 0 q r settles.1 in record {
           step = given_turn r gave.hold part;
-          reached = reached_once t cpu p q r s here (contents.Freelist new) part now took within goes_pushed (ap (λ (z : PassView). z.spares) settled_is) (ap (λ (z : PassView). z.view.bits) settled_is) (ap (λ (z : PassView). z.view.carried) settled_is) learns under_pushed can_give_pushed gave;
-          turn = turn_is t cpu p q r s here (turns.Pushed e) now took is_there under_pushed gave ∙ (λ i. on_freelist_of (mine i) (turns.Pushed (same i)));
-          hand = ap (λ (z : PassView). z.view.hand) gave.after_is ∙ (ap (λ (z : PassView). z.view.hand) settled_is ∙ (ap (λ (z : PassView). without_in_hand e z.cpu z.view.hand) took.after_is ∙ ap (λ (x : ℕ). without_in_hand x p.cpu p.view.hand) same));
+          reached = reached_once t cpu p q r s here (contents.Freelist new) part now no_notes took quiet_none within goes_pushed (ap (λ (z : PassView). z.spares) settles.1) (ap (λ (z : PassView). z.view.bits) settles.1) (ap (λ (z : PassView). z.view.carried) settles.1) learns under_pushed can_give_pushed gave;
+          turn = turn_is t cpu p q r s here (turns.Pushed e) now no_notes took is_there under_pushed gave ∙ (λ i. on_freelist_of (mine i) (turns.Pushed (same i)));
+          hand = ap (λ (z : PassView). z.view.hand) gave.after_is ∙ (ap (λ (z : PassView). z.view.hand) settles.1 ∙ (ap (λ (z : PassView). without_in_hand e z.cpu z.view.hand) took.after_is ∙ ap (λ (x : ℕ). without_in_hand x p.cpu p.view.hand) same));
         }

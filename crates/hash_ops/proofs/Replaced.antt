@@ -22,18 +22,19 @@ use Rattle.place_core.specs.Steps.{with_row, without_row}
 use Rattle.place_core.proofs.ElementLemmas.{by_test}
 use Rattle.place_table.specs.declared.content.Content.TheVariants as contents
 use Rattle.place_table.specs.declared.view.InHand.{InHand}
-use Rattle.place_table.specs.Passes.{PassView, TableView, IsInNoCall, CanGive, GaveBack, SparesDiffer, spare_of, with_view, with_spares}
-use Rattle.place_table.specs.Views.{is_among, is_in_hand_of, attached, detached, with_in_hand, without_in_hand}
+use Rattle.place_table.specs.Passes.{PassView, TableView, IsInNoCall, CanGive, Attached, Detached, GaveBack, SparesDiffer, spare_of, with_spares}
+use Rattle.place_table.specs.Views.{is_among, is_in_hand_of, with_in_hand, without_in_hand}
 use Rattle.place_table.proofs.Entries.{append_nil}
 use Rattle.place_table.proofs.Hands.{in_hand_more, in_hand_more_else, in_hand_less, in_hand_less_else}
 use Rattle.place_table.proofs.Worlds.{true_false, some_is}
 use Rattle.place_words.specs.Traces.{IsPlainTrace, spare_after}
 use Rattle.place_table.specs.Known.{turn_of}
 use Rattle.hash_ops.specs.Calls.{spare_element, element_of}
-use Rattle.hash_ops.specs.declared.parts.Given.{Given}
-use Rattle.hash_ops.specs.Under.{InBucket, HasItsSpares, AnsweredWhole, Gives}
-use Rattle.hash_ops.proofs.BucketTurns.{IsTurnWith}
-use Rattle.hash_ops.proofs.Under.{Under, under_nothing, under_spared, under_attached, under_detached, can_give, left_whole, update_trace, not_in_hand}
+use Rattle.bucket_entries.specs.declared.parts.Given.{Given}
+use Rattle.place_table.specs.InBucket.{InBucket}
+use Rattle.hash_ops.specs.Under.{HasItsSpares, AnsweredWhole, Gives}
+use Rattle.place_table.proofs.BucketTurns.{IsTurnWith}
+use Rattle.hash_ops.proofs.Under.{Under, hold_with, none_noted, under_nothing, under_spared, under_attached, under_detached, can_give, left_whole, update_trace, not_in_hand}
 
 -- Hands, with the old element in the place of the new one
 
@@ -94,22 +95,23 @@ module _ (t : TableView) (bucket : ℕ) (q : PassView) (bodies : List Stored) (b
       let skip : without old (new ∷ numbers bodies) ≡ new ∷ without old (numbers bodies) = by_test new old (λ y. cond y (numbers bodies) (new ∷ without old (numbers bodies)) ≡ new ∷ without old (numbers bodies)) (λ same. absurd (new_is_not_old same)) (λ _. refl) in
       ap (times x) (sym skip) ∙ sym (ap (λ (l : Lists). times x (without old (new ∷ l.first) ++ without old l.second)) b.now ∙ ap (times x) (append_nil (without old (new ∷ numbers bodies))))
 
-  pub under_replaced : (r1 r2 r3 r4 : PassView) → r1 ≡ with_spares q r1.spares → r2 ≡ with_view r1 (attached bucket new r1.cpu r1.view) → r3 ≡ with_view r2 (detached bucket old r2.cpu r2.view) → r4 ≡ with_spares r3 r4.spares → Under t b.hold b.below q r4 now_replaced []
+  pub under_replaced : (r1 r2 r3 r4 : PassView) → r1 ≡ with_spares q r1.spares → Attached bucket new r1 r2 → Detached bucket old r2 r3 → r4 ≡ with_spares r3 r4.spares → Under t b.hold b.below q r4 now_replaced []
   under_replaced r1 r2 r3 r4 one two three four =
       let u0 = under_nothing t bucket q bodies b in
       let u1 = under_spared t b.hold b.below q q r1 b.hold.now [] u0 one in
-      let u2 = under_attached t bucket q r1 r2 bodies b b.hold.now [] new r1.cpu u1 two in
-      let u3 = under_detached t bucket q r2 r3 bodies b (with_row (Bucket bucket) new b.hold.now) [] old r2.cpu u2 three in
+      let u2 = under_attached t bucket q r1 r2 bodies b b.hold.now [] new u1 two in
+      let u3 = under_detached t bucket q r2 r3 bodies b (with_row (Bucket bucket) new b.hold.now) [] old u2 three in
       under_spared t b.hold b.below q r3 r4 (without_row old (with_row (Bucket bucket) new b.hold.now)) [] u3 four
 
-  pub under_new : (r1 r2 : PassView) → r1 ≡ with_spares q r1.spares → r2 ≡ with_view r1 (attached bucket new r1.cpu r1.view) → Under t b.hold b.below q r2 (with_row (Bucket bucket) new b.hold.now) []
+  pub under_new : (r1 r2 : PassView) → r1 ≡ with_spares q r1.spares → Attached bucket new r1 r2 → Under t b.hold b.below q r2 (with_row (Bucket bucket) new b.hold.now) []
   under_new r1 r2 one two =
-      under_attached t bucket q r1 r2 bodies b b.hold.now [] new r1.cpu (under_spared t b.hold b.below q q r1 b.hold.now [] (under_nothing t bucket q bodies b) one) two
+      under_attached t bucket q r1 r2 bodies b b.hold.now [] new (under_spared t b.hold b.below q q r1 b.hold.now [] (under_nothing t bucket q bodies b) one) two
 
   pub can_replace : (r4 : PassView) (back : BodyList) (side : Side) (flags : ℕ) (key value : List ℕ) → Under t b.hold b.below q r4 now_replaced [] → IsTurnWith t.shape q.cpu (Update side flags key value None (puts.Replaced new old)) bodies back.bodies (new ∷ without old (numbers bodies))
       → CanGive t (Bucket bucket) r4 (contents.Bucket back) (parts.Bucket (Update side flags key value None (puts.Replaced new old)))
   can_replace r4 back side flags key value u turn =
-      can_give t bucket q r4 bodies b now_replaced [] back (Update side flags key value None (puts.Replaced new old)) plain u turn.turn turn.sized (λ x. turn.counts x ∙ counts_replaced x) (ap (λ (l : Lists). l.free) b.now) tt
+      can_give t bucket q r4 bodies b now_replaced [] back (Update side flags key value None (puts.Replaced new old)) u turn.turn turn.sized (λ x. turn.counts x ∙ counts_replaced x) (ap (λ (l : Lists). l.free) b.now)
+      (none_noted t.shape r4.view (hold_with b.hold now_replaced) (Update side flags key value None (puts.Replaced new old)) plain refl)
 
   pub answered_replaced : (r4 s : PassView) (back : BodyList) (side : Side) (flags : ℕ) (key value : List ℕ) (given : Given) (found : Part) (was now : Stored) → HasItsSpares q → Gives t bucket side flags key value given → (u : Under t b.hold b.below q r4 now_replaced []) → IsTurnWith t.shape q.cpu (Update side flags key value None (puts.Replaced new old)) bodies back.bodies (new ∷ without old (numbers bodies))
       → found ≡ parts.Bucket (Update side flags key value None (puts.Replaced new old)) → GaveBack t (Bucket bucket) r4 s (contents.Bucket back) (Some found)

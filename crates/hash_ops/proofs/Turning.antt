@@ -24,7 +24,7 @@ use Rattle.place_table.proofs.Entries.{append_nil}
 use Rattle.place_table.proofs.Going.{AreElsewhere, given_turn, goes_on, goes_took, goes_gave, learns_turn, same_head}
 use Rattle.place_table.proofs.Hands.{with_lists}
 use Rattle.place_table.specs.StoredHashes.{stored_in}
-use Rattle.place_table.proofs.StoredHashes.{none_stored}
+use Rattle.place_table.proofs.StoredHashes.{HasNoHashes, none_stored}
 
 -- The lock of this hold was taken by p and is still the one that r took last: these lists lie under it, with these notes.
 pub record IsUnder (p r : PassView) (hold : Hold) (now : Lists) (notes : Notes) : Type 0 where
@@ -43,18 +43,19 @@ under_now p r hold now notes k under is =
     ap (now_at k) under.held
     ∙ by_test hold.lock k (λ b. cond b now (now_at k p.view.held) ≡ now) (λ _. refl) (λ other. absurd (other is))
 
-pub under_moved : (p q r : PassView) (hold : Hold) (now later : Lists) (notes : Notes) (k : ℕ) (hand : List InHand) (word left : ℕ) → IsUnder p q hold now notes → hold.lock ≡ k → r ≡ with_view q (moved k later hand word left q.view) → IsUnder p r hold later notes
-under_moved p q r hold now later notes k hand word left under is after_is = record {
+pub under_moved : (p q r : PassView) (hold : Hold) (now later : Lists) (notes then : Notes) (at k : ℕ) (hand : List InHand) (noted : List Notes) (word left : ℕ) → IsUnder p q hold now notes → hold.lock ≡ k → noted ≡ then ∷ p.view.notes → r ≡ with_view q (moved at k later hand noted word left q.view) → IsUnder p r hold later then
+under_moved p q r hold now later notes then at k hand noted word left under is noted_is after_is = record {
   held = ap (λ (z : PassView). z.view.held) after_is ∙ (ap (with_now k later) under.held
       ∙ by_test hold.lock k (λ b. cond b (with_lists later hold ∷ p.view.held) (with_lists now hold ∷ with_now k later p.view.held) ≡ with_lists later hold ∷ p.view.held) (λ _. refl) (λ other. absurd (other is)));
-  notes_are = ap (λ (z : PassView). z.view.notes) after_is ∙ under.notes_are;
+  notes_are = ap (λ (z : PassView). z.view.notes) after_is ∙ noted_is;
 }
 
--- What was taken may be given back as something else: by a part that leads there, with the elements that lie there now.
-pub can_give : (t : TableView) (lock : DomainId) (p q r : PassView) (here back : Content) (part : Part) (now : Lists) (notes : Notes) (took : Takes t lock p q here) → IsUnder p r took.hold now notes
+-- A bucket or a freelist that was taken may be given back as something else: by a part that leads there, with the elements that
+-- lie there now.
+pub can_give : (t : TableView) (lock : DomainId) (p q r : PassView) (here back : Content) (part : Part) (now : Lists) (notes : Notes) (took : Takes t lock p q here) → HasNoHashes lock → IsUnder p r took.hold now notes
     → IsPassOf t r → HasBegun r → IsTrue (is_lock t.shape lock) → Fits t.shape lock back → Allows t.shape r.cpu part (told here) → told back ≡ content_after t.shape r.cpu part (told here)
-    → ((e : ℕ) → times e (lists_of (told back)).free ≡ times e now.free) → ((e : ℕ) → times e (rows (lists_of (told back))) ≡ times e (rows now)) → NotesFit t.shape part notes → CanGive t lock r back part
-can_give t lock p q r here back part now notes took under of_table begun there fits allowed leads same_free same_rows notes_fit =
+    → ((e : ℕ) → times e (lists_of (told back)).free ≡ times e now.free) → ((e : ℕ) → times e (rows (lists_of (told back))) ≡ times e (rows now)) → NotesFit t.shape r.view (with_lists now took.hold) part notes → CanGive t lock r back part
+can_give t lock p q r here back part now notes took no_hashes under of_table begun there fits allowed leads same_free same_rows notes_fit =
     let named : lock_named t.shape took.hold.lock ≡ lock = ap (lock_named t.shape) took.lock_is ∙ named_by_number t.shape lock there in
     let told_there : told here ≡ content t.shape (lock_named t.shape took.hold.lock) took.hold.log = took.told_is ∙ ap (λ (d : DomainId). content t.shape d took.hold.log) (sym named) in record {
       of_table = of_table;
@@ -74,8 +75,8 @@ can_give t lock p q r here back part now notes took under of_table begun there f
         allowed = subst (Allows t.shape r.cpu part) told_there allowed;
         same_free = same_free;
         same_rows = same_rows;
-        rows_kept = λ _ j e h n other _ _ _ is. absurd (none_stored back e n is);
-        gone = λ _ c e h _ was _. absurd (none_stored here e h (ap (λ z. stored_in z e) told_there ∙ was));
+        rows_kept = λ _ j e h n other _ _ _ is. absurd (none_stored t.shape lock back e n no_hashes fits is);
+        gone = λ _ c e h _ was _. absurd (none_stored t.shape lock here e h no_hashes took.fits (ap (λ z. stored_in z e) told_there ∙ was));
       };
       notes_fit = notes_fit;
     }

@@ -1,6 +1,6 @@
 -- What a call does while it holds the bucket of its key, up to where it gives it back.
-use Rattle.std.proofs.Common.{◌+◌, ◌≡◌, ◌≢◌, ℕ, ◌<◌, cond, true, false, List, [], ◌∷◌, ◌++◌, length, map, get_or, inl, inr, ⊎_elim, sym, refl, ap, ◌∙◌, subst, arith, Option, Some, None}
-use Rattle.std.specs.Prelude.{◌&&◌, ◌≤◌, not, zero, suc, slice_get, IsTrue, IfSome, All}
+use Rattle.std.proofs.Common.{◌+◌, ◌≡◌, ℕ, ◌<◌, cond, true, false, List, [], ◌∷◌, ◌++◌, length, map, get_or, inl, inr, ⊎_elim, sym, refl, ap, ◌∙◌, subst, arith, Option, Some, None}
+use Rattle.std.specs.Prelude.{◌≤◌, zero, suc, flat_map, slice_get, IsTrue, IfSome, All}
 use Rattle.std.proofs.lemmas.Option.{slice_get_cases}
 use Rattle.std.proofs.lemmas.List.Elements.{All-nil, All-cons, All-append}
 use Rattle.std.proofs.lemmas.Bool.{lt-ltb}
@@ -10,7 +10,7 @@ use Rattle.map_types.specs.declared.call.Verb.{Verb}
 use Rattle.map_types.specs.declared.call.Verb.TheVariants as verbs
 use Rattle.map_types.specs.declared.kind.Side.{Side}
 use Rattle.map_types.specs.declared.kind.DomainId.{DomainId}
-use Rattle.map_types.specs.declared.kind.DomainId.TheVariants.{Bucket, Freelist}
+use Rattle.map_types.specs.declared.kind.DomainId.TheVariants.{Bucket, Freelist, Local}
 use Rattle.map_types.specs.declared.reply.Reply.{Reply}
 use Rattle.map_types.specs.Creation.{IsShape}
 use Rattle.map_types.specs.Kind.{is_lru}
@@ -31,6 +31,7 @@ use Rattle.place_words.specs.Locks.{is_lock, lock_named, lock_number, rank_of}
 use Rattle.place_words.specs.Traces.{Turn, IsTrace, IsPlainTrace, LooksFor, reply_of_put, bucket_of_key, on_bucket_of, spare_after}
 use Rattle.place_words.specs.Turns.{turns_of}
 use Rattle.place_words.specs.Walks.{spare_left}
+use Rattle.place_words.specs.SerialOrder.{bucket_probes}
 use Rattle.place_words.proofs.LockLemmas.{named_by_number}
 use Rattle.place_words.proofs.PlainLaws.{plain_trace, plain_spare}
 use Rattle.place_core.specs.declared.step.Lists.{Lists}
@@ -42,26 +43,32 @@ use Rattle.place_table.specs.declared.content.Content.TheVariants as contents
 use Rattle.place_table.specs.declared.view.View.{View}
 use Rattle.place_table.specs.declared.view.Hold.{Hold}
 use Rattle.place_table.specs.declared.view.InHand.{InHand}
+use Rattle.place_table.specs.declared.view.HashIn.{HashIn}
 use Rattle.place_table.specs.declared.view.Notes.{Notes}
 use Rattle.place_table.specs.declared.view.Turned.{Turned}
 use Rattle.place_table.specs.Contents.{told, lists_of, Fits, IsSized}
 use Rattle.place_table.specs.Known.{Learns, turn_of, turn_at, IsBy}
-use Rattle.place_table.specs.Passes.{PassView, TableView, IsInNoCall, SparesDiffer, CanAttach, CanMark, Takes, CanGive, GaveSome, GaveBack, MayGiveBack, Goes, spare_of, with_view, with_spares, entry_of}
+use Rattle.place_table.specs.Passes.{PassView, TableView, IsInNoCall, SparesDiffer, CanAttach, Attached, CanMark, Detached, Takes, CanGive, GaveSome, GaveBack, MayGiveBack, Goes, spare_of, with_view, with_spares, entry_of}
 use Rattle.place_table.specs.Plays.{IsApartFromHands}
 use Rattle.place_table.specs.Rules.{IsAboveAll}
-use Rattle.place_table.specs.TurnNotes.{BucketNotesFit}
-use Rattle.place_table.specs.Views.{is_among, hold_at, now_at, now_under, attached, detached, with_in_hand, without_in_hand, is_in_hand_of, known_log, holding, given, with_lost, moved, with_now, no_notes, notes_below, holds_below}
+use Rattle.place_table.specs.TurnNotes.{NotesFit, ProbeFits, CameToHand}
+use Rattle.place_table.specs.Views.{is_among, hold_at, now_at, now_under, with_in_hand, without_in_hand, is_in_hand_of, known_log, holding, given, with_lost, moved, with_hashes, with_now, no_notes, notes_below, holds_below}
 use Rattle.place_table.proofs.Going.{goes_on, goes_nowhere, goes_took, goes_moved, goes_spared, goes_gave, goes_gave_some, goes_of_table, goes_begun, given_turn, same_head, learns_on, learns_after, learns_before, learns_none, learns_moved, learns_took, learns_given, AreElsewhere}
 use Rattle.place_table.proofs.Entries.{append_nil}
 use Rattle.place_table.proofs.Worlds.{among_first, by_bool, some_is, none_some, hold_at_first}
 use Rattle.place_table.proofs.Hands.{now_at_is}
-use Rattle.hash_ops.proofs.BucketTurns.{IsTurnWith}
+use Rattle.place_table.proofs.BucketTurns.{IsTurnWith}
+use Rattle.place_table.specs.Calls.{bits_of_part, bits_of_turns}
 use Rattle.hash_ops.specs.Calls.{CanCall, Leaves, Called, CalledWhole, CouldBe, IsTold, AreTold, spare_element, element_of}
-use Rattle.hash_ops.specs.Free.{CanReach, Reached, AreOnFreelists}
-use Rattle.hash_ops.specs.declared.parts.Given.{Given}
-use Rattle.hash_ops.specs.Under.{InBucket, HasItsSpares, Enters, Finished, Answered, AnsweredWhole, Gives}
+use Rattle.hash_ops.specs.Free.{CanReach, Reached}
+use Rattle.bucket_entries.specs.declared.parts.Given.{Given}
+use Rattle.place_table.specs.InBucket.{InBucket}
+use Rattle.hash_ops.proofs.FreeTurns.{elsewhere}
+use Rattle.hash_ops.specs.Under.{HasItsSpares, Enters, Finished, Answered, AnsweredWhole, Gives}
 use Rattle.place_table.proofs.Worlds.{true_false}
 use Rattle.place_table.proofs.Gives.{none_passed}
+use Rattle.place_table.proofs.StoredHashes.{none_stored}
+use Rattle.place_table.proofs.TurnClears.{same_clears}
 use Rattle.place_table.specs.Words.{owner_word}
 
 -- Entering
@@ -70,14 +77,11 @@ use Rattle.place_table.specs.Words.{owner_word}
 pub bucket_there : (shape : Shape) (bucket : ℕ) → bucket < shape.buckets → IsTrue (is_lock shape (Bucket bucket))
 bucket_there shape bucket there = lt-ltb bucket shape.buckets there
 
-pub freelist_there : (shape : Shape) (cpu : ℕ) → is_lru shape.kind ≡ false → cpu < shape.cpus → IsTrue (is_lock shape (Freelist cpu))
-freelist_there shape cpu plain few = (λ i. not (plain i) && lt-ltb cpu shape.cpus few i)
-
 pub enters : (t : TableView) (bucket : ℕ) (p q : PassView) (chain : BodyList) → is_lru t.shape.kind ≡ false → CanCall t p → bucket < t.shape.buckets → p.cpu < t.shape.cpus → Takes t (Bucket bucket) p q (contents.Bucket chain) → Enters t bucket p q chain
 enters t bucket p q chain plain can there few took =
     let is = bucket_there t.shape bucket there in
     let goes = goes_took t (Bucket bucket) p q (contents.Bucket chain) took in
-    let view : q.view ≡ holding took.hold p.view = ap (λ (z : PassView). z.view) took.after_is in
+    let view : q.view ≡ holding took.at took.hold p.view = ap (λ (z : PassView). z.view) took.after_is in
     record {
       plain = plain;
       took = took;
@@ -96,7 +100,7 @@ enters t bucket p q chain plain can there few took =
         legal = took.legal;
         now = took.now;
         elements = took.elements;
-        apart = subst (λ (v : View). IsApartFromHands v took.hold.now) (sym view) took.apart;
+        apart = subst (λ (v : View). IsApartFromHands v (Bucket bucket) took.hold.now) (sym view) took.apart;
         sized = took.fits;
         known = λ log is_known. took.known log (ap (λ (n : ℕ). known_log n p.view.known) (sym took.lock_is) ∙ (ap (λ (v : View). known_log took.hold.lock v.known) (sym view) ∙ is_known));
       };
@@ -141,9 +145,9 @@ under_nothing t bucket q bodies b = record {
 }
 
 -- an element was moved there
-pub under_moved : (t : TableView) (hold : Hold) (below : List Notes) (q r s : PassView) (now then : Lists) (inner : List Turned) (k : ℕ) (hand : List InHand) (word left : ℕ) → Under t hold below q r now inner → k ≡ hold.lock → s ≡ with_view r (moved k then hand word left r.view) → Under t hold below q s then inner
-under_moved t hold below q r s now then inner k hand word left u k_is is = record {
-  goes = subst (λ (l : List Turned). Goes q s l []) (append_nil inner) (goes_on q r s inner [] [] [] u.goes (goes_moved k then hand word left r s is));
+pub under_moved : {hashes : List HashIn} (t : TableView) (hold : Hold) (below : List Notes) (q r s : PassView) (now then : Lists) (inner : List Turned) (at k : ℕ) (hand : List InHand) (word left : ℕ) → Under t hold below q r now inner → k ≡ hold.lock → s ≡ with_view r (with_hashes hashes (moved at k then hand r.view.notes word left r.view)) → Under t hold below q s then inner
+under_moved {hashes} t hold below q r s now then inner at k hand word left u k_is is = record {
+  goes = subst (λ (l : List Turned). Goes q s l []) (append_nil inner) (goes_on q r s inner [] [] [] u.goes (goes_moved at k then hand r.view.notes word left r s is));
   held = ap (λ (z : PassView). z.view.held) is ∙ (ap (with_now k then) u.held
       ∙ by_test hold.lock k (λ b. cond b (record { lock = hold.lock; cpu = hold.cpu; log = hold.log; now = then; lost = hold.lost } ∷ []) (hold_with hold now ∷ []) ≡ hold_with hold then ∷ []) (λ _. refl) (λ other. absurd (other (sym k_is))));
   notes = ap (λ (z : PassView). z.view.notes) is ∙ u.notes;
@@ -151,7 +155,7 @@ under_moved t hold below q r s now then inner k hand word left u k_is is = recor
   carried = ap (λ (z : PassView). z.view.carried) is ∙ u.carried;
   by_call = u.by_call;
   elsewhere = u.elsewhere;
-  learns = learns_before t.shape q.view r.view s.view inner u.learns (learns_moved t.shape k then hand word left r s is);
+  learns = learns_before t.shape q.view r.view s.view inner u.learns (learns_moved t.shape at k then hand r.view.notes word left r s is);
 }
 
 -- a spare was handed out or kept
@@ -172,32 +176,15 @@ elsewhere_more : (k : ℕ) (first second : List Turned) → AreElsewhere k first
 elsewhere_more k [] second one other = other
 elsewhere_more k (step ∷ steps) second one other = (one.0, elsewhere_more k steps second one.1 other)
 
-not_here : (shape : Shape) (bucket cpu : ℕ) → bucket < shape.buckets → cpu < shape.cpus → is_lru shape.kind ≡ false → lock_number shape (Freelist cpu) ≢ lock_number shape (Bucket bucket)
-not_here shape bucket cpu there few plain same =
-    let first = named_by_number shape (Bucket bucket) (bucket_there shape bucket there) in
-    let second = named_by_number shape (Freelist cpu) (freelist_there shape cpu plain few) in
-    bucket_is_no_freelist bucket cpu (sym first ∙ (ap (lock_named shape) (sym same) ∙ second))
-  where
-    bucket_is_no_freelist : (bucket cpu : ℕ) → Bucket bucket ≡ Freelist cpu → ⊥
-    bucket_is_no_freelist bucket cpu e = cc
-
-pub elsewhere_on_freelists : (shape : Shape) (bucket k : ℕ) (steps : List Turned) → bucket < shape.buckets → is_lru shape.kind ≡ false → k ≡ lock_number shape (Bucket bucket) → AreOnFreelists shape steps → AreElsewhere k steps
-elsewhere_on_freelists shape bucket k [] there plain k_is on = tt
-elsewhere_on_freelists shape bucket k (step ∷ steps) there plain k_is on =
-    let first = on 0 step (omega arith) in (
-      (λ same. not_here shape bucket first.0 there first.1 plain (sym first.2 ∙ (same ∙ k_is))),
-      elsewhere_on_freelists shape bucket k steps there plain k_is (λ n d less. on (suc n) d (omega arith)),
-    )
-
-pub under_reached : (t : TableView) (bucket : ℕ) (q r s : PassView) (bodies : List Stored) (b : InBucket t bucket q bodies) (now : Lists) (inner steps : List Turned) → is_lru t.shape.kind ≡ false → Under t b.hold b.below q r now inner → Reached t r s steps → Under t b.hold b.below q s now (inner ++ steps)
-under_reached t bucket q r s bodies b now inner steps plain u reached = record {
+pub under_reached : (t : TableView) (bucket : ℕ) (q r s : PassView) (bodies : List Stored) (b : InBucket t bucket q bodies) (now : Lists) (inner steps : List Turned) → Under t b.hold b.below q r now inner → Reached t r s steps → Under t b.hold b.below q s now (inner ++ steps)
+under_reached t bucket q r s bodies b now inner steps u reached = record {
   goes = goes_on q r s inner steps [] [] u.goes reached.goes;
   held = reached.held ∙ u.held;
   notes = reached.notes ∙ u.notes;
   bits = reached.bits ∙ u.bits;
   carried = reached.carried ∙ u.carried;
   by_call = All-append (IsBy q.cpu q.call) inner steps u.by_call (subst (λ (z : ℕ × ℕ). All (IsBy z.0 z.1) steps) (λ i. (u.goes.cpu i, u.goes.call i)) reached.by_call);
-  elsewhere = elsewhere_more b.hold.lock inner steps u.elsewhere (elsewhere_on_freelists t.shape bucket b.hold.lock steps b.there plain b.lock_is reached.on_freelists);
+  elsewhere = elsewhere_more b.hold.lock inner steps u.elsewhere (subst (λ (k : ℕ). AreElsewhere k steps) (sym b.lock_is) (elsewhere t.shape bucket steps b.there reached.on_freelists));
   learns = learns_on t.shape q.view r.view s.view inner steps [] [] u.learns reached.learns;
 }
 
@@ -212,14 +199,20 @@ may_reach t bucket q r bodies b now inner u = record {
 
 -- Giving back
 
--- a part of a map that doesn't evict sets no bit
-no_marks : (shape : Shape) (part : BucketPart) → is_lru shape.kind ≡ false → [] ≡ cond (is_lru shape.kind) (bucket_marks part) []
-no_marks shape part plain = sym (ap (λ b. cond b (bucket_marks part) []) plain)
+-- a part of a map that doesn't evict sets no bit; where it probes nothing either, nothing was noted in its turn
+pub none_noted : (shape : Shape) (v : View) (hold : Hold) (part : BucketPart) → is_lru shape.kind ≡ false → bucket_probes part ≡ [] → NotesFit shape v hold (parts.Bucket part) no_notes
+none_noted shape v hold part plain no_probes = record {
+  served = tt;
+  marks_are = sym (ap (λ b. cond b (bucket_marks part) []) plain);
+  clears_are = refl;
+  held = subst (All (ProbeFits [])) (sym no_probes) (All-nil (ProbeFits []));
+  came = All-nil (CameToHand v hold no_notes);
+}
 
-pub can_give : (t : TableView) (bucket : ℕ) (q r : PassView) (bodies : List Stored) (b : InBucket t bucket q bodies) (now : Lists) (inner : List Turned) (back : BodyList) (part : BucketPart) → is_lru t.shape.kind ≡ false → Under t b.hold b.below q r now inner
-    → IsTurn t.shape q.cpu part bodies back.bodies → All (IsSized t.shape) back.bodies → ((x : ℕ) → times x (numbers back.bodies) ≡ times x (rows now)) → now.free ≡ [] → BucketNotesFit part no_notes
+pub can_give : (t : TableView) (bucket : ℕ) (q r : PassView) (bodies : List Stored) (b : InBucket t bucket q bodies) (now : Lists) (inner : List Turned) (back : BodyList) (part : BucketPart) → Under t b.hold b.below q r now inner
+    → IsTurn t.shape q.cpu part bodies back.bodies → All (IsSized t.shape) back.bodies → ((x : ℕ) → times x (numbers back.bodies) ≡ times x (rows now)) → now.free ≡ [] → NotesFit t.shape r.view (hold_with b.hold now) (parts.Bucket part) no_notes
     → CanGive t (Bucket bucket) r (contents.Bucket back) (parts.Bucket part)
-can_give t bucket q r bodies b now inner back part plain u turn sized counted no_free fits =
+can_give t bucket q r bodies b now inner back part u turn sized counted no_free fits =
     let is = bucket_there t.shape bucket b.there in
     let named : lock_named t.shape b.hold.lock ≡ Bucket bucket = ap (lock_named t.shape) b.lock_is ∙ named_by_number t.shape (Bucket bucket) is in
     let begun = goes_begun q r inner [] u.goes b.begun in
@@ -242,11 +235,14 @@ can_give t bucket q r bodies b now inner back part plain u turn sized counted no
         allowed = subst (Allows t.shape r.cpu (parts.Bucket part)) found (subst (λ (c : ℕ). Allows t.shape c (parts.Bucket part) (in_bucket bodies)) (sym u.goes.cpu) turn.allowed);
         same_free = λ e. ap (times e) (sym no_free);
         same_rows = λ e. ap (times e) (append_nil (numbers back.bodies)) ∙ counted e;
-        rows_kept = λ lru j e h n other _ _ was _. true_false (sym lru ∙ plain);
-        gone = λ lru c e h _ was _. true_false (sym lru ∙ plain);
+        rows_kept = λ _ j e h n other _ _ _ is_row. absurd (none_stored t.shape (Bucket bucket) (contents.Bucket back) e n tt sized is_row);
+        gone = λ _ c e h is_local _ _. absurd (not_local bucket c (sym named ∙ is_local));
       };
-      notes_fit = record { marks_are = no_marks t.shape part plain; no_clears = refl; seen = fits };
+      notes_fit = fits;
     }
+  where
+    not_local : (bucket c : ℕ) → Bucket bucket ≡ Local c → ⊥
+    not_local bucket c e = cc
 
 -- whether memory for the entry was found or not
 pub may_give_back : (t : TableView) (lock : DomainId) (r : PassView) (here : Content) (part : Part) (found : Option Part) → CanGive t lock r here part → IfSome found (λ x. x ≡ part) → MayGiveBack t lock r here found
@@ -282,6 +278,7 @@ could_be t lock r back part stands can other =
       call = refl;
       allowed = subst (λ (h : Hold). Allows t.shape r.cpu part (content t.shape (lock_named t.shape h.lock) h.log)) same can.may_put.allowed;
       same_marks = sym can.notes_fit.marks_are ∙ (ap (λ (n : Notes). n.marks) notes ∙ other.notes_fit.marks_are);
+      same_clears = same_clears t.shape r.view r.view can.hold other.hold part stands other.notes (subst (NotesFit t.shape r.view can.hold part) notes can.notes_fit) other.notes_fit;
       leaves = sym (subst (λ (h : Hold). told back ≡ content_after t.shape r.cpu part (content t.shape (lock_named t.shape h.lock) h.log)) same can.may_put.told_is) ∙ other.may_put.told_is;
     }
 
@@ -303,10 +300,10 @@ told_whole shape (step ∷ steps) (told ∷ others) are =
     let first : told ≡ step = ⊎_elim (λ (same : told ≡ step). same) (λ (x : (false ≡ true) × CouldBe shape step told). true_false (sym x.0)) are.0 in
     (λ i. first i ∷ told_whole shape steps others are.1 i)
 
-left_by : (t : TableView) (bucket : ℕ) (q r s : PassView) (bodies : List Stored) (b : InBucket t bucket q bodies) (now : Lists) (inner : List Turned) (back : Content) (part stands : Part) (lost : List ℕ) (kept : List StrandStep) → Under t b.hold b.below q r now inner
-    → (can : CanGive t (Bucket bucket) r back stands) → (meant : CanGive t (Bucket bucket) r back part) → Goes r s (given_turn r can.hold stands ∷ []) lost → s ≡ with_view r (with_lost (lost ++ r.view.lost) (given can.hold (entry_of r stands) kept r.view))
+left_by : (t : TableView) (bucket : ℕ) (q r s : PassView) (bodies : List Stored) (b : InBucket t bucket q bodies) (now : Lists) (inner : List Turned) (back : Content) (part stands : Part) (lost : List ℕ) (at : ℕ) (kept : List StrandStep) → Under t b.hold b.below q r now inner
+    → (can : CanGive t (Bucket bucket) r back stands) → (meant : CanGive t (Bucket bucket) r back part) → Goes r s (given_turn r can.hold stands ∷ []) lost → s ≡ with_view r (with_lost (lost ++ r.view.lost) (given at can.hold (entry_of r stands) kept r.view))
     → IsTold t.shape lost (given_turn r can.hold stands) (given_turn r meant.hold part) → Left t bucket q r s inner part
-left_by t bucket q r s bodies b now inner back part stands lost kept u can meant goes is is_told =
+left_by t bucket q r s bodies b now inner back part stands lost at kept u can meant goes is is_told =
     let hold_is : can.hold ≡ hold_with b.hold now = same_head (sym can.innermost ∙ u.held) in
     let last : Turned = given_turn r can.hold stands in
     record {
@@ -314,7 +311,7 @@ left_by t bucket q r s bodies b now inner back part stands lost kept u can meant
       lost = lost;
       goes = subst (λ (l : List ℕ). Goes q s (inner ++ last ∷ []) l) (append_nil lost) (goes_on q r s inner (last ∷ []) [] lost u.goes goes);
       held = ap (λ (z : PassView). z.view.held) is ∙ ap holds_below u.held;
-      notes = ap (λ (z : PassView). z.view.notes) is ∙ (none_passed stands can.notes (notes_below r.view.notes) (ap (λ (z : Notes). z.owners) (same_head (sym can.notes_are ∙ u.notes))) can.notes_fit.seen ∙ (ap notes_below u.notes ∙ sym (ap notes_below b.notes)));
+      notes = ap (λ (z : PassView). z.view.notes) is ∙ (none_passed stands can.notes (notes_below r.view.notes) (ap (λ (z : Notes). z.owners) (same_head (sym can.notes_are ∙ u.notes))) can.notes_fit.held ∙ (ap notes_below u.notes ∙ sym (ap notes_below b.notes)));
       bits = ap (λ (z : PassView). z.view.bits) is ∙ u.bits;
       carried = ap (λ (z : PassView). z.view.carried) is ∙ u.carried;
       by_call = All-append (IsBy q.cpu q.call) inner (last ∷ []) u.by_call (All-cons (IsBy q.cpu q.call) last [] (u.goes.cpu, u.goes.call) (All-nil (IsBy q.cpu q.call)));
@@ -336,12 +333,12 @@ left_by t bucket q r s bodies b now inner back part stands lost kept u can meant
 pub left : (t : TableView) (bucket : ℕ) (q r s : PassView) (bodies : List Stored) (b : InBucket t bucket q bodies) (now : Lists) (inner : List Turned) (back : Content) (part : Part) (found : Option Part) → Under t b.hold b.below q r now inner
     → CanGive t (Bucket bucket) r back part → IfSome found (λ x. x ≡ part) → GaveBack t (Bucket bucket) r s back found → Left t bucket q r s inner part
 left t bucket q r s bodies b now inner back part None u can is gave =
-    left_by t bucket q r s bodies b now inner back part gave.part (gave.can.hold.lock ∷ []) r.view.kept u gave.can can (goes_gave_some t (Bucket bucket) r s back gave) gave.after_is
+    left_by t bucket q r s bodies b now inner back part gave.part (gave.can.hold.lock ∷ []) gave.at r.view.kept u gave.can can (goes_gave_some t (Bucket bucket) r s back gave) gave.after_is
     (inr (among_first gave.can.hold.lock [], could_be t (Bucket bucket) r back part gave.part can gave.can))
 left t bucket q r s bodies b now inner back part (Some x) u can is gave =
     let hold_is : gave.hold ≡ can.hold = same_head (sym gave.innermost ∙ can.innermost) in
     let recorded : Goes r s (given_turn r can.hold part ∷ []) [] = subst (λ (z : Hold × Part). Goes r s (given_turn r z.0 z.1 ∷ []) []) (λ i. (hold_is i, is i)) (goes_gave r s x gave) in
-    left_by t bucket q r s bodies b now inner back part part [] gave.kept u can can recorded (gave.after_is ∙ (λ i. with_view r (given (hold_is i) (entry_of r (is i)) gave.kept r.view))) (inl refl)
+    left_by t bucket q r s bodies b now inner back part part [] gave.at gave.kept u can can recorded (gave.after_is ∙ (λ i. with_view r (given gave.at (hold_is i) (entry_of r (is i)) gave.kept r.view))) (inl refl)
 
 -- a part was given
 pub left_whole : (t : TableView) (bucket : ℕ) (q r s : PassView) (bodies : List Stored) (b : InBucket t bucket q bodies) (now : Lists) (inner : List Turned) (back : Content) (part found : Part) → Under t b.hold b.below q r now inner
@@ -354,7 +351,7 @@ pub left_forgotten : (t : TableView) (bucket : ℕ) (q s : PassView) (bodies : L
     → (l : Left t bucket q q s [] gave.part) × (l.last ≡ given_turn q gave.can.hold gave.part) × (l.lost ≡ gave.can.hold.lock ∷ [])
 unfolding left_by
 left_forgotten t bucket q s bodies b back gave =
-    (left_by t bucket q q s bodies b b.hold.now [] back gave.part gave.part (gave.can.hold.lock ∷ []) q.view.kept (under_nothing t bucket q bodies b) gave.can gave.can (goes_gave_some t (Bucket bucket) q s back gave) gave.after_is (inl refl), refl, refl)
+    (left_by t bucket q q s bodies b b.hold.now [] back gave.part gave.part (gave.can.hold.lock ∷ []) gave.at q.view.kept (under_nothing t bucket q bodies b) gave.can gave.can (goes_gave_some t (Bucket bucket) q s back gave) gave.after_is (inl refl), refl, refl)
 
 -- Answers
 
@@ -373,7 +370,7 @@ idle_same q s has held cpus shape spares carried hand = record {
 }
 
 -- what is left from where the call began
-pub leaves_of : (t : TableView) (bucket : ℕ) (p q s : PassView) (chain : BodyList) (steps : List Turned) (lost : List ℕ) → Takes t (Bucket bucket) p q (contents.Bucket chain) → p.view.held ≡ [] → Finished t q s steps lost → Leaves t p s steps lost
+pub leaves_of : (t : TableView) (bucket : ℕ) (p q s : PassView) (chain : BodyList) (steps : List Turned) (lost : List ℕ) → Takes t (Bucket bucket) p q (contents.Bucket chain) → p.view.held ≡ [] → Finished t q s steps lost → Leaves t p s steps lost []
 leaves_of t bucket p q s chain steps lost took none_held f =
     let first = goes_took t (Bucket bucket) p q (contents.Bucket chain) took in
     record {
@@ -385,7 +382,7 @@ leaves_of t bucket p q s chain steps lost took none_held f =
       in_no_call = f.in_no_call;
       by_call = subst (λ (z : PassView). All (IsBy z.cpu z.call) steps) took.after_is f.by_call;
       other_spares = subst (λ (z : PassView). SparesDiffer z.cpu z.spares s.spares) took.after_is f.other_spares;
-      bits = f.bits ∙ ap (λ (z : PassView). z.view.bits) took.after_is;
+      bits = λ _. f.bits ∙ ap (λ (z : PassView). z.view.bits) took.after_is;
       learns = learns_after t.shape p.view q.view s.view steps [] (learns_took t (Bucket bucket) p q (contents.Bucket chain) took) f.learns;
     }
 
@@ -440,6 +437,10 @@ trace_at shape cpu spare verb steps reply plain trace =
 pub plain_left : (shape : Shape) (spare : Option ℕ) (steps : List Turned) → is_lru shape.kind ≡ false → spare_after spare (map (turn_of shape) steps) ≡ spare_left shape spare (map (turn_at shape) steps)
 plain_left shape spare steps plain = ap (spare_after spare) (turns_alone shape steps) ∙ sym (plain_spare shape spare (map (turn_at shape) steps) plain)
 
+-- no step on a bit is told there
+pub no_bits : (shape : Shape) (steps : List Turned) → is_lru shape.kind ≡ false → bits_of_turns shape steps ≡ []
+no_bits shape steps plain = ap (λ b. cond b (flat_map (λ (step : Turned). bits_of_part shape step.entry.part) steps) []) plain
+
 -- from where the bucket was taken to where the call began
 pub called_of : (t : TableView) (bucket : ℕ) (p q s : PassView) (chain : BodyList) (verb : Verb) (reply : Reply) → Enters t bucket p q chain → p.view.held ≡ [] → Answered t q s verb reply → Called t p s verb reply
 called_of t bucket p q s chain verb reply enters none_held answered =
@@ -449,7 +450,7 @@ called_of t bucket p q s chain verb reply enters none_held answered =
     record {
       steps = answered.steps;
       lost = answered.lost;
-      leaves = leaves_of t bucket p q s chain answered.steps answered.lost took none_held f;
+      leaves = subst (Leaves t p s answered.steps answered.lost) (sym (no_bits t.shape told enters.plain)) (leaves_of t bucket p q s chain answered.steps answered.lost took none_held f);
       told = told;
       told_are = answered.told_are;
       trace = subst (λ (z : PassView). IsTrace t.shape z.cpu (spare_element z) verb (map (turn_at t.shape) told) reply) took.after_is
@@ -478,22 +479,22 @@ called_whole t bucket p q s chain verb reply enters none_held answered = (called
 pub rows_taken : (bodies : List Stored) (now : Lists) → now ≡ lists_of (in_bucket bodies) → (x : ℕ) → times x (numbers bodies) ≡ times x (rows now)
 rows_taken bodies now is x = sym (ap (λ (l : Lists). times x (rows l)) is ∙ ap (times x) (append_nil (numbers bodies)))
 
-pub can_same : (t : TableView) (bucket : ℕ) (q : PassView) (chain : BodyList) (part : BucketPart) → is_lru t.shape.kind ≡ false → InBucket t bucket q chain.bodies → IsTurnWith t.shape q.cpu part chain.bodies chain.bodies (numbers chain.bodies) → BucketNotesFit part no_notes
+pub can_same : (t : TableView) (bucket : ℕ) (q : PassView) (chain : BodyList) (part : BucketPart) (b : InBucket t bucket q chain.bodies) → IsTurnWith t.shape q.cpu part chain.bodies chain.bodies (numbers chain.bodies) → NotesFit t.shape q.view b.hold (parts.Bucket part) no_notes
     → CanGive t (Bucket bucket) q (contents.Bucket chain) (parts.Bucket part)
-can_same t bucket q chain part plain b turn fits =
-    can_give t bucket q q chain.bodies b b.hold.now [] chain part plain (under_nothing t bucket q chain.bodies b) turn.turn turn.sized (rows_taken chain.bodies b.hold.now b.now) (ap (λ (l : Lists). l.free) b.now) fits
+can_same t bucket q chain part b turn fits =
+    can_give t bucket q q chain.bodies b b.hold.now [] chain part (under_nothing t bucket q chain.bodies b) turn.turn turn.sized (rows_taken chain.bodies b.hold.now b.now) (ap (λ (l : Lists). l.free) b.now) fits
 
-pub may_same : (t : TableView) (bucket : ℕ) (q : PassView) (chain : BodyList) (part : BucketPart) (found : Option Part) → is_lru t.shape.kind ≡ false → InBucket t bucket q chain.bodies → IsTurnWith t.shape q.cpu part chain.bodies chain.bodies (numbers chain.bodies) → BucketNotesFit part no_notes → IfSome found (λ x. x ≡ parts.Bucket part)
+pub may_same : (t : TableView) (bucket : ℕ) (q : PassView) (chain : BodyList) (part : BucketPart) (found : Option Part) (b : InBucket t bucket q chain.bodies) → IsTurnWith t.shape q.cpu part chain.bodies chain.bodies (numbers chain.bodies) → NotesFit t.shape q.view b.hold (parts.Bucket part) no_notes → IfSome found (λ x. x ≡ parts.Bucket part)
     → MayGiveBack t (Bucket bucket) q (contents.Bucket chain) found
-may_same t bucket q chain part found plain b turn fits is =
-    may_give_back t (Bucket bucket) q (contents.Bucket chain) (parts.Bucket part) found (can_same t bucket q chain part plain b turn fits) is
+may_same t bucket q chain part found b turn fits is =
+    may_give_back t (Bucket bucket) q (contents.Bucket chain) (parts.Bucket part) found (can_same t bucket q chain part b turn fits) is
 
-pub answered_turn : (t : TableView) (bucket : ℕ) (q s : PassView) (chain : BodyList) (verb : Verb) (reply : Reply) (part : BucketPart) (found : Option Part) → is_lru t.shape.kind ≡ false → (b : InBucket t bucket q chain.bodies) → HasItsSpares q → IsTurnWith t.shape q.cpu part chain.bodies chain.bodies (numbers chain.bodies) → BucketNotesFit part no_notes
+pub answered_turn : (t : TableView) (bucket : ℕ) (q s : PassView) (chain : BodyList) (verb : Verb) (reply : Reply) (part : BucketPart) (found : Option Part) → is_lru t.shape.kind ≡ false → (b : InBucket t bucket q chain.bodies) → HasItsSpares q → IsTurnWith t.shape q.cpu part chain.bodies chain.bodies (numbers chain.bodies) → bucket_probes part ≡ []
     → IfSome found (λ x. x ≡ parts.Bucket part) → GaveBack t (Bucket bucket) q s (contents.Bucket chain) found
     → IsPlainTrace t.shape q.cpu (spare_element q) verb (record { lock = Bucket bucket; part = parts.Bucket part } ∷ []) reply
     → spare_element q ≡ spare_after (spare_element q) (record { lock = Bucket bucket; part = parts.Bucket part } ∷ []) → Answered t q s verb reply
-answered_turn t bucket q s chain verb reply part found plain b has turn fits is gave trace spare =
-    let l = left t bucket q q s chain.bodies b b.hold.now [] (contents.Bucket chain) (parts.Bucket part) found (under_nothing t bucket q chain.bodies b) (can_same t bucket q chain part plain b turn fits) is gave in
+answered_turn t bucket q s chain verb reply part found plain b has turn no_probes is gave trace spare =
+    let l = left t bucket q q s chain.bodies b b.hold.now [] (contents.Bucket chain) (parts.Bucket part) found (under_nothing t bucket q chain.bodies b) (can_same t bucket q chain part b turn (none_noted t.shape q.view b.hold part plain no_probes)) is gave in
     answered_same t bucket q q s verb reply [] (parts.Bucket part) [] has l refl (λ _ _. refl) refl trace spare
 
 -- the map of a call
@@ -531,15 +532,15 @@ now_here t bucket q r bodies b now inner u =
     ∙ now_at_is (lock_number t.shape (Bucket bucket)) r.view.held (hold_with b.hold now) (held_here t bucket q r bodies b now inner u)
 
 -- an element came there, or left
-pub under_attached : (t : TableView) (bucket : ℕ) (q r s : PassView) (bodies : List Stored) (b : InBucket t bucket q bodies) (now : Lists) (inner : List Turned) (e cpu : ℕ) → Under t b.hold b.below q r now inner → s ≡ with_view r (attached bucket e cpu r.view) → Under t b.hold b.below q s (with_row (Bucket bucket) e now) inner
-under_attached t bucket q r s bodies b now inner e cpu u is =
+pub under_attached : (t : TableView) (bucket : ℕ) (q r s : PassView) (bodies : List Stored) (b : InBucket t bucket q bodies) (now : Lists) (inner : List Turned) (e : ℕ) → Under t b.hold b.below q r now inner → Attached bucket e r s → Under t b.hold b.below q s (with_row (Bucket bucket) e now) inner
+under_attached t bucket q r s bodies b now inner e u is =
     subst (λ (l : Lists). Under t b.hold b.below q s (with_row (Bucket bucket) e l) inner) (now_here t bucket q r bodies b now inner u)
-    (under_moved t b.hold b.below q r s now (with_row (Bucket bucket) e (now_under (Bucket bucket) r.view)) inner (lock_number r.view.shape (Bucket bucket)) (without_in_hand e cpu r.view.hand) (owner_word r.view.shape e) (32 + bucket) u (number_here t bucket q r bodies b now inner u) is)
+    (under_moved t b.hold b.below q r s now (with_row (Bucket bucket) e (now_under (Bucket bucket) r.view)) inner is.0 (lock_number r.view.shape (Bucket bucket)) (without_in_hand e r.cpu r.view.hand) (owner_word r.view.shape e) (32 + bucket) u (number_here t bucket q r bodies b now inner u) is.1)
 
-pub under_detached : (t : TableView) (bucket : ℕ) (q r s : PassView) (bodies : List Stored) (b : InBucket t bucket q bodies) (now : Lists) (inner : List Turned) (e cpu : ℕ) → Under t b.hold b.below q r now inner → s ≡ with_view r (detached bucket e cpu r.view) → Under t b.hold b.below q s (without_row e now) inner
-under_detached t bucket q r s bodies b now inner e cpu u is =
+pub under_detached : (t : TableView) (bucket : ℕ) (q r s : PassView) (bodies : List Stored) (b : InBucket t bucket q bodies) (now : Lists) (inner : List Turned) (e : ℕ) → Under t b.hold b.below q r now inner → Detached bucket e r s → Under t b.hold b.below q s (without_row e now) inner
+under_detached t bucket q r s bodies b now inner e u is =
     subst (λ (l : Lists). Under t b.hold b.below q s (without_row e l) inner) (now_here t bucket q r bodies b now inner u)
-    (under_moved t b.hold b.below q r s now (without_row e (now_under (Bucket bucket) r.view)) inner (lock_number r.view.shape (Bucket bucket)) (with_in_hand e cpu r.view.hand) (owner_word r.view.shape e) (1 + cpu) u (number_here t bucket q r bodies b now inner u) is)
+    (under_moved t b.hold b.below q r s now (without_row e (now_under (Bucket bucket) r.view)) inner is.0 (lock_number r.view.shape (Bucket bucket)) (with_in_hand e r.cpu r.view.hand) (owner_word r.view.shape e) (1 + r.cpu) u (number_here t bucket q r bodies b now inner u) is.1)
 
 -- what these steps ask
 pub can_attach : (t : TableView) (bucket : ℕ) (q r : PassView) (bodies : List Stored) (b : InBucket t bucket q bodies) (now : Lists) (inner : List Turned) (e : ℕ) → is_lru t.shape.kind ≡ false → Under t b.hold b.below q r now inner → is_in_hand_of e r.cpu r.view.hand ≡ true → CanAttach t e bucket r
@@ -551,6 +552,7 @@ can_attach t bucket q r bodies b now inner e plain u in_hand = record {
   held = held_here t bucket q r bodies b now inner u;
   cpu_is = b.cpu_is ∙ sym u.goes.cpu;
   in_hand = in_hand;
+  not_carried = λ lru. true_false (sym lru ∙ plain);
   hashed = λ lru. true_false (sym lru ∙ plain);
 }
 
@@ -580,22 +582,22 @@ body_real t bucket q bodies b e inside = b.elements.rows_real e (subst (λ (n : 
 pub not_in_hand : (t : TableView) (bucket : ℕ) (q : PassView) (bodies : List Stored) (b : InBucket t bucket q bodies) (e cpu : ℕ) → is_lru t.shape.kind ≡ false → is_among cpu q.view.cpus ≡ true → IsIn e (numbers bodies) → is_in_hand_of e cpu q.view.hand ≡ false
 not_in_hand t bucket q bodies b e cpu plain mine inside =
     by_bool (is_in_hand_of e cpu q.view.hand) (λ x. is_in_hand_of e cpu q.view.hand ≡ x → x ≡ false)
-    (λ _ in_hand. let none = (b.apart e cpu mine in_hand).1 (ap (λ (s : Shape). is_lru s.kind) b.of_table.1 ∙ plain) in let counted = rows_taken bodies b.hold.now b.now e in absurd (omega arith))
+    (λ _ in_hand. let none = (b.apart e cpu mine in_hand).1 (inr refl) in let counted = rows_taken bodies b.hold.now b.now e in absurd (omega arith))
     (λ _ _. refl) refl
 
 -- Turns that leave the elements of the bucket
 
-pub can_kept : (t : TableView) (bucket : ℕ) (q : PassView) (bodies : List Stored) (back : BodyList) (part : BucketPart) → is_lru t.shape.kind ≡ false → InBucket t bucket q bodies → IsTurnWith t.shape q.cpu part bodies back.bodies (numbers bodies) → BucketNotesFit part no_notes
+pub can_kept : (t : TableView) (bucket : ℕ) (q : PassView) (bodies : List Stored) (back : BodyList) (part : BucketPart) (b : InBucket t bucket q bodies) → IsTurnWith t.shape q.cpu part bodies back.bodies (numbers bodies) → NotesFit t.shape q.view b.hold (parts.Bucket part) no_notes
     → CanGive t (Bucket bucket) q (contents.Bucket back) (parts.Bucket part)
-can_kept t bucket q bodies back part plain b turn fits =
-    can_give t bucket q q bodies b b.hold.now [] back part plain (under_nothing t bucket q bodies b) turn.turn turn.sized (λ x. turn.counts x ∙ rows_taken bodies b.hold.now b.now x) (ap (λ (l : Lists). l.free) b.now) fits
+can_kept t bucket q bodies back part b turn fits =
+    can_give t bucket q q bodies b b.hold.now [] back part (under_nothing t bucket q bodies b) turn.turn turn.sized (λ x. turn.counts x ∙ rows_taken bodies b.hold.now b.now x) (ap (λ (l : Lists). l.free) b.now) fits
 
-pub answered_kept : (t : TableView) (bucket : ℕ) (q s : PassView) (bodies : List Stored) (back : BodyList) (verb : Verb) (reply : Reply) (part : BucketPart) (found : Part) → is_lru t.shape.kind ≡ false → (b : InBucket t bucket q bodies) → HasItsSpares q → IsTurnWith t.shape q.cpu part bodies back.bodies (numbers bodies) → BucketNotesFit part no_notes
+pub answered_kept : (t : TableView) (bucket : ℕ) (q s : PassView) (bodies : List Stored) (back : BodyList) (verb : Verb) (reply : Reply) (part : BucketPart) (found : Part) → is_lru t.shape.kind ≡ false → (b : InBucket t bucket q bodies) → HasItsSpares q → IsTurnWith t.shape q.cpu part bodies back.bodies (numbers bodies) → bucket_probes part ≡ []
     → found ≡ parts.Bucket part → GaveBack t (Bucket bucket) q s (contents.Bucket back) (Some found)
     → IsPlainTrace t.shape q.cpu (spare_element q) verb (record { lock = Bucket bucket; part = parts.Bucket part } ∷ []) reply
     → spare_element q ≡ spare_after (spare_element q) (record { lock = Bucket bucket; part = parts.Bucket part } ∷ []) → AnsweredWhole t q s verb reply
-answered_kept t bucket q s bodies back verb reply part found plain b has turn fits is gave trace spare =
-    let l = left_whole t bucket q q s bodies b b.hold.now [] (contents.Bucket back) (parts.Bucket part) found (under_nothing t bucket q bodies b) (can_kept t bucket q bodies back part plain b turn fits) is gave in
+answered_kept t bucket q s bodies back verb reply part found plain b has turn no_probes is gave trace spare =
+    let l = left_whole t bucket q q s bodies b b.hold.now [] (contents.Bucket back) (parts.Bucket part) found (under_nothing t bucket q bodies b) (can_kept t bucket q bodies back part b turn (none_noted t.shape q.view b.hold part plain no_probes)) is gave in
     answered_whole t bucket q q s verb reply [] (parts.Bucket part) [] has l.0 l.1 refl (λ _ _. refl) refl trace spare
 
 -- the entry of an update, by what the caller gave

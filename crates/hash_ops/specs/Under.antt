@@ -1,5 +1,5 @@
 -- A call from where it holds the bucket of its key to its end.
-use Rattle.std.specs.Prelude.{◌≡◌, ℕ, ◌<◌, ◌≤◌, true, false, List, [], ◌∷◌, length, map, slice_get, All, Some, Result, Ok, Err}
+use Rattle.std.specs.Prelude.{◌≡◌, ℕ, ◌≤◌, true, false, List, [], ◌∷◌, length, map, All, Some, Result, Ok, Err}
 use Rattle.map_types.specs.declared.call.Verb.{Verb}
 use Rattle.map_types.specs.declared.kind.DomainId.TheVariants.{Bucket}
 use Rattle.map_types.specs.declared.kind.MapKind.TheVariants.{Hash}
@@ -11,45 +11,17 @@ use Rattle.map_types.specs.Kind.{is_lru}
 use Rattle.map_types.specs.Stored.{Stored}
 use Rattle.map_types.specs.ValueLen.{value_len_of}
 use Rattle.percpu_values.specs.BodyList.{BodyList}
-use Rattle.bucket_chain.specs.Places.{place_of_key, key_at}
-use Rattle.place_words.specs.declared.history.Entry.{Entry}
-use Rattle.place_words.specs.Bodies.{present}
-use Rattle.place_words.specs.Histories.{in_bucket, content, IsLegal}
-use Rattle.place_words.specs.Locks.{lock_number}
 use Rattle.place_words.specs.Traces.{bucket_of_key, IsPlainTrace, spare_after}
 use Rattle.place_table.specs.declared.content.Content.TheVariants as contents
-use Rattle.place_table.specs.declared.view.Hold.{Hold}
-use Rattle.place_table.specs.declared.view.Notes.{Notes}
 use Rattle.place_table.specs.declared.view.Turned.{Turned}
-use Rattle.place_table.specs.Contents.{lists_of, IsSized}
+use Rattle.place_table.specs.InBucket.{InBucket}
 use Rattle.place_table.specs.Known.{Learns}
-use Rattle.place_table.specs.Passes.{PassView, TableView, IsPassOf, HasBegun, IsInNoCall, HasOnlyKept, SparesDiffer, Takes, GaveSome, Goes, spare_of}
-use Rattle.place_table.specs.Plays.{AreElements, IsApartFromHands}
-use Rattle.place_table.specs.Views.{is_among, is_in_hand_of, known_log, no_notes, notes_below}
+use Rattle.place_table.specs.Passes.{PassView, TableView, IsInNoCall, HasOnlyKept, SparesDiffer, Takes, GaveSome, Goes, spare_of}
+use Rattle.place_table.specs.Views.{is_among, is_in_hand_of, notes_below}
 use Rattle.hash_ops.specs.Calls.{turn_of, IsBy, spare_element, lost_turn, AreTold}
 use Rattle.hash_ops.specs.declared.map.PlainRefusal.{PlainRefusal}
-use Rattle.hash_ops.specs.declared.parts.Given.{Given}
+use Rattle.bucket_entries.specs.declared.parts.Given.{Given}
 use Rattle.hash_ops.specs.declared.map.PlainRefusal.TheVariants as refusals
-
--- The pass holds this bucket alone, in which these bodies lie as its turns left them.
-pub record InBucket (t : TableView) (bucket : ℕ) (q : PassView) (bodies : List Stored) : Type 0 where
-  pub of_table : IsPassOf t q
-  pub begun : HasBegun q
-  pub there : bucket < t.shape.buckets
-  pub cpu_there : q.cpu < t.shape.cpus
-  pub hold : Hold
-  pub below : List Notes
-  pub held : q.view.held ≡ hold ∷ []
-  pub notes : q.view.notes ≡ no_notes ∷ below
-  pub lock_is : hold.lock ≡ lock_number t.shape (Bucket bucket)
-  pub cpu_is : hold.cpu ≡ q.cpu
-  pub content_is : in_bucket bodies ≡ content t.shape (Bucket bucket) hold.log
-  pub legal : IsLegal t.shape (Bucket bucket) hold.log
-  pub now : hold.now ≡ lists_of (in_bucket bodies)
-  pub elements : AreElements t.shape hold.now
-  pub apart : IsApartFromHands q.view hold.now
-  pub sized : All (IsSized t.shape) bodies
-  pub known : (log : List Entry) → known_log hold.lock q.view.known ≡ Some log → hold.log ≡ log
 
 -- its CPUs have nothing in hand but the spares that it keeps, none of which is out, and no element's home is in a hand of theirs
 pub record HasItsSpares (q : PassView) : Type 0 where
@@ -64,15 +36,6 @@ pub record Enters (t : TableView) (bucket : ℕ) (p q : PassView) (chain : BodyL
   pub took : Takes t (Bucket bucket) p q (contents.Bucket chain)
   pub inside : InBucket t bucket q chain.bodies
   pub spares : HasItsSpares q
-
--- the key stands at this place, in this body
-pub record IsAt (key : List ℕ) (place : ℕ) (bodies : List Stored) : Type 0 where
-  pub body : Stored
-  pub present_is : present key bodies ≡ Some body
-  pub body_is : slice_get bodies place ≡ Some body
-  pub place_is : place_of_key key bodies ≡ Some place
-  pub below : place < length bodies
-  pub key_is : key_at place bodies ≡ key
 
 -- The bucket was given back after these turns: the pass is in no call, and what else it knows is as before.
 pub record Finished (t : TableView) (q s : PassView) (steps : List Turned) (lost : List ℕ) : Type 0 where
@@ -94,7 +57,7 @@ pub record Answered (t : TableView) (q s : PassView) (verb : Verb) (reply : Repl
   pub trace : IsPlainTrace t.shape q.cpu (spare_element q) verb (map (turn_of t.shape) told) reply
   pub spare : spare_element s ≡ spare_after (spare_element q) (map (turn_of t.shape) told)
 
--- the same, and no record was lost
+-- the same, and no lock was given back without a part
 abbrev pub AnsweredWhole : TableView → PassView → PassView → Verb → Reply → Type 0
 AnsweredWhole t q s verb reply = (answered : Answered t q s verb reply) × (answered.lost ≡ [])
 

@@ -11,16 +11,15 @@ ghost use Rattle.map_types.specs.ValueLen.{value_len_of};
 ghost use Rattle.map_types.specs.declared.kind.Side.TheVariants.{Sys};
 ghost use Rattle.place_words.specs.Bodies.{present, without_key};
 ghost use Rattle.place_words.specs.Traces.{bucket_of_key};
-ghost use Rattle.place_table.specs.Passes.{CanMark, with_view};
-ghost use Rattle.place_table.specs.Views.{detached};
+ghost use Rattle.place_table.specs.Passes.{PassView, CanMark, Detached};
 ghost use Rattle.hash_ops.specs.Calls.{CanCall, reply_of_value, reply_of_done};
 ghost use Rattle.hash_ops.specs.Free.{CanPush, Pushed};
-ghost use Rattle.hash_ops.specs.Under.{InBucket, HasItsSpares, Enters, IsAt, Answered, Forgot, UpdateEnds};
+ghost use Rattle.place_table.specs.InBucket.{InBucket, IsAt};
+ghost use Rattle.hash_ops.specs.Under.{HasItsSpares, Enters, Answered, Forgot, UpdateEnds};
 
 use crate::map::PlainMap;
-use crate::parts::{deleted, lookup_got, lookup_missed, take_got, take_missed};
-use crate::values::read_value;
 use bucket_chain::Chain;
+use bucket_entries::{deleted, lookup_got, lookup_missed, read_value, take_got, take_missed};
 use map_types::{Absent, DomainId, Gate, Side};
 use percpu_values::{Body, BoxedBody};
 use place_table::{Content, Pass};
@@ -166,9 +165,9 @@ impl PlainMap {
         gate: &G,
     ) -> u32
         requires detach { CanMark self.now body.element bucket pass.old }
-        requires push { CanPush self.now body (with_view pass.old (detached bucket body.element pass.old.cpu pass.old.view)) }
+        requires push { (out : PassView) → Detached bucket body.element pass.old out → CanPush self.now body out }
         ensures element { result ≡ body.element }
-        ensures pushed { Pushed self.now body (with_view pass.old (detached bucket body.element pass.old.cpu pass.old.view)) pass.new }
+        ensures pushed { (out : PassView) × Detached bucket body.element pass.old out × Pushed self.now body out pass.new }
     {
         let element = body.body().element();
         self.table.detach(pass, element, bucket);

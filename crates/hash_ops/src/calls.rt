@@ -7,7 +7,7 @@ ghost use Rattle.map_types.specs.ValueLen.{value_len_of};
 ghost use Rattle.hash_ops.specs.Calls.{CanCall, Called, MayRefuse, Updates, reply_of_value, reply_of_done};
 
 use crate::map::{PlainMap, PlainRefusal};
-use crate::parts::Given;
+use bucket_entries::Given;
 use map_types::{Absent, Gate, Side};
 use place_table::Pass;
 use std::alloc::Global;

@@ -6,8 +6,6 @@ mod buckets;
 mod calls;
 mod free;
 mod map;
-mod parts;
 mod updates;
-mod values;
 
 pub use map::{PlainMap, PlainRefusal};

@@ -10,13 +10,13 @@ ghost use Rattle.place_words.specs.Bodies.{present};
 ghost use Rattle.place_words.specs.Traces.{bucket_of_key};
 ghost use Rattle.hash_ops.specs.declared.map.PlainRefusal.TheVariants as refusals;
 ghost use Rattle.hash_ops.specs.Calls.{MayRefuse};
-ghost use Rattle.hash_ops.specs.Under.{InBucket, HasItsSpares, IsAt, Gives, AnsweredWhole, Forgot, UpdateEnds};
+ghost use Rattle.place_table.specs.InBucket.{InBucket, IsAt};
+ghost use Rattle.hash_ops.specs.Under.{HasItsSpares, Gives, AnsweredWhole, Forgot, UpdateEnds};
 
 use crate::buckets::body_at;
 use crate::map::{PlainMap, PlainRefusal};
-use crate::parts::Given;
-use crate::values::{fill_body, write_value};
 use bucket_chain::Chain;
+use bucket_entries::{Given, fill_body, write_value};
 use map_types::{DomainId, Gate, Side};
 use place_table::{Content, Pass};
 use place_words::Put;
@@ -89,7 +89,7 @@ impl PlainMap {
         ensures refuses { IfErr result (MayRefuse flags) }
     {
         if flags == BPF_NOEXIST {
-            let part = given.updated(side, flags, Put::Exists);
+            let part = given.updated(side, flags, None, Put::Exists);
             self.table.give(
                 pass,
                 DomainId::Bucket(bucket),
@@ -135,7 +135,7 @@ impl PlainMap {
     {
         let lock = DomainId::Bucket(bucket);
         if flags == BPF_EXIST {
-            let part = given.updated(side, flags, Put::Absent);
+            let part = given.updated(side, flags, None, Put::Absent);
             self.table
                 .give(pass, lock, Content::Bucket(chain), Some(part), gate);
             return Err(PlainRefusal::Enoent);
@@ -175,7 +175,7 @@ impl PlainMap {
         let lock = DomainId::Bucket(bucket);
         let cpu = self.table.cpu_of(pass);
         let Some(mut body) = self.pop(rt, pass, gate) else {
-            let part = given.updated(side, flags, Put::Full);
+            let part = given.updated(side, flags, None, Put::Full);
             self.table
                 .give(pass, lock, Content::Bucket(chain), Some(part), gate);
             return Err(PlainRefusal::E2big);
@@ -184,7 +184,7 @@ impl PlainMap {
         let element = body.body().element();
         self.table.attach(pass, element, bucket);
         chain.add_head(body);
-        let part = given.updated(side, flags, Put::Added(element));
+        let part = given.updated(side, flags, None, Put::Added(element));
         self.table
             .give(pass, lock, Content::Bucket(chain), Some(part), gate);
         Ok(())
@@ -230,7 +230,7 @@ impl PlainMap {
         let cpu = self.table.cpu_of(pass);
         let element = body_at(&chain, place).element();
         write_value(self.table.shape(), side, cpu, &mut chain, place, key, value);
-        let part = given.updated(side, flags, Put::Written(element));
+        let part = given.updated(side, flags, None, Put::Written(element));
         self.table.give(
             pass,
             DomainId::Bucket(bucket),
@@ -273,7 +273,7 @@ impl PlainMap {
         let old = spare.body().element();
         self.table.detach(pass, old, bucket);
         self.table.keep_spare(pass, spare);
-        let part = given.updated(side, flags, Put::Replaced { new, old });
+        let part = given.updated(side, flags, None, Put::Replaced { new, old });
         self.table.give(
             pass,
             DomainId::Bucket(bucket),

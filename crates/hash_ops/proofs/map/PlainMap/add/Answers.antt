@@ -13,7 +13,7 @@ use Rattle.place_table.specs.declared.content.Content.TheVariants as contents
 use Rattle.place_table.specs.Passes.{TableView, CanAttach, CanGive}
 use Rattle.hash_ops.specs.Free.{Popped}
 use Rattle.hash_ops.proofs.Added.{nowhere, few_bodies, may_look, can_give_full, answered_full, can_attach_popped, can_give_added, answered_added}
-use Rattle.hash_ops.proofs.BucketTurns.{added_turn, full_turn}
+use Rattle.place_table.proofs.BucketTurns.{added_turn, full_turn}
 use Rattle.hash_ops.proofs.Under.{is_plain_of, update_entry}
 use Rattle.hash_ops.proofs.map.PlainMap.add.Goals as goal
 

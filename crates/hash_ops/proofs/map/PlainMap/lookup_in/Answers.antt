@@ -8,8 +8,8 @@ use Rattle.place_words.specs.declared.bucket_part.BucketPart.TheVariants.{Lookup
 use Rattle.place_table.specs.Contents.{IsSized}
 use Rattle.place_table.specs.declared.content.Content.TheVariants as contents
 use Rattle.place_table.specs.Passes.{TableView, MayGiveBack, GaveBack}
-use Rattle.hash_ops.proofs.BucketTurns.{lookup_missed_turn, lookup_got_turn}
-use Rattle.hash_ops.proofs.Under.{may_same, answered_turn, sized_at, is_plain_of, on_bucket}
+use Rattle.place_table.proofs.BucketTurns.{lookup_missed_turn, lookup_got_turn}
+use Rattle.hash_ops.proofs.Under.{none_noted, may_same, answered_turn, sized_at, is_plain_of, on_bucket}
 use Rattle.hash_ops.proofs.map.PlainMap.lookup_in.Goals as goal
 
 pub give-requires-after_bounds : goal.give-requires-after_bounds
@@ -17,13 +17,13 @@ give-requires-after_bounds g c κs within =
     let t = c.args.self.now in
     let turn = lookup_missed_turn t.shape c.args.pass.now.cpu c.args.chain.bodies c.requires.inside.sized c.args.side c.args.key.now c.in_default.ensures.holder in
     subst (λ (z : TableView). MayGiveBack z (locks.Bucket c.args.bucket) c.args.pass.now (contents.Bucket c.args.chain) c.lookup_missed-part.result) (sym c.self.view_is)
-    (may_same t c.args.bucket c.args.pass.now c.args.chain (Lookup c.args.side c.args.key.now None) c.lookup_missed-part.result (is_plain_of _ _ c.self.view_is c.self.invariant) c.requires.inside turn tt c.lookup_missed-part.ensures)
+    (may_same t c.args.bucket c.args.pass.now c.args.chain (Lookup c.args.side c.args.key.now None) c.lookup_missed-part.result c.requires.inside turn (none_noted _ _ _ _ (is_plain_of _ _ c.self.view_is c.self.invariant) refl) c.lookup_missed-part.ensures)
 
 pub returns-in_default-clause-answered : goal.returns-in_default-clause-answered
 returns-in_default-clause-answered g c =
     let t = c.args.self.now in
     let turn = lookup_missed_turn t.shape c.args.pass.now.cpu c.args.chain.bodies c.requires.inside.sized c.args.side c.args.key.now c.in_default.ensures.holder in
-    answered_turn t c.args.bucket c.args.pass.now c.give.new.pass c.args.chain _ _ (Lookup c.args.side c.args.key.now None) c.lookup_missed-part.result (is_plain_of _ _ c.self.view_is c.self.invariant) c.requires.inside c.requires.spares turn tt c.lookup_missed-part.ensures
+    answered_turn t c.args.bucket c.args.pass.now c.give.new.pass c.args.chain _ _ (Lookup c.args.side c.args.key.now None) c.lookup_missed-part.result (is_plain_of _ _ c.self.view_is c.self.invariant) c.requires.inside c.requires.spares turn refl c.lookup_missed-part.ensures
     (subst (λ (z : TableView). GaveBack z (locks.Bucket c.args.bucket) c.args.pass.now c.give.new.pass (contents.Bucket c.args.chain) c.lookup_missed-part.result) c.self.view_is c.give.ensures)
     record { got = None; turns_are = on_bucket t.shape c.args.bucket c.args.key.now (Lookup c.args.side c.args.key.now None) c.requires.bucket; reply_is = refl } refl
 
@@ -45,7 +45,7 @@ give-requires-2-after_bounds g c κs within =
     let read : out ≡ value_read t.shape c.args.side c.args.pass.now.cpu body.values = c.read_value.ensures ∙ (λ i. value_read (shape_is i) c.args.side (c.cpu_of-cpu.ensures.value i) body.values) in
     let turn = lookup_got_turn t.shape c.args.pass.now.cpu c.args.chain.bodies c.requires.inside.sized c.args.side c.args.key.now c.in-Some.place body e out c.in-Some.ensures.holder (sym c.body_at-body.ensures) c.element-element.ensures read in
     subst (λ (z : TableView). MayGiveBack z (locks.Bucket c.args.bucket) c.args.pass.now (contents.Bucket c.args.chain) c.lookup_got-part.result) (sym c.self.view_is)
-    (may_same t c.args.bucket c.args.pass.now c.args.chain (Lookup c.args.side c.args.key.now (Some (e, out))) c.lookup_got-part.result (is_plain_of _ _ c.self.view_is c.self.invariant) c.requires.inside turn tt c.lookup_got-part.ensures)
+    (may_same t c.args.bucket c.args.pass.now c.args.chain (Lookup c.args.side c.args.key.now (Some (e, out))) c.lookup_got-part.result c.requires.inside turn (none_noted _ _ _ _ (is_plain_of _ _ c.self.view_is c.self.invariant) refl) c.lookup_got-part.ensures)
 
 pub returns-clause-answered : goal.returns-clause-answered
 returns-clause-answered g c =
@@ -56,6 +56,6 @@ returns-clause-answered g c =
     let body = c.body_at-body.result.now in
     let read : out ≡ value_read t.shape c.args.side c.args.pass.now.cpu body.values = c.read_value.ensures ∙ (λ i. value_read (shape_is i) c.args.side (c.cpu_of-cpu.ensures.value i) body.values) in
     let turn = lookup_got_turn t.shape c.args.pass.now.cpu c.args.chain.bodies c.requires.inside.sized c.args.side c.args.key.now c.in-Some.place body e out c.in-Some.ensures.holder (sym c.body_at-body.ensures) c.element-element.ensures read in
-    answered_turn t c.args.bucket c.args.pass.now c.give-2.new.pass c.args.chain _ _ (Lookup c.args.side c.args.key.now (Some (e, out))) c.lookup_got-part.result (is_plain_of _ _ c.self.view_is c.self.invariant) c.requires.inside c.requires.spares turn tt c.lookup_got-part.ensures
+    answered_turn t c.args.bucket c.args.pass.now c.give-2.new.pass c.args.chain _ _ (Lookup c.args.side c.args.key.now (Some (e, out))) c.lookup_got-part.result (is_plain_of _ _ c.self.view_is c.self.invariant) c.requires.inside c.requires.spares turn refl c.lookup_got-part.ensures
     (subst (λ (z : TableView). GaveBack z (locks.Bucket c.args.bucket) c.args.pass.now c.give-2.new.pass (contents.Bucket c.args.chain) c.lookup_got-part.result) c.self.view_is c.give-2.ensures)
     record { got = Some (e, out); turns_are = on_bucket t.shape c.args.bucket c.args.key.now (Lookup c.args.side c.args.key.now (Some (e, out))) c.requires.bucket; reply_is = refl } refl

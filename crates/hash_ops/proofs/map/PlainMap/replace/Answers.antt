@@ -18,7 +18,7 @@ use Rattle.place_table.specs.declared.content.Content.TheVariants as contents
 use Rattle.place_table.specs.Passes.{PassView, TableView, CanGive, CanMark, CanKeepSpare, spare_of}
 use Rattle.place_table.specs.Views.{is_among, is_in_hand_of, with_in_hand, without_in_hand}
 use Rattle.place_table.proofs.Hands.{in_hand_more}
-use Rattle.hash_ops.proofs.BucketTurns.{replaced_turn}
+use Rattle.place_table.proofs.BucketTurns.{replaced_turn}
 use Rattle.hash_ops.proofs.Under.{can_detach, body_inside, body_real, is_plain_of, sized_at, update_entry}
 use Rattle.hash_ops.proofs.Replaced.{under_new, under_replaced, old_there, can_replace, answered_replaced}
 use Rattle.hash_ops.proofs.map.PlainMap.replace.Goals as goal
@@ -76,15 +76,15 @@ keep_spare-requires g c =
     let old_is : c.element-old.result ≡ out.element = c.element-old.ensures ∙ ap (λ (z : Stored). z.element) c.body-2.ensures in
     let old_inside : IsIn c.element-old.result (numbers bodies) = subst (λ (e : ℕ). IsIn e (numbers bodies)) (sym old_is) (body_inside bodies a.place out c.replace_head-spare.ensures.taken) in
     let three = c.detach.ensures in
-    let cpu_is : c.detach.new.pass.cpu ≡ c.attach.new.pass.cpu = ap (λ (z : PassView). z.cpu) three in
-    let first_cpu : c.attach.new.pass.cpu ≡ q.cpu = ap (λ (z : PassView). z.cpu) two ∙ ap (λ (z : PassView). z.cpu) one in
+    let cpu_is : c.detach.new.pass.cpu ≡ c.attach.new.pass.cpu = ap (λ (z : PassView). z.cpu) three.1 in
+    let first_cpu : c.attach.new.pass.cpu ≡ q.cpu = ap (λ (z : PassView). z.cpu) two.1 ∙ ap (λ (z : PassView). z.cpu) one in
     let u = under_new t a.bucket q bodies b plain c.element-new.result c.element-old.result new_in_hand old_inside c.spare.new.pass c.attach.new.pass one two in
     subst (λ (z : TableView). CanKeepSpare z out c.detach.new.pass) (sym c.self.view_is) record {
-      of_table = (ap (λ (z : PassView). z.table) three ∙ (ap (λ (z : PassView). z.table) two ∙ (ap (λ (z : PassView). z.table) one ∙ b.of_table.0)), ap (λ (z : PassView). z.view.shape) three ∙ (ap (λ (z : PassView). z.view.shape) two ∙ (ap (λ (z : PassView). z.view.shape) one ∙ b.of_table.1)));
-      begun = (λ i. is_among (cpu_is i) ((ap (λ (z : PassView). z.view.cpus) three) i)) ∙ ((λ i. is_among (first_cpu i) ((ap (λ (z : PassView). z.view.cpus) two ∙ ap (λ (z : PassView). z.view.cpus) one) i)) ∙ b.begun);
+      of_table = (ap (λ (z : PassView). z.table) three.1 ∙ (ap (λ (z : PassView). z.table) two.1 ∙ (ap (λ (z : PassView). z.table) one ∙ b.of_table.0)), ap (λ (z : PassView). z.view.shape) three.1 ∙ (ap (λ (z : PassView). z.view.shape) two.1 ∙ (ap (λ (z : PassView). z.view.shape) one ∙ b.of_table.1)));
+      begun = (λ i. is_among (cpu_is i) ((ap (λ (z : PassView). z.view.cpus) three.1) i)) ∙ ((λ i. is_among (first_cpu i) ((ap (λ (z : PassView). z.view.cpus) two.1 ∙ ap (λ (z : PassView). z.view.cpus) one) i)) ∙ b.begun);
       hash = hash_of t.shape.kind plain c.requires.single;
-      out = (λ i. spare_of (cpu_is i) ((ap (λ (z : PassView). z.spares) three) i)) ∙ ((λ i. spare_of (first_cpu i) ((ap (λ (z : PassView). z.spares) two) i)) ∙ c.spare.ensures.out);
-      in_hand = (ap (λ (e : ℕ). is_in_hand_of e c.detach.new.pass.cpu c.detach.new.pass.view.hand) (sym old_is) ∙ (λ i. is_in_hand_of c.element-old.result (cpu_is i) ((ap (λ (z : PassView). z.view.hand) three) i))) ∙ in_hand_more c.element-old.result c.attach.new.pass.cpu c.attach.new.pass.view.hand;
+      out = (λ i. spare_of (cpu_is i) ((ap (λ (z : PassView). z.spares) three.1) i)) ∙ ((λ i. spare_of (first_cpu i) ((ap (λ (z : PassView). z.spares) two.1) i)) ∙ c.spare.ensures.out);
+      in_hand = (ap (λ (e : ℕ). is_in_hand_of e c.detach.new.pass.cpu c.detach.new.pass.view.hand) (sym old_is) ∙ (λ i. is_in_hand_of c.element-old.result (cpu_is i) ((ap (λ (z : PassView). z.view.hand) three.1) i))) ∙ in_hand_more c.element-old.result c.attach.new.pass.cpu c.attach.new.pass.view.hand;
       sized = sized_at t.shape bodies a.place out b.sized c.replace_head-spare.ensures.taken;
     }
 
@@ -147,12 +147,12 @@ returns g c =
     let turn = replaced_turn t.shape q.cpu bodies back.bodies b.sized a.side a.flags a.key.now a.value.now None c.element-new.result c.element-old.result filled out c.requires.replaces c.requires.single stored fits c.replace_head-spare.ensures.holder c.replace_head-spare.ensures.of_key old_is in
     let u = under_replaced t a.bucket q bodies b plain c.element-new.result c.element-old.result new_in_hand old_inside c.spare.new.pass c.attach.new.pass c.detach.new.pass c.keep_spare.new.pass one two three four in
     let part_is = update_entry t a.bucket a.side a.flags a.key.now a.value.now a.given (puts.Replaced c.element-new.result c.element-old.result) c.updated-part.result c.requires.gives c.updated-part.ensures in
-    let cpu_3 : c.detach.new.pass.cpu ≡ q.cpu = ap (λ (z : PassView). z.cpu) three ∙ (ap (λ (z : PassView). z.cpu) two ∙ ap (λ (z : PassView). z.cpu) one) in
+    let cpu_3 : c.detach.new.pass.cpu ≡ q.cpu = ap (λ (z : PassView). z.cpu) three.1 ∙ (ap (λ (z : PassView). z.cpu) two.1 ∙ ap (λ (z : PassView). z.cpu) one) in
     let cpu_1 : c.spare.new.pass.cpu ≡ q.cpu = ap (λ (z : PassView). z.cpu) one in
-    let cpu_2 : c.attach.new.pass.cpu ≡ q.cpu = ap (λ (z : PassView). z.cpu) two ∙ cpu_1 in
-    let spares_3 : c.detach.new.pass.spares ≡ c.spare.new.pass.spares = ap (λ (z : PassView). z.spares) three ∙ ap (λ (z : PassView). z.spares) two in
-    let hand_is = ap (λ (z : PassView). z.view.hand) four ∙ (ap (λ (z : PassView). z.view.hand) three
-    ∙ (λ i. with_in_hand c.element-old.result (cpu_2 i) ((ap (λ (z : PassView). z.view.hand) two ∙ (λ j. without_in_hand c.element-new.result (cpu_1 j) (ap (λ (z : PassView). z.view.hand) one j))) i))) in
+    let cpu_2 : c.attach.new.pass.cpu ≡ q.cpu = ap (λ (z : PassView). z.cpu) two.1 ∙ cpu_1 in
+    let spares_3 : c.detach.new.pass.spares ≡ c.spare.new.pass.spares = ap (λ (z : PassView). z.spares) three.1 ∙ ap (λ (z : PassView). z.spares) two.1 in
+    let hand_is = ap (λ (z : PassView). z.view.hand) four ∙ (ap (λ (z : PassView). z.view.hand) three.1
+    ∙ (λ i. with_in_hand c.element-old.result (cpu_2 i) ((ap (λ (z : PassView). z.view.hand) two.1 ∙ (λ j. without_in_hand c.element-new.result (cpu_1 j) (ap (λ (z : PassView). z.view.hand) one j))) i))) in
     answered_replaced t a.bucket q bodies b plain c.element-new.result c.element-old.result new_in_hand old_inside c.keep_spare.new.pass c.give.new.pass back a.side a.flags a.key.now a.value.now a.given c.updated-part.result was out c.requires.spares c.requires.gives u turn part_is c.give.ensures
     kept_was was_is (ap (λ (n : ℕ). spare_of n c.keep_spare.new.pass.spares) (sym cpu_3) ∙ c.keep_spare.ensures.here) (sym old_is)
     (λ other ne. c.keep_spare.ensures.others other (λ is. ne (is ∙ cpu_3)) ∙ (ap (spare_of other) spares_3 ∙ c.spare.ensures.others other ne)) hand_is

@@ -10,9 +10,9 @@ use Rattle.place_words.specs.declared.bucket_part.BucketPart.TheVariants.{Take}
 use Rattle.place_table.specs.Contents.{IsSized}
 use Rattle.place_table.specs.declared.content.Content.TheVariants as contents
 use Rattle.place_table.specs.Passes.{TableView, MayGiveBack, GaveBack}
-use Rattle.hash_ops.proofs.BucketTurns.{take_missed_turn, taken_turn}
+use Rattle.place_table.proofs.BucketTurns.{take_missed_turn, taken_turn}
 use Rattle.hash_ops.proofs.Gone.{can_detach, can_push_detached, gone_of, may_give_gone, answered_gone}
-use Rattle.hash_ops.proofs.Under.{may_same, answered_turn, sized_at, is_plain_of, on_bucket}
+use Rattle.hash_ops.proofs.Under.{none_noted, may_same, answered_turn, sized_at, is_plain_of, on_bucket}
 use Rattle.hash_ops.proofs.map.PlainMap.take_in.Goals as goal
 
 pub give-requires-after_bounds : goal.give-requires-after_bounds
@@ -20,13 +20,13 @@ give-requires-after_bounds g c κs within =
     let t = c.args.self.now in
     let turn = take_missed_turn t.shape c.args.pass.now.cpu c.args.chain.bodies c.requires.inside.sized c.args.key.now c.in_default.ensures.holder in
     subst (λ (z : TableView). MayGiveBack z (locks.Bucket c.args.bucket) c.args.pass.now (contents.Bucket c.args.chain) c.take_missed-part.result) (sym c.self.view_is)
-    (may_same t c.args.bucket c.args.pass.now c.args.chain (Take c.args.key.now None) c.take_missed-part.result (is_plain_of _ _ c.self.view_is c.self.invariant) c.requires.inside turn tt c.take_missed-part.ensures)
+    (may_same t c.args.bucket c.args.pass.now c.args.chain (Take c.args.key.now None) c.take_missed-part.result c.requires.inside turn (none_noted _ _ _ _ (is_plain_of _ _ c.self.view_is c.self.invariant) refl) c.take_missed-part.ensures)
 
 pub returns-in_default-clause-answered : goal.returns-in_default-clause-answered
 returns-in_default-clause-answered g c =
     let t = c.args.self.now in
     let turn = take_missed_turn t.shape c.args.pass.now.cpu c.args.chain.bodies c.requires.inside.sized c.args.key.now c.in_default.ensures.holder in
-    answered_turn t c.args.bucket c.args.pass.now c.give.new.pass c.args.chain _ _ (Take c.args.key.now None) c.take_missed-part.result (is_plain_of _ _ c.self.view_is c.self.invariant) c.requires.inside c.requires.spares turn tt c.take_missed-part.ensures
+    answered_turn t c.args.bucket c.args.pass.now c.give.new.pass c.args.chain _ _ (Take c.args.key.now None) c.take_missed-part.result (is_plain_of _ _ c.self.view_is c.self.invariant) c.requires.inside c.requires.spares turn refl c.take_missed-part.ensures
     (subst (λ (z : TableView). GaveBack z (locks.Bucket c.args.bucket) c.args.pass.now c.give.new.pass (contents.Bucket c.args.chain) c.take_missed-part.result) c.self.view_is c.give.ensures)
     record { gone = None; turns_are = on_bucket t.shape c.args.bucket c.args.key.now (Take c.args.key.now None) c.requires.bucket; reply_is = refl } refl
 
@@ -61,7 +61,7 @@ give-requires-2-after_bounds g c κs within =
     let gone = gone_of c.requires.inside plain c.push_out-element.new.pass body e c.body_out-body.ensures.present number c.push_out-element.ensures.pushed in
     let turn = taken_turn t.shape c.args.pass.now.cpu c.args.chain.bodies c.body_out-body.new.chain.bodies c.requires.inside.sized c.args.key.now c.in-Some.place body e out c.in-Some.ensures.holder (sym c.body_out-body.ensures.found) c.body_out-body.ensures.bodies number read in
     subst (λ (z : TableView). MayGiveBack z (locks.Bucket c.args.bucket) c.push_out-element.new.pass (contents.Bucket c.body_out-body.new.chain) c.take_got-part.result) (sym c.self.view_is)
-    (may_give_gone gone plain c.body_out-body.new.chain (Take c.args.key.now (Some (e, out))) turn tt c.take_got-part.result c.take_got-part.ensures)
+    (may_give_gone gone plain c.body_out-body.new.chain (Take c.args.key.now (Some (e, out))) turn refl c.take_got-part.result c.take_got-part.ensures)
 
 pub returns-clause-answered : goal.returns-clause-answered
 returns-clause-answered g c =
@@ -75,6 +75,6 @@ returns-clause-answered g c =
     let plain = is_plain_of _ _ c.self.view_is c.self.invariant in
     let gone = gone_of c.requires.inside plain c.push_out-element.new.pass body e c.body_out-body.ensures.present number c.push_out-element.ensures.pushed in
     let turn = taken_turn t.shape c.args.pass.now.cpu c.args.chain.bodies c.body_out-body.new.chain.bodies c.requires.inside.sized c.args.key.now c.in-Some.place body e out c.in-Some.ensures.holder (sym c.body_out-body.ensures.found) c.body_out-body.ensures.bodies number read in
-    answered_gone gone plain c.body_out-body.new.chain (Take c.args.key.now (Some (e, out))) turn tt c.take_got-part.result c.take_got-part.ensures c.give-2.new.pass _ _ c.args.key.now c.requires.spares c.requires.bucket
+    answered_gone gone plain c.body_out-body.new.chain (Take c.args.key.now (Some (e, out))) turn refl c.take_got-part.result c.take_got-part.ensures c.give-2.new.pass _ _ c.args.key.now c.requires.spares c.requires.bucket
     (subst (λ (z : TableView). GaveBack z (locks.Bucket c.args.bucket) c.push_out-element.new.pass c.give-2.new.pass (contents.Bucket c.body_out-body.new.chain) c.take_got-part.result) c.self.view_is c.give-2.ensures)
     record { gone = Some (e, out); turns_are = refl; reply_is = refl } refl

@@ -11,8 +11,8 @@ use Rattle.place_words.specs.Buckets.{written_over}
 use Rattle.place_table.specs.Contents.{IsSized}
 use Rattle.place_table.specs.declared.content.Content.TheVariants as contents
 use Rattle.place_table.specs.Passes.{TableView, CanGive}
-use Rattle.hash_ops.proofs.BucketTurns.{written_turn}
-use Rattle.hash_ops.proofs.Under.{can_kept, answered_kept, is_plain_of, update_entry, update_trace}
+use Rattle.place_table.proofs.BucketTurns.{written_turn}
+use Rattle.hash_ops.proofs.Under.{none_noted, can_kept, answered_kept, is_plain_of, update_entry, update_trace}
 use Rattle.hash_ops.proofs.map.PlainMap.write.Goals as goal
 
 pub write_value-requires-clause-bounds : goal.write_value-requires-clause-bounds
@@ -33,7 +33,7 @@ give-requires-after_bounds g c κs within =
     (at.body_is ∙ sym at.present_is) (sym c.body_at.ensures) c.element-element.ensures wrote sized in
     let part_is = update_entry t a.bucket a.side a.flags a.key.now a.value.now a.given (puts.Written e) c.updated-part.result c.requires.gives c.updated-part.ensures in
     subst (λ (z : TableView × Part). CanGive z.0 (locks.Bucket a.bucket) q (contents.Bucket new) z.1) (λ i. (sym c.self.view_is i, sym part_is i))
-    (can_kept t a.bucket q a.chain.bodies new (Update a.side a.flags a.key.now a.value.now None (puts.Written e)) (is_plain_of _ _ c.self.view_is c.self.invariant) c.requires.inside turn tt)
+    (can_kept t a.bucket q a.chain.bodies new (Update a.side a.flags a.key.now a.value.now None (puts.Written e)) c.requires.inside turn (none_noted _ _ _ _ (is_plain_of _ _ c.self.view_is c.self.invariant) refl))
 
 pub returns : goal.returns
 returns g c =
@@ -49,5 +49,5 @@ returns g c =
     let turn = written_turn t.shape q.cpu a.chain.bodies new.bodies c.requires.inside.sized a.side a.flags a.key.now a.value.now None e a.place c.body_at.result.now c.requires.replaces c.requires.percpu
     (at.body_is ∙ sym at.present_is) (sym c.body_at.ensures) c.element-element.ensures wrote sized in
     let part_is = update_entry t a.bucket a.side a.flags a.key.now a.value.now a.given (puts.Written e) c.updated-part.result c.requires.gives c.updated-part.ensures in
-    answered_kept t a.bucket q c.give.new.pass a.chain.bodies new _ _ (Update a.side a.flags a.key.now a.value.now None (puts.Written e)) c.updated-part.result (is_plain_of _ _ c.self.view_is c.self.invariant) c.requires.inside c.requires.spares turn tt
+    answered_kept t a.bucket q c.give.new.pass a.chain.bodies new _ _ (Update a.side a.flags a.key.now a.value.now None (puts.Written e)) c.updated-part.result (is_plain_of _ _ c.self.view_is c.self.invariant) c.requires.inside c.requires.spares turn refl
     part_is c.give.ensures (update_trace t a.bucket q.cpu _ a.side a.flags a.key.now a.value.now a.given (puts.Written e) [] c.requires.gives refl) refl

@@ -1,0 +1,103 @@
+//! The entries of a bucket's turns. Each takes memory for its copies of keys and values, and there is none where that isn't
+//! found.
+
+ghost use Rattle.std.specs.Prelude.{◌≡◌, IfOk, IfSome, Some, None};
+ghost use Rattle.place_words.specs.declared.bucket_part.BucketPart.TheVariants as turns;
+ghost use Rattle.place_words.specs.declared.history.Part.TheVariants as parts;
+
+use map_types::{Bytes, List, NoMemory, Side};
+use place_words::{BucketPart, Part, Put};
+use std::alloc::Global;
+
+/// A copy of bytes.
+fn bytes_of(alloc: Global, bytes: &[u8]) -> Result<Bytes, NoMemory>
+    ensures { IfOk result (λ copy. copy ≡ bytes.now) }
+{
+    Ok(List::of(Vec::from_slice(alloc, bytes)?))
+}
+
+/// The entry of a lookup that found no element.
+pub fn lookup_missed(alloc: Global, side: Side, key: &[u8]) -> Option<Part>
+    ensures { IfSome result (λ part. part ≡ parts.Bucket (turns.Lookup side key.now None)) }
+{
+    let key = bytes_of(alloc, key).ok()?;
+    Some(Part::Bucket(BucketPart::Lookup {
+        side,
+        key,
+        got: None,
+    }))
+}
+
+/// The entry of a lookup that found an element with this value.
+pub fn lookup_got(alloc: Global, side: Side, key: &[u8], element: u32, value: &[u8]) -> Option<Part>
+    ensures { IfSome result (λ part. part ≡ parts.Bucket (turns.Lookup side key.now (Some (element, value.now)))) }
+{
+    let key = bytes_of(alloc, key).ok()?;
+    let value = bytes_of(alloc, value).ok()?;
+    Some(Part::Bucket(BucketPart::Lookup {
+        side,
+        key,
+        got: Some((element, value)),
+    }))
+}
+
+/// The entry of a delete, and the element that is gone.
+pub fn deleted(alloc: Global, key: &[u8], gone: Option<u32>) -> Option<Part>
+    ensures { IfSome result (λ part. part ≡ parts.Bucket (turns.Delete key.now gone)) }
+{
+    let key = bytes_of(alloc, key).ok()?;
+    Some(Part::Bucket(BucketPart::Delete { key, gone }))
+}
+
+/// The entry of a take that found no element.
+pub fn take_missed(alloc: Global, key: &[u8]) -> Option<Part>
+    ensures { IfSome result (λ part. part ≡ parts.Bucket (turns.Take key.now None)) }
+{
+    let key = bytes_of(alloc, key).ok()?;
+    Some(Part::Bucket(BucketPart::Take { key, gone: None }))
+}
+
+/// The entry of a take of an element with this value.
+pub fn take_got(alloc: Global, key: &[u8], element: u32, value: &[u8]) -> Option<Part>
+    ensures { IfSome result (λ part. part ≡ parts.Bucket (turns.Take key.now (Some (element, value.now)))) }
+{
+    let key = bytes_of(alloc, key).ok()?;
+    let value = bytes_of(alloc, value).ok()?;
+    Some(Part::Bucket(BucketPart::Take {
+        key,
+        gone: Some((element, value)),
+    }))
+}
+
+/// What an update gives, copied before its turn so that the turn itself finds no memory.
+#[derive(Drop)]
+pub struct Given {
+    pub key: Bytes,
+    pub value: Bytes,
+}
+
+impl Given {
+    /// Copies of a key and a value.
+    pub fn of(alloc: Global, key: &[u8], value: &[u8]) -> Result<Given, NoMemory>
+        ensures { IfOk result (λ given. (given.key ≡ key.now) × (given.value ≡ value.now)) }
+    {
+        Ok(Given {
+            key: bytes_of(alloc, key)?,
+            value: bytes_of(alloc, value)?,
+        })
+    }
+
+    /// The entry of an update that was offered this element, if any, and did this.
+    pub fn updated(self, side: Side, flags: u32, offer: Option<u32>, put: Put) -> Part
+        ensures { result ≡ parts.Bucket (turns.Update side flags self.key self.value offer put) }
+    {
+        Part::Bucket(BucketPart::Update {
+            side,
+            flags,
+            key: self.key,
+            value: self.value,
+            offer,
+            put,
+        })
+    }
+}
