@@ -1,0 +1,77 @@
+-- Lookups, deletes and takes of a key: from the turn of its bucket to what the call leaves.
+use Rattle.std.proofs.Common.{◌≡◌, ℕ, List, [], ◌∷◌, map, refl, ap, ◌∙◌, Some, None}
+use Rattle.map_types.specs.declared.call.Verb.TheVariants as verbs
+use Rattle.map_types.specs.declared.kind.DomainId.TheVariants.{Bucket}
+use Rattle.map_types.specs.declared.kind.Side.{Side}
+use Rattle.map_types.specs.declared.refusal.Errno.TheVariants.{Enoent}
+use Rattle.map_types.specs.declared.reply.Reply.{Reply}
+use Rattle.map_types.specs.declared.reply.Reply.TheVariants.{Done, Value, Refused}
+use Rattle.map_types.specs.Stored.{Stored}
+use Rattle.percpu_values.specs.BodyList.{BodyList}
+use Rattle.place_words.specs.declared.bucket_part.BucketPart.{BucketPart}
+use Rattle.place_words.specs.declared.history.Part.{Part}
+use Rattle.place_words.specs.declared.history.Part.TheVariants as parts
+use Rattle.place_words.specs.Turns.{Turn, bucket_of_key, on_lock, on_bucket_of}
+use Rattle.place_table.specs.declared.view.InHand.{InHand}
+use Rattle.place_table.specs.Calls.{CanCall, Called, spare_element}
+use Rattle.place_table.specs.Known.{turn_of, turn_at}
+use Rattle.place_table.specs.Passes.{PassView, TableView}
+use Rattle.place_table.specs.Views.{is_in_hand_of, with_in_hand, without_in_hand}
+use Rattle.lru_ops.specs.Lists.{Changed, Freed}
+use Rattle.lru_ops.specs.Under.{Enters, GivenBack, LooksUp, IsOut, Deletes, TakesOut}
+use Rattle.lru_ops.proofs.Ends.{changed_on, changed_given, in_no_hand, hand_back, called_changed, trace_here}
+
+-- From where a call has entered the bucket of its key
+module _ {t : TableView} {bucket : ℕ} {p q : PassView} {chain : BodyList} (can : CanCall t p) (enters : Enters t bucket p q chain) where
+  changed_here : {s : PassView} {part : Part} {hand : List InHand} (given : GivenBack t bucket q s part hand) → Changed t p s (given.step ∷ []) (given.told ∷ []) given.lost
+  changed_here given = changed_given can.in_no_call.holds_nothing enters given
+
+  -- the turn is one of the bucket of the key
+  turn_here : {s : PassView} {part : BucketPart} {hand : List InHand} (key : List ℕ) → bucket ≡ bucket_of_key t.shape key → (given : GivenBack t bucket q s (parts.Bucket part) hand) → turn_of t.shape given.told ≡ on_bucket_of t.shape key part
+  turn_here {s} {part} key here given = given.turn ∙ ap (λ (b : ℕ). on_lock (Bucket b) (parts.Bucket part)) here
+
+  -- what is in hand is what was
+  hand_kept : {s : PassView} {part : Part} → GivenBack t bucket q s part q.view.hand → (e c : ℕ) → is_in_hand_of e c s.view.hand ≡ is_in_hand_of e c p.view.hand
+  hand_kept given e c = ap (is_in_hand_of e c) (given.hand_is ∙ ap (λ (z : PassView). z.view.hand) enters.took.after_is)
+
+  pub looked_up : {s : PassView} {side : Side} {key : List ℕ} {reply : Reply} → bucket ≡ bucket_of_key t.shape key → LooksUp t bucket q s side key reply → Called t p s (verbs.Lookup side key) reply
+  looked_up {s} {side} {key} {reply} here looks =
+      called_changed (verbs.Lookup side key) reply can enters.evicts (changed_here looks.gives) (hand_kept looks.gives)
+      (trace_here t.shape p.cpu (spare_element p) (verbs.Lookup side key) (map (turn_at t.shape) (looks.gives.told ∷ [])) reply enters.evicts
+      record { got = looks.got; turns_are = ap (λ (x : Turn). x ∷ []) (turn_here key here looks.gives); reply_is = looks.reply_is })
+
+  -- An element that was taken out is freed
+  module _ {r : PassView} {part : BucketPart} {body : Stored} (out : IsOut t (Some body)) (given : GivenBack t bucket q r (parts.Bucket part) (with_in_hand body.element q.cpu q.view.hand)) where
+    module _ {s : PassView} (freed : Freed t body r s) where
+      pub changed_gone : Changed t p s (given.step ∷ freed.steps) (given.told ∷ freed.steps) given.lost
+      changed_gone = changed_on (changed_here given) freed.changed
+
+      pub hand_gone : (e c : ℕ) → is_in_hand_of e c s.view.hand ≡ is_in_hand_of e c p.view.hand
+      hand_gone e c =
+          ap (is_in_hand_of e c) (freed.hand ∙ (λ i. without_in_hand body.element (given.goes.cpu i) (given.hand_is i)))
+          ∙ (ap (λ (z : PassView). is_in_hand_of e c (without_in_hand body.element z.cpu (with_in_hand body.element z.cpu z.view.hand))) enters.took.after_is
+          ∙ hand_back body.element p.cpu p.view.hand (in_no_hand can enters.evicts body.element p.cpu can.begun) e c)
+
+  pub delete_missed : {s : PassView} {key : List ℕ} → bucket ≡ bucket_of_key t.shape key → Deletes t bucket q s key None → Called t p s (verbs.Delete key) (Refused Enoent)
+  delete_missed {s} {key} here d =
+      called_changed (verbs.Delete key) (Refused Enoent) can enters.evicts (changed_here d.gives) (hand_kept d.gives)
+      (trace_here t.shape p.cpu (spare_element p) (verbs.Delete key) (map (turn_at t.shape) (d.gives.told ∷ [])) (Refused Enoent) enters.evicts
+      record { gone = None; at_bucket = turn_at t.shape d.gives.told; freeing = []; turns_are = refl; bucket_is = turn_here key here d.gives; frees = refl; reply_is = refl })
+
+  pub delete_done : {r s : PassView} {key : List ℕ} {body : Stored} → bucket ≡ bucket_of_key t.shape key → Deletes t bucket q r key (Some body) → Freed t body r s → Called t p s (verbs.Delete key) Done
+  delete_done {r} {s} {key} {body} here d freed =
+      called_changed (verbs.Delete key) Done can enters.evicts (changed_gone d.is_out d.gives freed) (hand_gone d.is_out d.gives freed)
+      (trace_here t.shape p.cpu (spare_element p) (verbs.Delete key) (map (turn_at t.shape) (d.gives.told ∷ freed.steps)) Done enters.evicts
+      record { gone = Some body.element; at_bucket = turn_at t.shape d.gives.told; freeing = map (turn_at t.shape) freed.steps; turns_are = refl; bucket_is = turn_here key here d.gives; frees = freed.trace; reply_is = refl })
+
+  pub take_missed : {s : PassView} {key value : List ℕ} → bucket ≡ bucket_of_key t.shape key → TakesOut t bucket q s key value None → Called t p s (verbs.Take key) (Refused Enoent)
+  take_missed {s} {key} here d =
+      called_changed (verbs.Take key) (Refused Enoent) can enters.evicts (changed_here d.gives) (hand_kept d.gives)
+      (trace_here t.shape p.cpu (spare_element p) (verbs.Take key) (map (turn_at t.shape) (d.gives.told ∷ [])) (Refused Enoent) enters.evicts
+      record { gone = None; at_bucket = turn_at t.shape d.gives.told; freeing = []; turns_are = refl; bucket_is = turn_here key here d.gives; frees = refl; reply_is = refl })
+
+  pub take_done : {r s : PassView} {key value : List ℕ} {body : Stored} → bucket ≡ bucket_of_key t.shape key → TakesOut t bucket q r key value (Some body) → Freed t body r s → Called t p s (verbs.Take key) (Value value)
+  take_done {r} {s} {key} {value} {body} here d freed =
+      called_changed (verbs.Take key) (Value value) can enters.evicts (changed_gone d.is_out d.gives freed) (hand_gone d.is_out d.gives freed)
+      (trace_here t.shape p.cpu (spare_element p) (verbs.Take key) (map (turn_at t.shape) (d.gives.told ∷ freed.steps)) (Value value) enters.evicts
+      record { gone = Some (body.element, value); at_bucket = turn_at t.shape d.gives.told; freeing = map (turn_at t.shape) freed.steps; turns_are = refl; bucket_is = turn_here key here d.gives; frees = freed.trace; reply_is = refl })

@@ -1,0 +1,16 @@
+pub mod Asked
+pub mod BodiesThere
+pub mod Ends
+pub mod EvictTurns
+pub mod GivingOut
+pub mod Holders
+pub mod Keys
+pub mod NoneFound
+pub mod Offering
+pub mod OwnTurns
+pub mod PassWork
+pub mod Pushes
+pub mod Puts
+pub mod SetWork
+pub mod Turned
+pub mod Under

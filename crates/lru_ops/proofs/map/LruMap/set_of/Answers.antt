@@ -1,0 +1,24 @@
+use Rattle.std.proofs.Common.{◌<◌, ◌/◌, arith, sym, subst}
+use Rattle.map_types.specs.declared.attr.Shape.{Shape}
+use Rattle.map_types.proofs.CreationLemmas.{bounds_of_shape}
+use Rattle.place_core.proofs.StartLemmas.{set_some}
+use Rattle.place_table.specs.Passes.{TableView}
+use Rattle.place_words.specs.Takings.{set_of}
+use Rattle.lru_ops.proofs.Pushes.{set_within}
+use Rattle.lru_ops.proofs.map.LruMap.set_of.Goals as goal
+
+pub nonzero_div-result : goal.nonzero_div-result
+nonzero_div-result c =
+    let some = (bounds_of_shape _ c.self.invariant.0).some_cpu in
+    subst (λ (s : Shape). 0 < s.cpus) (sym c.shape-shape.ensures) (omega arith)
+
+pub nonzero_div-result-2 : goal.nonzero_div-result-2
+nonzero_div-result-2 c =
+    subst (λ (s : Shape). 0 < s.elements / s.cpus) (sym c.shape-shape.ensures) (set_some _ (bounds_of_shape _ c.self.invariant.0) c.self.invariant.1 c.self.invariant.2)
+
+pub returns-clause-in_range : goal.returns-clause-in_range
+returns-clause-in_range c =
+    let t = c.self.inside.table in
+    let real : c.args.element < t.shape.elements = subst (λ (z : TableView). c.args.element < z.shape.elements) (sym c.self.view_is) c.requires in
+    subst (λ (z : TableView). set_of c.shape-shape.result.now c.args.element < z.shape.cpus) c.self.view_is
+    (subst (λ (s : Shape). set_of s c.args.element < t.shape.cpus) (sym c.shape-shape.ensures) (set_within t.shape (bounds_of_shape _ c.self.invariant.0) c.self.invariant.1 c.self.invariant.2 c.args.element real))

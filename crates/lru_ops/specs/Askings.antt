@@ -1,0 +1,149 @@
+-- What an object that answers bits and probes over a pass knows of it, from where the object was made.
+use Rattle.std.specs.Prelude.{◌≡◌, ℕ, ◌<◌, true, false, List, [], ◌∷◌, ◌++◌, map, reverse, filter_map, Option, None, Some, if◌then◌else◌}
+use Rattle.map_types.specs.declared.attr.Shape.{Shape}
+use Rattle.map_types.specs.declared.kind.DomainId.TheVariants.{CpuLru}
+use Rattle.map_types.specs.declared.kind.MapKind.TheVariants.{Hash}
+use Rattle.map_types.specs.declared.row.Row.{Row}
+use Rattle.key_hash.specs.Bucket.{bucket_number}
+use Rattle.place_words.specs.declared.bucket_part.BucketPart.{BucketPart}
+use Rattle.place_words.specs.declared.bucket_part.BucketPart.TheVariants.{Lookup, Update, Delete, Take, Next, First, Walk, Evict}
+use Rattle.place_words.specs.declared.bucket_part.Seen.{Seen}
+use Rattle.place_words.specs.declared.bucket_part.Seen.TheVariants.{Removed, Held}
+use Rattle.place_words.specs.declared.history.Part.{Part}
+use Rattle.place_words.specs.declared.history.Part.TheVariants as parts
+use Rattle.place_words.specs.declared.owner.Owner.TheVariants.{Hand}
+use Rattle.place_words.specs.Histories.{Content, content}
+use Rattle.place_core.specs.declared.step.Lists.{Lists}
+use Rattle.place_table.specs.declared.view.BitAsked.{BitAsked}
+use Rattle.place_table.specs.declared.view.Hold.{Hold}
+use Rattle.place_table.specs.declared.view.Notes.{Notes}
+use Rattle.place_table.specs.declared.view.OwnerSeen.{OwnerSeen}
+use Rattle.place_table.specs.declared.view.Turned.{Turned}
+use Rattle.place_table.specs.Known.{BitTouch, Learns}
+use Rattle.place_table.specs.Passes.{PassView, TableView, Goes}
+use Rattle.place_table.specs.Plays.{MayClear}
+use Rattle.place_table.specs.StoredHashes.{stored_in}
+use Rattle.place_table.specs.Views.{first_view}
+use Rattle.lru_lists.specs.declared.bits.BitCall.{BitCall}
+use Rattle.lru_lists.specs.declared.bits.BitCall.TheVariants.{Cleared, Read}
+use Rattle.lru_lists.specs.declared.bits.ProbeCall.{ProbeCall}
+use Rattle.lru_ops.specs.Evictions.{HoldsOwnSet, MayProbe, IsEvict, SawHolders, hold_with, lists_with}
+
+-- The calls for bits that are noted of the lock taken last, in their order
+
+abbrev pub call_of : BitAsked → BitCall
+call_of x =
+    if x.cleared then Cleared (record { element = x.element; bit = x.bit }) else Read (record { element = x.element; bit = x.bit })
+
+abbrev pub calls_noted : List Notes → List BitCall
+calls_noted [] = []
+calls_noted (n ∷ below) = map call_of (reverse n.asked)
+
+-- The probes among the turns of a strand. A part doesn't tell the hash, which is that of the element.
+
+abbrev pub probe_in_bucket : (ℕ → ℕ) → BucketPart → Option ProbeCall
+probe_in_bucket hash (Lookup side key got) = None
+probe_in_bucket hash (Update side flags key value offer put) = None
+probe_in_bucket hash (Delete key removed) = None
+probe_in_bucket hash (Take key taken) = None
+probe_in_bucket hash (Next key found) = None
+probe_in_bucket hash (First key) = None
+probe_in_bucket hash (Walk remove room walked) = None
+probe_in_bucket hash (Evict e seen) = Some (record { element = e; hash = hash e; probed = seen })
+
+abbrev pub probe_of : (ℕ → ℕ) → Part → Option ProbeCall
+probe_of hash (parts.Bucket part) = probe_in_bucket hash part
+probe_of hash (parts.Free part) = None
+probe_of hash (parts.Local part) = None
+probe_of hash (parts.Global part) = None
+probe_of hash (parts.Own part) = None
+
+abbrev pub probes_made : (ℕ → ℕ) → List Turned → List ProbeCall
+probes_made hash steps = filter_map (λ (step : Turned). probe_of hash step.entry.part) steps
+
+-- What calls and probes leave
+
+-- in the notes of the lock
+abbrev pub asked_by : BitCall → BitAsked
+asked_by (Cleared visit) = record { element = visit.element; bit = visit.bit; cleared = true }
+asked_by (Read visit) = record { element = visit.element; bit = visit.bit; cleared = false }
+
+abbrev pub asked_after : List BitCall → List BitAsked → List BitAsked
+asked_after [] asked = asked
+asked_after (call ∷ calls) asked = asked_after calls (asked_by call ∷ asked)
+
+abbrev pub owners_with : ℕ → Seen → List OwnerSeen → List OwnerSeen
+owners_with e Removed owners = owners
+owners_with e (Held holder) owners = record { element = e; owner = Hand holder } ∷ owners
+
+abbrev pub owners_after : List ProbeCall → List OwnerSeen → List OwnerSeen
+owners_after [] owners = owners
+owners_after (probe ∷ probes) owners = owners_after probes (owners_with probe.element probe.probed owners)
+
+abbrev pub notes_after : List BitCall → List ProbeCall → Notes → Notes
+notes_after calls probes n = record n { asked = asked_after calls n.asked; owners = owners_after probes n.owners }
+
+-- under the lock
+abbrev pub lists_after : List ProbeCall → Lists → Lists
+lists_after [] now = now
+lists_after (probe ∷ probes) now = lists_after probes (lists_with probe.element probe.probed now)
+
+-- on bits
+abbrev pub touch_by : BitCall → BitTouch
+touch_by (Cleared visit) = record { element = visit.element; seen = Some visit.bit; left = false }
+touch_by (Read visit) = record { element = visit.element; seen = Some visit.bit; left = visit.bit }
+
+-- Each turn is the probe at its place, of the bucket of the hash that the element has in this content.
+abbrev pub AreEvicts : Shape → ℕ → ℕ → Content → List ProbeCall → List Turned → Type 0
+AreEvicts shape cpu call found [] [] = Unit {0}
+AreEvicts shape cpu call found [] (turn ∷ turns) = ⊥
+AreEvicts shape cpu call found (probe ∷ probes) [] = ⊥
+AreEvicts shape cpu call found (probe ∷ probes) (turn ∷ turns) =
+    IsEvict shape cpu call (bucket_number probe.hash shape.buckets) probe.element probe.probed turn
+    × (stored_in found probe.element ≡ Some probe.hash) × AreEvicts shape cpu call found probes turns
+
+-- What these calls and probes leave of a pass that holds its own set's lock.
+pub record Does (t : TableView) (calls : List BitCall) (probes : List ProbeCall) (before after : PassView) : Type 0 where
+  pub turns : List Turned
+  pub goes : Goes before after turns []
+  pub hold : Hold
+  pub was : before.view.held ≡ hold ∷ []
+  pub held : after.view.held ≡ hold_with hold (lists_after probes hold.now) ∷ []
+  pub notes : Notes
+  pub below : List Notes
+  pub was_noted : before.view.notes ≡ notes ∷ below
+  pub noted : after.view.notes ≡ notes_after calls probes notes ∷ below
+  pub carried : after.view.carried ≡ before.view.carried
+  pub hand : after.view.hand ≡ before.view.hand
+  pub spares : after.spares ≡ before.spares
+  pub are_evicts : AreEvicts t.shape before.cpu before.call (content t.shape (CpuLru before.cpu) hold.log) probes turns
+  pub saw : SawHolders t.shape before after turns
+  pub learns : Learns t.shape before.view after.view turns (map touch_by calls)
+
+-- the pass holds its own set's lock, and since the start these calls and probes were made
+pub record Since (t : TableView) (hash : ℕ → ℕ) (start now : PassView) : Type 0 where
+  pub holds : HoldsOwnSet t now
+  pub calls : List BitCall
+  pub calls_are : calls_noted now.view.notes ≡ calls_noted start.view.notes ++ calls
+  pub probes : List ProbeCall
+  pub probes_are : probes_made hash now.view.steps ≡ probes_made hash start.view.steps ++ probes
+  pub does : Does t calls probes start now
+
+-- an element of which the pass may be asked: it stands on the lists of a lock that is held, or is in the hand
+abbrev pub MayAsk : TableView → PassView → ℕ → Type 0
+MayAsk t p e = (e < t.shape.elements) × MayClear t.shape p.view p.cpu e
+
+-- a row that may be probed, whose hash is that which is named for its element
+abbrev pub MayChase : TableView → (ℕ → ℕ) → PassView → Row → Type 0
+MayChase t hash p row = (row.hash ≡ hash row.element) × MayProbe t p row
+
+-- no pass
+abbrev pub nowhere : PassView
+nowhere = record {
+  table = record { words = 0; slots = 0; views_name = 0; atom = 0; block = 0; offset = 0; slot_names = [] };
+  seat = 0;
+  cpu = 0;
+  call = 0;
+  view = first_view (record { kind = Hash; cpus = 0; capacity = 0; elements = 0; buckets = 0; key_size = 0; value_size = 0; seed = 0; common = false });
+  spares = [];
+}

@@ -1,0 +1,93 @@
+-- How an element is taken for a new key, and how one is freed: what each leaves of a pass.
+use Rattle.std.specs.Prelude.{◌≡◌, ◌≢◌, ℕ, ◌<◌, true, false, All, List, [], ◌∷◌, ◌++◌, map, option_map, reverse, Option, None, Some, MatchOption}
+use Rattle.key_hash.specs.Bucket.{bucket_number}
+use Rattle.map_types.specs.declared.attr.Shape.{Shape}
+use Rattle.map_types.specs.declared.kind.DomainId.TheVariants.{CpuLru}
+use Rattle.map_types.specs.Listed.{elements_of}
+use Rattle.map_types.specs.Stored.{Stored}
+use Rattle.place_words.specs.declared.bucket_part.Seen.TheVariants.{Held}
+use Rattle.place_words.specs.declared.visits.Look.{Look}
+use Rattle.place_words.specs.declared.visits.Try.{Try}
+use Rattle.place_words.specs.declared.visits.Visit.{Visit}
+use Rattle.place_words.specs.Histories.{in_own}
+use Rattle.place_words.specs.Sets.{ListSet, own_scans, rotated_set}
+use Rattle.place_words.specs.Shrinking.{after_looks, forced_rows}
+use Rattle.place_words.specs.Takings.{Acquires, Frees, walk_probes}
+use Rattle.place_words.specs.Turns.{found, on_lock}
+use Rattle.place_table.specs.declared.view.Turned.{Turned}
+use Rattle.place_table.specs.Calls.{AreTold, bits_of_turns}
+use Rattle.place_table.specs.Contents.{IsSized}
+use Rattle.place_table.specs.Known.{Learns, turn_of, turn_at, IsBy}
+use Rattle.place_table.specs.Passes.{PassView, TableView, IsPassOf, HasBegun, Made}
+use Rattle.place_table.specs.Views.{is_in_hand_of, bucket_known, with_in_hand, without_in_hand}
+use Rattle.lru_ops.specs.Evictions.{SawHolders}
+use Rattle.lru_ops.specs.OwnTurns.{note_of, own_part}
+
+-- These turns were made, which are told so. The locks that the pass holds, what is noted of them, its spares and what it carries stay.
+-- What may have changed is what it has in hand, what it knows of that, of turns and of bits, and its steps on words.
+pub record Changed (t : TableView) (before after : PassView) (steps told : List Turned) (lost : List ℕ) : Type 0 where
+  pub told_are : AreTold t.shape lost steps told
+  pub made : Made before after steps lost
+  pub by_call : All (IsBy before.cpu before.call) steps
+  pub spares : after.spares ≡ before.spares
+  pub carried : after.view.carried ≡ before.view.carried
+  pub learns : Learns t.shape before.view after.view steps (bits_of_turns t.shape told)
+
+-- an element that was taken for a key of this hash: it is one of the map's, and the bucket of its last stored hash is known to be that
+-- of this hash
+pub record IsTakenFor (t : TableView) (hash : ℕ) (after : PassView) (body : Stored) : Type 0 where
+  pub real : body.element < t.shape.elements
+  pub sized : IsSized t.shape body
+  pub hashed : bucket_known body.element after.cpu after.view.hashes ≡ Some (bucket_number hash t.shape.buckets)
+
+-- a probe found its element in the hand of another CPU
+abbrev pub IsHeldByOther : ℕ → Try → Type 0
+IsHeldByOther cpu probe = (holder : ℕ) × (probe.probed ≡ Held holder) × (holder ≢ cpu)
+
+-- Why no element was found: the last of these turns is one of the CPU's own set, whose free list was empty. After its looks the forced
+-- walk tried all that was inactive, or all that was active where nothing was inactive. Each probe, of the looks and of the forced
+-- walk, found its element in the hand of another CPU.
+pub record FoundNone (shape : Shape) (cpu hash : ℕ) (turns : List Turned) : Type 0 where
+  pub probing : List Turned
+  pub last : Turned
+  pub turns_are : turns ≡ probing ++ last ∷ []
+  pub set : ListSet
+  pub found_there : found shape (turn_at shape last) ≡ in_own set
+  pub none_free : set.free ≡ []
+  pub active : List Visit
+  pub inactive : List Visit
+  pub looks : List Look
+  pub forced : List Try
+  pub last_is : turn_of shape last ≡ on_lock (CpuLru cpu) (own_part hash active inactive (note_of true looks forced) None)
+  pub tried_all : map (λ try. try.element) forced ≡ elements_of (reverse (forced_rows (after_looks (rotated_set own_scans active inactive set).lists looks)))
+  pub held : All (IsHeldByOther cpu) (walk_probes looks forced)
+
+-- An element was taken for a key of this hash, by turns that take it. It is in the CPU's hand. Or these turns got none, and show why.
+-- In either case each holder that a probe tells was read meanwhile in the owner word of the element.
+pub record Acquired (t : TableView) (hash : ℕ) (before after : PassView) (found : Option Stored) : Type 0 where
+  pub steps : List Turned
+  pub told : List Turned
+  pub lost : List ℕ
+  pub changed : Changed t before after steps told lost
+  pub trace : Acquires t.shape before.cpu hash (option_map (λ (body : Stored). body.element) found) (map (turn_at t.shape) told)
+  pub hand : MatchOption found (after.view.hand ≡ before.view.hand) (λ body. after.view.hand ≡ with_in_hand body.element before.cpu before.view.hand)
+  pub taken : MatchOption found (Unit {0}) (IsTakenFor t hash after)
+  pub none : MatchOption found (FoundNone t.shape before.cpu hash told) (λ body. Unit {0})
+  pub saw : SawHolders t.shape before after (steps ++ told)
+
+-- An element that is freed is in the CPU's hand, and its home is a lock: the CPU doesn't carry it. The pass holds no lock.
+pub record CanFree (t : TableView) (body : Stored) (p : PassView) : Type 0 where
+  pub of_table : IsPassOf t p
+  pub begun : HasBegun p
+  pub no_lock : p.view.held ≡ []
+  pub real : body.element < t.shape.elements
+  pub sized : IsSized t.shape body
+  pub in_hand : is_in_hand_of body.element p.cpu p.view.hand ≡ true
+  pub not_carried : is_in_hand_of body.element p.cpu p.view.carried ≡ false
+
+-- it was freed, by turns that free it, and is in the CPU's hand no more
+pub record Freed (t : TableView) (body : Stored) (before after : PassView) : Type 0 where
+  pub steps : List Turned
+  pub changed : Changed t before after steps steps []
+  pub trace : Frees t.shape body.element (map (turn_at t.shape) steps)
+  pub hand : after.view.hand ≡ without_in_hand body.element before.cpu before.view.hand

@@ -1,0 +1,231 @@
+//! The calls on a map.
+
+ghost use Rattle.std.specs.Prelude.{◌≡◌, ℕ, ◌≤◌, ◌==◌, ◌&&◌, IfErr, IsTrue, length};
+ghost use Rattle.map_types.specs.declared.call.Verb.TheVariants as verbs;
+ghost use Rattle.map_types.specs.declared.kind.Side.TheVariants.{Sys};
+ghost use Rattle.map_types.specs.Kind.{is_lru, is_percpu};
+ghost use Rattle.map_types.specs.ValueLen.{value_len_of};
+ghost use Rattle.place_words.specs.Turns.{bucket_of_key};
+ghost use Rattle.place_table.specs.Calls.{CanCall, Called, reply_of_value, reply_of_done};
+ghost use Rattle.lru_ops.specs.Calls.{FoundNoMemory, MayRefuse, Updates};
+ghost use Rattle.lru_ops.specs.Offers.{Gives, CanFreeLeft, HasFreedLeft, CanOffer, OfferAnswers};
+
+use crate::map::{LruMap, LruRefusal};
+use crate::updates::Offered;
+use bucket_entries::Given;
+use map_types::{Absent, Gate, Side};
+use percpu_values::BoxedBody;
+use place_table::Pass;
+use std::alloc::Global;
+use std::sync::Wait;
+
+/// The greatest flag of an update, BPF_EXIST.
+const BPF_EXIST: u32 = 2;
+
+impl LruMap {
+    /// Copies to `out` what a side reads of a key: on LRU_PERCPU_HASH the value of the pass's CPU for a program, and those of
+    /// all CPUs for the system call; on LRU_HASH the value. `out` has as many bytes. A program's lookup that finds the key sets
+    /// its element's bit, and the system call's doesn't. It is `Absent` (ENOENT), and `out` as it was, exactly where the
+    /// bucket's turn found no such key. The rules are those of `htab_lru_map_lookup_elem`, `htab_lru_map_lookup_elem_sys`,
+    /// `htab_lru_percpu_map_lookup_elem` and `bpf_percpu_hash_copy`.
+    pub fn lookup<R: Wait, G: Gate>(
+        &self,
+        rt: &R,
+        pass: &mut Pass,
+        side: Side,
+        key: &[u8],
+        out: &mut [u8],
+        gate: &G,
+    ) -> Result<(), Absent>
+        requires can { CanCall self.now pass.old }
+        requires key { length key.now ≡ self.now.shape.key_size }
+        requires out { length out.old ≡ value_len_of self.now.shape side }
+        ensures called { Called self.now pass.old pass.new (verbs.Lookup side key.now) (reply_of_value result out.new) }
+        ensures refused { IfErr result (λ _. out.new ≡ out.old) }
+    {
+        let bucket = self.bucket_of_key(key);
+        let chain = self.enter(rt, pass, bucket, gate);
+        self.lookup_in(pass, bucket, chain, side, key, out, gate)
+    }
+
+    /// Updates a key with a value of a side's length, by flags: BPF_ANY (0), BPF_NOEXIST (1) or BPF_EXIST (2). It is refused
+    /// with `Einval` exactly where the flags are others, before anything is looked at. Else an element is taken first, which
+    /// may evict others, but on LRU_PERCPU_HASH under BPF_EXIST; it is refused with `Enomem` exactly where none was found: then
+    /// the CPU's own free list was empty, and each element that was probed was in the hand of another CPU. With one taken it is
+    /// refused with `Eexist` or `Enoent` where the bucket's turn found the key there under BPF_NOEXIST, or not there under
+    /// BPF_EXIST: so an update under BPF_EXIST may evict its own key. What isn't needed, or was replaced, is freed. `NoMemory`
+    /// may come wherever a key or a value can't be copied, or the bucket has no room: then the bucket is as its turn found it,
+    /// and the record of its turns is lost. The rules are those of `htab_lru_map_update_elem` and
+    /// `__htab_lru_percpu_map_update_elem`.
+    pub fn update<R: Wait, G: Gate>(
+        &self,
+        rt: &R,
+        alloc: Global,
+        pass: &mut Pass,
+        side: Side,
+        flags: u32,
+        key: &[u8],
+        value: &[u8],
+        gate: &G,
+    ) -> Result<(), LruRefusal>
+        requires can { CanCall self.now pass.old }
+        requires key { length key.now ≡ self.now.shape.key_size }
+        requires value { length value.now ≡ value_len_of self.now.shape side }
+        ensures updates { Updates self.now pass.old pass.new side flags key.now value.now result }
+        ensures refuses { IfErr result (MayRefuse self.now.shape.kind flags) }
+    {
+        if flags > BPF_EXIST {
+            return Err(LruRefusal::Einval);
+        }
+        let Ok(given) = Given::of(alloc, key, value) else {
+            self.lose(rt, pass, key, gate);
+            return Err(LruRefusal::NoMemory);
+        };
+        if self.only_writes(flags) {
+            return self.write_key(rt, pass, side, key, value, given, gate);
+        }
+        let hash = self.hash_of_key(key);
+        match self.acquire(rt, pass, hash, gate) {
+            Some(body) => self.offer(rt, alloc, pass, side, flags, key, value, given, body, gate),
+            None => Err(LruRefusal::Enomem),
+        }
+    }
+
+    /// Takes a key out of the map. It is `Absent` (ENOENT) exactly where the bucket's turn found no such key. The element is
+    /// freed after that turn. The rule is that of `htab_lru_map_delete_elem`.
+    pub fn delete<R: Wait, G: Gate>(
+        &self,
+        rt: &R,
+        pass: &mut Pass,
+        key: &[u8],
+        gate: &G,
+    ) -> Result<(), Absent>
+        requires can { CanCall self.now pass.old }
+        requires key { length key.now ≡ self.now.shape.key_size }
+        ensures { Called self.now pass.old pass.new (verbs.Delete key.now) (reply_of_done result) }
+    {
+        let bucket = self.bucket_of_key(key);
+        let chain = self.enter(rt, pass, bucket, gate);
+        match self.delete_in(pass, bucket, chain, key, gate) {
+            Some(body) => {
+                self.push_free(rt, pass, body, gate);
+                Ok(())
+            }
+            None => Err(Absent),
+        }
+    }
+
+    /// The same, and copies to `out` what the system call reads of the key. Where it is `Absent`, `out` is as it was. The rules
+    /// are those of `htab_lru_map_lookup_and_delete_elem` and `htab_lru_percpu_map_lookup_and_delete_elem`.
+    pub fn take_key<R: Wait, G: Gate>(
+        &self,
+        rt: &R,
+        pass: &mut Pass,
+        key: &[u8],
+        out: &mut [u8],
+        gate: &G,
+    ) -> Result<(), Absent>
+        requires can { CanCall self.now pass.old }
+        requires key { length key.now ≡ self.now.shape.key_size }
+        requires out { length out.old ≡ value_len_of self.now.shape Sys }
+        ensures called { Called self.now pass.old pass.new (verbs.Take key.now) (reply_of_value result out.new) }
+        ensures refused { IfErr result (λ _. out.new ≡ out.old) }
+    {
+        let bucket = self.bucket_of_key(key);
+        let chain = self.enter(rt, pass, bucket, gate);
+        match self.take_in(pass, bucket, chain, key, out, gate) {
+            Some(body) => {
+                self.push_free(rt, pass, body, gate);
+                Ok(())
+            }
+            None => Err(Absent),
+        }
+    }
+
+    /// Takes a key's bucket and gives it back as it was, with no entry.
+    fn lose<R: Wait, G: Gate>(&self, rt: &R, pass: &mut Pass, key: &[u8], gate: &G)
+        requires can { CanCall self.now pass.old }
+        requires key { length key.now ≡ self.now.shape.key_size }
+        ensures { (flags : ℕ) → FoundNoMemory self.now flags key.now pass.old pass.new }
+    {
+        let bucket = self.bucket_of_key(key);
+        let chain = self.enter(rt, pass, bucket, gate);
+        self.forget(pass, bucket, chain, gate);
+    }
+
+    /// Writes a present key in place, with no element taken for it.
+    fn write_key<R: Wait, G: Gate>(
+        &self,
+        rt: &R,
+        pass: &mut Pass,
+        side: Side,
+        key: &[u8],
+        value: &[u8],
+        given: Given,
+        gate: &G,
+    ) -> Result<(), LruRefusal>
+        requires can { CanCall self.now pass.old }
+        requires gives { Gives self.now (bucket_of_key self.now.shape key.now) side key.now value.now given }
+        requires percpu { IsTrue (is_percpu self.now.shape.kind) }
+        ensures updates { Updates self.now pass.old pass.new side 2 key.now value.now result }
+        ensures refuses { IfErr result (MayRefuse self.now.shape.kind 2) }
+    {
+        let bucket = self.bucket_of_key(key);
+        let chain = self.enter(rt, pass, bucket, gate);
+        self.write_present(pass, bucket, chain, side, key, value, given, gate)
+    }
+
+    /// Updates a key in its bucket with an element that was taken for it, and frees what is left over.
+    fn offer<R: Wait, G: Gate>(
+        &self,
+        rt: &R,
+        alloc: Global,
+        pass: &mut Pass,
+        side: Side,
+        flags: u32,
+        key: &[u8],
+        value: &[u8],
+        given: Given,
+        body: BoxedBody,
+        gate: &G,
+    ) -> Result<(), LruRefusal>
+        requires can { CanOffer self.now key.now body pass.old }
+        requires gives { Gives self.now (bucket_of_key self.now.shape key.now) side key.now value.now given }
+        requires known { flags ≤ 2 }
+        ensures answers { OfferAnswers self.now pass.old pass.new side flags key.now value.now body.element result }
+        ensures refuses { IfErr result (MayRefuse self.now.shape.kind flags) }
+    {
+        let bucket = self.bucket_of_key(key);
+        let chain = self.enter(rt, pass, bucket, gate);
+        let Offered { answer, left } = self.update_in(
+            alloc, pass, bucket, chain, side, flags, key, value, given, body, gate,
+        );
+        self.free_left(rt, pass, left, gate);
+        answer
+    }
+
+    /// Frees what is left over, where there is anything.
+    fn free_left<R: Wait, G: Gate>(
+        &self,
+        rt: &R,
+        pass: &mut Pass,
+        left: Option<BoxedBody>,
+        gate: &G,
+    )
+        requires { CanFreeLeft self.now left pass.old }
+        ensures { HasFreedLeft self.now left pass.old pass.new }
+    {
+        match left {
+            Some(body) => self.push_free(rt, pass, body, gate),
+            None => (),
+        }
+    }
+
+    /// Whether an update takes no element and only writes in place.
+    fn only_writes(&self, flags: u32) -> bool
+        ensures value { result ≡ (is_percpu self.now.shape.kind && (flags == 2)) }
+        ensures evicts { IsTrue (is_lru self.now.shape.kind) }
+    {
+        self.table.shape().kind.is_percpu() && flags == BPF_EXIST
+    }
+}

@@ -1,0 +1,14 @@
+//! LRU_HASH and LRU_PERCPU_HASH maps over the shared table: lookups, updates, deletes and takes of keys, by passes of
+//! different CPUs, and how elements are taken for new keys and freed.
+#![tactic(auto)]
+
+mod acquire;
+mod buckets;
+mod calls;
+mod map;
+mod probe;
+mod probing;
+mod push;
+mod updates;
+
+pub use map::{LruMap, LruRefusal};

@@ -1,0 +1,128 @@
+//! A map that evicts.
+
+ghost use Rattle.std.specs.Prelude.{◌≡◌, ℕ, ◌<◌, true, false, IfOk, IsTrue, length};
+ghost use Rattle.map_types.specs.Creation.{IsShape};
+ghost use Rattle.map_types.specs.Kind.{is_lru};
+ghost use Rattle.map_types.specs.Shape.{HasBounds};
+ghost use Rattle.place_words.specs.Turns.{bucket_of_key};
+ghost use Rattle.key_hash.specs.Jhash.{hash};
+ghost use Rattle.place_table.specs.Views.{is_among};
+ghost use Rattle.place_table.specs.Passes.{IsFirstPass, IsPassOf, IsInNoCall};
+ghost use Rattle.place_table.specs.Closing.{IsClosed};
+
+use key_hash::{bucket_of, jhash};
+use map_types::{NoMemory, Shape};
+use place_table::{Closed, Pass, PlaceTable};
+use std::alloc::Global;
+use std::marker::Model;
+use thiserror::Error;
+
+/// Why an update is refused. No clause rests on the numbers.
+#[derive(Clone, Copy, Debug, PartialEq, Eq, Error)]
+pub enum LruRefusal {
+    /// The flags are above BPF_EXIST.
+    #[error("Einval")]
+    Einval = 1,
+    /// The key is absent, and the flags are BPF_EXIST.
+    #[error("Enoent")]
+    Enoent = 2,
+    /// The key is present, and the flags are BPF_NOEXIST.
+    #[error("Eexist")]
+    Eexist = 3,
+    /// Memory was not found.
+    #[error("NoMemory")]
+    NoMemory = 5,
+    /// No element was found to take.
+    #[error("Enomem")]
+    Enomem = 6,
+}
+
+/// A map of kind LRU_HASH or LRU_PERCPU_HASH, which may be shared by threads, each of which has a pass. Contracts see its
+/// table. Maps whose CPUs have lists of their own (NO_COMMON_LRU) are served.
+#[derive(Drop)]
+pub struct LruMap {
+    pub(crate) table: PlaceTable,
+    pub(crate) alloc: Global,
+}
+
+impl Model for LruMap {
+    ghost use Rattle.std.specs.Prelude.{◌≡◌, false, IsTrue};
+    ghost use Rattle.map_types.specs.Creation.{IsShape};
+    ghost use Rattle.map_types.specs.Kind.{is_lru};
+    ghost use Rattle.place_table.specs.Passes.{TableView};
+
+    ghost Value = { TableView };
+
+    ghost view = { λ m. m.table };
+
+    ghost invariant = { λ m. IsShape m.table.shape × IsTrue (is_lru m.table.shape.kind) × (m.table.shape.common ≡ false) };
+}
+
+impl LruMap {
+    /// A new map, and its first pass, which has all CPUs and is in no call. Memory for all elements is found here. The rule
+    /// of `htab_map_alloc`, without the checks of the attributes.
+    pub fn create(alloc: Global, shape: &Shape) -> Result<(LruMap, Pass), NoMemory>
+        requires shape { IsShape shape.now }
+        requires evicts { IsTrue (is_lru shape.now.kind) }
+        requires own_lists { shape.now.common ≡ false }
+        ensures { IfOk result (λ made. (made.0.shape ≡ shape.now) × IsFirstPass made.0 made.1) }
+    {
+        let (table, pass) = PlaceTable::create(alloc, shape)?;
+        Ok((LruMap { table, alloc }, pass))
+    }
+
+    /// The table of the map.
+    pub fn table(&self) -> &PlaceTable
+        ensures { result.now ≡ self.now }
+    {
+        &self.table
+    }
+
+    /// Closes a map whose one pass has all CPUs and is in no call, and hands out what is left. Where there is no memory
+    /// for that, the map and the pass are gone.
+    pub fn close(self, pass: Pass) -> Result<Closed, NoMemory>
+        requires table { IsPassOf self pass }
+        requires all_cpus { (c : ℕ) → c < self.shape.cpus → is_among c pass.view.cpus ≡ true }
+        requires in_no_call { IsInNoCall pass }
+        ensures { IfOk result (λ closed. IsClosed self.shape pass closed) }
+    {
+        let LruMap { table, alloc: _ } = self;
+        table.close(pass)
+    }
+
+    /// The hash of a key.
+    pub(crate) fn hash_of_key(&self, key: &[u8]) -> u32
+        requires key { length key.now ≡ self.now.shape.key_size }
+        ensures { result ≡ hash key.now self.now.shape.seed }
+    {
+        key_hash(self.table.shape(), key)
+    }
+
+    /// The bucket of a key.
+    pub(crate) fn bucket_of_key(&self, key: &[u8]) -> u32
+        requires key { length key.now ≡ self.now.shape.key_size }
+        ensures value { result ≡ bucket_of_key self.now.shape key.now }
+        ensures in_range { result < self.now.shape.buckets }
+    {
+        bucket_number(self.table.shape(), key)
+    }
+}
+
+/// The hash of a key.
+fn key_hash(shape: &Shape, key: &[u8]) -> u32
+    requires bounds { HasBounds shape.now }
+    requires key { length key.now ≡ shape.now.key_size }
+    ensures { result ≡ hash key.now shape.now.seed }
+{
+    jhash(key, shape.seed)
+}
+
+/// The bucket of a key.
+fn bucket_number(shape: &Shape, key: &[u8]) -> u32
+    requires bounds { HasBounds shape.now }
+    requires key { length key.now ≡ shape.now.key_size }
+    ensures value { result ≡ bucket_of_key shape.now key.now }
+    ensures in_range { result < shape.now.buckets }
+{
+    bucket_of(jhash(key, shape.seed), shape.buckets)
+}
