@@ -77,13 +77,13 @@ module _ (shape : Shape) where
 
 -- The first spares are those of the new map.
 
-evicting_none : (shape : Shape) (kind : MapKind) → shape.kind ≡ kind → has_spares kind ≡ false → (opening shape).spares ≡ []
+pub evicting_none : (shape : Shape) (kind : MapKind) → shape.kind ≡ kind → has_spares kind ≡ false → (opening shape).spares ≡ []
 unfolding opening
 evicting_none shape kind is none =
     let count : cond (has_spares shape.kind) shape.cpus 0 ≡ 0 = ap (λ (k : MapKind). cond (has_spares k) shape.cpus 0) is ∙ ap (λ (b : Bool). cond b shape.cpus 0) none in
     ap (λ (n : ℕ). (spares_popped n (opening_stacks shape.elements shape.cpus)).0) count
 
-spares_of : (shape : Shape) → HasBounds shape → (kind : MapKind) → shape.kind ≡ kind → (opening shape).spares ≡ first_spares shape kind
+pub spares_of : (shape : Shape) → HasBounds shape → (kind : MapKind) → shape.kind ≡ kind → (opening shape).spares ≡ first_spares shape kind
 spares_of shape bounds Hash is = opening_spares_are shape bounds is
 spares_of shape bounds PercpuHash is = no_opening_spares shape is
 spares_of shape bounds LruHash is = evicting_none shape LruHash is refl

@@ -1,11 +1,11 @@
 -- At each step of a run each key is in its bucket, once, with a key and values of the map's sizes.
-use Rattle.std.proofs.Common.{◌≡◌, ℕ, zero, suc, true, false, ◌||◌, eqb, nat_lt, List, [], ◌∷◌, ◌++◌, length, replicate, get_or, set, Option, Some, None, refl, ap, sym, ◌∙◌, subst}
+use Rattle.std.proofs.Common.{◌≡◌, ℕ, zero, suc, false, ◌||◌, eqb, nat_lt, List, [], ◌∷◌, ◌++◌, length, replicate, get_or, set, Option, Some, None, refl, ap, sym, ◌∙◌, subst}
 use Rattle.std.specs.Prelude.{bytes_eq, slice_index, slice_index_or}
 use Rattle.std.specs.List.{AllByRecursion, list_any, before_first, after_first}
 use Rattle.std.proofs.lemmas.Bool.{cond_both}
 use Rattle.std.proofs.lemmas.Slice.Eq.{bytes_eq-Decides}
 use Rattle.place_words.specs.Bodies.{has_key, HasDistinctKeys}
-use Rattle.map_types.specs.Kind.{is_percpu}
+use Rattle.map_types.specs.Kind.{is_lru, is_percpu}
 use Rattle.map_types.specs.Shape.{HasBounds}
 use Rattle.map_types.specs.Sides.{part_count, values_written}
 use Rattle.map_types.specs.Stored.{Stored, HasSizes}
@@ -23,7 +23,7 @@ use Rattle.place_words.specs.Bodies.{present, without_key}
 use Rattle.map_report.specs.Buckets.{bucket_of_key, with_in_place}
 use Rattle.map_report.specs.Freelists.{popped, pushed}
 use Rattle.map_report.specs.Serial.{opening, bucket_at, new_stored, replaced, written, added, updated, deleted, after_call}
-use Rattle.map_run.specs.Served.{is_built_kind, IsServedVerb, IsServedCall}
+use Rattle.map_run.specs.Served.{IsServedVerb, IsServedCall}
 use Rattle.map_report.specs.Soundness.{HasLists, IsBucket, HasNoLruLists}
 use Rattle.place_words.proofs.Splits.{find_passes, find_splits, none_passes}
 use Rattle.place_words.proofs.BucketLaws.{distinct_cut, key_cut}
@@ -214,7 +214,7 @@ module _ (shape : Shape) (lists : Finals) (each : AreBuckets shape lists) (evict
   call_keeps cpu (BatchDelete flags keys) served = absurd served
 
 -- A call keeps each key in its bucket.
-pub buckets_step : (shape : Shape) (call : Call) (lists : Finals) → HasBounds shape → is_built_kind shape.kind ≡ true → IsServedCall shape call → HasLists shape lists → AreBuckets shape lists → HasNoLruLists lists
+pub buckets_step : (shape : Shape) (call : Call) (lists : Finals) → HasBounds shape → is_lru shape.kind ≡ false → IsServedCall shape call → HasLists shape lists → AreBuckets shape lists → HasNoLruLists lists
     → AreBuckets shape (after_call shape call.cpu call.verb lists).0 × HasNoLruLists (after_call shape call.cpu call.verb lists).0
 buckets_step shape call lists bounds built served has each evicts =
     call_keeps shape lists each evicts call.cpu call.verb served.verb

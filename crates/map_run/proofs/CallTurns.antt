@@ -1,14 +1,12 @@
 -- What a call does to the lists of a map that doesn't evict is what its turns do.
 use Rattle.std.proofs.Common.{◌≡◌, ◌≢◌, ℕ, zero, suc, ◌<◌, ◌≤◌, Bool, true, false, nat_lt, cond, List, [], ◌∷◌, ◌++◌, length, map, get_or, set, Option, Some, None, refl, ap, sym, ◌∙◌, subst, inl, inr, arith}
-use Rattle.std.specs.Prelude.{slice_get, MatchOption, IsTrue, if◌then◌else◌, option_map}
+use Rattle.std.specs.Prelude.{slice_get, MatchOption, if◌then◌else◌, option_map}
 use Rattle.std.specs.List.{list_any, before_first, after_first}
 use Rattle.std.proofs.lemmas.Bool.{or_parts, ltb-true, ltb-false}
 use Rattle.std.proofs.lemmas.Option.{slice_get-get_or}
 use Rattle.map_types.specs.declared.attr.Shape.{Shape}
 use Rattle.map_types.specs.declared.call.Verb.{Verb}
 use Rattle.map_types.specs.declared.call.Verb.TheVariants as verbs
-use Rattle.map_types.specs.declared.kind.MapKind.{MapKind}
-use Rattle.map_types.specs.declared.kind.MapKind.TheVariants.{Hash, PercpuHash, LruHash, LruPercpuHash}
 use Rattle.map_types.specs.declared.kind.Side.{Side}
 use Rattle.map_types.specs.declared.kind.Side.TheVariants.{Sys}
 use Rattle.map_types.specs.declared.refusal.Errno.TheVariants.{Enoent, E2big, Eexist, Einval}
@@ -34,7 +32,7 @@ use Rattle.place_words.proofs.Splits.{find_passes, find_splits}
 use Rattle.map_report.specs.Buckets.{bucket_of_key, with_in_place}
 use Rattle.map_report.specs.Freelists.{stack_at, first_not_empty, popped_at, popped, pushed}
 use Rattle.map_report.specs.Serial.{has_spares, bucket_at, value_or_absent, new_stored, replaced, written, added, updated, deleted, after_call}
-use Rattle.map_run.specs.Served.{is_built_kind, IsServedVerb, IsServedCall}
+use Rattle.map_run.specs.Served.{IsServedVerb, IsServedCall}
 use Rattle.map_report.specs.Soundness.{IsSound}
 use Rattle.map_report.specs.Turns.{lies, spare_at, pop_turns, got_of, put_popped, update_turns, call_turns, DoesTurns}
 use Rattle.map_run.proofs.EachOnceRun.{bucket_within, spares_unless_percpu}
@@ -200,15 +198,8 @@ module _ (shape : Shape) (cpu : ℕ) (lists : Finals) where
   unfolding call_turns after_call
   take_does key here within = take_found key (present key (bucket_at shape lists key)) refl here within
 
--- no built kind evicts
-pub none_evicts : (kind : MapKind) → is_built_kind kind ≡ true → is_lru kind ≡ false
-none_evicts Hash built = refl
-none_evicts PercpuHash built = refl
-none_evicts LruHash built = cc
-none_evicts LruPercpuHash built = cc
-
 -- an update
-module _ (shape : Shape) (cpu : ℕ) (lists : Finals) (built : is_built_kind shape.kind ≡ true) (bounds : HasBounds shape) (sound : IsSound shape lists) (within : cpu < shape.cpus)
+module _ (shape : Shape) (cpu : ℕ) (lists : Finals) (built : is_lru shape.kind ≡ false) (bounds : HasBounds shape) (sound : IsSound shape lists) (within : cpu < shape.cpus)
     (side : Side) (flags : ℕ) (key value : List ℕ) where
   abbrev updates : Verb
   updates = verbs.Update side flags key value
@@ -275,7 +266,7 @@ module _ (shape : Shape) (cpu : ℕ) (lists : Finals) (built : is_built_kind sha
       last_does shape cpu lists updates (lists, Refused E2big) (pop_turns cpu lists.freelists None) lists key (with_put puts.Full)
       (inr (low, record { put = puts.Full; looks = pop_turns cpu lists.freelists None; looks_are = none_traced shape cpu lists sound.lengths.freelists; turns_are = refl; reply_is = refl }))
       (pop_allowed shape cpu lists None is) (pop_leaves shape cpu lists None is)
-      (absent, other, none_evicts shape.kind built)
+      (absent, other, built)
       (bucket_stays shape cpu lists key (with_put puts.Full) refl) (pop_spare shape cpu lists (spare_at lists cpu) None) (λ other apart. refl)
   added_does (Some giver) is absent low other =
       let top : ℕ = get_or (stack_at lists.freelists giver) 0 0 in
@@ -318,7 +309,7 @@ module _ (shape : Shape) (cpu : ℕ) (lists : Finals) (built : is_built_kind sha
       (λ known. put_does (present key own_bucket) refl (ltb-false 2 flags known))
 
 -- Each call that is served does what its turns do.
-pub does_turns : (shape : Shape) (cpu : ℕ) (verb : Verb) (lists : Finals) → IsTrue (is_built_kind shape.kind) → HasBounds shape → IsSound shape lists
+pub does_turns : (shape : Shape) (cpu : ℕ) (verb : Verb) (lists : Finals) → is_lru shape.kind ≡ false → HasBounds shape → IsSound shape lists
     → IsServedCall shape record { cpu = cpu; verb = verb } → DoesTurns shape cpu verb lists
 does_turns shape cpu verb lists built bounds sound served =
     let does = by verb served.verb in

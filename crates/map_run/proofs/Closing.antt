@@ -1,16 +1,13 @@
 -- What a table leaves that is closed after a serial run: the record of the run.
-use Rattle.std.proofs.Common.{◌≡◌, ℕ, zero, suc, ◌+◌, ◌<◌, ◌≤◌, Bool, true, false, not, ◌&&◌, cond, eqb, List, [], ◌∷◌, ◌++◌, length, map, Option, Some, None, refl, ap, sym, ◌∙◌, inl, inr, subst, arith, append-nil, append_assoc}
+use Rattle.std.proofs.Common.{◌≡◌, ℕ, zero, suc, ◌+◌, ◌<◌, ◌≤◌, Bool, true, false, not, ◌&&◌, cond, eqb, List, [], ◌∷◌, ◌++◌, length, map, Option, Some, refl, ap, sym, ◌∙◌, inl, inr, subst, arith, append-nil, append_assoc}
 use Rattle.std.specs.Prelude.{IsTrue, All, filter, option_map, slice_get}
 use Rattle.std.specs.List.{range_with_len}
 use Rattle.std.proofs.lemmas.Bool.{lt-ltb}
 use Rattle.std.proofs.lemmas.List.{ext_get_or}
 use Rattle.std.proofs.lemmas.List.Elements.{All-head, All-tail}
-use Rattle.std.proofs.lemmas.Option.{none-some, same_Some}
 use Rattle.map_types.specs.declared.attr.Shape.{Shape}
 use Rattle.map_types.specs.declared.kind.DomainId.{DomainId}
 use Rattle.map_types.specs.declared.kind.DomainId.TheVariants.{Bucket, Freelist}
-use Rattle.map_types.specs.declared.kind.MapKind.{MapKind}
-use Rattle.map_types.specs.declared.kind.MapKind.TheVariants.{Hash, PercpuHash, LruHash, LruPercpuHash}
 use Rattle.map_types.specs.Kind.{is_lru}
 use Rattle.map_types.specs.Shape.{HasBounds}
 use Rattle.map_types.specs.Stored.{Stored}
@@ -24,12 +21,14 @@ use Rattle.place_words.proofs.LockLemmas.{number_of_named, number_within, one_nu
 use Rattle.place_core.proofs.ElementLemmas.{by_test}
 use Rattle.place_table.specs.declared.view.Ended.{Ended}
 use Rattle.place_table.specs.declared.view.Turned.{Turned}
-use Rattle.place_table.specs.Closing.{ClosedView, IsClosed, has_lock, history_of, spare_numbers}
-use Rattle.place_table.specs.Passes.{PassView, IsKeptOf, spare_of}
+use Rattle.place_table.specs.Closing.{ClosedView, IsClosed, has_lock, history_of}
+use Rattle.place_table.specs.Passes.{PassView, IsKeptOf}
 use Rattle.place_table.specs.Rules.{turns_on, indexes}
 use Rattle.place_table.specs.Views.{is_among, all_strands, bit_seen, current_strand, place_of, kept_step, no_bits}
+use Rattle.place_table.proofs.FirstSlots.{not_common}
+use Rattle.place_table.proofs.MapLeft as map_left
 use Rattle.map_run.specs.Going.{Going}
-use Rattle.map_run.specs.Served.{is_built_kind}
+use Rattle.map_report.specs.Serial.{has_spares, spare_count}
 use Rattle.map_report.specs.Soundness.{IsSound}
 use Rattle.map_report.specs.Turns.{Happened, lies, entries_on, history_on, histories_of_turns, steps_from}
 use Rattle.map_run.proofs.Whole.{none_pass, none_lost, strands_of, strands_are_told, told_of_one}
@@ -144,16 +143,12 @@ no_bit e (suc n) real = by_test n e (λ b. cond b (Some false) (bit_seen e (no_b
 abbrev pub number_in : Option Stored → Option ℕ
 number_in spare = option_map (λ (body : Stored). body.element) spare
 
-pub spares_listed : (spares : List (Option Stored)) (numbers : List ℕ) → ((cpu : ℕ) → number_in (spare_of cpu spares) ≡ slice_get numbers cpu) → spare_numbers spares ≡ numbers
-spares_listed [] [] each = refl
-spares_listed [] (number ∷ numbers) each = absurd (none-some number (each 0))
-spares_listed (None ∷ spares) [] each = spares_listed spares [] (λ cpu. each (suc cpu))
-spares_listed (None ∷ spares) (number ∷ numbers) each = absurd (none-some number (each 0))
-spares_listed (Some body ∷ spares) [] each = absurd (none-some body.element (sym (each 0)))
-spares_listed (Some body ∷ spares) (number ∷ numbers) each =
-    let here : body.element ≡ number = same_Some body.element number (each 0) in
-    let rest : spare_numbers spares ≡ numbers = spares_listed spares numbers (λ cpu. each (suc cpu)) in
-    λ i. here i ∷ rest i
+pub few_spares : (shape : Shape) → spare_count shape ≤ shape.cpus
+few_spares shape = by (has_spares shape.kind)
+  where
+    by : (b : Bool) → cond b shape.cpus 0 ≤ shape.cpus
+    by true = omega arith
+    by false = omega arith
 
 one_finals : (a b : Finals) → a.buckets ≡ b.buckets → a.freelists ≡ b.freelists → a.spares ≡ b.spares → a.sets ≡ b.sets → a.locals ≡ b.locals → a.marked ≡ b.marked → a ≡ b
 one_finals a b buckets freelists spares sets locals marked =
@@ -169,13 +164,7 @@ pub length_indexes : (turns : List (ℕ × Entry)) → length (indexes turns) �
 length_indexes [] = refl
 length_indexes (turn ∷ turns) = ap suc (length_indexes turns)
 
-pub plain_kind : (kind : MapKind) → IsTrue (is_built_kind kind) → is_lru kind ≡ false
-plain_kind Hash built = refl
-plain_kind PercpuHash built = refl
-plain_kind LruHash built = cc
-plain_kind LruPercpuHash built = cc
-
-module _ (shape : Shape) (lists : Finals) (turns : List Happened) (p : PassView) (closed : ClosedView) (bounds : HasBounds shape) (built : IsTrue (is_built_kind shape.kind)) (sound : IsSound shape lists) (going : Going shape lists turns p) (ends : IsClosed shape p closed) where
+module _ (shape : Shape) (lists : Finals) (turns : List Happened) (p : PassView) (closed : ClosedView) (bounds : HasBounds shape) (built : is_lru shape.kind ≡ false) (sound : IsSound shape lists) (going : Going shape lists turns p) (ends : IsClosed shape p closed) where
   -- the turns of each lock of the map, by its name and by its number
   log_of : (lock : DomainId) → IsTrue (is_lock shape lock) → ends.log (lock_number shape lock) ≡ entries_on lock turns
   log_of lock there =
@@ -209,35 +198,39 @@ module _ (shape : Shape) (lists : Finals) (turns : List Happened) (p : PassView)
 
   buckets_are : closed.finals.buckets ≡ lists.buckets
   buckets_are =
-      let counted = ends.left.buckets_counted in
+      let counted = map_left.buckets_counted ends.left in
       ext_get_or [] closed.finals.buckets lists.buckets (counted ∙ sym sound.lengths.buckets)
       (λ bucket within.
       let real : bucket < shape.buckets = omega arith in
-      one_bucket _ _ (ends.left.buckets_are bucket real ∙ lies_there (Bucket bucket) (lt-ltb bucket shape.buckets real)))
+      one_bucket _ _ (map_left.buckets_are ends.left bucket real ∙ lies_there (Bucket bucket) (lt-ltb bucket shape.buckets real)))
 
   freelists_are : closed.finals.freelists ≡ lists.freelists
   freelists_are =
-      let counted = ends.left.freelists_counted in
+      let counted = map_left.freelists_counted ends.left built in
       ext_get_or [] closed.finals.freelists lists.freelists (counted ∙ sym sound.lengths.freelists)
       (λ cpu within.
       let real : cpu < shape.cpus = omega arith in
-      one_freelist _ _ (ends.left.freelists_are cpu real ∙ lies_there (Freelist cpu) (λ i. not (plain_kind shape.kind built i) && lt-ltb cpu shape.cpus real i)))
+      one_freelist _ _ (map_left.freelists_are ends.left built cpu real ∙ lies_there (Freelist cpu) (λ i. not (built i) && lt-ltb cpu shape.cpus real i)))
 
   marked_are : p.view.bits ≡ no_bits shape.elements → closed.finals.marked ≡ lists.marked
   marked_are bits =
-      ends.left.marked_are
+      map_left.marked_are ends.left
       ∙ (none_pass ends.core.bit 0 shape.elements (λ e low real. ends.bits e false (ap (bit_seen e) bits ∙ no_bit e shape.elements (omega arith)))
       ∙ sym sound.no_lru_lists.marked)
 
   finals_are : p.view.bits ≡ no_bits shape.elements → closed.finals ≡ lists
   finals_are bits =
+      let plain = built in
+      let apart = not_common shape bounds plain in
+      let few = few_spares shape in
+      let counted = sound.lengths.spares in
       one_finals closed.finals lists buckets_are freelists_are
-      (ends.left.spares_are ∙ spares_listed p.spares lists.spares going.spares)
-      (ends.left.no_sets ∙ sym sound.no_lru_lists.sets) (ends.left.no_locals ∙ sym sound.no_lru_lists.locals) (marked_are bits)
+      (map_left.spares_are ends.left ∙ map_left.spares_listed shape p.spares lists.spares (omega arith) going.spares)
+      (map_left.no_sets ends.left plain apart ∙ sym sound.no_lru_lists.sets) (map_left.no_locals ends.left apart ∙ sym sound.no_lru_lists.locals) (marked_are bits)
 
 -- The histories, the strand and the lists of a table that is closed after some calls of a serial run, no record of which is
 -- lost, are those of the run.
-pub left_by : (shape : Shape) (lists : Finals) (turns : List Happened) (p : PassView) (closed : ClosedView) → HasBounds shape → IsTrue (is_built_kind shape.kind) → IsSound shape lists → Going shape lists turns p → IsClosed shape p closed → closed.lost ≡ false
+pub left_by : (shape : Shape) (lists : Finals) (turns : List Happened) (p : PassView) (closed : ClosedView) → HasBounds shape → is_lru shape.kind ≡ false → IsSound shape lists → Going shape lists turns p → IsClosed shape p closed → closed.lost ≡ false
     → p.view.bits ≡ no_bits shape.elements → p.view.ended ≡ [] → ((cpu : ℕ) → cpu < shape.cpus → is_among cpu p.view.cpus ≡ true) → IsKeptOf shape p.view.steps [] p.view.kept → IsLeftBy shape lists turns closed
 left_by shape lists turns p closed bounds built sound going ends whole bits none all kept = record {
   histories = histories_are shape lists turns p closed bounds built sound going ends whole;

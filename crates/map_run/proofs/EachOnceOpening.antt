@@ -1,5 +1,5 @@
 -- In a new map each element is in one place.
-use Rattle.std.proofs.Common.{◌≡◌, ℕ, zero, suc, ◌+◌, ◌-◌, ◌*◌, ◌/◌, ◌%◌, ◌<◌, ◌≤◌, Bool, true, false, not, eqb, cond, List, [], ◌∷◌, ◌++◌, length, map, reverse, get_or, Option, Some, None, IsPermutation, refl, sym, ap, ◌∙◌, subst, inl, inr, arith, append-nil}
+use Rattle.std.proofs.Common.{◌≡◌, ℕ, zero, suc, ◌+◌, ◌-◌, ◌*◌, ◌/◌, ◌%◌, ◌<◌, ◌≤◌, Bool, false, not, eqb, cond, List, [], ◌∷◌, ◌++◌, length, map, reverse, get_or, Option, Some, None, IsPermutation, refl, sym, ap, ◌∙◌, subst, inl, inr, arith, append-nil}
 use Rattle.std.specs.Prelude.{find, replicate, option_map, unwrap_or}
 use Rattle.std.specs.List.{concat, flat_map, range_with_len}
 use Rattle.std.proofs.Math.Nat.{suc-mul, zero-mul, div-add-mod}
@@ -12,12 +12,12 @@ use Rattle.map_types.specs.Shape.{HasBounds}
 use Rattle.map_types.specs.declared.attr.Shape.{Shape}
 use Rattle.map_types.specs.declared.kind.MapKind.{MapKind}
 use Rattle.map_types.specs.declared.kind.MapKind.TheVariants.{Hash, PercpuHash, LruHash, LruPercpuHash}
+use Rattle.map_types.specs.Kind.{is_lru}
 use Rattle.place_words.specs.declared.finals.Finals.{Finals}
 use Rattle.map_report.specs.EachOnce.{EachOnce, elements_of, in_buckets, on_freelists}
 use Rattle.place_words.specs.Shares.{share_first, share_count}
 use Rattle.map_report.specs.Freelists.{opening_stack, opening_stacks, stack_at, ring, first_not_empty, popped_at, popped, spares_popped}
 use Rattle.map_report.specs.Serial.{has_spares, spare_count, opening}
-use Rattle.map_run.specs.Served.{is_built_kind}
 use Rattle.map_report.specs.Soundness.{HasLists}
 use Rattle.map_run.proofs.EachOnceSteps.{permutes_same, numbers, IsPop, popped_is, none_there}
 use Rattle.place_words.proofs.Splits.{find_misses}
@@ -210,6 +210,6 @@ opening_permutes shape bounds =
     subst (λ l. IsPermutation (range_with_len 0 shape.elements) ((l ++ concat stacks) ++ spares)) (sym (none_in_empty shape.buckets))
     (IsPermutation-trans _ _ _ (opening_stacks_permute shape.elements shape.cpus bounds.some_cpu) drawn.permutes)
 
-pub each_once_opening : (shape : Shape) → HasBounds shape → is_built_kind shape.kind ≡ true → HasLists shape (opening shape) × EachOnce shape.elements (opening shape)
+pub each_once_opening : (shape : Shape) → HasBounds shape → is_lru shape.kind ≡ false → HasLists shape (opening shape) × EachOnce shape.elements (opening shape)
 each_once_opening shape bounds kind =
     (opening_lists shape bounds, each_once_from shape.elements (opening shape) (opening_permutes shape bounds))

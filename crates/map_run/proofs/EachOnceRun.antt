@@ -1,5 +1,5 @@
 -- At each step of a run each element is in one place.
-use Rattle.std.proofs.Common.{◌≡◌, ℕ, ◌<◌, true, false, cond, eqb, nat_lt, List, [], ◌∷◌, length, take, get_or, Option, Some, None, All, refl, ◌∙◌, arith}
+use Rattle.std.proofs.Common.{◌≡◌, ℕ, ◌<◌, false, cond, eqb, nat_lt, List, [], ◌∷◌, length, take, get_or, Option, Some, None, All, refl, ◌∙◌, arith}
 use Rattle.std.specs.List.{AllByRecursion}
 use Rattle.std.proofs.lemmas.Bool.{cond_both}
 use Rattle.std.proofs.lemmas.List.{length-set}
@@ -7,7 +7,7 @@ use Rattle.std.proofs.lemmas.List.Elements.{recursion_from_All, All-take}
 use Rattle.key_hash.proofs.Buckets.{bucket_number-lt}
 use Rattle.key_hash.specs.Jhash.{hash}
 use Rattle.place_words.specs.Bodies.{has_key}
-use Rattle.map_types.specs.Kind.{is_percpu}
+use Rattle.map_types.specs.Kind.{is_lru, is_percpu}
 use Rattle.map_types.specs.Shape.{HasBounds}
 use Rattle.map_types.specs.Sides.{values_written}
 use Rattle.map_types.specs.Stored.{Stored}
@@ -28,7 +28,7 @@ use Rattle.map_report.specs.EachOnce.{EachOnce, on_freelists}
 use Rattle.map_report.specs.Freelists.{popped}
 use Rattle.map_run.specs.Laws.{lists_before}
 use Rattle.map_report.specs.Serial.{has_spares, spare_count, opening, bucket_at, new_stored, replaced, written, added, updated, deleted, after_call, lists_after}
-use Rattle.map_run.specs.Served.{is_built_kind, IsServedCall, IsServed}
+use Rattle.map_run.specs.Served.{IsServedCall, IsServed}
 use Rattle.map_report.specs.Soundness.{HasLists}
 use Rattle.map_run.proofs.EachOnceOpening.{each_once_moved, each_once_opening}
 use Rattle.map_run.proofs.EachOnceSteps.{IsPop, popped_is, pushed_permutes, added_permutes, grown_permutes, taken_permutes, written_permutes, spare_there, spare_set, stays, comes_in, goes_out, changes_places}
@@ -46,7 +46,7 @@ bucket_within shape key lists bounds has =
     omega arith
 
 -- a kind without values for each CPU has spares
-pub spares_unless_percpu : (kind : MapKind) (cpus : ℕ) → is_built_kind kind ≡ true → is_percpu kind ≡ false → cond (has_spares kind) cpus 0 ≡ cpus
+pub spares_unless_percpu : (kind : MapKind) (cpus : ℕ) → is_lru kind ≡ false → is_percpu kind ≡ false → cond (has_spares kind) cpus 0 ≡ cpus
 spares_unless_percpu Hash cpus built common = refl
 spares_unless_percpu PercpuHash cpus built common = cc
 spares_unless_percpu LruHash cpus built common = cc
@@ -128,7 +128,7 @@ module _ (shape : Shape) (n : ℕ) (lists : Finals) (bounds : HasBounds shape) (
       }
 
   -- an update
-  updated_whole : (side : Side) (cpu flags : ℕ) (key value : List ℕ) (found : Option Stored) → is_built_kind shape.kind ≡ true → cpu < shape.cpus → present key (bucket_at shape lists key) ≡ found
+  updated_whole : (side : Side) (cpu flags : ℕ) (key value : List ℕ) (found : Option Stored) → is_lru shape.kind ≡ false → cpu < shape.cpus → present key (bucket_at shape lists key) ≡ found
       → IsWhole shape n (updated shape side cpu flags key value lists found).0
   updated_whole side cpu flags key value None built few is =
       cond_both (eqb flags 2) _ _ (λ (after : Finals × Reply). IsWhole shape n after.0) (λ refused. record { lengths = has; once = once })
@@ -142,7 +142,7 @@ module _ (shape : Shape) (n : ℕ) (lists : Finals) (bounds : HasBounds shape) (
       replaced_whole side cpu key value old (omega arith) is))
 
   -- a call
-  call_whole : (cpu : ℕ) (verb : Verb) → is_built_kind shape.kind ≡ true → cpu < shape.cpus → IsWhole shape n (after_call shape cpu verb lists).0
+  call_whole : (cpu : ℕ) (verb : Verb) → is_lru shape.kind ≡ false → cpu < shape.cpus → IsWhole shape n (after_call shape cpu verb lists).0
   unfolding after_call
   call_whole cpu (Lookup side key) built few = record { lengths = has; once = once }
   call_whole cpu (Update side flags key value) built few =
@@ -156,14 +156,14 @@ module _ (shape : Shape) (n : ℕ) (lists : Finals) (bounds : HasBounds shape) (
   call_whole cpu (BatchDelete flags keys) built few = record { lengths = has; once = once }
 
 -- A call keeps each element in one place.
-pub each_once_step : (shape : Shape) (n : ℕ) (call : Call) (lists : Finals) → HasBounds shape → is_built_kind shape.kind ≡ true → IsServedCall shape call → HasLists shape lists → EachOnce n lists
+pub each_once_step : (shape : Shape) (n : ℕ) (call : Call) (lists : Finals) → HasBounds shape → is_lru shape.kind ≡ false → IsServedCall shape call → HasLists shape lists → EachOnce n lists
     → HasLists shape (after_call shape call.cpu call.verb lists).0 × EachOnce n (after_call shape call.cpu call.verb lists).0
 each_once_step shape n call lists bounds built served has once =
     let whole = call_whole shape n lists bounds has once call.cpu call.verb built served.cpu in
     (whole.lengths, whole.once)
 
 -- calls do
-pub each_once_calls : (shape : Shape) (n : ℕ) (calls : List Call) (lists : Finals) → HasBounds shape → is_built_kind shape.kind ≡ true → AllByRecursion (IsServedCall shape) calls → HasLists shape lists → EachOnce n lists
+pub each_once_calls : (shape : Shape) (n : ℕ) (calls : List Call) (lists : Finals) → HasBounds shape → is_lru shape.kind ≡ false → AllByRecursion (IsServedCall shape) calls → HasLists shape lists → EachOnce n lists
     → HasLists shape (lists_after shape lists calls) × EachOnce n (lists_after shape lists calls)
 each_once_calls shape n [] lists bounds built served has once = (has, once)
 each_once_calls shape n (call ∷ calls) lists bounds built served has once =
@@ -171,13 +171,13 @@ each_once_calls shape n (call ∷ calls) lists bounds built served has once =
     each_once_calls shape n calls (after_call shape call.cpu call.verb lists).0 bounds built served.1 step.0 step.1
 
 -- the calls of a script, from its opening on
-pub each_once_from_opening : (shape : Shape) (calls : List Call) → HasBounds shape → is_built_kind shape.kind ≡ true → All (IsServedCall shape) calls
+pub each_once_from_opening : (shape : Shape) (calls : List Call) → HasBounds shape → is_lru shape.kind ≡ false → All (IsServedCall shape) calls
     → HasLists shape (lists_after shape (opening shape) calls) × EachOnce shape.elements (lists_after shape (opening shape) calls)
 each_once_from_opening shape calls bounds built served =
     let start = each_once_opening shape bounds built in
     each_once_calls shape shape.elements calls (opening shape) bounds built (recursion_from_All (IsServedCall shape) calls served) start.0 start.1
 
 -- Before each call of a script each element is in one place.
-pub each_once_run : (script : Script) → IsServed script → (n : ℕ) → HasLists script.shape (lists_before script n) × EachOnce script.shape.elements (lists_before script n)
-each_once_run script served n =
-    each_once_from_opening script.shape (take n script.calls) served.bounds served.kind (All-take (IsServedCall script.shape) n script.calls served.calls)
+pub each_once_run : (script : Script) → IsServed script → is_lru script.shape.kind ≡ false → (n : ℕ) → HasLists script.shape (lists_before script n) × EachOnce script.shape.elements (lists_before script n)
+each_once_run script served plain n =
+    each_once_from_opening script.shape (take n script.calls) served.bounds plain (All-take (IsServedCall script.shape) n script.calls served.calls)

@@ -11,7 +11,7 @@ use Rattle.std.proofs.lemmas.Slice.Eq.{bytes_eq-Decides}
 use Rattle.place_words.specs.Bodies.{has_key}
 use Rattle.key_hash.specs.Jhash.{hash}
 use Rattle.key_hash.proofs.Buckets.{bucket_number-lt}
-use Rattle.map_types.specs.Kind.{is_percpu}
+use Rattle.map_types.specs.Kind.{is_lru, is_percpu}
 use Rattle.map_types.specs.Shape.{HasBounds}
 use Rattle.map_types.specs.Sides.{value_read, values_written, new_values}
 use Rattle.map_types.specs.Stored.{Stored}
@@ -34,7 +34,7 @@ use Rattle.map_report.specs.EachOnce.{on_freelists, EachOnce}
 use Rattle.map_run.specs.Entries.{Entry, entry_of, without, read, values_put, refusal, unless, taken_out, answered}
 use Rattle.map_report.specs.Freelists.{stack_at, ring, first_not_empty, popped_at, popped}
 use Rattle.map_report.specs.Serial.{has_spares, spare_count, opening, bucket_at, value_or_absent, new_stored, replaced, written, added, updated, deleted, after_call}
-use Rattle.map_run.specs.Served.{is_built_kind, IsServedVerb, IsServedCall}
+use Rattle.map_run.specs.Served.{IsServedVerb, IsServedCall}
 use Rattle.map_report.specs.Soundness.{HasLists}
 use Rattle.map_run.proofs.EntryLemmas.{hits, both, Turned, taken_first, taken_all, taken_none, put_in, Finds, finds}
 
@@ -203,7 +203,7 @@ pub popped_tops : (cpu : ℕ) (stacks : List (List ℕ)) → cpu < length stacks
 popped_tops cpu stacks within = first_tops cpu stacks (first_not_empty cpu stacks) refl within
 
 -- as many elements are free as there is room for keys
-elements_by_kind : (shape : Shape) (kind : MapKind) → HasBounds shape → shape.kind ≡ kind → is_built_kind kind ≡ true → shape.elements ≡ shape.capacity + spare_count shape
+elements_by_kind : (shape : Shape) (kind : MapKind) → HasBounds shape → shape.kind ≡ kind → is_lru kind ≡ false → shape.elements ≡ shape.capacity + spare_count shape
 elements_by_kind shape Hash bounds is built =
     let some : has_spares shape.kind ≡ true = ap has_spares is in
     bounds.spares_of_hash is ∙ rw some refl
@@ -213,7 +213,7 @@ elements_by_kind shape PercpuHash bounds is built =
 elements_by_kind shape LruHash bounds is built = cc
 elements_by_kind shape LruPercpuHash bounds is built = cc
 
-pub room_left : (shape : Shape) (lists : Finals) (entries : List Entry) → HasBounds shape → is_built_kind shape.kind ≡ true → HasLists shape lists → EachOnce shape.elements lists → Agrees shape lists entries
+pub room_left : (shape : Shape) (lists : Finals) (entries : List Entry) → HasBounds shape → is_lru shape.kind ≡ false → HasLists shape lists → EachOnce shape.elements lists → Agrees shape lists entries
     → length (on_freelists lists) + length entries ≡ shape.capacity
 room_left shape lists entries bounds built has each agree =
     omega (arith, elements_by_kind shape shape.kind bounds refl built, has.spares, each.total, agree.count)
@@ -342,7 +342,7 @@ updated_follows shape side cpu flags key value lists entries (Some old) (Some en
     (λ low. both follows (flags == 1) _ _ _ _ (λ one. (refl, agree)) (λ other. (refl, kept_follows shape side cpu key value lists entries old entry bounds has agree holds have)))
 
 call_follows : (shape : Shape) (cpu : ℕ) (verb : Verb) (lists : Finals) (entries : List Entry)
-    → HasBounds shape → is_built_kind shape.kind ≡ true → cpu < shape.cpus → IsServedVerb shape verb → HasLists shape lists → EachOnce shape.elements lists → Agrees shape lists entries
+    → HasBounds shape → is_lru shape.kind ≡ false → cpu < shape.cpus → IsServedVerb shape verb → HasLists shape lists → EachOnce shape.elements lists → Agrees shape lists entries
     → Follows shape (after_call shape cpu verb lists) (answered shape cpu verb entries)
 unfolding after_call answered
 call_follows shape cpu (Lookup side key) lists entries bounds built within served has each agree =
@@ -362,7 +362,7 @@ call_follows shape cpu (BatchDelete flags keys) lists entries bounds built withi
 
 -- A call on the lists answers what it answers on the entries, and they agree after it.
 pub agrees_step : (shape : Shape) (call : Call) (lists : Finals) (entries : List Entry)
-    → HasBounds shape → is_built_kind shape.kind ≡ true → IsServedCall shape call → HasLists shape lists → EachOnce shape.elements lists → Agrees shape lists entries
+    → HasBounds shape → is_lru shape.kind ≡ false → IsServedCall shape call → HasLists shape lists → EachOnce shape.elements lists → Agrees shape lists entries
     → ((after_call shape call.cpu call.verb lists).1 ≡ (answered shape call.cpu call.verb entries).1) × Agrees shape (after_call shape call.cpu call.verb lists).0 (answered shape call.cpu call.verb entries).0
 agrees_step shape call lists entries bounds built served has each agree =
     call_follows shape call.cpu call.verb lists entries bounds built served.cpu served.verb has each agree

@@ -6,13 +6,34 @@ mod WordLemmasRows
 mod WordLemmasShapes
 mod WordLemmasTurns
 mod WordLemmasWalk
+pub mod TurnsMade
+pub mod LooksTold
+pub mod ProbesRemoved
+pub mod OwnTurnIs
+pub mod OwnTakes
+pub mod FoundIn
+pub mod Decides
+pub mod CallIs
+pub mod OwnCallIs
+pub mod MadeBy
+pub mod CallsByLogs
+pub mod FinalsByLogs
+pub mod RunByLogs
+pub mod WalksTold
+pub mod GlobalTurnIs
+pub mod BitsRead
+pub mod ChasedIs
+pub mod StealIs
+pub mod SharedRoundIs
+pub mod SharedTakesIs
+pub mod SharedFreesIs
 pub mod AnswerLaws
 pub mod AnyRecord
+pub mod BothRuns
 pub mod BucketLaws
 pub mod CallTurns
 pub mod Closing
 pub mod PlainCalls
-pub mod PlainFinals
 pub mod LogLaws
 pub mod EachOnceOpening
 pub mod EachOnceRun
@@ -43,6 +64,7 @@ pub mod RaceStrands
 pub mod RaceKept
 pub mod RaceCalls
 pub mod RaceFinals
+pub mod RaceListed
 pub mod RaceHistories
 pub mod RaceRecord
 pub mod Joining

@@ -29,8 +29,7 @@ use Rattle.map_report.specs.Runs.{steps_of_turns, steps_of_calls}
 use Rattle.map_report.specs.Serial.{opening, after_call, replies_from, lists_after, has_spares}
 use Rattle.map_report.specs.Soundness.{IsSound}
 use Rattle.map_report.specs.Turns.{Happened, happened, lies, spare_at, call_turns, turns_from, entries_on, steps_from}
-use Rattle.map_run.specs.Served.{is_built_kind, IsServedVerb, IsServedCall, IsServed}
-use Rattle.map_run.proofs.CallTurns.{none_evicts}
+use Rattle.map_run.specs.Served.{IsServedVerb, IsServedCall, IsServed}
 use Rattle.map_run.proofs.HistoryTurns.{entries_append, replayed_append}
 use Rattle.map_run.proofs.OneCall.{steps_append}
 use Rattle.map_run.proofs.OpeningTurns.{opening_lies, opening_spares_are, no_opening_spares}
@@ -61,13 +60,13 @@ there_is [] i within = absurd (omega arith)
 there_is (x ∷ xs) zero within = refl
 there_is (x ∷ xs) (suc i) within = there_is xs i (omega arith)
 
-kind_spares : (kind : MapKind) → is_built_kind kind ≡ true → is_percpu kind ≡ false → has_spares kind ≡ true
+kind_spares : (kind : MapKind) → is_lru kind ≡ false → is_percpu kind ≡ false → has_spares kind ≡ true
 kind_spares Hash built one_value = refl
 kind_spares PercpuHash built one_value = absurd cc
 kind_spares LruHash built one_value = absurd cc
 kind_spares LruPercpuHash built one_value = absurd cc
 
-spare_there : (shape : Shape) (lists : Finals) (cpu : ℕ) → IsTrue (is_built_kind shape.kind) → IsSound shape lists → cpu < shape.cpus → is_percpu shape.kind ≡ false → spare_at lists cpu ≡ Some (unwrap_or (spare_at lists cpu) 0)
+spare_there : (shape : Shape) (lists : Finals) (cpu : ℕ) → is_lru shape.kind ≡ false → IsSound shape lists → cpu < shape.cpus → is_percpu shape.kind ≡ false → spare_at lists cpu ≡ Some (unwrap_or (spare_at lists cpu) 0)
 spare_there shape lists cpu built sound within one_value =
     let many : length lists.spares ≡ shape.cpus = sound.lengths.spares ∙ ap (λ (b : Bool). cond b shape.cpus 0) (kind_spares shape.kind built one_value) in
     there_is lists.spares cpu (omega (arith, many, within))
@@ -95,9 +94,9 @@ does_key shape cpu number state (verbs.BatchRead remove count start flags) is = 
 does_key shape cpu number state (verbs.BatchUpdate flags pairs) is = absurd is
 does_key shape cpu number state (verbs.BatchDelete flags keys) is = absurd is
 
-module _ (shape : Shape) (bounds : HasBounds shape) (built : IsTrue (is_built_kind shape.kind)) where
+module _ (shape : Shape) (bounds : HasBounds shape) (built : is_lru shape.kind ≡ false) where
   plain : is_lru shape.kind ≡ false
-  plain = none_evicts shape.kind built
+  plain = built
 
   -- a call makes the same turns and answers the same
   one_call : (lists : Finals) (before : List Happened) (state : State) (number : ℕ) (call : Call) → Follows shape lists before state → IsServedCall shape call → IsSound shape lists → IsMade shape call lists
@@ -219,14 +218,14 @@ module _ (shape : Shape) (bounds : HasBounds shape) (built : IsTrue (is_built_ki
     spares = λ cpu. ap (λ (l : List ℕ). slice_get l cpu) (by_kind shape.kind refl built);
   }
     where
-      by_kind : (kind : MapKind) → shape.kind ≡ kind → is_built_kind kind ≡ true → first_spares shape kind ≡ (opening shape).spares
+      by_kind : (kind : MapKind) → shape.kind ≡ kind → is_lru kind ≡ false → first_spares shape kind ≡ (opening shape).spares
       by_kind Hash is built = sym (opening_spares_are shape bounds is)
       by_kind PercpuHash is built = sym (no_opening_spares shape is)
       by_kind LruHash is built = absurd cc
       by_kind LruPercpuHash is built = absurd cc
 
 -- of a script that is served
-pub log_run : (script : Script) → (served : IsServed script) → IsSameRun script.shape served.bounds served.kind (opening script.shape) [] 1 script.calls (new_state script.shape)
-log_run script served =
-    same_run script.shape served.bounds served.kind script.calls (opening script.shape) [] 1 (new_state script.shape) (calls_served script served) (sound_opening script.shape served.bounds served.kind)
-    (first_follows script.shape served.bounds served.kind)
+pub log_run : (script : Script) → (served : IsServed script) → (plain : is_lru script.shape.kind ≡ false) → IsSameRun script.shape served.bounds plain (opening script.shape) [] 1 script.calls (new_state script.shape)
+log_run script served plain =
+    same_run script.shape served.bounds plain script.calls (opening script.shape) [] 1 (new_state script.shape) (calls_served script served) (sound_opening script.shape served.bounds plain)
+    (first_follows script.shape served.bounds plain)

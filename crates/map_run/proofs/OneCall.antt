@@ -19,6 +19,7 @@ use Rattle.place_words.specs.Traces.{Turn, IsPlainTrace, AreAllowed, after_turn,
 use Rattle.place_words.proofs.HistoryLemmas.{content_more}
 use Rattle.place_words.proofs.LockLemmas.{named_by_number, number_of_named, one_number, one_lock, same_lock, other_lock}
 use Rattle.map_types.proofs.RowLemmas.{by_test}
+use Rattle.map_types.specs.Kind.{is_lru}
 use Rattle.place_core.proofs.ElementLemmas.{at_put}
 use Rattle.place_table.specs.declared.view.Turned.{Turned}
 use Rattle.place_table.specs.Known.{FollowsOn, FollowOn, Learns, log_after, logs_after, turn_of, IsBy}
@@ -27,10 +28,10 @@ use Rattle.place_table.specs.Views.{place_of, kept_step}
 use Rattle.place_table.proofs.Going.{learns_all}
 use Rattle.map_run.specs.Going.{Going}
 use Rattle.map_report.specs.Serial.{after_call}
-use Rattle.map_run.specs.Served.{is_built_kind, IsServedCall}
+use Rattle.map_run.specs.Served.{IsServedCall}
 use Rattle.map_report.specs.Soundness.{IsSound}
 use Rattle.map_report.specs.Turns.{Happened, happened, lies, spare_at, call_turns, entries_on, steps_from, DoesTurns}
-use Rattle.map_run.proofs.CallTurns.{none_evicts, does_turns}
+use Rattle.map_run.proofs.CallTurns.{does_turns}
 use Rattle.map_run.proofs.TraceLaws.{one_trace}
 
 -- Turns of one lock
@@ -159,7 +160,7 @@ abbrev element_kept : PassView → ℕ → Option ℕ
 element_kept p cpu = option_map (λ (body : Stored). body.element) (spare_of cpu p.spares)
 
 pub going_on : (shape : Shape) (lists : Finals) (turns : List Happened) (p q : PassView) (cpu number : ℕ) (verb : Verb) (reply : Reply) (steps : List Turned)
-    → IsTrue (is_built_kind shape.kind) → HasBounds shape → IsSound shape lists → IsServedCall shape record { cpu = cpu; verb = verb } → Going shape lists turns p
+    → is_lru shape.kind ≡ false → HasBounds shape → IsSound shape lists → IsServedCall shape record { cpu = cpu; verb = verb } → Going shape lists turns p
     → q.view.steps ≡ p.view.steps ++ steps → Learns shape p.view q.view steps [] → All (IsBy cpu number) steps
     → IsPlainTrace shape cpu (option_map (λ (body : Stored). body.element) (spare_of cpu p.spares)) verb (map (turn_of shape) steps) reply
     → option_map (λ (body : Stored). body.element) (spare_of cpu q.spares) ≡ spare_after (option_map (λ (body : Stored). body.element) (spare_of cpu p.spares)) (map (turn_of shape) steps)
@@ -174,7 +175,7 @@ going_on shape lists turns p q cpu number verb reply steps built bounds sound se
     ∙ ap (content shape (lock_named shape k)) (going.entries (lock_named shape k) real) ∙ going.contents (lock_named shape k) real in
     let allowed = allowed_steps shape cpu number steps going.logs (lies lists) by lead learned.0 in
     let one = one_trace shape cpu (spare_at lists cpu) verb (lies lists) (map (turn_of shape) steps) (call_turns shape cpu verb lists) reply (after_call shape cpu verb lists).1
-    (none_evicts shape.kind built) (subst (λ (s : Option ℕ). IsPlainTrace shape cpu s verb (map (turn_of shape) steps) reply) (going.spares cpu) trace) allowed.0 does.trace does.allowed in
+    built (subst (λ (s : Option ℕ). IsPlainTrace shape cpu s verb (map (turn_of shape) steps) reply) (going.spares cpu) trace) allowed.0 does.trace does.allowed in
     let now : turns ++ happens shape cpu number steps ≡ turns ++ new = ap (λ (t : List Turn). turns ++ map (happened cpu number) t) one.0 in
     let entries : AreTurns shape (logs_after going.logs steps) (turns ++ new) =
     subst (AreTurns shape (logs_after going.logs steps)) now (turns_steps shape cpu number steps going.logs turns by going.entries) in (

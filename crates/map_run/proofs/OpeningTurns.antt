@@ -2,7 +2,7 @@
 -- The one takes the spares off the stacks one after another. The other takes the first elements of all stacks for spares,
 -- and leaves on each stack what is no spare.
 use Rattle.std.proofs.Common.{◌≡◌, ℕ, zero, suc, ◌+◌, ◌-◌, ◌<◌, ◌≤◌, Bool, true, false, not, cond, eqb, List, [], ◌∷◌, ◌++◌, length, map, take, drop, reverse, get_or, Option, Some, None, refl, ap, sym, ◌∙◌, arith, append-nil}
-use Rattle.std.specs.Prelude.{IsTrue, find, filter, option_map, replicate, sum_by}
+use Rattle.std.specs.Prelude.{◌&&◌, nat_lt, IsTrue, find, filter, option_map, replicate, sum_by}
 use Rattle.std.specs.List.{concat, flat_map, range_with_len, position_from}
 use Rattle.std.proofs.lemmas.Bool.{and_parts, ltb-true, ne_eqb}
 use Rattle.std.proofs.lemmas.List.{reverse-append, take-append-drop}
@@ -25,13 +25,11 @@ use Rattle.place_words.specs.Locks.{is_lock}
 use Rattle.place_words.specs.Openings.{opening_stack, opening_spares, opening_owner, opening_free, spare_owner, is_free}
 use Rattle.place_words.specs.Shares.{share_first, share_count, pushed_from}
 use Rattle.place_core.proofs.ElementLemmas.{by_test, times_append, times_cons_same}
-use Rattle.place_table.proofs.FirstSlots.{no_local, no_global, no_set}
+use Rattle.place_table.proofs.FirstSlots.{no_local, not_common}
 use Rattle.map_report.specs.Freelists.{stack_at, ring, first_not_empty, popped_at, popped, spares_popped}
 use Rattle.map_report.specs.Freelists as lists
 use Rattle.map_report.specs.Serial.{has_spares, opening}
-use Rattle.map_run.specs.Served.{is_built_kind}
 use Rattle.map_report.specs.Turns.{lies}
-use Rattle.map_run.proofs.CallTurns.{none_evicts}
 use Rattle.map_run.proofs.EachOnceOpening.{opening_stacks_permute}
 use Rattle.map_run.proofs.StackLemmas.{has_top, with_spare, spares_next, spares_end}
 
@@ -285,7 +283,7 @@ all_pass test [] pass = refl
 all_pass test (x ∷ xs) pass = ap (λ b. cond b (x ∷ filter test xs) (filter test xs)) (pass x) ∙ ap (λ (l : List ℕ). x ∷ l) (all_pass test xs pass)
 
 -- what is left on a CPU's stack is what is free there
-left_by_kind : (shape : Shape) (kind : MapKind) (cpu : ℕ) → 1 ≤ shape.cpus → IsTrue (is_built_kind kind) → cpu < shape.cpus
+left_by_kind : (shape : Shape) (kind : MapKind) (cpu : ℕ) → 1 ≤ shape.cpus → is_lru kind ≡ false → cpu < shape.cpus
     → stack_at (spares_popped (cond (has_spares kind) shape.cpus 0) (lists.opening_stacks shape.elements shape.cpus)).1 cpu ≡ filter (λ e. is_free (opening_owner shape kind e)) (opening_stack shape cpu)
 unfolding opening_owner
 left_by_kind shape Hash cpu some built within =
@@ -307,12 +305,16 @@ no_bodies zero bucket = refl
 no_bodies (suc n) zero = refl
 no_bodies (suc n) (suc bucket) = no_bodies n bucket
 
+-- no CPU of a map that doesn't evict has a list set of its own
+pub no_set : (shape : Shape) (cpu : ℕ) → is_lru shape.kind ≡ false → is_lock shape (CpuLru cpu) ≡ false
+no_set shape cpu plain = ap (λ (b : Bool). (b && not shape.common) && nat_lt cpu shape.cpus) plain
+
 -- the same lies under each lock at first
-pub opening_lies : (shape : Shape) → HasBounds shape → IsTrue (is_built_kind shape.kind) → (lock : DomainId) → IsTrue (is_lock shape lock) → lies (opening shape) lock ≡ opening_content shape lock
+pub opening_lies : (shape : Shape) → HasBounds shape → is_lru shape.kind ≡ false → (lock : DomainId) → IsTrue (is_lock shape lock) → lies (opening shape) lock ≡ opening_content shape lock
 unfolding opening opening_free
-opening_lies shape bounds built (Local cpu) there = let gone = no_local shape cpu bounds (none_evicts shape.kind built) in absurd cc
-opening_lies shape bounds built Global there = let gone = no_global shape bounds (none_evicts shape.kind built) in absurd cc
-opening_lies shape bounds built (CpuLru cpu) there = let gone = no_set shape cpu (none_evicts shape.kind built) in absurd cc
+opening_lies shape bounds built (Local cpu) there = let gone = no_local shape cpu (not_common shape bounds built) in absurd cc
+opening_lies shape bounds built Global there = let gone = not_common shape bounds built in absurd cc
+opening_lies shape bounds built (CpuLru cpu) there = let gone = no_set shape cpu built in absurd cc
 opening_lies shape bounds built (Bucket bucket) there = ap in_bucket (no_bodies shape.buckets bucket)
 opening_lies shape bounds built (Freelist cpu) there =
     let within : cpu < shape.cpus = ltb-true cpu shape.cpus (and_parts (not (is_lru shape.kind)) _ there).1 in

@@ -1,11 +1,11 @@
 -- The calls of a race's workers: on which locks their turns are, what they leave as spares, that they are concatenations of the
 -- calls' traces, and what they answer.
 use Rattle.std.proofs.Common.{◌≡◌, ◌≢◌, ℕ, suc, ◌<◌, Bool, true, false, ◌||◌, eqb, List, [], ◌∷◌, ◌++◌, length, map, get_or, drop, Option, Some, None, refl, ap, sym, ◌∙◌, ⊎_elim, subst, arith}
-use Rattle.std.specs.Prelude.{IsTrue, MatchBool, All, if◌then◌else◌}
+use Rattle.std.specs.Prelude.{MatchBool, All, if◌then◌else◌}
 use Rattle.std.specs.List.{AllByRecursion}
 use Rattle.std.proofs.lemmas.Bool.{eq-eqb, ne_eqb}
 use Rattle.std.proofs.lemmas.List.{map-append}
-use Rattle.std.proofs.lemmas.List.Elements.{All-nil, All-cons, All-append, recursion_from_All}
+use Rattle.std.proofs.lemmas.List.Elements.{All-nil, All-append, recursion_from_All}
 use Rattle.std.proofs.lemmas.Option.{none-some}
 use Rattle.map_types.specs.declared.attr.Shape.{Shape}
 use Rattle.map_types.specs.declared.call.Call.{Call}
@@ -13,19 +13,17 @@ use Rattle.map_types.specs.declared.call.Verb.{Verb}
 use Rattle.map_types.specs.declared.call.Verb.TheVariants as verbs
 use Rattle.map_types.specs.declared.reply.Reply.{Reply}
 use Rattle.map_types.specs.Kind.{is_lru}
-use Rattle.map_types.specs.Shape.{HasBounds}
 use Rattle.place_words.specs.declared.bucket_part.BucketPart.TheVariants.{Update, Delete, Take}
 use Rattle.place_words.specs.declared.bucket_part.Put.{Put}
 use Rattle.place_words.specs.declared.bucket_part.Put.TheVariants as puts
 use Rattle.place_words.specs.declared.free_part.FreePart.TheVariants.{Popped}
 use Rattle.place_words.specs.declared.history.LockHistory.{LockHistory}
 use Rattle.map_types.specs.ElementLists.{put}
-use Rattle.place_words.specs.Locks.{lock_named, lock_count}
+use Rattle.place_words.specs.Locks.{lock_named}
 use Rattle.place_words.specs.Named.{NameAll}
 use Rattle.place_words.specs.Traces.{Turn, ring, on_bucket_of, on_freelist_of, found_empty, pushes, element_gone, LooksFor, IsTrace, IsPlainTrace, spare_after_put, spare_after}
-use Rattle.place_words.specs.Turns.{TurnAt}
+use Rattle.place_words.specs.Turns.{TurnAt, turns_of}
 use Rattle.place_words.specs.Walks.{spare_left}
-use Rattle.place_words.proofs.LockLemmas.{number_of_named, number_within}
 use Rattle.place_core.proofs.ElementLemmas.{by_test, put_here}
 use Rattle.map_types.proofs.RowLemmas.{eqb_turned}
 use Rattle.place_table.specs.declared.view.Turned.{Turned}
@@ -34,14 +32,14 @@ use Rattle.place_table.specs.Rules.{StandsIn}
 use Rattle.place_table.proofs.Stands.{entry_is, earlier_is}
 use Rattle.hash_ops.proofs.Under.{plain_left}
 use Rattle.map_report.specs.Record.{MayAnswer, EachAnswered, has_cpu, entries_of, IsConcatenation}
-use Rattle.map_run.specs.Served.{is_built_kind, IsServedCall}
+use Rattle.map_run.specs.Served.{IsServedCall, IsServedVerb}
 use Rattle.map_run.specs.Work.{replies_of, IsCallBy, AreCallsBy}
-use Rattle.map_run.proofs.Closing.{IsReal, plain_kind}
-use Rattle.map_run.proofs.HistoryTurns.{matched}
+use Rattle.map_run.proofs.Closing.{IsReal}
+use Rattle.map_run.proofs.HistoryTurns.{by_bool, matched}
 use Rattle.map_run.proofs.PlainCalls.{plain_call}
 use Rattle.map_run.proofs.RaceKept.{steps_of}
 use Rattle.map_run.proofs.RingTurns.{spare_empty}
-use Rattle.map_run.proofs.TurnLocks.{OnLocks, all_parts, trace_real}
+use Rattle.map_run.proofs.TurnLocks.{all_parts}
 use Rattle.map_run.proofs.TurnSteps.{spare_more}
 
 -- Spares
@@ -117,30 +115,33 @@ module _ (shape : Shape) (cpu : ℕ) where
 
 -- Locks
 
-on_locks : (shape : Shape) (steps : List Turned) → OnLocks shape (map (turn_of shape) steps) → All (IsReal shape) steps
-on_locks shape [] real = All-nil (IsReal shape)
-on_locks shape (step ∷ steps) real =
-    All-cons (IsReal shape) step steps (subst (λ (k : ℕ). k < lock_count shape) (number_of_named shape step.lock) (number_within shape (lock_named shape step.lock) real.0), real.0)
-    (on_locks shape steps real.1)
-
-module _ (shape : Shape) (bounds : HasBounds shape) (built : IsTrue (is_built_kind shape.kind)) (cpu : ℕ) where
+module _ (shape : Shape) (cpu : ℕ) where
   -- the turns of a CPU's calls are on locks of the map
-  pub calls_real : (calls : List Call) (replies : List Reply) (number : ℕ) (spare last : Option ℕ) (steps : List Turned) → length replies ≡ length calls → AllByRecursion (IsServedCall shape) calls
+  pub calls_real : (calls : List Call) (replies : List Reply) (number : ℕ) (spare last : Option ℕ) (steps : List Turned) → length replies ≡ length calls
       → AreCallsBy shape cpu number calls spare last (replies_of cpu calls replies) steps → All (IsReal shape) steps
-  calls_real [] replies number spare last steps count served are = subst (All (IsReal shape)) (sym are.1) (All-nil (IsReal shape))
-  calls_real (call ∷ calls) [] number spare last steps count served are = absurd (omega arith)
-  calls_real (call ∷ calls) (reply ∷ replies) number spare last steps count served are =
+  calls_real [] replies number spare last steps count are = subst (All (IsReal shape)) (sym are.1) (All-nil (IsReal shape))
+  calls_real (call ∷ calls) [] number spare last steps count are = absurd (omega arith)
+  calls_real (call ∷ calls) (reply ∷ replies) number spare last steps count are =
       first_call shape cpu (All (IsReal shape) steps) number call calls spare last reply replies steps are
       (λ is mine rest split made more.
       subst (All (IsReal shape)) (sym split)
-      (All-append (IsReal shape) mine rest
-      (on_locks shape mine (trace_real shape bounds built call.cpu spare call.verb (map (turn_of shape) mine) reply served.0.cpu
-      (plain_call shape call.cpu spare mine reply (plain_kind shape.kind built) call.verb served.0.verb made.trace)))
-      (calls_real calls replies (suc number) (spare_left shape spare (map (turn_at shape) mine)) last rest (omega arith) served.1 more)))
-      (λ is more. calls_real calls replies (suc number) spare last steps (omega arith) served.1 more)
+      (All-append (IsReal shape) mine rest made.of_map (calls_real calls replies (suc number) (spare_left shape spare (map (turn_at shape) mine)) last rest (omega arith) more)))
+      (λ is more. calls_real calls replies (suc number) spare last steps (omega arith) more)
+
+-- a call leaves a CPU without a spare without one
+none_left : (shape : Shape) (call : Call) (spare : Option ℕ) (mine : List Turned) (reply : Reply) → IsServedVerb shape call.verb → IsTrace shape call.cpu spare call.verb (map (turn_at shape) mine) reply
+    → spare ≡ None → spare_left shape spare (map (turn_at shape) mine) ≡ None
+none_left shape call spare mine reply served trace none =
+    let turns : List Turn = map (turn_of shape) mine in
+    by_bool (is_lru shape.kind) (λ _. spare_left shape spare (map (turn_at shape) mine) ≡ None)
+    (λ lru. ap (λ (evicts : Bool). if evicts then spare else spare_after spare (turns_of (map (turn_at shape) mine))) lru ∙ none)
+    (λ plain.
+    let own : IsPlainTrace shape call.cpu None call.verb turns reply =
+    subst (λ (s : Option ℕ). IsPlainTrace shape call.cpu s call.verb turns reply) none (plain_call shape call.cpu spare mine reply plain call.verb served trace) in
+    sym (plain_left shape spare mine plain) ∙ ap (λ (s : Option ℕ). spare_after s turns) none ∙ none_by_call shape call.cpu call.verb turns reply own)
 
 -- where a CPU had no spare it has none after its calls
-module _ (shape : Shape) (plain : is_lru shape.kind ≡ false) (cpu : ℕ) where
+module _ (shape : Shape) (cpu : ℕ) where
   pub calls_spare : (calls : List Call) (replies : List Reply) (number : ℕ) (spare last : Option ℕ) (steps : List Turned) → length replies ≡ length calls → AllByRecursion (IsServedCall shape) calls → spare ≡ None
       → AreCallsBy shape cpu number calls spare last (replies_of cpu calls replies) steps → last ≡ None
   calls_spare [] replies number spare last steps count served none are = are.2 ∙ none
@@ -148,11 +149,8 @@ module _ (shape : Shape) (plain : is_lru shape.kind ≡ false) (cpu : ℕ) where
   calls_spare (call ∷ calls) (reply ∷ replies) number spare last steps count served none are =
       first_call shape cpu (last ≡ None) number call calls spare last reply replies steps are
       (λ is mine rest split made more.
-      let turns : List Turn = map (turn_of shape) mine in
-      let trace : IsPlainTrace shape call.cpu None call.verb turns reply =
-      subst (λ (s : Option ℕ). IsPlainTrace shape call.cpu s call.verb turns reply) none (plain_call shape call.cpu spare mine reply plain call.verb served.0.verb made.trace) in
       calls_spare calls replies (suc number) (spare_left shape spare (map (turn_at shape) mine)) last rest (omega arith) served.1
-      (sym (plain_left shape spare mine plain) ∙ ap (λ (s : Option ℕ). spare_after s turns) none ∙ none_by_call shape call.cpu call.verb turns reply trace) more)
+      (none_left shape call spare mine reply served.0.verb made.trace none) more)
       (λ is more. calls_spare calls replies (suc number) spare last steps (omega arith) served.1 none more)
 
 -- Traces, one after another

@@ -1,17 +1,13 @@
 -- The histories that a closed table hands out where no record is lost: one for each lock of the map, with the turns of that lock.
-use Rattle.std.proofs.Common.{◌≡◌, ℕ, zero, suc, ◌+◌, ◌<◌, ◌≤◌, true, false, not, ◌&&◌, cond, ltb, List, [], ◌∷◌, map, Some, All, refl, ap, sym, ◌∙◌, subst, arith}
+use Rattle.std.proofs.Common.{◌≡◌, ℕ, zero, suc, ◌+◌, ◌<◌, ◌≤◌, true, false, cond, List, [], ◌∷◌, map, Some, All, refl, ap, sym, ◌∙◌, subst, arith}
 use Rattle.std.specs.Prelude.{IsTrue, filter, slice_get, if◌then◌else◌}
 use Rattle.std.specs.List.{AllByRecursion, range_with_len}
-use Rattle.std.proofs.lemmas.Bool.{both_ways, ltb-true, and_parts}
 use Rattle.std.proofs.lemmas.List.Elements.{All-from_recursion}
 use Rattle.map_types.specs.declared.attr.Shape.{Shape}
 use Rattle.map_types.specs.declared.kind.DomainId.{DomainId}
-use Rattle.map_types.specs.declared.kind.DomainId.TheVariants.{Local, Global, CpuLru, Bucket, Freelist}
-use Rattle.map_types.specs.Kind.{is_lru}
-use Rattle.map_types.specs.Shape.{HasBounds}
 use Rattle.place_words.specs.declared.history.Entry.{Entry}
 use Rattle.place_words.specs.declared.history.LockHistory.{LockHistory}
-use Rattle.place_words.specs.Histories.{content, IsLegal}
+use Rattle.place_words.specs.Histories.{IsLegal}
 use Rattle.place_words.specs.Locks.{is_lock, is_same_lock, lock_named, lock_number, lock_count}
 use Rattle.place_words.proofs.LockLemmas.{named_by_number, number_within}
 use Rattle.place_core.proofs.ElementLemmas.{by_test}
@@ -20,9 +16,7 @@ use Rattle.place_table.specs.Closing.{ClosedView, IsClosed, has_lock, all_locks,
 use Rattle.place_table.specs.Passes.{PassView}
 use Rattle.place_table.specs.Rules.{StandsIn, StandIn}
 use Rattle.map_report.specs.Record.{entries_of, locks_of}
-use Rattle.map_report.specs.Turns.{lies}
-use Rattle.map_run.specs.Served.{is_built_kind}
-use Rattle.map_run.proofs.Closing.{IsReal, made_of_all, plain_kind, same_number}
+use Rattle.map_run.proofs.Closing.{IsReal, made_of_all, same_number}
 use Rattle.map_run.proofs.HistoryTurns.{by_bool}
 use Rattle.map_run.proofs.RaceCalls.{StandsThere}
 use Rattle.map_run.proofs.Whole.{none_lost}
@@ -96,17 +90,3 @@ module _ (shape : Shape) (p : PassView) (closed : ClosedView) (ends : IsClosed s
     subst (λ (l : List Entry). StandsIn l step) (sym (entries_at step.lock real.0.0 real.0.1)) stand.0,
     turns_stand steps real.1 stand.1,
   )
-
-  -- what the lists hold at the end is what the histories lead to
-  pub lies_at_end : HasBounds shape → IsTrue (is_built_kind shape.kind) → (lock : DomainId) → IsTrue (is_lock shape lock) → lies closed.finals lock ≡ content shape lock (entries_of closed.histories lock)
-  lies_at_end bounds built lock real = by_lock lock real ∙ ap (content shape lock) (sym (entries_told lock real))
-    where
-      plain : is_lru shape.kind ≡ false
-      plain = plain_kind shape.kind built
-
-      by_lock : (d : DomainId) → IsTrue (is_lock shape d) → lies closed.finals d ≡ content shape d (ends.log (lock_number shape d))
-      by_lock (Local cpu) is = let evicts = bounds.common_evicts (and_parts shape.common (ltb cpu shape.cpus) is).0 in absurd (both_ways (is_lru shape.kind) plain evicts)
-      by_lock Global is = let evicts = bounds.common_evicts is in absurd (both_ways (is_lru shape.kind) plain evicts)
-      by_lock (CpuLru cpu) is = absurd (both_ways (is_lru shape.kind) plain (and_parts (is_lru shape.kind) (not shape.common) (and_parts (is_lru shape.kind && not shape.common) (ltb cpu shape.cpus) is).0).0)
-      by_lock (Bucket bucket) is = ends.left.buckets_are bucket (ltb-true bucket shape.buckets is)
-      by_lock (Freelist cpu) is = ends.left.freelists_are cpu (ltb-true cpu shape.cpus (and_parts (not (is_lru shape.kind)) (ltb cpu shape.cpus) is).1)

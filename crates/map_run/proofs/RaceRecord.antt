@@ -1,8 +1,8 @@
 -- What is kept of a race whose closed table lost no record is a record of its script.
-use Rattle.std.proofs.Common.{◌≡◌, ◌≢◌, ℕ, ◌<◌, false, List, [], ◌∷◌, map, Option, Some, None, All, refl, ap, sym, ◌∙◌, subst, arith}
-use Rattle.std.specs.Prelude.{◌==◌, IsTrue, filter, slice_get}
+use Rattle.std.proofs.Common.{◌≡◌, ◌≢◌, ℕ, ◌<◌, true, false, List, [], ◌∷◌, map, Option, Some, None, All, refl, ap, sym, ◌∙◌, subst, arith}
+use Rattle.std.specs.Prelude.{◌==◌, IsTrue, MatchBool, filter, slice_get}
 use Rattle.std.specs.List.{AllByRecursion, range_with_len}
-use Rattle.std.proofs.lemmas.Bool.{eq-eqb, ne_eqb}
+use Rattle.std.proofs.lemmas.Bool.{both_ways, eq-eqb, ne_eqb}
 use Rattle.std.proofs.lemmas.List.Elements.{recursion_from_All}
 use Rattle.std.proofs.lemmas.List.FromFn.{length-map-range_with_len}
 use Rattle.std.proofs.lemmas.Option.{none-some}
@@ -12,32 +12,38 @@ use Rattle.map_types.specs.declared.kind.MapKind.{MapKind}
 use Rattle.map_types.specs.declared.kind.MapKind.TheVariants.{Hash, PercpuHash, LruHash, LruPercpuHash}
 use Rattle.map_types.specs.declared.reply.Reply.{Reply}
 use Rattle.map_types.specs.Stored.{Stored}
+use Rattle.map_types.specs.Kind.{is_lru}
 use Rattle.map_script.specs.declared.script.Script.{Script}
+use Rattle.place_words.specs.declared.finals.Finals.{Finals}
+use Rattle.place_words.specs.declared.history.Entry.{Entry}
 use Rattle.place_words.specs.declared.history.Strand.{Strand}
 use Rattle.place_words.specs.declared.history.StrandStep.{StrandStep}
+use Rattle.place_words.specs.Histories.{content}
 use Rattle.place_words.specs.Locks.{is_lock, lock_number}
 use Rattle.place_words.specs.Strands.{places_on}
 use Rattle.place_words.proofs.LockLemmas.{named_by_number}
-use Rattle.place_table.specs.Closing.{ClosedView, IsClosed, numbered}
+use Rattle.place_table.specs.Closing.{ClosedView, IsClosed, numbered, state_left}
 use Rattle.place_table.specs.Passes.{PassView, TableView, spare_of}
 use Rattle.place_table.specs.Rules.{turns_on, indexes, StandIn}
 use Rattle.place_table.specs.Views.{all_strands}
 use Rattle.hash_ops.specs.Calls.{element_of}
 use Rattle.map_report.specs.declared.record.RunRecord.{RunRecord}
-use Rattle.map_report.specs.Record.{places_by, entries_of, IsConcatenation, EachAnswered, IsRecord}
+use Rattle.map_report.specs.Record.{places_by, entries_of, IsConcatenation, EachAnswered, HasElements, HasListedElements, HoldsElements, Tells, IsRecord}
+use Rattle.map_report.proofs.LogContents.{tells}
 use Rattle.map_report.specs.Serial.{opening}
 use Rattle.map_report.specs.Turns.{spare_at}
 use Rattle.map_run.specs.Copies.{has_step, IsCopyOf}
-use Rattle.map_run.specs.Served.{is_built_kind, IsServedCall, IsServed}
+use Rattle.map_run.specs.Served.{IsServedCall, IsServed}
 use Rattle.map_run.specs.Work.{has_turn, replies_of, AreCallsBy, HaveRaced, strand_of_cpu, race_left, IsRaceRecord}
-use Rattle.map_run.proofs.CallTurns.{none_evicts}
+use Rattle.map_run.proofs.AnyRecord.{evicting_none}
+use Rattle.map_run.proofs.BothRuns.{own_lists}
 use Rattle.map_run.proofs.Closing.{IsReal}
 use Rattle.map_run.proofs.HistoryTurns.{by_bool}
 use Rattle.map_run.proofs.OpeningTurns.{no_opening_spares}
-use Rattle.map_run.proofs.PlainFinals.{tells, holds}
 use Rattle.map_run.proofs.RaceCalls.{StandsThere, calls_real, calls_spare, concatenation, each_call_answered}
-use Rattle.map_run.proofs.RaceFinals.{spare_is, elements_left}
-use Rattle.map_run.proofs.RaceHistories.{entries_told, locks_are, are_legal, on_cpus, turns_stand, lies_at_end}
+use Rattle.map_run.proofs.RaceFinals.{spares_by, spares_are, spare_is, nothing_in_hand, elements_left}
+use Rattle.map_run.proofs.RaceListed.{listed_left}
+use Rattle.map_run.proofs.RaceHistories.{entries_told, locks_are, are_legal, on_cpus, turns_stand}
 use Rattle.map_run.proofs.RaceKept.{steps_of, places_of_steps, strand_by, steps_there, own_strands, with_steps, strands_by_cpu, kept_is}
 use Rattle.map_run.proofs.RaceLists.{made_at, one_passes}
 use Rattle.map_run.proofs.RaceStrands.{worker, is_of, places_are, no_turn, worker_stands, owner, turns_of_cpu}
@@ -48,12 +54,16 @@ no_spare : (spare : Option Stored) → element_of spare ≡ None → spare ≡ N
 no_spare None none = refl
 no_spare (Some body) none = absurd (none-some body.element (sym none))
 
--- a built kind without spares has values for each CPU
-no_spares_of_kind : (shape : Shape) (kind : MapKind) → shape.kind ≡ kind → IsTrue (is_built_kind kind) → shape.kind ≢ Hash → (opening shape).spares ≡ []
-no_spares_of_kind shape Hash is built other = absurd (other is)
-no_spares_of_kind shape PercpuHash is built other = no_opening_spares shape is
-no_spares_of_kind shape LruHash is built other = cc
-no_spares_of_kind shape LruPercpuHash is built other = cc
+-- only a map of kind HASH has spares at first
+no_spares_of_kind : (shape : Shape) (kind : MapKind) → shape.kind ≡ kind → shape.kind ≢ Hash → (opening shape).spares ≡ []
+no_spares_of_kind shape Hash is other = absurd (other is)
+no_spares_of_kind shape PercpuHash is other = no_opening_spares shape is
+no_spares_of_kind shape LruHash is other = evicting_none shape LruHash is refl
+no_spares_of_kind shape LruPercpuHash is other = evicting_none shape LruPercpuHash is refl
+
+-- a kind that evicts isn't HASH
+evicting_kind : (kind : MapKind) → is_lru kind ≡ true → kind ≢ Hash
+evicting_kind kind lru is = let plain : is_lru kind ≡ false = ap is_lru is in absurd (both_ways (is_lru kind) plain lru)
 
 -- the CPUs of the strands, which are one for each CPU
 cpus_each : (kept : ℕ → List StrandStep) (numbers : List ℕ) → map (λ (strand : Strand). strand.cpus) (map (strand_by kept) numbers) ≡ map (λ cpu. cpu ∷ []) numbers
@@ -76,18 +86,18 @@ module _ (script : Script) (t : TableView) (p : PassView) (replies : List Reply)
 
   on_locks : (cpu : ℕ) → cpu < shape.cpus → All (IsReal shape) (raced.steps cpu)
   on_locks cpu real =
-      calls_real shape served.bounds served.kind cpu script.calls replies 1 (spare_at (opening shape) cpu) (element_of (spare_of cpu p.spares)) (raced.steps cpu) raced.counted calls_served (calls_of cpu real)
+      calls_real shape cpu script.calls replies 1 (spare_at (opening shape) cpu) (element_of (spare_of cpu p.spares)) (raced.steps cpu) raced.counted (calls_of cpu real)
 
   -- only a map of kind HASH has spares
   spareless : shape.kind ≢ Hash → (cpu : ℕ) → cpu < shape.cpus → spare_of cpu p.spares ≡ None
   spareless other cpu real =
       no_spare (spare_of cpu p.spares)
-      (calls_spare shape (none_evicts shape.kind served.kind) cpu script.calls replies 1 (spare_at (opening shape) cpu) (element_of (spare_of cpu p.spares)) (raced.steps cpu) raced.counted calls_served
-      (ap (λ (spares : List ℕ). slice_get spares cpu) (no_spares_of_kind shape shape.kind refl served.kind other)) (calls_of cpu real))
+      (calls_spare shape cpu script.calls replies 1 (spare_at (opening shape) cpu) (element_of (spare_of cpu p.spares)) (raced.steps cpu) raced.counted calls_served
+      (ap (λ (spares : List ℕ). slice_get spares cpu) (no_spares_of_kind shape shape.kind refl other)) (calls_of cpu real))
 
   last_is : (cpu : ℕ) → element_of (spare_of cpu p.spares) ≡ spare_at closed.finals cpu
   last_is cpu =
-      element_is (spare_of cpu p.spares) ∙ sym (spare_is shape p closed ends served.bounds served.kind raced.of_table.1 raced.all_cpus raced.in_no_call spareless cpu)
+      element_is (spare_of cpu p.spares) ∙ sym (spare_is shape p closed ends raced.of_table.1 raced.all_cpus raced.in_no_call spareless cpu)
 
   ended : (cpu : ℕ) → cpu < shape.cpus → AreCallsBy shape cpu 1 script.calls (spare_at (opening shape) cpu) (spare_at closed.finals cpu) (replies_of cpu script.calls replies) (raced.steps cpu)
   ended cpu real =
@@ -144,6 +154,28 @@ module _ (script : Script) (t : TableView) (p : PassView) (replies : List Reply)
   cpus_of : (cpu : ℕ) → cpu < shape.cpus → (strand_made cpu).cpus ≡ filter (λ c. c == cpu) (range_with_len 0 shape.cpus)
   cpus_of cpu real = sym (one_passes (λ c. c == cpu) cpu 0 shape.cpus (omega arith) (omega arith) (eq-eqb cpu cpu refl) (λ e other. ne_eqb e cpu other))
 
+  -- what the map holds at the end
+  told : (lock : DomainId) → IsTrue (is_lock shape lock) → Tells closed.finals lock (content shape lock (entries_of closed.histories lock))
+  told lock real =
+      subst (λ (z : Finals × List Entry). Tells z.0 lock (content shape lock z.1))
+      (λ i. (sym ends.left.finals_are i, sym (entries_told shape p closed ends whole lock real) i))
+      (tells shape (state_left shape ends.log ends.core.bit p.spares) lock real)
+
+  no_spares_left : (kind : MapKind) → shape.kind ≡ kind → is_lru kind ≡ true → closed.finals.spares ≡ []
+  no_spares_left Hash is lru = cc
+  no_spares_left PercpuHash is lru = cc
+  no_spares_left LruHash is lru = spares_are shape p closed ends raced.of_table.1 raced.all_cpus raced.in_no_call spareless ∙ ap (spares_by shape p closed ends raced.of_table.1 raced.all_cpus raced.in_no_call spareless) is
+  no_spares_left LruPercpuHash is lru = spares_are shape p closed ends raced.of_table.1 raced.all_cpus raced.in_no_call spareless ∙ ap (spares_by shape p closed ends raced.of_table.1 raced.all_cpus raced.in_no_call spareless) is
+
+  holds : HoldsElements shape closed.finals
+  holds =
+      by_bool (is_lru shape.kind) (λ b. MatchBool b (HasListedElements shape closed.finals) (HasElements shape closed.finals))
+      (λ lru.
+      listed_left shape p closed ends lru (own_lists shape.common served.built)
+      (nothing_in_hand shape p closed ends raced.of_table.1 raced.all_cpus raced.in_no_call spareless (evicting_kind shape.kind lru))
+      (no_spares_left shape.kind refl lru))
+      (λ plain. elements_left shape p closed ends raced.of_table.1 raced.all_cpus raced.in_no_call spareless served.bounds plain)
+
   is_record : IsRecord script left
   is_record = record {
     locks = locks_are shape p closed ends whole;
@@ -156,8 +188,8 @@ module _ (script : Script) (t : TableView) (p : PassView) (replies : List Reply)
     calls = each_strand (λ n strand. IsConcatenation shape closed.histories strand.cpus 1 script.calls replies (spare_at (opening shape)) (spare_at closed.finals) strand.steps)
         (λ cpu real. concatenation shape closed.histories cpu script.calls replies 1 (spare_at (opening shape)) (spare_at closed.finals) (spare_at (opening shape) cpu) (raced.steps cpu) raced.counted refl (stand cpu real) (ended cpu real));
     replies = answered;
-    contents = λ lock real. tells shape closed.finals lock _ served.bounds (none_evicts shape.kind served.kind) real (lies_at_end shape p closed ends whole served.bounds served.kind lock real);
-    finals = holds shape closed.finals (none_evicts shape.kind served.kind) (elements_left shape p closed ends served.bounds served.kind raced.of_table.1 raced.all_cpus raced.in_no_call spareless);
+    contents = told;
+    finals = holds;
   }
 
   is_race_record : IsRaceRecord script left

@@ -25,16 +25,16 @@ use Rattle.place_words.specs.Histories.{Content, marks, clears, bucket_in, freel
 use Rattle.place_words.specs.Locks.{is_lock, lock_named, lock_count}
 use Rattle.place_words.specs.Logs.{State, turned, all_turned, does, after_one, new_state, run, bucket_at, freelist_at, where_lock, final_set, final_local, globals_at, own_at, locals_at, finals_of}
 use Rattle.place_words.specs.Turns.{Turn}
-use Rattle.place_table.proofs.FirstSlots.{no_local, no_global, no_set}
+use Rattle.place_table.proofs.FirstSlots.{no_local, not_common}
 use Rattle.map_report.specs.ListRuns.{turns_of_script, serial_on_lists}
 use Rattle.map_report.specs.Runs.{serial}
 use Rattle.map_report.specs.Serial.{opening, lists_after, has_spares}
 use Rattle.map_report.specs.Soundness.{IsSound}
 use Rattle.map_report.specs.Turns.{Happened, entries_on, history_on}
 use Rattle.map_run.specs.Served.{IsServed}
-use Rattle.map_run.proofs.CallTurns.{none_evicts}
 use Rattle.map_run.proofs.HistoryTurns.{by_bool}
 use Rattle.map_run.proofs.LogLaws.{Follows, log_run}
+use Rattle.map_run.proofs.OpeningTurns.{no_set}
 use Rattle.map_run.proofs.SoundRun.{sound_end}
 use Rattle.map_run.proofs.Whole.{all_pass, none_pass}
 
@@ -127,9 +127,9 @@ module _ (shape : Shape) (lists : Finals) (turns : List Happened) (state : State
   same_finals : SetsNone state → finals_of shape state ≡ lists
   unfolding finals_of
   same_finals none =
-      let global = told_none shape (λ one. Global) (λ one. final_set (globals_at shape state)) 1 (λ one. no_global shape bounds plain) in
+      let global = told_none shape (λ one. Global) (λ one. final_set (globals_at shape state)) 1 (λ one. not_common shape bounds plain) in
       let own = told_none shape CpuLru (λ cpu. final_set (own_at shape state cpu)) shape.cpus (λ cpu. no_set shape cpu plain) in
-      let locals = told_none shape Local (λ cpu. final_local (locals_at shape state cpu)) shape.cpus (λ cpu. no_local shape cpu bounds plain) in
+      let locals = told_none shape Local (λ cpu. final_local (locals_at shape state cpu)) shape.cpus (λ cpu. no_local shape cpu (not_common shape bounds plain)) in
       let sets = (λ i. global i ++ own i) ∙ sym sound.no_lru_lists.sets in
       let all_locals = locals ∙ sym sound.no_lru_lists.locals in
       let marked = none_pass state.bits 0 shape.elements (λ e low high. none e) ∙ sym sound.no_lru_lists.marked in
@@ -153,17 +153,16 @@ same_histories shape turns logs same (k ∷ numbers) =
 
 -- The record
 
-pub one_record : (script : Script) → IsServed script → serial script ≡ serial_on_lists script
+pub one_record : (script : Script) → IsServed script → is_lru script.shape.kind ≡ false → serial script ≡ serial_on_lists script
 unfolding serial serial_on_lists
-one_record script served =
+one_record script served plain =
     let shape : Shape = script.shape in
-    let plain : is_lru shape.kind ≡ false = none_evicts shape.kind served.kind in
     let turns : List Happened = turns_of_script script in
     let lists : Finals = lists_after shape (opening shape) script.calls in
     let state : State = run shape 1 script.calls (new_state shape) in
-    let same = log_run script served in
+    let same = log_run script served plain in
     let histories = same_histories shape turns state.logs same.follows.logs (range_with_len 0 (lock_count shape)) in
-    let finals = same_finals shape lists turns state served.bounds plain (sound_end script served) same.follows (run_sets_none shape plain 1 script.calls (new_state shape) (λ e. refl)) in
+    let finals = same_finals shape lists turns state served.bounds plain (sound_end script served plain) same.follows (run_sets_none shape plain 1 script.calls (new_state shape) (λ e. refl)) in
     λ i. record {
       replies = same.replies i;
       histories = histories i;

@@ -1,7 +1,7 @@
 -- A serial run over the shared table: what its pass knows before the first call, after one call more, and what the closed table
 -- leaves at the end.
-use Rattle.std.proofs.Common.{◌≡◌, ℕ, suc, ◌+◌, ◌<◌, false, not, cond, List, [], ◌∷◌, ◌++◌, length, get_or, map, take, Option, Some, None, option_map, slice_get, All, refl, ap, sym, ◌∙◌, subst, arith}
-use Rattle.std.specs.Prelude.{IsTrue, filter}
+use Rattle.std.proofs.Common.{◌≡◌, ℕ, suc, ◌+◌, ◌<◌, Bool, true, false, not, cond, List, [], ◌∷◌, ◌++◌, length, get_or, map, take, Option, Some, None, option_map, slice_get, All, refl, ap, sym, ◌∙◌, subst, arith}
+use Rattle.std.specs.Prelude.{filter, flat_map, if◌then◌else◌}
 use Rattle.std.specs.List.{range_with_len}
 use Rattle.std.proofs.lemmas.Bool.{ne_eqb}
 use Rattle.std.proofs.lemmas.List.Elements.{All-get_or, All-take}
@@ -24,7 +24,8 @@ use Rattle.place_words.specs.Traces.{IsPlainTrace, spare_after}
 use Rattle.place_table.specs.declared.view.Turned.{Turned}
 use Rattle.place_table.specs.declared.view.View.{View}
 use Rattle.place_table.specs.Closing.{ClosedView, IsClosed}
-use Rattle.place_table.specs.Known.{turn_of}
+use Rattle.place_table.specs.Calls.{bits_of_part, bits_of_turns}
+use Rattle.place_table.specs.Known.{Learns, turn_of}
 use Rattle.place_table.specs.Opening.{first_spares}
 use Rattle.place_table.specs.Passes.{PassView, TableView, spare_of, begun, Goes, IsFirstPass, IsInNoCall, IsKeptOf}
 use Rattle.place_table.specs.Views.{is_among}
@@ -33,16 +34,16 @@ use Rattle.place_table.proofs.Going.{goes_of_table, kept_on}
 use Rattle.hash_ops.specs.Calls.{Called, element_of, spare_element}
 use Rattle.hash_ops.proofs.Under.{plain_left, trace_made, spare_made}
 use Rattle.map_report.specs.declared.record.RunRecord.{RunRecord}
-use Rattle.map_run.specs.Going.{Going, HaveRun, IsBetweenCalls}
+use Rattle.map_run.specs.Going.{Going, HaveRunOnLists, IsBetweenCalls}
 use Rattle.map_run.specs.Copies.{has_step, IsCopyOf}
 use Rattle.map_report.specs.ListRuns.{serial_on_lists}
 use Rattle.map_report.specs.Runs.{serial}
 use Rattle.map_run.specs.Copies.{record_left, strand_left}
 use Rattle.map_report.specs.Serial.{opening, after_call, replies_from, lists_after}
-use Rattle.map_run.specs.Served.{is_built_kind, IsServed, IsServedCall}
+use Rattle.map_run.specs.Served.{IsServed, IsServedCall}
 use Rattle.map_report.specs.Soundness.{IsSound}
 use Rattle.map_report.specs.Turns.{Happened, happened, call_turns, turns_from, histories_of_turns, steps_from, strand_of_turns}
-use Rattle.map_run.proofs.Closing.{left_by, plain_kind}
+use Rattle.map_run.proofs.Closing.{left_by}
 use Rattle.map_run.proofs.PlainCalls.{plain_call}
 use Rattle.map_run.proofs.OneCall.{going_on}
 use Rattle.map_run.proofs.OpeningTurns.{opening_lies, opening_spares_are, no_opening_spares}
@@ -85,6 +86,10 @@ going_begun shape lists turns p cpu number going = record {
 
 -- One call more
 
+-- on a map that doesn't evict no turn sets or clears a bit
+no_touches : (shape : Shape) (steps : List Turned) → is_lru shape.kind ≡ false → bits_of_turns shape steps ≡ []
+no_touches shape steps plain = ap (λ (evicts : Bool). if evicts then flat_map (λ (step : Turned). bits_of_part shape step.entry.part) steps else []) plain
+
 nothing_left : (first second : List ℕ) → first ++ second ≡ [] → (first ≡ []) × (second ≡ [])
 nothing_left [] second none = (refl, none)
 nothing_left (x ∷ first) second none = cc
@@ -106,9 +111,9 @@ element_is None = refl
 element_is (Some body) = refl
 
 module _ (t : TableView) (calls : List Call) (n : ℕ) (call : Call) (p q : PassView) (number : ℕ) (reply : Reply) (replies : List Reply)
-    (shape_is : IsShape t.shape) (built : IsTrue (is_built_kind t.shape.kind)) (served : All (IsServedCall t.shape) calls)
+    (shape_is : IsShape t.shape) (built : is_lru t.shape.kind ≡ false) (served : All (IsServedCall t.shape) calls)
     (at : slice_get calls n ≡ Some call) (own : IsServedCall t.shape call) (count : number ≡ suc n)
-    (run : HaveRun t (take n calls) p replies) (called : Called t (begun p call.cpu number) q call.verb reply) where
+    (run : HaveRunOnLists t (take n calls) p replies) (called : Called t (begun p call.cpu number) q call.verb reply) where
   abbrev lists : Finals
   lists = lists_after t.shape (opening t.shape) (take n calls)
 
@@ -126,15 +131,14 @@ module _ (t : TableView) (calls : List Call) (n : ℕ) (call : Call) (p q : Pass
       let begins : PassView = begun p call.cpu number in
       let steps : List Turned = called.steps in
       let left = none_lost none in
-      let plain : is_lru t.shape.kind ≡ false = plain_kind t.shape.kind built in
       let before : spare_element begins ≡ option_map (λ (body : Stored). body.element) (spare_of call.cpu p.spares) = element_is (spare_of call.cpu p.spares) in
       let after : spare_element q ≡ option_map (λ (body : Stored). body.element) (spare_of call.cpu q.spares) =
       element_is (spare_of q.cpu q.spares) ∙ ap (λ (cpu : ℕ). option_map (λ (body : Stored). body.element) (spare_of cpu q.spares)) called.leaves.made.goes.cpu in
       going_on t.shape lists turns begins q call.cpu number call.verb reply steps built (bounds_of_shape t.shape shape_is) sound own
-      (going_begun t.shape lists turns p call.cpu number (run.going left.1)) called.leaves.made.goes.steps called.leaves.learns called.leaves.by_call
+      (going_begun t.shape lists turns p call.cpu number (run.going left.1)) called.leaves.made.goes.steps (subst (Learns t.shape p.view q.view steps) (no_touches t.shape called.told built) called.leaves.learns) called.leaves.by_call
       (subst (λ (spare : Option ℕ). IsPlainTrace t.shape call.cpu spare call.verb (map (turn_of t.shape) steps) reply) before
-      (plain_call t.shape call.cpu (spare_element begins) steps reply plain call.verb own.verb (trace_made t begins q call.verb reply called left.0)))
-      (sym after ∙ spare_made t begins q call.verb reply called left.0 ∙ sym (plain_left t.shape (spare_element begins) steps plain) ∙ ap (λ (spare : Option ℕ). spare_after spare (map (turn_of t.shape) steps)) before)
+      (plain_call t.shape call.cpu (spare_element begins) steps reply built call.verb own.verb (trace_made t begins q call.verb reply called left.0)))
+      (sym after ∙ spare_made t begins q call.verb reply called left.0 ∙ sym (plain_left t.shape (spare_element begins) steps built) ∙ ap (λ (spare : Option ℕ). spare_after spare (map (turn_of t.shape) steps)) before)
       called.leaves.other_spares
 
   turns_are : turns ++ map (happened call.cpu number) (call_turns t.shape call.cpu call.verb lists) ≡ turns_from t.shape (opening t.shape) 1 (take (suc n) calls)
@@ -143,34 +147,34 @@ module _ (t : TableView) (calls : List Call) (n : ℕ) (call : Call) (p q : Pass
       ap (λ (k : ℕ). turns ++ map (happened call.cpu k) (call_turns t.shape call.cpu call.verb lists)) same
       ∙ sym (turns_next t.shape (opening t.shape) 1 calls n call at)
 
-  run_more : HaveRun t (take (suc n) calls) q (replies ++ reply ∷ [])
+  run_more : HaveRunOnLists t (take (suc n) calls) q (replies ++ reply ∷ [])
   run_more = record {
-    between = between_more t (begun p call.cpu number) q called.steps called.lost (between_begun t p call.cpu number run.between) called.leaves.made.goes called.leaves.in_no_call called.leaves.bits;
+    between = between_more t (begun p call.cpu number) q called.steps called.lost (between_begun t p call.cpu number run.between) called.leaves.made.goes called.leaves.in_no_call (called.leaves.bits built);
     going = λ none. subst (λ (after : Finals). Going t.shape after (turns_from t.shape (opening t.shape) 1 (take (suc n) calls)) q) (sym (lists_next t.shape (opening t.shape) calls n call at))
         (subst (λ (all : List Happened). Going t.shape (after_call t.shape call.cpu call.verb lists).0 all q) turns_are (on none).0);
     answered = λ none. (λ i. run.answered (none_lost none).1 i ++ (on none).1 i ∷ []) ∙ sym (replies_next t.shape (opening t.shape) calls n call at);
   }
 
-pub run_next : (t : TableView) (calls : List Call) (n : ℕ) (call : Call) (p q : PassView) (number : ℕ) (reply : Reply) (replies after : List Reply)
-    → IsShape t.shape → IsTrue (is_built_kind t.shape.kind) → All (IsServedCall t.shape) calls → n < length calls → call ≡ get_or calls n call → number ≡ n + 1
-    → HaveRun t (take n calls) p replies → Called t (begun p call.cpu number) q call.verb reply → after ≡ replies ++ reply ∷ [] → HaveRun t (take (n + 1) calls) q after
-run_next t calls n call p q number reply replies after shape_is built served within is count run called pushed =
+pub next_on_lists : (t : TableView) (calls : List Call) (n : ℕ) (call : Call) (p q : PassView) (number : ℕ) (reply : Reply) (replies after : List Reply)
+    → IsShape t.shape → is_lru t.shape.kind ≡ false → All (IsServedCall t.shape) calls → n < length calls → call ≡ get_or calls n call → number ≡ n + 1
+    → HaveRunOnLists t (take n calls) p replies → Called t (begun p call.cpu number) q call.verb reply → after ≡ replies ++ reply ∷ [] → HaveRunOnLists t (take (n + 1) calls) q after
+next_on_lists t calls n call p q number reply replies after shape_is built served within is count run called pushed =
     let at : slice_get calls n ≡ Some call = slice_get_read calls (length calls) n call refl within is in
     let own : IsServedCall t.shape call = subst (IsServedCall t.shape) (sym is) (All-get_or (IsServedCall t.shape) calls n call within served) in
     let next : suc n ≡ n + 1 = omega arith in
-    subst (λ (k : ℕ). HaveRun t (take k calls) q after) next
-    (subst (HaveRun t (take (suc n) calls) q) (sym pushed) (run_more t calls n call p q number reply replies shape_is built served at own (count ∙ sym next) run called))
+    subst (λ (k : ℕ). HaveRunOnLists t (take k calls) q after) next
+    (subst (HaveRunOnLists t (take (suc n) calls) q) (sym pushed) (run_more t calls n call p q number reply replies shape_is built served at own (count ∙ sym next) run called))
 
 -- Before the first call
 
-spares_open : (shape : Shape) (kind : MapKind) → HasBounds shape → IsTrue (is_built_kind kind) → shape.kind ≡ kind → (opening shape).spares ≡ first_spares kind shape
+spares_open : (shape : Shape) (kind : MapKind) → HasBounds shape → is_lru kind ≡ false → shape.kind ≡ kind → (opening shape).spares ≡ first_spares kind shape
 spares_open shape Hash bounds built is = opening_spares_are shape bounds is
 spares_open shape PercpuHash bounds built is = no_opening_spares shape is
 spares_open shape LruHash bounds built is = cc
 spares_open shape LruPercpuHash bounds built is = cc
 
-pub run_first : (t : TableView) (p : PassView) → IsShape t.shape → IsTrue (is_built_kind t.shape.kind) → IsFirstPass t p → HaveRun t [] p []
-run_first t p shape_is built first =
+pub first_on_lists : (t : TableView) (p : PassView) → IsShape t.shape → is_lru t.shape.kind ≡ false → IsFirstPass t p → HaveRunOnLists t [] p []
+first_on_lists t p shape_is built first =
     let bounds = bounds_of_shape t.shape shape_is in
     let view = first.view_is in
     record {
@@ -198,11 +202,11 @@ strands_there shape (step ∷ steps) =
     let strand : Strand = record { cpus = range_with_len 0 shape.cpus; steps = step ∷ steps } in
     ap (λ b. cond (not b) (strand ∷ []) []) (ne_eqb (suc (length steps)) 0 (λ is. omega arith))
 
-pub is_copy : (t : TableView) (shape : Shape) (calls : List Call) (p : PassView) (kept : RunRecord) (closed back : ClosedView) (replies : List Reply) → t.shape ≡ shape → IsShape t.shape → HaveRun t calls p replies → IsClosed t.shape p closed
+pub is_copy : (t : TableView) (shape : Shape) (p : PassView) (kept : RunRecord) (closed back : ClosedView) (replies : List Reply) → t.shape ≡ shape → IsShape t.shape → p.view.ended ≡ [] → ((cpu : ℕ) → cpu < t.shape.cpus → is_among cpu p.view.cpus ≡ true) → IsClosed t.shape p closed
     → (kept ≡ record_left shape.cpus replies closed) × (back ≡ closed) × (closed.lost ≡ false) → IsCopyOf kept back
-is_copy t shape calls p kept closed back replies same shape_is run ends is =
+is_copy t shape p kept closed back replies same shape_is ended all_cpus ends is =
     let told : closed.strands ≡ strands_of t.shape p.view.kept =
-    strands_are_told t.shape p closed ends is.2 (bounds_of_shape t.shape shape_is) ∙ told_of_one t.shape p.view run.between.ended run.between.all_cpus in
+    strands_are_told t.shape p closed ends is.2 (bounds_of_shape t.shape shape_is) ∙ told_of_one t.shape p.view ended all_cpus in
     let copy : IsCopyOf (record_left t.shape.cpus replies closed) closed = record {
       histories = refl;
       strands = subst (λ (strands : List Strand). filter has_step (strand_left t.shape.cpus strands ∷ []) ≡ strands) (sym told) (strands_there t.shape p.view.kept);
@@ -223,8 +227,8 @@ ran shape calls =
       finals = lists_after shape (opening shape) calls;
     }
 
-all_ran : (t : TableView) (calls : List Call) (p : PassView) (closed : ClosedView) (replies : List Reply) → IsShape t.shape → IsTrue (is_built_kind t.shape.kind) → All (IsServedCall t.shape) calls
-    → HaveRun t calls p replies → IsClosed t.shape p closed → closed.lost ≡ false → record_left t.shape.cpus replies closed ≡ ran t.shape calls
+all_ran : (t : TableView) (calls : List Call) (p : PassView) (closed : ClosedView) (replies : List Reply) → IsShape t.shape → is_lru t.shape.kind ≡ false → All (IsServedCall t.shape) calls
+    → HaveRunOnLists t calls p replies → IsClosed t.shape p closed → closed.lost ≡ false → record_left t.shape.cpus replies closed ≡ ran t.shape calls
 all_ran t calls p closed replies shape_is built served run ends whole =
     let lists : Finals = lists_after t.shape (opening t.shape) calls in
     let turns : List Happened = turns_from t.shape (opening t.shape) 1 calls in
@@ -234,11 +238,11 @@ all_ran t calls p closed replies shape_is built served run ends whole =
     let strand : strand_left t.shape.cpus closed.strands ≡ strand_of_turns t.shape turns = ap (strand_left t.shape.cpus) left.strands ∙ strand_is t.shape (steps_from [] turns) in
     λ i. record { replies = run.answered none i; histories = left.histories i; strands = strand i ∷ []; finals = left.finals i }
 
-pub run_end : (script : Script) (t : TableView) (p : PassView) (closed : ClosedView) (replies : List Reply) → t.shape ≡ script.shape → IsShape t.shape → IsServed script
-    → HaveRun t script.calls p replies → IsClosed t.shape p closed → closed.lost ≡ false → record_left script.shape.cpus replies closed ≡ serial script
+pub end_on_lists : (script : Script) (t : TableView) (p : PassView) (closed : ClosedView) (replies : List Reply) → t.shape ≡ script.shape → IsShape t.shape → is_lru script.shape.kind ≡ false → IsServed script
+    → HaveRunOnLists t script.calls p replies → IsClosed t.shape p closed → closed.lost ≡ false → record_left script.shape.cpus replies closed ≡ serial script
 unfolding serial_on_lists
-run_end script t p closed replies same shape_is served run ends whole =
+end_on_lists script t p closed replies same shape_is plain served run ends whole =
     subst (λ (shape : Shape). record_left shape.cpus replies closed ≡ ran shape script.calls) same
-    (all_ran t script.calls p closed replies shape_is (subst (λ (shape : Shape). IsTrue (is_built_kind shape.kind)) (sym same) served.kind)
+    (all_ran t script.calls p closed replies shape_is (subst (λ (shape : Shape). is_lru shape.kind ≡ false) (sym same) plain)
     (subst (λ (shape : Shape). All (IsServedCall shape) script.calls) (sym same) served.calls) run ends whole)
-    ∙ sym (one_record script served)
+    ∙ sym (one_record script served plain)

@@ -109,7 +109,7 @@ module _ (t : TableView) (p : PassView) (first : IsFirstPass t p) (cpu : ℕ) wh
   none_first out LruHash is = omega arith
   none_first out LruPercpuHash is = omega arith
 
-  spare_first : (found : Option Stored) → spare_of cpu p.spares ≡ found → option_map (λ (body : Stored). body.element) found ≡ slice_get (first_spares t.shape.kind t.shape) cpu
+  pub spare_first : (found : Option Stored) → spare_of cpu p.spares ≡ found → option_map (λ (body : Stored). body.element) found ≡ slice_get (first_spares t.shape.kind t.shape) cpu
   spare_first None is = sym (slice_get_past (first_spares t.shape.kind t.shape) cpu (none_first is t.shape.kind refl))
   spare_first (Some body) is =
       let spares : List ℕ = first_spares t.shape.kind t.shape in

@@ -1,5 +1,5 @@
 -- Rows of turns: parts of a row, contents that are alike, and freelists that are found empty.
-use Rattle.std.proofs.Common.{◌≡◌, ℕ, Bool, true, false, cond, List, [], ◌∷◌, ◌++◌, refl, ap, ◌∙◌, subst}
+use Rattle.std.proofs.Common.{◌≡◌, ℕ, Bool, true, false, cond, List, [], ◌∷◌, ◌++◌, refl, ap, ◌∙◌}
 use Rattle.std.proofs.Math.Path.{fun_ext}
 use Rattle.map_types.specs.declared.attr.Shape.{Shape}
 use Rattle.map_types.specs.declared.kind.DomainId.{DomainId}

@@ -1,5 +1,5 @@
 -- The turns of a call are on locks that the map has.
-use Rattle.std.proofs.Common.{◌≡◌, ℕ, zero, suc, ◌+◌, ◌-◌, ◌<◌, ◌≤◌, true, not, nat_lt, List, [], ◌∷◌, ◌++◌, Option, Some, None, ⊎_elim, sym, subst, arith}
+use Rattle.std.proofs.Common.{false, ◌≡◌, ℕ, zero, suc, ◌+◌, ◌-◌, ◌<◌, ◌≤◌, true, not, nat_lt, List, [], ◌∷◌, ◌++◌, Option, Some, None, ⊎_elim, sym, subst, arith}
 use Rattle.std.specs.Prelude.{◌&&◌, IsTrue}
 use Rattle.std.specs.List.{AllByRecursion, range_with_len}
 use Rattle.std.proofs.lemmas.Bool.{lt-ltb}
@@ -21,7 +21,6 @@ use Rattle.place_words.specs.declared.free_part.FreePart.{FreePart}
 use Rattle.place_words.specs.declared.free_part.FreePart.TheVariants.{Pushed, Popped, FoundEmpty}
 use Rattle.place_words.specs.Locks.{is_lock}
 use Rattle.place_words.specs.Traces.{Turn, bucket_of_key, ring, on_bucket_of, on_freelist_of, found_empty, Pops, pushes, LooksFor, IsPlainTrace, element_gone}
-use Rattle.map_run.specs.Served.{is_built_kind}
 
 -- Facts of each of a list
 
@@ -42,7 +41,7 @@ abbrev pub OnLocks : Shape → List Turn → Type 0
 OnLocks shape turns = AllByRecursion (OnLock shape) turns
 
 -- no built kind evicts, so that each CPU has a freelist
-freelist_there : (kind : MapKind) (cpu cpus : ℕ) → IsTrue (is_built_kind kind) → cpu < cpus → (not (is_lru kind) && nat_lt cpu cpus) ≡ true
+freelist_there : (kind : MapKind) (cpu cpus : ℕ) → is_lru kind ≡ false → cpu < cpus → (not (is_lru kind) && nat_lt cpu cpus) ≡ true
 freelist_there Hash cpu cpus built within = lt-ltb cpu cpus within
 freelist_there PercpuHash cpu cpus built within = lt-ltb cpu cpus within
 freelist_there LruHash cpu cpus built within = cc
@@ -60,7 +59,7 @@ ring_below : (cpu cpus : ℕ) → cpu < cpus → AllBelow cpus (ring cpu cpus)
 ring_below cpu cpus within =
     all_append (λ x. x < cpus) (range_with_len cpu (cpus - cpu)) (range_with_len 0 cpu) (range_below cpus cpu (cpus - cpu) (omega arith)) (range_below cpus 0 cpu (omega arith))
 
-module _ (shape : Shape) (bounds : HasBounds shape) (built : IsTrue (is_built_kind shape.kind)) where
+module _ (shape : Shape) (bounds : HasBounds shape) (built : is_lru shape.kind ≡ false) where
   bucket_real : (key : List ℕ) (part : BucketPart) → OnLock shape (on_bucket_of shape key part)
   bucket_real key part = lt-ltb (bucket_of_key shape key) shape.buckets (bucket_number-lt (hash key shape.seed) shape.buckets bounds.buckets_power)
 

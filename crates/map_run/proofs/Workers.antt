@@ -1,6 +1,6 @@
 -- Workers of a race: passes split off the first one, the calls of each CPU, and passes joined again.
 use Rattle.std.proofs.Common.{◌≡◌, ◌≢◌, ℕ, zero, suc, ◌+◌, ◌<◌, Bool, true, false, cond, eqb, List, [], ◌∷◌, ◌++◌, length, get_or, map, take, Option, Some, None, option_map, refl, ap, sym, ◌∙◌, subst, arith, append_assoc, append-nil}
-use Rattle.std.specs.Prelude.{IsTrue, MatchBool, filter}
+use Rattle.std.specs.Prelude.{MatchBool, filter, slice_get}
 use Rattle.std.proofs.lemmas.List.{length-append, length-take-le}
 use Rattle.std.proofs.lemmas.List.Elements.{filter-append}
 use Rattle.std.proofs.lemmas.Option.{slice_get_read}
@@ -10,9 +10,9 @@ use Rattle.map_types.specs.declared.kind.MapKind.{MapKind}
 use Rattle.map_types.specs.declared.kind.MapKind.TheVariants.{Hash, PercpuHash, LruHash, LruPercpuHash}
 use Rattle.map_types.specs.declared.reply.Reply.{Reply}
 use Rattle.map_types.specs.Creation.{IsShape}
-use Rattle.map_types.specs.Shape.{HasBounds}
 use Rattle.map_types.specs.Stored.{Stored}
 use Rattle.map_types.proofs.CreationLemmas.{bounds_of_shape}
+use Rattle.place_words.specs.Logs as logs
 use Rattle.place_words.specs.Walks.{spare_left}
 use Rattle.place_core.proofs.ElementLemmas.{by_test}
 use Rattle.place_table.specs.declared.view.Turned.{Turned}
@@ -29,11 +29,11 @@ use Rattle.hash_ops.proofs.Under.{trace_made, spare_made}
 use Rattle.map_report.specs.Serial.{opening}
 use Rattle.map_report.specs.Turns.{spare_at}
 use Rattle.map_run.specs.declared.worker.Worker.{Worker}
-use Rattle.map_run.specs.Served.{is_built_kind}
 use Rattle.map_run.specs.Work.{AreCallsBy, HasWorked, IsCallBy, count_of, has_turn}
 use Rattle.map_run.specs.Workers.{HaveWorked, HasDone, HasSplit}
-use Rattle.map_run.proofs.OpeningTurns.{opening_lies, opening_spares_are, no_opening_spares}
-use Rattle.map_run.proofs.SerialRun.{going_first, take_next}
+use Rattle.map_run.proofs.AnyRecord.{spares_of}
+use Rattle.map_run.proofs.CallsByLogs.{all_real}
+use Rattle.map_run.proofs.SerialRun.{spare_first, take_next}
 
 -- CPUs
 
@@ -75,23 +75,23 @@ element_is : (spare : Option Stored) → element_of spare ≡ option_map (λ (bo
 element_is None = refl
 element_is (Some body) = refl
 
-spares_open : (shape : Shape) (kind : MapKind) → HasBounds shape → IsTrue (is_built_kind kind) → shape.kind ≡ kind → (opening shape).spares ≡ first_spares kind shape
-spares_open shape Hash bounds built is = opening_spares_are shape bounds is
-spares_open shape PercpuHash bounds built is = no_opening_spares shape is
-spares_open shape LruHash bounds built is = cc
-spares_open shape LruPercpuHash bounds built is = cc
+-- the first spares, as the table has them and as a run does
+first_same : (shape : Shape) (kind : MapKind) → first_spares kind shape ≡ logs.first_spares shape kind
+first_same shape Hash = refl
+first_same shape PercpuHash = refl
+first_same shape LruHash = refl
+first_same shape LruPercpuHash = refl
 
-pub first_split : (t : TableView) (p : PassView) → IsShape t.shape → IsTrue (is_built_kind t.shape.kind) → IsFirstPass t p → HasSplit t 0 p
-first_split t p shape_is built first =
-    let bounds = bounds_of_shape t.shape shape_is in
-    let going = going_first t p first (opening_lies t.shape bounds built) (spares_open t.shape t.shape.kind bounds built refl) in
+pub first_split : (t : TableView) (p : PassView) → IsShape t.shape → IsFirstPass t p → HasSplit t 0 p
+first_split t p shape_is first =
+    let spares_open = spares_of t.shape (bounds_of_shape t.shape shape_is) t.shape.kind refl in
     record {
       of_table = (first.table_is, ap (λ (v : View). v.shape) first.view_is);
       in_no_call = first.in_no_call;
       gone = λ cpu none. absurd (omega arith);
       here = λ cpu _ below. first_has t p cpu first below;
       spares_gone = λ cpu none. absurd (omega arith);
-      spares = λ cpu _. element_is (spare_of cpu p.spares) ∙ going.spares cpu;
+      spares = λ cpu _. element_is (spare_of cpu p.spares) ∙ spare_first t p first cpu (spare_of cpu p.spares) refl ∙ ap (λ (spares : List ℕ). slice_get spares cpu) (first_same t.shape t.shape.kind ∙ sym spares_open);
       no_turns = ap (λ (v : View). filter has_turn (all_strands v)) first.view_is;
     }
 
@@ -247,7 +247,7 @@ module _ (t : TableView) (calls : List Call) (call : Call) (p q : PassView) (num
       (λ (last : Option ℕ). AreCallsBy t.shape call.cpu 1 (calls ++ call ∷ []) (spare_at (opening t.shape) call.cpu) last (replies ++ reply ∷ []) (p.view.steps ++ called.steps))
       last_is
       (own_more t.shape call.cpu 1 number calls call (spare_at (opening t.shape) call.cpu) (element_of (spare_of call.cpu p.spares)) replies reply p.view.steps called.steps
-      (worked.calls_are left.1) refl count record { by_call = called.leaves.by_call; trace = trace_made t (begun p call.cpu number) q call.verb reply called left.0; answers = answers })
+      (worked.calls_are left.1) refl count record { by_call = called.leaves.by_call; of_map = all_real t.shape called.steps called.leaves.learns.allowed; trace = trace_made t (begun p call.cpu number) q call.verb reply called left.0; answers = answers })
 
   worked_more : HasWorked t call.cpu (calls ++ call ∷ []) q (replies ++ reply ∷ [])
   worked_more =

@@ -1,9 +1,10 @@
 -- What a pass knows while a serial run goes on.
-use Rattle.std.specs.Prelude.{◌≡◌, ℕ, ◌<◌, true, IsTrue, All, List, [], map, option_map}
+use Rattle.std.specs.Prelude.{◌≡◌, ℕ, ◌<◌, true, IsTrue, MatchBool, All, List, [], map, option_map}
 use Rattle.map_types.specs.declared.attr.Shape.{Shape}
 use Rattle.map_types.specs.declared.call.Call.{Call}
 use Rattle.map_types.specs.declared.kind.DomainId.{DomainId}
 use Rattle.map_types.specs.declared.reply.Reply.{Reply}
+use Rattle.map_types.specs.Kind.{is_lru}
 use Rattle.map_types.specs.Stored.{Stored}
 use Rattle.place_words.specs.declared.finals.Finals.{Finals}
 use Rattle.place_words.specs.declared.history.Entry.{Entry}
@@ -15,6 +16,7 @@ use Rattle.place_table.specs.Passes.{PassView, TableView, spare_of, IsInNoCall, 
 use Rattle.place_table.specs.Views.{is_among, place_of, kept_step, no_bits}
 use Rattle.map_report.specs.Serial.{opening, lists_after, replies_from}
 use Rattle.map_report.specs.Turns.{Happened, lies, spare_at, turns_from, entries_on, steps_from}
+use Rattle.map_run.specs.ByLogs.{HaveRunByLogs}
 
 -- What a pass with all CPUs knows after some calls of a serial run: the turns of all locks are those that happened, and lead to these lists.
 pub record Going (shape : Shape) (lists : Finals) (turns : List Happened) (p : PassView) : Type 0 where
@@ -36,9 +38,13 @@ pub record IsBetweenCalls (t : TableView) (p : PassView) : Type 0 where
   pub ended : p.view.ended ≡ []
   pub kept : IsKeptOf t.shape p.view.steps [] p.view.kept
 
--- These calls were run from the table's opening on, and answered so. Nothing is said of what they did and answered where the
--- pass knows that the record of a lock is lost.
-pub record HaveRun (t : TableView) (calls : List Call) (p : PassView) (replies : List Reply) : Type 0 where
+-- These calls were run from the table's opening on, on a map that doesn't evict, and answered so. Nothing is said of what they did
+-- and answered where the pass knows that the record of a lock is lost.
+pub record HaveRunOnLists (t : TableView) (calls : List Call) (p : PassView) (replies : List Reply) : Type 0 where
   pub between : IsBetweenCalls t p
   pub going : p.view.lost ≡ [] → Going t.shape (lists_after t.shape (opening t.shape) calls) (turns_from t.shape (opening t.shape) 1 calls) p
   pub answered : p.view.lost ≡ [] → replies ≡ replies_from t.shape (opening t.shape) calls
+
+-- the same on a map of either sort
+abbrev pub HaveRun : TableView → List Call → PassView → List Reply → Type 0
+HaveRun t calls p replies = MatchBool (is_lru t.shape.kind) (HaveRunByLogs t calls p replies) (HaveRunOnLists t calls p replies)

@@ -1,3 +1,4 @@
+pub mod ByLogs
 pub mod Copies
 pub mod Entries
 pub mod Finish

@@ -1,5 +1,5 @@
--- The scripts whose run is built: those of maps that don't evict, without walks and batches.
-use Rattle.std.specs.Prelude.{◌≡◌, ◌<◌, ◌&&◌, Bool, true, false, IsTrue, length, All}
+-- The scripts whose run is built: those of maps whose CPUs share no lists, without walks and batches.
+use Rattle.std.specs.Prelude.{◌≡◌, ◌<◌, ◌&&◌, Bool, true, false, not, IsTrue, length, All}
 use Rattle.std.specs.List.{list_all}
 use Rattle.map_types.specs.Shape.{HasBounds}
 use Rattle.map_types.specs.ValueLen.{value_len_of}
@@ -7,8 +7,6 @@ use Rattle.map_types.specs.declared.attr.Shape.{Shape}
 use Rattle.map_types.specs.declared.call.Call.{Call}
 use Rattle.map_types.specs.declared.call.Verb.{Verb}
 use Rattle.map_types.specs.declared.call.Verb.TheVariants.{Lookup, Update, Delete, Take, Next, BatchRead, BatchUpdate, BatchDelete}
-use Rattle.map_types.specs.declared.kind.MapKind.{MapKind}
-use Rattle.map_types.specs.declared.kind.MapKind.TheVariants.{Hash, PercpuHash, LruHash, LruPercpuHash}
 use Rattle.map_script.specs.declared.script.Form.TheVariants.{Calls}
 use Rattle.map_script.specs.declared.script.Script.{Script}
 use Rattle.map_script.specs.Reading.{IsReadAs}
@@ -17,11 +15,9 @@ use Rattle.map_script.specs.Reading.{IsReadAs}
 abbrev pub IsScript : Script → Type 0
 IsScript script = IsReadAs Calls script
 
-abbrev pub is_built_kind : MapKind → Bool
-is_built_kind Hash = true
-is_built_kind PercpuHash = true
-is_built_kind LruHash = false
-is_built_kind LruPercpuHash = false
+-- a map that doesn't evict, or one that evicts whose CPUs have lists of their own
+abbrev pub is_built_map : Shape → Bool
+is_built_map shape = not shape.common
 
 abbrev pub is_built_verb : Verb → Bool
 is_built_verb (Lookup side key) = true
@@ -36,7 +32,7 @@ is_built_verb (BatchDelete flags keys) = false
 -- the run of the script is built
 abbrev pub is_built : Script → Bool
 is_built script =
-    is_built_kind script.shape.kind && list_all (λ call. is_built_verb call.verb) script.calls
+    is_built_map script.shape && list_all (λ call. is_built_verb call.verb) script.calls
 
 -- the keys and values have the map's sizes
 abbrev pub IsServedVerb : Shape → Verb → Type 0
@@ -56,6 +52,6 @@ pub record IsServedCall (shape : Shape) (call : Call) : Type 0 where
 
 -- what is known of a script whose run is built
 pub record IsServed (script : Script) : Type 0 where
-  pub kind : IsTrue (is_built_kind script.shape.kind)
+  pub built : IsTrue (is_built_map script.shape)
   pub bounds : HasBounds script.shape
   pub calls : All (IsServedCall script.shape) script.calls

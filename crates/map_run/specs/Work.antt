@@ -16,11 +16,12 @@ use Rattle.place_table.specs.Closing.{ClosedView}
 use Rattle.place_table.specs.Known.{turn_at, IsBy}
 use Rattle.place_table.specs.Passes.{TableView, PassView, IsPassOf, IsInNoCall, IsKeptOf, spare_of}
 use Rattle.place_table.specs.Views.{is_among, all_strands}
-use Rattle.hash_ops.specs.Calls.{element_of}
+use Rattle.place_table.specs.Calls.{element_of}
 use Rattle.map_report.specs.declared.record.RunRecord.{RunRecord}
 use Rattle.map_report.specs.Record.{MayAnswer, has_cpu, IsRecord}
 use Rattle.map_report.specs.Serial.{opening}
 use Rattle.map_report.specs.Turns.{spare_at}
+use Rattle.map_run.specs.ByLogs.{IsOfMap}
 
 -- of one reply for each call those to the calls of a CPU
 abbrev pub replies_of : ℕ → List Call → List Reply → List Reply
@@ -29,10 +30,11 @@ replies_of cpu (call ∷ calls) [] = []
 replies_of cpu (call ∷ calls) (reply ∷ replies) =
     if call.cpu == cpu then reply ∷ replies_of cpu calls replies else replies_of cpu calls replies
 
--- A call of this number: its turns were made by its CPU in it, and each after the turns of its lock before it they are a trace
--- of it with the reply, by the spare that its CPU had.
+-- A call of this number: its turns were made by its CPU in it, under locks of the map, and each after the turns of its lock before
+-- it they are a trace of it with the reply, by the spare that its CPU had.
 pub record IsCallBy (shape : Shape) (number : ℕ) (call : Call) (spare : Option ℕ) (reply : Reply) (steps : List Turned) : Type 0 where
   pub by_call : All (IsBy call.cpu number) steps
+  pub of_map : All (IsOfMap shape) steps
   pub trace : IsTrace shape call.cpu spare call.verb (map (turn_at shape) steps) reply
   pub answers : MayAnswer shape call.verb reply
 

@@ -4,7 +4,7 @@ use Rattle.map_types.specs.declared.call.Call.{Call}
 use Rattle.map_types.specs.declared.reply.Reply.{Reply}
 use Rattle.place_table.specs.Passes.{TableView, PassView, IsPassOf, IsInNoCall, spare_of}
 use Rattle.place_table.specs.Views.{is_among, all_strands}
-use Rattle.hash_ops.specs.Calls.{element_of}
+use Rattle.place_table.specs.Calls.{element_of}
 use Rattle.map_report.specs.Serial.{opening}
 use Rattle.map_report.specs.Turns.{spare_at}
 use Rattle.map_run.specs.declared.worker.Worker.{Worker}

@@ -6,11 +6,12 @@ ghost use Rattle.map_types.specs.Creation.{IsShape};
 ghost use Rattle.map_types.specs.ValueLen.{value_len_of};
 ghost use Rattle.place_table.specs.Passes.{begun, IsInNoCall, IsPassOf};
 ghost use Rattle.place_table.specs.Views.{is_among};
-ghost use Rattle.hash_ops.specs.Calls.{CanCall, Called, reply_of_value};
+ghost use Rattle.place_table.specs.Calls.{CanCall, Called, reply_of_value};
+ghost use Rattle.map_batch.specs.Calls.{table_of};
 ghost use Rattle.map_report.specs.Record.{MayAnswer};
 ghost use Rattle.map_run.specs.Served.{IsServedCall};
 
-use hash_ops::{PlainMap, PlainRefusal};
+use map_batch::{AnyMap, AnyRefusal};
 use map_types::{Absent, Call, Errno, Gate, List, NoMemory, Reply, Side, Verb, value_len};
 use place_table::Pass;
 use std::alloc::Global;
@@ -20,19 +21,19 @@ use std::sync::Wait;
 pub(crate) fn run_call<R: Wait, G: Gate>(
     rt: &R,
     alloc: Global,
-    map: &PlainMap,
+    map: &AnyMap,
     pass: &mut Pass,
     number: u32,
     call: &Call,
     gate: &G,
 ) -> Result<Reply, NoMemory>
-    requires shape { IsShape map.now.shape }
-    requires table { IsPassOf map.now pass.old }
+    requires shape { IsShape (table_of map.now).shape }
+    requires table { IsPassOf (table_of map.now) pass.old }
     requires has_cpu { is_among call.now.cpu pass.old.view.cpus ≡ true }
     requires in_no_call { IsInNoCall pass.old }
-    requires served { IsServedCall map.now.shape call.now }
-    ensures answers { IfOk result (λ reply. MayAnswer map.now.shape call.now.verb reply) }
-    ensures called { IfOk result (λ reply. Called map.now (begun pass.old call.now.cpu number) pass.new call.now.verb reply) }
+    requires served { IsServedCall (table_of map.now).shape call.now }
+    ensures answers { IfOk result (λ reply. MayAnswer (table_of map.now).shape call.now.verb reply) }
+    ensures called { IfOk result (λ reply. Called (table_of map.now) (begun pass.old call.now.cpu number) pass.new call.now.verb reply) }
 {
     map.table().begin(pass, call.cpu, number);
     match &call.verb {
@@ -67,17 +68,17 @@ pub(crate) fn run_call<R: Wait, G: Gate>(
 fn look_up<R: Wait, G: Gate>(
     rt: &R,
     alloc: Global,
-    map: &PlainMap,
+    map: &AnyMap,
     pass: &mut Pass,
     side: Side,
     key: &[u8],
     gate: &G,
 ) -> Result<Reply, NoMemory>
-    requires shape { IsShape map.now.shape }
-    requires can { CanCall map.now pass.old }
-    requires key { length key.now ≡ map.now.shape.key_size }
-    ensures answers { IfOk result (λ reply. MayAnswer map.now.shape (verbs.Lookup side key.now) reply) }
-    ensures called { IfOk result (λ reply. Called map.now pass.old pass.new (verbs.Lookup side key.now) reply) }
+    requires shape { IsShape (table_of map.now).shape }
+    requires can { CanCall (table_of map.now) pass.old }
+    requires key { length key.now ≡ (table_of map.now).shape.key_size }
+    ensures answers { IfOk result (λ reply. MayAnswer (table_of map.now).shape (verbs.Lookup side key.now) reply) }
+    ensures called { IfOk result (λ reply. Called (table_of map.now) pass.old pass.new (verbs.Lookup side key.now) reply) }
 {
     let mut out = room_for(alloc, map, side)?;
     let got = map.lookup(rt, pass, side, key, out.as_mut_slice(), gate);
@@ -88,7 +89,7 @@ fn look_up<R: Wait, G: Gate>(
 fn update<R: Wait, G: Gate>(
     rt: &R,
     alloc: Global,
-    map: &PlainMap,
+    map: &AnyMap,
     pass: &mut Pass,
     side: Side,
     flags: u32,
@@ -96,34 +97,31 @@ fn update<R: Wait, G: Gate>(
     value: &[u8],
     gate: &G,
 ) -> Result<Reply, NoMemory>
-    requires can { CanCall map.now pass.old }
-    requires key { length key.now ≡ map.now.shape.key_size }
-    requires value { length value.now ≡ value_len_of map.now.shape side }
-    ensures answers { IfOk result (λ reply. MayAnswer map.now.shape (verbs.Update side flags key.now value.now) reply) }
-    ensures called { IfOk result (λ reply. Called map.now pass.old pass.new (verbs.Update side flags key.now value.now) reply) }
+    requires can { CanCall (table_of map.now) pass.old }
+    requires key { length key.now ≡ (table_of map.now).shape.key_size }
+    requires value { length value.now ≡ value_len_of (table_of map.now).shape side }
+    ensures answers { IfOk result (λ reply. MayAnswer (table_of map.now).shape (verbs.Update side flags key.now value.now) reply) }
+    ensures called { IfOk result (λ reply. Called (table_of map.now) pass.old pass.new (verbs.Update side flags key.now value.now) reply) }
 {
     match map.update(rt, alloc, pass, side, flags, key, value, gate) {
         Ok(()) => Ok(Reply::Done),
-        Err(PlainRefusal::Einval) => Ok(Reply::Refused(Errno::Einval)),
-        Err(PlainRefusal::Enoent) => Ok(Reply::Refused(Errno::Enoent)),
-        Err(PlainRefusal::Eexist) => Ok(Reply::Refused(Errno::Eexist)),
-        Err(PlainRefusal::E2big) => Ok(Reply::Refused(Errno::E2big)),
-        Err(PlainRefusal::NoMemory) => Err(NoMemory),
+        Err(AnyRefusal::Refused(errno)) => Ok(Reply::Refused(errno)),
+        Err(AnyRefusal::NoMemory) => Err(NoMemory),
     }
 }
 
 /// Deletes a key.
 fn delete<R: Wait, G: Gate>(
     rt: &R,
-    map: &PlainMap,
+    map: &AnyMap,
     pass: &mut Pass,
     key: &[u8],
     gate: &G,
 ) -> Result<Reply, NoMemory>
-    requires can { CanCall map.now pass.old }
-    requires key { length key.now ≡ map.now.shape.key_size }
-    ensures answers { IfOk result (λ reply. MayAnswer map.now.shape (verbs.Delete key.now) reply) }
-    ensures called { IfOk result (λ reply. Called map.now pass.old pass.new (verbs.Delete key.now) reply) }
+    requires can { CanCall (table_of map.now) pass.old }
+    requires key { length key.now ≡ (table_of map.now).shape.key_size }
+    ensures answers { IfOk result (λ reply. MayAnswer (table_of map.now).shape (verbs.Delete key.now) reply) }
+    ensures called { IfOk result (λ reply. Called (table_of map.now) pass.old pass.new (verbs.Delete key.now) reply) }
 {
     match map.delete(rt, pass, key, gate) {
         Ok(()) => Ok(Reply::Done),
@@ -135,16 +133,16 @@ fn delete<R: Wait, G: Gate>(
 fn take<R: Wait, G: Gate>(
     rt: &R,
     alloc: Global,
-    map: &PlainMap,
+    map: &AnyMap,
     pass: &mut Pass,
     key: &[u8],
     gate: &G,
 ) -> Result<Reply, NoMemory>
-    requires shape { IsShape map.now.shape }
-    requires can { CanCall map.now pass.old }
-    requires key { length key.now ≡ map.now.shape.key_size }
-    ensures answers { IfOk result (λ reply. MayAnswer map.now.shape (verbs.Take key.now) reply) }
-    ensures called { IfOk result (λ reply. Called map.now pass.old pass.new (verbs.Take key.now) reply) }
+    requires shape { IsShape (table_of map.now).shape }
+    requires can { CanCall (table_of map.now) pass.old }
+    requires key { length key.now ≡ (table_of map.now).shape.key_size }
+    ensures answers { IfOk result (λ reply. MayAnswer (table_of map.now).shape (verbs.Take key.now) reply) }
+    ensures called { IfOk result (λ reply. Called (table_of map.now) pass.old pass.new (verbs.Take key.now) reply) }
 {
     let mut out = room_for(alloc, map, Side::Sys)?;
     let got = map.take_key(rt, pass, key, out.as_mut_slice(), gate);
@@ -162,9 +160,9 @@ fn value_reply(got: Result<(), Absent>, value: Vec<u8>) -> Reply
 }
 
 /// Room for a value of a side.
-fn room_for(alloc: Global, map: &PlainMap, side: Side) -> Result<Vec<u8>, NoMemory>
-    requires { IsShape map.now.shape }
-    ensures { IfOk result (λ bytes. length bytes.items ≡ value_len_of map.now.shape side) }
+fn room_for(alloc: Global, map: &AnyMap, side: Side) -> Result<Vec<u8>, NoMemory>
+    requires { IsShape (table_of map.now).shape }
+    ensures { IfOk result (λ bytes. length bytes.items ≡ value_len_of (table_of map.now).shape side) }
 {
     zeros(alloc, value_len(map.table().shape(), side))
 }

@@ -3,9 +3,10 @@
 ghost use Rattle.std.specs.Prelude.{◌≡◌, ◌≢◌, ◌≤◌, ◌<◌, ℕ, false, [], ◌∷◌, All, IsTrue, IfOk, OnOk, length, map, slice_index_or, vec_capacity};
 ghost use Rattle.map_types.specs.declared.call.Call.{Call};
 ghost use Rattle.map_types.specs.Creation.{IsShape};
+ghost use Rattle.map_batch.specs.Calls.{table_of};
 ghost use Rattle.map_run.specs.declared.worker.Worker.{Worker};
 ghost use Rattle.map_run.specs.Copies.{IsCopyOf};
-ghost use Rattle.map_run.specs.Served.{is_built, is_built_kind, IsScript, IsServed, IsServedCall};
+ghost use Rattle.map_run.specs.Served.{is_built, is_built_map, IsScript, IsServed, IsServedCall};
 ghost use Rattle.map_run.specs.Work.{HasWorked, HaveRaced, IsRaceRecord, count_of, race_left, replies_of, strand_of_cpu};
 ghost use Rattle.map_run.specs.Workers.{HasDone, HasSplit, HaveWorked, replies_by};
 ghost use Rattle.map_report.specs.Record.{has_cpu};
@@ -15,7 +16,7 @@ use crate::RunRecord;
 use crate::queue::ReplyQueue;
 use crate::serial::histories_of;
 use crate::worker::{Worker, work};
-use hash_ops::PlainMap;
+use map_batch::AnyMap;
 use map_script::Script;
 use map_types::{Call, Gate, List, NoMemory, Reply};
 use place_table::{Closed, Pass};
@@ -58,7 +59,7 @@ fn race_script<R: Threads + Wait + Sync, G: Gate>(
     ensures record { IfOk result (λ kept. IsRaceRecord script.now kept.0) }
     ensures closed { IfOk result (λ kept. IsCopyOf kept.0 kept.1) }
 {
-    let (map, mut pass) = PlainMap::create(alloc, &script.shape)?;
+    let (map, mut pass) = AnyMap::create(alloc, &script.shape)?;
     let replies = race_calls(rt, alloc, &map, &mut pass, script.calls.as_slice(), gate)?;
     let closed = map.close(pass)?;
     keep_race(alloc, script.shape.cpus, replies, closed)
@@ -69,16 +70,16 @@ fn race_script<R: Threads + Wait + Sync, G: Gate>(
 fn race_calls<R: Threads + Wait + Sync, G: Gate>(
     rt: &R,
     alloc: Global,
-    map: &PlainMap,
+    map: &AnyMap,
     pass: &mut Pass,
     calls: &[Call],
     gate: &G,
 ) -> Result<Vec<Reply>, NoMemory>
-    requires shape { IsShape map.now.shape }
-    requires calls { All (IsServedCall map.now.shape) calls.now }
+    requires shape { IsShape (table_of map.now).shape }
+    requires calls { All (IsServedCall (table_of map.now).shape) calls.now }
     requires few { length calls.now ≤ 200000 }
-    requires first { HasSplit map.now 0 pass.old }
-    ensures { IfOk result (λ replies. HaveRaced map.now calls.now pass.new replies.items) }
+    requires first { HasSplit (table_of map.now) 0 pass.old }
+    ensures { IfOk result (λ replies. HaveRaced (table_of map.now) calls.now pass.new replies.items) }
 {
     let cpus = map.table().shape().cpus;
     let mut workers = Vec::with_capacity(alloc, cpus as usize)?;
@@ -88,12 +89,12 @@ fn race_calls<R: Threads + Wait + Sync, G: Gate>(
 }
 
 /// A worker for each CPU, in ascending order, with a pass split off this one.
-fn split_all(alloc: Global, map: &PlainMap, pass: &mut Pass, cpus: u32, workers: &mut Vec<Worker>)
-    requires cpus { cpus ≡ map.now.shape.cpus }
-    requires first { HasSplit map.now 0 pass.old }
+fn split_all(alloc: Global, map: &AnyMap, pass: &mut Pass, cpus: u32, workers: &mut Vec<Worker>)
+    requires cpus { cpus ≡ (table_of map.now).shape.cpus }
+    requires first { HasSplit (table_of map.now) 0 pass.old }
     requires room { (workers.old.items ≡ []) × (cpus ≤ vec_capacity workers.old) }
-    ensures split { HasSplit map.now cpus pass.new }
-    ensures workers { HaveWorked map.now 0 [] workers.new.items }
+    ensures split { HasSplit (table_of map.now) cpus pass.new }
+    ensures workers { HaveWorked (table_of map.now) 0 [] workers.new.items }
     ensures count { length workers.new.items ≡ cpus }
 {
     for cpu in 0..cpus {
@@ -111,16 +112,16 @@ fn split_all(alloc: Global, map: &PlainMap, pass: &mut Pass, cpus: u32, workers:
 fn work_all<R: Threads + Wait + Sync, G: Gate>(
     rt: &R,
     alloc: Global,
-    map: &PlainMap,
+    map: &AnyMap,
     calls: &[Call],
     gate: &G,
     workers: &mut Vec<Worker>,
 ) -> Result<(), NoMemory>
-    requires shape { IsShape map.now.shape }
-    requires calls { All (IsServedCall map.now.shape) calls.now }
+    requires shape { IsShape (table_of map.now).shape }
+    requires calls { All (IsServedCall (table_of map.now).shape) calls.now }
     requires few { length calls.now ≤ 200000 }
-    requires first { HaveWorked map.now 0 [] workers.old.items }
-    ensures worked { OnOk result (HaveWorked map.now 0 calls.now workers.new.items) }
+    requires first { HaveWorked (table_of map.now) 0 [] workers.old.items }
+    ensures worked { OnOk result (HaveWorked (table_of map.now) 0 calls.now workers.new.items) }
     ensures count { length workers.new.items ≡ length workers.old.items }
 {
     work_at_once(rt, alloc, map, calls, gate, workers.as_mut_slice());
@@ -134,26 +135,26 @@ fn work_all<R: Threads + Wait + Sync, G: Gate>(
 fn work_at_once<R: Threads + Wait + Sync, G: Gate>(
     rt: &R,
     alloc: Global,
-    map: &PlainMap,
+    map: &AnyMap,
     calls: &[Call],
     gate: &G,
     workers: &mut [Worker],
 )
-    requires shape { IsShape map.now.shape }
-    requires calls { All (IsServedCall map.now.shape) calls.now }
+    requires shape { IsShape (table_of map.now).shape }
+    requires calls { All (IsServedCall (table_of map.now).shape) calls.now }
     requires few { length calls.now ≤ 200000 }
-    requires first { All (λ worker. HasWorked map.now worker.cpu [] worker.pass worker.replies) workers.old }
-    ensures done { (k : ℕ) (d : Worker) → k < length workers.old → HasDone map.now calls.now (slice_index_or workers.old k d) (slice_index_or workers.new k d) }
+    requires first { All (λ worker. HasWorked (table_of map.now) worker.cpu [] worker.pass worker.replies) workers.old }
+    ensures done { (k : ℕ) (d : Worker) → k < length workers.old → HasDone (table_of map.now) calls.now (slice_index_or workers.old k d) (slice_index_or workers.new k d) }
 {
     thread::for_each_mut(
         rt,
         workers,
         16,
         &|_, worker: &mut Worker|
-            requires shape { IsShape map.now.shape }
-            requires calls { All (IsServedCall map.now.shape) calls.now }
+            requires shape { IsShape (table_of map.now).shape }
+            requires calls { All (IsServedCall (table_of map.now).shape) calls.now }
             requires few { length calls.now ≤ 200000 }
-            requires first { HasWorked map.now worker.now.cpu [] worker.now.pass worker.now.replies }
+            requires first { HasWorked (table_of map.now) worker.now.cpu [] worker.now.pass worker.now.replies }
         { work(rt, alloc, map, calls, gate, worker) },
     );
 }
@@ -168,16 +169,16 @@ fn has_failed(workers: &[Worker]) -> bool
 /// Joins the workers' passes to this one, in ascending order of their CPUs, and gives all replies in the order of the calls.
 fn join_all(
     alloc: Global,
-    map: &PlainMap,
+    map: &AnyMap,
     pass: &mut Pass,
     calls: &[Call],
     workers: Vec<Worker>,
 ) -> Result<Vec<Reply>, NoMemory>
-    requires calls { All (IsServedCall map.now.shape) calls.now }
-    requires split { HasSplit map.now map.now.shape.cpus pass.old }
-    requires worked { HaveWorked map.now 0 calls.now workers.items }
-    requires count { length workers.items ≡ map.now.shape.cpus }
-    ensures { IfOk result (λ replies. HaveRaced map.now calls.now pass.new replies.items) }
+    requires calls { All (IsServedCall (table_of map.now).shape) calls.now }
+    requires split { HasSplit (table_of map.now) (table_of map.now).shape.cpus pass.old }
+    requires worked { HaveWorked (table_of map.now) 0 calls.now workers.items }
+    requires count { length workers.items ≡ (table_of map.now).shape.cpus }
+    ensures { IfOk result (λ replies. HaveRaced (table_of map.now) calls.now pass.new replies.items) }
 {
     let mut replies = Vec::with_capacity(alloc, workers.len())?;
     for worker in workers {

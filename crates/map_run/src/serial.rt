@@ -3,16 +3,17 @@
 ghost use Rattle.std.specs.Prelude.{◌≡◌, ◌≤◌, false, [], All, IsTrue, IfOk, length};
 ghost use Rattle.std.specs.List.{range_with_len};
 ghost use Rattle.map_types.specs.Creation.{IsShape};
+ghost use Rattle.map_batch.specs.Calls.{table_of};
 ghost use Rattle.map_run.specs.Going.{HaveRun};
 ghost use Rattle.map_run.specs.Laws.{SerialLaws};
 ghost use Rattle.map_run.specs.Copies.{IsCopyOf};
 ghost use Rattle.map_report.specs.Runs.{serial};
 ghost use Rattle.map_run.specs.Copies.{record_left, strand_left};
-ghost use Rattle.map_run.specs.Served.{is_built, is_built_kind, IsScript, IsServed, IsServedCall};
+ghost use Rattle.map_run.specs.Served.{is_built, is_built_map, IsScript, IsServed, IsServedCall};
 
 use crate::RunRecord;
 use crate::one_call::run_call;
-use hash_ops::PlainMap;
+use map_batch::AnyMap;
 use map_script::Script;
 use map_types::{Call, Gate, List, NoMemory, Point, Reply};
 use place_table::{Closed, Pass};
@@ -57,7 +58,7 @@ fn run_script<R: Wait, G: Gate>(
     ensures record { IfOk result (λ kept. kept.0 ≡ serial script.now) }
     ensures closed { IfOk result (λ kept. IsCopyOf kept.0 kept.1) }
 {
-    let (map, mut pass) = PlainMap::create(alloc, &script.shape)?;
+    let (map, mut pass) = AnyMap::create(alloc, &script.shape)?;
     let replies = run_calls(rt, alloc, &map, &mut pass, script.calls.as_slice(), gate)?;
     let closed = map.close(pass)?;
     keep(alloc, script.shape.cpus, replies, closed)
@@ -67,17 +68,17 @@ fn run_script<R: Wait, G: Gate>(
 fn run_calls<R: Wait, G: Gate>(
     rt: &R,
     alloc: Global,
-    map: &PlainMap,
+    map: &AnyMap,
     pass: &mut Pass,
     calls: &[Call],
     gate: &G,
 ) -> Result<Vec<Reply>, NoMemory>
-    requires shape { IsShape map.now.shape }
-    requires built { IsTrue (is_built_kind map.now.shape.kind) }
-    requires calls { All (IsServedCall map.now.shape) calls.now }
+    requires shape { IsShape (table_of map.now).shape }
+    requires built { IsTrue (is_built_map (table_of map.now).shape) }
+    requires calls { All (IsServedCall (table_of map.now).shape) calls.now }
     requires few { length calls.now ≤ 200000 }
-    requires first { HaveRun map.now [] pass.old [] }
-    ensures { IfOk result (λ replies. HaveRun map.now calls.now pass.new replies.items) }
+    requires first { HaveRun (table_of map.now) [] pass.old [] }
+    ensures { IfOk result (λ replies. HaveRun (table_of map.now) calls.now pass.new replies.items) }
 {
     let mut replies = Vec::with_capacity(alloc, calls.len())?;
     let mut number = 0;

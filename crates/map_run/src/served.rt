@@ -2,23 +2,23 @@
 
 ghost use Rattle.std.specs.Prelude.{◌≡◌};
 ghost use Rattle.std.specs.List.{list_all};
-ghost use Rattle.map_run.specs.Served.{is_built_kind, is_built_verb, is_built};
+ghost use Rattle.map_run.specs.Served.{is_built_map, is_built_verb, is_built};
 
 use map_script::Script;
-use map_types::{Call, MapKind, Verb};
+use map_types::{Call, Shape, Verb};
 
-/// Whether the run of a script is built: that of a map that doesn't evict, without walks and batches.
+/// Whether the run of a script is built: that of a map whose CPUs share no lists, without walks and batches.
 pub fn is_built(script: &Script) -> bool
     ensures { result ≡ is_built script.now }
 {
-    is_built_kind(script.shape.kind) && are_built(script.calls.as_slice())
+    is_built_map(&script.shape) && are_built(script.calls.as_slice())
 }
 
-/// Whether a map of this kind is run.
-fn is_built_kind(kind: MapKind) -> bool
-    ensures { result ≡ is_built_kind kind }
+/// Whether a map of this shape is run.
+fn is_built_map(shape: &Shape) -> bool
+    ensures { result ≡ is_built_map shape.now }
 {
-    !kind.is_lru()
+    !shape.common
 }
 
 /// Whether each call is one that is run.

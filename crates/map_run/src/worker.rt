@@ -2,12 +2,13 @@
 
 ghost use Rattle.std.specs.Prelude.{◌≡◌, ◌≤◌, false, [], All, OnOk, length};
 ghost use Rattle.map_types.specs.Creation.{IsShape};
+ghost use Rattle.map_batch.specs.Calls.{table_of};
 ghost use Rattle.map_run.specs.Served.{IsServedCall};
 ghost use Rattle.map_run.specs.Work.{HasWorked};
 
 use crate::one_call::run_call;
 use crate::queue::ReplyQueue;
-use hash_ops::PlainMap;
+use map_batch::AnyMap;
 use map_types::{Call, Gate, NoMemory, Point};
 use place_table::Pass;
 use std::alloc::Global;
@@ -29,17 +30,17 @@ pub struct Worker {
 pub(crate) fn work<R: Wait, G: Gate>(
     rt: &R,
     alloc: Global,
-    map: &PlainMap,
+    map: &AnyMap,
     calls: &[Call],
     gate: &G,
     worker: &mut Worker,
 )
-    requires shape { IsShape map.now.shape }
-    requires calls { All (IsServedCall map.now.shape) calls.now }
+    requires shape { IsShape (table_of map.now).shape }
+    requires calls { All (IsServedCall (table_of map.now).shape) calls.now }
     requires few { length calls.now ≤ 200000 }
-    requires first { HasWorked map.now worker.old.cpu [] worker.old.pass worker.old.replies }
+    requires first { HasWorked (table_of map.now) worker.old.cpu [] worker.old.pass worker.old.replies }
     ensures cpu { worker.new.cpu ≡ worker.old.cpu }
-    ensures worked { worker.new.failed ≡ false → HasWorked map.now worker.old.cpu calls.now worker.new.pass worker.new.replies }
+    ensures worked { worker.new.failed ≡ false → HasWorked (table_of map.now) worker.old.cpu calls.now worker.new.pass worker.new.replies }
 {
     let done = run_own(
         rt,
@@ -58,18 +59,18 @@ pub(crate) fn work<R: Wait, G: Gate>(
 fn run_own<R: Wait, G: Gate>(
     rt: &R,
     alloc: Global,
-    map: &PlainMap,
+    map: &AnyMap,
     pass: &mut Pass,
     cpu: u32,
     calls: &[Call],
     gate: &G,
     replies: &mut ReplyQueue,
 ) -> Result<(), NoMemory>
-    requires shape { IsShape map.now.shape }
-    requires calls { All (IsServedCall map.now.shape) calls.now }
+    requires shape { IsShape (table_of map.now).shape }
+    requires calls { All (IsServedCall (table_of map.now).shape) calls.now }
     requires few { length calls.now ≤ 200000 }
-    requires first { HasWorked map.now cpu [] pass.old replies.old }
-    ensures { OnOk result (HasWorked map.now cpu calls.now pass.new replies.new) }
+    requires first { HasWorked (table_of map.now) cpu [] pass.old replies.old }
+    ensures { OnOk result (HasWorked (table_of map.now) cpu calls.now pass.new replies.new) }
 {
     let mut number = 0;
     for call in calls {

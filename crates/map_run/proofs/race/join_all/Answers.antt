@@ -4,6 +4,7 @@ use Rattle.std.proofs.lemmas.Iterator.Adapters.{YieldsList-from_vec}
 use Rattle.std.proofs.lemmas.Iterator.Consumers.{YieldsList-turn, YieldsList-end}
 use Rattle.std.proofs.lemmas.Result.{IfOk-weaker}
 use Rattle.map_types.specs.declared.reply.Reply.{Reply}
+use Rattle.map_batch.specs.Calls.{table_of}
 use Rattle.place_table.specs.Passes.{TableView, CanJoin}
 use Rattle.map_run.specs.declared.worker.Worker.{Worker}
 use Rattle.map_run.specs.Work.{HasWorked, HaveRaced}
@@ -11,11 +12,11 @@ use Rattle.map_run.proofs.Joining.{HaveJoined, none_joined, can_join, joined_mor
 use Rattle.map_run.proofs.race.join_all.Goals as goal
 
 pub loop-worker-init : goal.loop-worker-init
-loop-worker-init c = (tt, tt, subst (HaveJoined c.args.map.now c.args.calls.now 0 c.args.pass.now) (sym c.in_ok-replies.ensures.items) (none_joined c.args.map.now c.args.calls.now c.args.pass.now c.requires.split))
+loop-worker-init c = (tt, tt, subst (HaveJoined (table_of c.args.map.now) c.args.calls.now 0 c.args.pass.now) (sym c.in_ok-replies.ensures.items) (none_joined (table_of c.args.map.now) c.args.calls.now c.args.pass.now c.requires.split))
 
 pub join-requires : goal.join-requires
 join-requires c =
-    let t = c.args.map.now in
+    let t = (table_of c.args.map.now) in
     let n : ℕ = length c.loop-worker.yielded in
     let worker = c.in-Some.worker in
     let made = c.into_iter-worker-iterator.ensures.into_iter_gives in
@@ -26,7 +27,7 @@ join-requires c =
 
 pub loop-worker-preserved : goal.loop-worker-preserved
 loop-worker-preserved c =
-    let t = c.args.map.now in
+    let t = (table_of c.args.map.now) in
     let n : ℕ = length c.loop-worker.yielded in
     let worker = c.in-Some.worker in
     let made = c.into_iter-worker-iterator.ensures.into_iter_gives in
@@ -41,7 +42,7 @@ loop-worker-preserved c =
 
 pub returns : goal.returns
 returns c =
-    let t = c.args.map.now in
+    let t = (table_of c.args.map.now) in
     let made = c.into_iter-worker-iterator.ensures.into_iter_gives in
     let end = YieldsList-end (YieldsList-from_vec {s = c.into_iter-worker-iterator.result} c.args.workers.items made.0 (made.1 ∙ c.args.workers.ok.0)) c.loop-worker.yielded c.loop-worker.worker-iterator c.loop-worker.yielded_by c.next.result c.next.new.self c.in-None.is c.next.ensures.steps in
     let joined = subst (λ (k : ℕ). HaveJoined t c.args.calls.now k c.loop-worker.pass c.loop-worker.replies.items) (end.1 ∙ c.requires.count) c.loop-worker.invariant.2 in

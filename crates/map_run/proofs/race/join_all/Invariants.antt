@@ -1,4 +1,5 @@
 use Rattle.std.proofs.Common.{length}
+use Rattle.map_batch.specs.Calls.{table_of}
 use Rattle.map_run.proofs.Joining.{HaveJoined}
 use Rattle.map_run.proofs.race.join_all.Given as goal
 
@@ -7,4 +8,4 @@ abbrev pub invariant-loop-worker : goal.invariant-loop-worker
 invariant-loop-worker l =
     (goal.iterator-loop-worker).can_next l.worker-iterator
     × (goal.iterator-loop-worker).is_finite l.worker-iterator
-    × HaveJoined l.map l.calls (length l.yielded) l.pass l.replies.items
+    × HaveJoined (table_of l.map) l.calls (length l.yielded) l.pass l.replies.items

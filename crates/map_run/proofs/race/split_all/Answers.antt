@@ -1,4 +1,5 @@
 use Rattle.std.proofs.Common.{[], refl, sym, ◌∙◌, subst, rules, arith}
+use Rattle.map_batch.specs.Calls.{table_of}
 use Rattle.place_table.specs.Passes.{TableView, CanSplit}
 use Rattle.map_run.specs.Work.{HasWorked}
 use Rattle.map_run.specs.Workers.{HaveWorked}
@@ -16,8 +17,8 @@ loop-cpu-preserved c =
     let so_far = c.loop-cpu.invariant in
     record {
       rest = split_more so_far.rest c.split-part.ensures;
-      workers = subst (HaveWorked c.args.map.now 0 []) (sym c.push_reserved.ensures.items)
-          (workers_more c.args.map.now 0 c.loop-cpu.cpu [] c.loop-cpu.workers.items _ so_far.workers (sym so_far.count ∙ omega arith) refl (subst (HasWorked c.args.map.now c.loop-cpu.cpu [] c.split-part.result) (sym c.new.ensures) (off_worker so_far.rest c.split-part.ensures)));
+      workers = subst (HaveWorked (table_of c.args.map.now) 0 []) (sym c.push_reserved.ensures.items)
+          (workers_more (table_of c.args.map.now) 0 c.loop-cpu.cpu [] c.loop-cpu.workers.items _ so_far.workers (sym so_far.count ∙ omega arith) refl (subst (HasWorked (table_of c.args.map.now) c.loop-cpu.cpu [] c.split-part.result) (sym c.new.ensures) (off_worker so_far.rest c.split-part.ensures)));
       count = search rules;
       room = search rules;
     }

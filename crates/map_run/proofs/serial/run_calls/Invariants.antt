@@ -1,4 +1,5 @@
 use Rattle.std.proofs.Common.{◌≡◌, take}
+use Rattle.map_batch.specs.Calls.{table_of}
 use Rattle.map_run.specs.Going.{HaveRun}
 use Rattle.map_run.proofs.serial.run_calls.Given as goal
 
@@ -6,5 +7,5 @@ use Rattle.map_run.proofs.serial.run_calls.Given as goal
 abbrev pub invariant-loop-call : goal.invariant-loop-call
 invariant-loop-call g l = record {
   count : l.number ≡ l.call-index;
-  run : HaveRun l.map (take l.call-index l.calls) l.pass l.replies.items;
+  run : HaveRun (table_of l.map) (take l.call-index l.calls) l.pass l.replies.items;
 }

@@ -1,33 +1,34 @@
 use Rattle.std.proofs.Common.{◌≡◌, List, sym, ◌∙◌, subst}
-use Rattle.std.specs.Prelude.{IsTrue}
 use Rattle.std.proofs.lemmas.Result.{IfOk-weaker}
-use Rattle.map_types.specs.declared.attr.Shape.{Shape}
 use Rattle.map_types.specs.declared.call.Call.{Call}
 use Rattle.map_types.specs.Creation.{IsShape}
+use Rattle.map_batch.specs.Calls.{table_of}
 use Rattle.map_run.specs.Going.{HaveRun}
 use Rattle.map_run.specs.Copies.{IsCopyOf}
 use Rattle.map_report.specs.Runs.{serial}
-use Rattle.map_run.specs.Served.{is_built_kind}
-use Rattle.map_run.proofs.SerialCalls.{run_first, run_end, is_copy}
+use Rattle.map_run.proofs.BothRuns.{own_lists, run_first, run_end, run_copy}
 use Rattle.map_run.proofs.serial.run_script.Goals as goal
+
+pub create-requires-clause-own_lists : goal.create-requires-clause-own_lists
+create-requires-clause-own_lists g c = own_lists c.args.script.now.shape.common c.requires.served.built
 
 pub run_calls-requires-clause-first : goal.run_calls-requires-clause-first
 run_calls-requires-clause-first g c κs within =
-    let same : c.in_ok-map.map.shape ≡ c.args.script.now.shape = c.in_ok-map.ensures.0 in
-    run_first c.in_ok-map.map c.in_ok-map.pass (subst IsShape (sym same) c.requires.shape) (subst (λ (shape : Shape). IsTrue (is_built_kind shape.kind)) (sym same) c.requires.served.kind) c.in_ok-map.ensures.1
+    let same = c.in_ok-map.ensures.0 in
+    run_first (table_of c.in_ok-map.map) c.in_ok-map.pass (subst IsShape (sym same) c.requires.shape) c.in_ok-map.ensures.1
 
 pub returns-clause-record : goal.returns-clause-record
 returns-clause-record g c =
-    let same : c.in_ok-map.map.shape ≡ c.args.script.now.shape = c.in_ok-map.ensures.0 in
-    let run = subst (λ (calls : List Call). HaveRun c.in_ok-map.map calls c.run_calls.new.pass c.in_ok-replies.replies.items) c.as_slice.ensures c.in_ok-replies.ensures in
+    let same = c.in_ok-map.ensures.0 in
+    let run = subst (λ (calls : List Call). HaveRun (table_of c.in_ok-map.map) calls c.run_calls.new.pass c.in_ok-replies.replies.items) c.as_slice.ensures c.in_ok-replies.ensures in
     IfOk-weaker c.keep.result _ (λ kept. kept.0 ≡ serial c.args.script.now)
-    (λ kept is. is.0 ∙ run_end c.args.script.now c.in_ok-map.map c.run_calls.new.pass c.in_ok-closed.closed c.in_ok-replies.replies.items same (subst IsShape (sym same) c.requires.shape) c.requires.served run c.in_ok-closed.ensures is.2)
+    (λ kept is. is.0 ∙ run_end c.args.script.now (table_of c.in_ok-map.map) c.run_calls.new.pass c.in_ok-closed.closed c.in_ok-replies.replies.items same (subst IsShape (sym same) c.requires.shape) c.requires.served run c.in_ok-closed.ensures is.2)
     c.keep.ensures
 
 pub returns-clause-closed : goal.returns-clause-closed
 returns-clause-closed g c =
-    let same : c.in_ok-map.map.shape ≡ c.args.script.now.shape = c.in_ok-map.ensures.0 in
+    let same = c.in_ok-map.ensures.0 in
     IfOk-weaker c.keep.result _ (λ kept. IsCopyOf kept.0 kept.1)
-    (λ kept is. is_copy c.in_ok-map.map c.args.script.now.shape _ c.run_calls.new.pass kept.0 c.in_ok-closed.closed kept.1 c.in_ok-replies.replies.items same (subst IsShape (sym same) c.requires.shape)
+    (λ kept is. run_copy (table_of c.in_ok-map.map) c.args.script.now.shape _ c.run_calls.new.pass kept.0 c.in_ok-closed.closed kept.1 c.in_ok-replies.replies.items same (subst IsShape (sym same) c.requires.shape)
     c.in_ok-replies.ensures c.in_ok-closed.ensures is)
     c.keep.ensures

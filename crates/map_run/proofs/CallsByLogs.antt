@@ -1,0 +1,163 @@
+-- One call more of a run in serial order, on a map that evicts and whose takings and freeings are determined by their traces: what
+-- the pass knows then, and the reply, are those of the run by the logs of the locks.
+use Rattle.std.proofs.Common.{◌≡◌, ℕ, suc, ◌+◌, ◌<◌, Bool, true, false, List, [], ◌∷◌, ◌++◌, length, map, Option, Some, refl, ap, ◌∙◌, sym, subst, inl, inr, arith, append_assoc, append-nil}
+use Rattle.std.specs.Prelude.{All}
+use Rattle.std.proofs.lemmas.Bool.{both_ways, cond-true}
+use Rattle.std.proofs.lemmas.List.{map-append}
+use Rattle.std.proofs.lemmas.List.Elements.{All-nil, All-cons, All-append}
+use Rattle.map_types.specs.declared.attr.Shape.{Shape}
+use Rattle.map_types.specs.declared.call.Call.{Call}
+use Rattle.map_types.specs.declared.call.Verb.{Verb}
+use Rattle.map_types.specs.declared.call.Verb.TheVariants as verbs
+use Rattle.map_types.specs.declared.reply.Reply.{Reply}
+use Rattle.map_types.specs.Kind.{is_lru}
+use Rattle.place_words.specs.declared.history.Entry.{Entry}
+use Rattle.place_words.specs.declared.history.StrandStep.{StrandStep}
+use Rattle.place_words.specs.Locks.{lock_named}
+use Rattle.place_words.specs.Logs.{State, lies_in, all_turned, Does, does, after_one, run, answers}
+use Rattle.place_words.specs.Traces.{IsTrace}
+use Rattle.place_words.specs.Turns.{Turn, turns_of}
+use Rattle.place_words.proofs.DoneLaws.{IsKeyVerb}
+use Rattle.place_words.proofs.EvictingDone.{IsAtRest}
+use Rattle.place_words.proofs.EvictingRuns.{supplies}
+use Rattle.place_table.specs.declared.view.Turned.{Turned}
+use Rattle.place_table.specs.Calls.{bits_of_turns, IsTold, AreTold, Called, spare_element}
+use Rattle.place_table.specs.Known.{AreAllowedAt, BitTouch, Learns, KnowsAll, logs_after, turn_of, turn_at}
+use Rattle.place_table.specs.Passes.{PassView, TableView, begun}
+use Rattle.place_table.specs.Views.{bit_seen, place_of, kept_step}
+use Rattle.place_table.proofs.Going.{learns_all}
+use Rattle.map_report.specs.Runs.{steps_of_turns, steps_of_calls}
+use Rattle.map_run.specs.ByLogs.{IsOfMap, KnowsState}
+use Rattle.map_run.specs.Served.{IsServedVerb}
+use Rattle.map_run.proofs.CallIs.{IsAs, call_is}
+use Rattle.map_run.proofs.Decides.{Decides}
+use Rattle.map_run.proofs.TurnsMade.{EachTurn}
+use Rattle.map_run.proofs.MadeBy.{GoOnBy, made_by, touches_of}
+
+-- Turns as the call tells them
+
+told_step : (shape : Shape) (step told : Turned) → IsTold shape [] step told → told ≡ step
+told_step shape step told (inl same) = same
+told_step shape step told (inr could) = absurd (both_ways false refl could.0)
+
+told_same : (shape : Shape) (steps told : List Turned) → AreTold shape [] steps told → told ≡ steps
+told_same shape [] [] are = refl
+told_same shape [] (told ∷ others) are = absurd are
+told_same shape (step ∷ steps) [] are = absurd are
+told_same shape (step ∷ steps) (told ∷ others) are = (λ i. told_step shape step told are.0 i ∷ told_same shape steps others are.1 i)
+
+-- where the record of no lock is lost, they are those that were made
+pub told_made : (shape : Shape) (lost : List ℕ) (steps told : List Turned) → lost ≡ [] → AreTold shape lost steps told → told ≡ steps
+told_made shape lost steps told none are = told_same shape steps told (subst (λ (l : List ℕ). AreTold shape l steps told) none are)
+
+turns_of_steps : (shape : Shape) (steps : List Turned) → turns_of (map (turn_at shape) steps) ≡ map (turn_of shape) steps
+turns_of_steps shape [] = refl
+turns_of_steps shape (step ∷ steps) = ap (λ (turns : List Turn). turn_of shape step ∷ turns) (turns_of_steps shape steps)
+
+pub all_real : (shape : Shape) (steps : List Turned) → AreAllowedAt shape steps → All (IsOfMap shape) steps
+all_real shape [] allowed = All-nil (IsOfMap shape)
+all_real shape (step ∷ steps) allowed = All-cons (IsOfMap shape) step steps (allowed.0.below, allowed.0.there) (all_real shape steps allowed.1)
+
+pub key_verb : (shape : Shape) (verb : Verb) → IsServedVerb shape verb → IsKeyVerb verb
+key_verb shape (verbs.Lookup side key) served = tt
+key_verb shape (verbs.Update side flags key value) served = tt
+key_verb shape (verbs.Delete key) served = tt
+key_verb shape (verbs.Take key) served = tt
+key_verb shape (verbs.Next key) served = absurd served
+key_verb shape (verbs.BatchRead remove count start flags) served = absurd served
+key_verb shape (verbs.BatchUpdate flags pairs) served = absurd served
+key_verb shape (verbs.BatchDelete flags keys) served = absurd served
+
+-- One call
+
+module _ (Fact : State → Turn → Type 0) (t : TableView) (state : State) (strand : List StrandStep) (p q : PassView) (call : Call) (number : ℕ) (reply : Reply) (lru : is_lru t.shape.kind ≡ true) (within : call.cpu < t.shape.cpus) (decides : Decides Fact t.shape call.cpu)
+    (rests : IsAtRest t.shape (lies_in t.shape state)) (verb_is : IsKeyVerb call.verb) (knows : KnowsState t.shape state strand p.view) (called : Called t (begun p call.cpu number) q call.verb reply) (none : called.lost ≡ []) (each : EachTurn Fact t.shape call.cpu number (map (turn_at t.shape) called.steps) state) where
+  abbrev did : Does
+  did = does t.shape call.cpu number state call.verb
+
+  told_is : called.told ≡ called.steps
+  told_is = told_made t.shape called.lost called.steps called.told none called.told_are
+
+  touches_are : bits_of_turns t.shape called.told ≡ touches_of t.shape call.cpu number called.steps
+  touches_are = cond-true (is_lru t.shape.kind) _ _ lru ∙ ap (touches_of t.shape call.cpu number) told_is
+
+  learns : Learns t.shape p.view q.view called.steps (touches_of t.shape call.cpu number called.steps)
+  learns = subst (λ (touches : List BitTouch). Learns t.shape p.view q.view called.steps touches) touches_are called.leaves.learns
+
+  abbrev logs : ℕ → List Entry
+  logs k = state.logs (lock_named t.shape k)
+
+  abbrev known : ℕ → Option Bool
+  known e = bit_seen e p.view.bits
+
+  after_is : KnowsAll t.shape (logs_after logs called.steps) q.view
+  after_is = (learns_all t.shape p.view q.view logs called.steps (touches_of t.shape call.cpu number called.steps) learns knows.knows).1
+
+  goes : GoOnBy t.shape call.cpu number called.steps state logs known
+  goes =
+      made_by t.shape call.cpu number called.steps state logs known (λ k. refl) knows.bits
+      (learns_all t.shape p.view q.view logs called.steps (touches_of t.shape call.cpu number called.steps) learns knows.knows).0
+      (λ e. (learns.bits knows.knows.all e).see_on) called.leaves.by_call
+
+  as_run : IsAs did (map (turn_at t.shape) called.steps) reply
+  as_run =
+      call_is Fact t.shape call.cpu number (supplies t.shape call.cpu within) decides state rests lru (map (turn_at t.shape) called.steps) reply goes.made each (spare_element (begun p call.cpu number)) call.verb verb_is
+      (subst (λ (steps : List Turned). IsTrace t.shape call.cpu (spare_element (begun p call.cpu number)) call.verb (map (turn_at t.shape) steps) reply) told_is called.trace)
+
+  turns_then : map (turn_of t.shape) called.steps ≡ did.turns
+  turns_then = sym (turns_of_steps t.shape called.steps) ∙ as_run.turns_are
+
+  strand_then : map (λ (step : Turned). kept_step t.shape step.lock (place_of step)) q.view.steps ≡ strand ++ steps_of_turns t.shape call.cpu number did.turns state
+  strand_then =
+      ap (map (λ (step : Turned). kept_step t.shape step.lock (place_of step))) called.leaves.made.goes.steps
+      ∙ map-append (λ (step : Turned). kept_step t.shape step.lock (place_of step)) p.view.steps called.steps
+      ∙ (λ i. knows.steps_are i ++ (goes.steps_are ∙ ap (λ (turns : List Turn). steps_of_turns t.shape call.cpu number turns state) turns_then) i)
+
+  -- what the pass knows then
+  pub knows_next : KnowsState t.shape (after_one t.shape number call state) (strand ++ steps_of_turns t.shape call.cpu number did.turns state) q.view
+  knows_next = record {
+    knows = record {
+      all = after_is.all;
+      each = λ k below there. after_is.each k below there ∙ ap Some (goes.logs_are k ∙ ap (λ (turns : List Turn). (all_turned t.shape call.cpu number turns state).logs (lock_named t.shape k)) turns_then);
+    };
+    bits = λ e real. (learns.bits knows.knows.all e).known_is ∙ goes.bits_are e real ∙ ap (λ (turns : List Turn). Some ((all_turned t.shape call.cpu number turns state).bits e)) turns_then;
+    steps_are = strand_then;
+    real = subst (All (IsOfMap t.shape)) (sym called.leaves.made.goes.steps)
+        (All-append (IsOfMap t.shape) p.view.steps called.steps knows.real (all_real t.shape called.steps learns.allowed));
+  }
+
+  -- and the reply
+  pub reply_next : reply ≡ did.reply
+  reply_next = as_run.reply_is
+
+-- The run with a call more
+
+pub run_more : (shape : Shape) (number : ℕ) (calls : List Call) (call : Call) (state : State) → run shape number (calls ++ call ∷ []) state ≡ after_one shape (number + length calls) call (run shape number calls state)
+run_more shape number [] call state = let same : number ≡ number + 0 = omega arith in ap (λ (n : ℕ). after_one shape n call state) same
+run_more shape number (first ∷ calls) call state =
+    let count : suc number + length calls ≡ number + suc (length calls) = omega arith in
+    run_more shape (suc number) calls call (after_one shape number first state)
+    ∙ ap (λ (n : ℕ). after_one shape n call (run shape (suc number) calls (after_one shape number first state))) count
+
+pub answers_more : (shape : Shape) (number : ℕ) (calls : List Call) (call : Call) (state : State)
+    → answers shape number (calls ++ call ∷ []) state ≡ answers shape number calls state ++ (does shape call.cpu (number + length calls) (run shape number calls state) call.verb).reply ∷ []
+answers_more shape number [] call state = let same : number ≡ number + 0 = omega arith in ap (λ (n : ℕ). (does shape call.cpu n state call.verb).reply ∷ []) same
+answers_more shape number (first ∷ calls) call state =
+    let count : suc number + length calls ≡ number + suc (length calls) = omega arith in
+    let next : State = after_one shape number first state in
+    ap (λ (rest : List Reply). (does shape first.cpu number state first.verb).reply ∷ rest)
+    (answers_more shape (suc number) calls call next ∙ ap (λ (n : ℕ). answers shape (suc number) calls next ++ (does shape call.cpu n (run shape (suc number) calls next) call.verb).reply ∷ []) count)
+
+abbrev steps_of : Shape → ℕ → Call → State → List StrandStep
+steps_of shape number call state = steps_of_turns shape call.cpu number (does shape call.cpu number state call.verb).turns state
+
+pub steps_more : (shape : Shape) (number : ℕ) (calls : List Call) (call : Call) (state : State)
+    → steps_of_calls shape number (calls ++ call ∷ []) state ≡ steps_of_calls shape number calls state ++ steps_of shape (number + length calls) call (run shape number calls state)
+steps_more shape number [] call state =
+    let same : number ≡ number + 0 = omega arith in append-nil (steps_of shape number call state) ∙ ap (λ (n : ℕ). steps_of shape n call state) same
+steps_more shape number (first ∷ calls) call state =
+    let count : suc number + length calls ≡ number + suc (length calls) = omega arith in
+    let next : State = after_one shape number first state in
+    ap (λ (rest : List StrandStep). steps_of shape number first state ++ rest)
+    (steps_more shape (suc number) calls call next ∙ ap (λ (n : ℕ). steps_of_calls shape (suc number) calls next ++ steps_of shape n call (run shape (suc number) calls next)) count)
+    ∙ sym (append_assoc (steps_of shape number first state) (steps_of_calls shape (suc number) calls next) _)

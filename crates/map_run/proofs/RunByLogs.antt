@@ -1,0 +1,296 @@
+-- A run in serial order of a map that evicts, by one pass that has all CPUs: from the table's opening to its close it leaves the
+-- record of the run by the logs of the locks, where the takings and freeings of its CPUs are determined by their traces, as on a map
+-- whose CPUs have list sets of their own.
+use Rattle.std.proofs.Common.{◌≡◌, ℕ, zero, suc, ◌+◌, ◌<◌, true, false, cond, not, List, [], ◌∷◌, ◌++◌, length, map, take, get_or, Option, Some, None, refl, ap, ◌∙◌, sym, subst, arith}
+use Rattle.std.specs.Prelude.{All, IsTrue, filter, option_map, slice_get}
+use Rattle.std.specs.List.{range_with_len}
+use Rattle.std.proofs.lemmas.Bool.{both_ways, ne_eqb}
+use Rattle.std.proofs.lemmas.List.{length-take-le}
+use Rattle.std.proofs.lemmas.List.Elements.{All-nil, All-take, All-get_or, All-weaker}
+use Rattle.std.proofs.lemmas.Option.{slice_get_read}
+use Rattle.map_types.specs.Creation.{IsShape}
+use Rattle.map_types.specs.declared.attr.Shape.{Shape}
+use Rattle.map_types.specs.declared.call.Call.{Call}
+use Rattle.map_types.specs.declared.kind.DomainId.{DomainId}
+use Rattle.map_types.specs.declared.kind.MapKind.{MapKind}
+use Rattle.map_types.specs.declared.kind.MapKind.TheVariants.{Hash}
+use Rattle.map_types.specs.declared.reply.Reply.{Reply}
+use Rattle.map_types.specs.Kind.{is_lru}
+use Rattle.map_types.specs.Stored.{Stored}
+use Rattle.map_types.proofs.CreationLemmas.{bounds_of_shape}
+use Rattle.map_script.specs.declared.script.Script.{Script}
+use Rattle.place_words.specs.declared.history.LockHistory.{LockHistory}
+use Rattle.place_words.specs.declared.history.Strand.{Strand}
+use Rattle.place_words.specs.declared.history.StrandStep.{StrandStep}
+use Rattle.place_words.specs.Locks.{is_lock, lock_count, lock_named, lock_number}
+use Rattle.place_words.specs.Logs.{State, lies_in, new_state, does, after_one, run, answers, finals_of}
+use Rattle.place_words.specs.Turns.{Turn}
+use Rattle.place_words.proofs.EvictingDone.{IsAtRest}
+use Rattle.place_words.proofs.EvictingRuns.{IsReached, new_reached, run_done}
+use Rattle.place_words.proofs.LockLemmas.{named_by_number, number_within}
+use Rattle.place_words.proofs.ShrinkProbes.{append_empty}
+use Rattle.place_core.proofs.ElementLemmas.{by_test}
+use Rattle.place_table.specs.declared.view.Ended.{Ended}
+use Rattle.place_table.specs.declared.view.Turned.{Turned}
+use Rattle.place_table.specs.declared.view.View.{View}
+use Rattle.place_table.specs.Calls.{Called}
+use Rattle.place_table.specs.Closing.{ClosedView, IsClosed, has_lock, history_of, state_left}
+use Rattle.place_table.specs.Known.{turn_at}
+use Rattle.place_table.specs.Passes.{PassView, TableView, begun, spare_of, IsFirstPass, IsKeptOf}
+use Rattle.place_table.specs.Rules.{turns_on}
+use Rattle.place_table.specs.Views.{is_among, known_log, bit_seen, numbers_below, no_turns, no_bits, has_all, all_strands, current_strand, place_of, kept_step}
+use Rattle.place_table.proofs.Gives.{first_has}
+use Rattle.place_table.proofs.Going.{goes_of_table, kept_on}
+use Rattle.place_table.proofs.Opens.{among}
+use Rattle.place_table.proofs.Worlds.{all_here}
+use Rattle.map_report.specs.declared.record.RunRecord.{RunRecord}
+use Rattle.map_report.specs.Record.{locks_of}
+use Rattle.map_report.specs.Runs.{steps_of_turns, steps_of_calls, serial}
+use Rattle.map_run.specs.ByLogs.{IsOfMap, KnowsState, HaveRunByLogs}
+use Rattle.map_run.specs.Copies.{has_step, IsCopyOf, record_left, strand_left}
+use Rattle.map_run.specs.Served.{IsServedCall}
+use Rattle.map_run.proofs.CallsByLogs.{key_verb, knows_next, reply_next, run_more, answers_more, steps_more}
+use Rattle.map_run.proofs.Closing.{kept_all, made_of_all, length_indexes}
+use Rattle.map_run.proofs.Decides.{Decides, own_decides}
+use Rattle.map_run.proofs.FinalsByLogs.{IsSameState, same_finals}
+use Rattle.map_run.proofs.SerialRun.{take_next}
+use Rattle.map_run.proofs.SharedFreesIs.{TellsShared, shared_decides}
+use Rattle.map_run.proofs.TurnsMade.{EachTurn, NothingMore, nothing_more}
+use Rattle.map_run.proofs.Whole.{none_lost, no_losses, strands_of, strands_are_told, told_of_one}
+
+-- what a run of these calls has come to
+abbrev pub come_to : Shape → List Call → State
+come_to shape calls = run shape 1 calls (new_state shape)
+
+module _ (shape : Shape) (shape_is : IsShape shape) (lru : is_lru shape.kind ≡ true) where
+  -- every history is legal there and nothing is in hand
+  pub reached_by : (calls : List Call) → All (IsServedCall shape) calls → IsReached shape (come_to shape calls)
+  reached_by calls served =
+      (run_done shape lru 1 calls (new_state shape) (All-weaker (IsServedCall shape) (λ (call : Call). call.cpu < shape.cpus) (λ call is. is.cpu) calls served)
+      (new_reached shape (bounds_of_shape shape shape_is) lru)).1
+
+-- Before the first call
+
+nothing_known : (k n : ℕ) → k < n → known_log k (no_turns n) ≡ Some []
+nothing_known k zero few = absurd (omega (arith, few))
+nothing_known k (suc n) few = by_test n k (λ b. cond b (Some []) (known_log k (no_turns n)) ≡ Some []) (λ _. refl) (λ other. nothing_known k n (omega (arith, few, other)))
+
+no_bit_set : (e n : ℕ) → e < n → bit_seen e (no_bits n) ≡ Some false
+no_bit_set e zero real = absurd (omega (arith, real))
+no_bit_set e (suc n) real = by_test n e (λ b. cond b (Some false) (bit_seen e (no_bits n)) ≡ Some false) (λ _. refl) (λ other. no_bit_set e n (omega (arith, real, other)))
+
+pub first_by_logs : (t : TableView) (p : PassView) → IsFirstPass t p → HaveRunByLogs t [] p []
+first_by_logs t p first =
+    let view = first.view_is in
+    let no_steps : p.view.steps ≡ [] = ap (λ (v : View). v.steps) view in
+    record {
+      of_table = (first.table_is, ap (λ (v : View). v.shape) view);
+      all_cpus = λ cpu real. first_has t p cpu first real;
+      in_no_call = first.in_no_call;
+      ended = ap (λ (v : View). v.ended) view;
+      kept = subst (λ (v : View). IsKeptOf t.shape v.steps [] v.kept) (sym view) refl;
+      knows = λ none. record {
+        knows = record {
+          all = ap has_all view ∙ all_here t.shape.cpus (numbers_below t.shape.cpus) (λ c less. among c t.shape.cpus less);
+          each = λ k below there. ap (λ (v : View). known_log k v.known) view ∙ nothing_known k (lock_count t.shape) below;
+        };
+        bits = λ e real. ap (λ (v : View). bit_seen e v.bits) view ∙ no_bit_set e t.shape.elements real;
+        steps_are = ap (map (λ (step : Turned). kept_step t.shape step.lock (place_of step))) no_steps;
+        real = subst (All (IsOfMap t.shape)) (sym no_steps) (All-nil (IsOfMap t.shape));
+      };
+      answered = λ none. refl;
+    }
+
+-- One call more
+
+module _ (Fact : State → Turn → Type 0) (t : TableView) (calls : List Call) (n : ℕ) (call : Call) (p q : PassView) (reply : Reply) (replies : List Reply)
+    (shape_is : IsShape t.shape) (lru : is_lru t.shape.kind ≡ true) (decides : Decides Fact t.shape call.cpu) (served : All (IsServedCall t.shape) calls)
+    (at : slice_get calls n ≡ Some call) (own : IsServedCall t.shape call)
+    (ran : HaveRunByLogs t (take n calls) p replies) (called : Called t (begun p call.cpu (1 + length (take n calls))) q call.verb reply)
+    (each : EachTurn Fact t.shape call.cpu (1 + length (take n calls)) (map (turn_at t.shape) called.steps) (come_to t.shape (take n calls))) where
+  abbrev before : List Call
+  before = take n calls
+
+  abbrev number : ℕ
+  number = 1 + length before
+
+  none_before : q.view.lost ≡ [] → (called.lost ≡ []) × (p.view.lost ≡ [])
+  none_before none = append_empty called.lost p.view.lost (sym called.leaves.made.goes.lost_is ∙ none)
+
+  rests : IsAtRest t.shape (lies_in t.shape (come_to t.shape before))
+  rests = (reached_by t.shape shape_is lru before (All-take (IsServedCall t.shape) n calls served)).rests
+
+  knows_then : (none : q.view.lost ≡ []) → KnowsState t.shape (after_one t.shape number call (come_to t.shape before))
+      (steps_of_calls t.shape 1 before (new_state t.shape) ++ steps_of_turns t.shape call.cpu number (does t.shape call.cpu number (come_to t.shape before) call.verb).turns (come_to t.shape before)) q.view
+  knows_then none =
+      knows_next Fact t (come_to t.shape before) (steps_of_calls t.shape 1 before (new_state t.shape)) p q call number reply lru own.cpu decides rests (key_verb t.shape call.verb own.verb) (ran.knows (none_before none).1) called (none_before none).0 each
+
+  replied_then : (none : q.view.lost ≡ []) → reply ≡ (does t.shape call.cpu number (come_to t.shape before) call.verb).reply
+  replied_then none =
+      reply_next Fact t (come_to t.shape before) (steps_of_calls t.shape 1 before (new_state t.shape)) p q call number reply lru own.cpu decides rests (key_verb t.shape call.verb own.verb) (ran.knows (none_before none).1) called (none_before none).0 each
+
+  more_by_logs : HaveRunByLogs t (before ++ call ∷ []) q (replies ++ reply ∷ [])
+  more_by_logs = record {
+    of_table = goes_of_table t (begun p call.cpu number) q called.steps called.lost called.leaves.made.goes ran.of_table;
+    all_cpus = λ cpu real. ap (is_among cpu) called.leaves.made.goes.cpus ∙ ran.all_cpus cpu real;
+    in_no_call = called.leaves.in_no_call;
+    ended = called.leaves.made.goes.ended ∙ ran.ended;
+    kept = subst (λ (made : List Turned). IsKeptOf t.shape made [] q.view.kept) (sym called.leaves.made.goes.steps)
+        (kept_on t.shape p.view.steps called.steps [] p.view.kept q.view.kept ran.kept
+        (subst (λ (shape : Shape). IsKeptOf shape called.steps p.view.kept q.view.kept) ran.of_table.1 called.leaves.made.goes.kept));
+    knows = λ none. subst (λ (strand : List StrandStep). KnowsState t.shape (come_to t.shape (before ++ call ∷ [])) strand q.view) (sym (steps_more t.shape 1 before call (new_state t.shape)))
+        (subst (λ (state : State). KnowsState t.shape state (steps_of_calls t.shape 1 before (new_state t.shape) ++ steps_of_turns t.shape call.cpu number (does t.shape call.cpu number (come_to t.shape before) call.verb).turns (come_to t.shape before)) q.view)
+        (sym (run_more t.shape 1 before call (new_state t.shape))) (knows_then none));
+    answered = λ none. (λ i. ran.answered (none_before none).1 i ++ replied_then none i ∷ []) ∙ sym (answers_more t.shape 1 before call (new_state t.shape));
+  }
+
+-- where the takings and freeings of its CPU are determined, under what holds of each of its turns
+pub next_if_decided : (Fact : State → Turn → Type 0) (t : TableView) (calls : List Call) (n : ℕ) (call : Call) (p q : PassView) (number : ℕ) (reply : Reply) (replies after : List Reply)
+    → IsShape t.shape → is_lru t.shape.kind ≡ true → ((cpu : ℕ) → cpu < t.shape.cpus → Decides Fact t.shape cpu) → All (IsServedCall t.shape) calls → n < length calls → call ≡ get_or calls n call → number ≡ n + 1
+    → HaveRunByLogs t (take n calls) p replies → (called : Called t (begun p call.cpu number) q call.verb reply)
+    → EachTurn Fact t.shape call.cpu number (map (turn_at t.shape) called.steps) (come_to t.shape (take n calls)) → after ≡ replies ++ reply ∷ [] → HaveRunByLogs t (take (n + 1) calls) q after
+next_if_decided Fact t calls n call p q number reply replies after shape_is lru decides served within is count ran called each pushed =
+    let at : slice_get calls n ≡ Some call = slice_get_read calls (length calls) n call refl within is in
+    let own : IsServedCall t.shape call = subst (IsServedCall t.shape) (sym is) (All-get_or (IsServedCall t.shape) calls n call within served) in
+    let long : length (take n calls) ≡ n = length-take-le n calls (omega (arith, within)) in
+    let number_is : number ≡ 1 + length (take n calls) = omega (arith, count, long) in
+    let next : suc n ≡ n + 1 = omega arith in
+    let more = subst (λ (k : ℕ). (c : Called t (begun p call.cpu k) q call.verb reply) → EachTurn Fact t.shape call.cpu k (map (turn_at t.shape) c.steps) (come_to t.shape (take n calls)) → HaveRunByLogs t (take n calls ++ call ∷ []) q (replies ++ reply ∷ [])) (sym number_is)
+    (λ c holds. more_by_logs Fact t calls n call p q reply replies shape_is lru (decides call.cpu own.cpu) served at own ran c holds) in
+    subst (λ (k : ℕ). HaveRunByLogs t (take k calls) q after) next
+    (subst (λ (made : List Call). HaveRunByLogs t made q after) (sym (take_next calls n call at))
+    (subst (HaveRunByLogs t (take n calls ++ call ∷ []) q) (sym pushed) (more called each)))
+
+-- on a map whose CPUs have list sets of their own
+pub next_by_logs : (t : TableView) (calls : List Call) (n : ℕ) (call : Call) (p q : PassView) (number : ℕ) (reply : Reply) (replies after : List Reply)
+    → IsShape t.shape → is_lru t.shape.kind ≡ true → t.shape.common ≡ false → All (IsServedCall t.shape) calls → n < length calls → call ≡ get_or calls n call → number ≡ n + 1
+    → HaveRunByLogs t (take n calls) p replies → Called t (begun p call.cpu number) q call.verb reply → after ≡ replies ++ reply ∷ [] → HaveRunByLogs t (take (n + 1) calls) q after
+next_by_logs t calls n call p q number reply replies after shape_is lru apart served within is count ran called pushed =
+    next_if_decided NothingMore t calls n call p q number reply replies after shape_is lru (λ cpu below. own_decides NothingMore t.shape cpu apart below) served within is count ran called
+    (nothing_more t.shape call.cpu number (map (turn_at t.shape) called.steps) (come_to t.shape (take n calls))) pushed
+
+-- and on one whose CPUs share lists, where each turn tells the bits that it reads and each push finds its element pending
+pub next_shared_by_logs : (t : TableView) (calls : List Call) (n : ℕ) (call : Call) (p q : PassView) (number : ℕ) (reply : Reply) (replies after : List Reply)
+    → IsShape t.shape → is_lru t.shape.kind ≡ true → t.shape.common ≡ true → All (IsServedCall t.shape) calls → n < length calls → call ≡ get_or calls n call → number ≡ n + 1
+    → HaveRunByLogs t (take n calls) p replies → (called : Called t (begun p call.cpu number) q call.verb reply) → EachTurn (TellsShared t.shape) t.shape call.cpu number (map (turn_at t.shape) called.steps) (come_to t.shape (take n calls))
+    → after ≡ replies ++ reply ∷ [] → HaveRunByLogs t (take (n + 1) calls) q after
+next_shared_by_logs t calls n call p q number reply replies after shape_is lru shared =
+    next_if_decided (TellsShared t.shape) t calls n call p q number reply replies after shape_is lru (λ cpu below. shared_decides t.shape cpu shared below)
+
+-- At the end
+
+strand_is : (shape : Shape) (steps : List StrandStep) → strand_left shape.cpus (strands_of shape steps) ≡ record { cpus = range_with_len 0 shape.cpus; steps = steps }
+strand_is shape [] = refl
+strand_is shape (step ∷ steps) = refl
+
+strands_there : (shape : Shape) (steps : List StrandStep) → filter has_step (strand_left shape.cpus (strands_of shape steps) ∷ []) ≡ strands_of shape steps
+strands_there shape [] = refl
+strands_there shape (step ∷ steps) =
+    let strand : Strand = record { cpus = range_with_len 0 shape.cpus; steps = step ∷ steps } in
+    ap (λ b. cond (not b) (strand ∷ []) []) (ne_eqb (suc (length steps)) 0 (λ is. omega (arith, is)))
+
+-- what is kept of the run is what its table left
+pub copy_by_logs : (t : TableView) (shape : Shape) (calls : List Call) (p : PassView) (kept : RunRecord) (closed back : ClosedView) (replies : List Reply) → t.shape ≡ shape → IsShape t.shape → HaveRunByLogs t calls p replies → IsClosed t.shape p closed
+    → (kept ≡ record_left shape.cpus replies closed) × (back ≡ closed) × (closed.lost ≡ false) → IsCopyOf kept back
+copy_by_logs t shape calls p kept closed back replies same shape_is ran ends is =
+    let told : closed.strands ≡ strands_of t.shape p.view.kept =
+    strands_are_told t.shape p closed ends is.2 (bounds_of_shape t.shape shape_is) ∙ told_of_one t.shape p.view ran.ended ran.all_cpus in
+    let copy : IsCopyOf (record_left t.shape.cpus replies closed) closed = record {
+      histories = refl;
+      strands = subst (λ (strands : List Strand). filter has_step (strand_left t.shape.cpus strands ∷ []) ≡ strands) (sym told) (strands_there t.shape p.view.kept);
+      finals = refl;
+      whole = is.2;
+    } in
+    subst (IsCopyOf kept) (sym is.1)
+    (subst (λ (k : RunRecord). IsCopyOf k closed) (sym (is.0 ∙ ap (λ (s : Shape). record_left s.cpus replies closed) (sym same))) copy)
+
+-- the history of a lock
+abbrev history_in : State → DomainId → LockHistory
+history_in state lock = record { lock = lock; entries = state.logs lock }
+
+named_histories : (shape : Shape) (state : State) (ks : List ℕ) → map (λ (k : ℕ). history_in state (lock_named shape k)) ks ≡ map (history_in state) (map (lock_named shape) ks)
+named_histories shape state [] = refl
+named_histories shape state (k ∷ ks) = ap (λ (histories : List LockHistory). history_in state (lock_named shape k) ∷ histories) (named_histories shape state ks)
+
+no_hash : (kind : MapKind) → kind ≡ Hash → is_lru kind ≡ true → ⊥
+no_hash kind is evicts = let plain : is_lru kind ≡ false = ap is_lru is in both_ways (is_lru kind) plain evicts
+
+module _ (t : TableView) (calls : List Call) (p : PassView) (closed : ClosedView) (replies : List Reply) (shape_is : IsShape t.shape) (lru : is_lru t.shape.kind ≡ true) (served : All (IsServedCall t.shape) calls)
+    (ran : HaveRunByLogs t calls p replies) (ends : IsClosed t.shape p closed) (whole : closed.lost ≡ false) where
+  abbrev state_end : State
+  state_end = come_to t.shape calls
+
+  knows_end : KnowsState t.shape state_end (steps_of_calls t.shape 1 calls (new_state t.shape)) p.view
+  knows_end = ran.knows (no_losses t.shape p closed ends whole)
+
+  log_at : (k : ℕ) → k < lock_count t.shape → IsTrue (has_lock t.shape k) → ends.log k ≡ state_end.logs (lock_named t.shape k)
+  log_at k below there = ends.known k (state_end.logs (lock_named t.shape k)) (knows_end.knows.each k below there)
+
+  log_of : (lock : DomainId) → IsTrue (is_lock t.shape lock) → ends.log (lock_number t.shape lock) ≡ state_end.logs lock
+  log_of lock there =
+      let named = named_by_number t.shape lock there in
+      log_at (lock_number t.shape lock) (number_within t.shape lock there) (subst (λ (l : DomainId). IsTrue (is_lock t.shape l)) (sym named) there) ∙ ap state_end.logs named
+
+  histories_end : closed.histories ≡ map (history_in state_end) (locks_of t.shape)
+  histories_end =
+      ends.left.histories_are
+      ∙ made_of_all (has_lock t.shape) ends.lost (history_of t.shape ends.log) (λ (k : ℕ). history_in state_end (lock_named t.shape k)) 0 (lock_count t.shape)
+      (λ k low high there.
+      let below : k < lock_count t.shape = omega (arith, high) in
+      (none_lost t.shape p closed ends whole k below there, λ i. record { lock = lock_named t.shape k; entries = log_at k below there i }))
+      ∙ named_histories t.shape state_end (filter (has_lock t.shape) (range_with_len 0 (lock_count t.shape)))
+
+  strand_end : strand_left t.shape.cpus closed.strands ≡ record { cpus = range_with_len 0 t.shape.cpus; steps = steps_of_calls t.shape 1 calls (new_state t.shape) }
+  strand_end =
+      let only : slice_get (all_strands p.view) 0 ≡ Some (current_strand p.view) = ap (λ (strands : List Ended). slice_get (strands ++ current_strand p.view ∷ []) 0) ran.ended in
+      ap (strand_left t.shape.cpus)
+      (strands_are_told t.shape p closed ends whole (bounds_of_shape t.shape shape_is)
+      ∙ told_of_one t.shape p.view ran.ended ran.all_cpus
+      ∙ ap (strands_of t.shape)
+      (kept_all t.shape p.view.steps [] p.view.kept ran.kept knows_end.real
+      (λ k below there.
+      let same = ap length (ends.recorded 0 (current_strand p.view) only k below there (none_lost t.shape p closed ends whole k below there)) in
+      let count = length_indexes (turns_on k p.view.steps) in
+      omega (arith, same, count))
+      ∙ knows_end.steps_are))
+      ∙ strand_is t.shape (steps_of_calls t.shape 1 calls (new_state t.shape))
+
+  -- a map that evicts has no spares
+  no_spare : (cpu : ℕ) → cpu < t.shape.cpus → (kept : Option Stored) → spare_of cpu p.spares ≡ kept → option_map (λ (body : Stored). body.element) kept ≡ None
+  no_spare cpu real None is = refl
+  no_spare cpu real (Some body) is =
+      let found = ran.in_no_call.spares_only body.element cpu (ran.all_cpus cpu real) (ran.in_no_call.spares_in_hand cpu body is) in
+      absurd (no_hash t.shape.kind (ap (λ (shape : Shape). shape.kind) (sym ran.of_table.1) ∙ found.3) lru)
+
+  same_end : IsSameState t.shape (state_left t.shape ends.log ends.core.bit p.spares) state_end
+  same_end = record {
+    logs = log_of;
+    bits = λ e real. ends.bits e (state_end.bits e) (knows_end.bits e real);
+    spares = λ cpu real. no_spare cpu real (spare_of cpu p.spares) refl ∙ sym ((reached_by t.shape shape_is lru calls served).no_spares cpu);
+  }
+
+  finals_end : closed.finals ≡ finals_of t.shape state_end
+  finals_end = ends.left.finals_are ∙ same_finals t.shape (state_left t.shape ends.log ends.core.bit p.spares) state_end same_end
+
+  abbrev record_by_logs : RunRecord
+  record_by_logs = record {
+    replies = answers t.shape 1 calls (new_state t.shape);
+    histories = map (history_in state_end) (locks_of t.shape);
+    strands = (record { cpus = range_with_len 0 t.shape.cpus; steps = steps_of_calls t.shape 1 calls (new_state t.shape) }) ∷ [];
+    finals = finals_of t.shape state_end;
+  }
+
+  left_by_logs : record_left t.shape.cpus replies closed ≡ record_by_logs
+  left_by_logs = (λ i. record { replies = ran.answered (no_losses t.shape p closed ends whole) i; histories = histories_end i; strands = strand_end i ∷ []; finals = finals_end i })
+
+-- The record of a run that was closed, no record of a lock of which is lost, is that of the run by the logs of the locks.
+pub end_by_logs : (script : Script) (t : TableView) (p : PassView) (closed : ClosedView) (replies : List Reply) → t.shape ≡ script.shape → IsShape t.shape → is_lru t.shape.kind ≡ true → All (IsServedCall t.shape) script.calls
+    → HaveRunByLogs t script.calls p replies → IsClosed t.shape p closed → closed.lost ≡ false → record_left script.shape.cpus replies closed ≡ serial script
+unfolding serial
+end_by_logs script t p closed replies same shape_is lru served ran ends whole =
+    subst (λ (shape : Shape). record_left shape.cpus replies closed ≡ (record {
+      replies = answers shape 1 script.calls (new_state shape);
+      histories = map (history_in (come_to shape script.calls)) (locks_of shape);
+      strands = (record { cpus = range_with_len 0 shape.cpus; steps = steps_of_calls shape 1 script.calls (new_state shape) }) ∷ [];
+      finals = finals_of shape (come_to shape script.calls);
+    })) same (left_by_logs t script.calls p closed replies shape_is lru served ran ends whole)
