@@ -1,10 +1,10 @@
 -- A run in serial order of a map that evicts, by one pass that has all CPUs: from the table's opening to its close it leaves the
 -- record of the run by the logs of the locks, where the takings and freeings of its CPUs are determined by their traces, as on a map
 -- whose CPUs have list sets of their own.
-use Rattle.std.proofs.Common.{◌≡◌, ℕ, zero, suc, ◌+◌, ◌<◌, true, false, cond, not, List, [], ◌∷◌, ◌++◌, length, map, take, get_or, Option, Some, None, refl, ap, ◌∙◌, sym, subst, arith}
+use Rattle.std.proofs.Common.{◌≡◌, ℕ, zero, suc, ◌+◌, ◌<◌, true, false, cond, List, [], ◌∷◌, ◌++◌, length, map, take, get_or, Option, Some, None, refl, ap, ◌∙◌, sym, subst, arith}
 use Rattle.std.specs.Prelude.{All, IsTrue, filter, option_map, slice_get}
 use Rattle.std.specs.List.{range_with_len}
-use Rattle.std.proofs.lemmas.Bool.{both_ways, ne_eqb}
+use Rattle.std.proofs.lemmas.Bool.{both_ways}
 use Rattle.std.proofs.lemmas.List.{length-take-le}
 use Rattle.std.proofs.lemmas.List.Elements.{All-nil, All-take, All-get_or, All-weaker}
 use Rattle.std.proofs.lemmas.Option.{slice_get_read}
@@ -20,7 +20,6 @@ use Rattle.map_types.specs.Stored.{Stored}
 use Rattle.map_types.proofs.CreationLemmas.{bounds_of_shape}
 use Rattle.map_script.specs.declared.script.Script.{Script}
 use Rattle.place_words.specs.declared.history.LockHistory.{LockHistory}
-use Rattle.place_words.specs.declared.history.Strand.{Strand}
 use Rattle.place_words.specs.declared.history.StrandStep.{StrandStep}
 use Rattle.place_words.specs.Locks.{is_lock, lock_count, lock_named, lock_number}
 use Rattle.place_words.specs.Logs.{State, lies_in, new_state, does, after_one, run, answers, finals_of}
@@ -47,7 +46,7 @@ use Rattle.map_report.specs.declared.record.RunRecord.{RunRecord}
 use Rattle.map_report.specs.Record.{locks_of}
 use Rattle.map_report.specs.Runs.{steps_of_turns, steps_of_calls, serial}
 use Rattle.map_run.specs.ByLogs.{IsOfMap, KnowsState, HaveRunByLogs}
-use Rattle.map_run.specs.Copies.{has_step, IsCopyOf, record_left, strand_left}
+use Rattle.map_run.specs.Copies.{record_left, strand_left}
 use Rattle.map_run.specs.Served.{IsServedCall}
 use Rattle.map_run.proofs.CallsByLogs.{key_verb, knows_next, reply_next, run_more, answers_more, steps_more}
 use Rattle.map_run.proofs.Closing.{kept_all, made_of_all, length_indexes}
@@ -179,30 +178,9 @@ next_shared_by_logs t calls n call p q number reply replies after shape_is lru s
 
 -- At the end
 
-strand_is : (shape : Shape) (steps : List StrandStep) → strand_left shape.cpus (strands_of shape steps) ≡ record { cpus = range_with_len 0 shape.cpus; steps = steps }
+pub strand_is : (shape : Shape) (steps : List StrandStep) → strand_left shape.cpus (strands_of shape steps) ≡ record { cpus = range_with_len 0 shape.cpus; steps = steps }
 strand_is shape [] = refl
 strand_is shape (step ∷ steps) = refl
-
-strands_there : (shape : Shape) (steps : List StrandStep) → filter has_step (strand_left shape.cpus (strands_of shape steps) ∷ []) ≡ strands_of shape steps
-strands_there shape [] = refl
-strands_there shape (step ∷ steps) =
-    let strand : Strand = record { cpus = range_with_len 0 shape.cpus; steps = step ∷ steps } in
-    ap (λ b. cond (not b) (strand ∷ []) []) (ne_eqb (suc (length steps)) 0 (λ is. omega (arith, is)))
-
--- what is kept of the run is what its table left
-pub copy_by_logs : (t : TableView) (shape : Shape) (calls : List Call) (p : PassView) (kept : RunRecord) (closed back : ClosedView) (replies : List Reply) → t.shape ≡ shape → IsShape t.shape → HaveRunByLogs t calls p replies → IsClosed t.shape p closed
-    → (kept ≡ record_left shape.cpus replies closed) × (back ≡ closed) × (closed.lost ≡ false) → IsCopyOf kept back
-copy_by_logs t shape calls p kept closed back replies same shape_is ran ends is =
-    let told : closed.strands ≡ strands_of t.shape p.view.kept =
-    strands_are_told t.shape p closed ends is.2 (bounds_of_shape t.shape shape_is) ∙ told_of_one t.shape p.view ran.ended ran.all_cpus in
-    let copy : IsCopyOf (record_left t.shape.cpus replies closed) closed = record {
-      histories = refl;
-      strands = subst (λ (strands : List Strand). filter has_step (strand_left t.shape.cpus strands ∷ []) ≡ strands) (sym told) (strands_there t.shape p.view.kept);
-      finals = refl;
-      whole = is.2;
-    } in
-    subst (IsCopyOf kept) (sym is.1)
-    (subst (λ (k : RunRecord). IsCopyOf k closed) (sym (is.0 ∙ ap (λ (s : Shape). record_left s.cpus replies closed) (sym same))) copy)
 
 -- the history of a lock
 abbrev history_in : State → DomainId → LockHistory

@@ -47,6 +47,7 @@ use Rattle.map_run.proofs.Closing.{left_by}
 use Rattle.map_run.proofs.PlainCalls.{plain_call}
 use Rattle.map_run.proofs.OneCall.{going_on}
 use Rattle.map_run.proofs.OpeningTurns.{opening_lies, opening_spares_are, no_opening_spares}
+use Rattle.map_run.proofs.RunByLogs.{strand_is}
 use Rattle.map_run.proofs.SameRecord.{one_record}
 use Rattle.map_run.proofs.SerialRun.{going_first, lists_next, replies_next, turns_next}
 use Rattle.map_run.proofs.SoundRun.{sound_from_opening}
@@ -191,10 +192,6 @@ first_on_lists t p shape_is built first =
     }
 
 -- At the end
-
-strand_is : (shape : Shape) (steps : List StrandStep) → strand_left shape.cpus (strands_of shape steps) ≡ record { cpus = range_with_len 0 shape.cpus; steps = steps }
-strand_is shape [] = refl
-strand_is shape (step ∷ steps) = refl
 
 strands_there : (shape : Shape) (steps : List StrandStep) → filter has_step (strand_left shape.cpus (strands_of shape steps) ∷ []) ≡ strands_of shape steps
 strands_there shape [] = refl
