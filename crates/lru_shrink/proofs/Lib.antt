@@ -4,6 +4,9 @@ pub mod LookWalk
 pub mod Marks
 pub mod Parts
 pub mod RowSteps
-pub mod TryLoop
+pub mod RowWalk
+pub mod SearchLoop
+pub mod SearchWalk
+pub mod ForcedSearch
 pub mod ShrinkLaws
 pub mod StackLemmas

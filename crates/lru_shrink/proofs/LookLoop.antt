@@ -1,10 +1,10 @@
 -- The walk of looks over inactive, as far as it has come.
-use Rattle.std.proofs.Common.{◌≡◌, ℕ, suc, ◌+◌, ◌-◌, ◌*◌, ◌<◌, ◌≤◌, min, Bool, true, false, not, cond, ◌||◌, eqb, List, [], ◌∷◌, ◌++◌, map, reverse, length, take, drop, refl, ap, ◌∙◌, sym, subst, arith, inl, inr, ◌⊎◌}
-use Rattle.std.specs.Prelude.{Option, None, Some, All, filter, filter_map, count_by, option_map, unwrap_or, is_some}
+use Rattle.std.proofs.Common.{◌≡◌, ℕ, suc, ◌+◌, ◌-◌, ◌*◌, ◌<◌, ◌≤◌, min, Bool, true, false, not, cond, ◌||◌, eqb, List, [], ◌∷◌, ◌++◌, reverse, length, take, drop, refl, ap, ◌∙◌, sym, subst, arith, inl, inr, ◌⊎◌}
+use Rattle.std.specs.Prelude.{Option, None, Some, All, filter_map, count_by, option_map, unwrap_or, is_some}
 use Rattle.std.specs.List.{cons_option}
 use Rattle.std.proofs.lemmas.List.{append-nil, append_assoc, length-append, length-map, map-append, take-append-le, length-take-le, take_at, take-append-drop, length-reverse}
-use Rattle.std.proofs.lemmas.List.Elements.{All-nil, All-push, filter-append, filter_map-append}
-use Rattle.std.proofs.lemmas.List.Sums.{sum_by-append, length-filter, count_by-le-length}
+use Rattle.std.proofs.lemmas.List.Elements.{All-nil, All-push, filter_map-append}
+use Rattle.std.proofs.lemmas.List.Sums.{sum_by-append, count_by-le-length}
 use Rattle.std.proofs.lemmas.Bool.{ne_eqb, eq-eqb}
 use Rattle.map_types.specs.Stored.{Stored}
 use Rattle.percpu_values.specs.BodyList.{BodyList}
@@ -14,42 +14,27 @@ use Rattle.map_types.specs.declared.row.Row.{Row}
 use Rattle.place_words.specs.declared.visits.Look.{Look}
 use Rattle.map_types.specs.Listed.{elements_of, cursor_without}
 use Rattle.place_words.specs.Shrinking.{AreLooks, look_removed, after_looks}
-use Rattle.map_types.proofs.RowLemmas.{times_append}
-use Rattle.row_list.specs.RowWords.{head_row, tail_row, row_before}
+use Rattle.row_list.specs.RowWords.{row_of, head_row, tail_row, row_before}
 use Rattle.lru_lists.specs.Notes.{AreNoted}
 use Rattle.lru_lists.specs.Sets.{SetView, IsSet, IsListed, listed, row_on, times_listed}
 use Rattle.lru_lists.specs.declared.bits.BitCall.{BitCall}
 use Rattle.lru_lists.specs.declared.bits.ProbeCall.{ProbeCall}
 use Rattle.lru_lists.specs.declared.notes.Noted.{Noted}
 use Rattle.lru_shrink.specs.Asking.{LeavesBut}
-use Rattle.lru_shrink.specs.Shrunk.{AreStacked, LooksPart, after_look, cleared, probe_on, look_probes, removed_by_looks, with_listed}
+use Rattle.lru_shrink.specs.Shrunk.{AreStacked, LooksPart, after_look, cleared, probe_by, probe_on, probes_of_looks, look_probes, removed_by_looks, with_listed}
 use Rattle.lru_shrink.proofs.AskingLemmas.{leaves_all, leaves_more, leaves_as}
 use Rattle.lru_shrink.proofs.Marks.{unmarked_stay}
 use Rattle.lru_shrink.proofs.LookWalk as walk
 use Rattle.lru_shrink.proofs.LookWalk.{looked_at, or_true, or_other, or_none}
+use Rattle.lru_shrink.proofs.SearchWalk.{length_removed, removed_push, times_push}
+use Rattle.lru_shrink.proofs.RowWalk.{first_of, none_first}
 use Rattle.lru_shrink.proofs.RowSteps.{times_look, row_look, number_look}
 use Rattle.lru_lists.proofs.NoteLemmas.{noted_none, noted_more}
 use Rattle.lru_shrink.proofs.StackLemmas.{stacked_none, stacked_more}
 
-pub first_of : (left : List Row) (row : Row) → head_row left ≡ Some row → (rest : List Row) × (left ≡ row ∷ rest)
-first_of [] row is = absurd cc
-first_of (x ∷ left) row is = (left, cc)
-
-pub none_first : (left : List Row) → head_row left ≡ None → left ≡ []
-none_first [] is = refl
-none_first (x ∷ left) is = absurd cc
-
 pub cursor_none : (rows : List Row) (at : Option ℕ) → cursor_without (λ _. false) rows at ≡ at
 cursor_none rows None = refl
 cursor_none rows (Some c) = refl
-
-removed_push : (looks : List Look) (look : Look) → removed_by_looks (looks ++ look ∷ []) ≡ removed_by_looks looks ++ removed_by_looks (look ∷ [])
-removed_push looks look =
-    ap (λ (xs : List Look). map (λ (l : Look). l.element) xs) (filter-append look_removed looks (look ∷ []))
-    ∙ map-append (λ (l : Look). l.element) (filter look_removed looks) (filter look_removed (look ∷ []))
-
-times_push : (e : ℕ) (looks : List Look) (look : Look) → times e (removed_by_looks (looks ++ look ∷ [])) ≡ times e (removed_by_looks looks) + times e (removed_by_looks (look ∷ []))
-times_push e looks look = ap (times e) (removed_push looks look) ∙ times_append e (removed_by_looks looks) (removed_by_looks (look ∷ []))
 
 count_push : (looks : List Look) (look : Look) → count_by look_removed (looks ++ look ∷ []) ≡ count_by look_removed looks + count_by look_removed (look ∷ [])
 count_push looks look = sum_by-append (λ (l : Look). cond (look_removed l) 1 0) looks (look ∷ [])
@@ -67,17 +52,14 @@ early_push looks look target below k within =
     let few = count_take k looks in
     omega arith
 
-pub length_removed : (looks : List Look) → length (removed_by_looks looks) ≡ count_by look_removed looks
-length_removed looks = length-map (filter look_removed looks) (λ (l : Look). l.element) ∙ length-filter look_removed looks
-
--- the probes of a look by what two sets say alike of its row
-probes_alike : (a b : SetView) (look : Look) → row_on look.element a ≡ row_on look.element b → look_probes a (look ∷ []) ≡ look_probes b (look ∷ [])
+-- the probes of a look by what two lists say alike of its row
+pub probes_alike : (a b : List Row) (look : Look) → row_of look.element a ≡ row_of look.element b → probes_of_looks a (look ∷ []) ≡ probes_of_looks b (look ∷ [])
 probes_alike a b look same =
     ap (λ (found : Option Row). filter_map (λ (l : Look). option_map (λ (seen : Seen). let call : ProbeCall = record { element = l.element; hash = unwrap_or (option_map (λ (row : Row). row.hash) found) 0; probed = seen } in call) l.probed) (look ∷ [])) same
 
-pub few_probes : (set : SetView) (looks : List Look) → length (look_probes set looks) ≤ length looks
-few_probes set [] = omega arith
-few_probes set (look ∷ looks) = let rest = few_probes set looks in one_more_at_most (option_map (probe_on set look.element) look.probed) (look_probes set looks) (length looks) rest
+pub few_probes : (rows : List Row) (looks : List Look) → length (probes_of_looks rows looks) ≤ length looks
+few_probes rows [] = omega arith
+few_probes rows (look ∷ looks) = let rest = few_probes rows looks in one_more_at_most (option_map (probe_by rows look.element) look.probed) (probes_of_looks rows looks) (length looks) rest
   where
     one_more_at_most : (call : Option ProbeCall) (calls : List ProbeCall) (n : ℕ) → length calls ≤ n → length (cons_option call calls) ≤ suc n
     one_more_at_most None calls n few = omega arith
@@ -169,13 +151,13 @@ module _ {Asked : Type 0} {can_note may_ask : Asked → ℕ → Type 0} {may_pro
       let few = few_visited in
       let count = so_far.count in
       let most = count_by-le-length look_removed so_far.looks in
-      let bodies = sym (length-map so_far.stacked.bodies (λ (body : Stored). body.element)) ∙ ap (length {A = ℕ}) so_far.stacked.numbers ∙ length_removed so_far.looks in
+      let bodies = sym (length-map so_far.stacked.bodies (λ (body : Stored). body.element)) ∙ ap (length {A = ℕ}) so_far.stacked.numbers ∙ length_removed walk.look_element look_removed so_far.looks in
       let spare = ap (λ (stack : BodyList). stack.spare) so_far.stacked.stacked in
       omega arith
 
   pub noted_now : (scans : ℕ) → i < scans → can_note asked_before (2 * scans) → ((m n : ℕ) → m ≤ n → can_note asked_now n → can_note asked_now m) → can_note asked_now 2
   noted_now scans below can fewer =
-      let few = few_probes before so_far.looks in
+      let few = few_probes (before.active ++ before.inactive) so_far.looks in
       let many = so_far.many in
       fewer 2 (2 * scans - (length so_far.looks + length (look_probes before so_far.looks))) (omega arith) (so_far.leaves.noted (2 * scans) can)
 
@@ -199,7 +181,7 @@ module _ {Asked : Type 0} {can_note may_ask : Asked → ℕ → Type 0} {may_pro
   looking_more {then = then} {asked_then = asked_then} {out_then = out_then} notes_then look named bit is stacked call probe whole only noted next count below =
       let looks : List Look = so_far.looks in
       let same : row_on look.element now ≡ row_on look.element before = ap (λ (e : ℕ). row_on e now) named ∙ its ∙ sym was_its ∙ ap (λ (e : ℕ). row_on e before) (sym named) in
-      let alike = probes_alike now before look same in
+      let alike = probes_alike (now.active ++ now.inactive) (before.active ++ before.inactive) look same in
       let both = filter_map-append (λ (l : Look). option_map (probe_on before l.element) l.probed) looks (look ∷ []) in
       record {
         visited = so_far.visited ++ row ∷ [];
@@ -212,13 +194,13 @@ module _ {Asked : Type 0} {can_note may_ask : Asked → ℕ → Type 0} {may_pro
         bits = All-push (λ (l : Look). is_some l.probed ≡ not l.bit) looks look so_far.bits bit;
         early = early_push looks look target (let had = so_far.count in omega arith);
         set = is ∙ ap (after_look look) so_far.set ∙ sym (walk.one_more before so_far.was_whole so_far.visited rest row looks order_here so_far.seen look named);
-        stacked = subst (λ (xs : List ℕ). AreStacked (gives asked_then) xs out out_then) (sym (removed_push looks look)) (stacked_more (gives asked_now) (gives asked_then) (removed_by_looks looks) (removed_by_looks (look ∷ [])) out out_now out_then (λ body. (only.given body).0) so_far.stacked stacked);
+        stacked = subst (λ (xs : List ℕ). AreStacked (gives asked_then) xs out out_then) (sym (removed_push walk.look_element look_removed looks look)) (stacked_more (gives asked_now) (gives asked_then) (removed_by_looks looks) (removed_by_looks (look ∷ [])) out out_now out_then (λ body. (only.given body).0) so_far.stacked stacked);
         count = count ∙ ap (λ (n : ℕ). n + count_by look_removed (look ∷ [])) so_far.count ∙ sym (count_push looks look);
         asked = call ∙ ap (λ (xs : List BitCall). xs ++ cleared (look ∷ [])) so_far.asked ∙ append_assoc (calls asked_before) (cleared looks) (cleared (look ∷ [])) ∙ ap (λ (xs : List BitCall). calls asked_before ++ xs) (sym (map-append _ looks (look ∷ [])));
         probed = probe its ∙ ap (λ (xs : List ProbeCall). xs ++ look_probes now (look ∷ [])) so_far.probed ∙ append_assoc (probes asked_before) (look_probes before looks) (look_probes now (look ∷ [])) ∙ ap (λ (xs : List ProbeCall). probes asked_before ++ (look_probes before looks ++ xs)) alike ∙ ap (λ (xs : List ProbeCall). probes asked_before ++ xs) (sym both);
         noted = noted_more looks (look ∷ []) notes notes_now notes_then so_far.noted noted;
-        rows = λ e. let step = times_look now row so_far.whole its look named bit e in let old = so_far.rows e in let more = times_push e looks look in let then_is = ap (times_listed e) is in omega arith;
-        same_rows = λ e none. let more = times_push e looks look in ap (row_on e) is ∙ row_look now row so_far.whole its look named bit e (omega arith) ∙ so_far.same_rows e (omega arith);
+        rows = λ e. let step = times_look now row so_far.whole its look named bit e in let old = so_far.rows e in let more = times_push walk.look_element look_removed e looks look in let then_is = ap (times_listed e) is in omega arith;
+        same_rows = λ e none. let more = times_push walk.look_element look_removed e looks look in ap (row_on e) is ∙ row_look now row so_far.whole its look named bit e (omega arith) ∙ so_far.same_rows e (omega arith);
         leaves =
             let longer = length-append looks (look ∷ []) in
             let probes_longer = ap (length {A = ProbeCall}) both ∙ length-append (look_probes before looks) (look_probes before (look ∷ [])) in
@@ -226,7 +208,7 @@ module _ {Asked : Type 0} {can_note may_ask : Asked → ℕ → Type 0} {may_pro
             leaves_more can_note may_ask may_probe gives lender (λ e. times e (removed_by_looks looks) ≡ 0) (λ e. times e (removed_by_looks (look ∷ [])) ≡ 0) (λ e. times e (removed_by_looks (looks ++ look ∷ [])) ≡ 0)
             (length looks + length (look_probes before looks)) (1 + length (look_probes now (look ∷ []))) (length (looks ++ look ∷ []) + length (look_probes before (looks ++ look ∷ [])))
             asked_before asked_now asked_then
-            (λ e none. let more = times_push e looks look in omega arith) (λ e none. let more = times_push e looks look in omega arith) (omega arith) so_far.leaves only;
+            (λ e none. let more = times_push walk.look_element look_removed e looks look in omega arith) (λ e none. let more = times_push walk.look_element look_removed e looks look in omega arith) (omega arith) so_far.leaves only;
         number =
             let step = number_look now row so_far.whole its look named bit in
             let active = ap (λ (set : SetView). length set.active) is in

@@ -1,11 +1,9 @@
 -- A shrink from its parts.
 use Rattle.std.proofs.Common.{◌≡◌, ◌≢◌, ℕ, ◌+◌, ◌-◌, ◌*◌, ◌≤◌, min, Bool, true, false, eqb, List, [], ◌∷◌, ◌++◌, map, length, refl, ap, ◌∙◌, sym, subst, arith, inl, inr}
-use Rattle.std.specs.Prelude.{Option, Some, filter, count_by, option_map, unwrap_or, MatchBool}
+use Rattle.std.specs.Prelude.{Option, Some, count_by, option_map, unwrap_or, MatchBool}
 use Rattle.std.proofs.Math.Path.{fun_ext}
 use Rattle.std.proofs.lemmas.Bool.{ne_eqb, eq-eqb, cases_Bool}
 use Rattle.std.proofs.lemmas.List.{append-nil, length-append, length-map}
-use Rattle.std.proofs.lemmas.List.Sums.{length-filter}
-use Rattle.std.proofs.lemmas.List.Elements.{All-nil}
 use Rattle.map_types.specs.Stored.{Stored}
 use Rattle.percpu_values.specs.BodyList.{BodyList}
 use Rattle.map_types.specs.ElementLists.{times}
@@ -22,11 +20,14 @@ use Rattle.lru_lists.specs.declared.notes.ShrinkNotes.{ShrinkNotes}
 use Rattle.lru_shrink.specs.Asking.{LeavesBut}
 use Rattle.lru_shrink.specs.Shrunk.{AreStacked, LooksPart, TriesPart, Shrink, cleared, look_probes, try_probes, removed_by_looks, removed_by_tries, with_listed}
 use Rattle.lru_shrink.proofs.AskingLemmas.{leaves_more}
-use Rattle.lru_shrink.proofs.LookLoop.{length_removed, few_probes}
+use Rattle.lru_shrink.proofs.LookLoop.{few_probes}
+use Rattle.lru_shrink.proofs.LookWalk.{look_element}
+use Rattle.lru_shrink.proofs.SearchLoop.{try_element}
+use Rattle.lru_shrink.proofs.SearchWalk.{length_removed}
 use Rattle.lru_shrink.proofs.ShrinkLaws.{few_looks, few_tries, spares_used}
 use Rattle.lru_lists.proofs.NoteLemmas.{noted_none}
 use Rattle.lru_shrink.proofs.StackLemmas.{stacked_more, stacked_nothing}
-use Rattle.lru_shrink.proofs.TryLoop.{set_stays}
+use Rattle.lru_shrink.proofs.ForcedSearch.{set_stays}
 
 match_true : (b : Bool) (P Q : Type 0) → b ≡ true → P → MatchBool b P Q
 match_true true P Q is p = p
@@ -35,9 +36,6 @@ match_true false P Q is p = absurd cc
 match_false : (b : Bool) (P Q : Type 0) → b ≡ false → Q → MatchBool b P Q
 match_false true P Q is q = absurd cc
 match_false false P Q is q = q
-
-removed_length : (tries : List Try) → length (removed_by_tries tries) ≡ count_by try_removed tries
-removed_length tries = length-map (filter try_removed tries) (λ (t : Try). t.element) ∙ length-filter try_removed tries
 
 -- Some look removed one, so none is tried by force.
 module _ {scans target : ℕ} {before after : SetView} {calls calls_after : List BitCall} {probes probes_after : List ProbeCall} {gives : Stored → Type 0}
@@ -54,7 +52,7 @@ module _ {scans target : ℕ} {before after : SetView} {calls calls_after : List
 
   after_none : with_listed (shrunk (listed before) part.looks []) before ≡ with_listed (after_looks (listed before) part.looks) before
   unfolding shrunk
-  after_none = ap (λ (set : SetView). with_listed (listed set) before) (set_stays (with_listed (after_looks (listed before) part.looks) before) [] (All-nil (λ (t : Try). try_removed t ≡ false)))
+  after_none = ap (λ (set : SetView). with_listed (listed set) before) (set_stays (with_listed (after_looks (listed before) part.looks) before) [] refl)
 
   pub shrunk_by_looks : answer ≢ 0 → Shrink scans target before after calls calls_after probes probes_after gives out out_after notes (record { looks = looks_after; forced = notes.forced }) answer
   shrunk_by_looks not_zero = record {
@@ -63,7 +61,7 @@ module _ {scans target : ℕ} {before after : SetView} {calls calls_after : List
     shrinks = by_looks_is not_zero;
     set = part.set ∙ sym after_none;
     left = subst (λ (elements : List ℕ). AreStacked gives elements out out_after) (sym all_freed) part.left;
-    count = part.count ∙ sym (length_removed part.looks) ∙ ap (length {A = ℕ}) (sym all_freed);
+    count = part.count ∙ sym (length_removed look_element look_removed part.looks) ∙ ap (length {A = ℕ}) (sym all_freed);
     asked = part.asked;
     probed = part.probed ∙ sym (append-nil (probes ++ look_probes before part.looks));
     noted_looks = part.noted;
@@ -82,7 +80,7 @@ module _ {scans target : ℕ} {before middle : SetView} {calls calls_middle : Li
     {out out_middle : BodyList} {looks_after : Noted Look} {first : ℕ} (notes : ShrinkNotes) (none : first ≡ 0)
     (part : LooksPart scans target before middle calls calls_middle probes probes_middle gives out out_middle notes.looks looks_after first) where
   none_left : removed_by_looks part.looks ≡ []
-  none_left = empty (removed_by_looks part.looks) (length_removed part.looks ∙ sym part.count ∙ none)
+  none_left = empty (removed_by_looks part.looks) (length_removed look_element look_removed part.looks ∙ sym part.count ∙ none)
     where
       empty : (xs : List ℕ) → length xs ≡ 0 → xs ≡ []
       empty [] long = refl
@@ -112,7 +110,7 @@ module _ {scans target : ℕ} {before middle : SetView} {calls calls_middle : Li
         let few = forced_few in
         let calls_long = ap (length {A = BitCall}) part.asked ∙ length-append calls (cleared part.looks) ∙ ap (λ (n : ℕ). length calls + n) (length-map part.looks _) in
         let probes_long = ap (length {A = ProbeCall}) part.probed ∙ length-append probes (look_probes before part.looks) in
-        let less = few_probes before part.looks in
+        let less = few_probes (before.active ++ before.inactive) part.looks in
         let most = few_looks scans target (listed before) part.looks part.looked in
         let all : ℕ = 2 * scans + (length before.active + length before.inactive) in
         fewer (length (forced_rows (listed middle))) (all - ((length calls_middle - length calls) + (length probes_middle - length probes))) (omega arith) (only.noted all can)
@@ -152,7 +150,7 @@ module _ {scans target : ℕ} {before middle : SetView} {calls calls_middle : Li
       shrinks = by_force_is;
       set = after_all;
       left = stacked_more gives gives_after (removed_by_looks part.looks) (removed_by_tries more.tries) out out_middle out_after keeps part.left more.left;
-      count = more.count ∙ sym (removed_length more.tries) ∙ ap (length {A = ℕ}) (sym all_left);
+      count = more.count ∙ sym (length_removed try_element try_removed more.tries) ∙ ap (length {A = ℕ}) (sym all_left);
       asked = same_calls ∙ part.asked;
       probed = more.probed ∙ ap (λ (xs : List ProbeCall). xs ++ try_probes middle more.tries) part.probed ∙ ap (λ (xs : List ProbeCall). (probes ++ look_probes before part.looks) ++ xs) same_probes;
       noted_looks = part.noted;

@@ -1,4 +1,4 @@
--- What one look or try leaves of the rows of a set.
+-- What is left of the rows of a set by a row that is taken off, and by a look.
 use Rattle.std.proofs.Common.{◌≡◌, ◌≢◌, ℕ, suc, ◌+◌, true, false, not, cond, eqb, List, [], ◌∷◌, ◌++◌, map, length, refl, ap, ◌∙◌, sym, subst, arith, inl, inr}
 use Rattle.std.specs.Prelude.{Option, None, Some, is_some, count_by}
 use Rattle.std.proofs.lemmas.Bool.{ne_eqb, cases_Bool}
@@ -7,16 +7,15 @@ use Rattle.map_types.specs.ElementLists.{times}
 use Rattle.place_words.specs.declared.bucket_part.Seen.{Seen}
 use Rattle.map_types.specs.declared.row.Row.{Row}
 use Rattle.place_words.specs.declared.visits.Look.{Look}
-use Rattle.place_words.specs.declared.visits.Try.{Try}
 use Rattle.map_types.specs.Listed.{elements_of}
-use Rattle.place_words.specs.Shrinking.{look_removed, try_removed}
+use Rattle.place_words.specs.Shrinking.{look_removed}
 use Rattle.row_list.specs.RowWords.{row_of, without_row}
 use Rattle.row_list.proofs.ElementLemmas.{by_test, times_here}
 use Rattle.row_list.proofs.RowLemmas.{gone_without, kept_without, length_without}
 use Rattle.lru_lists.specs.Sets.{SetView, IsSet, IsListed, row_on, times_listed, moved_to, taken_off}
 use Rattle.lru_lists.specs.declared.name.ListName.TheVariants.{Active}
 use Rattle.lru_lists.proofs.SetLemmas.{listed_present}
-use Rattle.lru_shrink.specs.Shrunk.{after_look, after_try, removed_by_looks, removed_by_tries}
+use Rattle.lru_shrink.specs.Shrunk.{after_look, removed_by_looks}
 use Rattle.lru_shrink.proofs.LookWalk.{at_true, at_false}
 
 -- the row of another element is found without the one
@@ -38,7 +37,7 @@ module _ (set : SetView) (row : Row) (whole : IsSet set) (its : row_on row.eleme
   without_both : without_row row.element set.active ++ without_row row.element set.inactive ≡ without_row row.element (set.active ++ set.inactive)
   without_both = sym (filter-append (λ r. not (eqb r.element row.element)) set.active set.inactive)
 
-  row_off : (x : ℕ) → x ≢ row.element → row_on x (taken_off row.element set) ≡ row_on x set
+  pub row_off : (x : ℕ) → x ≢ row.element → row_on x (taken_off row.element set) ≡ row_on x set
   row_off x other = ap (row_of x) without_both ∙ row_of_without x row.element (set.active ++ set.inactive) other
 
   row_moved : (x : ℕ) → row_on x (moved_to row.element Active set) ≡ row_on x set
@@ -47,7 +46,7 @@ module _ (set : SetView) (row : Row) (whole : IsSet set) (its : row_on row.eleme
       (λ here. sym its ∙ ap (λ (n : ℕ). row_on n set) here)
       (λ other. row_off x (λ is. other (sym is))))
 
-  times_off : (x : ℕ) → times_listed x (taken_off row.element set) + times x (row.element ∷ []) ≡ times_listed x set
+  pub times_off : (x : ℕ) → times_listed x (taken_off row.element set) + times x (row.element ∷ []) ≡ times_listed x set
   times_off x =
       by_test row.element x (λ b. times_listed x (taken_off row.element set) + cond b 1 0 ≡ times_listed x set)
       (λ here.
@@ -68,7 +67,7 @@ module _ (set : SetView) (row : Row) (whole : IsSet set) (its : row_on row.eleme
       (λ _ sum. omega arith)
       (λ _ sum. omega arith) off)
 
-  number_off : (length (taken_off row.element set).active + length (taken_off row.element set).inactive) + 1 ≡ length set.active + length set.inactive
+  pub number_off : (length (taken_off row.element set).active + length (taken_off row.element set).inactive) + 1 ≡ length set.active + length set.inactive
   number_off =
       let active = length_without row.element set.active in
       let inactive = length_without row.element set.inactive in
@@ -79,29 +78,7 @@ module _ (set : SetView) (row : Row) (whole : IsSet set) (its : row_on row.eleme
   number_moved : length (moved_to row.element Active set).active + length (moved_to row.element Active set).inactive ≡ length set.active + length set.inactive
   number_moved = let off = number_off in rw its (omega arith)
 
-  -- how often an element is listed after a try, and the row of one that wasn't removed
-  module _ (try : Try) (named : try.element ≡ row.element) where
-    pub times_try : (x : ℕ) → times_listed x (after_try try set) + times x (removed_by_tries (try ∷ [])) ≡ times_listed x set
-    times_try x = elim (cases_Bool (try_removed try)) [
-      | inl removed ↦
-          rw (at_true (try_removed try) (taken_off try.element set) set removed, at_true (try_removed try) (try ∷ []) [] removed, named) (times_off x)
-      | inr held ↦
-          rw (at_false (try_removed try) (taken_off try.element set) set held, at_false (try_removed try) (try ∷ []) [] held) (omega arith)
-    ]
-
-    pub row_try : (x : ℕ) → times x (removed_by_tries (try ∷ [])) ≡ 0 → row_on x (after_try try set) ≡ row_on x set
-    row_try x absent = elim (cases_Bool (try_removed try)) [
-      | inl removed ↦
-          let gone : times x (row.element ∷ []) ≡ 0 =
-          ap (λ (n : ℕ). times x (n ∷ [])) (sym named) ∙ ap (λ (xs : List Try). times x (map (λ (t : Try). t.element) xs)) (sym (at_true (try_removed try) (try ∷ []) [] removed)) ∙ absent in
-          rw (at_true (try_removed try) (taken_off try.element set) set removed, named) (row_off x (λ is. absurd (omega (arith, gone, times_here row.element x [] (sym is)))))
-      | inr held ↦ rw (at_false (try_removed try) (taken_off try.element set) set held) refl
-    ]
-
-    pub number_removed : try_removed try ≡ true → (length (after_try try set).active + length (after_try try set).inactive) + 1 ≡ length set.active + length set.inactive
-    number_removed removed = rw (at_true (try_removed try) (taken_off try.element set) set removed, named) number_off
-
-  -- likewise after a look
+  -- after a look
   module _ (look : Look) (named : look.element ≡ row.element) (probed : is_some look.probed ≡ not look.bit) where
     unprobed : look.bit ≡ true → look_removed look ≡ false
     unprobed is_set = none_removed look.probed (probed ∙ ap not is_set)

@@ -8,6 +8,8 @@ use Rattle.place_words.specs.Shrinking.{AreLooks, AreTries, IsShrink, look_remov
 use Rattle.place_words.specs.declared.bucket_part.Seen.{Seen}
 use Rattle.place_words.specs.declared.visits.Look.{Look}
 use Rattle.place_words.specs.declared.visits.Try.{Try}
+use Rattle.map_types.specs.declared.row.Row.{Row}
+use Rattle.row_list.specs.RowWords.{row_of}
 use Rattle.lru_lists.specs.Notes.{AreNoted}
 use Rattle.lru_lists.specs.Sets.{SetView, listed, moved_to, taken_off, numbers_of, row_on, times_listed}
 use Rattle.lru_lists.specs.declared.bits.BitCall.{BitCall}
@@ -25,20 +27,30 @@ with_listed rows set = record set { active = rows.active; inactive = rows.inacti
 abbrev pub cleared : List Look → List BitCall
 cleared looks = map (λ look. Cleared (record { element = look.element; bit = look.bit })) looks
 
--- the probe of an element of a set, by the hash that its row has there, or 0 where it has none
-abbrev pub probe_on : SetView → ℕ → Seen → ProbeCall
-probe_on set e seen = record {
+-- the probe of an element, by the hash that its row has among these rows, or 0 where it has none
+abbrev pub probe_by : List Row → ℕ → Seen → ProbeCall
+probe_by rows e seen = record {
   element = e;
-  hash = unwrap_or (option_map (λ row. row.hash) (row_on e set)) 0;
+  hash = unwrap_or (option_map (λ row. row.hash) (row_of e rows)) 0;
   probed = seen;
 }
 
 -- the probes of looks, none where the bit was set, and those of tries
+abbrev pub probes_of_looks : List Row → List Look → List ProbeCall
+probes_of_looks rows looks = filter_map (λ look. option_map (probe_by rows look.element) look.probed) looks
+
+abbrev pub probes_of_tries : List Row → List Try → List ProbeCall
+probes_of_tries rows tries = map (λ try. probe_by rows try.element try.probed) tries
+
+-- the same by the rows of a set
+abbrev pub probe_on : SetView → ℕ → Seen → ProbeCall
+probe_on set = probe_by (set.active ++ set.inactive)
+
 abbrev pub look_probes : SetView → List Look → List ProbeCall
-look_probes set looks = filter_map (λ look. option_map (probe_on set look.element) look.probed) looks
+look_probes set = probes_of_looks (set.active ++ set.inactive)
 
 abbrev pub try_probes : SetView → List Try → List ProbeCall
-try_probes set tries = map (λ try. probe_on set try.element try.probed) tries
+try_probes set = probes_of_tries (set.active ++ set.inactive)
 
 -- the elements that looks removed, and those that tries removed
 abbrev pub removed_by_looks : List Look → List ℕ

@@ -6,12 +6,11 @@ ghost use Rattle.place_words.specs.Shrinking.{look_removed};
 ghost use Rattle.map_types.specs.declared.row.Row as row_record;
 ghost use Rattle.lru_lists.specs.Sets.{IsListed, IsSet, row_on, times_listed};
 ghost use Rattle.lru_shrink.specs.Asking.{LeavesBut};
-ghost use Rattle.lru_shrink.specs.Shrunk.{LooksPart, AreStacked, after_look, cleared, look_probes, removed_by_looks};
+ghost use Rattle.lru_shrink.specs.Shrunk.{LooksPart, AreStacked, after_look, after_try, cleared, look_probes, removed_by_looks, removed_by_tries};
 
-use crate::forced::try_once;
-use lru_lists::{ListName, ListSet, Noted, Probe};
+use lru_lists::{ListName, ListSet, Noted, Probe, Probed};
 use percpu_values::BodyStack;
-use place_words::{Look, Seen};
+use place_words::{Look, Seen, Try};
 use row_list::{Row, Rows};
 
 /// Looks at up to `scans` rows of inactive from the tail, until `target` elements are removed. Answers how many were.
@@ -87,6 +86,38 @@ fn look_once<R: Rows, P: Probe>(
             bit,
             probed: Some(tried.probed),
         }
+    }
+}
+
+/// Probes the element of a row. Where that removes it, it leaves the set, and its body comes on top of `out`.
+fn try_once<R: Rows, P: Probe>(
+    set: &mut ListSet<R>,
+    probe: &mut P,
+    row: Row,
+    out: &mut BodyStack,
+) -> Try
+    requires room { 1 ≤ out.old.spare }
+    requires noted { P.can_note probe.old 1 }
+    requires probed { P.may_probe probe.old row }
+    ensures element { result.element ≡ row.element }
+    ensures set { set.new ≡ after_try result set.old }
+    ensures out { AreStacked (P.gives probe.new) (removed_by_tries (result ∷ [])) out.old out.new }
+    ensures calls { P.calls probe.new ≡ P.calls probe.old }
+    ensures probes { P.probes probe.new ≡ P.probes probe.old ++ record { element = row.element; hash = row.hash; probed = result.probed } ∷ [] }
+    ensures whole { IsSet set.old → IsSet set.new }
+    ensures only { LeavesBut (λ e. times e (removed_by_tries (result ∷ [])) ≡ 0) P.can_note P.may_ask P.may_probe P.gives P.lender 1 probe.old probe.new }
+{
+    let probed = match probe.evict(row.element, row.hash) {
+        Probed::Removed(body) => {
+            let _ = set.take_off(row.element);
+            out.push(body);
+            Seen::Removed
+        }
+        Probed::Held(cpu) => Seen::Held(cpu),
+    };
+    Try {
+        element: row.element,
+        probed,
     }
 }
 

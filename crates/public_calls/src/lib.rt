@@ -10,11 +10,17 @@ mod hashes;
 #[cfg(test)]
 mod list_sets;
 #[cfg(test)]
+mod local_sets;
+#[cfg(test)]
 mod memory_bits;
 #[cfg(test)]
 mod rotations;
 #[cfg(test)]
+mod rounds;
+#[cfg(test)]
 mod scripts;
+#[cfg(test)]
+mod searches;
 #[cfg(test)]
 mod shrinks;
 #[cfg(test)]

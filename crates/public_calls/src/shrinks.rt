@@ -142,7 +142,7 @@ fn are_stacked(elements: &[u32], out: &mut BodyStack) -> bool {
 }
 
 /// Whether these are the notes.
-fn are_noted<T: PartialEq + Drop>(items: &[T], notes: &Noted<T>) -> bool {
+pub(crate) fn are_noted<T: PartialEq + Drop>(items: &[T], notes: &Noted<T>) -> bool {
     match notes {
         Noted::Kept(list) => list.as_slice() == items,
         Noted::Lost => false,

@@ -1,5 +1,5 @@
 use Rattle.lru_shrink.proofs.StackLemmas.{stacked_one}
-use Rattle.lru_shrink.proofs.forced.try_once.Goals as goal
+use Rattle.lru_shrink.proofs.looks.try_once.Goals as goal
 
 pub returns-in-Removed-clause-out : goal.returns-in-Removed-clause-out
 returns-in-Removed-clause-out g c =
