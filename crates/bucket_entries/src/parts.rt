@@ -9,6 +9,12 @@ use map_types::{Bytes, List, NoMemory, Side};
 use place_words::{BucketPart, Part, Put};
 use std::alloc::Global;
 
+/// The flag of an update that refuses a present key.
+pub const BPF_NOEXIST: u32 = 1;
+
+/// The flag of an update that refuses an absent key, and the greatest flag of an update.
+pub const BPF_EXIST: u32 = 2;
+
 /// A copy of bytes.
 fn bytes_of(alloc: Global, bytes: &[u8]) -> Result<Bytes, NoMemory>
     ensures { IfOk result (λ copy. copy ≡ bytes.now) }

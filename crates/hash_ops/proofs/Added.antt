@@ -1,12 +1,5 @@
 -- An absent key: freelists were looked at, and what one of them gave lies in the bucket, or the map is full.
-use Rattle.std.proofs.Common.{◌≡◌, ℕ, ◌<◌, ◌≤◌, cond, false, List, [], ◌∷◌, ◌++◌, length, map, get_or, ⊎_elim, sym, refl, ap, ◌∙◌, subst, arith, Option, Some, None}
-use Rattle.std.specs.List.{position_or_len}
-use Rattle.std.specs.Prelude.{slice_get, nat_lt}
-use Rattle.std.proofs.lemmas.Bool.{ltb-true}
-use Rattle.std.proofs.lemmas.List.{length-map}
-use Rattle.std.proofs.lemmas.Option.{slice_get_cases}
-use Rattle.bucket_chain.specs.Places.{place_of_key}
-use Rattle.bucket_chain.proofs.Found.{find_at}
+use Rattle.std.proofs.Common.{◌≡◌, ℕ, false, List, [], ◌∷◌, ◌++◌, map, sym, refl, ap, ◌∙◌, subst, Option, Some, None}
 use Rattle.map_types.specs.declared.attr.Shape.{Shape}
 use Rattle.map_types.specs.declared.call.Verb.TheVariants as verbs
 use Rattle.map_types.specs.declared.kind.DomainId.TheVariants.{Bucket}
@@ -14,7 +7,6 @@ use Rattle.map_types.specs.declared.kind.Side.{Side}
 use Rattle.map_types.specs.declared.refusal.Errno.TheVariants.{E2big}
 use Rattle.map_types.specs.declared.reply.Reply.TheVariants.{Done, Refused}
 use Rattle.map_types.specs.Kind.{is_lru}
-use Rattle.map_types.specs.Shape.{HasBounds}
 use Rattle.map_types.specs.Stored.{Stored}
 use Rattle.percpu_values.specs.BodyList.{BodyList}
 use Rattle.place_words.specs.declared.bucket_part.BucketPart.TheVariants.{Update}
@@ -22,7 +14,7 @@ use Rattle.place_words.specs.declared.bucket_part.Put.TheVariants as puts
 use Rattle.place_words.specs.declared.free_part.FreePart.TheVariants as turns
 use Rattle.place_words.specs.declared.history.Part.{Part}
 use Rattle.place_words.specs.declared.history.Part.TheVariants as parts
-use Rattle.place_words.specs.Bodies.{has_key, present, numbers}
+use Rattle.place_words.specs.Bodies.{numbers}
 use Rattle.map_types.specs.ElementLists.{times}
 use Rattle.place_words.specs.Traces.{Turn, Pops, found_empty, ring, on_freelist_of, spare_after, spare_after_part}
 use Rattle.place_core.specs.declared.step.Lists.{Lists}
@@ -34,30 +26,15 @@ use Rattle.place_table.specs.Known.{turn_of}
 use Rattle.place_table.specs.Passes.{PassView, TableView, CanGive, CanAttach, Attached, GaveBack}
 use Rattle.place_table.specs.Views.{is_in_hand_of, with_in_hand, without_in_hand}
 use Rattle.place_table.proofs.Entries.{append_nil}
-use Rattle.place_table.proofs.Hands.{in_hand_more}
-use Rattle.place_table.proofs.Worlds.{by_bool, none_some}
+use Rattle.place_table.proofs.Hands.{in_hand_more, hand_back}
 use Rattle.hash_ops.specs.Calls.{spare_element}
 use Rattle.bucket_entries.specs.declared.parts.Given.{Given}
 use Rattle.hash_ops.specs.Free.{CanReach, Popped, Reached}
 use Rattle.place_table.specs.InBucket.{InBucket}
 use Rattle.hash_ops.specs.Under.{HasItsSpares, AnsweredWhole, Gives}
 use Rattle.place_table.proofs.BucketTurns.{IsTurnWith}
-use Rattle.hash_ops.proofs.HandLemmas.{hand_back}
-use Rattle.hash_ops.proofs.Pushes.{few_of}
-use Rattle.hash_ops.proofs.Under.{Under, hold_with, none_noted, under_nothing, under_reached, under_attached, may_reach, can_attach, can_give, left_whole, answered_whole, update_trace, rows_taken}
-
--- an absent key has no place
-pub nowhere : (key : List ℕ) (bodies : List Stored) → present key bodies ≡ None → place_of_key key bodies ≡ None
-nowhere key bodies none =
-    let place = position_or_len (has_key key) bodies in
-    by_bool (nat_lt place (length bodies)) (λ z. cond z (Some place) None ≡ None)
-    (λ below.
-    let past = ltb-true place (length bodies) below in
-    ⊎_elim
-    (λ (x : (found : Stored) × (place < length bodies) × (slice_get bodies place ≡ Some found) × (get_or bodies place found ≡ found)). absurd (none_some (sym none ∙ (find_at (has_key key) bodies ∙ x.2))))
-    (λ (x : (length bodies ≤ place) × (slice_get bodies place ≡ None)). let there = x.0 in absurd (omega arith))
-    (slice_get_cases bodies place).1)
-    (λ _. refl)
+use Rattle.place_table.proofs.BucketBodies.{rows_taken}
+use Rattle.hash_ops.proofs.Under.{Under, hold_with, none_noted, under_nothing, under_reached, under_attached, may_reach, can_attach, can_give, left_whole, answered_whole, update_trace}
 
 -- looks leave the spare
 looked_spare : (spare : Option ℕ) (cpus : List ℕ) (rest : List Turn) → spare_after spare (found_empty cpus ++ rest) ≡ spare_after spare rest
@@ -72,16 +49,7 @@ popped_spare spare shape cpu e looks last pops =
     go [] = refl
     go (one ∷ others) = go others
 
--- a bucket has no more bodies than the map has elements
 module _ (t : TableView) (bucket : ℕ) (q : PassView) (bodies : List Stored) (b : InBucket t bucket q bodies) where
-  pub few_bodies : HasBounds t.shape → length bodies < 4294967295
-  few_bodies bounds =
-      let counted = rows_taken bodies b.hold.now b.now in
-      let few : length (numbers bodies) ≤ t.shape.elements = few_of t.shape.elements (numbers bodies) (λ x. subst (λ (n : ℕ). n ≤ 1) (sym (counted x)) (b.elements.rows_once x)) (λ x there. b.elements.rows_real x (subst (λ (n : ℕ). 0 < n) (counted x) there)) in
-      let long = length-map bodies (λ (s : Stored). s.element) in
-      let bound = bounds.elements_bounded in
-      omega arith
-
   -- the freelists were looked at
   pub under_looked : (r : PassView) (steps : List Turned) → Reached t q r steps → Under t b.hold b.below q r b.hold.now steps
   under_looked r steps reached = under_reached t bucket q q r bodies b b.hold.now [] steps (under_nothing t bucket q bodies b) reached
@@ -95,7 +63,7 @@ module _ (t : TableView) (bucket : ℕ) (q r : PassView) (chain : BodyList) (b :
     pub can_give_full : CanGive t (Bucket bucket) r (contents.Bucket chain) (parts.Bucket (Update side flags key value None puts.Full))
     can_give_full =
         can_give t bucket q r chain.bodies b b.hold.now popped.steps chain (Update side flags key value None puts.Full) (under_looked t bucket q chain.bodies b r popped.steps popped.reached)
-        turn.turn turn.sized (rows_taken chain.bodies b.hold.now b.now) (ap (λ (l : Lists). l.free) b.now) (none_noted t.shape r.view (hold_with b.hold b.hold.now) (Update side flags key value None puts.Full) plain refl)
+        turn.turn turn.sized (rows_taken b) (ap (λ (l : Lists). l.free) b.now) (none_noted t.shape r.view (hold_with b.hold b.hold.now) (Update side flags key value None puts.Full) plain refl)
 
     pub answered_full : (s : PassView) (given : Given) (found : Part) → HasItsSpares q → Gives t bucket side flags key value given → found ≡ parts.Bucket (Update side flags key value None puts.Full) → GaveBack t (Bucket bucket) r s (contents.Bucket chain) (Some found)
         → AnsweredWhole t q s (verbs.Update side flags key value) (Refused E2big)

@@ -1,6 +1,6 @@
 -- The ends of calls: a bucket that is given back with no entry, and what a call leaves from where it began.
 use Rattle.std.proofs.Common.{◌≡◌, ℕ, ◌<◌, ◌≤◌, Bool, true, false, cond, List, [], ◌∷◌, Option, inl, refl, ap, ◌∙◌, subst}
-use Rattle.std.specs.Prelude.{All, MatchBool, Result, Ok, Err}
+use Rattle.std.specs.Prelude.{All, IsFalse, MatchBool, Result, Ok, Err}
 use Rattle.std.proofs.lemmas.List.Elements.{All-nil}
 use Rattle.map_types.specs.declared.attr.Shape.{Shape}
 use Rattle.map_types.specs.declared.call.Verb.TheVariants as verbs
@@ -21,8 +21,10 @@ use Rattle.place_table.specs.declared.content.Content.TheVariants as contents
 use Rattle.place_table.specs.declared.view.View.{View}
 use Rattle.place_table.specs.declared.view.Hold.{Hold}
 use Rattle.place_table.specs.declared.view.Turned.{Turned}
+use Rattle.place_table.specs.Calls.{finds_moved_on}
+use Rattle.place_table.specs.Flushes.{flushes}
 use Rattle.place_table.specs.Known.{IsBy, Learns}
-use Rattle.place_table.specs.TurnNotes.{NotesFit, ProbeFits, CameToHand}
+use Rattle.place_table.specs.TurnNotes.{NotesFit, WasRead, ProbeFits, CameToHand}
 use Rattle.place_table.specs.Views.{is_in_hand_of, no_notes}
 use Rattle.place_table.specs.Passes.{PassView, TableView, CanGiveSome, GaveSome, Goes, spare_of}
 use Rattle.place_table.proofs.Going.{goes_nowhere, learns_none}
@@ -46,9 +48,11 @@ first_turn shape cpu bodies = record { allowed = refl; left = refl }
 
 first_noted : (shape : Shape) (v : View) (hold : Hold) (key : Option (List ℕ)) → NotesFit shape v hold (parts.Bucket (First key)) no_notes
 first_noted shape v hold key = record {
-  served = tt;
   marks_are = nothing (is_lru shape.kind);
   clears_are = refl;
+  reads = All-nil (WasRead []);
+  flushed = tt;
+  off = All-nil (λ e. flushes e (parts.Bucket (First key)) ≡ true);
   held = All-nil (ProbeFits []);
   came = All-nil (CameToHand v hold no_notes);
 }
@@ -126,6 +130,7 @@ called_unknown t p side flags key value can unknown = (
     told = [];
     told_are = tt;
     trace = by_either (is_lru t.shape.kind) _ _ (inl (unknown, refl, refl)) (inl (unknown, refl, refl));
+    none_moved = λ _ _ _. All-nil (λ (turn : Turned). IsFalse (finds_moved_on turn.entry.part));
     spare = either_same (is_lru t.shape.kind) (spare_element p);
   },
   refl,

@@ -1,5 +1,5 @@
 -- A turn of a freelist, and what is left of a pass after some.
-use Rattle.std.proofs.Common.{◌≡◌, ℕ, ◌<◌, Bool, false, List, [], ◌∷◌, ◌++◌, sym, refl, ap, ◌∙◌, subst, arith, Some}
+use Rattle.std.proofs.Common.{◌≡◌, ℕ, ◌<◌, Bool, true, false, List, [], ◌∷◌, ◌++◌, sym, refl, ap, ◌∙◌, subst, arith, Some}
 use Rattle.std.specs.Prelude.{IsTrue, All, nat_lt, not, reverse, ◌&&◌}
 use Rattle.std.proofs.lemmas.List.Elements.{All-nil, All-cons, All-head, All-tail, All-append}
 use Rattle.map_types.specs.declared.attr.Shape.{Shape}
@@ -23,10 +23,11 @@ use Rattle.place_table.specs.declared.view.Hold.{Hold}
 use Rattle.place_table.specs.declared.view.BitAsked.{BitAsked}
 use Rattle.place_table.specs.declared.view.Notes.{Notes}
 use Rattle.place_table.specs.declared.view.Turned.{Turned}
+use Rattle.place_table.specs.Flushes.{flushes}
 use Rattle.place_table.specs.Known.{Learns}
 use Rattle.place_table.specs.Passes.{PassView, TableView, IsPassOf, CanTake, Takes, CanGive, Gave, Goes}
 use Rattle.place_table.specs.Rules.{IsAboveAll}
-use Rattle.place_table.specs.TurnNotes.{NotesFit, ProbeFits, CameToHand, clears_among}
+use Rattle.place_table.specs.TurnNotes.{NotesFit, WasRead, ProbeFits, CameToHand, clears_among}
 use Rattle.place_table.specs.Views.{no_notes, hold_at}
 use Rattle.place_table.proofs.Gives.{taken_of_table, none_passed}
 use Rattle.place_table.proofs.Going.{same_head, AreElsewhere, given_turn, goes_on, goes_nowhere, goes_of_table, goes_begun, learns_on, learns_none}
@@ -72,15 +73,18 @@ pub record IsQuiet (notes : Notes) : Type 0 where
   pub marks : notes.marks ≡ []
   pub asked : notes.asked ≡ []
   pub owners : notes.owners ≡ []
+  pub off : notes.off ≡ []
 
 pub quiet_none : IsQuiet no_notes
-quiet_none = record { marks = refl; asked = refl; owners = refl }
+quiet_none = record { marks = refl; asked = refl; owners = refl; off = refl }
 
 pub quiet_fits : (shape : Shape) (v : View) (hold : Hold) (part : FreePart) (notes : Notes) → IsQuiet notes → NotesFit shape v hold (parts.Free part) notes
 quiet_fits shape v hold part notes quiet = record {
-  served = tt;
   marks_are = quiet.marks;
   clears_are = ap (λ (asked : List BitAsked). clears_among (reverse asked)) quiet.asked;
+  reads = All-nil (WasRead notes.asked);
+  flushed = tt;
+  off = subst (All (λ e. flushes e (parts.Free part) ≡ true)) (sym quiet.off) (All-nil (λ e. flushes e (parts.Free part) ≡ true));
   held = All-nil (ProbeFits notes.owners);
   came = All-nil (CameToHand v hold notes);
 }
@@ -93,7 +97,7 @@ IsOnFreelist shape step = (c : ℕ) × (c < shape.cpus) × (step.lock ≡ lock_n
 pub reached_once : (t : TableView) (cpu : ℕ) (p q r s : PassView) (here back : Content) (part : Part) (now : Lists) (notes : Notes) (took : Takes t (Freelist cpu) p q here) → IsQuiet notes → cpu < t.shape.cpus → Goes q r [] [] → r.spares ≡ q.spares → r.view.bits ≡ q.view.bits → r.view.carried ≡ q.view.carried → Learns t.shape q.view r.view [] []
     → IsUnder p r took.hold now notes → CanGive t (Freelist cpu) r back part → (gave : Gave r s part) → Reached t p s (given_turn r gave.hold part ∷ [])
 reached_once t cpu p q r s here back part now notes took quiet within goes spares bits carried learns under can gave =
-    let made = turn_made t (Freelist cpu) p q r s here [] [] part now notes took goes under (λ below. none_passed part can.notes below (ap (λ (z : Notes). z.owners) (same_head (sym can.notes_are ∙ under.notes_are)) ∙ quiet.owners) can.notes_fit.held) gave in
+    let made = turn_made t (Freelist cpu) p q r s here [] [] part now notes took goes under (λ below. none_passed t (Freelist cpu) r back part below (λ is. cc) can (ap (λ (z : Notes). z.owners) (same_head (sym can.notes_are ∙ under.notes_are)) ∙ quiet.owners)) gave in
     let same_cpu : r.cpu ≡ p.cpu = goes.cpu ∙ ap (λ (z : PassView). z.cpu) took.after_is in
     let same_call : r.call ≡ p.call = goes.call ∙ ap (λ (z : PassView). z.call) took.after_is in
     let lock_is : gave.hold.lock ≡ lock_number t.shape (Freelist cpu) = ap (λ (h : Hold). h.lock) (given_hold p r s took.hold now notes part gave under) ∙ took.lock_is in record {

@@ -29,13 +29,13 @@ use Rattle.place_table.specs.Known.{turn_of}
 use Rattle.place_table.specs.Passes.{PassView, TableView, CanMark, Detached, CanGive, MayGiveBack, GaveBack, with_view}
 use Rattle.place_table.specs.Views.{hold_at, is_in_hand_of, now_under, with_in_hand, without_in_hand, moved, with_hash_of}
 use Rattle.place_table.proofs.Entries.{append_nil}
-use Rattle.place_table.proofs.Hands.{in_hand_more, now_at_is}
+use Rattle.place_table.proofs.Hands.{in_hand_more, now_at_is, hand_back}
 use Rattle.hash_ops.specs.Calls.{spare_element}
 use Rattle.hash_ops.specs.Free.{CanPush, Pushed}
 use Rattle.place_table.specs.InBucket.{InBucket}
 use Rattle.hash_ops.specs.Under.{HasItsSpares, Answered}
 use Rattle.place_table.proofs.BucketTurns.{IsTurnWith}
-use Rattle.hash_ops.proofs.HandLemmas.{hand_back, is_real, not_in_hand}
+use Rattle.hash_ops.proofs.HandLemmas.{is_real, not_in_hand}
 use Rattle.hash_ops.proofs.Under.{Under, hold_with, none_noted, under_nothing, under_moved, under_reached, may_reach, can_give, may_give_back, left, answered_same}
 use Rattle.place_table.specs.Words.{owner_word}
 

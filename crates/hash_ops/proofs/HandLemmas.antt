@@ -1,5 +1,5 @@
 -- What is in the hands of a pass while an element of its bucket is on its way to a freelist.
-use Rattle.std.proofs.Common.{◌≡◌, ℕ, ◌<◌, inr, true, false, List, sym, refl, ◌∙◌, subst, arith, Some}
+use Rattle.std.proofs.Common.{◌≡◌, ℕ, ◌<◌, inr, true, false, List, sym, refl, subst, arith, Some}
 use Rattle.map_types.specs.Kind.{is_lru}
 use Rattle.map_types.specs.Stored.{Stored}
 use Rattle.place_words.specs.Bodies.{present, numbers}
@@ -7,26 +7,11 @@ use Rattle.map_types.specs.ElementLists.{times, IsIn}
 use Rattle.place_words.proofs.BucketLaws.{present_is_in}
 use Rattle.place_core.specs.declared.step.Lists.{Lists}
 use Rattle.place_core.specs.State.{rows}
-use Rattle.place_core.proofs.ElementLemmas.{by_test}
-use Rattle.place_table.specs.declared.view.InHand.{InHand}
 use Rattle.place_table.specs.Passes.{PassView, TableView}
-use Rattle.place_table.specs.Views.{is_among, is_in_hand_of, with_in_hand, without_in_hand}
+use Rattle.place_table.specs.Views.{is_among, is_in_hand_of}
 use Rattle.place_table.proofs.Entries.{append_nil}
-use Rattle.place_table.proofs.Hands.{in_hand_less, in_hand_more_else, in_hand_less_else}
 use Rattle.place_table.proofs.Worlds.{by_bool}
 use Rattle.place_table.specs.InBucket.{InBucket}
-
--- what comes to a hand where it wasn't, and leaves it again, leaves all hands as they were
-pub hand_back : (e cpu : ℕ) (hand : List InHand) → is_in_hand_of e cpu hand ≡ false → (x c : ℕ) → is_in_hand_of x c (without_in_hand e cpu (with_in_hand e cpu hand)) ≡ is_in_hand_of x c hand
-hand_back e cpu hand none x c =
-    let here : is_in_hand_of e cpu (without_in_hand e cpu (with_in_hand e cpu hand)) ≡ is_in_hand_of e cpu hand = in_hand_less e cpu (with_in_hand e cpu hand) ∙ sym none in
-    let else : (x ≡ e → c ≡ cpu → ⊥) → is_in_hand_of x c (without_in_hand e cpu (with_in_hand e cpu hand)) ≡ is_in_hand_of x c hand =
-    λ other. in_hand_less_else x c e cpu (with_in_hand e cpu hand) other ∙ in_hand_more_else x c e cpu hand other in
-    by_test x e (λ _. is_in_hand_of x c (without_in_hand e cpu (with_in_hand e cpu hand)) ≡ is_in_hand_of x c hand)
-    (λ same. by_test c cpu (λ _. is_in_hand_of x c (without_in_hand e cpu (with_in_hand e cpu hand)) ≡ is_in_hand_of x c hand)
-    (λ mine. (λ i. is_in_hand_of (same i) (mine i) (without_in_hand e cpu (with_in_hand e cpu hand))) ∙ (here ∙ (λ i. is_in_hand_of (sym same i) (sym mine i) hand)))
-    (λ other. else (λ _ mine. other mine)))
-    (λ other. else (λ same _. other same))
 
 -- the element of a key of the bucket lies there, is one of the map's and is in no hand
 module _ (t : TableView) (bucket : ℕ) (q : PassView) (bodies : List Stored) (b : InBucket t bucket q bodies) (key : List ℕ) (body : Stored) (found : present key bodies ≡ Some body) where

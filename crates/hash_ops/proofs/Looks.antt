@@ -52,10 +52,10 @@ LookedInto old new found = MatchOption found ((old.bodies ≡ []) × (new ≡ ol
 
 -- what is noted in the turn: that it came
 abbrev pub notes_popped : ℕ → Notes
-notes_popped e = record { came = e ∷ []; marks = []; asked = []; owners = []; homes = [] }
+notes_popped e = record { came = e ∷ []; marks = []; asked = []; owners = []; homes = []; flushed = []; off = [] }
 
 quiet_popped : (e : ℕ) → IsQuiet (notes_popped e)
-quiet_popped e = record { marks = refl; asked = refl; owners = refl }
+quiet_popped e = record { marks = refl; asked = refl; owners = refl; off = refl }
 
 module _ {t : TableView} {cpu : ℕ} {p q : PassView} {body : Stored} {f : FreelistView} (took : Takes t (Freelist cpu) p q (contents.Freelist (with_top body f))) where
   top_there : 0 < times body.element took.hold.now.free

@@ -1,5 +1,5 @@
 -- A push puts an element on a freelist, which has room for it.
-use Rattle.std.proofs.Common.{◌≡◌, ℕ, zero, suc, ◌<◌, ◌≤◌, cond, List, [], ◌∷◌, length, sym, refl, ap, ◌∙◌, subst, arith}
+use Rattle.std.proofs.Common.{◌≡◌, ℕ, suc, ◌<◌, ◌≤◌, cond, List, [], ◌∷◌, length, sym, ap, ◌∙◌, subst, arith}
 use Rattle.std.specs.Prelude.{IsTrue}
 use Rattle.std.proofs.lemmas.List.{length-map}
 use Rattle.std.proofs.lemmas.List.Elements.{All-cons}
@@ -17,9 +17,7 @@ use Rattle.place_words.specs.Traces.{on_freelist_of}
 use Rattle.place_core.specs.declared.step.Lists.{Lists}
 use Rattle.place_core.specs.State.{rows}
 use Rattle.place_core.specs.Steps.{with_free, without_row}
-use Rattle.place_core.specs.Totals.{sum_below}
 use Rattle.place_core.proofs.ElementLemmas.{by_test}
-use Rattle.place_core.proofs.TotalLemmas.{length_counts}
 use Rattle.place_table.specs.declared.content.Content.TheVariants as contents
 use Rattle.place_table.specs.Contents.{IsSized}
 use Rattle.place_table.specs.Passes.{PassView, TableView, Takes, Settled, CanGive, Gave, Goes, with_view}
@@ -31,29 +29,9 @@ use Rattle.hash_ops.specs.Free.{CanPush, Pushed}
 use Rattle.hash_ops.proofs.FreeTurns.{with_top, free_is, number_is, quiet_none, quiet_fits, reached_once, turn_is}
 use Rattle.hash_ops.proofs.Turning.{IsUnder, under_taken, under_now, under_moved, can_give}
 use Rattle.place_table.specs.Words.{owner_word}
+use Rattle.place_table.proofs.BucketBodies.{few_of}
 
 -- a freelist whose numbers are distinct and the map's has room for one that isn't on it
-
-sum_few : (n : ℕ) (f : ℕ → ℕ) → ((e : ℕ) → f e ≤ 1) → sum_below n f ≤ n
-sum_few zero f few = omega arith
-sum_few (suc n) f few =
-    let rest = sum_few n f few in
-    let last = few n in
-    omega arith
-
-pub few_of : (n : ℕ) (xs : List ℕ) → ((x : ℕ) → times x xs ≤ 1) → ((x : ℕ) → 0 < times x xs → x < n) → length xs ≤ n
-few_of n xs once below =
-    let counts = length_counts n xs none in
-    let few = sum_few n (λ x. times x xs) once in
-    omega arith
-  where
-    none : (x : ℕ) → n ≤ x → times x xs ≡ 0
-    none x past = by_zero (times x xs) (below x)
-      where
-        by_zero : (m : ℕ) → (0 < m → x < n) → m ≡ 0
-        by_zero zero real = refl
-        by_zero (suc m) real = absurd (omega (arith, real (omega arith)))
-
 room_for : (n e : ℕ) (xs : List ℕ) → e < n → times e xs ≡ 0 → ((x : ℕ) → times x xs ≤ 1) → ((x : ℕ) → 0 < times x xs → x < n) → length xs < n
 room_for n e xs real absent once below =
     few_of n (e ∷ xs)

@@ -1,7 +1,6 @@
 -- What a call does while it holds the bucket of its key, up to where it gives it back.
-use Rattle.std.proofs.Common.{◌+◌, ◌≡◌, ℕ, ◌<◌, cond, true, false, List, [], ◌∷◌, ◌++◌, length, map, get_or, inl, inr, ⊎_elim, sym, refl, ap, ◌∙◌, subst, arith, Option, Some, None}
-use Rattle.std.specs.Prelude.{◌≤◌, zero, suc, flat_map, slice_get, IsTrue, IfSome, All}
-use Rattle.std.proofs.lemmas.Option.{slice_get_cases}
+use Rattle.std.proofs.Common.{◌+◌, ◌≡◌, ℕ, ◌<◌, cond, true, false, List, [], ◌∷◌, ◌++◌, map, inl, inr, ⊎_elim, sym, refl, ap, ◌∙◌, subst, arith, Option, Some, None}
+use Rattle.std.specs.Prelude.{zero, suc, flat_map, slice_get, IsTrue, IfSome, All}
 use Rattle.std.proofs.lemmas.List.Elements.{All-nil, All-cons, All-append}
 use Rattle.std.proofs.lemmas.Bool.{lt-ltb}
 use Rattle.std.proofs.lemmas.List.{map-append}
@@ -17,6 +16,7 @@ use Rattle.map_types.specs.Kind.{is_lru}
 use Rattle.map_types.specs.Stored.{Stored}
 use Rattle.percpu_values.specs.BodyList.{BodyList}
 use Rattle.bucket_chain.specs.Turns.{IsTurn}
+use Rattle.map_types.proofs.CreationLemmas.{bounds_of_shape}
 use Rattle.place_words.specs.declared.bucket_part.BucketPart.{BucketPart}
 use Rattle.place_words.specs.declared.bucket_part.BucketPart.TheVariants.{Update}
 use Rattle.place_words.specs.declared.bucket_part.Put.{Put}
@@ -46,12 +46,13 @@ use Rattle.place_table.specs.declared.view.InHand.{InHand}
 use Rattle.place_table.specs.declared.view.HashIn.{HashIn}
 use Rattle.place_table.specs.declared.view.Notes.{Notes}
 use Rattle.place_table.specs.declared.view.Turned.{Turned}
-use Rattle.place_table.specs.Contents.{told, lists_of, Fits, IsSized}
+use Rattle.place_table.specs.Contents.{told, Fits, IsSized}
+use Rattle.place_table.specs.Flushes.{flushes}
 use Rattle.place_table.specs.Known.{Learns, turn_of, turn_at, IsBy}
 use Rattle.place_table.specs.Passes.{PassView, TableView, IsInNoCall, SparesDiffer, CanAttach, Attached, CanMark, Detached, Takes, CanGive, GaveSome, GaveBack, MayGiveBack, Goes, spare_of, with_view, with_spares, entry_of}
 use Rattle.place_table.specs.Plays.{IsApartFromHands}
 use Rattle.place_table.specs.Rules.{IsAboveAll}
-use Rattle.place_table.specs.TurnNotes.{NotesFit, ProbeFits, CameToHand}
+use Rattle.place_table.specs.TurnNotes.{NotesFit, WasRead, ProbeFits, CameToHand}
 use Rattle.place_table.specs.Views.{is_among, hold_at, now_at, now_under, with_in_hand, without_in_hand, is_in_hand_of, known_log, holding, given, with_lost, moved, with_hashes, with_now, no_notes, notes_below, holds_below}
 use Rattle.place_table.proofs.Going.{goes_on, goes_nowhere, goes_took, goes_moved, goes_spared, goes_gave, goes_gave_some, goes_of_table, goes_begun, given_turn, same_head, learns_on, learns_after, learns_before, learns_none, learns_moved, learns_took, learns_given, AreElsewhere}
 use Rattle.place_table.proofs.Entries.{append_nil}
@@ -66,10 +67,12 @@ use Rattle.place_table.specs.InBucket.{InBucket}
 use Rattle.hash_ops.proofs.FreeTurns.{elsewhere}
 use Rattle.hash_ops.specs.Under.{HasItsSpares, Enters, Finished, Answered, AnsweredWhole, Gives}
 use Rattle.place_table.proofs.Worlds.{true_false}
+use Rattle.place_table.proofs.FirstSlots.{not_common}
 use Rattle.place_table.proofs.Gives.{none_passed}
 use Rattle.place_table.proofs.StoredHashes.{none_stored}
 use Rattle.place_table.proofs.TurnClears.{same_clears}
 use Rattle.place_table.specs.Words.{owner_word}
+use Rattle.place_table.proofs.BucketBodies.{rows_taken}
 
 -- Entering
 
@@ -77,13 +80,14 @@ use Rattle.place_table.specs.Words.{owner_word}
 pub bucket_there : (shape : Shape) (bucket : ℕ) → bucket < shape.buckets → IsTrue (is_lock shape (Bucket bucket))
 bucket_there shape bucket there = lt-ltb bucket shape.buckets there
 
-pub enters : (t : TableView) (bucket : ℕ) (p q : PassView) (chain : BodyList) → is_lru t.shape.kind ≡ false → CanCall t p → bucket < t.shape.buckets → p.cpu < t.shape.cpus → Takes t (Bucket bucket) p q (contents.Bucket chain) → Enters t bucket p q chain
-enters t bucket p q chain plain can there few took =
+pub enters : (t : TableView) (bucket : ℕ) (p q : PassView) (chain : BodyList) → is_lru t.shape.kind ≡ false → t.shape.common ≡ false → CanCall t p → bucket < t.shape.buckets → p.cpu < t.shape.cpus → Takes t (Bucket bucket) p q (contents.Bucket chain) → Enters t bucket p q chain
+enters t bucket p q chain plain none_shared can there few took =
     let is = bucket_there t.shape bucket there in
     let goes = goes_took t (Bucket bucket) p q (contents.Bucket chain) took in
     let view : q.view ≡ holding took.at took.hold p.view = ap (λ (z : PassView). z.view) took.after_is in
     record {
       plain = plain;
+      none_shared = none_shared;
       took = took;
       inside = record {
         of_table = goes_of_table t p q [] [] goes can.of_table;
@@ -202,9 +206,11 @@ may_reach t bucket q r bodies b now inner u = record {
 -- a part of a map that doesn't evict sets no bit; where it probes nothing either, nothing was noted in its turn
 pub none_noted : (shape : Shape) (v : View) (hold : Hold) (part : BucketPart) → is_lru shape.kind ≡ false → bucket_probes part ≡ [] → NotesFit shape v hold (parts.Bucket part) no_notes
 none_noted shape v hold part plain no_probes = record {
-  served = tt;
   marks_are = sym (ap (λ b. cond b (bucket_marks part) []) plain);
   clears_are = refl;
+  reads = All-nil (WasRead []);
+  flushed = tt;
+  off = All-nil (λ e. flushes e (parts.Bucket part) ≡ true);
   held = subst (All (ProbeFits [])) (sym no_probes) (All-nil (ProbeFits []));
   came = All-nil (CameToHand v hold no_notes);
 }
@@ -279,7 +285,7 @@ could_be t lock r back part stands can other =
       allowed = subst (λ (h : Hold). Allows t.shape r.cpu part (content t.shape (lock_named t.shape h.lock) h.log)) same can.may_put.allowed;
       same_marks = sym can.notes_fit.marks_are ∙ (ap (λ (n : Notes). n.marks) notes ∙ other.notes_fit.marks_are);
       same_clears = same_clears t.shape r.view r.view can.hold other.hold part stands other.notes (subst (NotesFit t.shape r.view can.hold part) notes can.notes_fit) other.notes_fit;
-      leaves = sym (subst (λ (h : Hold). told back ≡ content_after t.shape r.cpu part (content t.shape (lock_named t.shape h.lock) h.log)) same can.may_put.told_is) ∙ other.may_put.told_is;
+      leaves = sym (subst (λ (h : Hold). told (lock_named t.shape h.lock) back ≡ content_after t.shape r.cpu part (content t.shape (lock_named t.shape h.lock) h.log)) same can.may_put.told_is) ∙ other.may_put.told_is;
     }
 
 -- what was made is told as itself, where other locks are lost too
@@ -311,7 +317,7 @@ left_by t bucket q r s bodies b now inner back part stands lost at kept u can me
       lost = lost;
       goes = subst (λ (l : List ℕ). Goes q s (inner ++ last ∷ []) l) (append_nil lost) (goes_on q r s inner (last ∷ []) [] lost u.goes goes);
       held = ap (λ (z : PassView). z.view.held) is ∙ ap holds_below u.held;
-      notes = ap (λ (z : PassView). z.view.notes) is ∙ (none_passed stands can.notes (notes_below r.view.notes) (ap (λ (z : Notes). z.owners) (same_head (sym can.notes_are ∙ u.notes))) can.notes_fit.held ∙ (ap notes_below u.notes ∙ sym (ap notes_below b.notes)));
+      notes = ap (λ (z : PassView). z.view.notes) is ∙ (none_passed t (Bucket bucket) r back stands (notes_below r.view.notes) (λ is. cc) can (ap (λ (z : Notes). z.owners) (same_head (sym can.notes_are ∙ u.notes))) ∙ (ap notes_below u.notes ∙ sym (ap notes_below b.notes)));
       bits = ap (λ (z : PassView). z.view.bits) is ∙ u.bits;
       carried = ap (λ (z : PassView). z.view.carried) is ∙ u.carried;
       by_call = All-append (IsBy q.cpu q.call) inner (last ∷ []) u.by_call (All-cons (IsBy q.cpu q.call) last [] (u.goes.cpu, u.goes.call) (All-nil (IsBy q.cpu q.call)));
@@ -455,6 +461,7 @@ called_of t bucket p q s chain verb reply enters none_held answered =
       told_are = answered.told_are;
       trace = subst (λ (z : PassView). IsTrace t.shape z.cpu (spare_element z) verb (map (turn_at t.shape) told) reply) took.after_is
           (trace_at t.shape q.cpu (spare_element q) verb told reply enters.plain answered.trace);
+      none_moved = λ common. true_false (sym common ∙ enters.none_shared);
       spare = subst (λ (z : PassView). spare_element s ≡ spare_left t.shape (spare_element z) (map (turn_at t.shape) told)) took.after_is
           (answered.spare ∙ plain_left t.shape (spare_element q) told enters.plain);
     }
@@ -476,13 +483,10 @@ called_whole t bucket p q s chain verb reply enters none_held answered = (called
 
 -- Turns that leave the bucket as it is
 
-pub rows_taken : (bodies : List Stored) (now : Lists) → now ≡ lists_of (in_bucket bodies) → (x : ℕ) → times x (numbers bodies) ≡ times x (rows now)
-rows_taken bodies now is x = sym (ap (λ (l : Lists). times x (rows l)) is ∙ ap (times x) (append_nil (numbers bodies)))
-
 pub can_same : (t : TableView) (bucket : ℕ) (q : PassView) (chain : BodyList) (part : BucketPart) (b : InBucket t bucket q chain.bodies) → IsTurnWith t.shape q.cpu part chain.bodies chain.bodies (numbers chain.bodies) → NotesFit t.shape q.view b.hold (parts.Bucket part) no_notes
     → CanGive t (Bucket bucket) q (contents.Bucket chain) (parts.Bucket part)
 can_same t bucket q chain part b turn fits =
-    can_give t bucket q q chain.bodies b b.hold.now [] chain part (under_nothing t bucket q chain.bodies b) turn.turn turn.sized (rows_taken chain.bodies b.hold.now b.now) (ap (λ (l : Lists). l.free) b.now) fits
+    can_give t bucket q q chain.bodies b b.hold.now [] chain part (under_nothing t bucket q chain.bodies b) turn.turn turn.sized (rows_taken b) (ap (λ (l : Lists). l.free) b.now) fits
 
 pub may_same : (t : TableView) (bucket : ℕ) (q : PassView) (chain : BodyList) (part : BucketPart) (found : Option Part) (b : InBucket t bucket q chain.bodies) → IsTurnWith t.shape q.cpu part chain.bodies chain.bodies (numbers chain.bodies) → NotesFit t.shape q.view b.hold (parts.Bucket part) no_notes → IfSome found (λ x. x ≡ parts.Bucket part)
     → MayGiveBack t (Bucket bucket) q (contents.Bucket chain) found
@@ -501,18 +505,12 @@ answered_turn t bucket q s chain verb reply part found plain b has turn no_probe
 pub is_plain_of : (inside t : TableView) → inside ≡ t → IsShape inside.shape × (is_lru inside.shape.kind ≡ false) → is_lru t.shape.kind ≡ false
 is_plain_of inside t is inv = subst (λ (z : TableView). is_lru z.shape.kind ≡ false) is inv.1
 
+pub shares_none : (inside t : TableView) → inside ≡ t → IsShape inside.shape × (is_lru inside.shape.kind ≡ false) → t.shape.common ≡ false
+shares_none inside t is inv = subst (λ (z : TableView). z.shape.common ≡ false) is (not_common inside.shape (bounds_of_shape inside.shape inv.0) inv.1)
+
 -- a turn of the bucket of a key, as traces tell it
 pub on_bucket : (shape : Shape) (bucket : ℕ) (key : List ℕ) (part : BucketPart) → bucket ≡ bucket_of_key shape key → record { lock = Bucket bucket; part = parts.Bucket part } ∷ [] ≡ on_bucket_of shape key part ∷ []
 on_bucket shape bucket key part is i = record { lock = Bucket (is i); part = parts.Bucket part } ∷ []
-
--- what stands at a place has the sizes of the map
-pub sized_at : (shape : Shape) (bodies : List Stored) (place : ℕ) (body : Stored) → All (IsSized shape) bodies → slice_get bodies place ≡ Some body → IsSized shape body
-sized_at shape bodies place body all at =
-    ⊎_elim
-    (λ (x : (found : Stored) × (place < length bodies) × (slice_get bodies place ≡ Some found) × (get_or bodies place found ≡ found)).
-    subst (IsSized shape) (x.3 ∙ some_is (sym x.2 ∙ at)) (all place x.0 x.1))
-    (λ (x : (length bodies ≤ place) × (slice_get bodies place ≡ None)). absurd (none_some (sym x.1 ∙ at)))
-    (slice_get_cases bodies place).1
 
 -- The bucket that is held
 
@@ -577,12 +575,12 @@ body_inside (one ∷ others) (suc place) body is =
     by_test one.element body.element (λ b. 0 < cond b (suc (times body.element (numbers others))) (times body.element (numbers others))) (λ _. omega arith) (λ _. later)
 
 pub body_real : (t : TableView) (bucket : ℕ) (q : PassView) (bodies : List Stored) (b : InBucket t bucket q bodies) (e : ℕ) → IsIn e (numbers bodies) → e < t.shape.elements
-body_real t bucket q bodies b e inside = b.elements.rows_real e (subst (λ (n : ℕ). 0 < n) (rows_taken bodies b.hold.now b.now e) inside)
+body_real t bucket q bodies b e inside = b.elements.rows_real e (subst (λ (n : ℕ). 0 < n) (rows_taken b e) inside)
 
 pub not_in_hand : (t : TableView) (bucket : ℕ) (q : PassView) (bodies : List Stored) (b : InBucket t bucket q bodies) (e cpu : ℕ) → is_lru t.shape.kind ≡ false → is_among cpu q.view.cpus ≡ true → IsIn e (numbers bodies) → is_in_hand_of e cpu q.view.hand ≡ false
 not_in_hand t bucket q bodies b e cpu plain mine inside =
     by_bool (is_in_hand_of e cpu q.view.hand) (λ x. is_in_hand_of e cpu q.view.hand ≡ x → x ≡ false)
-    (λ _ in_hand. let none = (b.apart e cpu mine in_hand).1 (inr refl) in let counted = rows_taken bodies b.hold.now b.now e in absurd (omega arith))
+    (λ _ in_hand. let none = (b.apart e cpu mine in_hand).1 (inr refl) in let counted = rows_taken b e in absurd (omega arith))
     (λ _ _. refl) refl
 
 -- Turns that leave the elements of the bucket
@@ -590,7 +588,7 @@ not_in_hand t bucket q bodies b e cpu plain mine inside =
 pub can_kept : (t : TableView) (bucket : ℕ) (q : PassView) (bodies : List Stored) (back : BodyList) (part : BucketPart) (b : InBucket t bucket q bodies) → IsTurnWith t.shape q.cpu part bodies back.bodies (numbers bodies) → NotesFit t.shape q.view b.hold (parts.Bucket part) no_notes
     → CanGive t (Bucket bucket) q (contents.Bucket back) (parts.Bucket part)
 can_kept t bucket q bodies back part b turn fits =
-    can_give t bucket q q bodies b b.hold.now [] back part (under_nothing t bucket q bodies b) turn.turn turn.sized (λ x. turn.counts x ∙ rows_taken bodies b.hold.now b.now x) (ap (λ (l : Lists). l.free) b.now) fits
+    can_give t bucket q q bodies b b.hold.now [] back part (under_nothing t bucket q bodies b) turn.turn turn.sized (λ x. turn.counts x ∙ rows_taken b x) (ap (λ (l : Lists). l.free) b.now) fits
 
 pub answered_kept : (t : TableView) (bucket : ℕ) (q s : PassView) (bodies : List Stored) (back : BodyList) (verb : Verb) (reply : Reply) (part : BucketPart) (found : Part) → is_lru t.shape.kind ≡ false → (b : InBucket t bucket q bodies) → HasItsSpares q → IsTurnWith t.shape q.cpu part bodies back.bodies (numbers bodies) → bucket_probes part ≡ []
     → found ≡ parts.Bucket part → GaveBack t (Bucket bucket) q s (contents.Bucket back) (Some found)

@@ -30,9 +30,10 @@ pub record HasItsSpares (q : PassView) : Type 0 where
   pub none_out : q.view.shape.kind ≡ Hash → (cpu : ℕ) → is_among cpu q.view.cpus ≡ true → (body : Stored) × (spare_of cpu q.spares ≡ Some body)
   pub carries_nothing : q.view.carried ≡ []
 
--- a pass in no call has taken a bucket, of a map that doesn't evict
+-- a pass in no call has taken a bucket, of a map that doesn't evict, whose CPUs share no lists
 pub record Enters (t : TableView) (bucket : ℕ) (p q : PassView) (chain : BodyList) : Type 0 where
   pub plain : is_lru t.shape.kind ≡ false
+  pub none_shared : t.shape.common ≡ false
   pub took : Takes t (Bucket bucket) p q (contents.Bucket chain)
   pub inside : InBucket t bucket q chain.bodies
   pub spares : HasItsSpares q

@@ -1,27 +1,23 @@
 //! Turns of a key's bucket.
 
-ghost use Rattle.std.specs.Prelude.{◌≡◌, ◌≢◌, ◌<◌, ◌≤◌, IfErr, MatchOption, None, Some, length, slice_get};
+ghost use Rattle.std.specs.Prelude.{◌≡◌, ◌<◌, IfErr, None, Some, length};
 ghost use Rattle.map_types.specs.declared.call.Verb.TheVariants as verbs;
-ghost use Rattle.map_types.specs.declared.kind.DomainId.TheVariants as locks;
-ghost use Rattle.map_types.specs.declared.refusal.Errno.TheVariants as errnos;
-ghost use Rattle.map_types.specs.declared.reply.Reply.TheVariants as replies;
-ghost use Rattle.map_types.specs.Kind.{is_percpu};
-ghost use Rattle.map_types.specs.Stored.{Stored};
 ghost use Rattle.map_types.specs.ValueLen.{value_len_of};
 ghost use Rattle.map_types.specs.declared.kind.Side.TheVariants.{Sys};
-ghost use Rattle.place_words.specs.Bodies.{present, without_key};
 ghost use Rattle.place_words.specs.Traces.{bucket_of_key};
 ghost use Rattle.place_table.specs.Passes.{PassView, CanMark, Detached};
 ghost use Rattle.hash_ops.specs.Calls.{CanCall, reply_of_value, reply_of_done};
 ghost use Rattle.hash_ops.specs.Free.{CanPush, Pushed};
-ghost use Rattle.place_table.specs.InBucket.{InBucket, IsAt};
-ghost use Rattle.hash_ops.specs.Under.{HasItsSpares, Enters, Answered, Forgot, UpdateEnds};
+ghost use Rattle.place_table.specs.InBucket.{InBucket};
+ghost use Rattle.hash_ops.specs.Under.{HasItsSpares, Enters, Answered};
 
 use crate::map::PlainMap;
 use bucket_chain::Chain;
-use bucket_entries::{deleted, lookup_got, lookup_missed, read_value, take_got, take_missed};
+use bucket_entries::{
+    body_at, body_out, deleted, lookup_got, lookup_missed, read_value, take_got, take_missed,
+};
 use map_types::{Absent, DomainId, Gate, Side};
-use percpu_values::{Body, BoxedBody};
+use percpu_values::BoxedBody;
 use place_table::{Content, Pass};
 use std::sync::Wait;
 
@@ -173,30 +169,5 @@ impl PlainMap {
         self.table.detach(pass, element, bucket);
         self.push(rt, pass, body, gate);
         element
-    }
-}
-
-/// Takes out the body at a place.
-fn body_out(chain: &mut Chain, place: u32) -> BoxedBody
-    requires { place < length chain.old.bodies }
-    ensures found { slice_get chain.old.bodies place ≡ Some result }
-    ensures present { present result.key chain.old.bodies ≡ Some result }
-    ensures bodies { chain.new.bodies ≡ without_key result.key chain.old.bodies }
-    ensures room { chain.old.spare ≤ chain.new.spare }
-{
-    match chain.take_out(place) {
-        Some(body) => body,
-        None => unreachable!(),
-    }
-}
-
-/// The body at a place.
-pub(crate) fn body_at(chain: &Chain, place: u32) -> &Body
-    requires { place < length chain.now.bodies }
-    ensures { slice_get chain.now.bodies place ≡ Some result.now }
-{
-    match chain.body(place) {
-        Some(body) => body,
-        None => unreachable!(),
     }
 }

@@ -7,14 +7,11 @@ ghost use Rattle.map_types.specs.ValueLen.{value_len_of};
 ghost use Rattle.hash_ops.specs.Calls.{CanCall, Called, MayRefuse, Updates, reply_of_value, reply_of_done};
 
 use crate::map::{PlainMap, PlainRefusal};
-use bucket_entries::Given;
+use bucket_entries::{BPF_EXIST, Given};
 use map_types::{Absent, Gate, Side};
 use place_table::Pass;
 use std::alloc::Global;
 use std::sync::Wait;
-
-/// The greatest flag of an update, BPF_EXIST.
-const GREATEST_FLAG: u32 = 2;
 
 impl PlainMap {
     /// Copies to `out` what a side reads of a key: on PERCPU_HASH the value of the pass's CPU for a program, and those of all
@@ -65,7 +62,7 @@ impl PlainMap {
         ensures updates { Updates self.now pass.old pass.new side flags key.now value.now result }
         ensures refuses { IfErr result (MayRefuse flags) }
     {
-        if flags > GREATEST_FLAG {
+        if flags > BPF_EXIST {
             return Err(PlainRefusal::Einval);
         }
         let bucket = self.bucket_of_key(key);

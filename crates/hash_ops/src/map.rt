@@ -3,13 +3,12 @@
 ghost use Rattle.std.specs.Prelude.{◌≡◌, ℕ, ◌<◌, true, false, IfOk, length};
 ghost use Rattle.map_types.specs.Creation.{IsShape};
 ghost use Rattle.map_types.specs.Kind.{is_lru};
-ghost use Rattle.map_types.specs.Shape.{HasBounds};
 ghost use Rattle.place_words.specs.Traces.{bucket_of_key};
 ghost use Rattle.place_table.specs.Views.{is_among};
 ghost use Rattle.place_table.specs.Passes.{IsFirstPass, IsPassOf, IsInNoCall};
 ghost use Rattle.place_table.specs.Closing.{IsClosed};
 
-use key_hash::{bucket_of, jhash};
+use bucket_entries::bucket_number;
 use map_types::{NoMemory, Shape};
 use place_table::{Closed, Pass, PlaceTable};
 use std::alloc::Global;
@@ -68,9 +67,10 @@ impl PlainMap {
         Ok((PlainMap { table, alloc }, pass))
     }
 
-    /// The table of the map.
+    /// The table of the map, whose kind doesn't evict.
     pub fn table(&self) -> &PlaceTable
-        ensures { result.now ≡ self.now }
+        ensures value { result.now ≡ self.now }
+        ensures plain { is_lru self.now.shape.kind ≡ false }
     {
         &self.table
     }
@@ -95,14 +95,4 @@ impl PlainMap {
     {
         bucket_number(self.table.shape(), key)
     }
-}
-
-/// The bucket of a key.
-fn bucket_number(shape: &Shape, key: &[u8]) -> u32
-    requires bounds { HasBounds shape.now }
-    requires key { length key.now ≡ shape.now.key_size }
-    ensures value { result ≡ bucket_of_key shape.now key.now }
-    ensures in_range { result < shape.now.buckets }
-{
-    bucket_of(jhash(key, shape.seed), shape.buckets)
 }

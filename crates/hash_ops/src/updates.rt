@@ -1,33 +1,22 @@
 //! Updates in a key's bucket.
 
-ghost use Rattle.std.specs.Prelude.{◌≡◌, ◌≢◌, ◌<◌, ◌≤◌, ◌^◌, IsTrue, IfErr, Ok, Err, false, None, Some, length, slice_get};
+ghost use Rattle.std.specs.Prelude.{◌≡◌, ◌≢◌, ◌<◌, ◌≤◌, IsTrue, IfErr, Ok, Err, false, None, Some};
 ghost use Rattle.map_types.specs.declared.call.Verb.TheVariants as verbs;
-ghost use Rattle.map_types.specs.declared.refusal.Errno.TheVariants as errnos;
 ghost use Rattle.map_types.specs.declared.reply.Reply.TheVariants as replies;
 ghost use Rattle.map_types.specs.Kind.{is_percpu};
-ghost use Rattle.map_types.specs.ValueLen.{value_len_of};
 ghost use Rattle.place_words.specs.Bodies.{present};
-ghost use Rattle.place_words.specs.Traces.{bucket_of_key};
-ghost use Rattle.hash_ops.specs.declared.map.PlainRefusal.TheVariants as refusals;
 ghost use Rattle.hash_ops.specs.Calls.{MayRefuse};
 ghost use Rattle.place_table.specs.InBucket.{InBucket, IsAt};
 ghost use Rattle.hash_ops.specs.Under.{HasItsSpares, Gives, AnsweredWhole, Forgot, UpdateEnds};
 
-use crate::buckets::body_at;
 use crate::map::{PlainMap, PlainRefusal};
 use bucket_chain::Chain;
-use bucket_entries::{Given, fill_body, write_value};
+use bucket_entries::{BPF_EXIST, BPF_NOEXIST, Given, body_at, fill_body, write_value};
 use map_types::{DomainId, Gate, Side};
 use place_table::{Content, Pass};
 use place_words::Put;
 use std::alloc::Global;
 use std::sync::Wait;
-
-/// The flag of an update that refuses a present key.
-const BPF_NOEXIST: u32 = 1;
-
-/// The flag of an update that refuses an absent key.
-const BPF_EXIST: u32 = 2;
 
 impl PlainMap {
     /// Updates a key in its bucket, by flags that are known: a present key is refused, written in place or given the spare

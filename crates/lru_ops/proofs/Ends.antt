@@ -24,10 +24,9 @@ use Rattle.place_table.specs.declared.view.Turned.{Turned}
 use Rattle.place_table.specs.Calls.{CanCall, Called, Leaves, CouldBe, AreTold, bits_of_part, bits_of_turns, spare_element, element_of}
 use Rattle.place_table.specs.Known.{BitTouch, Learns, turn_at, IsBy}
 use Rattle.place_table.specs.Passes.{PassView, TableView, IsInNoCall, Goes, spare_of}
-use Rattle.place_table.specs.Views.{is_among, is_in_hand_of, with_in_hand, without_in_hand, notes_below}
+use Rattle.place_table.specs.Views.{is_among, is_in_hand_of, notes_below}
 use Rattle.place_table.proofs.Entries.{append_nil}
 use Rattle.place_table.proofs.Going.{goes_on, goes_took, made_on, learns_on, learns_after, learns_took}
-use Rattle.place_table.proofs.Hands.{in_hand_less, in_hand_more_else, in_hand_less_else}
 use Rattle.place_table.proofs.Worlds.{true_false, by_bool}
 use Rattle.lru_ops.specs.Lists.{Changed}
 use Rattle.lru_ops.specs.Under.{Enters, GivenBack}
@@ -108,18 +107,6 @@ in_no_hand {t} {p} can lru e cpu has =
     by_bool (is_in_hand_of e cpu p.view.hand) (λ z. z ≡ false)
     (λ in_hand. absurd (no_hash p.view.shape.kind (ap (λ (s : Shape). is_lru s.kind) can.of_table.1 ∙ lru) (can.in_no_call.spares_only e cpu has in_hand).3)) (λ _. refl)
 
--- what comes to a hand where it wasn't, and leaves it again, leaves all hands as they were
-pub hand_back : (e cpu : ℕ) (hand : List InHand) → is_in_hand_of e cpu hand ≡ false → (x c : ℕ) → is_in_hand_of x c (without_in_hand e cpu (with_in_hand e cpu hand)) ≡ is_in_hand_of x c hand
-hand_back e cpu hand none x c =
-    let here : is_in_hand_of e cpu (without_in_hand e cpu (with_in_hand e cpu hand)) ≡ is_in_hand_of e cpu hand = in_hand_less e cpu (with_in_hand e cpu hand) ∙ sym none in
-    let else : (x ≡ e → c ≡ cpu → ⊥) → is_in_hand_of x c (without_in_hand e cpu (with_in_hand e cpu hand)) ≡ is_in_hand_of x c hand =
-    λ other. in_hand_less_else x c e cpu (with_in_hand e cpu hand) other ∙ in_hand_more_else x c e cpu hand other in
-    by_test x e (λ _. is_in_hand_of x c (without_in_hand e cpu (with_in_hand e cpu hand)) ≡ is_in_hand_of x c hand)
-    (λ same. by_test c cpu (λ _. is_in_hand_of x c (without_in_hand e cpu (with_in_hand e cpu hand)) ≡ is_in_hand_of x c hand)
-    (λ mine. (λ i. is_in_hand_of (same i) (mine i) (without_in_hand e cpu (with_in_hand e cpu hand))) ∙ (here ∙ (λ i. is_in_hand_of (sym same i) (sym mine i) hand)))
-    (λ other. else (λ _ mine. other mine)))
-    (λ other. else (λ same _. other same))
-
 -- Calls
 
 -- a pass whose hands hold the same, and whose spares are the same, is in no call
@@ -150,16 +137,17 @@ leaves_changed {t} {p} {s} {steps} {told} {lost} can lru changed hand = record {
   learns = changed.learns;
 }
 
--- a call on one key whose turns are such a trace
-abbrev pub called_changed : {t : TableView} {p s : PassView} {steps told : List Turned} {lost : List ℕ} (verb : Verb) (reply : Reply) → CanCall t p → IsTrue (is_lru t.shape.kind) → Changed t p s steps told lost → ((e c : ℕ) → is_in_hand_of e c s.view.hand ≡ is_in_hand_of e c p.view.hand)
+-- a call on one key whose turns are such a trace, where the CPUs have lists of their own
+abbrev pub called_changed : {t : TableView} {p s : PassView} {steps told : List Turned} {lost : List ℕ} (verb : Verb) (reply : Reply) → CanCall t p → IsTrue (is_lru t.shape.kind) → t.shape.common ≡ false → Changed t p s steps told lost → ((e c : ℕ) → is_in_hand_of e c s.view.hand ≡ is_in_hand_of e c p.view.hand)
     → IsTrace t.shape p.cpu (spare_element p) verb (map (turn_at t.shape) told) reply → Called t p s verb reply
-called_changed {t} {p} {s} {steps} {told} {lost} verb reply can lru changed hand trace = record {
+called_changed {t} {p} {s} {steps} {told} {lost} verb reply can lru apart changed hand trace = record {
   steps = steps;
   lost = lost;
   told = told;
   told_are = changed.told_are;
   leaves = leaves_changed can lru changed hand;
   trace = trace;
+  none_moved = λ common. true_false (sym common ∙ apart);
   spare = (λ i. element_of (spare_of (changed.made.goes.cpu i) (changed.spares i))) ∙ sym (ap (λ b. cond b (spare_element p) (spare_after (spare_element p) (turns_of (map (turn_at t.shape) told)))) lru);
 }
 

@@ -47,7 +47,8 @@ use Rattle.place_table.specs.Passes.{PassView, TableView, CanTake, CanMark, Take
 use Rattle.place_table.specs.Plays.{OwnerFits, IsListedHere}
 use Rattle.place_table.specs.Rules.{IsAboveAll, is_hand_of}
 use Rattle.place_table.specs.StoredHashes.{stored_in}
-use Rattle.place_table.specs.TurnNotes.{ProbeFits, CameToHand, clears_among}
+use Rattle.place_table.specs.Flushes.{flushes}
+use Rattle.place_table.specs.TurnNotes.{WasRead, ProbeFits, CameToHand, clears_among}
 use Rattle.place_table.specs.Views.{is_among, is_in_hand_of, hold_at, now_under, with_now, with_in_hand, detached, owner_read, with_owner_read, holding, known_log, no_notes, given, holds_below, notes_below, owners_probed}
 use Rattle.place_table.specs.Words.{owner_word}
 use Rattle.place_table.proofs.Entries.{append_nil}
@@ -172,6 +173,7 @@ pub record Worked (t : TableView) (bucket e : ℕ) (q r : PassView) (bodies : Li
   pub notes_are : r.view.notes ≡ notes ∷ b.below
   pub marks : notes.marks ≡ []
   pub asked : notes.asked ≡ []
+  pub off : notes.off ≡ []
   pub carried : r.view.carried ≡ q.view.carried
   pub knows : Learns t.shape q.view r.view [] []
   pub in_hand : r.view.hand ≡ hand
@@ -285,6 +287,7 @@ module _ {t : TableView} {bucket e : ℕ} {q : PassView} {bodies : List Stored} 
         notes_are = b.notes;
         marks = refl;
         asked = refl;
+        off = refl;
         carried = refl;
         knows = learns_nothing t.shape q.view (detached at bucket e q.cpu q.view) refl refl refl refl;
         in_hand = refl;
@@ -306,6 +309,7 @@ module _ {t : TableView} {bucket e : ℕ} {q : PassView} {bodies : List Stored} 
     notes_are = ap (with_owner_read e owner) b.notes;
     marks = refl;
     asked = refl;
+    off = refl;
     carried = refl;
     knows = learns_nothing t.shape q.view (owner_read at e owner q.view) refl refl refl refl;
     in_hand = refl;
@@ -349,9 +353,11 @@ module _ {t : TableView} {bucket e : ℕ} {q : PassView} {bodies : List Stored} 
           gone = λ _ c x h is. absurd (bucket_no_local bucket c (sym named ∙ is));
         };
         notes_fit = record {
-          served = tt;
           marks_are = w.marks ∙ no_marks (is_lru t.shape.kind) [];
           clears_are = (λ i. clears_among (reverse (w.asked i)));
+          reads = All-nil (WasRead notes.asked);
+          flushed = tt;
+          off = subst (All (λ x. flushes x part ≡ true)) (sym w.off) (All-nil (λ x. flushes x part ≡ true));
           held = All-cons (ProbeFits notes.owners) (record { element = e; probed = seen }) [] fits (All-nil (ProbeFits notes.owners));
           came = All-nil (CameToHand r.view (hold_with b.hold now) notes);
         };

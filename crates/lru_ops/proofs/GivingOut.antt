@@ -234,6 +234,7 @@ pub record Ready (t : TableView) (hash : ℕ) (turning turning_after : RotateNot
   pub same_rows : (x : ℕ) → times x (rows (lists_of_set (set_told out))) ≡ times x (rows now)
   pub rows_kept : (x h n : ℕ) → (is_in_hand_of x hold.cpu s.view.hand && is_among x notes.came) ≡ false → stored_hash x (rows_on set) ≡ Some h → stored_hash x (rows_on out) ≡ Some n → h ≡ n
   pub marks : notes.marks ≡ []
+  pub off : notes.off ≡ []
   pub cleared : AreCleared (got_cleared got) (active ++ (inactive ++ looks_told (note_of shrunk looks forced))) (clears_noted notes)
   pub owners : All (ProbeFits notes.owners) (shrink_probes (note_of shrunk looks forced))
   pub came : All (CameToHand s.view (hold_with hold now) notes) (option_to_list got)
@@ -333,6 +334,7 @@ module _ {t : TableView} {set worked : SetView} {turning turning_after : RotateN
         same_rows = λ x. sym (ap (λ (l : Lists). times x (rows (lists_after w.probes l))) now_was ∙ k.same_rows x);
         rows_kept = λ x h n _ before after. k.rows_kept x h n before after;
         marks = ap (λ (n : Notes). n.marks) n_is;
+        off = ap (λ (n : Notes). n.off) n_is;
         cleared = (λ i. clears_among (reverse (asked_after (k.calls_are i) ((n_is i).asked)))) ∙ clears_told bits;
         owners = subst (All (ProbeFits (owners_after w.probes d.notes.owners))) k.probes_are (probes_fit w.probes d.notes.owners);
         came = All-nil (CameToHand r.view (hold_with d.hold (lists_after w.probes d.hold.now)) (notes_after w.calls w.probes d.notes));
@@ -436,6 +438,7 @@ module _ {t : TableView} {set worked : SetView} {turning turning_after : RotateN
               let skipped_is = skip_row (λ (row : Row). row.element == x) (record { element = e; hash = hash }) worked.active worked.inactive (by_test e x (λ b. b ≡ false) (λ same. absurd (apart (sym same))) (λ _. refl)) in
               k.rows_kept x h n' before (ap (option_map (λ (row : Row). row.hash)) (sym skipped_is) ∙ (ap (λ (z : SetView). stored_hash x (rows_on z)) (sym g.after_is) ∙ after));
           marks = ap (λ (x : Notes). x.marks) n_is;
+          off = ap (λ (x : Notes). x.off) n_is;
           cleared = (bits, g.bit, [], clears_then, append_nil bits);
           owners = subst (All (ProbeFits (owners_after w.probes d.notes.owners))) k.probes_are (probes_fit w.probes d.notes.owners);
           came = All-cons (CameToHand s.view (hold_with d.hold then) noted_then) e [] ((let more = times_cons_same e n.came in omega (arith, more)), in_hand) (All-nil (CameToHand s.view (hold_with d.hold then) noted_then));

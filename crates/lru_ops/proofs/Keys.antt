@@ -17,9 +17,10 @@ use Rattle.place_table.specs.Calls.{CanCall, Called, spare_element}
 use Rattle.place_table.specs.Known.{turn_of, turn_at}
 use Rattle.place_table.specs.Passes.{PassView, TableView}
 use Rattle.place_table.specs.Views.{is_in_hand_of, with_in_hand, without_in_hand}
+use Rattle.place_table.proofs.Hands.{hand_back}
 use Rattle.lru_ops.specs.Lists.{Changed, Freed}
 use Rattle.lru_ops.specs.Under.{Enters, GivenBack, LooksUp, IsOut, Deletes, TakesOut}
-use Rattle.lru_ops.proofs.Ends.{changed_on, changed_given, in_no_hand, hand_back, called_changed, trace_here}
+use Rattle.lru_ops.proofs.Ends.{changed_on, changed_given, in_no_hand, called_changed, trace_here}
 
 -- From where a call has entered the bucket of its key
 module _ {t : TableView} {bucket : ℕ} {p q : PassView} {chain : BodyList} (can : CanCall t p) (enters : Enters t bucket p q chain) where
@@ -36,7 +37,7 @@ module _ {t : TableView} {bucket : ℕ} {p q : PassView} {chain : BodyList} (can
 
   pub looked_up : {s : PassView} {side : Side} {key : List ℕ} {reply : Reply} → bucket ≡ bucket_of_key t.shape key → LooksUp t bucket q s side key reply → Called t p s (verbs.Lookup side key) reply
   looked_up {s} {side} {key} {reply} here looks =
-      called_changed (verbs.Lookup side key) reply can enters.evicts (changed_here looks.gives) (hand_kept looks.gives)
+      called_changed (verbs.Lookup side key) reply can enters.evicts enters.own_lists (changed_here looks.gives) (hand_kept looks.gives)
       (trace_here t.shape p.cpu (spare_element p) (verbs.Lookup side key) (map (turn_at t.shape) (looks.gives.told ∷ [])) reply enters.evicts
       record { got = looks.got; turns_are = ap (λ (x : Turn). x ∷ []) (turn_here key here looks.gives); reply_is = looks.reply_is })
 
@@ -54,24 +55,24 @@ module _ {t : TableView} {bucket : ℕ} {p q : PassView} {chain : BodyList} (can
 
   pub delete_missed : {s : PassView} {key : List ℕ} → bucket ≡ bucket_of_key t.shape key → Deletes t bucket q s key None → Called t p s (verbs.Delete key) (Refused Enoent)
   delete_missed {s} {key} here d =
-      called_changed (verbs.Delete key) (Refused Enoent) can enters.evicts (changed_here d.gives) (hand_kept d.gives)
+      called_changed (verbs.Delete key) (Refused Enoent) can enters.evicts enters.own_lists (changed_here d.gives) (hand_kept d.gives)
       (trace_here t.shape p.cpu (spare_element p) (verbs.Delete key) (map (turn_at t.shape) (d.gives.told ∷ [])) (Refused Enoent) enters.evicts
       record { gone = None; at_bucket = turn_at t.shape d.gives.told; freeing = []; turns_are = refl; bucket_is = turn_here key here d.gives; frees = refl; reply_is = refl })
 
   pub delete_done : {r s : PassView} {key : List ℕ} {body : Stored} → bucket ≡ bucket_of_key t.shape key → Deletes t bucket q r key (Some body) → Freed t body r s → Called t p s (verbs.Delete key) Done
   delete_done {r} {s} {key} {body} here d freed =
-      called_changed (verbs.Delete key) Done can enters.evicts (changed_gone d.is_out d.gives freed) (hand_gone d.is_out d.gives freed)
+      called_changed (verbs.Delete key) Done can enters.evicts enters.own_lists (changed_gone d.is_out d.gives freed) (hand_gone d.is_out d.gives freed)
       (trace_here t.shape p.cpu (spare_element p) (verbs.Delete key) (map (turn_at t.shape) (d.gives.told ∷ freed.steps)) Done enters.evicts
       record { gone = Some body.element; at_bucket = turn_at t.shape d.gives.told; freeing = map (turn_at t.shape) freed.steps; turns_are = refl; bucket_is = turn_here key here d.gives; frees = freed.trace; reply_is = refl })
 
   pub take_missed : {s : PassView} {key value : List ℕ} → bucket ≡ bucket_of_key t.shape key → TakesOut t bucket q s key value None → Called t p s (verbs.Take key) (Refused Enoent)
   take_missed {s} {key} here d =
-      called_changed (verbs.Take key) (Refused Enoent) can enters.evicts (changed_here d.gives) (hand_kept d.gives)
+      called_changed (verbs.Take key) (Refused Enoent) can enters.evicts enters.own_lists (changed_here d.gives) (hand_kept d.gives)
       (trace_here t.shape p.cpu (spare_element p) (verbs.Take key) (map (turn_at t.shape) (d.gives.told ∷ [])) (Refused Enoent) enters.evicts
       record { gone = None; at_bucket = turn_at t.shape d.gives.told; freeing = []; turns_are = refl; bucket_is = turn_here key here d.gives; frees = refl; reply_is = refl })
 
   pub take_done : {r s : PassView} {key value : List ℕ} {body : Stored} → bucket ≡ bucket_of_key t.shape key → TakesOut t bucket q r key value (Some body) → Freed t body r s → Called t p s (verbs.Take key) (Value value)
   take_done {r} {s} {key} {value} {body} here d freed =
-      called_changed (verbs.Take key) (Value value) can enters.evicts (changed_gone d.is_out d.gives freed) (hand_gone d.is_out d.gives freed)
+      called_changed (verbs.Take key) (Value value) can enters.evicts enters.own_lists (changed_gone d.is_out d.gives freed) (hand_gone d.is_out d.gives freed)
       (trace_here t.shape p.cpu (spare_element p) (verbs.Take key) (map (turn_at t.shape) (d.gives.told ∷ freed.steps)) (Value value) enters.evicts
       record { gone = Some (body.element, value); at_bucket = turn_at t.shape d.gives.told; freeing = map (turn_at t.shape) freed.steps; turns_are = refl; bucket_is = turn_here key here d.gives; frees = freed.trace; reply_is = refl })

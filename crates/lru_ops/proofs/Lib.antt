@@ -1,5 +1,4 @@
 pub mod Asked
-pub mod BodiesThere
 pub mod Ends
 pub mod EvictTurns
 pub mod GivingOut

@@ -1,6 +1,6 @@
 -- Updates: from the turn of the key's bucket to what the call leaves.
 use Rattle.std.proofs.Common.{◌≡◌, ℕ, ◌<◌, ◌≤◌, Bool, cond, true, false, List, [], ◌∷◌, ◌++◌, map, inl, inr, ⊎_elim, sym, refl, ap, ◌∙◌, subst, arith, Option, Some, None}
-use Rattle.std.specs.Prelude.{IsTrue, MatchBool, option_map, Result, Ok, Err, ◌&&◌, ◌==◌}
+use Rattle.std.specs.Prelude.{IsTrue, IsFalse, MatchBool, option_map, Result, Ok, Err, ◌&&◌, ◌==◌}
 use Rattle.std.proofs.lemmas.List.{map-append}
 use Rattle.std.proofs.lemmas.List.Elements.{All-nil}
 use Rattle.key_hash.specs.Jhash.{hash}
@@ -29,14 +29,14 @@ use Rattle.place_words.proofs.LockLemmas.{number_of_named}
 use Rattle.place_core.proofs.ElementLemmas.{by_test}
 use Rattle.place_table.specs.declared.view.InHand.{InHand}
 use Rattle.place_table.specs.declared.view.Turned.{Turned}
-use Rattle.place_table.specs.Calls.{CanCall, Called, CouldBe, spare_element}
+use Rattle.place_table.specs.Calls.{CanCall, Called, CouldBe, spare_element, finds_moved_on}
 use Rattle.place_table.specs.Contents.{IsSized}
 use Rattle.place_table.specs.Known.{BitTouch, Learns, turn_of, turn_at, IsBy}
 use Rattle.place_table.specs.Passes.{PassView, TableView}
 use Rattle.place_table.specs.Views.{is_among, is_in_hand_of, bucket_known, with_in_hand, without_in_hand}
 use Rattle.place_table.proofs.Entries.{append_nil}
 use Rattle.place_table.proofs.Going.{goes_nowhere, goes_of_table, goes_begun, learns_none}
-use Rattle.place_table.proofs.Hands.{in_hand_more, in_hand_more_else, in_hand_less, in_hand_less_else}
+use Rattle.place_table.proofs.Hands.{in_hand_more, in_hand_more_else, in_hand_less, in_hand_less_else, hand_back}
 use Rattle.place_table.proofs.Worlds.{by_bool, true_false, some_is, none_some}
 use Rattle.lru_ops.specs.declared.map.LruRefusal.{LruRefusal}
 use Rattle.lru_ops.specs.declared.map.LruRefusal.TheVariants as refusals
@@ -44,7 +44,7 @@ use Rattle.lru_ops.specs.Calls.{FoundNoMemory, FoundNoElement, Updates}
 use Rattle.lru_ops.specs.Lists.{Changed, Acquired, CanFree}
 use Rattle.lru_ops.specs.Offers.{IsOffered, Offers, PutsAlone, Forgot, OfferEnds, AloneEnds, CanFreeLeft, HasFreedLeft, CanOffer, IsOutOfHand, IsForgotten, HasOffered, HasForgotten, OfferAnswers, hand_after}
 use Rattle.lru_ops.specs.Under.{CanEnter, Enters, GivenBack, IsOut}
-use Rattle.lru_ops.proofs.Ends.{among_before, changed_on, changed_given, in_no_hand, hand_back, called_changed, leaves_changed, trace_here}
+use Rattle.lru_ops.proofs.Ends.{among_before, changed_on, changed_given, in_no_hand, called_changed, leaves_changed, trace_here}
 
 -- Turns of the bucket of a key
 
@@ -125,7 +125,7 @@ module _ {t : TableView} {bucket : ℕ} {p q : PassView} {chain : BodyList} (can
     wrote_alone reply a =
         let turns : List TurnAt = map (turn_at t.shape) (a.gives.told ∷ []) in
         let trace : IsWriteTrace t.shape side 2 key value turns reply = record { put = a.put; may_put = a.may_put; turns_are = ap (λ (x : Turn). x ∷ []) (turn_here key here a.gives); reply_is = a.reply_is } in
-        called_changed (verbs.Update side 2 key value) reply can lru (changed_given can.in_no_call.holds_nothing enters a.gives) (hand_kept a.gives)
+        called_changed (verbs.Update side 2 key value) reply can lru enters.own_lists (changed_given can.in_no_call.holds_nothing enters a.gives) (hand_kept a.gives)
         (trace_here t.shape p.cpu (spare_element p) (verbs.Update side 2 key value) turns reply lru
         (inr (known, subst (λ b. MatchBool (b && (2 == 2)) (IsWriteTrace t.shape side 2 key value turns reply) (IsOfferTrace t.shape p.cpu side 2 key value turns reply)) (sym percpu) trace)))
       where
@@ -298,7 +298,7 @@ module _ {t : TableView} {bucket : ℕ} {p q : PassView} {chain : BodyList} {key
 
 -- A whole update
 
-module _ {t : TableView} {p : PassView} (q : PassView) (side : Side) (flags : ℕ) (key value : List ℕ) (can : CanCall t p) (lru : IsTrue (is_lru t.shape.kind)) (known : flags ≤ 2) (takes : (is_percpu t.shape.kind && (flags == 2)) ≡ false) where
+module _ {t : TableView} {p : PassView} (q : PassView) (side : Side) (flags : ℕ) (key value : List ℕ) (can : CanCall t p) (lru : IsTrue (is_lru t.shape.kind)) (apart : t.shape.common ≡ false) (known : flags ≤ 2) (takes : (is_percpu t.shape.kind && (flags == 2)) ≡ false) where
   offer_trace : {turns : List TurnAt} {reply : Reply} → IsOfferTrace t.shape p.cpu side flags key value turns reply → IsEvictingUpdate t.shape p.cpu side flags key value turns reply
   offer_trace {turns} {reply} trace = inr (known, subst (λ b. MatchBool b (IsWriteTrace t.shape side flags key value turns reply) (IsOfferTrace t.shape p.cpu side flags key value turns reply)) (sym takes) trace)
 
@@ -306,7 +306,7 @@ module _ {t : TableView} {p : PassView} (q : PassView) (side : Side) (flags : �
   pub took_none : Acquired t (hash key t.shape.seed) p q None → FoundNoElement t side flags key value p q
   took_none a = record {
     called =
-        called_changed (verbs.Update side flags key value) (Refused errnos.Enomem) can lru a.changed (λ e c. ap (is_in_hand_of e c) a.hand)
+        called_changed (verbs.Update side flags key value) (Refused errnos.Enomem) can lru apart a.changed (λ e c. ap (is_in_hand_of e c) a.hand)
         (trace_here t.shape p.cpu (spare_element p) (verbs.Update side flags key value) (map (turn_at t.shape) a.told) (Refused errnos.Enomem) lru
         (offer_trace record { got = None; taking = map (turn_at t.shape) a.told; rest = []; turns_are = sym (append_nil (map (turn_at t.shape) a.told)); takes = a.trace; offers = (refl, refl) }));
     none = a.none;
@@ -336,7 +336,7 @@ module _ {t : TableView} {p : PassView} (q : PassView) (side : Side) (flags : �
 
     took_one : (s : PassView) (reply : Reply) → HasOffered t q s side flags key value body.element reply → Called t p s (verbs.Update side flags key value) reply
     took_one s reply o =
-        called_changed (verbs.Update side flags key value) reply can lru (changed_on a.changed o.changed) (hand_out s o.hand)
+        called_changed (verbs.Update side flags key value) reply can lru apart (changed_on a.changed o.changed) (hand_out s o.hand)
         (trace_here t.shape p.cpu (spare_element p) (verbs.Update side flags key value) (map (turn_at t.shape) (a.told ++ o.told)) reply lru
         (offer_trace record {
           got = Some body.element;
@@ -404,5 +404,6 @@ called_unknown {t} {p} side flags key value can unknown =
         learns = changed.learns;
       };
       trace = by_either (is_lru t.shape.kind) _ _ (inl (unknown, refl, refl)) (inl (unknown, refl, refl));
+      none_moved = λ _ _ _. All-nil (λ (turn : Turned). IsFalse (finds_moved_on turn.entry.part));
       spare = either_same (is_lru t.shape.kind) (spare_element p);
     }

@@ -31,6 +31,7 @@ use Rattle.place_words.specs.Sets.{own_scans, rotated_set}
 use Rattle.place_words.specs.Takings.{Acquires, TakesFree, TakesByRefill, TakesOwn, Chase, evicts, listed_rows, shrink_probes, stored_hash, walk_probes}
 use Rattle.place_words.specs.Turns.{Turn, turns_of}
 use Rattle.place_words.proofs.LockLemmas.{named_by_number}
+use Rattle.place_core.specs.State.{rows}
 use Rattle.place_core.proofs.ElementLemmas.{by_test}
 use Rattle.place_table.specs.declared.content.Content.TheVariants as contents
 use Rattle.place_table.specs.declared.view.HashIn.{HashIn}
@@ -41,13 +42,14 @@ use Rattle.place_table.specs.declared.view.Turned.{Turned}
 use Rattle.place_table.specs.declared.view.View.{View}
 use Rattle.place_table.specs.declared.view.WordStep.{WordStep}
 use Rattle.place_table.specs.Calls.{CanCall, CouldBe, IsTold, AreTold, sets_bit, clears_found, clears_bit, bits_of_part, bits_of_turns}
-use Rattle.place_table.specs.Contents.{set_told, Fits}
+use Rattle.place_table.specs.Contents.{set_told, set_under, lists_of, Fits}
+use Rattle.place_table.specs.Flushes.{flushes}
 use Rattle.place_table.specs.Known.{BitTouch, Learns, turn_of, turn_at, IsBy}
 use Rattle.place_table.specs.Passes.{PassView, TableView, Takes, CanGive, Gave, GaveSome, GaveBack, MayGiveBack, Goes, entry_of}
 use Rattle.place_table.specs.StoredHashes.{stored_in}
-use Rattle.place_table.specs.TurnNotes.{AreCleared, CameToHand, clears_noted}
+use Rattle.place_table.specs.TurnNotes.{WasRead, AreCleared, CameToHand, clears_noted}
 use Rattle.place_table.proofs.Came.{came_among}
-use Rattle.place_table.specs.Views.{is_among, is_in_hand_of, hold_at, known_log, bucket_known, hash_given, hashes_given, came_last, learned, holding, holds_below, notes_below, owners_passed, no_notes, with_in_hand}
+use Rattle.place_table.specs.Views.{is_among, is_in_hand_of, hold_at, known_log, bucket_known, hash_given, hashes_given, came_last, learned, holding, holds_below, notes_below, passed_on, no_notes, with_in_hand}
 use Rattle.place_table.proofs.Entries.{append_nil}
 use Rattle.place_table.proofs.Going.{AreElsewhere, log_elsewhere, given_turn, goes_on, goes_took, goes_gave, goes_gave_some, goes_of_table, goes_begun, same_head, learns_on, learns_after, learns_gave, learns_took}
 use Rattle.place_table.proofs.Worlds.{true_false}
@@ -176,10 +178,10 @@ cleared_times x (e ∷ also) told done are =
     ∙ (ap (times x) (sym (map-append (λ (v : Visit). v.element) before (visit ∷ behind))) ∙ ap (λ (l : List Visit). times x (visited_elements l)) (sym are.3))))
 
 -- nothing that an own turn tells is handed on
-own_passed : (shape : Shape) (cpu : ℕ) (part : Part) (there : Content) (lists : _) (below : List Notes) → in_own lists ≡ there → Allows shape cpu part there → owners_passed part below ≡ below
+own_passed : (shape : Shape) (cpu : ℕ) (part : Part) (there : Content) (lists : _) (below : List Notes) → in_own lists ≡ there → Allows shape cpu part there → passed_on part below ≡ below
 own_passed shape cpu part there lists below is allowed = go part (subst (Allows shape cpu part) (sym is) allowed)
   where
-    go : (part : Part) → Allows shape cpu part (in_own lists) → owners_passed part below ≡ below
+    go : (part : Part) → Allows shape cpu part (in_own lists) → passed_on part below ≡ below
     go (parts.Bucket part) allowed = absurd allowed
     go (parts.Free part) allowed = absurd allowed
     go (parts.Local part) allowed = absurd allowed
@@ -216,7 +218,7 @@ set_no_local c d e = cc
 pub record GaveAs (t : TableView) (s u : PassView) (hold : Hold) (part : Part) (lost : List ℕ) : Type 0 where
   pub goes : Goes s u (given_turn s hold part ∷ []) lost
   pub held : u.view.held ≡ holds_below s.view.held
-  pub notes : u.view.notes ≡ owners_passed part (notes_below s.view.notes)
+  pub notes : u.view.notes ≡ passed_on part (notes_below s.view.notes)
   pub hand : u.view.hand ≡ s.view.hand
   pub carried : u.view.carried ≡ s.view.carried
   pub spares : u.spares ≡ s.spares
@@ -292,6 +294,10 @@ module _ {t : TableView} {p q s : PassView} {set out : SetView} {hash : ℕ} {tu
   found_here : in_own (set_told set) ≡ content t.shape (lock_named t.shape y.hold.lock) y.hold.log
   found_here = found_set ∙ ap (λ (d : DomainId). content t.shape d y.hold.log) (sym named)
 
+  -- a set under this lock is told as a CPU's own
+  out_there : set_under (lock_named t.shape y.hold.lock) (set_told out) ≡ in_own (set_told out)
+  out_there = ap (λ (d : DomainId). set_under d (set_told out)) named
+
   pub can_give : CanGive t lock s (contents.Set out) part
   can_give =
       let begun = goes_begun p s y.turns [] to_s begins.begun in record {
@@ -307,21 +313,23 @@ module _ {t : TableView} {p q s : PassView} {set out : SetView} {hash : ℕ} {tu
         lock_is = lock_is;
         may_put = record {
           cpu = begun;
-          told_is = ap in_own (sym y.left) ∙ ap (content_after t.shape s.cpu part) found_here;
+          told_is = out_there ∙ (ap in_own (sym y.left) ∙ ap (content_after t.shape s.cpu part) found_here);
           fits = subst (λ (d : DomainId). Fits t.shape d (contents.Set out)) (sym named) y.fits;
           allowed = subst (Allows t.shape s.cpu part) found_here y.allowed;
-          same_free = λ x. ap (times x) y.same_free;
-          same_rows = y.same_rows;
+          same_free = λ x. ap (λ (c : Content). times x (lists_of c).free) out_there ∙ ap (times x) y.same_free;
+          same_rows = λ x. ap (λ (c : Content). times x (rows (lists_of c))) out_there ∙ y.same_rows x;
           rows_kept = λ _ j x h n other held not_mine before after.
               let only = hold_at_only j own_hold other (ap (hold_at j) (sym y.held) ∙ held) in
               let was : stored_in (in_own (set_told set)) x ≡ Some h = (λ i. stored_in (found_here i) x) ∙ ((λ i. stored_in (content t.shape (lock_named t.shape (only.0 i)) ((only.1 i).log)) x) ∙ before) in
-              y.rows_kept x h n (ap (λ (l : List Notes). is_in_hand_of x y.hold.cpu s.view.hand && is_among x (came_last l)) (sym y.noted) ∙ not_mine) (sym (stored_here set x) ∙ was) (sym (stored_here out x) ∙ after);
+              y.rows_kept x h n (ap (λ (l : List Notes). is_in_hand_of x y.hold.cpu s.view.hand && is_among x (came_last l)) (sym y.noted) ∙ not_mine) (sym (stored_here set x) ∙ was) (sym (stored_here out x) ∙ (ap (λ (c : Content). stored_in c x) (sym out_there) ∙ after));
           gone = λ _ c x h is. absurd (set_no_local p.cpu c (sym named ∙ is));
         };
         notes_fit = record {
-          served = tt;
           marks_are = y.marks;
           clears_are = y.cleared;
+          reads = All-nil (WasRead y.notes.asked);
+          flushed = tt;
+          off = subst (All (λ e. flushes e part ≡ true)) (sym y.off) (All-nil (λ e. flushes e part ≡ true));
           held = y.owners;
           came = y.came;
         };
@@ -346,6 +354,9 @@ module _ {t : TableView} {p q s : PassView} {set out : SetView} {hash : ℕ} {tu
     set_there : in_own (set_told set) ≡ content_there
     set_there = found_here ∙ ap (λ (z : Hold). content t.shape (lock_named t.shape z.lock) z.log) (sym hold_there)
 
+    out_told : set_under (lock_named t.shape can.hold.lock) (set_told out) ≡ in_own (set_told out)
+    out_told = ap (λ (z : Hold). set_under (lock_named t.shape z.lock) (set_told out)) hold_there ∙ out_there
+
     told_left : in_own (set_told out) ≡ content_after t.shape s.cpu part content_there
     told_left = can_give_told ∙ ap (λ (z : Hold). content_after t.shape s.cpu part (content t.shape (lock_named t.shape z.lock) z.log)) (sym hold_there)
       where
@@ -361,7 +372,7 @@ module _ {t : TableView} {p q s : PassView} {set out : SetView} {hash : ℕ} {tu
       allowed = subst (Allows t.shape s.cpu part) set_there y.allowed;
       same_marks = sym y.marks ∙ (ap (λ (n : Notes). n.marks) (sym notes_there) ∙ can.notes_fit.marks_are);
       same_clears = λ x. cleared_times x (also_cleared part) (bits_cleared part) _ y.cleared ∙ (ap (λ (n : Notes). times x (visited_elements (clears_noted n))) (sym notes_there) ∙ sym (cleared_times x (also_cleared actual) (bits_cleared actual) _ can.notes_fit.clears_are));
-      leaves = sym told_left ∙ can.may_put.told_is;
+      leaves = sym told_left ∙ (sym out_told ∙ can.may_put.told_is);
     }
 
     is_told : IsTold t.shape lost step told
@@ -407,7 +418,7 @@ module _ {t : TableView} {p q s : PassView} {set out : SetView} {hash : ℕ} {tu
       made = record {
         goes = goes_there;
         held = g.held ∙ (ap holds_below y.held ∙ sym begins.in_no_call.holds_nothing);
-        notes = g.notes ∙ (ap (λ (l : List Notes). owners_passed actual (notes_below l)) y.noted ∙ (own_passed t.shape s.cpu actual content_there (set_told set) y.below set_there can.may_put.allowed ∙ below_is));
+        notes = g.notes ∙ (ap (λ (l : List Notes). passed_on actual (notes_below l)) y.noted ∙ (own_passed t.shape s.cpu actual content_there (set_told set) y.below set_there can.may_put.allowed ∙ below_is));
       };
       by_call = All-append (IsBy p.cpu p.call) y.turns (step ∷ [])
           (subst (λ (z : ℕ × ℕ). All (IsBy z.0 z.1) y.turns) (λ i. (to_q.cpu i, to_q.call i)) (evicts_by t.shape q.cpu q.call (content t.shape (CpuLru q.cpu) y.hold.log) y.probes y.turns y.are_evicts))
@@ -476,7 +487,7 @@ module _ {t : TableView} {p q s : PassView} {set out : SetView} {hash : ℕ} {tu
         g.hashes
         ∙ (ap (λ (z : Shape). cond (is_lru z.kind) (hashes_given can.hold.cpu z.buckets (content_after z s.cpu actual (content z (lock_named z can.hold.lock) can.hold.log)) (came_last s.view.notes) s.view.hand s.view.hashes) s.view.hashes) of_table.1
         ∙ (ap (λ (b : Bool). cond b (hashes_given can.hold.cpu t.shape.buckets (content_after t.shape s.cpu actual content_there) (came_last s.view.notes) s.view.hand s.view.hashes) s.view.hashes) evicts
-        ∙ (λ i. hashes_given can.hold.cpu t.shape.buckets (sym can.may_put.told_is i) (came_last s.view.notes) (y.hand i) s.view.hashes)))
+        ∙ (λ i. hashes_given can.hold.cpu t.shape.buckets ((sym can.may_put.told_is ∙ out_told) i) (came_last s.view.notes) (y.hand i) s.view.hashes)))
 
     holder_is : can.hold.cpu ≡ q.cpu
     holder_is = ap (λ (z : Hold). z.cpu) hold_there ∙ (ap (λ (z : Hold). z.cpu) hold_is ∙ (took.cpu_is ∙ sym to_q.cpu))

@@ -42,7 +42,8 @@ use Rattle.place_table.specs.Contents.{told, set_told, lists_of, Fits, FitsSet, 
 use Rattle.place_table.specs.Known.{Learns, SeesBit, turn_of, turn_at, IsBy}
 use Rattle.place_table.specs.Passes.{PassView, TableView, Takes, CanGive, Gave, Goes, Cleared, Settled, entry_of}
 use Rattle.place_table.specs.StoredHashes.{stored_in}
-use Rattle.place_table.specs.TurnNotes.{ProbeFits, CameToHand}
+use Rattle.place_table.specs.Flushes.{flushes}
+use Rattle.place_table.specs.TurnNotes.{WasRead, ProbeFits, CameToHand}
 use Rattle.place_table.specs.Views.{hold_at, now_under, without_in_hand, with_clear, bits_with, bit_seen, touching, notes_below, holds_below, with_now, learned}
 use Rattle.place_table.specs.Words.{owner_word, bit_word}
 use Rattle.place_table.proofs.Going.{goes_on, goes_took, goes_moved, goes_noted, goes_gave, goes_of_table, goes_begun, given_turn, same_head, learns_on, learns_after, learns_took, learns_moved, learns_cleared, learns_gave}
@@ -155,7 +156,7 @@ frees_own shape e turns apart are =
     subst (λ b. MatchBool b (FreesPending e turns ⊎ (FreesFlushed e turns ⊎ (turns_of turns ≡ freed_globally e ∷ []))) (turns_of turns ≡ on_lock (CpuLru (set_of shape e)) (parts.Own (own.Push e)) ∷ [])) (sym apart) are
 
 abbrev with_clear_of : ℕ → Bool → Notes
-with_clear_of e bit = record { came = []; marks = []; asked = record { element = e; bit = bit; cleared = true } ∷ []; owners = []; homes = [] }
+with_clear_of e bit = record { came = []; marks = []; asked = record { element = e; bit = bit; cleared = true } ∷ []; owners = []; homes = []; flushed = []; off = [] }
 
 abbrev hold_with : Hold → Lists → Hold
 hold_with hold now = record { lock = hold.lock; cpu = hold.cpu; log = hold.log; now = now; lost = hold.lost }
@@ -228,7 +229,7 @@ module _ {t : TableView} {c : ℕ} {p q : PassView} {body : Stored} {set : SetVi
       named : lock_named t.shape took.hold.lock ≡ CpuLru c
       named = ap (lock_named t.shape) took.lock_is ∙ named_by_number t.shape (CpuLru c) is_there
 
-      found : told (contents.Set set) ≡ content t.shape (lock_named t.shape took.hold.lock) took.hold.log
+      found : told (CpuLru c) (contents.Set set) ≡ content t.shape (lock_named t.shape took.hold.lock) took.hold.log
       found = took.told_is ∙ ap (λ (d : DomainId). content t.shape d took.hold.log) (sym named)
 
       is_free_nowhere : times body.element (numbers set.free.bodies) ≡ 0
@@ -241,7 +242,7 @@ module _ {t : TableView} {c : ℕ} {p q : PassView} {body : Stored} {set : SetVi
       pub can_give_pushed : (back : SetView) → back ≡ given_set body set → IsSet back → CanGive t (CpuLru c) s (contents.Set back) (parts.Own (own.Push body.element))
       can_give_pushed back is whole =
           let begun = goes_begun p s [] [] goes_settled can.begun in
-          let leads : told (contents.Set back) ≡ in_own (pushed_free body.element (set_told set)) = ap (λ (x : SetView). told (contents.Set x)) is in
+          let leads : told (lock_named t.shape took.hold.lock) (contents.Set back) ≡ in_own (pushed_free body.element (set_told set)) = λ i. told (named i) (contents.Set (is i)) in
           record {
             of_table = goes_of_table t p s [] [] goes_settled can.of_table;
             begun = begun;
@@ -265,9 +266,11 @@ module _ {t : TableView} {c : ℕ} {p q : PassView} {body : Stored} {set : SetVi
               gone = λ _ on x h is_local _ _. absurd (not_local c on (sym named ∙ is_local));
             };
             notes_fit = record {
-              served = tt;
               marks_are = refl;
               clears_are = ([], bit, [], refl, refl);
+              reads = All-nil (WasRead (with_clear_of body.element bit).asked);
+              flushed = tt;
+              off = All-nil (λ e. flushes e (parts.Own (own.Push body.element)) ≡ true);
               held = All-nil (ProbeFits []);
               came = All-nil (CameToHand s.view (hold_with took.hold now_there) (with_clear_of body.element bit));
             };
@@ -300,9 +303,9 @@ module _ {t : TableView} {c : ℕ} {p q : PassView} {body : Stored} {set : SetVi
               let here = times_append x (elements_of (row_words.without_row body.element set.active)) (elements_of (row_words.without_row body.element set.inactive)) in
               let there = times_append x (without body.element (elements_of set.active)) (without body.element (elements_of set.inactive)) in omega arith
 
-          was_there : (j : ℕ) (other : Hold) → hold_at j s.view.held ≡ Some other → told (contents.Set set) ≡ content t.shape (lock_named t.shape j) other.log
+          was_there : (j : ℕ) (other : Hold) → hold_at j s.view.held ≡ Some other → told (CpuLru c) (contents.Set set) ≡ content t.shape (lock_named t.shape j) other.log
           was_there j other held =
-              by_test took.hold.lock j (λ b. cond b (Some (hold_with took.hold now_there)) None ≡ Some other → told (contents.Set set) ≡ content t.shape (lock_named t.shape j) other.log)
+              by_test took.hold.lock j (λ b. cond b (Some (hold_with took.hold now_there)) None ≡ Some other → told (CpuLru c) (contents.Set set) ≡ content t.shape (lock_named t.shape j) other.log)
               (λ same here. found ∙ (λ i. content t.shape (lock_named t.shape (same i)) ((some_is here i).log)))
               (λ _ none. absurd (none_some none))
               (sym (ap (hold_at j) held_settled) ∙ held)

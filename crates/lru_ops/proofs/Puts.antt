@@ -35,9 +35,10 @@ use Rattle.place_table.proofs.BucketTurns.{IsTurnWith, unchanged_turn, added_tur
 use Rattle.place_table.proofs.Entries.{append_nil}
 use Rattle.place_table.proofs.Going.{given_turn, same_head}
 use Rattle.place_table.proofs.Worlds.{among_first}
+use Rattle.place_table.proofs.BucketBodies.{rows_taken, sized_at}
 use Rattle.lru_ops.specs.Offers.{Gives, IsOffered, IsRefusal, PutsInPlace, Writes, Adds, Replaces, Forgot, update_part}
 use Rattle.lru_ops.specs.Under.{GivenBack}
-use Rattle.lru_ops.proofs.Turned.{rows_taken, free_taken, sized_at, is_real, can_mark_at}
+use Rattle.lru_ops.proofs.Turned.{free_taken, is_real, can_mark_at}
 use Rattle.lru_ops.proofs.Under.{Under, under_nothing, under_marked, under_attached, under_detached, can_mark, can_give, given_back}
 
 -- an element that leaves where another came, whichever it is

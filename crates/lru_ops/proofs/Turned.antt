@@ -1,8 +1,6 @@
 -- What each kind of turn of a key's bucket asks when the bucket is given back, and what it leaves.
-use Rattle.std.proofs.Common.{◌≡◌, ℕ, ◌<◌, cond, List, [], ◌∷◌, length, get_or, ⊎_elim, sym, refl, ap, ◌∙◌, subst, Option, Some, None}
-use Rattle.std.specs.Prelude.{◌≤◌, IsTrue, IfSome, All, slice_get}
-use Rattle.std.proofs.lemmas.Option.{slice_get_cases}
-use Rattle.map_types.specs.declared.attr.Shape.{Shape}
+use Rattle.std.proofs.Common.{◌≡◌, ℕ, ◌<◌, cond, List, [], ◌∷◌, sym, refl, ap, ◌∙◌, subst, Option, Some, None}
+use Rattle.std.specs.Prelude.{IsTrue, IfSome}
 use Rattle.map_types.specs.declared.kind.DomainId.TheVariants.{Bucket}
 use Rattle.map_types.specs.declared.kind.Side.{Side}
 use Rattle.map_types.specs.declared.kind.Side.TheVariants.{Prog, Sys}
@@ -24,32 +22,19 @@ use Rattle.place_core.specs.State.{rows}
 use Rattle.place_core.specs.Steps.{without_row}
 use Rattle.place_table.specs.declared.content.Content.TheVariants as contents
 use Rattle.place_table.specs.declared.view.InHand.{InHand}
-use Rattle.place_table.specs.Contents.{IsSized}
 use Rattle.place_table.specs.InBucket.{InBucket}
 use Rattle.place_table.specs.Passes.{PassView, TableView, CanMark, CanGive, MayGiveBack, GaveBack, Detached}
 use Rattle.place_table.specs.Views.{with_in_hand}
+use Rattle.place_table.proofs.BucketBodies.{rows_taken}
 use Rattle.place_table.proofs.BucketTurns.{IsTurnWith}
 use Rattle.place_table.proofs.Entries.{append_nil}
-use Rattle.place_table.proofs.Worlds.{some_is, none_some}
 use Rattle.lru_ops.specs.Under.{GivenBack, MarkedFor}
 use Rattle.lru_ops.proofs.Under.{Under, under_nothing, under_marked, under_detached, can_mark, can_give, may_give_back, given_back}
 
 -- The elements of a bucket as it was taken
 
-pub rows_taken : {t : TableView} {bucket : ℕ} {q : PassView} {bodies : List Stored} (b : InBucket t bucket q bodies) (x : ℕ) → times x (numbers bodies) ≡ times x (rows b.hold.now)
-rows_taken {t} {bucket} {q} {bodies} b x = sym (ap (λ (l : Lists). times x (rows l)) b.now ∙ ap (times x) (append_nil (numbers bodies)))
-
 pub free_taken : {t : TableView} {bucket : ℕ} {q : PassView} {bodies : List Stored} (b : InBucket t bucket q bodies) → b.hold.now.free ≡ []
 free_taken b = ap (λ (l : Lists). l.free) b.now
-
--- what stands at a place has the sizes of the map
-pub sized_at : (shape : Shape) (bodies : List Stored) (place : ℕ) (body : Stored) → All (IsSized shape) bodies → slice_get bodies place ≡ Some body → IsSized shape body
-sized_at shape bodies place body all at =
-    ⊎_elim
-    (λ (x : (found : Stored) × (place < length bodies) × (slice_get bodies place ≡ Some found) × (get_or bodies place found ≡ found)).
-    subst (IsSized shape) (x.3 ∙ some_is (sym x.2 ∙ at)) (all place x.0 x.1))
-    (λ (x : (length bodies ≤ place) × (slice_get bodies place ≡ None)). absurd (none_some (sym x.1 ∙ at)))
-    (slice_get_cases bodies place).1
 
 -- the element of a key of the bucket lies there, and is one of the map's
 module _ {t : TableView} {bucket : ℕ} {q : PassView} {bodies : List Stored} (b : InBucket t bucket q bodies) (key : List ℕ) (body : Stored) where

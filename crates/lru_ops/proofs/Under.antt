@@ -43,8 +43,9 @@ use Rattle.place_table.specs.Passes.{PassView, TableView, CanTake, CanAttach, Ca
 use Rattle.place_table.specs.Plays.{IsApartFromHands}
 use Rattle.place_table.specs.Rules.{IsAboveAll}
 use Rattle.place_table.specs.StoredHashes.{stored_in}
-use Rattle.place_table.specs.TurnNotes.{ProbeFits, CameToHand}
-use Rattle.place_table.specs.Views.{hold_at, now_at, now_under, with_in_hand, without_in_hand, is_in_hand_of, bucket_known, bits_with, with_mark, touching, known_log, holding, given, with_lost, moved, with_hashes, with_now, notes_below, holds_below, owners_passed, owners_passed_by}
+use Rattle.place_table.specs.Flushes.{flushes}
+use Rattle.place_table.specs.TurnNotes.{WasRead, ProbeFits, CameToHand}
+use Rattle.place_table.specs.Views.{hold_at, now_at, now_under, with_in_hand, without_in_hand, is_in_hand_of, bucket_known, bits_with, with_mark, touching, known_log, holding, given, with_lost, moved, with_hashes, with_now, notes_below, holds_below, passed_on, passed_on_by_bucket}
 use Rattle.place_table.specs.Words.{owner_word, bit_word}
 use Rattle.place_table.proofs.BucketTurns.{IsTurnWith}
 use Rattle.place_table.proofs.Entries.{append_nil}
@@ -66,12 +67,13 @@ can_take_bucket t bucket p can = record {
   above = subst (IsAboveAll t.shape (rank_of (Bucket bucket))) (sym can.no_lock) tt;
 }
 
-pub enters : (t : TableView) (bucket : ℕ) (p q : PassView) (chain : BodyList) → IsTrue (is_lru t.shape.kind) → CanEnter t bucket p → p.cpu < t.shape.cpus → Takes t (Bucket bucket) p q (contents.Bucket chain) → Enters t bucket p q chain
-enters t bucket p q chain lru can few took =
+pub enters : (t : TableView) (bucket : ℕ) (p q : PassView) (chain : BodyList) → IsTrue (is_lru t.shape.kind) → t.shape.common ≡ false → CanEnter t bucket p → p.cpu < t.shape.cpus → Takes t (Bucket bucket) p q (contents.Bucket chain) → Enters t bucket p q chain
+enters t bucket p q chain lru apart can few took =
     let goes = goes_took t (Bucket bucket) p q (contents.Bucket chain) took in
     let view : q.view ≡ holding took.at took.hold p.view = ap (λ (z : PassView). z.view) took.after_is in
     record {
       evicts = lru;
+      own_lists = apart;
       took = took;
       inside = record {
         of_table = goes_of_table t p q [] [] goes can.of_table;
@@ -111,7 +113,7 @@ is_bucket_part shape cpu (parts.Global part) bodies allowed = absurd allowed
 is_bucket_part shape cpu (parts.Own part) bodies allowed = absurd allowed
 
 -- a turn in which no owner was read hands none on to a turn around it
-none_read : (part : BucketPart) (below : List Notes) → All (ProbeFits []) (bucket_probes part) → owners_passed_by part below ≡ below
+none_read : (part : BucketPart) (below : List Notes) → All (ProbeFits []) (bucket_probes part) → passed_on_by_bucket part below ≡ below
 none_read (Lookup side key got) below fit = refl
 none_read (Update side flags key value offer put) below fit = refl
 none_read (Delete key removed) below fit = refl
@@ -122,9 +124,9 @@ none_read (Walk remove room result) below fit = refl
 none_read (Evict e Removed) below fit = refl
 none_read (Evict e (Held holder)) below fit = absurd (All-head (ProbeFits []) (record { element = e; probed = Held holder }) [] fit)
 
-none_handed_on : (part : BucketPart) (stands : Part) (notes : Notes) (below : List Notes) → stands ≡ parts.Bucket part → notes.owners ≡ [] → All (ProbeFits notes.owners) (probes_in stands) → owners_passed stands below ≡ below
+none_handed_on : (part : BucketPart) (stands : Part) (notes : Notes) (below : List Notes) → stands ≡ parts.Bucket part → notes.owners ≡ [] → All (ProbeFits notes.owners) (probes_in stands) → passed_on stands below ≡ below
 none_handed_on part stands notes below is none fit =
-    ap (λ (p : Part). owners_passed p below) is
+    ap (λ (p : Part). passed_on p below) is
     ∙ none_read part below (subst (λ (z : Part × List OwnerSeen). All (ProbeFits z.1) (probes_in z.0)) (λ i. (is i, none i)) fit)
 
 -- the steps on bits that it tells: the bits that it sets
@@ -139,7 +141,7 @@ abbrev pub hold_with : Hold → Lists → Hold
 hold_with hold now = record { lock = hold.lock; cpu = hold.cpu; log = hold.log; now = now; lost = hold.lost }
 
 abbrev pub with_marks : List ℕ → Notes
-with_marks marks = record { came = []; marks = marks; asked = []; owners = []; homes = [] }
+with_marks marks = record { came = []; marks = marks; asked = []; owners = []; homes = []; flushed = []; off = [] }
 
 -- From where the bucket was taken: this lies in it now, the bits of these elements were set, and this is in hand.
 pub record Under (t : TableView) (hold : Hold) (below : List Notes) (q r : PassView) (now : Lists) (set : List ℕ) (hand : List InHand) : Type 0 where
@@ -282,9 +284,11 @@ module _ {t : TableView} {bucket : ℕ} {q r : PassView} {bodies : List Stored} 
           gone = λ _ c e h is _ _. absurd (not_local bucket c (sym named ∙ is));
         };
         notes_fit = record {
-          served = tt;
           marks_are = set_is;
           clears_are = refl;
+          reads = All-nil (WasRead []);
+          flushed = tt;
+          off = All-nil (λ e. flushes e (parts.Bucket part) ≡ true);
           held = subst (All (ProbeFits [])) (sym no_probes) (All-nil (ProbeFits []));
           came = All-nil (CameToHand r.view (hold_with b.hold now) (with_marks set));
         };
@@ -345,7 +349,7 @@ module _ {t : TableView} {bucket : ℕ} {q r : PassView} {bodies : List Stored} 
         allowed = subst (λ (h : Hold). Allows t.shape r.cpu (parts.Bucket part) (content t.shape (lock_named t.shape h.lock) h.log)) same can.may_put.allowed;
         same_marks = sym can.notes_fit.marks_are ∙ (ap (λ (n : Notes). n.marks) notes ∙ other.notes_fit.marks_are);
         same_clears = λ e. sym (ap (λ (p : Part). times e (clears p)) stands_is.1);
-        leaves = sym (subst (λ (h : Hold). told back ≡ content_after t.shape r.cpu (parts.Bucket part) (content t.shape (lock_named t.shape h.lock) h.log)) same can.may_put.told_is) ∙ other.may_put.told_is;
+        leaves = sym (subst (λ (h : Hold). told (lock_named t.shape h.lock) back ≡ content_after t.shape r.cpu (parts.Bucket part) (content t.shape (lock_named t.shape h.lock) h.log)) same can.may_put.told_is) ∙ other.may_put.told_is;
       }
 
   -- whether memory for the entry was found or not

@@ -1,10 +1,8 @@
 //! Turns of a key's bucket that look it up or take it out.
 
-ghost use Rattle.std.specs.Prelude.{◌≡◌, ◌<◌, ◌≤◌, IfErr, IfNone, IsTrue, None, Some, length, slice_get};
+ghost use Rattle.std.specs.Prelude.{◌≡◌, ◌<◌, IfErr, IfNone, None, Some, length};
 ghost use Rattle.map_types.specs.declared.kind.Side.TheVariants.{Sys};
-ghost use Rattle.map_types.specs.Kind.{is_lru};
 ghost use Rattle.map_types.specs.ValueLen.{value_len_of};
-ghost use Rattle.place_words.specs.Bodies.{present, without_key};
 ghost use Rattle.place_words.specs.Turns.{bucket_of_key};
 ghost use Rattle.place_table.specs.Calls.{reply_of_value};
 ghost use Rattle.place_table.specs.InBucket.{InBucket};
@@ -13,9 +11,11 @@ ghost use Rattle.lru_ops.specs.Under.{CanEnter, Enters, LooksUp, Deletes, TakesO
 
 use crate::map::LruMap;
 use bucket_chain::Chain;
-use bucket_entries::{deleted, lookup_got, lookup_missed, read_value, take_got, take_missed};
+use bucket_entries::{
+    body_at, body_out, deleted, lookup_got, lookup_missed, read_value, take_got, take_missed,
+};
 use map_types::{Absent, DomainId, Gate, Side};
-use percpu_values::{Body, BoxedBody};
+use percpu_values::BoxedBody;
 use place_table::{Content, Pass};
 use std::sync::Wait;
 
@@ -144,30 +144,5 @@ impl LruMap {
         self.table
             .give(pass, lock, Content::Bucket(chain), part, gate);
         Some(body)
-    }
-}
-
-/// Takes out the body at a place.
-fn body_out(chain: &mut Chain, place: u32) -> BoxedBody
-    requires { place < length chain.old.bodies }
-    ensures found { slice_get chain.old.bodies place ≡ Some result }
-    ensures present { present result.key chain.old.bodies ≡ Some result }
-    ensures bodies { chain.new.bodies ≡ without_key result.key chain.old.bodies }
-    ensures room { chain.old.spare ≤ chain.new.spare }
-{
-    match chain.take_out(place) {
-        Some(body) => body,
-        None => unreachable!(),
-    }
-}
-
-/// The body at a place.
-pub(crate) fn body_at(chain: &Chain, place: u32) -> &Body
-    requires { place < length chain.now.bodies }
-    ensures { slice_get chain.now.bodies place ≡ Some result.now }
-{
-    match chain.body(place) {
-        Some(body) => body,
-        None => unreachable!(),
     }
 }

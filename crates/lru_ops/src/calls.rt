@@ -1,6 +1,6 @@
 //! The calls on a map.
 
-ghost use Rattle.std.specs.Prelude.{◌≡◌, ℕ, ◌≤◌, ◌==◌, ◌&&◌, IfErr, IsTrue, length};
+ghost use Rattle.std.specs.Prelude.{◌≡◌, ℕ, ◌≤◌, ◌==◌, ◌&&◌, IfErr, IsTrue, false, length};
 ghost use Rattle.map_types.specs.declared.call.Verb.TheVariants as verbs;
 ghost use Rattle.map_types.specs.declared.kind.Side.TheVariants.{Sys};
 ghost use Rattle.map_types.specs.Kind.{is_lru, is_percpu};
@@ -12,15 +12,12 @@ ghost use Rattle.lru_ops.specs.Offers.{Gives, CanFreeLeft, HasFreedLeft, CanOffe
 
 use crate::map::{LruMap, LruRefusal};
 use crate::updates::Offered;
-use bucket_entries::Given;
+use bucket_entries::{BPF_EXIST, Given};
 use map_types::{Absent, Gate, Side};
 use percpu_values::BoxedBody;
 use place_table::Pass;
 use std::alloc::Global;
 use std::sync::Wait;
-
-/// The greatest flag of an update, BPF_EXIST.
-const BPF_EXIST: u32 = 2;
 
 impl LruMap {
     /// Copies to `out` what a side reads of a key: on LRU_PERCPU_HASH the value of the pass's CPU for a program, and those of
@@ -225,6 +222,7 @@ impl LruMap {
     fn only_writes(&self, flags: u32) -> bool
         ensures value { result ≡ (is_percpu self.now.shape.kind && (flags == 2)) }
         ensures evicts { IsTrue (is_lru self.now.shape.kind) }
+        ensures own_lists { self.now.shape.common ≡ false }
     {
         self.table.shape().kind.is_percpu() && flags == BPF_EXIST
     }

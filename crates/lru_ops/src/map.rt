@@ -10,7 +10,8 @@ ghost use Rattle.place_table.specs.Views.{is_among};
 ghost use Rattle.place_table.specs.Passes.{IsFirstPass, IsPassOf, IsInNoCall};
 ghost use Rattle.place_table.specs.Closing.{IsClosed};
 
-use key_hash::{bucket_of, jhash};
+use bucket_entries::bucket_number;
+use key_hash::jhash;
 use map_types::{NoMemory, Shape};
 use place_table::{Closed, Pass, PlaceTable};
 use std::alloc::Global;
@@ -71,9 +72,11 @@ impl LruMap {
         Ok((LruMap { table, alloc }, pass))
     }
 
-    /// The table of the map.
+    /// The table of the map, whose kind evicts, and whose CPUs have lists of their own.
     pub fn table(&self) -> &PlaceTable
-        ensures { result.now ≡ self.now }
+        ensures value { result.now ≡ self.now }
+        ensures evicts { IsTrue (is_lru self.now.shape.kind) }
+        ensures own_lists { self.now.shape.common ≡ false }
     {
         &self.table
     }
@@ -115,14 +118,4 @@ fn key_hash(shape: &Shape, key: &[u8]) -> u32
     ensures { result ≡ hash key.now shape.now.seed }
 {
     jhash(key, shape.seed)
-}
-
-/// The bucket of a key.
-fn bucket_number(shape: &Shape, key: &[u8]) -> u32
-    requires bounds { HasBounds shape.now }
-    requires key { length key.now ≡ shape.now.key_size }
-    ensures value { result ≡ bucket_of_key shape.now key.now }
-    ensures in_range { result < shape.now.buckets }
-{
-    bucket_of(jhash(key, shape.seed), shape.buckets)
 }

@@ -1,29 +1,21 @@
 //! Updates in a key's bucket.
 
-ghost use Rattle.std.specs.Prelude.{◌≡◌, ◌≢◌, ◌<◌, ◌≤◌, IfErr, IsTrue, Some, None, false, length};
+ghost use Rattle.std.specs.Prelude.{◌≡◌, ◌≢◌, ◌<◌, ◌≤◌, IfErr, IsTrue, Some, None, false};
 ghost use Rattle.map_types.specs.Kind.{is_percpu};
-ghost use Rattle.place_words.specs.declared.bucket_part.Put.TheVariants as puts;
 ghost use Rattle.place_words.specs.Bodies.{present};
 ghost use Rattle.place_words.specs.Buckets.{AllowsPut};
 ghost use Rattle.place_table.specs.InBucket.{InBucket, IsAt};
 ghost use Rattle.lru_ops.specs.Calls.{MayRefuse};
-ghost use Rattle.lru_ops.specs.Offers.{Gives, IsOffered, IsRefusal, PutsInPlace, Offers, Writes, OfferEnds, AloneEnds, Adds, Replaces, Forgot};
+ghost use Rattle.lru_ops.specs.Offers.{Gives, IsOffered, IsRefusal, PutsInPlace, Writes, OfferEnds, AloneEnds, Adds, Replaces, Forgot};
 
-use crate::buckets::body_at;
 use crate::map::{LruMap, LruRefusal};
 use bucket_chain::Chain;
-use bucket_entries::{Given, fill_body, write_value};
+use bucket_entries::{BPF_EXIST, BPF_NOEXIST, Given, body_at, fill_body, write_value};
 use map_types::{DomainId, Gate, Side};
 use percpu_values::BoxedBody;
 use place_table::{Content, Pass};
 use place_words::Put;
 use std::alloc::Global;
-
-/// The flag of an update that refuses a present key.
-const BPF_NOEXIST: u32 = 1;
-
-/// The flag of an update that refuses an absent key.
-const BPF_EXIST: u32 = 2;
 
 /// What an update that was offered an element left: its answer, and the body that has to be freed.
 pub(crate) struct Offered {

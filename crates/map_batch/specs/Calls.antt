@@ -1,12 +1,15 @@
 -- Maps of any kind as their tables, and what an update of one answers.
-use Rattle.std.specs.Prelude.{◌≡◌, ℕ, ◌<◌, ◌≤◌, IsFalse, List, Result, Ok, Err}
+use Rattle.std.specs.Prelude.{◌≡◌, ℕ, ◌<◌, ◌≤◌, IsTrue, IsFalse, List, MatchBool, Result, Ok, Err}
+use Rattle.map_types.specs.declared.call.Verb.{Verb}
 use Rattle.map_types.specs.declared.call.Verb.TheVariants.{Update}
 use Rattle.map_types.specs.declared.kind.MapKind.{MapKind}
 use Rattle.map_types.specs.declared.kind.Side.{Side}
 use Rattle.map_types.specs.declared.refusal.Errno.TheVariants.{Enoent, E2big, Enomem, Eexist, Einval, Enospc}
+use Rattle.map_types.specs.declared.reply.Reply.{Reply}
 use Rattle.map_types.specs.declared.reply.Reply.TheVariants as replies
+use Rattle.map_types.specs.Kind.{is_lru}
 use Rattle.place_words.specs.Turns.{bucket_of_key}
-use Rattle.place_table.specs.Calls.{Called}
+use Rattle.place_table.specs.Calls.{Called, CalledWhole}
 use Rattle.place_table.specs.Passes.{PassView, TableView}
 use Rattle.hash_ops.specs.declared.map.PlainRefusal.{PlainRefusal}
 use Rattle.hash_ops.specs.declared.map.PlainRefusal.TheVariants as plain
@@ -25,6 +28,11 @@ abbrev pub table_of : AnyMap → TableView
 table_of (Plain table) = table
 table_of (Lru table) = table
 
+-- A map of each sort has a kind of that sort, and the CPUs of one that evicts have lists of their own.
+abbrev pub IsOfItsSort : AnyMap → Type 0
+IsOfItsSort (Plain table) = IsFalse (is_lru table.shape.kind)
+IsOfItsSort (Lru table) = IsTrue (is_lru table.shape.kind) × IsFalse table.shape.common
+
 -- the answer of an update, as maps of each sort give it
 abbrev pub answer_of_plain : Result (Unit {0}) PlainRefusal → Result (Unit {0}) AnyRefusal
 answer_of_plain (Ok done) = Ok done
@@ -42,35 +50,44 @@ answer_of_lru (Err lru.Eexist) = Err (Refused Eexist)
 answer_of_lru (Err lru.Enomem) = Err (Refused Enomem)
 answer_of_lru (Err lru.NoMemory) = Err NoMemory
 
--- no memory was found for an update: the record of the turns of the key's bucket is lost
-abbrev pub FoundNoMemory : AnyMap → ℕ → List ℕ → PassView → PassView → Type 0
-FoundNoMemory (Plain table) flags key before after = plain_calls.FoundNoMemory table (bucket_of_key table.shape key) before after
-FoundNoMemory (Lru table) flags key before after = lru_calls.FoundNoMemory table flags key before after
+-- An update did what its turns tell, and answered so. On a map that doesn't evict no lock was given back without a part.
+abbrev pub Updated : TableView → PassView → PassView → Verb → Reply → Type 0
+Updated t before after verb reply = MatchBool (is_lru t.shape.kind) (Called t before after verb reply) (CalledWhole t before after verb reply)
 
--- no element was found for an update of a map that evicts, and its turns show why
-abbrev pub FoundNoElement : AnyMap → PassView → PassView → Side → ℕ → List ℕ → List ℕ → Type 0
-FoundNoElement (Plain table) before after side flags key value = ⊥
-FoundNoElement (Lru table) before after side flags key value = lru_calls.FoundNoElement table side flags key value before after
+-- A map that doesn't evict was full. One that evicts never is.
+abbrev pub FoundFull : TableView → PassView → PassView → Verb → Type 0
+FoundFull t before after verb = MatchBool (is_lru t.shape.kind) ⊥ (CalledWhole t before after verb (replies.Refused E2big))
+
+-- A map that evicts had no element to take, and its turns show why. On another map none is looked for.
+abbrev pub FoundNoElement : TableView → PassView → PassView → Side → ℕ → List ℕ → List ℕ → Type 0
+FoundNoElement t before after side flags key value = MatchBool (is_lru t.shape.kind) (lru_calls.FoundNoElement t side flags key value before after) ⊥
+
+-- No memory was found: the record of the turns of the key's bucket is lost.
+abbrev pub FoundNoMemory : TableView → ℕ → List ℕ → PassView → PassView → Type 0
+FoundNoMemory t flags key before after =
+    MatchBool (is_lru t.shape.kind)
+    (lru_calls.FoundNoMemory t flags key before after)
+    (plain_calls.FoundNoMemory t (bucket_of_key t.shape key) before after)
 
 -- Under which flags an update of a map of this kind is refused so: EINVAL for flags that aren't known, EEXIST only under BPF_NOEXIST
--- (1), ENOENT only under BPF_EXIST (2), E2BIG only where a key may be added, ENOMEM under any flags that are known under which an
--- element is taken, and want of memory under any flags that are known.
+-- (1), ENOENT only under BPF_EXIST (2), E2BIG only where a key may be added and the map doesn't evict, ENOMEM only on a map that evicts,
+-- under any flags that are known under which an element is taken, and want of memory under any flags that are known.
 abbrev pub MayRefuse : MapKind → ℕ → AnyRefusal → Type 0
 MayRefuse kind flags (Refused Einval) = 2 < flags
 MayRefuse kind flags (Refused Enoent) = flags ≡ 2
 MayRefuse kind flags (Refused Eexist) = flags ≡ 1
-MayRefuse kind flags (Refused E2big) = flags < 2
-MayRefuse kind flags (Refused Enomem) = (flags ≤ 2) × IsFalse (only_writes kind flags)
+MayRefuse kind flags (Refused E2big) = (flags < 2) × IsFalse (is_lru kind)
+MayRefuse kind flags (Refused Enomem) = (flags ≤ 2) × IsTrue (is_lru kind) × IsFalse (only_writes kind flags)
 MayRefuse kind flags (Refused Enospc) = ⊥
 MayRefuse kind flags NoMemory = flags ≤ 2
 
 -- What an update answers. Flags that aren't known are refused before anything is looked at.
-abbrev pub Updates : AnyMap → PassView → PassView → Side → ℕ → List ℕ → List ℕ → Result (Unit {0}) AnyRefusal → Type 0
-Updates map before after side flags key value (Ok done) = Called (table_of map) before after (Update side flags key value) replies.Done
-Updates map before after side flags key value (Err (Refused Einval)) = (after ≡ before) × Called (table_of map) before after (Update side flags key value) (replies.Refused Einval)
-Updates map before after side flags key value (Err (Refused Enoent)) = Called (table_of map) before after (Update side flags key value) (replies.Refused Enoent)
-Updates map before after side flags key value (Err (Refused Eexist)) = Called (table_of map) before after (Update side flags key value) (replies.Refused Eexist)
-Updates map before after side flags key value (Err (Refused E2big)) = Called (table_of map) before after (Update side flags key value) (replies.Refused E2big)
-Updates map before after side flags key value (Err (Refused Enomem)) = FoundNoElement map before after side flags key value
-Updates map before after side flags key value (Err (Refused Enospc)) = ⊥
-Updates map before after side flags key value (Err NoMemory) = FoundNoMemory map flags key before after
+abbrev pub Updates : TableView → PassView → PassView → Side → ℕ → List ℕ → List ℕ → Result (Unit {0}) AnyRefusal → Type 0
+Updates t before after side flags key value (Ok done) = Updated t before after (Update side flags key value) replies.Done
+Updates t before after side flags key value (Err (Refused Einval)) = (after ≡ before) × Updated t before after (Update side flags key value) (replies.Refused Einval)
+Updates t before after side flags key value (Err (Refused Enoent)) = Updated t before after (Update side flags key value) (replies.Refused Enoent)
+Updates t before after side flags key value (Err (Refused Eexist)) = Updated t before after (Update side flags key value) (replies.Refused Eexist)
+Updates t before after side flags key value (Err (Refused E2big)) = FoundFull t before after (Update side flags key value)
+Updates t before after side flags key value (Err (Refused Enomem)) = FoundNoElement t before after side flags key value
+Updates t before after side flags key value (Err (Refused Enospc)) = ⊥
+Updates t before after side flags key value (Err NoMemory) = FoundNoMemory t flags key before after

@@ -9,7 +9,7 @@ ghost use Rattle.place_table.specs.Calls.{CanCall, Called, reply_of_value, reply
 ghost use Rattle.place_table.specs.Closing.{IsClosed};
 ghost use Rattle.place_table.specs.Passes.{IsFirstPass, IsPassOf, IsInNoCall};
 ghost use Rattle.place_table.specs.Views.{is_among};
-ghost use Rattle.map_batch.specs.Calls.{table_of, Updates, MayRefuse, answer_of_plain, answer_of_lru};
+ghost use Rattle.map_batch.specs.Calls.{table_of, IsOfItsSort, Updates, MayRefuse, answer_of_plain, answer_of_lru};
 
 use hash_ops::{PlainMap, PlainRefusal};
 use lru_ops::{LruMap, LruRefusal};
@@ -52,9 +52,10 @@ impl AnyMap {
         }
     }
 
-    /// The table of the map.
+    /// The table of the map, whose kind evicts exactly where the map does.
     pub fn table(&self) -> &PlaceTable
-        ensures { result.now ≡ table_of self.now }
+        ensures value { result.now ≡ table_of self.now }
+        ensures sort { IsOfItsSort self.now }
     {
         match self {
             AnyMap::Plain(map) => map.table(),
@@ -101,8 +102,10 @@ impl AnyMap {
     }
 
     /// Updates a key with a value of a side's length, by flags: BPF_ANY (0), BPF_NOEXIST (1) or BPF_EXIST (2). The trace says
-    /// which error is answered; `Einval` comes before anything is looked at. `Enomem` comes only of a map that evicts, and shows
-    /// why no element was found. Where no memory was found, the record of the turns of the key's bucket is lost.
+    /// which error is answered; `Einval` comes before anything is looked at. `E2big` comes only of a map that doesn't evict, and
+    /// `Enomem` only of one that does, and shows why no element was found. Where no memory was found, the record of the turns of
+    /// the key's bucket is lost; with any other answer of a map that doesn't evict no lock was given back without a part. The
+    /// rules are those of `PlainMap::update` and `LruMap::update`.
     pub fn update<R: Wait, G: Gate>(
         &self,
         rt: &R,
@@ -117,9 +120,11 @@ impl AnyMap {
         requires can { CanCall (table_of self.now) pass.old }
         requires key { length key.now ≡ (table_of self.now).shape.key_size }
         requires value { length value.now ≡ value_len_of (table_of self.now).shape side }
-        ensures updates { Updates self.now pass.old pass.new side flags key.now value.now result }
+        ensures updates { Updates (table_of self.now) pass.old pass.new side flags key.now value.now result }
         ensures refuses { IfErr result (MayRefuse (table_of self.now).shape.kind flags) }
     {
+        // Which answers there are goes by the map's kind.
+        let _table = self.table();
         match self {
             AnyMap::Plain(map) => {
                 plain_answer(map.update(rt, alloc, pass, side, flags, key, value, gate))

@@ -10,14 +10,14 @@ use Rattle.place_words.specs.declared.history.Part.{Part}
 use Rattle.place_words.specs.declared.history.Part.TheVariants as parts
 use Rattle.place_words.specs.declared.visits.Visit.{Visit}
 use Rattle.place_words.specs.Choices.{among, with_bits, without_bits}
-use Rattle.place_words.specs.Histories.{content, Allows, marks, bits_cleared, also_cleared, clears}
+use Rattle.place_words.specs.Histories.{content, Allows, marks, bits_read, bits_cleared, also_cleared, clears}
 use Rattle.place_words.specs.Locks.{is_same_lock, lock_named}
 use Rattle.place_words.specs.Logs.{State, turned, all_turned}
 use Rattle.place_words.specs.Rotation.{visited_elements}
 use Rattle.place_words.proofs.LockLemmas.{one_number, same_lock, other_lock}
-use Rattle.place_core.proofs.ElementLemmas.{at_put}
+use Rattle.place_core.proofs.ElementLemmas.{at_put, by_test}
 use Rattle.place_table.specs.declared.view.Turned.{Turned}
-use Rattle.place_table.specs.Calls.{sets_bit, clears_found, clears_bit, bits_of_part}
+use Rattle.place_table.specs.Calls.{sets_bit, clears_found, clears_bit, reads_bit, bits_of_part}
 use Rattle.place_table.specs.Known.{BitTouch, bit_then, bit_after_all, SeesBit, SeeOn, log_after, logs_after, FollowOn, turn_of, turn_at, IsBy}
 use Rattle.place_table.specs.Views.{place_of, kept_step}
 use Rattle.map_report.specs.Runs.{steps_of_turns}
@@ -80,13 +80,34 @@ after_only_clears visits es e b =
     ∙ after_clears es e (cond (among (visited_elements visits) e) false b)
     ∙ ap Some (cleared_both e (visited_elements visits) es b)
 
--- what a turn tells of bits leads to what it leaves
-part_bits : (shape : Shape) (part : Part) (bits : ℕ → Bool) (e : ℕ) → bit_after_all e (Some (bits e)) (bits_of_part shape part) ≡ Some (with_bits (marks shape part) (without_bits (clears part) bits) e)
-part_bits shape (parts.Bucket part) bits e = after_only_marks (marks shape (parts.Bucket part)) e (bits e)
-part_bits shape (parts.Free part) bits e = refl
-part_bits shape (parts.Local part) bits e = after_only_clears (bits_cleared (parts.Local part)) (also_cleared (parts.Local part)) e (bits e)
-part_bits shape (parts.Global part) bits e = after_only_clears (bits_cleared (parts.Global part)) (also_cleared (parts.Global part)) e (bits e)
-part_bits shape (parts.Own part) bits e = after_only_clears (bits_cleared (parts.Own part)) (also_cleared (parts.Own part)) e (bits e)
+-- reads leave a bit as they found it
+after_reads : (visits : List Visit) (e : ℕ) (b : Bool) → SeeOn e (Some b) (map reads_bit visits) → bit_after_all e (Some b) (map reads_bit visits) ≡ Some b
+after_reads [] e b see = refl
+after_reads (visit ∷ visits) e b see =
+    let stays : bit_then e (Some b) (reads_bit visit) ≡ Some b = by_test visit.element e (λ c. cond c (Some visit.bit) (Some b) ≡ Some b) (λ same. ap Some (see.0 same)) (λ _. refl) in
+    ap (λ (o : Option Bool). bit_after_all e o (map reads_bit visits)) stays ∙ after_reads visits e b (subst (λ (o : Option Bool). SeeOn e o (map reads_bit visits)) stays see.1)
+
+-- reads, and then clears
+after_reads_and_clears : (reads visits : List Visit) (es : List ℕ) (e : ℕ) (b : Bool) → SeeOn e (Some b) (((map reads_bit reads ++ []) ++ map clears_found visits) ++ map clears_bit es)
+    → bit_after_all e (Some b) (((map reads_bit reads ++ []) ++ map clears_found visits) ++ map clears_bit es) ≡ Some (cond (among (visited_elements visits ++ es) e) false b)
+after_reads_and_clears reads visits es e b see =
+    let read : List BitTouch = map reads_bit reads in
+    let found : List BitTouch = map clears_found visits in
+    let cleared : List BitTouch = map clears_bit es in
+    let seen = see_both e (Some b) read [] (see_both e (Some b) (read ++ []) found (see_both e (Some b) ((read ++ []) ++ found) cleared see).0).0 in
+    let stays : bit_after_all e (Some b) (read ++ []) ≡ Some b = bits_both e (Some b) read [] ∙ after_reads reads e b seen.0 in
+    bits_both e (Some b) ((read ++ []) ++ found) cleared
+    ∙ ap (λ (o : Option Bool). bit_after_all e o cleared) (bits_both e (Some b) (read ++ []) found ∙ ap (λ (o : Option Bool). bit_after_all e o found) stays)
+    ∙ sym (bits_both e (Some b) found cleared)
+    ∙ after_only_clears visits es e b
+
+-- what a turn tells of bits leads to what it leaves, where it tells what was there
+part_bits : (shape : Shape) (part : Part) (bits : ℕ → Bool) (e : ℕ) → SeeOn e (Some (bits e)) (bits_of_part shape part) → bit_after_all e (Some (bits e)) (bits_of_part shape part) ≡ Some (with_bits (marks shape part) (without_bits (clears part) bits) e)
+part_bits shape (parts.Bucket part) bits e see = after_only_marks (marks shape (parts.Bucket part)) e (bits e)
+part_bits shape (parts.Free part) bits e see = refl
+part_bits shape (parts.Local part) bits e see = after_reads_and_clears (bits_read (parts.Local part)) (bits_cleared (parts.Local part)) (also_cleared (parts.Local part)) e (bits e) see
+part_bits shape (parts.Global part) bits e see = after_only_clears (bits_cleared (parts.Global part)) (also_cleared (parts.Global part)) e (bits e)
+part_bits shape (parts.Own part) bits e see = after_only_clears (bits_cleared (parts.Own part)) (also_cleared (parts.Own part)) e (bits e)
 
 -- visits whose clears go on from what was known find these bits
 finds : (n : ℕ) (known : ℕ → Option Bool) (bits : ℕ → Bool) (visits : List Visit) → BitsAre n known bits → ((e : ℕ) → SeeOn e (known e) (map clears_found visits)) → FindBits n bits visits
@@ -162,7 +183,7 @@ module _ (shape : Shape) (cpu number : ℕ) where
       subst (λ (l : List Entry). Allows shape cpu part (content shape lock l)) (are step.lock)
       (subst (λ (c : ℕ). Allows shape c part (content shape lock (logs step.lock))) by_here.0 follow.0.allowed) in
       let bits_next : BitsAre shape.elements (λ e. bit_after_all e (known e) (bits_of_part shape part)) next.bits =
-      (λ e real. ap (λ (o : Option Bool). bit_after_all e o (bits_of_part shape part)) (bits e real) ∙ part_bits shape part state.bits e) in
+      (λ e real. ap (λ (o : Option Bool). bit_after_all e o (bits_of_part shape part)) (bits e real) ∙ part_bits shape part state.bits e (subst (λ (o : Option Bool). SeeOn e o (bits_of_part shape part)) (bits e real) (apart e).0)) in
       let rest = made_by steps next (log_after logs step) (λ e. bit_after_all e (known e) (bits_of_part shape part)) (logs_more logs state step by_here are) bits_next follow.1 (λ e. (apart e).1) (All-tail (IsBy cpu number) step steps by) in
       record {
         made = (record { there = follow.0.there; earlier = earlier; allowed = allowed; bits = part_finds shape part shape.elements known state.bits bits (λ e. (apart e).0) }, rest.made);

@@ -4,20 +4,25 @@ use Rattle.place_words.specs.declared.bucket_part.BucketPart.TheVariants.{Lookup
 use Rattle.place_words.specs.declared.bucket_part.Seen.TheVariants.{Removed, Held}
 use Rattle.place_words.specs.declared.history.Part.{Part}
 use Rattle.place_words.specs.declared.history.Part.TheVariants as parts
+use Rattle.place_words.specs.declared.list_part.GlobalPart.TheVariants as global
+use Rattle.place_words.specs.declared.visits.Flush.{Flush}
 use Rattle.place_words.specs.declared.home.Home.{Home}
 use Rattle.place_words.specs.declared.home.Home.TheVariants as homes
+use Rattle.place_words.specs.Codes.{home_code}
 use Rattle.place_words.specs.Locks.{lock_number}
 use Rattle.place_words.specs.declared.owner.Owner.{Owner}
 use Rattle.place_words.specs.declared.owner.Owner.TheVariants as owners
 use Rattle.place_core.specs.declared.step.Lists.{Lists}
 use Rattle.place_core.proofs.ElementLemmas.{by_test}
 use Rattle.map_types.specs.declared.attr.Shape.{Shape}
+use Rattle.map_types.specs.declared.kind.DomainId.{DomainId}
+use Rattle.map_types.specs.declared.kind.DomainId.TheVariants.{Local, Global, CpuLru, Bucket, Freelist}
 use Rattle.map_types.specs.ElementLists.{times, IsIn}
 use Rattle.place_table.specs.declared.view.Hold.{Hold}
 use Rattle.place_table.specs.declared.view.Notes.{Notes}
 use Rattle.place_table.specs.declared.view.WordStep.{WordStep}
 use Rattle.place_table.specs.Rules.{AreNoted}
-use Rattle.place_table.specs.Views.{is_among, hold_at, came_at, came_last, with_mark, with_clear, with_bit_read, with_owner_read, with_home_read, with_came, with_come_home, with_now, held_without, held_with, notes_below, owners_passed}
+use Rattle.place_table.specs.Views.{is_among, hold_at, came_at, came_last, with_mark, with_clear, with_bit_read, with_owner_read, with_home_read, with_flushed, with_came, with_come_home, with_off, left_local, with_left_home, with_now, held_without, held_with, notes_below, passed_on}
 use Rattle.place_table.proofs.Worlds.{none_some}
 
 -- Other notes
@@ -47,6 +52,11 @@ came_home_read e home k held [] = refl
 came_home_read e home k [] (n ∷ ns) = refl
 came_home_read e home k (h ∷ hs) (n ∷ ns) = refl
 
+pub came_flushed : (flushed : List Flush) (k : ℕ) (held : List Hold) (notes : List Notes) → came_at k held (with_flushed flushed notes) ≡ came_at k held notes
+came_flushed flushed k held [] = refl
+came_flushed flushed k [] (n ∷ ns) = refl
+came_flushed flushed k (h ∷ hs) (n ∷ ns) = refl
+
 -- Locks
 
 pub came_first : (h : Hold) (below : List Hold) (notes : List Notes) → came_at h.lock (h ∷ below) notes ≡ came_last notes
@@ -60,7 +70,7 @@ came_other k h (x ∷ xs) [] other = refl
 came_other k h below (n ∷ ns) other =
     by_test h.lock k (λ b. cond b n.came (came_at k below ns) ≡ came_at k below ns) (λ same. absurd (other (sym same))) (λ _. refl)
 
-pub came_passed : (part : Part) (k : ℕ) (held : List Hold) (notes : List Notes) → came_at k held (owners_passed part notes) ≡ came_at k held notes
+pub came_passed : (part : Part) (k : ℕ) (held : List Hold) (notes : List Notes) → came_at k held (passed_on part notes) ≡ came_at k held notes
 came_passed (parts.Bucket (Lookup side key got)) k held notes = refl
 came_passed (parts.Bucket (Update side flags key value offer put)) k held notes = refl
 came_passed (parts.Bucket (Delete key removed)) k held notes = refl
@@ -72,7 +82,8 @@ came_passed (parts.Bucket (Evict e Removed)) k held notes = refl
 came_passed (parts.Bucket (Evict e (Held holder))) k held notes = came_owner_read e (owners.Hand holder) k held notes
 came_passed (parts.Free part) k held notes = refl
 came_passed (parts.Local part) k held notes = refl
-came_passed (parts.Global part) k held notes = refl
+came_passed (parts.Global (global.Turn flushed active inactive free shrink)) k held notes = came_flushed flushed k held notes
+came_passed (parts.Global (global.Push e)) k held notes = refl
 came_passed (parts.Own part) k held notes = refl
 
 -- Elements
@@ -109,10 +120,44 @@ came_with shape homes.Unlisted owner e m held notes = refl
 came_with shape (homes.In lock) owner e m held notes = came_now (lock_number shape lock) m _ held notes
 came_with shape (homes.Hand c) owner e m held notes = refl
 
-pub came_home : (shape : Shape) (home : Home) (e m x : ℕ) (held : List Hold) (notes : List Notes) → is_among x (came_at m held notes) ≡ true → is_among x (came_at m held (with_come_home shape home e held notes)) ≡ true
-came_home shape homes.Unlisted e m x held notes inside = inside
-came_home shape (homes.In lock) e m x held notes inside = came_more (lock_number shape lock) e m x held notes inside
-came_home shape (homes.Hand c) e m x held notes inside = inside
+pub came_home : (shape : Shape) (from to : Home) (e m x : ℕ) (held : List Hold) (notes : List Notes) → is_among x (came_at m held notes) ≡ true → is_among x (came_at m held (with_come_home shape from to e held notes)) ≡ true
+came_home shape from homes.Unlisted e m x held notes inside = inside
+came_home shape from (homes.In lock) e m x held notes inside =
+    by_test (home_code from) (home_code (homes.In lock)) (λ b. is_among x (came_at m held (cond b notes (with_came (lock_number shape lock) e held notes))) ≡ true)
+    (λ _. inside) (λ _. came_more (lock_number shape lock) e m x held notes inside)
+came_home shape from (homes.Hand c) e m x held notes inside = inside
+
+-- what leaves local lists for the global ones doesn't come
+came_off : (k e m : ℕ) (held : List Hold) (notes : List Notes) → came_at m held (with_off k e held notes) ≡ came_at m held notes
+came_off k e m [] notes = refl
+came_off k e m (h ∷ hs) [] = refl
+came_off k e m (h ∷ hs) (n ∷ ns) =
+    by_test h.lock k (λ b. came_at m (h ∷ hs) (cond b (record n { off = e ∷ n.off } ∷ ns) (n ∷ with_off k e hs ns)) ≡ came_at m (h ∷ hs) (n ∷ ns))
+    (λ _. refl) (λ _. ap (cond (eqb h.lock m) n.came) (came_off k e m hs ns))
+
+came_left_local : (shape : Shape) (from : Home) (e m : ℕ) (held : List Hold) (notes : List Notes) → came_at m held (left_local shape from e held notes) ≡ came_at m held notes
+came_left_local shape homes.Unlisted e m held notes = refl
+came_left_local shape (homes.In (Local c)) e m held notes = came_off (lock_number shape (Local c)) e m held notes
+came_left_local shape (homes.In Global) e m held notes = refl
+came_left_local shape (homes.In (CpuLru c)) e m held notes = refl
+came_left_local shape (homes.In (Bucket b)) e m held notes = refl
+came_left_local shape (homes.In (Freelist c)) e m held notes = refl
+came_left_local shape (homes.Hand c) e m held notes = refl
+
+pub came_left_home : (shape : Shape) (from to : Home) (e m : ℕ) (held : List Hold) (notes : List Notes) → came_at m held (with_left_home shape from to e held notes) ≡ came_at m held notes
+came_left_home shape from homes.Unlisted e m held notes = refl
+came_left_home shape from (homes.In (Local c)) e m held notes = refl
+came_left_home shape from (homes.In Global) e m held notes = came_left_local shape from e m held notes
+came_left_home shape from (homes.In (CpuLru c)) e m held notes = refl
+came_left_home shape from (homes.In (Bucket b)) e m held notes = refl
+came_left_home shape from (homes.In (Freelist c)) e m held notes = refl
+came_left_home shape from (homes.Hand c) e m held notes = refl
+
+-- it is noted where it comes from another home
+pub come_from_other : (shape : Shape) (from : Home) (lock : DomainId) (e : ℕ) (held : List Hold) (notes : List Notes) → home_code from ≢ home_code (homes.In lock) → with_come_home shape from (homes.In lock) e held notes ≡ with_came (lock_number shape lock) e held notes
+come_from_other shape from lock e held notes other =
+    by_test (home_code from) (home_code (homes.In lock)) (λ b. cond b notes (with_came (lock_number shape lock) e held notes) ≡ with_came (lock_number shape lock) e held notes)
+    (λ same. absurd (other same)) (λ _. refl)
 
 pub came_here : (shape : Shape) (steps : List WordStep) (k e : ℕ) (x : Hold) (held : List Hold) (notes : List Notes) → AreNoted shape steps held notes → hold_at k held ≡ Some x → is_among e (came_at k held (with_came k e held notes)) ≡ true
 came_here shape steps k e x [] notes noted found = absurd (none_some found)

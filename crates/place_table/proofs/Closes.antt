@@ -43,8 +43,6 @@ use Rattle.place_table.proofs.Touches.{are_touches_of}
 -- what was true at the end, before anything is handed out
 pub record AtEnd (shape : Shape) (v : View) (words : List ℕ) (slots : List Behind) : Type 0 where
   pub shape_is : v.shape ≡ shape
-  -- no lists are shared
-  pub own_lists : shape.common ≡ false
   pub log : ℕ → List Entry
   pub lost : ℕ → Bool
   pub core : cores.State
@@ -150,7 +148,6 @@ module _ (shape : Shape) (s : State Behind View) (r : Rule shape s) (pass : ℕ)
   at_end words slots words_are counted given_back =
       let w = r.world in let kn = r.knows pass v at_pass in record {
         shape_is = kn.shape_is;
-        own_lists = r.own_lists;
         log = λ k. entries (w.log k);
         lost = w.lost;
         core = w.core;
@@ -189,9 +186,10 @@ neither true y e = true_false e
 neither false y e = (refl, e)
 
 -- the bodies of a bucket have the sizes of the map
-told_sized : (shape : Shape) (bucket : ℕ) (here : Content) → Fits shape (named.Bucket bucket) here → All (IsSized shape) (unwrap_or (bucket_in (told here)) [])
+told_sized : (shape : Shape) (bucket : ℕ) (here : Content) → Fits shape (named.Bucket bucket) here → All (IsSized shape) (unwrap_or (bucket_in (told (named.Bucket bucket) here)) [])
 told_sized shape bucket (lying.Bucket chain) fits = fits
 told_sized shape bucket (lying.Freelist freelist) fits = absurd fits
+told_sized shape bucket (lying.Local lists) fits = absurd fits
 told_sized shape bucket (lying.Set set) fits = absurd fits
 
 bodies_sized : (shape : Shape) (v : View) (words : List ℕ) (slots : List Behind) (e : AtEnd shape v words slots) (bit : ℕ → Bool) (spares : List (Option Stored)) (bucket : ℕ) → bucket < shape.buckets
@@ -203,7 +201,7 @@ bodies_sized shape v words slots e bit spares bucket less =
     let same : lock_named shape k ≡ lock = named_by_number shape lock there in
     let at = e.slots_are.each k (number_within shape lock there) (passes_named lock k same there) in
     subst (λ (c : histories.Content). All (IsSized shape) (unwrap_or (bucket_in c) []))
-    (at.2.told_is ∙ ap (λ (l : DomainId). content shape l (e.log k)) same)
+    (subst (λ (l : DomainId). told l at.2.here ≡ content shape l (e.log k)) same at.2.told_is)
     (told_sized shape bucket at.2.here (subst (λ (l : DomainId). Fits shape l at.2.here) same at.2.fits))
   where
     passes_named : (lock : DomainId) (k : ℕ) → lock_named shape k ≡ lock → is_lock shape lock ≡ true → has_lock shape k ≡ true

@@ -10,8 +10,9 @@ use Rattle.map_types.specs.Creation.{IsShape}
 use Rattle.map_types.proofs.CreationLemmas.{bounds_of_shape}
 use Rattle.place_words.specs.declared.owner.Owner.{Owner}
 use Rattle.place_words.specs.declared.owner.Owner.TheVariants.{Free, Bucket, Hand}
+use Rattle.place_words.specs.declared.home.Home.{Home}
 use Rattle.place_words.specs.declared.home.Home.TheVariants as homes
-use Rattle.place_words.specs.Codes.{owner_code, HasOwnerCode, HasHomeCode}
+use Rattle.place_words.specs.Codes.{owner_code, home_code, HasOwnerCode, HasHomeCode}
 use Rattle.place_words.specs.Locks.{lock_named}
 use Rattle.place_core.specs.Places.{Place, lies, carried, home_of_place, MayOwn, MayLie, MayLieUnder}
 use Rattle.place_table.proofs.Worlds.{true_false}
@@ -28,6 +29,10 @@ one_owner (Bucket bucket) Free has has_other same = absurd (omega arith)
 one_owner (Bucket bucket) (Hand cpu) has has_other same = absurd (omega arith)
 one_owner (Bucket bucket) (Bucket b) has has_other same = ap Bucket (omega arith)
 
+-- and so are two homes
+pub one_home : (home other : Home) → HasHomeCode home → HasHomeCode other → home_code home ≡ home_code other → home ≡ other
+one_home home other has has_other same = grind arith
+
 -- each bucket and each CPU of a map has a code
 pub has_owner_code : (shape : Shape) (owner : Owner) → IsShape shape → MayOwn shape owner → HasOwnerCode owner
 has_owner_code shape Free is may = tt
@@ -35,7 +40,7 @@ has_owner_code shape (Hand cpu) is may = let bounds = bounds_of_shape shape is i
 has_owner_code shape (Bucket bucket) is may = let bounds = bounds_of_shape shape is in omega arith
 
 -- and so has the home of each element
-lies_has_code : (shape : Shape) (e : ℕ) (lru : Bool) (lock : DomainId) → HasBounds shape → is_lru shape.kind ≡ lru → MayLieUnder shape e lock → HasHomeCode (cond lru (homes.In lock) homes.Unlisted)
+pub lies_has_code : (shape : Shape) (e : ℕ) (lru : Bool) (lock : DomainId) → HasBounds shape → is_lru shape.kind ≡ lru → MayLieUnder shape e lock → HasHomeCode (cond lru (homes.In lock) homes.Unlisted)
 lies_has_code shape e false lock bounds evicts may = tt
 lies_has_code shape e true (locks.Local cpu) bounds evicts may =
     let few = bounds.cpus_bounded in

@@ -1,17 +1,26 @@
--- A list set as it is filled at first.
-use Rattle.std.proofs.Common.{◌≡◌, ℕ, zero, suc, ◌+◌, ◌-◌, ◌<◌, ◌≤◌, cond, List, [], ◌∷◌, length, drop, get_or, All, ap, ◌∙◌, sym, subst, arith}
+-- A list set as it is filled at first, and local lists, which are empty.
+use Rattle.std.proofs.Common.{◌≡◌, ℕ, zero, suc, ◌+◌, ◌-◌, ◌<◌, ◌≤◌, true, cond, ltb, List, [], ◌∷◌, length, drop, get_or, All, Some, ap, ◌∙◌, sym, subst, ⊎_elim, ◌⊎◌, arith}
+use Rattle.std.proofs.lemmas.Bool.{and_parts, ltb-true}
 use Rattle.std.proofs.Math.Seq.{drop-cons, drop-length}
 use Rattle.std.proofs.lemmas.List.{length-map, length-drop}
 use Rattle.std.proofs.lemmas.List.Elements.{All-nil, All-cons}
 use Rattle.map_types.specs.declared.attr.Shape.{Shape}
+use Rattle.map_types.specs.declared.kind.DomainId.{DomainId}
+use Rattle.map_types.specs.declared.kind.DomainId.TheVariants.{Local, Global, CpuLru}
 use Rattle.map_types.specs.ElementLists.{times, IsIn}
 use Rattle.map_types.specs.Listed.{elements_of}
 use Rattle.map_types.specs.Stored.{Stored}
 use Rattle.place_words.specs.Bodies.{numbers}
+use Rattle.place_words.specs.Histories.{in_locals, in_global, in_own}
+use Rattle.place_words.specs.Locks.{is_lock}
+use Rattle.place_words.specs.Openings.{opening_free}
 use Rattle.place_words.specs.Sets.{ListSet, new_set}
+use Rattle.local_lists.specs.LocalLists.{LocalView, IsLocal, local_told, empty_local}
 use Rattle.lru_lists.specs.Sets.{SetView, IsSet, empty_set, times_on, with_free, pushed}
 use Rattle.place_core.proofs.ElementLemmas.{by_test, times_cons_same}
+use Rattle.place_table.specs.declared.content.Content.TheVariants as lying
 use Rattle.place_table.specs.Contents.{set_told, IsSized, FitsSet}
+use Rattle.place_table.specs.Opening.{IsFirstContent}
 
 -- nothing is listed, and of these elements those from a place on are free
 pub record IsFilled (shape : Shape) (elements : List ℕ) (from : ℕ) (set : SetView) : Type 0 where
@@ -96,3 +105,31 @@ module _ (shape : Shape) (elements : List ℕ) (from now : ℕ) (set : SetView) 
 -- at the end all are free
 pub filled_told : (shape : Shape) (elements : List ℕ) (from : ℕ) (set : SetView) → IsFilled shape elements from set → from ≡ 0 → set_told set ≡ new_set elements
 filled_told shape elements from set filled none = filled.told ∙ ap (λ (n : ℕ). new_set (drop n elements)) none
+
+-- a list set lies under the lock of a CPU's own set, or under the global lock
+pub set_first : (shape : Shape) (lock : DomainId) (free : List ℕ) (set : SetView) → ((cpu : ℕ) × (lock ≡ CpuLru cpu)) ⊎ (lock ≡ Global)
+    → free ≡ opening_free shape lock → set_told set ≡ new_set free → FitsSet shape set → IsFirstContent shape lock (Some (lying.Set set))
+set_first shape lock free set among free_is told fits =
+    ⊎_elim
+    (λ (own : (cpu : ℕ) × (lock ≡ CpuLru cpu)). subst (λ (l : DomainId). IsFirstContent shape l (Some (lying.Set set))) (sym own.1) (ap in_own (filled own.1), fits))
+    (λ (global : lock ≡ Global). subst (λ (l : DomainId). IsFirstContent shape l (Some (lying.Set set))) (sym global) (ap in_global (filled global), fits))
+    among
+  where
+    filled : {other : DomainId} → lock ≡ other → set_told set ≡ new_set (opening_free shape other)
+    filled same = told ∙ ap new_set (free_is ∙ ap (opening_free shape) same)
+
+-- local lists are empty, and the first theft starts at their own CPU
+pub locals_first : (shape : Shape) (lock : DomainId) (cpu : ℕ) (lists : LocalView) → lock ≡ Local cpu → is_lock shape lock ≡ true → lists ≡ empty_local shape.elements cpu → IsLocal lists
+    → IsFirstContent shape lock (Some (lying.Local lists))
+locals_first shape lock cpu lists lock_is there is whole =
+    let few : cpu < shape.cpus = ltb-true cpu shape.cpus (and_parts shape.common (ltb cpu shape.cpus) (ap (is_lock shape) (sym lock_is) ∙ there)).1 in
+    subst (λ (l : DomainId). IsFirstContent shape l (Some (lying.Local lists))) (sym lock_is) (
+      ap (λ (now : LocalView). in_locals (local_told now)) is,
+      record {
+        sized = subst (λ (now : LocalView). All (IsSized shape) now.free.bodies) (sym is) (All-nil (IsSized shape));
+        bound = ap (λ (now : LocalView). now.elements) is;
+        room = ap (λ (now : LocalView). length now.free.bodies + now.free.spare) is ∙ omega arith;
+        whole = whole;
+        steal = subst (λ (now : LocalView). now.steal < shape.cpus) (sym is) few;
+      },
+    )

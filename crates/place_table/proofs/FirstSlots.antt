@@ -1,18 +1,18 @@
 -- What lies under each lock at first.
-use Rattle.std.proofs.Common.{◌≡◌, ℕ, suc, ◌+◌, ◌<◌, ◌≤◌, Bool, true, false, not, ◌&&◌, cond, ltb, List, [], ◌∷◌, ◌++◌, length, ap, ◌∙◌, sym, subst, ⊎_elim, ◌⊎◌, arith}
+use Rattle.std.proofs.Common.{◌≡◌, ℕ, suc, ◌+◌, ◌<◌, ◌≤◌, Bool, true, false, not, ◌&&◌, cond, ltb, List, [], ◌∷◌, ◌++◌, length, ap, ◌∙◌, sym, subst, ⊎_elim, arith}
 use Rattle.std.specs.Prelude.{filter, nat_lt}
 use Rattle.std.proofs.lemmas.Bool.{cases_Bool, cases_eq, and_parts, ltb-true}
 use Rattle.std.proofs.lemmas.List.{length-append}
 use Rattle.atomic_table.proofs.Lists.{at_last, at_longer}
 use Rattle.map_types.specs.declared.attr.Shape.{Shape}
 use Rattle.map_types.specs.declared.kind.DomainId.{DomainId}
-use Rattle.map_types.specs.declared.kind.DomainId.TheVariants.{Local, Global, CpuLru, Freelist}
+use Rattle.map_types.specs.declared.kind.DomainId.TheVariants.{Local, Global, CpuLru, Bucket, Freelist}
 use Rattle.map_types.specs.ElementLists.{one, times, IsIn}
 use Rattle.map_types.specs.Shape.{HasBounds}
 use Rattle.map_types.specs.Kind.{is_lru}
 use Rattle.place_words.specs.Locks.{is_lock, lock_number}
 use Rattle.place_words.proofs.LockLemmas.{named_by_number}
-use Rattle.place_words.specs.Openings.{is_free, opening_owner, opening_stack, opening_free}
+use Rattle.place_words.specs.Openings.{is_free, opening_owner, opening_pushed, opening_free}
 use Rattle.place_words.specs.Shares.{share_count}
 use Rattle.place_core.specs.Opening.{opening, opening_lists}
 use Rattle.place_core.proofs.OpeningLaws.{opening_placed}
@@ -20,7 +20,7 @@ use Rattle.place_core.proofs.OpeningLemmas.{first_next, first_up, first_of_all}
 use Rattle.place_core.proofs.RowLemmas.{stands_where}
 use Rattle.place_table.specs.declared.content.Behind.{Behind}
 use Rattle.place_table.specs.Opening.{IsFirstSlot, AreFirstSlots}
-use Rattle.place_table.proofs.FirstSpares.{length_stack}
+use Rattle.place_table.proofs.FirstSpares.{length_pushed, length_stack}
 
 -- Locks
 
@@ -32,16 +32,9 @@ not_common shape bounds plain =
     (λ (own : shape.common ≡ false). own)
     (cases_Bool shape.common)
 
--- a map whose CPUs share no lists has neither local nor global ones
+-- a map whose CPUs share no lists has no local ones
 pub no_local : (shape : Shape) (cpu : ℕ) → shape.common ≡ false → is_lock shape (Local cpu) ≡ false
 no_local shape cpu own = ap (λ b. b && ltb cpu shape.cpus) own
-
-pub no_lists : (shape : Shape) (lock : DomainId) → shape.common ≡ false → ((cpu : ℕ) × (lock ≡ Local cpu)) ⊎ (lock ≡ Global) → is_lock shape lock ≡ false
-no_lists shape lock own among =
-    ⊎_elim
-    (λ (local : (cpu : ℕ) × (lock ≡ Local cpu)). ap (is_lock shape) local.1 ∙ no_local shape local.0 own)
-    (λ (global : lock ≡ Global). ap (is_lock shape) global ∙ own)
-    among
 
 -- Free lists
 
@@ -60,27 +53,30 @@ share_within shape cpu bounds few =
     let whole = first_of_all shape bounds.some_cpu in
     omega arith
 
-share_in_list : (shape : Shape) (cpu : ℕ) (b : Bool) → share_count shape.elements shape.cpus cpu ≤ shape.elements → length (cond b (filter (λ e. is_free (opening_owner shape shape.kind e)) (opening_stack shape cpu)) []) ≤ shape.elements
-share_in_list shape cpu true within =
-    let fewer = length_filter (λ e. is_free (opening_owner shape shape.kind e)) (opening_stack shape cpu) in
+-- what is pushed under a lock of the map are no more elements than the map has
+pushed_few : (shape : Shape) (lock : DomainId) → HasBounds shape → is_lock shape lock ≡ true → length (opening_pushed shape lock) ≤ shape.elements
+pushed_few shape (Local cpu) bounds is = omega arith
+pushed_few shape Global bounds is = let all = length_pushed 0 shape.elements in omega arith
+pushed_few shape (CpuLru cpu) bounds is =
+    let few : cpu < shape.cpus = ltb-true cpu shape.cpus (and_parts (is_lru shape.kind && not shape.common) (ltb cpu shape.cpus) is).1 in
     let count = length_stack shape cpu in
+    let within = share_within shape cpu bounds few in
     omega arith
-share_in_list shape cpu false within = omega arith
+pushed_few shape (Bucket bucket) bounds is = omega arith
+pushed_few shape (Freelist cpu) bounds is =
+    let few : cpu < shape.cpus = ltb-true cpu shape.cpus (and_parts (not (is_lru shape.kind)) (ltb cpu shape.cpus) is).1 in
+    let count = length_stack shape cpu in
+    let within = share_within shape cpu bounds few in
+    omega arith
 
--- a freelist has room for what lies there, and so has a list set
-pub free_few : (shape : Shape) (lock : DomainId) (cpu : ℕ) → HasBounds shape → is_lock shape lock ≡ true → lock ≡ Freelist cpu → length (opening_free shape lock) ≤ shape.elements
+-- so a freelist and a list set have room for what is free there
+pub free_few : (shape : Shape) (lock : DomainId) → HasBounds shape → is_lock shape lock ≡ true → length (opening_free shape lock) ≤ shape.elements
 unfolding opening_free
-free_few shape lock cpu bounds is lock_is =
-    let there : is_lock shape (Freelist cpu) ≡ true = ap (is_lock shape) (sym lock_is) ∙ is in
-    let few : cpu < shape.cpus = ltb-true cpu shape.cpus (and_parts (not (is_lru shape.kind)) (ltb cpu shape.cpus) there).1 in
-    subst (λ (d : DomainId). length (opening_free shape d) ≤ shape.elements) (sym lock_is) (share_in_list shape cpu (is_lock shape (Freelist cpu)) (share_within shape cpu bounds few))
-
-pub free_few_in_set : (shape : Shape) (lock : DomainId) (cpu : ℕ) → HasBounds shape → is_lock shape lock ≡ true → lock ≡ CpuLru cpu → length (opening_free shape lock) ≤ shape.elements
-unfolding opening_free
-free_few_in_set shape lock cpu bounds is lock_is =
-    let there : is_lock shape (CpuLru cpu) ≡ true = ap (is_lock shape) (sym lock_is) ∙ is in
-    let few : cpu < shape.cpus = ltb-true cpu shape.cpus (and_parts (is_lru shape.kind && not shape.common) (ltb cpu shape.cpus) there).1 in
-    subst (λ (d : DomainId). length (opening_free shape d) ≤ shape.elements) (sym lock_is) (share_in_list shape cpu (is_lock shape (CpuLru cpu)) (share_within shape cpu bounds few))
+free_few shape lock bounds is =
+    let kept : List ℕ = filter (λ e. is_free (opening_owner shape shape.kind e)) (opening_pushed shape lock) in
+    let fewer : length kept ≤ length (opening_pushed shape lock) = length_filter (λ e. is_free (opening_owner shape shape.kind e)) (opening_pushed shape lock) in
+    let few = pushed_few shape lock bounds is in
+    subst (λ (b : Bool). length (cond b kept []) ≤ shape.elements) (sym is) (omega arith)
 
 -- what is free under a lock are elements of the map, each once
 times_free : (shape : Shape) (lock : DomainId) (e : ℕ) → HasBounds shape → is_lock shape lock ≡ true → (t : Bool) × (times e (opening_free shape lock) ≡ one (nat_lt e shape.elements && t))

@@ -33,7 +33,7 @@ stacks_more shape n =
     let here : 0 + n ≡ n = omega arith in
     ap (stacks shape) more ∙ (flat_more (opening_stack shape) 0 n ∙ ap (λ (k : ℕ). stacks shape n ++ opening_stack shape k) here)
 
-length_pushed : (a n : ℕ) → length (pushed_from a n) ≡ n
+pub length_pushed : (a n : ℕ) → length (pushed_from a n) ≡ n
 length_pushed a zero = refl
 length_pushed a (suc n) = ap suc (length_pushed a n)
 

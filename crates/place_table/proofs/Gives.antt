@@ -1,10 +1,10 @@
 -- From what a take tells to what a give asks.
-use Rattle.std.proofs.Common.{◌≡◌, ℕ, zero, suc, ◌<◌, cond, Bool, true, false, List, [], ◌∷◌, ◌++◌, sym, refl, ap, ◌∙◌, subst, arith, Option, Some, MatchOption}
-use Rattle.std.specs.Prelude.{IsTrue, All}
+use Rattle.std.proofs.Common.{◌≡◌, ◌≢◌, ℕ, zero, suc, ◌<◌, cond, Bool, true, false, List, [], ◌∷◌, ◌++◌, sym, refl, ap, ◌∙◌, subst, arith, Option, Some, MatchOption}
+use Rattle.std.specs.Prelude.{IsTrue}
 use Rattle.std.proofs.lemmas.List.Elements.{All-nil, All-head}
 use Rattle.map_types.specs.declared.attr.Shape.{Shape}
 use Rattle.map_types.specs.declared.kind.DomainId.{DomainId}
-use Rattle.map_types.specs.declared.kind.DomainId.TheVariants.{Bucket}
+use Rattle.map_types.specs.declared.kind.DomainId.TheVariants.{Local, Global, CpuLru, Bucket, Freelist}
 use Rattle.map_types.specs.Kind.{is_lru}
 use Rattle.percpu_values.specs.BodyList.{BodyList}
 use Rattle.place_words.specs.declared.bucket_part.BucketPart.TheVariants.{Lookup, Update, Delete, Take, Next, First, Walk, Evict}
@@ -13,17 +13,22 @@ use Rattle.place_words.specs.declared.history.Part.TheVariants as parts
 use Rattle.place_words.specs.Bodies.{first_key}
 use Rattle.place_words.specs.Buckets.{AllowsInBucket, bucket_after}
 use Rattle.map_types.specs.ElementLists.{times, one}
-use Rattle.place_words.specs.Histories.{content, content_after, Allows}
+use Rattle.place_words.specs.Histories as histories
+use Rattle.place_words.specs.Histories.{content, content_after, Allows, in_bucket, on_freelist, in_locals, in_global, in_own}
+use Rattle.place_words.specs.declared.list_part.GlobalPart.{GlobalPart}
+use Rattle.place_words.specs.Globals.{global_after}
+use Rattle.place_words.specs.Sets.{ListSet}
 use Rattle.place_words.specs.Locks.{is_lock, lock_named}
-use Rattle.place_words.specs.SerialOrder.{probes_in}
 use Rattle.place_words.proofs.LockLemmas.{named_by_number}
 use Rattle.place_core.specs.State.{rows}
+use Rattle.place_core.specs.declared.step.Lists.{Lists}
 use Rattle.place_table.specs.declared.content.Content.{Content}
 use Rattle.place_table.specs.declared.content.Content.TheVariants as contents
 use Rattle.map_types.specs.Stored.{Stored}
+use Rattle.place_table.specs.Flushes.{flushes}
 use Rattle.place_table.specs.StoredHashes.{stored_in}
 use Rattle.place_table.proofs.Worlds.{by_bool}
-use Rattle.place_table.specs.Contents.{told, Fits}
+use Rattle.place_table.specs.Contents.{told, lists_of, Fits}
 use Rattle.place_words.specs.declared.owner.Owner.{Owner}
 use Rattle.place_core.proofs.ElementLemmas.{by_test, times_append}
 use Rattle.place_table.specs.declared.view.View.{View}
@@ -31,8 +36,8 @@ use Rattle.place_table.specs.declared.view.Notes.{Notes}
 use Rattle.place_table.specs.declared.view.BitSeen.{BitSeen}
 use Rattle.place_table.specs.declared.view.Turned.{Turned}
 use Rattle.place_table.proofs.Going.{goes_noted, made_on}
-use Rattle.place_table.specs.Views.{no_notes, is_among, is_in_hand_of, noted, with_clear, with_owner_read, bits_with, numbers_below, touching, owners_passed}
-use Rattle.place_table.specs.TurnNotes.{NotesFit, WasReadInHand, ProbeFits, CameToHand}
+use Rattle.place_table.specs.Views.{no_notes, is_among, is_in_hand_of, noted, with_clear, with_owner_read, bits_with, numbers_below, touching, passed_on}
+use Rattle.place_table.specs.TurnNotes.{NotesFit, WasRead, WasReadInHand, ProbeFits, CameToHand}
 use Rattle.place_table.specs.Passes.{PassView, TableView, IsPassOf, HasBegun, Takes, CanGive, Went, HasOnlySpares, IsInNoCall, IsFirstPass, SawOwner, Cleared, with_view, spare_of}
 use Rattle.place_table.specs.declared.view.WordStep.{WordStep}
 use Rattle.place_table.specs.declared.view.HomeIn.{HomeIn}
@@ -43,10 +48,11 @@ use Rattle.place_words.specs.Codes.{owner_code}
 
 -- a bucket or a freelist that was taken may be given back by a part that changes nothing
 pub unchanged : (t : TableView) (lock : DomainId) (p q : PassView) (here : Content) (part : Part) → HasNoHashes lock → (took : Takes t lock p q here) → IsPassOf t q → HasBegun q → IsTrue (is_lock t.shape lock)
-    → Allows t.shape q.cpu part (told here) → content_after t.shape q.cpu part (told here) ≡ told here → NotesFit t.shape q.view took.hold part no_notes → CanGive t lock q here part
+    → Allows t.shape q.cpu part (told lock here) → content_after t.shape q.cpu part (told lock here) ≡ told lock here → NotesFit t.shape q.view took.hold part no_notes → CanGive t lock q here part
 unchanged t lock p q here part no_hashes took of_table begun there allowed same notes_fit =
     let named : lock_named t.shape took.hold.lock ≡ lock = ap (lock_named t.shape) took.lock_is ∙ named_by_number t.shape lock there in
-    let told_there : told here ≡ content t.shape (lock_named t.shape took.hold.lock) took.hold.log = took.told_is ∙ ap (λ (d : DomainId). content t.shape d took.hold.log) (sym named) in record {
+    let told_there : told lock here ≡ content t.shape (lock_named t.shape took.hold.lock) took.hold.log = took.told_is ∙ ap (λ (d : DomainId). content t.shape d took.hold.log) (sym named) in
+    let lists_there : lists_of (told (lock_named t.shape took.hold.lock) here) ≡ took.hold.now = ap (λ (d : DomainId). lists_of (told d here)) named ∙ sym took.now in record {
       of_table = of_table;
       begun = begun;
       hold = took.hold;
@@ -59,14 +65,14 @@ unchanged t lock p q here part no_hashes took of_table begun there allowed same 
       lock_is = took.lock_is;
       may_put = record {
         cpu = begun;
-        told_is = sym same ∙ ap (content_after t.shape q.cpu part) told_there;
+        told_is = ap (λ (d : DomainId). told d here) named ∙ (sym same ∙ ap (content_after t.shape q.cpu part) told_there);
         fits = subst (λ (d : DomainId). Fits t.shape d here) (sym named) took.fits;
         allowed = subst (Allows t.shape q.cpu part) told_there allowed;
-        same_free = λ e. ap (λ l. times e l.free) (sym took.now);
-        same_rows = λ e. ap (λ l. times e (rows l)) (sym took.now);
-        rows_kept = λ lru j e h n other _ _ _ is. absurd (none_stored t.shape lock here e n no_hashes took.fits is);
+        same_free = λ e. ap (λ (l : Lists). times e l.free) lists_there;
+        same_rows = λ e. ap (λ (l : Lists). times e (rows l)) lists_there;
+        rows_kept = λ lru j e h n other _ _ _ is. absurd (none_stored t.shape lock here e n no_hashes took.fits (ap (λ (d : DomainId). stored_in (told d here) e) (sym named) ∙ is));
         gone = λ lru c e h _ was none.
-            let inside = stored_listed (told here) e h (ap (λ z. stored_in z e) told_there ∙ was) in
+            let inside = stored_listed (told lock here) e h (ap (λ z. stored_in z e) told_there ∙ was) in
             let both = times_append e took.hold.now.free (rows took.hold.now) in
             let there : 0 < times e (rows took.hold.now) = subst (λ l. 0 < times e (rows l)) (sym took.now) inside in
             absurd (omega (arith, there, both, none));
@@ -74,22 +80,44 @@ unchanged t lock p q here part no_hashes took of_table begun there allowed same 
       notes_fit = notes_fit;
     }
 
--- a turn in which no owner was read hands none on to the turn around it
-pub none_passed : (part : Part) (notes : Notes) (below : List Notes) → notes.owners ≡ [] → All (ProbeFits notes.owners) (probes_in part) → owners_passed part below ≡ below
-none_passed (parts.Bucket (Lookup side key got)) notes below none fit = refl
-none_passed (parts.Bucket (Update side flags key value offer put)) notes below none fit = refl
-none_passed (parts.Bucket (Delete key removed)) notes below none fit = refl
-none_passed (parts.Bucket (Take key taken)) notes below none fit = refl
-none_passed (parts.Bucket (Next key found)) notes below none fit = refl
-none_passed (parts.Bucket (First key)) notes below none fit = refl
-none_passed (parts.Bucket (Walk remove room result)) notes below none fit = refl
-none_passed (parts.Bucket (Evict e Removed)) notes below none fit = refl
-none_passed (parts.Bucket (Evict e (Held holder))) notes below none fit =
-    absurd (subst (WasReadInHand e holder) none (All-head (ProbeFits notes.owners) (record { element = e; probed = Held holder }) [] fit))
-none_passed (parts.Free part) notes below none fit = refl
-none_passed (parts.Local part) notes below none fit = refl
-none_passed (parts.Global part) notes below none fit = refl
-none_passed (parts.Own part) notes below none fit = refl
+-- a turn of the global lists leaves such lists
+global_left : (shape : Shape) (cpu : ℕ) (part : GlobalPart) (there : histories.Content) → Allows shape cpu (parts.Global part) there → (set : ListSet) × (content_after shape cpu (parts.Global part) there ≡ in_global set)
+global_left shape cpu part (in_bucket bodies) allowed = absurd allowed
+global_left shape cpu part (on_freelist stack) allowed = absurd allowed
+global_left shape cpu part (in_locals lists) allowed = absurd allowed
+global_left shape cpu part (in_global set) allowed = (global_after part set, refl)
+global_left shape cpu part (in_own set) allowed = absurd allowed
+
+-- which lie under no other lock than the global one
+none_shared : (shape : Shape) (lock : DomainId) (here : Content) (set : ListSet) → lock ≢ Global → Fits shape lock here → told lock here ≡ in_global set → ⊥
+none_shared shape lock (contents.Bucket chain) set other fits is = cc
+none_shared shape lock (contents.Freelist freelist) set other fits is = cc
+none_shared shape lock (contents.Local lists) set other fits is = cc
+none_shared shape (Local c) (contents.Set lists) set other fits is = fits
+none_shared shape Global (contents.Set lists) set other fits is = other refl
+none_shared shape (CpuLru c) (contents.Set lists) set other fits is = cc
+none_shared shape (Bucket b) (contents.Set lists) set other fits is = fits
+none_shared shape (Freelist c) (contents.Set lists) set other fits is = fits
+
+-- A turn of another lock than the global one in which no owner was read hands nothing on to the turn around it.
+pub none_passed : (t : TableView) (lock : DomainId) (p : PassView) (here : Content) (part : Part) (below : List Notes) → lock ≢ Global → (can : CanGive t lock p here part) → can.notes.owners ≡ [] → passed_on part below ≡ below
+none_passed t lock p here (parts.Bucket (Lookup side key got)) below other can none = refl
+none_passed t lock p here (parts.Bucket (Update side flags key value offer put)) below other can none = refl
+none_passed t lock p here (parts.Bucket (Delete key removed)) below other can none = refl
+none_passed t lock p here (parts.Bucket (Take key taken)) below other can none = refl
+none_passed t lock p here (parts.Bucket (Next key found)) below other can none = refl
+none_passed t lock p here (parts.Bucket (First key)) below other can none = refl
+none_passed t lock p here (parts.Bucket (Walk remove room result)) below other can none = refl
+none_passed t lock p here (parts.Bucket (Evict e Removed)) below other can none = refl
+none_passed t lock p here (parts.Bucket (Evict e (Held holder))) below other can none =
+    absurd (subst (WasReadInHand e holder) none (All-head (ProbeFits can.notes.owners) (record { element = e; probed = Held holder }) [] can.notes_fit.held))
+none_passed t lock p here (parts.Free part) below other can none = refl
+none_passed t lock p here (parts.Local part) below other can none = refl
+none_passed t lock p here (parts.Global part) below other can none =
+    let named : lock_named t.shape can.hold.lock ≡ lock = ap (lock_named t.shape) can.lock_is ∙ named_by_number t.shape lock can.there in
+    let left = global_left t.shape p.cpu part (content t.shape (lock_named t.shape can.hold.lock) can.hold.log) can.may_put.allowed in
+    absurd (none_shared t.shape (lock_named t.shape can.hold.lock) here left.0 (λ is. other (sym named ∙ is)) can.may_put.fits (can.may_put.told_is ∙ left.1))
+none_passed t lock p here (parts.Own part) below other can none = refl
 
 -- a pass in no call is in none afterwards
 pub stays_idle : (p q : PassView) (more : List Turned) (lost : List ℕ) → IsInNoCall p → Went p q more lost → IsInNoCall q
@@ -127,9 +155,11 @@ unfolding AllowsInBucket bucket_after
 told_first t bucket p q chain took of_table begun there =
     unchanged t (Bucket bucket) p q (contents.Bucket chain) (parts.Bucket (First (first_key chain.bodies))) tt took (taken_of_table t (Bucket bucket) p q (contents.Bucket chain) took of_table) (taken_begun t (Bucket bucket) p q (contents.Bucket chain) took begun) there
     refl refl record {
-      served = tt;
       marks_are = by_bool (is_lru t.shape.kind) (λ b. [] ≡ cond {A = List ℕ} b [] []) (λ _. refl) (λ _. refl);
       clears_are = refl;
+      reads = All-nil (WasRead []);
+      flushed = tt;
+      off = All-nil (λ e. flushes e (parts.Bucket (First (first_key chain.bodies))) ≡ true);
       held = All-nil (ProbeFits []);
       came = All-nil (CameToHand q.view took.hold no_notes);
     }

@@ -115,6 +115,18 @@ in_hand_less_else x c e cpu (y ∷ ys) other =
     (λ _. kept))
     (λ _. kept)
 
+-- what comes to a hand where it wasn't, and leaves it again, leaves all hands as they were
+pub hand_back : (e cpu : ℕ) (hand : List InHand) → is_in_hand_of e cpu hand ≡ false → (x c : ℕ) → is_in_hand_of x c (without_in_hand e cpu (with_in_hand e cpu hand)) ≡ is_in_hand_of x c hand
+hand_back e cpu hand none x c =
+    let here : is_in_hand_of e cpu (without_in_hand e cpu (with_in_hand e cpu hand)) ≡ is_in_hand_of e cpu hand = in_hand_less e cpu (with_in_hand e cpu hand) ∙ sym none in
+    let else : (x ≡ e → c ≡ cpu → ⊥) → is_in_hand_of x c (without_in_hand e cpu (with_in_hand e cpu hand)) ≡ is_in_hand_of x c hand =
+    λ other. in_hand_less_else x c e cpu (with_in_hand e cpu hand) other ∙ in_hand_more_else x c e cpu hand other in
+    by_test x e (λ _. is_in_hand_of x c (without_in_hand e cpu (with_in_hand e cpu hand)) ≡ is_in_hand_of x c hand)
+    (λ same. by_test c cpu (λ _. is_in_hand_of x c (without_in_hand e cpu (with_in_hand e cpu hand)) ≡ is_in_hand_of x c hand)
+    (λ mine. (λ i. is_in_hand_of (same i) (mine i) (without_in_hand e cpu (with_in_hand e cpu hand))) ∙ (here ∙ (λ i. is_in_hand_of (sym same i) (sym mine i) hand)))
+    (λ other. else (λ _ mine. other mine)))
+    (λ other. else (λ same _. other same))
+
 -- Who has an element goes by its owner, and who carries it by its home.
 module _ {A : Type 0} (is_of : ℕ → A → Bool) where
   -- these are the elements in the hands of a pass

@@ -1,7 +1,7 @@
 -- The step on a home word: an element goes from the lists of a lock, or from a hand that carries it, to others.
-use Rattle.std.proofs.Common.{◌≡◌, ◌≢◌, ℕ, ◌+◌, ◌<◌, ◌⊎◌, inl, inr, ⊎_elim, cond, Bool, true, false, List, [], ◌∷◌, get_or, set, sym, refl, ap, ◌∙◌, subst, arith, get_or-set_other, get_or-set_same, None, Some, Option}
-use Rattle.std.specs.Prelude.{IsTrue, IsFalse}
-use Rattle.std.proofs.lemmas.Bool.{and_parts, eqb-true}
+use Rattle.std.proofs.Common.{◌≡◌, ◌≢◌, ℕ, ◌+◌, ◌<◌, ◌⊎◌, inl, inr, ⊎_elim, eqb, cond, Bool, true, false, List, [], ◌∷◌, get_or, set, sym, refl, ap, ◌∙◌, subst, arith, get_or-set_other, get_or-set_same, None, Some, Option}
+use Rattle.std.specs.Prelude.{◌&&◌, IsTrue, IsFalse}
+use Rattle.std.proofs.lemmas.Bool.{and_parts, eqb-true, eq-eqb}
 use mathlib.Core.Option.{some}
 use lib.ListN.{get_elem?}
 use Rattle.atomic_table.specs.Table.{State, Allows, keeps, stepped}
@@ -9,6 +9,7 @@ use Rattle.map_types.specs.declared.attr.Shape.{Shape}
 use Rattle.map_types.specs.declared.kind.DomainId.{DomainId}
 use Rattle.map_types.specs.declared.kind.DomainId.TheVariants.{Local, Global, CpuLru, Bucket, Freelist}
 use Rattle.map_types.specs.Kind.{is_lru}
+use Rattle.map_types.specs.Shape.{HasBounds}
 use Rattle.map_types.proofs.CreationLemmas.{bounds_of_shape}
 use Rattle.place_words.specs.declared.home.Home.{Home}
 use Rattle.place_words.specs.declared.home.Home.TheVariants as homes
@@ -16,44 +17,49 @@ use Rattle.place_words.specs.declared.owner.Owner.{Owner}
 use Rattle.place_words.specs.declared.owner.Owner.TheVariants as owners
 use Rattle.place_words.specs.Codes.{home_code, HasHomeCode}
 use Rattle.map_types.specs.ElementLists.{put, times, IsIn}
+use Rattle.place_words.specs.declared.history.Entry.{Entry}
+use Rattle.place_words.specs.Histories.{content}
 use Rattle.place_words.specs.Locks.{is_lock, lock_named, lock_number}
 use Rattle.place_words.specs.Openings.{is_free}
-use Rattle.place_words.proofs.LockLemmas.{named_by_number}
+use Rattle.place_words.proofs.LockLemmas.{named_by_number, number_within}
 use Rattle.place_core.specs.declared.step.Lists.{Lists}
 use Rattle.place_core.specs.declared.step.Step.TheVariants.{Rehome, Clear, Glance}
 use Rattle.place_core.specs.State.{rows, is_bucket}
-use Rattle.place_core.specs.Places.{Place, lies, carried, lies_at, has_row, home_of_place, MayLie}
+use Rattle.place_core.specs.Places.{Place, lies, carried, lies_at, has_row, home_of_place, MayOwn, MayLie}
 use Rattle.place_core.specs.Steps.{Holds, left_by, joined_by, MayLeave, MayEnter, IsFreeOrInHand, CanRehome, after_leaving, after_joining, CanClear, IsHeldHome}
 use Rattle.place_core.specs.Steps as steps
-use Rattle.place_core.specs.Wholeness.{all_of}
+use Rattle.place_core.specs.Wholeness.{all_of, EachInOnePlace}
 use Rattle.place_core.proofs.ElementLemmas.{by_test, at_put, put_here, put_else, times_append}
 use Rattle.place_core.proofs.RowLemmas.{stands_where, free_is, lies_is, row_lies}
 use Rattle.place_core.proofs.StepLaws.{step_keeps_places, step_keeps_ranks}
+use Rattle.place_core.proofs.WholeLemmas.{each_in_one_place}
 use Rattle.place_table.specs.declared.content.Behind.{Behind}
 use Rattle.place_table.specs.declared.view.View.{View}
 use Rattle.place_table.specs.declared.view.Hold.{Hold}
 use Rattle.place_table.specs.declared.view.InHand.{InHand}
+use Rattle.place_table.specs.declared.view.Notes.{Notes}
+use Rattle.place_table.specs.Contents.{lists_of}
 use Rattle.place_table.specs.Laws.{StepsAs, goes_by}
-use Rattle.place_table.specs.Views.{is_among, hold_at, is_in_hand_of, now_at, with_now, with_places, held_without, held_with, carried_without, carried_with, with_come_home, came_at, without_readings, kept_hashes, noted, with_clear, with_home_read, with_reading, bits_with, touching}
+use Rattle.place_table.specs.Views.{is_among, hold_at, is_in_hand_of, known_log, now_at, with_now, with_places, held_without, held_with, carried_without, carried_with, with_come_home, with_left_home, came_at, without_readings, kept_hashes, noted, with_clear, with_home_read, with_reading, bits_with, touching}
 use Rattle.place_table.specs.Views as views
-use Rattle.place_table.specs.Rules.{World, Rule, Ascends, is_home_of, StillHome, IsHashed, HasCome, hold, hold_of}
+use Rattle.place_table.specs.Rules.{World, Rule, Knows, entries, AtHome, Ascends, is_home_of, StillHome, IsHashed, HasCome, hold, hold_of}
 use Rattle.place_table.specs.Words.{owner_word, home_word, bit_word}
 use Rattle.place_table.specs.Passes.{PassView, TableView, Carries, IsPassOf, HasBegun, with_view, Rehomed}
-use Rattle.place_table.specs.Plays.{Seated, HoldsLock, IsKnownHome, IsKnownFree, MayGoHome, OwnerFits, HomeFits, Rehomes, Clears, MayClear, SeesHome}
+use Rattle.place_table.specs.Plays.{Seated, HoldsLock, IsKnownHome, IsKnownFree, MayBeHome, MayGoHome, OwnerFits, HomeFits, Rehomes, Clears, MayClear, SeesHome}
 use Rattle.place_table.proofs.Hands.{ascends_now, carries_now, AreInHands, comes_to_hand, leaves_hand, stays_in_hand, IsHomeOfPass}
 use Rattle.place_table.proofs.Locks.{allows_of}
 use Rattle.place_table.proofs.PlaceSteps.{IsHeldByPass, AreHeld, now_is, held_moved, place_rule, hashes_kept, now_there, holds_there}
 use Rattle.place_table.proofs.WordSteps.{clears_by, look_rule}
 use Rattle.place_table.proofs.OwnersSeen.{owner_fits}
-use Rattle.place_table.proofs.Worlds.{both_true, some_is, has_mine, hand_is, in_hand_is, hold_of_mine, hashed_stands, hashed_away, IsAway}
-use Rattle.place_table.proofs.Readings.{without_home, still_flushed, still_is, IsNew, read_home_known, home_in_set}
+use Rattle.place_table.proofs.Worlds.{true_false, by_bool, none_some, both_true, some_is, has_mine, hand_is, in_hand_is, hold_of_mine, hashed_stands, hashed_away, IsAway}
+use Rattle.place_table.proofs.Readings.{without_home, still_flushed, still_is, IsNew, read_home_known}
 use Rattle.place_table.proofs.Rehomes.{hashes_rehomed}
-use Rattle.place_table.proofs.NotesDone.{noted_with, noted_without, noted_home_come, noted_home, word_off}
-use Rattle.place_table.proofs.Came.{came_home_read, came_with, came_without, came_home, came_here}
+use Rattle.place_table.proofs.NotesDone.{noted_with, noted_without, noted_home_come, noted_left_home, noted_home, word_off}
+use Rattle.place_table.proofs.Came.{came_home_read, came_with, came_without, came_home, came_left_home, come_from_other, came_here}
 use Rattle.place_table.proofs.StoredHashes.{kept_there}
 use Rattle.place_table.specs.declared.view.WordStep.{WordStep}
 use Rattle.place_table.proofs.StepLog.{made}
-use Rattle.place_table.proofs.CodeLemmas.{has_home_code}
+use Rattle.place_table.proofs.CodeLemmas.{has_home_code, lies_has_code, one_home}
 
 -- the home is a lock that a CPU of the pass holds, or the hand of one
 abbrev IsInReach : Shape → World → ℕ → Home → Type 0
@@ -136,6 +142,10 @@ module _ (cpus pass e : ℕ) (whose : ℕ → ℕ) (f g : ℕ → Home) (carried
   carried_joined homes.Unlisted ours was is = stays_in_hand is_home_of cpus pass e 0 whose f g carried others are (λ c. ap (is_home_of c) was) (λ c. ap (is_home_of c) is)
   carried_joined (homes.In lock) ours was is = stays_in_hand is_home_of cpus pass e 0 whose f g carried others are (λ c. ap (is_home_of c) was) (λ c. ap (is_home_of c) is)
   carried_joined (homes.Hand cpu) ours was is = comes_to_hand is_home_of cpus pass e cpu whose f g carried others are ours (λ c. ap (is_home_of c) was) (λ c. ap (is_home_of c) is)
+
+-- what is noted once an element has gone from one home to another
+abbrev notes_then : Shape → Home → Home → ℕ → View → List Notes
+notes_then shape from to e v = with_come_home shape from to e v.held (with_left_home shape from to e v.held v.notes)
 
 -- What the pass knows, as it is so
 
@@ -262,19 +272,53 @@ module _ (shape : Shape) (s : State Behind View) (r : Rule shape s) (pass : ℕ)
           absurd (other (sym (carrier x is (r.placed.place e) refl) ∙ by_it))
 
   -- what came stays noted, whatever lies under the locks
-  came_then : (to : Home) (m : ℕ) → came_at m (held_with shape to (r.world.core.owner e) e (held_without shape (r.world.core.home e) (r.world.core.owner e) e v.held)) (with_come_home v.shape to e v.held v.notes) ≡ came_at m v.held (with_come_home v.shape to e v.held v.notes)
+  came_then : (to : Home) (m : ℕ) → came_at m (held_with shape to (r.world.core.owner e) e (held_without shape (r.world.core.home e) (r.world.core.owner e) e v.held)) (notes_then v.shape (r.world.core.home e) to e v) ≡ came_at m v.held (notes_then v.shape (r.world.core.home e) to e v)
   came_then to m =
-      let notes = with_come_home v.shape to e v.held v.notes in
+      let notes = notes_then v.shape (r.world.core.home e) to e v in
       came_with shape to (r.world.core.owner e) e m (held_without shape (r.world.core.home e) (r.world.core.owner e) e v.held) notes ∙ came_without shape (r.world.core.home e) (r.world.core.owner e) e m v.held notes
 
-  -- and it comes there in the turn of the lock where it goes, or is in the hand of another CPU
+  came_still : (to : Home) (m x : ℕ) → is_among x (came_at m v.held v.notes) ≡ true → is_among x (came_at m (held_with shape to (r.world.core.owner e) e (held_without shape (r.world.core.home e) (r.world.core.owner e) e v.held)) (notes_then v.shape (r.world.core.home e) to e v)) ≡ true
+  came_still to m x inside =
+      let from : Home = r.world.core.home e in
+      ap (is_among x) (came_then to m) ∙ came_home v.shape from to e m x v.held (with_left_home v.shape from to e v.held v.notes) (ap (is_among x) (came_left_home v.shape from to e m v.held v.notes) ∙ inside)
+
+  -- a home that has the code of the one where it goes is that one
+  stayed : (to : Home) → CanRehome shape r.world.core c e to → (lock : DomainId) → to ≡ homes.In lock → home_code (r.world.core.home e) ≡ home_code (homes.In lock) → r.world.core.home e ≡ homes.In lock
+  stayed to can lock at same = one_home (w.core.home e) (homes.In lock) from_code (its_code lock (subst (MayEnter shape w.core c (w.core.owner e)) at can.to_there)) same
+    where
+      w : World
+      w = r.world
+
+      bounds : HasBounds shape
+      bounds = bounds_of_shape shape r.is_shape
+
+      from_code : HasHomeCode (w.core.home e)
+      from_code = subst HasHomeCode (sym (r.placed.placed.homes e real)) (has_home_code shape e (w.core.owner e) (r.placed.place e) bounds (r.placed.placed.owners e real) (r.placed.placed.places e real))
+
+      its_code : (lock : DomainId) → MayEnter shape w.core c (w.core.owner e) (homes.In lock) → HasHomeCode (homes.In lock)
+      its_code (Local x) may = lies_has_code shape e true (Local x) bounds (bounds.common_evicts can.common) may.0.is_lock
+      its_code Global may = tt
+      its_code (CpuLru x) may = absurd may
+      its_code (Bucket b) may = absurd may
+      its_code (Freelist x) may = absurd may
+
+  -- It comes there in the turn of the lock where it goes, or is in the hand of another CPU. Where that was its home already, it
+  -- doesn't come, and what was known of it is so still.
   hashed_home : (to : Home) → CanRehome shape r.world.core c e to → IsTrue (is_lru shape.kind) → (d : ℕ) (lock : DomainId) → d < shape.cpus → is_in_hand_of e d v.hand ≡ true → to ≡ homes.In lock
-      → IsHashed shape r.world.core.holder r.world.log r.world.hash (kept_hashes v.hand v.hashes) (came_at (lock_number shape lock) (held_with shape to (r.world.core.owner e) e (held_without shape (r.world.core.home e) (r.world.core.owner e) e v.held)) (with_come_home v.shape to e v.held v.notes)) (lock_number shape lock) e d
+      → IsHashed shape r.world.core.holder r.world.log r.world.hash (kept_hashes v.hand v.hashes) (came_at (lock_number shape lock) (held_with shape to (r.world.core.owner e) e (held_without shape (r.world.core.home e) (r.world.core.owner e) e v.held)) (notes_then v.shape (r.world.core.home e) to e v)) (lock_number shape lock) e d
   hashed_home to can lru d lock within in_hand at =
       let w = r.world in let kn = r.knows pass v at_pass in
       let k : ℕ = lock_number shape lock in
-      let came : List ℕ = came_at k (held_with shape to (w.core.owner e) e (held_without shape (w.core.home e) (w.core.owner e) e v.held)) (with_come_home v.shape to e v.held v.notes) in
-      by_test d c (λ _. IsHashed shape w.core.holder w.log w.hash (kept_hashes v.hand v.hashes) came k e d)
+      let from : Home = w.core.home e in
+      let left : List Notes = with_left_home v.shape from to e v.held v.notes in
+      let came : List ℕ = came_at k (held_with shape to (w.core.owner e) e (held_without shape from (w.core.owner e) e v.held)) (notes_then v.shape from to e v) in
+      by_test (home_code from) (home_code (homes.In lock)) (λ _. IsHashed shape w.core.holder w.log w.hash (kept_hashes v.hand v.hashes) came k e d)
+      (λ same.
+      hashed_stands shape w.core.holder w.core.holder w.log w.log w.hash w.hash v.hashes (kept_hashes v.hand v.hashes) (came_at k v.held v.notes) came k e d
+      (λ m held. (held, refl)) (λ held. held) refl (kept_there e d v.hand v.hashes in_hand)
+      (came_still to k e)
+      (kn.hashed lru e d lock real within in_hand (stayed to can lock at same)))
+      (λ moves. by_test d c (λ _. IsHashed shape w.core.holder w.log w.hash (kept_hashes v.hand v.hashes) came k e d)
       (λ same.
       let holds = entered to can.to_there lock at in
       let mine = has_mine shape w pass v c kn has in
@@ -282,18 +326,19 @@ module _ (shape : Shape) (s : State Behind View) (r : Rule shape s) (pass : ℕ)
       let come : HasCome w.core.holder came k e d = record {
         held = holds.held ∙ ap Some (sym same);
         inside = ap (is_among e) (came_then to k)
-            ∙ ((λ i. is_among e (came_at k v.held (with_come_home (kn.shape_is i) (at i) e v.held v.notes))) ∙ came_here shape v.touched k e (hold k c (w.log k) (w.core.lists k) (w.lost k)) v.held v.notes kn.noted found);
+            ∙ ((λ i. is_among e (came_at k v.held (with_come_home (kn.shape_is i) from (at i) e v.held left)))
+            ∙ (ap (λ (z : List Notes). is_among e (came_at k v.held z)) (come_from_other shape from lock e v.held left moves) ∙ came_here shape v.touched k e (hold k c (w.log k) (w.core.lists k) (w.lost k)) v.held left (noted_left_home shape v.shape v.touched from to e v.held v.notes kn.noted) found));
       } in
       record { from = inr (inr come); row = λ _. inr (inr come) })
       (λ other.
       let owner_is : w.core.owner e ≡ owners.Hand d = hand_is d (w.core.owner e) (both_true _ _ (sym (kn.hands e d within) ∙ in_hand)).0 in
       let away = goes_away to can d lock owner_is other at in
       let j : ℕ = lock_number shape away.from in
-      hashed_away shape w.core.holder w.core.holder w.log w.log w.hash w.hash v.hashes (kept_hashes v.hand v.hashes) (came_at j v.held v.notes) came j k e d away.left away.now (kept_there e d v.hand v.hashes in_hand) (kn.hashed lru e d away.from real within in_hand away.was))
+      hashed_away shape w.core.holder w.core.holder w.log w.log w.hash w.hash v.hashes (kept_hashes v.hand v.hashes) (came_at j v.held v.notes) came j k e d away.left away.now (kept_there e d v.hand v.hashes in_hand) (kn.hashed lru e d away.from real within in_hand away.was)))
 
   -- the home is another from now on
   home_rule : (to : Home) (cs : List (ℕ × Behind)) → (can : CanRehome shape r.world.core c e to)
-      → (after : Rule shape (stepped s (home_word shape e) (home_code to) pass cs (with_places (held_with shape to (r.world.core.owner e) e (held_without shape (r.world.core.home e) (r.world.core.owner e) e v.held)) v.hand (carried_with to e (carried_without (r.world.core.home e) e v.carried)) (without_readings e v.readings) (with_come_home v.shape to e v.held v.notes) (touching (made r.world) (home_word shape e) None (home_code to) v) v) keeps))
+      → (after : Rule shape (stepped s (home_word shape e) (home_code to) pass cs (with_places (held_with shape to (r.world.core.owner e) e (held_without shape (r.world.core.home e) (r.world.core.owner e) e v.held)) v.hand (carried_with to e (carried_without (r.world.core.home e) e v.carried)) (without_readings e v.readings) (notes_then v.shape (r.world.core.home e) to e v) (touching (made r.world) (home_word shape e) None (home_code to) v) v) keeps))
       × (after.world.core ≡ steps.rehomed shape r.world.core e to)
   home_rule to cs can =
       let i : ℕ = home_word shape e in let code : ℕ = home_code to in
@@ -306,12 +351,12 @@ module _ (shape : Shape) (s : State Behind View) (r : Rule shape s) (pass : ℕ)
       let away : ℕ → Lists = after_leaving shape from owner e w.core.lists in
       let lists : ℕ → Lists = after_joining shape to owner e away in
       let on_the_way : ℕ → Home = put w.core.home e homes.Unlisted in
-      place_rule shape s r pass v at_pass lists w.core.owner (put w.core.home e to) i code c has (held_with shape to owner e (held_without shape from owner e v.held)) v.hand (carried_with to e (carried_without from e v.carried)) (without_readings e v.readings) (with_come_home v.shape to e v.held v.notes) (kept_hashes v.hand v.hashes) cs (omega arith) (omega arith)
+      place_rule shape s r pass v at_pass lists w.core.owner (put w.core.home e to) i code c has (held_with shape to owner e (held_without shape from owner e v.held)) v.hand (carried_with to e (carried_without from e v.carried)) (without_readings e v.readings) (notes_then v.shape from to e v) (kept_hashes v.hand v.hashes) cs (omega arith) (omega arith)
       (λ x below. get_or-set_other s.words i (owner_word shape x) code 0 (λ y. omega arith) ∙ r.owner_words x below)
       (λ x below. at_put w.core.home e to (λ j h. j < shape.elements → get_or (set s.words i code) (home_word shape j) 0 ≡ home_code h) x
       (λ _. get_or-set_same s.words i code 0 (omega (arith, r.words)))
       (λ ne below. get_or-set_other s.words i (home_word shape x) code 0 (λ y. ne (omega arith)) ∙ r.home_words x below) below)
-      (let notes = with_come_home v.shape to e v.held v.notes in noted_with shape v.touched to owner e (held_without shape from owner e v.held) notes (noted_without shape v.touched from owner e v.held notes (noted_home_come shape v.shape v.touched to e v.held v.notes kn.noted)))
+      (let notes = notes_then v.shape from to e v in noted_with shape v.touched to owner e (held_without shape from owner e v.held) notes (noted_without shape v.touched from owner e v.held notes (noted_home_come shape v.shape v.touched from to e v.held (with_left_home v.shape from to e v.held v.notes) (noted_left_home shape v.shape v.touched from to e v.held v.notes kn.noted))))
       record {
         under = λ k. ⊎_elim
             (λ (stays : lists k ≡ away k). ⊎_elim
@@ -334,13 +379,13 @@ module _ (shape : Shape) (s : State Behind View) (r : Rule shape s) (pass : ℕ)
         hashes = λ lru. hashes_rehomed shape w.core r.placed w.log w.hash (r.hashes lru) lru c e to can (step_keeps_places shape w.core (Rehome c e to) bounds can r.placed);
         are_hashes = (
           hashes_kept shape w pass v kn v.hand,
-          (λ lru x d its x_real within in_hand at. by_test x e (λ _. IsHashed shape w.core.holder w.log w.hash (kept_hashes v.hand v.hashes) (came_at (lock_number shape its) (held_with shape to owner e (held_without shape from owner e v.held)) (with_come_home v.shape to e v.held v.notes)) (lock_number shape its) x d)
-              (λ same. subst (λ (y : ℕ). IsHashed shape w.core.holder w.log w.hash (kept_hashes v.hand v.hashes) (came_at (lock_number shape its) (held_with shape to owner e (held_without shape from owner e v.held)) (with_come_home v.shape to e v.held v.notes)) (lock_number shape its) y d) (sym same)
+          (λ lru x d its x_real within in_hand at. by_test x e (λ _. IsHashed shape w.core.holder w.log w.hash (kept_hashes v.hand v.hashes) (came_at (lock_number shape its) (held_with shape to owner e (held_without shape from owner e v.held)) (notes_then v.shape from to e v)) (lock_number shape its) x d)
+              (λ same. subst (λ (y : ℕ). IsHashed shape w.core.holder w.log w.hash (kept_hashes v.hand v.hashes) (came_at (lock_number shape its) (held_with shape to owner e (held_without shape from owner e v.held)) (notes_then v.shape from to e v)) (lock_number shape its) y d) (sym same)
               (hashed_home to can lru d its within (ap (λ (y : ℕ). is_in_hand_of y d v.hand) (sym same) ∙ in_hand) (sym (put_here w.core.home e to) ∙ (ap (put w.core.home e to) (sym same) ∙ at))))
               (λ other. let m : ℕ = lock_number shape its in
-              hashed_stands shape w.core.holder w.core.holder w.log w.log w.hash w.hash v.hashes (kept_hashes v.hand v.hashes) (came_at m v.held v.notes) (came_at m (held_with shape to owner e (held_without shape from owner e v.held)) (with_come_home v.shape to e v.held v.notes)) m x d
+              hashed_stands shape w.core.holder w.core.holder w.log w.log w.hash w.hash v.hashes (kept_hashes v.hand v.hashes) (came_at m v.held v.notes) (came_at m (held_with shape to owner e (held_without shape from owner e v.held)) (notes_then v.shape from to e v)) m x d
               (λ i on. (on, refl)) (λ on. on) refl (kept_there x d v.hand v.hashes in_hand)
-              (λ inside. ap (is_among x) (came_then to m) ∙ came_home v.shape to e m x v.held v.notes inside)
+              (came_still to m x)
               (kn.hashed lru x d its x_real within in_hand (sym (put_else w.core.home e to x other) ∙ at)))),
         );
         at_home = λ x d its x_real in_hand theirs at. by_test x e (λ _. (w.core.home x ≡ homes.In its) ⊎ IsAway shape w.core.holder w.core.holder (w.core.home x) d its)
@@ -372,7 +417,7 @@ rehomes_step shape slots pass me c e from to common real has known may s r wide 
       to_there = enters_known shape s r pass v at_pass c e has real to may;
     } in
     let rule = home_rule shape s r pass v at_pass c e has real to me.1 can in (
-      with_places (held_with shape to owner e (held_without shape (w.core.home e) owner e v.held)) v.hand (carried_with to e (carried_without (w.core.home e) e v.carried)) (without_readings e v.readings) (with_come_home v.shape to e v.held v.notes) (touching (made w) (home_word shape e) None (home_code to) v) v,
+      with_places (held_with shape to owner e (held_without shape (w.core.home e) owner e v.held)) v.hand (carried_with to e (carried_without (w.core.home e) e v.carried)) (without_readings e v.readings) (notes_then v.shape (w.core.home e) to e v) (touching (made w) (home_word shape e) None (home_code to) v) v,
       keeps,
       tt,
       (rule.0, record { enabled = can; changed = rule.1 }),
@@ -382,7 +427,7 @@ rehomes_step shape slots pass me c e from to common real has known may s r wide 
         owner = owner;
         fits = subst (λ z. OwnerFits z v e owner) (sym kn.shape_is) (owner_fits shape s r pass v e at_pass real);
         at = made w;
-        after_is = λ i. (with_places (held_with (sym kn.shape_is i) to owner e (held_without (sym kn.shape_is i) (w.core.home e) owner e v.held)) v.hand (carried_with to e (carried_without (w.core.home e) e v.carried)) (without_readings e v.readings) (with_come_home v.shape to e v.held v.notes) (touching (made w) (home_word (sym kn.shape_is i) e) None (home_code to) v) v, me.1);
+        after_is = λ i. (with_places (held_with (sym kn.shape_is i) to owner e (held_without (sym kn.shape_is i) (w.core.home e) owner e v.held)) v.hand (carried_with to e (carried_without (w.core.home e) e v.carried)) (without_readings e v.readings) (notes_then v.shape (w.core.home e) to e v) (touching (made w) (home_word (sym kn.shape_is i) e) None (home_code to) v) v, me.1);
       },
     )
 
@@ -442,18 +487,76 @@ clears shape slots pass me e c i is real cpu may =
 
 -- Looks at a home
 
--- a map that doesn't evict tells no home
-plain_home : (shape : Shape) (place : Place) → is_lru shape.kind ≡ false → home_of_place shape place ≡ homes.Unlisted
-plain_home shape (lies k) plain = ap (λ (b : Bool). cond b (homes.In (lock_named shape k)) homes.Unlisted) plain
-plain_home shape (carried c) plain = ap (λ (b : Bool). cond b (homes.Hand c) homes.Unlisted) plain
-
 -- what a pass knows doesn't rule out the home that an element has
-home_fits : (shape : Shape) (s : State Behind View) (r : Rule shape s) (pass : ℕ) (v : View) → get_elem? s.views pass ≡ some v → (e : ℕ) → e < shape.elements → HomeFits shape v e (r.world.core.home e)
-home_fits shape s r pass v at_pass e real = let w = r.world in record {
-  plain = λ plain. r.placed.placed.homes e real ∙ plain_home shape (r.placed.place e) plain;
-  lives = λ lru own. home_in_set shape w.core.holder w.core.lists w.core.owner w.core.home r.placed.place r.placed.placed w.log e real lru own;
-  known = λ lru cpu known mine at_home. home_known shape s r pass v at_pass cpu e mine real known lru at_home;
-}
+module _ (shape : Shape) (s : State Behind View) (r : Rule shape s) (pass : ℕ) (v : View) (at_pass : get_elem? s.views pass ≡ some v) (e : ℕ) (real : e < shape.elements) where
+  whole : EachInOnePlace shape r.world.core
+  whole = each_in_one_place shape r.world.core r.placed
+
+  -- a lock of the map, or a hand on a map whose CPUs share lists
+  may_be_home : is_lru shape.kind ≡ true → (home : Home) → r.world.core.home e ≡ home → MayBeHome shape home
+  may_be_home lru homes.Unlisted is = absurd (whole.told lru e real is)
+  may_be_home lru (homes.In lock) is = whole.home_there e lock real is
+  may_be_home lru (homes.Hand c) is = (
+    by_bool shape.common (λ b. b ≡ true) (λ _. refl) (λ own. absurd (no_lock (sym is ∙ whole.own lru own e real))),
+    subst (MayOwn shape) (whole.carried e c real is).0 (whole.owned e real),
+  )
+    where
+      no_lock : {lock : DomainId} → homes.Hand c ≡ homes.In lock → ⊥
+      no_lock {lock} is = cc
+
+  -- what is in the hand of a CPU of the pass has no other hand for its home, and that CPU carries it then
+  in_no_hand : (cpu holder : ℕ) → is_among cpu v.cpus ≡ true → is_in_hand_of e cpu v.hand ≡ true → is_in_hand_of e cpu v.carried ≡ false → r.world.core.home e ≢ homes.Hand holder
+  in_no_hand cpu holder has in_hand not_carried is =
+      let w = r.world in let kn = r.knows pass v at_pass in
+      let same : holder ≡ cpu = same_owner holder cpu (sym (whole.carried e holder real is).0 ∙ in_hand_is shape w pass v e cpu kn has in_hand) in
+      true_false (sym (kn.carried e cpu (kn.within cpu has) ∙ both_hold (is_home_of cpu (w.core.home e)) (eqb (w.whose cpu) pass) (ap (is_home_of cpu) is ∙ eq-eqb holder cpu same) (eq-eqb (w.whose cpu) pass (has_mine shape w pass v cpu kn has))) ∙ not_carried)
+    where
+      same_owner : (a b : ℕ) → owners.Hand a ≡ owners.Hand b → a ≡ b
+      same_owner a b is = cc
+
+      both_hold : (a b : Bool) → a ≡ true → b ≡ true → (a && b) ≡ true
+      both_hold a b one other = λ i. one i && other i
+
+  -- a pass that knows the turns of a lock has all CPUs: where none of them holds it, nobody does
+  nobody_holds : (k : ℕ) (log : List Entry) → hold_at k v.held ≡ None → known_log k v.known ≡ Some log → r.world.core.holder k ≡ None
+  nobody_holds k log none known = ⊎_elim
+      (λ (nothing : (v.known ≡ []) × (v.bits ≡ [])). absurd (none_some (sym (ap (known_log k) nothing.0) ∙ known)))
+      (λ (all : (c : ℕ) → c < shape.cpus → is_among c v.cpus ≡ true). go all (w.core.holder k) refl)
+      kn.only
+    where
+      w : World
+      w = r.world
+
+      kn : Knows shape w pass v
+      kn = r.knows pass v at_pass
+
+      go : ((c : ℕ) → c < shape.cpus → is_among c v.cpus ≡ true) → (holder : Option ℕ) → w.core.holder k ≡ holder → w.core.holder k ≡ None
+      go all None is = is
+      go all (Some c) is =
+          let mine = has_mine shape w pass v c kn (all c (r.ranked.within c k is)) in
+          absurd (none_some (sym none ∙ (kn.held k ∙ (ap (λ (z : Option ℕ). hold_of pass w.whose k z (w.log k) (w.core.lists k) (w.lost k)) is ∙ hold_of_mine w.whose pass k c (w.log k) (w.core.lists k) (w.lost k) mine))))
+
+  -- and then it lies there, on the lists to which the turns of the lock lead
+  lies_at_home : is_lru shape.kind ≡ true → (lock : DomainId) (log : List Entry) → r.world.core.home e ≡ homes.In lock → hold_at (lock_number shape lock) v.held ≡ None → known_log (lock_number shape lock) v.known ≡ Some log → IsIn e (all_of (lists_of (content shape lock log)))
+  lies_at_home lru lock log is none known =
+      let w = r.world in let kn = r.knows pass v at_pass in
+      let k : ℕ = lock_number shape lock in
+      let there = whole.home_there e lock real is in
+      let named : lock_named shape k ≡ lock = named_by_number shape lock there.0 in
+      let at = subst (λ (z : Option ℕ). AtHome shape k z (entries (w.log k)) (w.core.lists k) (w.lost k) (get_elem? s.homes k)) (nobody_holds k log none known) (r.homes k (number_within shape lock there.0) (ap (is_lock shape) named ∙ there.0)) in
+      let lists_are : w.core.lists k ≡ lists_of (content shape lock log) = at.1 ∙ (λ i. lists_of (content shape (named i) (kn.known k log known i))) in
+      let once : times e (all_of (w.core.lists k)) ≡ 1 = (whole.home lru e lock real there.0 there.1).0 is in
+      subst (λ (l : Lists). IsIn e (all_of l)) lists_are (omega arith)
+
+  home_fits : HomeFits shape v e (r.world.core.home e)
+  home_fits = let w = r.world in record {
+    plain = λ plain. whole.plain plain e real;
+    lives = λ lru own. whole.own lru own e real;
+    known = λ lru cpu known mine at_home. home_known shape s r pass v at_pass cpu e mine real known lru at_home;
+    is_there = λ lru. may_be_home lru (w.core.home e) refl;
+    of_hand = λ cpu holder has in_hand not_carried. in_no_hand cpu holder has in_hand not_carried;
+    lies = λ lru lock log is none known. lies_at_home lru lock log is none known;
+  }
 
 pub sees_home_step : (shape : Shape) (slots pass : ℕ) (me : Seated) (e : ℕ) → e < shape.elements → StepsAs shape slots pass me (home_word shape e) (λ n. n) (goes_by shape (Glance 0 e)) (SeesHome e me)
 unfolding look_rule

@@ -365,7 +365,6 @@ module _ (shape : Shape) (id other : ℕ) (v u : View) (apart : other ≢ id) (n
       let long : length (set (set s.views id both) other gone) ≡ length s.views = length-set (set s.views id both) other gone ∙ length-set s.views id both in record {
         world = w';
         is_shape = r.is_shape;
-        own_lists = r.own_lists;
         words = r.words;
         slots = r.slots;
         lock_words = r.lock_words;

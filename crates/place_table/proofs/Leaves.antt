@@ -18,13 +18,15 @@ use Rattle.map_types.specs.declared.kind.DomainId.TheVariants as named
 use Rattle.map_types.specs.Kind.{is_lru}
 use Rattle.map_types.specs.Stored.{Stored}
 use Rattle.place_words.specs.declared.finals.Finals.{Finals}
+use Rattle.place_words.specs.declared.finals.LocalFinal.{LocalFinal}
 use Rattle.place_words.specs.declared.finals.SetFinal.{SetFinal}
 use Rattle.place_words.specs.declared.history.Entry.{Entry}
 use Rattle.place_words.specs.declared.history.LockHistory.{LockHistory}
 use Rattle.place_words.specs.Histories as histories
-use Rattle.place_words.specs.Histories.{content, bucket_in, freelist_in, own_in}
+use Rattle.place_words.specs.Histories.{content, bucket_in, freelist_in, global_in, own_in}
 use Rattle.place_words.specs.Locks.{is_lock, lock_named, lock_number, lock_count, first_set, first_bucket, first_freelist}
-use Rattle.place_words.specs.Logs.{State, bucket_at, freelist_at, locals_at, globals_at, own_at, final_set, final_local, where_lock, finals_of}
+use Rattle.place_words.specs.Logs.{bucket_at, freelist_at, locals_at, globals_at, own_at, final_set, final_local, where_lock, finals_of}
+use Rattle.place_words.specs.Locals.{new_locals}
 use Rattle.place_words.specs.Sets.{new_set}
 use Rattle.place_words.proofs.LockLemmas.{named_by_number, number_within}
 use Rattle.place_words.proofs.RestCounts.{filter_range}
@@ -35,7 +37,7 @@ use Rattle.place_table.specs.declared.content.Content.TheVariants as lying
 use Rattle.place_table.specs.Contents.{told, Fits}
 use Rattle.place_table.specs.Closing.{AreSlots, has_lock, all_locks, history_of, state_left}
 use Rattle.place_table.proofs.Worlds.{by_bool}
-use Rattle.place_table.specs.Leaving.{Logs, bodies_in, numbers_in, set_in, freelists_in, sets_in, spares_in, HasSizedBodies, IsHistory, HaveHistories, AreContents, AreKept}
+use Rattle.place_table.specs.Leaving.{Logs, bodies_in, numbers_in, set_in, locals_in, freelists_in, sets_in, all_locals_in, spares_in, HasSizedBodies, IsHistory, HaveHistories, AreContents, AreKept}
 
 -- one body more of a copy
 pub take_body : (bodies done now : List Stored) (place : ℕ) (body : Stored) → done ≡ take place bodies → slice_get bodies place ≡ Some body → now ≡ done ++ body ∷ [] → now ≡ take (place + 1) bodies
@@ -186,32 +188,56 @@ no_spare spares cpu spare done within at none so_far =
 
 -- ---- what the map holds
 
+and_false : (b : Bool) → (b && false) ≡ false
+and_false true = refl
+and_false false = refl
+
+-- CPUs that share lists have no list sets of their own
+pub no_own_set : (shape : Shape) (cpu : ℕ) → shape.common ≡ true → is_lock shape (named.CpuLru cpu) ≡ false
+no_own_set shape cpu common =
+    ap (λ (b : Bool). (is_lru shape.kind && not b) && nat_lt cpu shape.cpus) common ∙ ap (λ (b : Bool). b && nat_lt cpu shape.cpus) (and_false (is_lru shape.kind))
+
 pub passes_below : (k n : ℕ) → k < n → nat_lt k n ≡ true
 passes_below k n less = grind (arith, nat_tests)
 
 -- what lies under a lock of the map
 at_lock : (shape : Shape) (log : Logs) (contents : List (Option Content)) (lock : DomainId) → is_lock shape lock ≡ true → AreContents shape log contents
-    → (here : Content) × (get_or contents (lock_number shape lock) None ≡ Some here) × (told here ≡ content shape lock (log (lock_number shape lock))) × Fits shape lock here
+    → (here : Content) × (get_or contents (lock_number shape lock) None ≡ Some here) × (told lock here ≡ content shape lock (log (lock_number shape lock))) × Fits shape lock here
 at_lock shape log contents lock there lies =
     let k : ℕ = lock_number shape lock in
     let same : lock_named shape k ≡ lock = named_by_number shape lock there in
     let at = lies k (number_within shape lock there) (ap (is_lock shape) same ∙ there) in
-    (at.0, at.1, at.2 ∙ ap (λ (l : DomainId). content shape l (log k)) same, subst (λ (l : DomainId). Fits shape l at.0) same at.3)
+    (at.0, at.1, subst (λ (l : DomainId). told l at.0 ≡ content shape l (log k)) same at.2, subst (λ (l : DomainId). Fits shape l at.0) same at.3)
 
-bucket_told : (shape : Shape) (bucket : ℕ) (here : Content) → Fits shape (named.Bucket bucket) here → bodies_in (Some here) ≡ unwrap_or (bucket_in (told here)) []
+bucket_told : (shape : Shape) (bucket : ℕ) (here : Content) → Fits shape (named.Bucket bucket) here → bodies_in (Some here) ≡ unwrap_or (bucket_in (told (named.Bucket bucket) here)) []
 bucket_told shape bucket (lying.Bucket chain) fits = refl
 bucket_told shape bucket (lying.Freelist freelist) fits = absurd fits
+bucket_told shape bucket (lying.Local lists) fits = absurd fits
 bucket_told shape bucket (lying.Set set) fits = absurd fits
 
-freelist_told : (shape : Shape) (cpu : ℕ) (here : Content) → Fits shape (named.Freelist cpu) here → numbers_in (Some here) ≡ unwrap_or (freelist_in (told here)) []
+freelist_told : (shape : Shape) (cpu : ℕ) (here : Content) → Fits shape (named.Freelist cpu) here → numbers_in (Some here) ≡ unwrap_or (freelist_in (told (named.Freelist cpu) here)) []
 freelist_told shape cpu (lying.Bucket chain) fits = absurd fits
 freelist_told shape cpu (lying.Freelist freelist) fits = refl
+freelist_told shape cpu (lying.Local lists) fits = absurd fits
 freelist_told shape cpu (lying.Set set) fits = absurd fits
 
-set_is_told : (shape : Shape) (cpu : ℕ) (here : Content) → Fits shape (named.CpuLru cpu) here → set_in (Some here) ≡ final_set (unwrap_or (own_in (told here)) (new_set []))
-set_is_told shape cpu (lying.Bucket chain) fits = absurd fits
-set_is_told shape cpu (lying.Freelist freelist) fits = absurd fits
-set_is_told shape cpu (lying.Set set) fits = refl
+own_is_told : (shape : Shape) (cpu : ℕ) (here : Content) → Fits shape (named.CpuLru cpu) here → set_in (Some here) ≡ final_set (unwrap_or (own_in (told (named.CpuLru cpu) here)) (new_set []))
+own_is_told shape cpu (lying.Bucket chain) fits = absurd fits
+own_is_told shape cpu (lying.Freelist freelist) fits = absurd fits
+own_is_told shape cpu (lying.Local lists) fits = absurd fits
+own_is_told shape cpu (lying.Set set) fits = refl
+
+shared_is_told : (shape : Shape) (here : Content) → Fits shape named.Global here → set_in (Some here) ≡ final_set (unwrap_or (global_in (told named.Global here)) (new_set []))
+shared_is_told shape (lying.Bucket chain) fits = absurd fits
+shared_is_told shape (lying.Freelist freelist) fits = absurd fits
+shared_is_told shape (lying.Local lists) fits = absurd fits
+shared_is_told shape (lying.Set set) fits = refl
+
+local_is_told : (shape : Shape) (cpu : ℕ) (here : Content) → Fits shape (named.Local cpu) here → locals_in (Some here) ≡ final_local (unwrap_or (histories.locals_in (told (named.Local cpu) here)) (new_locals cpu))
+local_is_told shape cpu (lying.Bucket chain) fits = absurd fits
+local_is_told shape cpu (lying.Freelist freelist) fits = absurd fits
+local_is_told shape cpu (lying.Local lists) fits = refl
+local_is_told shape cpu (lying.Set set) fits = absurd fits
 
 -- what is told of the locks of one sort, where the map has all of them and where it has none
 where_all : {A : Type 0} (shape : Shape) (lock : ℕ → DomainId) (tell : ℕ → A) (n : ℕ) (d : A) (items : List A) → ((k : ℕ) → k < n → is_lock shape (lock k) ≡ true) → length items ≡ n → ((k : ℕ) → k < n → get_or items k d ≡ tell k)
@@ -266,52 +292,100 @@ module _ (shape : Shape) (log : Logs) (bit : ℕ → Bool) (spares : List (Optio
       ∙ ap (λ (c : histories.Content). unwrap_or (freelist_in c) []) at.2))
       (cases_Bool (is_lru shape.kind))
 
-  -- and those of the list sets' locks their elements and cursors, where each CPU has its own
-  sets_told : (sets : List SetFinal) → shape.common ≡ false → sets ≡ sets_in shape contents → sets ≡ where_lock shape named.CpuLru (λ cpu. final_set (own_at shape (state_left shape log bit spares) cpu)) (range_with_len 0 shape.cpus)
-  sets_told sets apart are =
+  -- those of the list sets' locks their elements and cursors, where each CPU has its own
+  own_told : (sets : List SetFinal) → is_lru shape.kind ≡ true → shape.common ≡ false → sets ≡ map set_in (drop (first_set shape) (take (first_bucket shape) contents))
+      → sets ≡ where_lock shape named.CpuLru (λ cpu. final_set (own_at shape (state_left shape log bit spares) cpu)) (range_with_len 0 shape.cpus)
+  own_told sets evicts apart are =
       let run : List (Option Content) = drop (first_set shape) (take (first_bucket shape) contents) in
-      let tell : ℕ → SetFinal = λ cpu. final_set (own_at shape (state_left shape log bit spares) cpu) in
-      ⊎_elim
-      (λ (evicts : is_lru shape.kind ≡ true).
-      let these : sets ≡ map set_in run = are ∙ ap (λ (b : Bool). cond {A = List SetFinal} b (map set_in run) []) evicts in
       let front : length (take (first_bucket shape) contents) ≡ first_bucket shape = length-take-le (first_bucket shape) contents (omega arith) in
       let long : length run ≡ shape.cpus = simp length-drop (omega arith) in
       let there : (cpu : ℕ) → cpu < shape.cpus → is_lock shape (named.CpuLru cpu) ≡ true = λ cpu within.
       ap (λ (b : Bool). (b && not shape.common) && nat_lt cpu shape.cpus) evicts ∙ ap (λ (b : Bool). not b && nat_lt cpu shape.cpus) apart ∙ passes_below cpu shape.cpus within in
-      where_all shape named.CpuLru tell shape.cpus (final_set (new_set [])) sets there (ap length these ∙ length-map run set_in ∙ long)
+      where_all shape named.CpuLru (λ cpu. final_set (own_at shape (state_left shape log bit spares) cpu)) shape.cpus (final_set (new_set [])) sets there (ap length are ∙ length-map run set_in ∙ long)
       (λ cpu within.
       let at = at_lock shape log contents (named.CpuLru cpu) (there cpu within) lies in
-      ap (λ (l : List SetFinal). get_or l cpu (final_set (new_set []))) these
+      ap (λ (l : List SetFinal). get_or l cpu (final_set (new_set []))) are
       ∙ get_or-map set_in run cpu None (final_set (new_set [])) (subst (λ (n : ℕ). cpu < n) (sym long) within)
       ∙ ap set_in (get_or-drop (first_set shape) (take (first_bucket shape) contents) cpu None ∙ get_or-take (first_bucket shape) contents (first_set shape + cpu) None (omega arith) ∙ at.1)
-      ∙ set_is_told shape cpu at.0 at.3
-      ∙ ap (λ (c : histories.Content). final_set (unwrap_or (own_in c) (new_set []))) at.2))
-      (λ (plain : is_lru shape.kind ≡ false).
-      are ∙ ap (λ (b : Bool). cond {A = List SetFinal} b (map set_in run) []) plain
-      ∙ sym (where_none shape named.CpuLru tell (range_with_len 0 shape.cpus) (λ cpu. ap (λ (b : Bool). (b && not shape.common) && nat_lt cpu shape.cpus) plain)))
+      ∙ own_is_told shape cpu at.0 at.3
+      ∙ ap (λ (c : histories.Content). final_set (unwrap_or (own_in c) (new_set []))) at.2)
+
+  -- and of the one that the CPUs share where there is one
+  abbrev shared_now : List SetFinal
+  shared_now = where_lock shape (λ one. named.Global) (λ one. final_set (globals_at shape (state_left shape log bit spares))) (range_with_len 0 1)
+
+  shared_told : (sets : List SetFinal) → shape.common ≡ true → sets ≡ set_in (get_or contents (lock_number shape named.Global) None) ∷ [] → sets ≡ shared_now
+  shared_told sets common are =
+      where_all shape (λ one. named.Global) (λ one. final_set (globals_at shape (state_left shape log bit spares))) 1 (final_set (new_set [])) sets (λ one within. common) (ap length are)
+      (λ one within.
+      let at = at_lock shape log contents named.Global common lies in
+      ap (λ (l : List SetFinal). get_or l one (final_set (new_set []))) are
+      ∙ ap (λ (n : ℕ). get_or (set_in (get_or contents (lock_number shape named.Global) None) ∷ []) n (final_set (new_set []))) (let none : one ≡ 0 = omega arith in none)
+      ∙ ap set_in at.1
+      ∙ shared_is_told shape at.0 at.3
+      ∙ ap (λ (c : histories.Content). final_set (unwrap_or (global_in c) (new_set []))) at.2)
+
+  sets_told : (sets : List SetFinal) → sets ≡ sets_in shape contents → sets ≡ shared_now ++ where_lock shape named.CpuLru (λ cpu. final_set (own_at shape (state_left shape log bit spares) cpu)) (range_with_len 0 shape.cpus)
+  sets_told sets are =
+      let own : List SetFinal = where_lock shape named.CpuLru (λ cpu. final_set (own_at shape (state_left shape log bit spares) cpu)) (range_with_len 0 shape.cpus) in
+      let shared : List SetFinal = set_in (get_or contents (lock_number shape named.Global) None) ∷ [] in
+      let run : List SetFinal = map set_in (drop (first_set shape) (take (first_bucket shape) contents)) in
+      let no_own : ((cpu : ℕ) → is_lock shape (named.CpuLru cpu) ≡ false) → own ≡ [] = where_none shape named.CpuLru (λ cpu. final_set (own_at shape (state_left shape log bit spares) cpu)) (range_with_len 0 shape.cpus) in
+      ⊎_elim
+      (λ (common : shape.common ≡ true).
+      shared_told sets common (are ∙ ap (λ (b : Bool). cond {A = List SetFinal} b shared (cond {A = List SetFinal} (is_lru shape.kind) run [])) common)
+      ∙ sym (append-nil shared_now)
+      ∙ ap (λ (none : List SetFinal). shared_now ++ none) (sym (no_own (λ cpu. no_own_set shape cpu common))))
+      (λ (apart : shape.common ≡ false).
+      let these : sets ≡ cond (is_lru shape.kind) run [] = are ∙ ap (λ (b : Bool). cond {A = List SetFinal} b shared (cond {A = List SetFinal} (is_lru shape.kind) run [])) apart in
+      let no_shared : shared_now ≡ [] = where_none shape (λ one. named.Global) (λ one. final_set (globals_at shape (state_left shape log bit spares))) (range_with_len 0 1) (λ one. apart) in
+      ⊎_elim
+      (λ (evicts : is_lru shape.kind ≡ true). own_told sets evicts apart (these ∙ ap (λ (b : Bool). cond {A = List SetFinal} b run []) evicts))
+      (λ (plain : is_lru shape.kind ≡ false). these ∙ ap (λ (b : Bool). cond {A = List SetFinal} b run []) plain ∙ sym (no_own (λ cpu. ap (λ (b : Bool). (b && not shape.common) && nat_lt cpu shape.cpus) plain)))
       (cases_Bool (is_lru shape.kind))
+      ∙ ap (λ (none : List SetFinal). none ++ own) (sym no_shared))
+      (cases_Bool shape.common)
+
+  -- those of the local locks their elements and steal cursors
+  locals_told : (locals : List LocalFinal) → locals ≡ all_locals_in shape contents → locals ≡ where_lock shape named.Local (λ cpu. final_local (locals_at shape (state_left shape log bit spares) cpu)) (range_with_len 0 shape.cpus)
+  locals_told locals are =
+      let tell : ℕ → LocalFinal = λ cpu. final_local (locals_at shape (state_left shape log bit spares) cpu) in
+      let run : List (Option Content) = take shape.cpus contents in
+      ⊎_elim
+      (λ (common : shape.common ≡ true).
+      let these : locals ≡ map locals_in run = are ∙ ap (λ (b : Bool). cond {A = List LocalFinal} b (map locals_in run) []) common in
+      let long : length run ≡ shape.cpus = length-take-le shape.cpus contents (omega arith) in
+      let there : (cpu : ℕ) → cpu < shape.cpus → is_lock shape (named.Local cpu) ≡ true = λ cpu within. ap (λ (b : Bool). b && nat_lt cpu shape.cpus) common ∙ passes_below cpu shape.cpus within in
+      where_all shape named.Local tell shape.cpus (final_local (new_locals 0)) locals there (ap length these ∙ length-map run locals_in ∙ long)
+      (λ cpu within.
+      let at = at_lock shape log contents (named.Local cpu) (there cpu within) lies in
+      ap (λ (l : List LocalFinal). get_or l cpu (final_local (new_locals 0))) these
+      ∙ get_or-map locals_in run cpu None (final_local (new_locals 0)) (subst (λ (n : ℕ). cpu < n) (sym long) within)
+      ∙ ap locals_in (get_or-take shape.cpus contents cpu None within ∙ at.1)
+      ∙ local_is_told shape cpu at.0 at.3
+      ∙ ap (λ (c : histories.Content). final_local (unwrap_or (histories.locals_in c) (new_locals cpu))) at.2))
+      (λ (apart : shape.common ≡ false).
+      are ∙ ap (λ (b : Bool). cond {A = List LocalFinal} b (map locals_in run) []) apart
+      ∙ sym (where_none shape named.Local tell (range_with_len 0 shape.cpus) (λ cpu. ap (λ (b : Bool). b && nat_lt cpu shape.cpus) apart)))
+      (cases_Bool shape.common)
 
   -- all that is handed out of the map
-  pub finals_left : (first count : ℕ) (finals : Finals) → shape.common ≡ false → first ≡ first_bucket shape → count ≡ shape.buckets
+  pub finals_left : (first count : ℕ) (finals : Finals) → first ≡ first_bucket shape → count ≡ shape.buckets
       → finals.buckets ≡ map bodies_in (take count (drop first contents)) → finals.freelists ≡ freelists_in shape contents → finals.spares ≡ spares_in shape spares
-      → finals.sets ≡ sets_in shape contents → finals.locals ≡ [] → finals.marked ≡ filter bit (range_with_len 0 shape.elements)
+      → finals.sets ≡ sets_in shape contents → finals.locals ≡ all_locals_in shape contents → finals.marked ≡ filter bit (range_with_len 0 shape.elements)
       → finals ≡ finals_of shape (state_left shape log bit spares)
   unfolding finals_of
-  finals_left first count finals apart first_is count_is buckets freelists spares_are sets locals marked =
-      let state : State = state_left shape log bit spares in
-      let cpus : List ℕ = range_with_len 0 shape.cpus in
-      let own : finals.sets ≡ where_lock shape (λ one. named.Global) (λ one. final_set (globals_at shape state)) (range_with_len 0 1) ++ where_lock shape named.CpuLru (λ cpu. final_set (own_at shape state cpu)) cpus =
-      sets_told finals.sets apart sets
-      ∙ sym (ap (λ (l : List SetFinal). l ++ where_lock shape named.CpuLru (λ cpu. final_set (own_at shape state cpu)) cpus) (where_none shape (λ one. named.Global) (λ one. final_set (globals_at shape state)) (range_with_len 0 1) (λ one. apart))) in
-      let none : finals.locals ≡ where_lock shape named.Local (λ cpu. final_local (locals_at shape state cpu)) cpus =
-      locals ∙ sym (where_none shape named.Local (λ cpu. final_local (locals_at shape state cpu)) cpus (λ cpu. ap (λ (b : Bool). b && nat_lt cpu shape.cpus) apart)) in
+  finals_left first count finals first_is count_is buckets freelists spares_are sets locals marked =
       let all_buckets = buckets_told first count finals.buckets first_is count_is buckets in
       let all_freelists = freelists_told finals.freelists freelists in
-      λ i. record { buckets = all_buckets i; freelists = all_freelists i; spares = spares_are i; sets = own i; locals = none i; marked = marked i }
+      let all_sets = sets_told finals.sets sets in
+      let all_locals = locals_told finals.locals locals in
+      λ i. record { buckets = all_buckets i; freelists = all_freelists i; spares = spares_are i; sets = all_sets i; locals = all_locals i; marked = marked i }
 
 bucket_sized : (shape : Shape) (bucket : ℕ) (here : Content) → Fits shape (named.Bucket bucket) here → HasSizedBodies shape (Some here)
 bucket_sized shape bucket (lying.Bucket chain) fits = fits
 bucket_sized shape bucket (lying.Freelist freelist) fits = absurd fits
+bucket_sized shape bucket (lying.Local lists) fits = absurd fits
 bucket_sized shape bucket (lying.Set set) fits = absurd fits
 
 -- the bodies under the buckets' locks have the sizes of the map

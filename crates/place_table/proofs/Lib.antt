@@ -1,3 +1,4 @@
+pub mod BucketBodies
 pub mod BucketTurns
 pub mod Came
 pub mod Closes
@@ -9,6 +10,7 @@ pub mod FirstSlots
 pub mod FirstSpares
 pub mod FirstWords
 pub mod Flags
+pub mod FlushedLast
 pub mod Gives
 pub mod Going
 pub mod Hands

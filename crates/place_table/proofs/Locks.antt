@@ -47,20 +47,20 @@ use Rattle.place_table.specs.Contents.{told, lists_of, Fits}
 use Rattle.place_table.specs.Laws.{StepsAs, goes_if, goes_by}
 use Rattle.place_table.specs.declared.view.Turned.{Turned}
 use Rattle.place_table.specs.Views as views
-use Rattle.place_table.specs.Views.{is_among, hold_at, known_log, holding, has_all, is_in_hand_of, home_then, owners_passed, notes_below}
+use Rattle.place_table.specs.Views.{is_among, hold_at, known_log, holding, has_all, is_in_hand_of, home_then, passed_on, notes_below}
 use Rattle.place_table.specs.Rules.{World, Rule, Knows, givers, strands_of, AtHome, Reads, Tagged, entries, hold, hold_of, IsAboveAll, Ascends, turns_on, turns_of, indexes, logs_of, AreTagged, IsFresh, HashesRight, AreOfStrands, StillHome, HasRow, IsBrought, IsHashed, HasCome, is_hand_of, LeadTo, AreNoted}
 use Rattle.place_table.specs.Words.{lock_code, owner_word, home_word, bit_word, opening_words}
 use Rattle.place_table.specs.Plays.{Seated, Tries, AreElements, IsApartFromHands, MayPut, MayGive, IsRecorded, IsKeptOrLost, Gives, GivesSome, entry_by}
 use Rattle.place_table.specs.TurnNotes.{NotesFit}
 use Rattle.place_table.specs.StoredHashes.{stored_in}
-use Rattle.place_table.proofs.StoredHashes.{renewed, hashes_gave, hash_stays, hashed_gave, IsGiven, IsOlder, given_known, given_kept, given_new, in_all, lies_on}
+use Rattle.place_table.proofs.StoredHashes.{renewed, hashes_gave, hash_stays, hashed_gave, IsGiven, IsOlder, given_known, given_kept, given_new, in_all, lies_on, lies_on_one}
 use Rattle.place_table.proofs.Came.{came_first, came_other, came_passed}
 use Rattle.place_table.proofs.HashSteps.{no_bucket_home, hashed_taken}
 use Rattle.place_table.proofs.Entries.{append_nil, entries_more, entries_length, turns_of_same, turns_of_other, turns_on_same, turns_on_other, places_on_same, places_on_other, indexes_more}
 use Rattle.place_table.proofs.Stands.{Grows, stand_more, stand_behind}
 use Rattle.place_table.proofs.Worlds.{at_put4, by_bool, true_false, some_is, none_some, hold_of_mine, IsMineOrFree, hold_of_other, HoldIs, hold_of_is, hold_at_first, hold_at_other, none_below, above_each, has_mine, in_hand_is, lock_still_lost, all_here, here_all, among_first, others, past_stays, tagged_stays, tagged_more, SameStrands, knows_none, hash_stands, hand_is, both_true}
-use Rattle.place_table.proofs.Readings.{still_took, still_gave, home_is_hand, then_known, then_still, at_home_then, listed_at_home, listed_in_set}
-use Rattle.place_table.specs.Flushes.{flushes}
+use Rattle.place_table.proofs.Readings.{still_took, still_gave, home_is_hand, then_known, then_still, at_home_then, listed_at_home, listed_in_set, flushed_off}
+use Rattle.place_table.specs.Flushes.{flushes, flushed_last}
 use Rattle.place_words.specs.declared.home.Home.{Home}
 use Rattle.place_table.specs.declared.view.HashIn.{HashIn}
 use Rattle.place_core.specs.Wholeness.{all_of}
@@ -95,7 +95,6 @@ pub same_rule : (shape : Shape) (s : State Behind View) (r : Rule shape s) (word
 same_rule shape s r words views e f = record {
   world = r.world;
   is_shape = r.is_shape;
-  own_lists = r.own_lists;
   words = ap length e ∙ r.words;
   slots = r.slots;
   lock_words = λ k below. ap (λ (l : List ℕ). get_or l k 0) e ∙ r.lock_words k below;
@@ -212,7 +211,6 @@ module _ (shape : Shape) (slots pass : ℕ) (me : Seated) (lock : DomainId) (c :
         record {
           world = w';
           is_shape = r.is_shape;
-          own_lists = r.own_lists;
           words = length-set s.words k (1 + c) ∙ r.words;
           slots = length-set s.homes k none ∙ r.slots;
           lock_words = λ m below. at_put w.core.holder k (Some c) (λ i x. i < lock_count shape → get_or (set s.words k (1 + c)) i 0 ≡ lock_code x) m
@@ -339,6 +337,17 @@ module _ (shape : Shape) (slots pass : ℕ) (me : Seated) (lock : DomainId) (c :
                 let owner_is : w.core.owner x ≡ owners.Hand d = hand_is d (w.core.owner x) (both_true _ _ (sym (kn.hands x d less) ∙ was.in_hand)).0 in
                 let is : home_then shape h x then.0 ≡ homes.In other = ap (λ (z : Shape). home_then z h x then.0) (sym kn.shape_is) ∙ then.2 in
                 at_home_then shape w.core.holder w.core.lists w.core.owner w.core.home r.placed.place r.placed.placed w.log h refl x d other then.0 was.real owner_is was.still is (ap (λ (z : Shape). lock_number z other) (sym kn.shape_is) ∙ at);
+            moved_on = λ x d f within named read none.
+                let less : d < shape.cpus = subst (λ z. d < z.cpus) kn.shape_is within in
+                let was = kn.readings x d (homes.In (Local f)) less read in
+                let owner_is : w.core.owner x ≡ owners.Hand d = hand_is d (w.core.owner x) (both_true _ _ (sym (kn.hands x d less) ∙ was.in_hand)).0 in
+                subst (λ (z : Shape). flushed_last z (lock_named z k) x (entries (w.log k)) ≡ true) (sym kn.shape_is)
+                (flushed_off shape w.core.holder w.core.lists w.core.owner w.core.home r.placed.place r.placed.placed w.log k x f was.real (ap is_free owner_is) (ap (λ (z : Shape). lock_named z k) (sym kn.shape_is) ∙ named) free none was.still);
+            alone = λ lru no_bucket j x other found nor_other inside.
+                let at = hold_of_is w.whose pass j (w.core.holder j) (w.log j) (w.core.lists j) (w.lost j) other (sym (kn.held j) ∙ found) in
+                ap (λ (z : Hold). times x (all_of z.now)) at.hold_is
+                ∙ lies_on_one shape w.core.lists w.core.owner w.core.home r.placed.place r.placed.placed k j x (λ same. none_some (sym free ∙ (ap w.core.holder (sym same) ∙ at.holder_is)))
+                (subst (λ (z : Shape). IsFalse (is_bucket (lock_named z k))) kn.shape_is no_bucket) (subst (λ (z : Shape). IsFalse (is_bucket (lock_named z j))) kn.shape_is nor_other) inside;
             lives = λ lru own x d real mine in_hand at.
                 let owner_is : w.core.owner x ≡ owners.Hand d = in_hand_is shape w pass me.0 x d kn mine in_hand in
                 subst (λ (j : ℕ). IsIn x (rows (w.core.lists j))) (ap (λ (z : Shape). lock_number z (CpuLru (set_of z x))) (sym kn.shape_is) ∙ at)
@@ -367,30 +376,36 @@ tries_at shape slots pass me k c code cpu is above code_is =
 -- Lists as given back
 
 -- what lies under a lock of one kind has only the lists of that kind, and its cursor in its place
-fits_lists : (shape : Shape) (lock : DomainId) (here : Content) → Fits shape lock here → HasOnlyItsLists lock (lists_of (told here))
+fits_lists : (shape : Shape) (lock : DomainId) (here : Content) → Fits shape lock here → HasOnlyItsLists lock (lists_of (told lock here))
 fits_lists shape (Bucket b) (contents.Bucket chain) fits = (refl, refl)
 fits_lists shape (Bucket b) (contents.Freelist freelist) fits = absurd fits
+fits_lists shape (Bucket b) (contents.Local lists) fits = absurd fits
 fits_lists shape (Bucket b) (contents.Set set) fits = absurd fits
 fits_lists shape (Freelist c) (contents.Freelist freelist) fits = (refl, refl)
 fits_lists shape (Freelist c) (contents.Bucket chain) fits = absurd fits
+fits_lists shape (Freelist c) (contents.Local lists) fits = absurd fits
 fits_lists shape (Freelist c) (contents.Set set) fits = absurd fits
 fits_lists shape (Local c) (contents.Bucket chain) fits = absurd fits
 fits_lists shape (Local c) (contents.Freelist freelist) fits = absurd fits
+fits_lists shape (Local c) (contents.Local lists) fits = refl
 fits_lists shape (Local c) (contents.Set set) fits = absurd fits
 fits_lists shape Global (contents.Bucket chain) fits = absurd fits
 fits_lists shape Global (contents.Freelist freelist) fits = absurd fits
-fits_lists shape Global (contents.Set set) fits = absurd fits
+fits_lists shape Global (contents.Local lists) fits = absurd fits
+fits_lists shape Global (contents.Set set) fits = tt
 fits_lists shape (CpuLru c) (contents.Bucket chain) fits = absurd fits
 fits_lists shape (CpuLru c) (contents.Freelist freelist) fits = absurd fits
+fits_lists shape (CpuLru c) (contents.Local lists) fits = absurd fits
 fits_lists shape (CpuLru c) (contents.Set set) fits = tt
 
-fits_cursor : (shape : Shape) (lock : DomainId) (here : Content) → Fits shape lock here → HasCursorInside (lists_of (told here))
+fits_cursor : (shape : Shape) (lock : DomainId) (here : Content) → Fits shape lock here → HasCursorInside (lists_of (told lock here))
 fits_cursor shape lock (contents.Bucket chain) fits = tt
 fits_cursor shape lock (contents.Freelist freelist) fits = tt
+fits_cursor shape lock (contents.Local lists) fits = tt
 fits_cursor shape (Bucket b) (contents.Set set) fits = absurd fits
 fits_cursor shape (Freelist c) (contents.Set set) fits = absurd fits
 fits_cursor shape (Local c) (contents.Set set) fits = absurd fits
-fits_cursor shape Global (contents.Set set) fits = absurd fits
+fits_cursor shape Global (contents.Set set) fits = fits.whole.placed
 fits_cursor shape (CpuLru c) (contents.Set set) fits = fits.whole.placed
 
 -- what follows of the record of a lock, where there is one and where there is none
@@ -415,12 +430,16 @@ kept_or_lost shape v h e kept b shape_is rec =
 
 module _ (shape : Shape) (slots pass : ℕ) (v : View) (b : Behind) (cs : List (ℕ × Behind)) (lock : DomainId) (h : Hold) (below : List Hold) (is_held : v.held ≡ h ∷ below) (is : IsTrue (is_lock shape lock)) (at_lock : h.lock ≡ lock_number shape lock)
     (e : Entry) (kept : List StrandStep) (may : MayGive shape v h e kept b) where
+  -- what is put back, as histories tell it
+  abbrev back : histories.Content
+  back = told (lock_named shape (lock_number shape lock)) may.here
+
   gave_step : World → WordStep
   gave_step w = record { at = made w; word = h.lock; seen = None; left = 0 }
 
   gave_world : World → World
   gave_world w = record {
-    core = given shape w.core lock (lists_of (told may.here));
+    core = given shape w.core lock (lists_of back);
     log = put w.log (lock_number shape lock) (w.log (lock_number shape lock) ++ (w.current pass, e) ∷ []);
     lost = put w.lost (lock_number shape lock) (lost_of b.history);
     whose = w.whose;
@@ -429,7 +448,7 @@ module _ (shape : Shape) (slots pass : ℕ) (v : View) (b : Behind) (cs : List (
     current = w.current;
     past = w.past;
     next = w.next;
-    hash = λ x. renewed (is_lru shape.kind) (stored_in (told may.here) x) (w.hash x);
+    hash = λ x. renewed (is_lru shape.kind) (stored_in back x) (w.hash x);
     touches = touches_with w pass (gave_step w);
   }
 
@@ -447,22 +466,21 @@ module _ (shape : Shape) (slots pass : ℕ) (v : View) (b : Behind) (cs : List (
   recorded_there : (w : World) (kn : Knows shape w pass v) → IsRecorded shape v (hold (lock_number shape lock) h.cpu (w.log (lock_number shape lock)) (w.core.lists (lock_number shape lock)) (w.lost (lock_number shape lock))) e kept b
   recorded_there w kn = subst (λ (z : Hold). IsRecorded shape v z e kept b) (found_hold w kn).hold_is may.records
 
-  can_give : (s : State Behind View) (r : Rule shape s) → get_elem? s.views pass ≡ some v → CanGive shape r.world.core h.cpu lock (lists_of (told may.here))
+  can_give : (s : State Behind View) (r : Rule shape s) → get_elem? s.views pass ≡ some v → CanGive shape r.world.core h.cpu lock (lists_of back)
   can_give s r at_pass =
       let w = r.world in let k : ℕ = lock_number shape lock in let kn = r.knows pass v at_pass in
       let at = found_hold w kn in
       let m = put_back_there w kn in
       let named = named_by_number shape lock is in
       let there = elements_there shape s r k in
-      let fits : Fits shape lock may.here = subst (λ (d : DomainId). Fits shape d may.here) named m.fits in
       record {
         holds = record { is_cpu = r.ranked.within h.cpu k at.holder_is; is_lock = is; held = at.holder_is };
-        fit = fits_lists shape lock may.here fits;
+        fit = subst (λ (d : DomainId). HasOnlyItsLists d (lists_of back)) named (fits_lists shape (lock_named shape (lock_number shape lock)) may.here m.fits);
         same_free = m.same_free;
         same_rows = m.same_rows;
         free_once = λ x. subst (λ (n : ℕ). n ≤ 1) (sym (m.same_free x)) (there.free_once x);
         rows_once = λ x. subst (λ (n : ℕ). n ≤ 1) (sym (m.same_rows x)) (there.rows_once x);
-        cursor = fits_cursor shape lock may.here fits;
+        cursor = fits_cursor shape (lock_named shape (lock_number shape lock)) may.here m.fits;
       }
 
   same_hands : (c d : ℕ) → owners.Hand c ≡ owners.Hand d → c ≡ d
@@ -504,14 +522,14 @@ module _ (shape : Shape) (slots pass : ℕ) (v : View) (b : Behind) (cs : List (
       (λ (come : HasCome w.core.holder (views.came_at k v.held v.notes) k x h.cpu). true_false (sym (λ i. in_hand i && (ap (is_among x) (sym came_is) ∙ come.inside) i) ∙ other)))
       ((kn.hashed lru x h.cpu lock real within in_hand home_is).row at.holder_is)
 
-  own_hashes : (s : State Behind View) (r : Rule shape s) → get_elem? s.views pass ≡ some v → (x c : ℕ) (noted : HashIn) → c < shape.cpus → (IsTrue (is_lru shape.kind) → fresh x ≡ false → renewed true (stored_in (told may.here) x) (r.world.hash x) ≡ r.world.hash x) → views.hash_known x c (views.given (made r.world) h e kept v).hashes ≡ Some noted → (is_in_hand_of x c v.hand ≡ true) × (bucket_number (renewed (is_lru shape.kind) (stored_in (told may.here) x) (r.world.hash x)) shape.buckets ≡ noted.bucket)
+  own_hashes : (s : State Behind View) (r : Rule shape s) → get_elem? s.views pass ≡ some v → (x c : ℕ) (noted : HashIn) → c < shape.cpus → (IsTrue (is_lru shape.kind) → fresh x ≡ false → renewed true (stored_in back x) (r.world.hash x) ≡ r.world.hash x) → views.hash_known x c (views.given (made r.world) h e kept v).hashes ≡ Some noted → (is_in_hand_of x c v.hand ≡ true) × (bucket_number (renewed (is_lru shape.kind) (stored_in back x) (r.world.hash x)) shape.buckets ≡ noted.bucket)
   unfolding gave_world fresh
   own_hashes s r at_pass x c noted within stays found =
       let w = r.world in let kn = r.knows pass v at_pass in
       let came : List ℕ = views.came_last v.notes in
       let here : histories.Content = content_after v.shape e.cpu e.part (content v.shape (lock_named v.shape h.lock) h.log) in
-      let same : here ≡ told may.here = ap (λ z. content_after z e.cpu e.part (content z (lock_named z h.lock) h.log)) kn.shape_is ∙ sym may.may_put.told_is in
-      by_bool (is_lru shape.kind) (λ t. is_lru shape.kind ≡ t → views.hash_known x c (cond t (views.hashes_given h.cpu v.shape.buckets here came v.hand v.hashes) v.hashes) ≡ Some noted → (is_in_hand_of x c v.hand ≡ true) × (bucket_number (renewed t (stored_in (told may.here) x) (w.hash x)) shape.buckets ≡ noted.bucket))
+      let same : here ≡ back = ap (λ z. content_after z e.cpu e.part (content z (lock_named z h.lock) h.log)) kn.shape_is ∙ (sym may.may_put.told_is ∙ ap (λ (z : ℕ). told (lock_named shape z) may.here) at_lock) in
+      by_bool (is_lru shape.kind) (λ t. is_lru shape.kind ≡ t → views.hash_known x c (cond t (views.hashes_given h.cpu v.shape.buckets here came v.hand v.hashes) v.hashes) ≡ Some noted → (is_in_hand_of x c v.hand ≡ true) × (bucket_number (renewed t (stored_in back x) (w.hash x)) shape.buckets ≡ noted.bucket))
       (λ lru _ f. ⊎_elim
       (λ (given : IsGiven here v.shape.buckets x c noted v.hand). (
         given.in_hand,
@@ -519,7 +537,7 @@ module _ (shape : Shape) (slots pass : ℕ) (v : View) (b : Behind) (cs : List (
       ))
       (λ (older : IsOlder here h.cpu came x c noted v.hand v.hashes). let was = kn.hashes x c noted within older.known in (
         was.in_hand,
-        by_bool (fresh x) (λ t. fresh x ≡ t → bucket_number (renewed true (stored_in (told may.here) x) (w.hash x)) shape.buckets ≡ noted.bucket)
+        by_bool (fresh x) (λ t. fresh x ≡ t → bucket_number (renewed true (stored_in back x) (w.hash x)) shape.buckets ≡ noted.bucket)
             (λ yes _.
             let mine : c ≡ h.cpu = same_hands c h.cpu (sym (hand_is c (w.core.owner x) (both_true _ _ (sym (kn.hands x c within) ∙ was.in_hand)).0) ∙ fresh_there s r at_pass x yes) in
             ap (λ (o : Option ℕ). bucket_number (renewed true o (w.hash x)) shape.buckets) (sym (ap (λ z. stored_in z x) same) ∙ older.none_stored mine was.in_hand (both_true _ _ yes).1) ∙ was.bucket_is)
@@ -533,7 +551,7 @@ module _ (shape : Shape) (slots pass : ℕ) (v : View) (b : Behind) (cs : List (
   gave_rule : (s : State Behind View) (r : Rule shape s) → get_elem? s.views pass ≡ some v
       → (known_lost : List ℕ) → ((m : ℕ) → is_among m known_lost ≡ true → (is_among m v.lost ≡ true) ⊎ ((m ≡ lock_number shape lock) × (lost_of b.history ≡ true)))
       → (after : Rule shape record { words = set s.words (lock_number shape lock) 0; homes = set s.homes (lock_number shape lock) (some b); views = set s.views pass (views.with_lost known_lost (views.given (made r.world) h e kept v)) })
-      × goes_by shape (Give h.cpu lock (lists_of (told may.here))) 0 r.world.core after.world.core
+      × goes_by shape (Give h.cpu lock (lists_of (told lock may.here))) 0 r.world.core after.world.core
   unfolding gave_step gave_world fresh
   gave_rule s r at_pass known_lost is_lost =
       let k : ℕ = lock_number shape lock in
@@ -548,9 +566,9 @@ module _ (shape : Shape) (slots pass : ℕ) (v : View) (b : Behind) (cs : List (
       let log_is : h.log ≡ es = ap (λ (z : Hold). z.log) at.hold_is in
       let l' : List Tagged = w.log k ++ (w.current pass, e) ∷ [] in
       let lo' : Bool = lost_of b.history in
-      let n' : Lists = lists_of (told may.here) in
+      let n' : Lists = lists_of back in
       let es_is : entries l' ≡ es ++ e ∷ [] = entries_more (w.log k) (w.current pass, e) in
-      let content_is : content shape (lock_named shape k) (entries l') ≡ told may.here = ap (content shape (lock_named shape k)) es_is ∙ (content_more shape (lock_named shape k) es e ∙ sym m0.told_is) in
+      let content_is : content shape (lock_named shape k) (entries l') ≡ back = ap (content shape (lock_named shape k)) es_is ∙ (content_more shape (lock_named shape k) es e ∙ sym m0.told_is) in
       let w' : World = gave_world w in
       let nv : View = views.with_lost known_lost (views.given (made w) h e kept v) in
       let last : WordStep = gave_step w in
@@ -570,7 +588,7 @@ module _ (shape : Shape) (slots pass : ℕ) (v : View) (b : Behind) (cs : List (
       let innermost : (m : ℕ) → m ≢ k → w.core.holder m ≡ Some h.cpu → rank_of (lock_named shape m) < rank_of (lock_named shape k) = λ m ne holds.
       let there_is : hold_at m below ≡ Some (hold m h.cpu (w.log m) (w.core.lists m) (w.lost m)) = sym (hold_at_other m h below (λ y. ne (y ∙ at_lock))) ∙ (sym (ap (hold_at m) is_held) ∙ (kn.held m ∙ (ap (λ (z : Option ℕ). hold_of pass w.whose m z (w.log m) (w.core.lists m) (w.lost m)) holds ∙ hold_of_mine w.whose pass m h.cpu (w.log m) (w.core.lists m) (w.lost m) at.mine))) in
       above_each shape (rank_of (lock_named shape k)) below m (hold m h.cpu (w.log m) (w.core.lists m) (w.lost m)) (subst (λ (z : ℕ). IsAboveAll shape (rank_of (lock_named shape z)) below) at_lock ranks.0) there_is in
-      let rows_stay : IsTrue (is_lru shape.kind) → (j x n m : ℕ) → fresh x ≡ false → w.core.holder j ≡ Some h.cpu → stored_in (content shape (lock_named shape j) (entries (w.log j))) x ≡ Some n → stored_in (told may.here) x ≡ Some m → n ≡ m = λ lru j x n m other holds.
+      let rows_stay : IsTrue (is_lru shape.kind) → (j x n m : ℕ) → fresh x ≡ false → w.core.holder j ≡ Some h.cpu → stored_in (content shape (lock_named shape j) (entries (w.log j))) x ≡ Some n → stored_in back x ≡ Some m → n ≡ m = λ lru j x n m other holds.
       m0.rows_kept lru j x n m (hold j h.cpu (w.log j) (w.core.lists j) (w.lost j)) (kn.held j ∙ (ap (λ (z : Option ℕ). hold_of pass w.whose j z (w.log j) (w.core.lists j) (w.lost j)) holds ∙ hold_of_mine w.whose pass j h.cpu (w.log j) (w.core.lists j) (w.lost j) at.mine)) other in
       let gone_there : IsTrue (is_lru shape.kind) → (c x n : ℕ) → lock_named shape k ≡ Local c → stored_in (content shape (lock_named shape k) es) x ≡ Some n → times x (all_of (w.core.lists k)) ≡ 0 → (w.core.home x ≡ homes.Hand h.cpu) ⊎ (flushes x e.part ≡ true) = λ lru c x n named was none. ⊎_elim
       (λ (off : is_in_hand_of x h.cpu v.carried ≡ true). inl (home_is_hand h.cpu (w.core.home x) (both_true _ _ (sym (kn.carried x h.cpu (r.ranked.within h.cpu k at.holder_is)) ∙ off)).0))
@@ -578,14 +596,13 @@ module _ (shape : Shape) (slots pass : ℕ) (v : View) (b : Behind) (cs : List (
       (m0.gone lru c x n named was none) in
       let still_there : (x : ℕ) (read : Home) → x < shape.elements → StillHome shape w.core.holder w.log x (w.core.home x) read → StillHome shape (put w.core.holder k None) (put w.log k l') x (w.core.home x) read =
       still_gave shape w.core.holder w.core.lists w.core.owner w.core.home r.placed.place r.placed.placed w.log k h.cpu may.here m0.fits l' e es_is content_is m0.same_rows gone_there in
-      let hash_there : IsTrue (is_lru shape.kind) → (x : ℕ) → fresh x ≡ false → renewed true (stored_in (told may.here) x) (w.hash x) ≡ w.hash x = λ lru x other.
+      let hash_there : IsTrue (is_lru shape.kind) → (x : ℕ) → fresh x ≡ false → renewed true (stored_in back x) (w.hash x) ≡ w.hash x = λ lru x other.
       hash_stays shape w.core.holder w.core.lists w.core.owner w.core.home r.placed.place r.placed.placed w.log w.hash (r.hashes lru) k h.cpu at.holder_is may.here m0.fits l' content_is m0.same_rows innermost fresh (fresh_there s r at_pass) (rowed_there s r at_pass lru) (rows_stay lru) x other in
       let held_now : w.core.holder k ≡ Some h.cpu = at.holder_is in
       let counted : length h.log ≡ length (w.log k) + 0 = ap length log_is ∙ (entries_length (w.log k) ∙ (let g : length (w.log k) ≡ length (w.log k) + 0 = omega arith in g)) in (
         record {
           world = w';
           is_shape = r.is_shape;
-          own_lists = r.own_lists;
           words = length-set s.words k 0 ∙ r.words;
           slots = length-set s.homes k (some b) ∙ r.slots;
           lock_words = λ m within. at_put w.core.holder k None (λ i x. i < lock_count shape → get_or (set s.words k 0) i 0 ≡ lock_code x) m
@@ -596,7 +613,7 @@ module _ (shape : Shape) (slots pass : ℕ) (v : View) (b : Behind) (cs : List (
           bit_words = λ x within. get_or-set_other s.words k (bit_word shape x) 0 0 (λ y. omega (arith, real)) ∙ r.bit_words x within;
           placed = step_keeps_places shape w.core (Give h.cpu lock n') bounds can r.placed;
           ranked = step_keeps_ranks shape w.core (Give h.cpu lock n') can r.ranked;
-          hashes = λ lru. subst (λ (t : Bool). HashesRight shape (put w.core.holder k None) (put w.core.lists k n') w.core.owner (put w.log k l') (λ x. renewed t (stored_in (told may.here) x) (w.hash x))) (sym lru)
+          hashes = λ lru. subst (λ (t : Bool). HashesRight shape (put w.core.holder k None) (put w.core.lists k n') w.core.owner (put w.log k l') (λ x. renewed t (stored_in back x) (w.hash x))) (sym lru)
               (hashes_gave shape w.core.holder w.core.lists w.core.owner w.core.home r.placed.place r.placed.placed w.log w.hash (r.hashes lru) k h.cpu at.holder_is may.here m0.fits l' content_is m0.same_rows innermost fresh (fresh_there s r at_pass) (rowed_there s r at_pass lru) (rows_stay lru));
           legal = λ m. at_put w.log k l' (λ i l. IsLegal shape (lock_named shape i) (entries l)) m
               (subst (IsLegal shape (lock_named shape k)) (sym es_is) (legal_more shape (lock_named shape k) es e (r.legal k) m0.allowed))
@@ -650,19 +667,19 @@ module _ (shape : Shape) (slots pass : ℕ) (v : View) (b : Behind) (cs : List (
                     let m : ℕ = lock_number shape at in
                     let owner_is : w.core.owner x ≡ owners.Hand d = hand_is d (w.core.owner x) (both_true _ _ (sym (kn.hands x d within) ∙ in_hand)).0 in
                     let here : histories.Content = content_after v.shape e.cpu e.part (content v.shape (lock_named v.shape h.lock) h.log) in
-                    let here_is : here ≡ told may.here = ap (λ z. content_after z e.cpu e.part (content z (lock_named z h.lock) h.log)) kn.shape_is ∙ sym may.may_put.told_is in
+                    let here_is : here ≡ back = ap (λ z. content_after z e.cpu e.part (content z (lock_named z h.lock) h.log)) kn.shape_is ∙ (sym may.may_put.told_is ∙ ap (λ (z : ℕ). told (lock_named shape z) may.here) at_lock) in
                     let came : List ℕ = views.came_last v.notes in
                     let hashes' : List HashIn = views.hashes_given h.cpu v.shape.buckets here came v.hand v.hashes in
-                    let came' : List ℕ = views.came_at m (views.holds_below v.held) (owners_passed e.part (notes_below v.notes)) in
-                    subst (λ (t : Bool). IsHashed shape (put w.core.holder k None) (put w.log k l') (λ y. renewed t (stored_in (told may.here) y) (w.hash y)) (cond (is_lru v.shape.kind) hashes' v.hashes) came' m x d) (sym lru)
-                    (subst (λ (t : Bool). IsHashed shape (put w.core.holder k None) (put w.log k l') (λ y. renewed true (stored_in (told may.here) y) (w.hash y)) (cond t hashes' v.hashes) came' m x d) (sym (ap (λ z. is_lru z.kind) kn.shape_is ∙ lru))
+                    let came' : List ℕ = views.came_at m (views.holds_below v.held) (passed_on e.part (notes_below v.notes)) in
+                    subst (λ (t : Bool). IsHashed shape (put w.core.holder k None) (put w.log k l') (λ y. renewed t (stored_in back y) (w.hash y)) (cond (is_lru v.shape.kind) hashes' v.hashes) came' m x d) (sym lru)
+                    (subst (λ (t : Bool). IsHashed shape (put w.core.holder k None) (put w.log k l') (λ y. renewed true (stored_in back y) (w.hash y)) (cond t hashes' v.hashes) came' m x d) (sym (ap (λ z. is_lru z.kind) kn.shape_is ∙ lru))
                     (hashed_gave shape w.core.holder w.core.lists w.core.owner w.core.home r.placed.place r.placed.placed w.log w.hash (r.hashes lru) k h.cpu held_now may.here m0.fits l' content_is m0.same_rows innermost fresh (fresh_there s r at_pass) (rowed_there s r at_pass lru) (rows_stay lru)
                     v.hashes hashes' (views.came_at m v.held v.notes) came' m x d
                     (no_bucket_home shape w.core.lists w.core.owner w.core.home r.placed.place r.placed.placed lru x at real_x at_home)
                     (listed_at_home shape w.core.holder w.core.lists w.core.owner w.core.home r.placed.place r.placed.placed w.log x at real_x (ap is_free owner_is) at_home)
                     (λ noted found. given_kept here h.cpu v.shape.buckets came x d v.hashes v.hand record { noted = noted; last = found })
                     (λ mine inside same_lock n stored. given_new here h.cpu v.shape.buckets came x d v.hashes n v.hand in_hand mine (ap (is_among x) (sym came_is) ∙ (ap (λ (z : ℕ). is_among x (views.came_at z v.held v.notes)) (sym same_lock) ∙ inside)) (ap (λ z. stored_in z x) here_is ∙ stored))
-                    (λ ne. ap (λ (l : List Hold). views.came_at m (views.holds_below l) (owners_passed e.part (notes_below v.notes))) is_held ∙ (came_passed e.part m below (notes_below v.notes) ∙ (sym (came_other m h below v.notes (λ y. ne (y ∙ at_lock))) ∙ ap (λ (l : List Hold). views.came_at m l v.notes) (sym is_held))))
+                    (λ ne. ap (λ (l : List Hold). views.came_at m (views.holds_below l) (passed_on e.part (notes_below v.notes))) is_held ∙ (came_passed e.part m below (notes_below v.notes) ∙ (sym (came_other m h below v.notes (λ y. ne (y ∙ at_lock))) ∙ ap (λ (l : List Hold). views.came_at m l v.notes) (sym is_held))))
                     (kn.hashed lru x d at real_x within in_hand at_home)));
                 readings = λ x d read within found. let was = kn.readings x d read within found in record { real = was.real; in_hand = was.in_hand; still = still_there x read was.real was.still };
                 known = λ m log. by_bool (has_all v) (λ t. known_log m (cond t (record { lock = h.lock; log = h.log ++ e ∷ [] } ∷ v.known) v.known) ≡ Some log → entries (put w.log k l' m) ≡ log)
@@ -683,7 +700,7 @@ module _ (shape : Shape) (slots pass : ℕ) (v : View) (b : Behind) (cs : List (
                       lost = at_put w.lost k lo' (λ i lo. i ≡ k → lo ≡ true) m (λ _. here.1) (λ ne same. absurd (ne same)) here.0;
                     })
                     (is_lost m among);
-                noted = subst (λ (l : List Hold). AreNoted shape (v.touched ++ last ∷ []) l (owners_passed e.part (notes_below v.notes))) (sym (ap views.holds_below is_held))
+                noted = subst (λ (l : List Hold). AreNoted shape (v.touched ++ last ∷ []) l (passed_on e.part (notes_below v.notes))) (sym (ap views.holds_below is_held))
                     (noted_gave shape v v.touched last h below v.notes e.part refl ranks.0 (subst (λ (l : List Hold). AreNoted shape v.touched l v.notes) is_held kn.noted) may.noted);
                 strand = record {
                   keeper = kn.strand.keeper;
@@ -723,7 +740,7 @@ module _ (shape : Shape) (slots pass : ℕ) (v : View) (b : Behind) (cs : List (
               losses
               (λ m log f. absurd (none_some (sym (ap (known_log m) no_more.0) ∙ f)))
               ku.bits
-              (λ x d in_hand theirs. by_bool (is_lru shape.kind) (λ t. is_lru shape.kind ≡ t → renewed t (stored_in (told may.here) x) (w.hash x) ≡ w.hash x)
+              (λ x d in_hand theirs. by_bool (is_lru shape.kind) (λ t. is_lru shape.kind ≡ t → renewed t (stored_in back x) (w.hash x) ≡ w.hash x)
               (λ lru _. hash_there lru x (by_bool (fresh x) (λ t. t ≡ false)
               (λ yes. absurd (t.0 (sym theirs ∙ (ap w.whose (same_hands d h.cpu (sym in_hand ∙ fresh_there s r at_pass x yes)) ∙ at.mine)))) (λ _. refl)))
               (λ _ _. refl) refl)
@@ -732,10 +749,13 @@ module _ (shape : Shape) (slots pass : ℕ) (v : View) (b : Behind) (cs : List (
               (λ x d read real _ _ still. still_there x read real still))
               (at_set s.views pass j nv u f);
         },
-        record { enabled = can; changed = refl },
+        record {
+          enabled = subst (λ (d : DomainId). CanGive shape w.core h.cpu lock (lists_of (told d may.here))) (named_by_number shape lock is) can;
+          changed = ap (λ (d : DomainId). given shape w.core lock (lists_of (told d may.here))) (named_by_number shape lock is);
+        },
       )
 
-  pub gives_back : StepsAs shape slots pass (v, (lock_number shape lock, b) ∷ cs) (lock_number shape lock) (λ _. 0) (goes_by shape (Give h.cpu lock (lists_of (told may.here)))) (λ _. Gives e kept (v, (lock_number shape lock, b) ∷ cs))
+  pub gives_back : StepsAs shape slots pass (v, (lock_number shape lock, b) ∷ cs) (lock_number shape lock) (λ _. 0) (goes_by shape (Give h.cpu lock (lists_of (told lock may.here)))) (λ _. Gives e kept (v, (lock_number shape lock, b) ∷ cs))
   gives_back s r wide at_pass _ = (
     views.given (made r.world) h e kept v,
     gives,
@@ -750,7 +770,7 @@ pub gives_at : (shape : Shape) (slots pass : ℕ) (me : Seated) (b : Behind) (cs
 gives_at shape slots pass me b cs h below k e kept slots_are held at_lock is may =
     let num = number_of_named shape k in
     subst (λ (z : ℕ × List (ℕ × Behind)). Allows (Rule shape) slots pass (me.0, z.1) z.0 (λ _. 0) (λ _. Gives e kept (me.0, z.1))) (λ i. (num i, (ap (λ (y : ℕ). (y, b) ∷ cs) num ∙ sym slots_are) i))
-    (allows_of shape slots pass (me.0, (lock_number shape (lock_named shape k), b) ∷ cs) (lock_number shape (lock_named shape k)) (λ _. 0) (goes_by shape (Give h.cpu (lock_named shape k) (lists_of (told may.here)))) (λ _. Gives e kept (me.0, (lock_number shape (lock_named shape k), b) ∷ cs))
+    (allows_of shape slots pass (me.0, (lock_number shape (lock_named shape k), b) ∷ cs) (lock_number shape (lock_named shape k)) (λ _. 0) (goes_by shape (Give h.cpu (lock_named shape k) (lists_of (told (lock_named shape k) may.here)))) (λ _. Gives e kept (me.0, (lock_number shape (lock_named shape k), b) ∷ cs))
     (gives_back shape slots pass me.0 b cs (lock_named shape k) h below held is (at_lock ∙ sym num) e kept may))
 
 -- where the strand has no step more, no history is there

@@ -2,10 +2,14 @@
 use Rattle.std.proofs.Common.{◌≡◌, ℕ, ◌<◌, ◌≤◌, arith, inl, inr, ⊎_elim, cond, Bool, List, [], ◌∷◌, ◌++◌, sym, ap, ◌∙◌, subst, append_assoc, true, false}
 use Rattle.std.proofs.lemmas.List.Elements.{All-head}
 use Rattle.map_types.specs.declared.attr.Shape.{Shape}
+use Rattle.map_types.specs.declared.kind.DomainId.TheVariants.{Local, Global, CpuLru, Bucket, Freelist}
 use Rattle.place_words.specs.declared.bucket_part.BucketPart.TheVariants.{Lookup, Update, Delete, Take, Next, First, Walk, Evict}
 use Rattle.place_words.specs.declared.bucket_part.Seen.TheVariants.{Removed, Held}
 use Rattle.place_words.specs.declared.history.Part.{Part}
 use Rattle.place_words.specs.declared.history.Part.TheVariants as parts
+use Rattle.place_words.specs.declared.list_part.GlobalPart.TheVariants as global
+use Rattle.place_words.specs.declared.visits.Flush.{Flush}
+use Rattle.place_words.specs.Codes.{home_code}
 use Rattle.place_words.specs.declared.home.Home.{Home}
 use Rattle.place_words.specs.declared.home.Home.TheVariants as homes
 use Rattle.place_words.specs.declared.owner.Owner.{Owner}
@@ -19,7 +23,7 @@ use Rattle.place_table.specs.declared.view.View.{View}
 use Rattle.place_table.specs.declared.view.Notes.{Notes}
 use Rattle.place_table.specs.declared.view.OwnerSeen.{OwnerSeen}
 use Rattle.place_table.specs.declared.view.WordStep.{WordStep}
-use Rattle.place_table.specs.Views.{now_at, with_now, held_without, held_with, with_came, with_come_home, with_mark, with_clear, with_bit_read, with_home_read, with_owner_read, notes_below, owners_passed}
+use Rattle.place_table.specs.Views.{now_at, with_now, held_without, held_with, with_came, with_come_home, with_off, left_local, with_left_home, with_mark, with_clear, with_bit_read, with_home_read, with_owner_read, with_flushed, notes_below, passed_on}
 use Rattle.place_table.specs.TurnNotes.{WasReadInHand, ProbeFits, NotesFit, InnermostFits}
 use Rattle.place_table.specs.Rules.{IsAboveAll, AreOff, AreOffHeld, take_step, HasStep, AreNoted, mark_step, bit_step, owner_step, home_step, AreDone, IsDone}
 
@@ -197,10 +201,48 @@ noted_came shape steps k e (h ∷ hs) (n ∷ ns) are =
     (λ _. (are.0, are.1, are.2, are.3, are.4, are.5, record { marks = are.6.marks; asked = are.6.asked; owners = are.6.owners; homes = are.6.homes }, are.7))
     (λ _. (are.0, are.1, are.2, are.3, are.4, are.5, are.6, noted_came shape are.0 k e hs ns are.7))
 
-pub noted_home_come : (shape other : Shape) (steps : List WordStep) (home : Home) (e : ℕ) (holds : List Hold) (notes : List Notes) → AreNoted shape steps holds notes → AreNoted shape steps holds (with_come_home other home e holds notes)
-noted_home_come shape other steps homes.Unlisted e holds notes are = are
-noted_home_come shape other steps (homes.In lock) e holds notes are = noted_came shape steps (lock_number other lock) e holds notes are
-noted_home_come shape other steps (homes.Hand c) e holds notes are = are
+pub noted_home_come : (shape other : Shape) (steps : List WordStep) (from to : Home) (e : ℕ) (holds : List Hold) (notes : List Notes) → AreNoted shape steps holds notes → AreNoted shape steps holds (with_come_home other from to e holds notes)
+noted_home_come shape other steps from homes.Unlisted e holds notes are = are
+noted_home_come shape other steps from (homes.In lock) e holds notes are =
+    by_test (home_code from) (home_code (homes.In lock)) (λ b. AreNoted shape steps holds (cond b notes (with_came (lock_number other lock) e holds notes)))
+    (λ _. are) (λ _. noted_came shape steps (lock_number other lock) e holds notes are)
+noted_home_come shape other steps from (homes.Hand c) e holds notes are = are
+
+-- One left local lists for the global ones, of which no more is noted than that
+
+noted_off : (shape : Shape) (steps : List WordStep) (k e : ℕ) (holds : List Hold) (notes : List Notes) → AreNoted shape steps holds notes → AreNoted shape steps holds (with_off k e holds notes)
+noted_off shape steps k e [] notes are = tt
+noted_off shape steps k e (h ∷ hs) [] are = absurd are
+noted_off shape steps k e (h ∷ hs) (n ∷ ns) are =
+    by_test h.lock k (λ b. AreNoted shape steps (h ∷ hs) (cond b (record n { off = e ∷ n.off } ∷ ns) (n ∷ with_off k e hs ns)))
+    (λ _. (are.0, are.1, are.2, are.3, are.4, are.5, record { marks = are.6.marks; asked = are.6.asked; owners = are.6.owners; homes = are.6.homes }, are.7))
+    (λ _. (are.0, are.1, are.2, are.3, are.4, are.5, are.6, noted_off shape are.0 k e hs ns are.7))
+
+noted_left_local : (shape other : Shape) (steps : List WordStep) (from : Home) (e : ℕ) (holds : List Hold) (notes : List Notes) → AreNoted shape steps holds notes → AreNoted shape steps holds (left_local other from e holds notes)
+noted_left_local shape other steps homes.Unlisted e holds notes are = are
+noted_left_local shape other steps (homes.In (Local c)) e holds notes are = noted_off shape steps (lock_number other (Local c)) e holds notes are
+noted_left_local shape other steps (homes.In Global) e holds notes are = are
+noted_left_local shape other steps (homes.In (CpuLru c)) e holds notes are = are
+noted_left_local shape other steps (homes.In (Bucket b)) e holds notes are = are
+noted_left_local shape other steps (homes.In (Freelist c)) e holds notes are = are
+noted_left_local shape other steps (homes.Hand c) e holds notes are = are
+
+pub noted_left_home : (shape other : Shape) (steps : List WordStep) (from to : Home) (e : ℕ) (holds : List Hold) (notes : List Notes) → AreNoted shape steps holds notes → AreNoted shape steps holds (with_left_home other from to e holds notes)
+noted_left_home shape other steps from homes.Unlisted e holds notes are = are
+noted_left_home shape other steps from (homes.In (Local c)) e holds notes are = are
+noted_left_home shape other steps from (homes.In Global) e holds notes are = noted_left_local shape other steps from e holds notes are
+noted_left_home shape other steps from (homes.In (CpuLru c)) e holds notes are = are
+noted_left_home shape other steps from (homes.In (Bucket b)) e holds notes are = are
+noted_left_home shape other steps from (homes.In (Freelist c)) e holds notes are = are
+noted_left_home shape other steps from (homes.Hand c) e holds notes are = are
+
+-- What was flushed is handed on, of which no more is noted than that
+
+pub noted_flushed : (shape : Shape) (steps : List WordStep) (flushed : List Flush) (holds : List Hold) (notes : List Notes) → AreNoted shape steps holds notes → AreNoted shape steps holds (with_flushed flushed notes)
+noted_flushed shape steps flushed [] notes are = tt
+noted_flushed shape steps flushed (h ∷ hs) [] are = absurd are
+noted_flushed shape steps flushed (h ∷ hs) (n ∷ ns) are =
+    (are.0, are.1, are.2, are.3, are.4, are.5, record { marks = are.6.marks; asked = are.6.asked; owners = are.6.owners; homes = are.6.homes }, are.7)
 
 -- Other lists lie under locks that are held
 
@@ -221,9 +263,9 @@ noted_with shape steps homes.Unlisted owner e holds notes are = are
 noted_with shape steps (homes.In lock) owner e holds notes are = noted_now shape steps (lock_number shape lock) (joined_by lock owner e (now_at (lock_number shape lock) holds)) holds notes are
 noted_with shape steps (homes.Hand c) owner e holds notes are = are
 
--- A lock is given back, and what a probe read under it is handed on.
+-- A lock is given back, and what a probe read or a turn flushed under it is handed on.
 
-pub noted_gave : (shape : Shape) (v : View) (steps : List WordStep) (x : WordStep) (h : Hold) (below : List Hold) (notes : List Notes) (part : Part) → x.word ≡ h.lock → IsAboveAll shape (rank_of (lock_named shape h.lock)) below → AreNoted shape steps (h ∷ below) notes → InnermostFits shape v h part notes → AreNoted shape (steps ++ x ∷ []) below (owners_passed part (notes_below notes))
+pub noted_gave : (shape : Shape) (v : View) (steps : List WordStep) (x : WordStep) (h : Hold) (below : List Hold) (notes : List Notes) (part : Part) → x.word ≡ h.lock → IsAboveAll shape (rank_of (lock_named shape h.lock)) below → AreNoted shape steps (h ∷ below) notes → InnermostFits shape v h part notes → AreNoted shape (steps ++ x ∷ []) below (passed_on part (notes_below notes))
 noted_gave shape v steps x h below [] part at above are fits = absurd are
 noted_gave shape v steps x h below (n ∷ ns) part at above are fits = go part fits
   where
@@ -241,7 +283,7 @@ noted_gave shape v steps x h below (n ∷ ns) part at above are fits = go part f
     stays : AreNoted shape (steps ++ x ∷ []) below ns
     stays = subst (λ (l : List WordStep). AreNoted shape l below ns) long (noted_more shape are.0 since below ns are.7 off)
 
-    go : (part : Part) → NotesFit shape v h part n → AreNoted shape (steps ++ x ∷ []) below (owners_passed part ns)
+    go : (part : Part) → NotesFit shape v h part n → AreNoted shape (steps ++ x ∷ []) below (passed_on part ns)
     go (parts.Bucket (Lookup side key got)) fits = stays
     go (parts.Bucket (Update side flags key value offer put)) fits = stays
     go (parts.Bucket (Delete key removed)) fits = stays
@@ -256,5 +298,6 @@ noted_gave shape v steps x h below (n ∷ ns) part at above are fits = go part f
         (inr (has_more (owner_step shape record { element = e; owner = owners.Hand holder }) are.1 (x ∷ []) (was_read shape are.1 e holder n.owners are.6.owners (All-head (ProbeFits n.owners) (record { element = e; probed = Held holder }) [] fits.held)))))
     go (parts.Free part) fits = stays
     go (parts.Local part) fits = stays
-    go (parts.Global part) fits = stays
+    go (parts.Global (global.Turn flushed active inactive free shrink)) fits = noted_flushed shape (steps ++ x ∷ []) flushed below ns stays
+    go (parts.Global (global.Push e)) fits = stays
     go (parts.Own part) fits = stays

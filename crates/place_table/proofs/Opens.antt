@@ -27,7 +27,7 @@ use Rattle.place_core.specs.declared.step.Lists.{Lists}
 use Rattle.place_core.specs.Opening.{opening, opening_home, opening_lists}
 use Rattle.place_core.proofs.OpeningLaws.{opening_placed, opening_ranked}
 use Rattle.place_core.proofs.ElementLemmas.{by_test}
-use Rattle.place_core.proofs.StartLemmas.{free_bucket}
+use Rattle.place_core.proofs.StartLemmas.{free_local, free_bucket}
 use Rattle.place_table.specs.declared.content.Behind.{Behind}
 use Rattle.place_table.specs.declared.content.Content.{Content}
 use Rattle.place_table.specs.declared.view.View.{View}
@@ -38,7 +38,6 @@ use Rattle.place_table.specs.Rules.{World, Rule, Knows, Reads, AtHome, Tagged, H
 use Rattle.place_table.specs.Words.{bit_word}
 use Rattle.place_table.specs.Opening.{IsFirstContent, IsFirstSlot, AreFirstSlots}
 use Rattle.place_table.specs.Words.{opening_words}
-use Rattle.place_table.proofs.FirstSlots.{no_local}
 use Rattle.place_table.proofs.FirstSpares.{hand_at_first}
 use Rattle.place_table.proofs.FirstWords.{length_words, first_home, first_lock_word, first_owner_word, first_home_word, first_bit_word}
 
@@ -86,19 +85,19 @@ reads_first shape k behind slot there = go behind.content refl slot.content
 abbrev free_only : List ℕ → Lists
 free_only xs = record { free = xs; first = []; second = []; cursor = None }
 
-lists_first : (shape : Shape) (lock : DomainId) → shape.common ≡ false → is_lock shape lock ≡ true → free_only (opening_free shape lock) ≡ lists_of (opening_content shape lock)
-lists_first shape (Local cpu) own there = true_false (sym there ∙ no_local shape cpu own)
-lists_first shape Global own there = true_false (sym there ∙ own)
-lists_first shape (CpuLru cpu) own there = refl
-lists_first shape (Bucket bucket) own there = ap free_only (sym (free_bucket shape (Bucket bucket) bucket refl))
-lists_first shape (Freelist cpu) own there = refl
+lists_first : (shape : Shape) (lock : DomainId) → free_only (opening_free shape lock) ≡ lists_of (opening_content shape lock)
+lists_first shape (Local cpu) = ap free_only (sym (free_local shape (Local cpu) cpu refl))
+lists_first shape Global = refl
+lists_first shape (CpuLru cpu) = refl
+lists_first shape (Bucket bucket) = ap free_only (sym (free_bucket shape (Bucket bucket) bucket refl))
+lists_first shape (Freelist cpu) = refl
 
-slot_first : (shape : Shape) → shape.common ≡ false → (slots : List Behind) → AreFirstSlots shape (lock_count shape) slots → (k : ℕ) → k < lock_count shape → is_lock shape (lock_named shape k) ≡ true
+slot_first : (shape : Shape) (slots : List Behind) → AreFirstSlots shape (lock_count shape) slots → (k : ℕ) → k < lock_count shape → is_lock shape (lock_named shape k) ≡ true
     → AtHome shape k None [] (opening_lists shape k) false (get_elem? (map some slots) k)
 unfolding replayed opening_lists
-slot_first shape own slots are k within there =
+slot_first shape slots are k within there =
     let found = are.each k within in
-    ((found.0, at_map some slots k found.0 found.1, reads_first shape k found.0 found.2 there), lists_first shape (lock_named shape k) own there)
+    ((found.0, at_map some slots k found.0 found.1, reads_first shape k found.0 found.2 there), lists_first shape (lock_named shape k))
 
 -- Elements
 
@@ -193,14 +192,13 @@ first_knows shape bounds = record {
   idle = λ _. ((refl, tt), tt);
 }
 
-opens_at : (shape : Shape) (slots : List Behind) → IsShape shape → shape.common ≡ false → AreFirstSlots shape (lock_count shape) slots → Rule shape (table.opening (opening_words shape) slots (first_view shape))
+opens_at : (shape : Shape) (slots : List Behind) → IsShape shape → AreFirstSlots shape (lock_count shape) slots → Rule shape (table.opening (opening_words shape) slots (first_view shape))
 unfolding opening AllAllowed
-opens_at shape slots is_one own are =
+opens_at shape slots is_one are =
     let bounds = bounds_of_shape shape is_one in
     record {
       world = first_world shape;
       is_shape = is_one;
-      own_lists = own;
       words = length_words shape;
       slots = length-map slots some ∙ are.count;
       lock_words = λ k within. first_lock_word shape k within;
@@ -211,7 +209,7 @@ opens_at shape slots is_one own are =
       ranked = opening_ranked shape;
       hashes = λ lru. hashes_first shape (λ k. []) (λ e. 0);
       legal = λ k. tt;
-      homes = λ k within there. slot_first shape own slots are k within there;
+      homes = λ k within there. slot_first shape slots are k within there;
       seated = λ c few. omega arith;
       tagged = λ k. tt;
       in_time = tt;
@@ -225,6 +223,6 @@ opens_at shape slots is_one own are =
     first_seat bounds zero v at = subst (Knows shape (first_world shape) 0) (some-injective (first_view shape) v at) (first_knows shape bounds)
     first_seat bounds (suc pass) v at = absurd (some-ne-none v (sym at))
 
-pub opens : (shape : Shape) (words : List ℕ) (slots : List Behind) → IsShape shape → shape.common ≡ false → words ≡ opening_words shape → AreFirstSlots shape (lock_count shape) slots → Rule shape (table.opening words slots (first_view shape))
-opens shape words slots is_one own words_are are =
-    subst (λ (ws : List ℕ). Rule shape (table.opening ws slots (first_view shape))) (sym words_are) (opens_at shape slots is_one own are)
+pub opens : (shape : Shape) (words : List ℕ) (slots : List Behind) → IsShape shape → words ≡ opening_words shape → AreFirstSlots shape (lock_count shape) slots → Rule shape (table.opening words slots (first_view shape))
+opens shape words slots is_one words_are are =
+    subst (λ (ws : List ℕ). Rule shape (table.opening ws slots (first_view shape))) (sym words_are) (opens_at shape slots is_one are)

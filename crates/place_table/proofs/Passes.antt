@@ -20,6 +20,7 @@ use Rattle.place_words.specs.Locks.{is_lock, lock_named, lock_number}
 use Rattle.place_words.specs.Takings.{set_of}
 use Rattle.place_words.proofs.LockLemmas.{named_by_number}
 use Rattle.place_core.specs.Places.{MayOwn}
+use Rattle.place_core.specs.State.{is_bucket}
 use Rattle.place_table.specs.declared.content.Behind.{Behind}
 use Rattle.place_table.specs.declared.content.Content.{Content}
 use Rattle.place_table.specs.declared.steps.Recorded.{Recorded}
@@ -31,7 +32,8 @@ use Rattle.place_table.specs.declared.view.BitSeen.{BitSeen}
 use Rattle.place_table.specs.Rules.{KeptAs}
 use Rattle.place_core.proofs.ElementLemmas.{by_test}
 use Rattle.place_table.specs.Contents.{told, lists_of, Fits, IsSized}
-use Rattle.place_table.specs.Views.{is_among, is_in_hand_of, known_log, home_known, holding, given, with_lost, losing, holds_below, noted, owner_read}
+use Rattle.place_table.specs.Flushes.{flushed_last}
+use Rattle.place_table.specs.Views.{is_among, is_in_hand_of, hold_at, known_log, home_known, holding, given, with_lost, losing, holds_below, noted, owner_read}
 use Rattle.place_table.specs.Recording.{IsLost, RecordsIn, Records, recorded_step, last_from, last_in, entry_given, no_entry}
 use Rattle.place_table.specs.Plays.{Seated, Took, AreElements, IsApartFromHands, Gives, GivesSome, entry_by, IsKeptOrLost, MayPut, MayGive, OwnerFits, SeesOwner}
 use Rattle.place_table.specs.TurnNotes.{NotesFit, InnermostFits}
@@ -68,20 +70,22 @@ is_pass_taken {flags} {ended} v slots strand spares k cpu taken out pass took b 
     }
 
 -- what a caller with a pass knows then
-pub takes_of : (t : TableView) (lock : DomainId) (before after : PassView) (here : Content) (k cpu : ℕ) (old taken out : Seated) (b : Behind) → IsTrue (is_lock t.shape lock) → HandsReal old.0.shape old.0.cpus old.0.hand → before.view.shape ≡ t.shape → k ≡ lock_number t.shape lock → cpu ≡ before.cpu → old.0 ≡ before.view
+pub takes_of : (t : TableView) (lock : DomainId) (before after : PassView) (here : Content) (k cpu : ℕ) (old taken out : Seated) (b : Behind) → IsTrue (is_lock t.shape lock) → HasBegun before → ((c : ℕ) → is_among c old.0.cpus ≡ true → c < old.0.shape.cpus) → HandsReal old.0.shape old.0.cpus old.0.hand → before.view.shape ≡ t.shape → k ≡ lock_number t.shape lock → cpu ≡ before.cpu → old.0 ≡ before.view
     → Took k cpu old taken → taken.1 ≡ (k, b) ∷ rest taken.1 → Some here ≡ b.content → out ≡ (taken.0, (k, without_content b) ∷ rest taken.1) → after ≡ with_view before out.0 → Takes t lock before after here
-takes_of t lock before after here k cpu old taken out b is real before_shape k_is cpu_is old_is took slot content_is left after_is =
+takes_of t lock before after here k cpu old taken out b is begun mine real before_shape k_is cpu_is old_is took slot content_is left after_is =
     let b_is : b ≡ took.behind = same_behind taken.1 k b took.behind (rest taken.1) old.1 slot (ap (λ (z : Seated). z.1) took.after_is) in
     let shape_is : old.0.shape ≡ t.shape = ap (λ (v : View). v.shape) old_is ∙ before_shape in
     let named : lock_named t.shape k ≡ lock = ap (lock_named t.shape) k_is ∙ named_by_number t.shape lock is in
     let here_is : took.reads.here ≡ here = some_is (sym took.reads.content_is ∙ (ap (λ (x : Behind). x.content) (sym b_is) ∙ sym content_is)) in
     let content_then : content old.0.shape (lock_named old.0.shape k) took.hold.log ≡ content t.shape lock took.hold.log = ap (λ (z : Shape). content z (lock_named z k) took.hold.log) shape_is ∙ ap (λ (d : DomainId). content t.shape d took.hold.log) named in
-    let told_then : told here ≡ content t.shape lock took.hold.log = ap told (sym here_is) ∙ (took.reads.told_is ∙ content_then) in
+    let told_as : told (lock_named old.0.shape k) took.reads.here ≡ told lock here = (λ i. told (lock_named (shape_is i) k) (here_is i)) ∙ ap (λ (d : DomainId). told d here) named in
+    let told_then : told lock here ≡ content t.shape lock took.hold.log = sym told_as ∙ (took.reads.told_is ∙ content_then) in
     let view_is : after.view ≡ taken.0 = ap (λ (z : PassView). z.view) after_is ∙ ap (λ (z : Seated). z.0) left in
     record {
       hold = took.hold;
       lock_is = took.lock ∙ k_is;
       cpu_is = took.cpu_is ∙ cpu_is;
+      within = subst (λ (z : Shape). before.cpu < z.cpus) shape_is (mine before.cpu (ap (λ (v : View). is_among before.cpu v.cpus) old_is ∙ begun));
       at = took.at;
       after_is = after_is ∙ (ap (λ (z : Seated). with_view before z.0) left ∙ (ap (λ (z : Seated). with_view before z.0) took.after_is ∙ ap (λ (v : View). with_view before (holding took.at took.hold v)) old_is));
       told_is = told_then;
@@ -92,6 +96,12 @@ takes_of t lock before after here k cpu old taken out b is real before_shape k_i
       legal = subst (λ (d : DomainId). IsLegal t.shape d took.hold.log) named (subst (λ (z : Shape). IsLegal z (lock_named z k) took.hold.log) shape_is took.legal);
       known = λ log found. took.known log ((λ i. known_log (k_is i) ((old_is i).known)) ∙ found);
       at_home = λ e c within found. took.at_home e c lock (subst (λ (z : Shape). c < z.cpus) (sym shape_is) within) (ap (λ (v : View). home_known e c v.readings) (sym view_is) ∙ found) (ap (λ (z : Shape). lock_number z lock) shape_is ∙ sym k_is);
+      moved_on = λ e c d within lock_is read none.
+          subst (λ (l : DomainId). flushed_last t.shape l e took.hold.log ≡ true) named (subst (λ (z : Shape). flushed_last z (lock_named z k) e took.hold.log ≡ true) shape_is
+          (took.moved_on e c d (subst (λ (z : Shape). c < z.cpus) (sym shape_is) within) (ap (λ (z : Shape). lock_named z k) shape_is ∙ (named ∙ lock_is)) (ap (λ (v : View). home_known e c v.readings) old_is ∙ read) none));
+      alone = λ lru no_bucket j e other found nor_other inside.
+          took.alone (ap (λ (z : Shape). is_lru z.kind) shape_is ∙ lru) (ap is_bucket (ap (λ (z : Shape). lock_named z k) shape_is ∙ named) ∙ no_bucket) j e other
+          (ap (λ (v : View). hold_at j v.held) old_is ∙ found) (ap (λ (z : Shape). is_bucket (lock_named z j)) shape_is ∙ nor_other) inside;
       lives = λ lru own e c mine in_hand at.
           let held : is_in_hand_of e c old.0.hand ≡ true = ap (λ (v : View). is_in_hand_of e c v.hand) old_is ∙ in_hand in
           took.lives (ap (λ (z : Shape). is_lru z.kind) shape_is ∙ lru) (ap (λ (z : Shape). z.common) shape_is ∙ own) e c (real e c held).0 (ap (λ (v : View). is_among c v.cpus) old_is ∙ mine) held

@@ -130,7 +130,6 @@ module _ (shape : Shape) (s : State Behind View) (r : Rule shape s) (pass : ℕ)
         record {
           world = w';
           is_shape = r.is_shape;
-          own_lists = r.own_lists;
           words = length-set s.words i n ∙ r.words;
           slots = r.slots;
           lock_words = λ k real. get_or-set_other s.words i k n 0 (λ y. omega arith) ∙ r.lock_words k real;

@@ -200,8 +200,8 @@ evicts_there shape (carried c) false same is = absurd (apart (sym (ap (λ (b : B
 
 -- A lock that this CPU holds is given back by a turn that tells of all that was flushed.
 module _ (shape : Shape) (holder : ℕ → Option ℕ) (lists : ℕ → Lists) (owner : ℕ → Owner) (home : ℕ → Home) (place : ℕ → Place) (p : PlacedAt shape lists owner home place) (log : ℕ → List Tagged)
-    (k cpu : ℕ) (here : Content) (fits : Fits shape (lock_named shape k) here) (l' : List Tagged) (entry : Entry) (more : entries l' ≡ entries (log k) ++ entry ∷ []) (new_is : content shape (lock_named shape k) (entries l') ≡ told here)
-    (same_rows : (e : ℕ) → times e (rows (lists_of (told here))) ≡ times e (rows (lists k)))
+    (k cpu : ℕ) (here : Content) (fits : Fits shape (lock_named shape k) here) (l' : List Tagged) (entry : Entry) (more : entries l' ≡ entries (log k) ++ entry ∷ []) (new_is : content shape (lock_named shape k) (entries l') ≡ told (lock_named shape k) here)
+    (same_rows : (e : ℕ) → times e (rows (lists_of (told (lock_named shape k) here))) ≡ times e (rows (lists k)))
     (gone : IsTrue (is_lru shape.kind) → (c e h : ℕ) → lock_named shape k ≡ Local c → stored_in (content shape (lock_named shape k) (entries (log k))) e ≡ Some h → times e (all_of (lists k)) ≡ 0 → (home e ≡ homes.Hand cpu) ⊎ (flushes e entry.part ≡ true)) where
   away : (e c : ℕ) → e < shape.elements → lock_named shape k ≡ Local c → home e ≡ homes.In Global → IsIn e (all_of (lists k)) → ⊥
   away e c real named at inside =
@@ -212,16 +212,16 @@ module _ (shape : Shape) (holder : ℕ → Option ℕ) (lists : ℕ → Lists) (
   flushed_now : (e c : ℕ) → e < shape.elements → lock_named shape k ≡ Local c → home e ≡ homes.In Global → WasFlushed shape holder log k e → flushed_last shape (lock_named shape k) e (entries l') ≡ true
   flushed_now e c real named at was =
       let es : List Entry = entries (log k) in
-      let after_is : stored_in (content_after shape entry.cpu entry.part (content shape (lock_named shape k) es)) e ≡ stored_in (told here) e =
+      let after_is : stored_in (content_after shape entry.cpu entry.part (content shape (lock_named shape k) es)) e ≡ stored_in (told (lock_named shape k) here) e =
       ap (λ z. stored_in z e) (sym (content_more shape (lock_named shape k) es entry) ∙ (ap (content shape (lock_named shape k)) (sym more) ∙ new_is)) in
       ap (flushed_last shape (lock_named shape k) e) more ∙ (last_more shape (lock_named shape k) e es entry
-      ∙ (ap (flushed_then (flushed_last shape (lock_named shape k) e es) (flushes e entry.part) (stored_in (content shape (lock_named shape k) es) e)) (after_is ∙ none_after (stored_in (told here) e) refl)
+      ∙ (ap (flushed_then (flushed_last shape (lock_named shape k) e es) (flushes e entry.part) (stored_in (content shape (lock_named shape k) es) e)) (after_is ∙ none_after (stored_in (told (lock_named shape k) here) e) refl)
       ∙ go (stored_in (content shape (lock_named shape k) es) e) refl))
     where
-      none_after : (found : Option ℕ) → stored_in (told here) e ≡ found → found ≡ None
+      none_after : (found : Option ℕ) → stored_in (told (lock_named shape k) here) e ≡ found → found ≡ None
       none_after None is = refl
       none_after (Some n) is =
-          let inside = stored_listed (told here) e n is in
+          let inside = stored_listed (told (lock_named shape k) here) e n is in
           absurd (away e c real named at (in_all e (lists k) (let same = same_rows e in omega (arith, same))))
 
       not_there : times e (all_of (lists k)) ≡ 0
@@ -472,6 +472,19 @@ module _ (shape : Shape) (holder : ℕ → Option ℕ) (lists : ℕ → Lists) (
   -- and it is listed there
   pub listed_in_set : (e : ℕ) → e < shape.elements → is_free (owner e) ≡ false → is_lru shape.kind ≡ true → shape.common ≡ false → IsIn e (rows (lists (lock_number shape (CpuLru (set_of shape e)))))
   listed_in_set e real not_free lru own = listed_at_home e (CpuLru (set_of shape e)) real not_free (home_in_set e real lru own)
+
+  -- an element in hand whose home was read as local lists that nobody holds, and which is pending there no more, was flushed from them
+  pub flushed_off : (k e d : ℕ) → e < shape.elements → is_free (owner e) ≡ false → lock_named shape k ≡ Local d → holder k ≡ None → times e (rows (lists k)) ≡ 0 → StillHome shape holder log e (home e) (homes.In (Local d)) → flushed_last shape (lock_named shape k) e (entries (log k)) ≡ true
+  flushed_off k e d real not_free named free none still =
+      let at : lock_number shape (Local d) ≡ k = ap (lock_number shape) (sym named) ∙ number_of_named shape k in
+      ⊎_elim
+      (λ (same : home e ≡ homes.In (Local d)). let inside : IsIn e (rows (lists k)) = subst (λ (z : ℕ). IsIn e (rows (lists z))) at (listed_at_home e (Local d) real not_free same) in absurd (omega (arith, none, inside)))
+      (λ (gone : (home e ≡ homes.In Global) × IsTrue (is_lock shape (Local d)) × WasFlushed shape holder log (lock_number shape (Local d)) e).
+      ⊎_elim
+      (λ (held : (cpu : ℕ) × (h : ℕ) × (holder k ≡ Some cpu) × (stored_in (content shape (lock_named shape k) (entries (log k))) e ≡ Some h)). absurd (none_some (sym free ∙ held.2)))
+      (λ (last : flushed_last shape (lock_named shape k) e (entries (log k)) ≡ true). last)
+      (subst (λ (z : ℕ). WasFlushed shape holder log z e) at gone.2))
+      still
 
   module _ (h : Hold) (now : h.now ≡ lists h.lock) where
     pub then_still : (e c : ℕ) (old : Home) → e < shape.elements → owner e ≡ owners.Hand c → StillHome shape holder log e (home e) old → StillHome shape holder log e (home e) (home_then shape h e old)

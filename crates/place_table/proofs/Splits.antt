@@ -317,7 +317,6 @@ module _ (shape : Shape) (id c : ℕ) (v : View) (cpu : is_among c v.cpus ≡ tr
       let w' : World = cut w n in record {
         world = w';
         is_shape = r.is_shape;
-        own_lists = r.own_lists;
         words = r.words;
         slots = r.slots;
         lock_words = r.lock_words;

@@ -35,6 +35,7 @@ use Rattle.place_table.specs.Contents.{told, lists_of, Fits}
 use Rattle.place_table.specs.StoredHashes.{stored_in}
 use Rattle.place_table.specs.Views.{is_among, is_in_hand_of, hash_known, bucket_known, kept_hashes, hash_given, hashes_given}
 use Rattle.place_table.specs.Rules.{Tagged, entries, IsFresh, HashesRight, HasRow, IsBrought, IsHashed, HasHash, HasCome}
+use Rattle.place_table.proofs.Entries.{append_nil}
 use Rattle.place_table.proofs.Worlds.{by_bool, true_false, some_is, none_some, both_true}
 
 -- What a row tells
@@ -54,10 +55,15 @@ stored_listed (in_locals lists) e h is = let inside = stored_is_in e h lists.pen
 stored_listed (in_global set) e h is = subst (IsIn e) (map-append (λ (row : Row). row.element) set.lists.active set.lists.inactive) (stored_is_in e h (set.lists.active ++ set.lists.inactive) is)
 stored_listed (in_own set) e h is = subst (IsIn e) (map-append (λ (row : Row). row.element) set.lists.active set.lists.inactive) (stored_is_in e h (set.lists.active ++ set.lists.inactive) is)
 
-pub stored_no_bucket : (shape : Shape) (lock : DomainId) (here : Content) (e h : ℕ) → Fits shape lock here → stored_in (told here) e ≡ Some h → IsFalse (is_bucket lock)
+pub stored_no_bucket : (shape : Shape) (lock : DomainId) (here : Content) (e h : ℕ) → Fits shape lock here → stored_in (told lock here) e ≡ Some h → IsFalse (is_bucket lock)
 unfolding stored_in
 stored_no_bucket shape lock (contents.Bucket chain) e h fits is = absurd (none_some is)
 stored_no_bucket shape lock (contents.Freelist freelist) e h fits is = absurd (none_some is)
+stored_no_bucket shape (Local c) (contents.Local lists) e h fits is = refl
+stored_no_bucket shape Global (contents.Local lists) e h fits is = refl
+stored_no_bucket shape (CpuLru c) (contents.Local lists) e h fits is = refl
+stored_no_bucket shape (Bucket b) (contents.Local lists) e h fits is = absurd fits
+stored_no_bucket shape (Freelist c) (contents.Local lists) e h fits is = refl
 stored_no_bucket shape (Local c) (contents.Set set) e h fits is = refl
 stored_no_bucket shape Global (contents.Set set) e h fits is = refl
 stored_no_bucket shape (CpuLru c) (contents.Set set) e h fits is = refl
@@ -71,20 +77,25 @@ is_stored e (row ∷ rows) inside =
     by_test row.element e (λ b. 0 < cond b (suc (times e (elements_of rows))) (times e (elements_of rows)) → (h : ℕ) × (option_map (λ (r : Row). r.hash) (cond b (Some row) (find (λ (r : Row). r.element == e) rows)) ≡ Some h))
     (λ _ _. (row.hash, refl)) (λ _ later. is_stored e rows later) inside
 
-pub listed_stored : (shape : Shape) (lock : DomainId) (here : Content) (e : ℕ) → Fits shape lock here → IsFalse (is_bucket lock) → IsIn e (rows (lists_of (told here))) → (h : ℕ) × (stored_in (told here) e ≡ Some h)
+pub listed_stored : (shape : Shape) (lock : DomainId) (here : Content) (e : ℕ) → Fits shape lock here → IsFalse (is_bucket lock) → IsIn e (rows (lists_of (told lock here))) → (h : ℕ) × (stored_in (told lock here) e ≡ Some h)
 unfolding stored_in
 listed_stored shape (Bucket b) here e fits no_bucket inside = absurd cc
 listed_stored shape (Freelist c) (contents.Freelist freelist) e fits no_bucket inside = let none_there : 0 < 0 = inside in absurd (omega arith)
 listed_stored shape (Freelist c) (contents.Bucket chain) e fits no_bucket inside = absurd fits
+listed_stored shape (Freelist c) (contents.Local lists) e fits no_bucket inside = absurd fits
 listed_stored shape (Freelist c) (contents.Set set) e fits no_bucket inside = absurd fits
 listed_stored shape (Local c) (contents.Bucket chain) e fits no_bucket inside = absurd fits
 listed_stored shape (Local c) (contents.Freelist freelist) e fits no_bucket inside = absurd fits
+listed_stored shape (Local c) (contents.Local lists) e fits no_bucket inside = is_stored e lists.pending (subst (IsIn e) (append_nil (elements_of lists.pending)) inside)
 listed_stored shape (Local c) (contents.Set set) e fits no_bucket inside = absurd fits
 listed_stored shape Global (contents.Bucket chain) e fits no_bucket inside = absurd fits
 listed_stored shape Global (contents.Freelist freelist) e fits no_bucket inside = absurd fits
-listed_stored shape Global (contents.Set set) e fits no_bucket inside = absurd fits
+listed_stored shape Global (contents.Local lists) e fits no_bucket inside = absurd fits
+listed_stored shape Global (contents.Set set) e fits no_bucket inside =
+    is_stored e (set.active ++ set.inactive) (subst (IsIn e) (sym (map-append (λ (row : Row). row.element) set.active set.inactive)) inside)
 listed_stored shape (CpuLru c) (contents.Bucket chain) e fits no_bucket inside = absurd fits
 listed_stored shape (CpuLru c) (contents.Freelist freelist) e fits no_bucket inside = absurd fits
+listed_stored shape (CpuLru c) (contents.Local lists) e fits no_bucket inside = absurd fits
 listed_stored shape (CpuLru c) (contents.Set set) e fits no_bucket inside =
     is_stored e (set.active ++ set.inactive) (subst (IsIn e) (sym (map-append (λ (row : Row). row.element) set.active set.inactive)) inside)
 
@@ -96,10 +107,15 @@ HasNoHashes (CpuLru c) = ⊥
 HasNoHashes (Bucket b) = Unit {0}
 HasNoHashes (Freelist c) = Unit {0}
 
-pub none_stored : (shape : Shape) (lock : DomainId) (here : Content) (e n : ℕ) → HasNoHashes lock → Fits shape lock here → stored_in (told here) e ≡ Some n → ⊥
+pub none_stored : (shape : Shape) (lock : DomainId) (here : Content) (e n : ℕ) → HasNoHashes lock → Fits shape lock here → stored_in (told lock here) e ≡ Some n → ⊥
 unfolding stored_in
 none_stored shape lock (contents.Bucket chain) e n no_hashes fits is = none_some is
 none_stored shape lock (contents.Freelist freelist) e n no_hashes fits is = none_some is
+none_stored shape (Local c) (contents.Local lists) e n no_hashes fits is = no_hashes
+none_stored shape Global (contents.Local lists) e n no_hashes fits is = no_hashes
+none_stored shape (CpuLru c) (contents.Local lists) e n no_hashes fits is = no_hashes
+none_stored shape (Bucket b) (contents.Local lists) e n no_hashes fits is = fits
+none_stored shape (Freelist c) (contents.Local lists) e n no_hashes fits is = fits
 none_stored shape (Local c) (contents.Set set) e n no_hashes fits is = no_hashes
 none_stored shape Global (contents.Set set) e n no_hashes fits is = no_hashes
 none_stored shape (CpuLru c) (contents.Set set) e n no_hashes fits is = no_hashes
@@ -136,22 +152,33 @@ lies_on shape lists owner home place p k e no_bucket inside =
 same_lies : (i j : ℕ) → lies i ≡ lies j → i ≡ j
 same_lies i j e = cc
 
+-- and on those of no other
+pub lies_on_one : (shape : Shape) (lists : ℕ → Lists) (owner : ℕ → Owner) (home : ℕ → Home) (place : ℕ → Place) (p : PlacedAt shape lists owner home place) (k j e : ℕ) → j ≢ k → IsFalse (is_bucket (lock_named shape k)) → IsFalse (is_bucket (lock_named shape j)) → IsIn e (all_of (lists k)) → times e (all_of (lists j)) ≡ 0
+lies_on_one shape lists owner home place p k j e ne no_bucket nor_other inside =
+    by_test (times e (all_of (lists j))) 0 (λ _. times e (all_of (lists j)) ≡ 0)
+    (λ none. none)
+    (λ some_there. absurd (ne (same_lies j k (sym (lies_on shape lists owner home place p j e nor_other (omega arith)) ∙ lies_on shape lists owner home place p k e no_bucket inside))))
+
 -- A lock that this CPU holds, the last that it took, is given back with a content whose rows have new hashes only for what came in
 -- the turn and is in the CPU's hand.
 module _ (shape : Shape) (holder : ℕ → Option ℕ) (lists : ℕ → Lists) (owner : ℕ → Owner) (home : ℕ → Home) (place : ℕ → Place) (p : PlacedAt shape lists owner home place) (log : ℕ → List Tagged) (hash : ℕ → ℕ) (right : HashesRight shape holder lists owner log hash)
-    (k cpu : ℕ) (held : holder k ≡ Some cpu) (here : Content) (fits : Fits shape (lock_named shape k) here) (l' : List Tagged) (new_is : content shape (lock_named shape k) (entries l') ≡ told here)
-    (same_rows : (e : ℕ) → times e (rows (lists_of (told here))) ≡ times e (rows (lists k)))
+    (k cpu : ℕ) (held : holder k ≡ Some cpu) (here : Content) (fits : Fits shape (lock_named shape k) here) (l' : List Tagged) (new_is : content shape (lock_named shape k) (entries l') ≡ told (lock_named shape k) here)
+    (same_rows : (e : ℕ) → times e (rows (lists_of (told (lock_named shape k) here))) ≡ times e (rows (lists k)))
     (innermost : (m : ℕ) → m ≢ k → holder m ≡ Some cpu → rank_of (lock_named shape m) < rank_of (lock_named shape k))
     (fresh : ℕ → Bool) (fresh_is : (e : ℕ) → fresh e ≡ true → owner e ≡ owners.Hand cpu)
     (rowed : (e : ℕ) → fresh e ≡ false → owner e ≡ owners.Hand cpu → IsIn e (rows (lists k)) → HasRow shape log hash k e ⊎ IsBrought shape holder log hash k e)
-    (kept : (j e h n : ℕ) → fresh e ≡ false → holder j ≡ Some cpu → stored_in (content shape (lock_named shape j) (entries (log j))) e ≡ Some h → stored_in (told here) e ≡ Some n → h ≡ n) where
-  pub was_listed : (e n : ℕ) → stored_in (told here) e ≡ Some n → IsIn e (rows (lists k))
-  was_listed e n is = let inside = stored_listed (told here) e n is in let same = same_rows e in omega (arith, same)
+    (kept : (j e h n : ℕ) → fresh e ≡ false → holder j ≡ Some cpu → stored_in (content shape (lock_named shape j) (entries (log j))) e ≡ Some h → stored_in (told (lock_named shape k) here) e ≡ Some n → h ≡ n) where
+  -- it, as histories tell it
+  abbrev back : histories.Content
+  back = told (lock_named shape k) here
 
-  pub hash_stays : (e : ℕ) → fresh e ≡ false → renewed true (stored_in (told here) e) (hash e) ≡ hash e
-  hash_stays e other = go (stored_in (told here) e) refl
+  pub was_listed : (e n : ℕ) → stored_in back e ≡ Some n → IsIn e (rows (lists k))
+  was_listed e n is = let inside = stored_listed back e n is in let same = same_rows e in omega (arith, same)
+
+  pub hash_stays : (e : ℕ) → fresh e ≡ false → renewed true (stored_in back e) (hash e) ≡ hash e
+  hash_stays e other = go (stored_in back e) refl
     where
-      go : (found : Option ℕ) → stored_in (told here) e ≡ found → renewed true found (hash e) ≡ hash e
+      go : (found : Option ℕ) → stored_in back e ≡ found → renewed true found (hash e) ≡ hash e
       go None is = refl
       go (Some n) is =
           let no_bucket = stored_no_bucket shape (lock_named shape k) here e n fits is in
@@ -165,15 +192,15 @@ module _ (shape : Shape) (holder : ℕ → Option ℕ) (lists : ℕ → Lists) (
           (right.have k e no_bucket listed)
 
   abbrev IsListed : ℕ → ℕ → Type 0
-  IsListed m e = HasRow shape (put log k l') (λ x. renewed true (stored_in (told here) x) (hash x)) m e ⊎ (IsFresh (put holder k None) owner m e ⊎ IsBrought shape (put holder k None) (put log k l') (λ x. renewed true (stored_in (told here) x) (hash x)) m e)
+  IsListed m e = HasRow shape (put log k l') (λ x. renewed true (stored_in back x) (hash x)) m e ⊎ (IsFresh (put holder k None) owner m e ⊎ IsBrought shape (put holder k None) (put log k l') (λ x. renewed true (stored_in back x) (hash x)) m e)
 
   -- a row of another lock stays, where the hash does
-  row_stays : (m e : ℕ) → m ≢ k → renewed true (stored_in (told here) e) (hash e) ≡ hash e → HasRow shape log hash m e → HasRow shape (put log k l') (λ x. renewed true (stored_in (told here) x) (hash x)) m e
+  row_stays : (m e : ℕ) → m ≢ k → renewed true (stored_in back e) (hash e) ≡ hash e → HasRow shape log hash m e → HasRow shape (put log k l') (λ x. renewed true (stored_in back x) (hash x)) m e
   row_stays m e ne same had = record {
     stored = ap (λ (l : List Tagged). stored_in (content shape (lock_named shape m) (entries l)) e) (put_else log k l' m ne) ∙ (had.stored ∙ ap Some (sym same));
   }
 
-  elsewhere : (m e : ℕ) → IsFalse (is_bucket (lock_named shape m)) → m ≢ k → IsIn e (all_of (lists m)) → (found : Option ℕ) → stored_in (told here) e ≡ found → renewed true found (hash e) ≡ hash e
+  elsewhere : (m e : ℕ) → IsFalse (is_bucket (lock_named shape m)) → m ≢ k → IsIn e (all_of (lists m)) → (found : Option ℕ) → stored_in back e ≡ found → renewed true found (hash e) ≡ hash e
   elsewhere m e nb ne inside None is = refl
   elsewhere m e nb ne inside (Some n) is =
       let no_bucket = stored_no_bucket shape (lock_named shape k) here e n fits is in
@@ -181,10 +208,10 @@ module _ (shape : Shape) (holder : ℕ → Option ℕ) (lists : ℕ → Lists) (
       absurd (ne (same_lies m k (sym (lies_on shape lists owner home place p m e nb inside) ∙ there)))
 
   -- and so does what is brought from one that is still held
-  brought_stays : (m e : ℕ) → m ≢ k → renewed true (stored_in (told here) e) (hash e) ≡ hash e → IsBrought shape holder log hash m e → IsBrought shape (put holder k None) (put log k l') (λ x. renewed true (stored_in (told here) x) (hash x)) m e
+  brought_stays : (m e : ℕ) → m ≢ k → renewed true (stored_in back e) (hash e) ≡ hash e → IsBrought shape holder log hash m e → IsBrought shape (put holder k None) (put log k l') (λ x. renewed true (stored_in back x) (hash x)) m e
   brought_stays m e ne same brought =
       let holds : put holder k None m ≡ holder m = put_else holder k None m ne in
-      by_test brought.from k (λ _. IsBrought shape (put holder k None) (put log k l') (λ x. renewed true (stored_in (told here) x) (hash x)) m e)
+      by_test brought.from k (λ _. IsBrought shape (put holder k None) (put log k l') (λ x. renewed true (stored_in back x) (hash x)) m e)
       (λ is_k.
       let cpu_is : brought.cpu ≡ cpu = some_is (sym brought.holds ∙ (ap holder is_k ∙ held)) in
       let above = innermost m ne (brought.held ∙ ap Some cpu_is) in
@@ -194,8 +221,8 @@ module _ (shape : Shape) (holder : ℕ → Option ℕ) (lists : ℕ → Lists) (
 
   -- what a pass knows of the stored hash of what is in the hand of a CPU
   pub hashed_gave : (hashes hashes' : List HashIn) (came came' : List ℕ) (m e c : ℕ) → IsFalse (is_bucket (lock_named shape m)) → IsIn e (rows (lists m))
-      → ((noted : HashIn) → hash_known e c hashes ≡ Some noted → IsNoted e c hashes') → (c ≡ cpu → is_among e came ≡ true → m ≡ k → (n : ℕ) → stored_in (told here) e ≡ Some n → IsNoted e c hashes') → (m ≢ k → came' ≡ came)
-      → IsHashed shape holder log hash hashes came m e c → IsHashed shape (put holder k None) (put log k l') (λ x. renewed true (stored_in (told here) x) (hash x)) hashes' came' m e c
+      → ((noted : HashIn) → hash_known e c hashes ≡ Some noted → IsNoted e c hashes') → (c ≡ cpu → is_among e came ≡ true → m ≡ k → (n : ℕ) → stored_in back e ≡ Some n → IsNoted e c hashes') → (m ≢ k → came' ≡ came)
+      → IsHashed shape holder log hash hashes came m e c → IsHashed shape (put holder k None) (put log k l') (λ x. renewed true (stored_in back x) (hash x)) hashes' came' m e c
   hashed_gave hashes hashes' came came' m e c nb inside noted given same_came is = record {
     from = ⊎_elim
         (λ (gave : HasHash true hashes e c). has_hash (noted gave.noted gave.last))
@@ -203,15 +230,15 @@ module _ (shape : Shape) (holder : ℕ → Option ℕ) (lists : ℕ → Lists) (
         (λ (off : HasHash false hashes e c). has_hash (noted off.noted off.last))
         (λ (come : HasCome holder came m e c). by_test m k (λ _. HasHash true hashes' e c ⊎ (HasHash false hashes' e c ⊎ HasCome (put holder k None) came' m e c))
         (λ same.
-        let at_k : IsIn e (rows (lists_of (told here))) = (let there : IsIn e (rows (lists k)) = subst (λ (z : ℕ). IsIn e (rows (lists z))) same inside in let counted = same_rows e in omega (arith, counted)) in
+        let at_k : IsIn e (rows (lists_of back)) = (let there : IsIn e (rows (lists k)) = subst (λ (z : ℕ). IsIn e (rows (lists z))) same inside in let counted = same_rows e in omega (arith, counted)) in
         let row = listed_stored shape (lock_named shape k) here e fits (subst (λ (z : ℕ). IsFalse (is_bucket (lock_named shape z))) same nb) at_k in
         has_hash (given (some_is (sym come.held ∙ (ap holder same ∙ held))) come.inside same row.0 row.1))
         (λ ne. inr (inr (comes ne come)))))
         is.from;
-    row = λ held'. by_test m k (λ _. HasRow shape (put log k l') (λ x. renewed true (stored_in (told here) x) (hash x)) m e ⊎ (IsBrought shape (put holder k None) (put log k l') (λ x. renewed true (stored_in (told here) x) (hash x)) m e ⊎ HasCome (put holder k None) came' m e c))
+    row = λ held'. by_test m k (λ _. HasRow shape (put log k l') (λ x. renewed true (stored_in back x) (hash x)) m e ⊎ (IsBrought shape (put holder k None) (put log k l') (λ x. renewed true (stored_in back x) (hash x)) m e ⊎ HasCome (put holder k None) came' m e c))
         (λ same. absurd (none_some (sym (ap (put holder k None) same ∙ put_here holder k None) ∙ held')))
         (λ ne.
-        let stays : renewed true (stored_in (told here) e) (hash e) ≡ hash e = elsewhere m e nb ne (in_all e (lists m) inside) (stored_in (told here) e) refl in
+        let stays : renewed true (stored_in back e) (hash e) ≡ hash e = elsewhere m e nb ne (in_all e (lists m) inside) (stored_in back e) refl in
         ⊎_elim
         (λ (had : HasRow shape log hash m e). inl (row_stays m e ne stays had))
         (⊎_elim
@@ -228,19 +255,19 @@ module _ (shape : Shape) (holder : ℕ → Option ℕ) (lists : ℕ → Lists) (
           (λ _ yes. inl record { noted = is.noted; last = is.last; given_is = yes })
           (λ _ no. inr (inl record { noted = is.noted; last = is.last; given_is = no })) refl
 
-  pub hashes_gave : HashesRight shape (put holder k None) (put lists k (lists_of (told here))) owner (put log k l') (λ e. renewed true (stored_in (told here) e) (hash e))
+  pub hashes_gave : HashesRight shape (put holder k None) (put lists k (lists_of back)) owner (put log k l') (λ e. renewed true (stored_in back e) (hash e))
   hashes_gave = record {
     in_bucket = λ e b is. ap (λ (h : ℕ). bucket_number h shape.buckets) (hash_stays e (by_bool (fresh e) (λ t. t ≡ false) (λ yes. absurd (not_both b cpu (sym is ∙ fresh_is e yes))) (λ _. refl))) ∙ right.in_bucket e b is;
     have = λ m e no_bucket inside. by_test m k (λ _. IsListed m e)
         (λ same. subst (λ (z : ℕ). IsListed z e) (sym same) (at_k e (subst (λ (z : ℕ). IsFalse (is_bucket (lock_named shape z))) same no_bucket)
-        (subst (λ (l : Lists). IsIn e (rows l)) (ap (put lists k (lists_of (told here))) same ∙ put_here lists k (lists_of (told here))) inside)))
-        (λ ne. at_other m e ne no_bucket (subst (λ (l : Lists). IsIn e (rows l)) (put_else lists k (lists_of (told here)) m ne) inside));
+        (subst (λ (l : Lists). IsIn e (rows l)) (ap (put lists k (lists_of back)) same ∙ put_here lists k (lists_of back)) inside)))
+        (λ ne. at_other m e ne no_bucket (subst (λ (l : Lists). IsIn e (rows l)) (put_else lists k (lists_of back) m ne) inside));
   }
     where
       not_both : (b c : ℕ) → owners.Bucket b ≡ owners.Hand c → ⊥
       not_both b c e = cc
 
-      at_k : (e : ℕ) → IsFalse (is_bucket (lock_named shape k)) → IsIn e (rows (lists_of (told here))) → IsListed k e
+      at_k : (e : ℕ) → IsFalse (is_bucket (lock_named shape k)) → IsIn e (rows (lists_of back)) → IsListed k e
       at_k e nb inside =
           let s = listed_stored shape (lock_named shape k) here e fits nb inside in
           inl record {
@@ -249,7 +276,7 @@ module _ (shape : Shape) (holder : ℕ → Option ℕ) (lists : ℕ → Lists) (
 
       at_other : (m e : ℕ) → m ≢ k → IsFalse (is_bucket (lock_named shape m)) → IsIn e (rows (lists m)) → IsListed m e
       at_other m e ne nb inside =
-          let same : renewed true (stored_in (told here) e) (hash e) ≡ hash e = elsewhere m e nb ne (in_all e (lists m) inside) (stored_in (told here) e) refl in
+          let same : renewed true (stored_in back e) (hash e) ≡ hash e = elsewhere m e nb ne (in_all e (lists m) inside) (stored_in back e) refl in
           let holds : put holder k None m ≡ holder m = put_else holder k None m ne in
           ⊎_elim
           (λ (had : HasRow shape log hash m e). inl (row_stays m e ne same had))

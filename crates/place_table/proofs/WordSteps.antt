@@ -125,7 +125,6 @@ module _ (shape : Shape) (s : State Behind View) (r : Rule shape s) (pass : ℕ)
       record {
         world = w';
         is_shape = r.is_shape;
-        own_lists = r.own_lists;
         words = length-set s.words i n ∙ r.words;
         slots = r.slots;
         lock_words = λ m h. get_or-set_other s.words i m n 0 (λ y. omega arith) ∙ r.lock_words m h;
@@ -199,7 +198,6 @@ module _ (shape : Shape) (s : State Behind View) (r : Rule shape s) (pass : ℕ)
         record {
           world = w';
           is_shape = r.is_shape;
-          own_lists = r.own_lists;
           words = length-set s.words i (get_or s.words i 0) ∙ r.words;
           slots = r.slots;
           lock_words = λ m h. ap (λ (l : List ℕ). get_or l m 0) back ∙ r.lock_words m h;

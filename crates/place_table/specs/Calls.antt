@@ -1,6 +1,6 @@
 -- What each call on a map leaves of its pass: the turns that it adds to the pass's strand are a trace of the call, with the
 -- answer that it gives.
-use Rattle.std.specs.Prelude.{◌≡◌, ◌⊎◌, ℕ, true, false, All, List, [], ◌∷◌, ◌++◌, map, flat_map, Option, None, Some, Result, Ok, Err, if◌then◌else◌}
+use Rattle.std.specs.Prelude.{◌≡◌, ◌⊎◌, ℕ, Bool, true, false, not, IsTrue, IsFalse, All, List, [], ◌∷◌, ◌++◌, map, flat_map, Option, None, Some, Result, Ok, Err, if◌then◌else◌}
 use Rattle.map_types.specs.declared.attr.Shape.{Shape}
 use Rattle.map_types.specs.declared.call.Verb.{Verb}
 use Rattle.map_types.specs.declared.refusal.Absent.{Absent}
@@ -10,14 +10,18 @@ use Rattle.map_types.specs.declared.reply.Reply.TheVariants.{Done, Value, Refuse
 use Rattle.map_types.specs.Kind.{is_lru}
 use Rattle.map_types.specs.ElementLists.{times}
 use Rattle.map_types.specs.Stored.{Stored}
+use Rattle.place_words.specs.declared.history.Entry.{Entry}
 use Rattle.place_words.specs.declared.history.Part.{Part}
+use Rattle.place_words.specs.declared.history.Part.TheVariants as parts
+use Rattle.place_words.specs.declared.list_part.LocalPart.{LocalPart}
+use Rattle.place_words.specs.declared.list_part.LocalPart.TheVariants as local
 use Rattle.place_words.specs.declared.visits.Visit.{Visit}
-use Rattle.place_words.specs.Histories.{content, content_after, Allows, marks, bits_cleared, also_cleared, clears}
+use Rattle.place_words.specs.Histories.{content, content_after, Allows, marks, bits_cleared, bits_read, also_cleared, clears}
 use Rattle.place_words.specs.Locks.{lock_named}
 use Rattle.place_words.specs.Traces.{IsTrace}
 use Rattle.place_words.specs.Walks.{spare_left}
 use Rattle.place_table.specs.declared.view.Turned.{Turned}
-use Rattle.place_table.specs.Known.{BitTouch, Learns, turn_at, IsBy}
+use Rattle.place_table.specs.Known.{BitTouch, Learns, KnowsAll, turn_at, IsBy}
 use Rattle.place_table.specs.Passes.{PassView, TableView, IsPassOf, HasBegun, IsInNoCall, Made, SparesDiffer, spare_of}
 use Rattle.place_table.specs.Views.{is_among}
 
@@ -47,14 +51,39 @@ clears_found visit = record { element = visit.element; seen = Some visit.bit; le
 abbrev pub clears_bit : ℕ → BitTouch
 clears_bit e = record { element = e; seen = None; left = false }
 
+-- and one is read, and left as it was
+abbrev pub reads_bit : Visit → BitTouch
+reads_bit visit = record { element = visit.element; seen = Some visit.bit; left = visit.bit }
+
 -- the steps on bits that a part tells, and those of some turns in their order; on a map that doesn't evict there are none
 abbrev pub bits_of_part : Shape → Part → List BitTouch
-bits_of_part shape part = map sets_bit (marks shape part) ++ map clears_found (bits_cleared part) ++ map clears_bit (also_cleared part)
+bits_of_part shape part = map reads_bit (bits_read part) ++ map sets_bit (marks shape part) ++ map clears_found (bits_cleared part) ++ map clears_bit (also_cleared part)
 
 abbrev pub bits_of_turns : Shape → List Turned → List BitTouch
 bits_of_turns shape steps = if is_lru shape.kind then flat_map (λ (step : Turned). bits_of_part shape step.entry.part) steps else []
 
 -- Turns
+
+-- A push that found its element pending no more, since it had been flushed after its home was read.
+abbrev pub found_moved_on : LocalPart → Bool
+found_moved_on (local.Pop hash e) = false
+found_moved_on (local.Refill hash flushed gained got) = false
+found_moved_on (local.Steal got first second) = false
+found_moved_on (local.Add hash e cursor) = false
+found_moved_on (local.Push e done) = not done
+
+abbrev pub finds_moved_on : Part → Bool
+finds_moved_on (parts.Bucket part) = false
+finds_moved_on (parts.Free part) = false
+finds_moved_on (parts.Local part) = found_moved_on part
+finds_moved_on (parts.Global part) = false
+finds_moved_on (parts.Own part) = false
+
+-- A pass that has all CPUs, and knows the turns of all locks, finds no element moved on that it frees: nobody else can flush one after
+-- its home was read.
+abbrev pub FindNoneMoved : TableView → PassView → List Turned → Type 0
+FindNoneMoved t before told =
+    IsTrue t.shape.common → (logs : ℕ → List Entry) → KnowsAll t.shape logs before.view → All (λ (turn : Turned). IsFalse (finds_moved_on turn.entry.part)) told
 
 -- What a call leaves, whatever it answers: these turns were made by its CPU in it, and these locks it gave back without a part,
 -- so that their record is lost; the pass is in no call; only the spare of its CPU may be another. Each turn is allowed on what the turns of its lock before
@@ -92,7 +121,7 @@ AreTold shape lost (step ∷ steps) [] = ⊥
 AreTold shape lost (step ∷ steps) (told ∷ others) = IsTold shape lost step told × AreTold shape lost steps others
 
 -- The turns as the call tells them, each after the turns of its lock before it, are a trace of the call with this reply, and
--- nothing else; the CPU's spare is then the one that they leave. Where no lock was given back without a part, they are those that
+-- nothing else; in serial order none that is freed is found to have moved on; the CPU's spare is then the one that they leave. Where no lock was given back without a part, they are those that
 -- were made.
 pub record Called (t : TableView) (before after : PassView) (verb : Verb) (reply : Reply) : Type 0 where
   pub steps : List Turned
@@ -101,6 +130,7 @@ pub record Called (t : TableView) (before after : PassView) (verb : Verb) (reply
   pub told_are : AreTold t.shape lost steps told
   pub leaves : Leaves t before after steps lost (bits_of_turns t.shape told)
   pub trace : IsTrace t.shape before.cpu (spare_element before) verb (map (turn_at t.shape) told) reply
+  pub none_moved : FindNoneMoved t before told
   pub spare : spare_element after ≡ spare_left t.shape (spare_element before) (map (turn_at t.shape) told)
 
 -- The same, and no lock was given back without a part. A record may still be lost, where give found no memory for the entry: only

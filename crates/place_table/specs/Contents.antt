@@ -1,5 +1,5 @@
 -- What lies under a lock: as the table has it, as histories tell it, and as lists of elements.
-use Rattle.std.specs.Prelude.{◌≡◌, ◌+◌, [], length, All, None}
+use Rattle.std.specs.Prelude.{◌≡◌, ◌+◌, ◌<◌, [], length, All, None}
 use Rattle.map_types.specs.declared.attr.Shape.{Shape}
 use Rattle.map_types.specs.declared.kind.DomainId.{DomainId}
 use Rattle.map_types.specs.declared.kind.DomainId.TheVariants.{Local, Global, CpuLru, Bucket, Freelist}
@@ -10,6 +10,7 @@ use Rattle.place_words.specs.Histories as histories
 use Rattle.place_words.specs.Histories.{in_bucket, on_freelist, in_locals, in_global, in_own}
 use Rattle.map_types.specs.Listed.{elements_of}
 use Rattle.place_words.specs.Sets.{ListSet}
+use Rattle.local_lists.specs.LocalLists.{LocalView, IsLocal, local_told}
 use Rattle.lru_lists.specs.Sets.{SetView, IsSet, listed}
 use Rattle.place_core.specs.declared.step.Lists.{Lists}
 use Rattle.place_table.specs.declared.content.Content.{Content}
@@ -19,11 +20,20 @@ use Rattle.place_table.specs.declared.content.Content.TheVariants as contents
 abbrev pub set_told : SetView → ListSet
 set_told set = record { lists = listed set; free = numbers set.free.bodies }
 
--- as histories tell it
-abbrev pub told : Content → histories.Content
-told (contents.Bucket chain) = in_bucket chain.bodies
-told (contents.Freelist freelist) = on_freelist (numbers freelist.bodies)
-told (contents.Set set) = in_own (set_told set)
+-- The set under the global lock is the one that the CPUs share, and any other is a CPU's own.
+abbrev pub set_under : DomainId → ListSet → histories.Content
+set_under (Local cpu) set = in_own set
+set_under Global set = in_global set
+set_under (CpuLru cpu) set = in_own set
+set_under (Bucket bucket) set = in_own set
+set_under (Freelist cpu) set = in_own set
+
+-- what lies under a lock, as histories tell it
+abbrev pub told : DomainId → Content → histories.Content
+told lock (contents.Bucket chain) = in_bucket chain.bodies
+told lock (contents.Freelist freelist) = on_freelist (numbers freelist.bodies)
+told lock (contents.Local lists) = in_locals (local_told lists)
+told lock (contents.Set set) = set_under lock (set_told set)
 
 -- as lists of elements: of local lists the first is pending, of a set active, and the second inactive
 abbrev pub lists_of_set : ListSet → Lists
@@ -52,21 +62,36 @@ pub record FitsSet (shape : Shape) (set : SetView) : Type 0 where
   pub room : length set.free.bodies + set.free.spare ≡ shape.elements
   pub whole : IsSet set
 
--- A bucket lies under a bucket's lock, a freelist under a freelist's and a list set under that of a CPU's own set, with bodies
--- of the map's sizes. A freelist has room for every element, as it was created, and so has a list set.
+-- local lists as they were created, with room for every element: no element stands on both, and the next theft starts at a CPU of
+-- the map
+pub record FitsLocal (shape : Shape) (lists : LocalView) : Type 0 where
+  pub sized : All (IsSized shape) lists.free.bodies
+  pub bound : lists.elements ≡ shape.elements
+  pub room : length lists.free.bodies + lists.free.spare ≡ shape.elements
+  pub whole : IsLocal lists
+  pub steal : lists.steal < shape.cpus
+
+-- A bucket lies under a bucket's lock, a freelist under a freelist's, local lists under a CPU's local lock, and a list set under the
+-- global lock or that of a CPU's own set, with bodies of the map's sizes. A freelist has room for every element, as it was created,
+-- and so have local lists and a list set.
 abbrev pub Fits : Shape → DomainId → Content → Type 0
 Fits shape (Bucket bucket) (contents.Bucket chain) = All (IsSized shape) chain.bodies
 Fits shape (Bucket bucket) (contents.Freelist freelist) = ⊥
+Fits shape (Bucket bucket) (contents.Local lists) = ⊥
 Fits shape (Bucket bucket) (contents.Set set) = ⊥
 Fits shape (Freelist cpu) (contents.Freelist freelist) = All (IsSized shape) freelist.bodies × (freelist.room ≡ shape.elements)
 Fits shape (Freelist cpu) (contents.Bucket chain) = ⊥
+Fits shape (Freelist cpu) (contents.Local lists) = ⊥
 Fits shape (Freelist cpu) (contents.Set set) = ⊥
 Fits shape (CpuLru cpu) (contents.Set set) = FitsSet shape set
 Fits shape (CpuLru cpu) (contents.Bucket chain) = ⊥
 Fits shape (CpuLru cpu) (contents.Freelist freelist) = ⊥
+Fits shape (CpuLru cpu) (contents.Local lists) = ⊥
+Fits shape (Local cpu) (contents.Local lists) = FitsLocal shape lists
 Fits shape (Local cpu) (contents.Bucket chain) = ⊥
 Fits shape (Local cpu) (contents.Freelist freelist) = ⊥
 Fits shape (Local cpu) (contents.Set set) = ⊥
+Fits shape Global (contents.Set set) = FitsSet shape set
 Fits shape Global (contents.Bucket chain) = ⊥
 Fits shape Global (contents.Freelist freelist) = ⊥
-Fits shape Global (contents.Set set) = ⊥
+Fits shape Global (contents.Local lists) = ⊥

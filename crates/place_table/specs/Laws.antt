@@ -59,7 +59,7 @@ abbrev pub GiveIsStep : Type 0
 GiveIsStep =
     (shape : Shape) (slots pass : ℕ) (v : View) (behind : Behind) (slots_below : List (ℕ × Behind)) (lock : DomainId) (hold : Hold) (below : List Hold) → v.held ≡ hold ∷ below → IsTrue (is_lock shape lock) → hold.lock ≡ lock_number shape lock
     → (entry : Entry) (kept : List StrandStep) (may : MayGive shape v hold entry kept behind)
-    → StepsAs shape slots pass (v, (lock_number shape lock, behind) ∷ slots_below) (lock_number shape lock) (λ _. 0) (goes_by shape (Give hold.cpu lock (lists_of (told may.here)))) (λ _. Gives entry kept (v, (lock_number shape lock, behind) ∷ slots_below))
+    → StepsAs shape slots pass (v, (lock_number shape lock, behind) ∷ slots_below) (lock_number shape lock) (λ _. 0) (goes_by shape (Give hold.cpu lock (lists_of (told lock may.here)))) (λ _. Gives entry kept (v, (lock_number shape lock, behind) ∷ slots_below))
 
 -- a bit is set by a store of 1, of an element of a bucket that is held
 abbrev pub MarkIsStep : Type 0

@@ -1,21 +1,25 @@
 -- What the slots of a closed table leave.
-use Rattle.std.specs.Prelude.{◌≡◌, ℕ, ◌<◌, Bool, true, false, not, List, [], map, filter, take, drop, Option, None, Some, MatchOption, option_map, option_to_list, All, Vec, slice_index_or, ◌||◌, if◌then◌else◌}
+use Rattle.std.specs.Prelude.{◌≡◌, ℕ, ◌<◌, Bool, true, false, not, List, [], ◌∷◌, map, filter, take, drop, Option, None, Some, MatchOption, option_map, option_to_list, All, Vec, slice_index_or, ◌||◌, if◌then◌else◌}
 use Rattle.std.specs.Global.{Global}
 use Rattle.std.specs.List.{flat_map, range_with_len, list_any}
 use Rattle.map_types.specs.declared.attr.Shape.{Shape}
+use Rattle.map_types.specs.declared.kind.DomainId.TheVariants as named
 use Rattle.map_types.specs.Kind.{is_lru}
 use Rattle.map_types.specs.Stored.{Stored}
 use Rattle.cpu_freelist.specs.Stack.{numbers}
+use Rattle.place_words.specs.declared.finals.LocalFinal.{LocalFinal}
 use Rattle.place_words.specs.declared.finals.SetFinal.{SetFinal}
 use Rattle.place_words.specs.declared.history.Entry.{Entry}
 use Rattle.place_words.specs.declared.history.LockHistory.{LockHistory}
 use Rattle.place_words.specs.declared.history.Strand.{Strand}
 use Rattle.place_words.specs.Histories.{content}
-use Rattle.place_words.specs.Locks.{lock_named, lock_count, first_set, first_bucket, first_freelist}
-use Rattle.place_words.specs.Logs.{final_set}
+use Rattle.place_words.specs.Locks.{lock_named, lock_number, lock_count, first_set, first_bucket, first_freelist}
+use Rattle.place_words.specs.Locals.{new_locals}
+use Rattle.place_words.specs.Logs.{final_set, final_local}
 use Rattle.place_words.specs.Sets.{new_set}
+use Rattle.local_lists.specs.LocalLists.{local_told}
 use Rattle.place_table.specs.declared.content.Content.{Content}
-use Rattle.place_table.specs.declared.content.Content.TheVariants.{Bucket, Freelist, Set}
+use Rattle.place_table.specs.declared.content.Content.TheVariants.{Bucket, Freelist, Local, Set}
 use Rattle.place_table.specs.Contents.{told, set_told, Fits, IsSized}
 use Rattle.place_table.specs.declared.strands.Finished.{Finished}
 use Rattle.place_table.specs.declared.view.Ended.{Ended}
@@ -31,12 +35,14 @@ abbrev pub bodies_in : Option Content → List Stored
 bodies_in None = []
 bodies_in (Some (Bucket chain)) = chain.bodies
 bodies_in (Some (Freelist freelist)) = []
+bodies_in (Some (Local lists)) = []
 bodies_in (Some (Set set)) = []
 
 abbrev pub numbers_in : Option Content → List ℕ
 numbers_in None = []
 numbers_in (Some (Bucket chain)) = []
 numbers_in (Some (Freelist freelist)) = numbers freelist
+numbers_in (Some (Local lists)) = []
 numbers_in (Some (Set set)) = []
 
 -- the elements of a list set, and its cursor
@@ -44,14 +50,29 @@ abbrev pub set_in : Option Content → SetFinal
 set_in None = final_set (new_set [])
 set_in (Some (Bucket chain)) = final_set (new_set [])
 set_in (Some (Freelist freelist)) = final_set (new_set [])
+set_in (Some (Local lists)) = final_set (new_set [])
 set_in (Some (Set set)) = final_set (set_told set)
 
--- the freelists of a map that doesn't evict, and the list sets of one that does, by CPU
+-- the elements of local lists, and the CPU from which the next theft starts
+abbrev pub locals_in : Option Content → LocalFinal
+locals_in None = final_local (new_locals 0)
+locals_in (Some (Bucket chain)) = final_local (new_locals 0)
+locals_in (Some (Freelist freelist)) = final_local (new_locals 0)
+locals_in (Some (Local lists)) = final_local (local_told lists)
+locals_in (Some (Set set)) = final_local (new_locals 0)
+
+-- the freelists of a map that doesn't evict, by CPU; of one that evicts the set that the CPUs share, with their local lists by CPU,
+-- or a list set for each
 abbrev pub freelists_in : Shape → List (Option Content) → List (List ℕ)
 freelists_in shape contents = if is_lru shape.kind then [] else map numbers_in (drop (first_freelist shape) contents)
 
 abbrev pub sets_in : Shape → List (Option Content) → List SetFinal
-sets_in shape contents = if is_lru shape.kind then map set_in (drop (first_set shape) (take (first_bucket shape) contents)) else []
+sets_in shape contents =
+    if shape.common then set_in (slice_index_or contents (lock_number shape named.Global) None) ∷ []
+    else (if is_lru shape.kind then map set_in (drop (first_set shape) (take (first_bucket shape) contents)) else [])
+
+abbrev pub all_locals_in : Shape → List (Option Content) → List LocalFinal
+all_locals_in shape contents = if shape.common then map locals_in (take shape.cpus contents) else []
 
 -- the elements of the spares that are kept, in the order of their CPUs
 abbrev pub spares_in : Shape → List (Option Stored) → List ℕ
@@ -73,7 +94,7 @@ HaveHistories shape log lost histories =
 -- what lies under all locks that the map has, by number
 abbrev pub AreContents : Shape → Logs → List (Option Content) → Type 0
 AreContents shape log contents =
-    (k : ℕ) → k < lock_count shape → has_lock shape k ≡ true → (here : Content) × (slice_index_or contents k None ≡ Some here) × (told here ≡ content shape (lock_named shape k) (log k)) × Fits shape (lock_named shape k) here
+    (k : ℕ) → k < lock_count shape → has_lock shape k ≡ true → (here : Content) × (slice_index_or contents k None ≡ Some here) × (told (lock_named shape k) here ≡ content shape (lock_named shape k) (log k)) × Fits shape (lock_named shape k) here
 
 -- the histories of the first n locks, and whether one of them is lost
 pub record AreKept (shape : Shape) (log : Logs) (lost : ℕ → Bool) (n : ℕ) (kept : List LockHistory) (some_lost : Bool) : Type 0 where

@@ -6,7 +6,7 @@ use Rattle.std.specs.List.{range_with_len}
 use Rattle.atomic_table.specs.Seated.{TableId}
 use Rattle.map_types.specs.declared.attr.Shape.{Shape}
 use Rattle.map_types.specs.declared.kind.DomainId.{DomainId}
-use Rattle.map_types.specs.declared.kind.DomainId.TheVariants.{CpuLru, Bucket}
+use Rattle.map_types.specs.declared.kind.DomainId.TheVariants.{Local, CpuLru, Bucket}
 use Rattle.map_types.specs.declared.kind.MapKind.TheVariants.{Hash}
 use Rattle.map_types.specs.Stored.{Stored}
 use Rattle.place_words.specs.declared.history.Entry.{Entry}
@@ -17,12 +17,14 @@ use Rattle.place_words.specs.declared.home.Home.{Home}
 use Rattle.place_words.specs.declared.home.Home.TheVariants as homes
 use Rattle.map_types.specs.Kind.{is_lru}
 use Rattle.place_words.specs.Codes.{HasHomeCode}
-use Rattle.map_types.specs.ElementLists.{IsIn, IsHead}
+use Rattle.map_types.specs.ElementLists.{times, IsIn, IsHead}
 use Rattle.place_words.specs.Histories.{content, IsLegal}
-use Rattle.place_words.specs.Locks.{lock_number, rank_of, is_lock}
+use Rattle.place_words.specs.Locks.{lock_number, lock_named, rank_of, is_lock}
 use Rattle.place_words.specs.Takings.{set_of}
 use Rattle.place_core.specs.State.{rows, is_bucket}
 use Rattle.place_core.specs.Places.{MayOwn}
+use Rattle.place_core.specs.Wholeness.{all_of}
+use Rattle.place_table.specs.Flushes.{flushed_last}
 use Rattle.place_table.specs.declared.content.Content.{Content}
 use Rattle.place_table.specs.declared.content.Behind.{Behind}
 use Rattle.place_table.specs.declared.strands.Finished.{Finished}
@@ -163,17 +165,22 @@ pub record Takes (t : TableView) (lock : DomainId) (before after : PassView) (he
   pub hold : Hold
   pub lock_is : hold.lock ≡ lock_number t.shape lock
   pub cpu_is : hold.cpu ≡ before.cpu
+  pub within : before.cpu < t.shape.cpus
   pub at : ℕ
   pub after_is : after ≡ with_view before (holding at hold before.view)
-  pub told_is : told here ≡ content t.shape lock hold.log
+  pub told_is : told lock here ≡ content t.shape lock hold.log
   pub fits : Fits t.shape lock here
-  pub now : hold.now ≡ lists_of (told here)
+  pub now : hold.now ≡ lists_of (told lock here)
   pub elements : AreElements t.shape hold.now
   pub apart : IsApartFromHands before.view lock hold.now
   pub legal : IsLegal t.shape lock hold.log
   pub known : (log : List Entry) → known_log (lock_number t.shape lock) before.view.known ≡ Some log → hold.log ≡ log
   -- an element whose home was read, and is known to be this lock, is listed under it
   pub at_home : (e c : ℕ) → c < t.shape.cpus → home_known e c after.view.readings ≡ Some (homes.In lock) → IsIn e (rows hold.now)
+  -- and one whose home was read as these local lists, and which is pending there no more, was flushed from them
+  pub moved_on : (e c d : ℕ) → c < t.shape.cpus → lock ≡ Local d → home_known e c before.view.readings ≡ Some (homes.In (Local d)) → times e (rows hold.now) ≡ 0 → flushed_last t.shape lock e hold.log ≡ true
+  -- what lies on the lists of this lock lies on those of no other that is held
+  pub alone : IsTrue (is_lru t.shape.kind) → IsFalse (is_bucket lock) → (k e : ℕ) (other : Hold) → hold_at k before.view.held ≡ Some other → IsFalse (is_bucket (lock_named t.shape k)) → IsIn e (all_of hold.now) → times e (all_of other.now) ≡ 0
   -- where each CPU has a list set of its own, what is in the hand of a CPU of the pass is listed in the set where it lives
   pub lives : IsTrue (is_lru t.shape.kind) → t.shape.common ≡ false → (e c : ℕ) → is_among c before.view.cpus ≡ true → is_in_hand_of e c before.view.hand ≡ true → lock ≡ CpuLru (set_of t.shape e) → IsIn e (rows hold.now)
 

@@ -1,6 +1,6 @@
 -- What each step on a word tells of the pass that makes it. Its number, `at`, is how many steps on words had been made before it.
 -- A pass doesn't know it: the rule ties it to the order of all steps.
-use Rattle.std.specs.Prelude.{◌≡◌, ◌≢◌, ◌⊎◌, ◌&&◌, ℕ, ◌<◌, ◌≤◌, ◌-◌, Bool, true, false, List, [], ◌∷◌, ◌++◌, length, Some, MatchOption, IsTrue, IsFalse}
+use Rattle.std.specs.Prelude.{◌≡◌, ◌≢◌, ◌⊎◌, ◌&&◌, ℕ, ◌<◌, ◌≤◌, ◌-◌, Bool, true, false, List, [], ◌∷◌, ◌++◌, length, None, Some, MatchOption, IsTrue, IsFalse}
 use Rattle.atomic_table.specs.Table as table
 use Rattle.atomic_table.specs.Table.{Me, rest}
 use Rattle.map_types.specs.declared.attr.Shape.{Shape}
@@ -35,9 +35,9 @@ use Rattle.place_table.specs.declared.view.Notes.{Notes}
 use Rattle.place_table.specs.Contents.{told, lists_of, Fits}
 use Rattle.place_table.specs.Views.{is_among, hold_at, is_in_hand_of, known_log, bit_seen, holding, given, losing, kept_step, moved, with_hashes, claimed, settled, attached, detached, marked, cleared, bit_read, owner_read, home_read, rehomed, home_known, came_last}
 use Rattle.place_table.specs.Rules.{Reads, is_hand_of}
-use Rattle.place_table.specs.TurnNotes.{NotesFit, InnermostFits}
+use Rattle.place_table.specs.TurnNotes.{HasOnlyHash, NotesFit, InnermostFits}
 use Rattle.place_table.specs.StoredHashes.{stored_in}
-use Rattle.place_table.specs.Flushes.{flushes}
+use Rattle.place_table.specs.Flushes.{flushes, flushed_last}
 
 -- a seat at the table: what it knows, and the slots that it has
 abbrev pub Seated : Type 0
@@ -73,6 +73,10 @@ pub record Took (k cpu : ℕ) (before after : Seated) : Type 0 where
   pub known : (log : List Entry) → known_log k before.0.known ≡ Some log → hold.log ≡ log
   -- an element whose home was read, and is known to be this lock, is listed under it
   pub at_home : (e c : ℕ) (lock : DomainId) → c < before.0.shape.cpus → home_known e c after.0.readings ≡ Some (homes.In lock) → lock_number before.0.shape lock ≡ k → IsIn e (rows hold.now)
+  -- and one whose home was read as local lists under this lock, and which is pending there no more, was flushed from them
+  pub moved_on : (e c d : ℕ) → c < before.0.shape.cpus → lock_named before.0.shape k ≡ Local d → home_known e c before.0.readings ≡ Some (homes.In (Local d)) → times e (rows hold.now) ≡ 0 → flushed_last before.0.shape (lock_named before.0.shape k) e hold.log ≡ true
+  -- what lies on the lists of this lock lies on those of no other that is held
+  pub alone : IsTrue (is_lru before.0.shape.kind) → IsFalse (is_bucket (lock_named before.0.shape k)) → (j e : ℕ) (other : Hold) → hold_at j before.0.held ≡ Some other → IsFalse (is_bucket (lock_named before.0.shape j)) → IsIn e (all_of hold.now) → times e (all_of other.now) ≡ 0
   -- where each CPU has a list set of its own, what is in the hand of a CPU of the pass is listed in the set where it lives
   pub lives : IsTrue (is_lru before.0.shape.kind) → before.0.shape.common ≡ false → (e c : ℕ) → e < before.0.shape.elements → is_among c before.0.cpus ≡ true → is_in_hand_of e c before.0.hand ≡ true → lock_number before.0.shape (CpuLru (set_of before.0.shape e)) ≡ k → IsIn e (rows hold.now)
 
@@ -84,14 +88,14 @@ Tries step before found after =
 -- What is put back: an entry that is allowed leads to it, and it has the elements that lie there at this step.
 pub record MayPut (shape : Shape) (v : View) (hold : Hold) (entry : Entry) (here : Content) : Type 0 where
   pub cpu : is_among entry.cpu v.cpus ≡ true
-  pub told_is : told here ≡ content_after shape entry.cpu entry.part (content shape (lock_named shape hold.lock) hold.log)
+  pub told_is : told (lock_named shape hold.lock) here ≡ content_after shape entry.cpu entry.part (content shape (lock_named shape hold.lock) hold.log)
   pub fits : Fits shape (lock_named shape hold.lock) here
   pub allowed : Allows shape entry.cpu entry.part (content shape (lock_named shape hold.lock) hold.log)
-  pub same_free : (e : ℕ) → times e (lists_of (told here)).free ≡ times e hold.now.free
-  pub same_rows : (e : ℕ) → times e (rows (lists_of (told here))) ≡ times e (rows hold.now)
+  pub same_free : (e : ℕ) → times e (lists_of (told (lock_named shape hold.lock) here)).free ≡ times e hold.now.free
+  pub same_rows : (e : ℕ) → times e (rows (lists_of (told (lock_named shape hold.lock) here))) ≡ times e (rows hold.now)
   -- on a map that evicts a row has a new hash only where its element came in this turn and is in the CPU's hand: else it is that
   -- of the row that the element had when this lock was taken, or another one that the pass holds
-  pub rows_kept : IsTrue (is_lru shape.kind) → (j e h n : ℕ) (other : Hold) → hold_at j v.held ≡ Some other → (is_in_hand_of e hold.cpu v.hand && is_among e (came_last v.notes)) ≡ false → stored_in (content shape (lock_named shape j) other.log) e ≡ Some h → stored_in (told here) e ≡ Some n → h ≡ n
+  pub rows_kept : IsTrue (is_lru shape.kind) → (j e h n : ℕ) (other : Hold) → hold_at j v.held ≡ Some other → (is_in_hand_of e hold.cpu v.hand && is_among e (came_last v.notes)) ≡ false → stored_in (content shape (lock_named shape j) other.log) e ≡ Some h → stored_in (told (lock_named shape hold.lock) here) e ≡ Some n → h ≡ n
   -- and what was pending when a local lock was taken, and is on its lists no more, was flushed by the turn, or the CPU carries it
   pub gone : IsTrue (is_lru shape.kind) → (c e h : ℕ) → lock_named shape hold.lock ≡ Local c → stored_in (content shape (lock_named shape hold.lock) hold.log) e ≡ Some h → times e (all_of hold.now) ≡ 0 → (is_in_hand_of e hold.cpu v.carried ≡ true) ⊎ (flushes e entry.part ≡ true)
 
@@ -193,11 +197,6 @@ pub record SeesBit (e : ℕ) (before : Seated) (found : ℕ) (after : Seated) : 
 abbrev pub IsNoneListed : View → ℕ → Type 0
 IsNoneListed v e = (k : ℕ) (hold : Hold) → hold_at k v.held ≡ Some hold → times e (rows hold.now) ≡ 0
 
--- each row that it had under a lock that is held, when that was taken, has this hash
-abbrev pub HasOnlyHash : Shape → View → ℕ → ℕ → Type 0
-HasOnlyHash shape v e hash =
-    (k h : ℕ) (hold : Hold) → hold_at k v.held ≡ Some hold → stored_in (content shape (lock_named shape k) hold.log) e ≡ Some h → h ≡ hash
-
 -- it is listed under a lock that is held, which is no bucket
 pub record IsListedHere (shape : Shape) (v : View) (e : ℕ) : Type 0 where
   pub lock : ℕ
@@ -240,12 +239,24 @@ IsKnownHome shape v cpu e (homes.In lock) =
     (holds : HoldsLock shape v cpu lock) × IsFalse (is_bucket lock) × IsIn e (all_of holds.hold.now)
 IsKnownHome shape v cpu e (homes.Hand c) = (c ≡ cpu) × (is_in_hand_of e cpu v.carried ≡ true)
 
+-- what may be the home of an element of a map that evicts: a lock of the map that isn't a bucket's, or on one whose CPUs share lists
+-- the hand of a CPU
+abbrev pub MayBeHome : Shape → Home → Type 0
+MayBeHome shape homes.Unlisted = ⊥
+MayBeHome shape (homes.In lock) = IsTrue (is_lock shape lock) × IsFalse (is_bucket lock)
+MayBeHome shape (homes.Hand cpu) = IsTrue shape.common × (cpu < shape.cpus)
+
 -- A home that what the pass knows doesn't rule out. A map that doesn't evict tells of none. On one that does, where each CPU has a
--- list set of its own, an element's home is the set in which it lives; and a home that the pass knows is the one that is read.
+-- list set of its own, an element's home is the set in which it lives; and a home that the pass knows is the one that is read. What
+-- is in the hand of a CPU of the pass has no hand for its home, unless that CPU carries it. Where the home is a lock that nobody
+-- holds, as a pass with all CPUs knows, the element lies under it.
 pub record HomeFits (shape : Shape) (v : View) (e : ℕ) (home : Home) : Type 0 where
   pub plain : is_lru shape.kind ≡ false → home ≡ homes.Unlisted
   pub lives : IsTrue (is_lru shape.kind) → shape.common ≡ false → home ≡ homes.In (CpuLru (set_of shape e))
   pub known : IsTrue (is_lru shape.kind) → (cpu : ℕ) (known : Home) → is_among cpu v.cpus ≡ true → IsKnownHome shape v cpu e known → home ≡ known
+  pub is_there : IsTrue (is_lru shape.kind) → MayBeHome shape home
+  pub of_hand : (cpu holder : ℕ) → is_among cpu v.cpus ≡ true → is_in_hand_of e cpu v.hand ≡ true → is_in_hand_of e cpu v.carried ≡ false → home ≢ homes.Hand holder
+  pub lies : IsTrue (is_lru shape.kind) → (lock : DomainId) (log : List Entry) → home ≡ homes.In lock → hold_at (lock_number shape lock) v.held ≡ None → known_log (lock_number shape lock) v.known ≡ Some log → IsIn e (all_of (lists_of (content shape lock log)))
 
 -- a home was read
 pub record SeesHome (e : ℕ) (before : Seated) (found : ℕ) (after : Seated) : Type 0 where

@@ -86,7 +86,7 @@ KeptAs lost log behind = MatchOption behind.history (lost ≡ true) (λ v. (lost
 pub record Reads (shape : Shape) (k : ℕ) (log : List Entry) (lost : Bool) (behind : Behind) : Type 0 where
   pub here : Content
   pub content_is : behind.content ≡ Some here
-  pub told_is : told here ≡ content shape (lock_named shape k) log
+  pub told_is : told (lock_named shape k) here ≡ content shape (lock_named shape k) log
   pub fits : Fits shape (lock_named shape k) here
   pub kept : KeptAs lost log behind
 
@@ -402,7 +402,6 @@ pub record Knows (shape : Shape) (world : World) (pass : ℕ) (v : View) : Type 
 pub record Rule (shape : Shape) (s : table.State Behind View) : Type 0 where
   pub world : World
   pub is_shape : IsShape shape
-  pub own_lists : shape.common ≡ false
   pub words : length s.words ≡ word_count shape
   pub slots : length s.homes ≡ lock_count shape
   -- the words tell holders, owners, homes and bits

@@ -14,6 +14,9 @@ use Rattle.place_words.specs.declared.bucket_part.BucketPart.TheVariants.{Lookup
 use Rattle.place_words.specs.declared.bucket_part.Seen.{Seen}
 use Rattle.place_words.specs.declared.bucket_part.Seen.TheVariants.{Removed, Held}
 use Rattle.place_words.specs.declared.history.Part.{Part}
+use Rattle.place_words.specs.declared.list_part.GlobalPart.{GlobalPart}
+use Rattle.place_words.specs.declared.list_part.GlobalPart.TheVariants as global
+use Rattle.place_words.specs.declared.visits.Flush.{Flush}
 use Rattle.place_words.specs.declared.history.Part.TheVariants as parts
 use Rattle.key_hash.specs.Bucket.{bucket_number}
 use Rattle.map_types.specs.Kind.{is_lru}
@@ -177,7 +180,7 @@ first_view shape = record {
 }
 
 abbrev pub no_notes : Notes
-no_notes = record { came = []; marks = []; asked = []; owners = []; homes = [] }
+no_notes = record { came = []; marks = []; asked = []; owners = []; homes = []; flushed = []; off = [] }
 
 -- Its strand has one step more on a word. This one and those below are numbered: so many steps on words had been made before.
 abbrev pub touching : ℕ → ℕ → Option ℕ → ℕ → View → List WordStep
@@ -247,22 +250,32 @@ abbrev pub owners_probed : ℕ → Seen → List Notes → List Notes
 owners_probed e Removed below = below
 owners_probed e (Held holder) below = with_owner_read e (owners.Hand holder) below
 
-abbrev pub owners_passed_by : BucketPart → List Notes → List Notes
-owners_passed_by (Lookup side key got) below = below
-owners_passed_by (Update side flags key value offer put) below = below
-owners_passed_by (Delete key removed) below = below
-owners_passed_by (Take key taken) below = below
-owners_passed_by (Next key found) below = below
-owners_passed_by (First key) below = below
-owners_passed_by (Walk remove room result) below = below
-owners_passed_by (Evict e probed) below = owners_probed e probed below
+abbrev pub passed_on_by_bucket : BucketPart → List Notes → List Notes
+passed_on_by_bucket (Lookup side key got) below = below
+passed_on_by_bucket (Update side flags key value offer put) below = below
+passed_on_by_bucket (Delete key removed) below = below
+passed_on_by_bucket (Take key taken) below = below
+passed_on_by_bucket (Next key found) below = below
+passed_on_by_bucket (First key) below = below
+passed_on_by_bucket (Walk remove room result) below = below
+passed_on_by_bucket (Evict e probed) below = owners_probed e probed below
 
-abbrev pub owners_passed : Part → List Notes → List Notes
-owners_passed (parts.Bucket part) below = owners_passed_by part below
-owners_passed (parts.Free part) below = below
-owners_passed (parts.Local part) below = below
-owners_passed (parts.Global part) below = below
-owners_passed (parts.Own part) below = below
+-- What a turn of the global lists flushed belongs to the turn of the local lists around it.
+abbrev pub with_flushed : List Flush → List Notes → List Notes
+with_flushed flushed [] = []
+with_flushed flushed (n ∷ below) = record n { flushed = n.flushed ++ flushed } ∷ below
+
+abbrev pub passed_on_by_global : GlobalPart → List Notes → List Notes
+passed_on_by_global (global.Turn flushed active inactive free shrink) below = with_flushed flushed below
+passed_on_by_global (global.Push e) below = below
+
+-- what a turn hands on to the notes of the turn around it
+abbrev pub passed_on : Part → List Notes → List Notes
+passed_on (parts.Bucket part) below = passed_on_by_bucket part below
+passed_on (parts.Free part) below = below
+passed_on (parts.Local part) below = below
+passed_on (parts.Global part) below = passed_on_by_global part below
+passed_on (parts.Own part) below = below
 
 -- the lock taken last is given back with this entry, and these steps are recorded then
 abbrev pub given : ℕ → Hold → Entry → List StrandStep → View → View
@@ -274,7 +287,7 @@ given at hold entry kept v = record {
   carried = v.carried;
   hashes = if is_lru v.shape.kind then hashes_given hold.cpu v.shape.buckets (content_after v.shape entry.cpu entry.part (content v.shape (lock_named v.shape hold.lock) hold.log)) (came_last v.notes) v.hand v.hashes else v.hashes;
   readings = v.readings;
-  notes = owners_passed entry.part (notes_below v.notes);
+  notes = passed_on entry.part (notes_below v.notes);
   known = learned hold entry v;
   bits = v.bits;
   steps = v.steps ++ turned hold.lock hold.log entry ∷ [];
@@ -392,11 +405,36 @@ without_in_hand e cpu [] = []
 without_in_hand e cpu (x ∷ xs) =
     if (x.element == e) && (x.cpu == cpu) then without_in_hand e cpu xs else x ∷ without_in_hand e cpu xs
 
--- one that comes to a home, which is noted where that is a lock
-abbrev pub with_come_home : Shape → Home → ℕ → List Hold → List Notes → List Notes
-with_come_home shape homes.Unlisted e held notes = notes
-with_come_home shape (homes.In lock) e held notes = with_came (lock_number shape lock) e held notes
-with_come_home shape (homes.Hand cpu) e held notes = notes
+-- one that comes from one home to another, which is noted where that is a lock
+abbrev pub with_come_home : Shape → Home → Home → ℕ → List Hold → List Notes → List Notes
+with_come_home shape from homes.Unlisted e held notes = notes
+with_come_home shape from (homes.In lock) e held notes =
+    if home_code from == home_code (homes.In lock) then notes else with_came (lock_number shape lock) e held notes
+with_come_home shape from (homes.Hand cpu) e held notes = notes
+
+-- one that goes from local lists to the global ones, which is noted of the turn of the local lists
+abbrev pub with_off : ℕ → ℕ → List Hold → List Notes → List Notes
+with_off k e [] notes = notes
+with_off k e (hold ∷ holds) [] = []
+with_off k e (hold ∷ holds) (n ∷ notes) = if hold.lock == k then record n { off = e ∷ n.off } ∷ notes else n ∷ with_off k e holds notes
+
+abbrev pub left_local : Shape → Home → ℕ → List Hold → List Notes → List Notes
+left_local shape homes.Unlisted e held notes = notes
+left_local shape (homes.In (Local cpu)) e held notes = with_off (lock_number shape (Local cpu)) e held notes
+left_local shape (homes.In Global) e held notes = notes
+left_local shape (homes.In (CpuLru cpu)) e held notes = notes
+left_local shape (homes.In (Bucket bucket)) e held notes = notes
+left_local shape (homes.In (Freelist cpu)) e held notes = notes
+left_local shape (homes.Hand cpu) e held notes = notes
+
+abbrev pub with_left_home : Shape → Home → Home → ℕ → List Hold → List Notes → List Notes
+with_left_home shape from homes.Unlisted e held notes = notes
+with_left_home shape from (homes.In (Local cpu)) e held notes = notes
+with_left_home shape from (homes.In Global) e held notes = left_local shape from e held notes
+with_left_home shape from (homes.In (CpuLru cpu)) e held notes = notes
+with_left_home shape from (homes.In (Bucket bucket)) e held notes = notes
+with_left_home shape from (homes.In (Freelist cpu)) e held notes = notes
+with_left_home shape from (homes.Hand cpu) e held notes = notes
 
 -- other lists lie under locks that are held, other elements are in hand or carried, and other notes are made
 abbrev pub with_places : List Hold → List InHand → List InHand → List HomeIn → List Notes → List WordStep → View → View
@@ -483,7 +521,7 @@ carried_with (homes.Hand cpu) e carried = with_in_hand e cpu carried
 -- an element of this owner goes from one home to the head of another, which is noted in the turn of a lock that it comes to
 abbrev pub rehomed : ℕ → Home → Home → Owner → ℕ → View → View
 rehomed at from to owner e v =
-    with_places (held_with v.shape to owner e (held_without v.shape from owner e v.held)) v.hand (carried_with to e (carried_without from e v.carried)) (without_readings e v.readings) (with_come_home v.shape to e v.held v.notes) (touching at (home_word v.shape e) None (home_code to) v) v
+    with_places (held_with v.shape to owner e (held_without v.shape from owner e v.held)) v.hand (carried_with to e (carried_without from e v.carried)) (without_readings e v.readings) (with_come_home v.shape from to e v.held (with_left_home v.shape from to e v.held v.notes)) (touching at (home_word v.shape e) None (home_code to) v) v
 
 -- the CPUs of a pass without one
 abbrev pub without_cpu : ℕ → List ℕ → List ℕ

@@ -4,6 +4,7 @@ ghost use Rattle.std.specs.Prelude.{◌≡◌, None};
 
 use bucket_chain::Chain;
 use cpu_freelist::Freelist;
+use local_lists::LocalSet;
 use lru_lists::ListSet;
 use place_words::Entry;
 use row_list::PlainRows;
@@ -18,7 +19,10 @@ pub enum Content {
     Bucket(Chain),
     /// The free elements of a CPU.
     Freelist(Freelist),
-    /// The active, inactive and free elements of a CPU's own set, with the cursor of its rotation.
+    /// The free and pending elements of a CPU on a map whose CPUs share lists, and the CPU from which its next theft starts.
+    Local(LocalSet<Listing>),
+    /// The active, inactive and free elements of the set that the CPUs share, or of a CPU's own set, with the cursor of its
+    /// rotation.
     Set(ListSet<Listing>),
 }
 

@@ -20,6 +20,7 @@ use crate::table::PlaceTable;
 use atomic_table::Table;
 use bucket_chain::Chain;
 use cpu_freelist::Freelist;
+use local_lists::LocalSet;
 use lru_lists::ListSet;
 use map_types::{DomainId, MapKind, NoMemory, Shape};
 use percpu_values::BoxedBody;
@@ -29,12 +30,11 @@ use std::alloc::Global;
 
 impl PlaceTable {
     /// A table at its opening, and its first pass. All buckets are empty. The elements lie in the freelists of the CPUs, but for
-    /// the spare elements of a map of kind HASH, or on a map that evicts free in the list sets of the CPUs. The pass has all
-    /// CPUs and all spares, is in no call and has begun none. Memory for all elements is found here, and only want of it is
-    /// refused. Maps whose CPUs share lists are not served yet.
+    /// the spare elements of a map of kind HASH, or on a map that evicts free in the list sets of the CPUs, or in the one that
+    /// they share. The pass has all CPUs and all spares, is in no call and has begun none. Memory for all elements is found
+    /// here, and only want of it is refused.
     pub fn create(alloc: Global, shape: &Shape) -> Result<(PlaceTable, Pass), NoMemory>
         requires shape { IsShape shape.now }
-        requires own_lists { shape.now.common ≡ false }
         ensures { IfOk result (λ made. (made.0.shape ≡ shape.now) × IsFirstPass made.0 made.1) }
     {
         let owners = owners_at_first(alloc, shape)?;
@@ -171,7 +171,6 @@ fn first_content(
     lock: DomainId,
 ) -> Result<Option<Content>, NoMemory>
     requires shape { IsShape shape.now }
-    requires own_lists { shape.now.common ≡ false }
     requires owners { AreOpeningOwners shape.now owners.now }
     ensures { IfOk result (λ content. IsFirstContent shape.now lock content) }
 {
@@ -185,20 +184,21 @@ fn first_content(
             let freelist = freelist_of(alloc, shape, free.as_slice())?;
             Ok(Some(Content::Freelist(freelist)))
         }
-        DomainId::CpuLru(_) => {
+        DomainId::CpuLru(_) | DomainId::Global => {
             let free = free_at_first(alloc, shape, owners, lock)?;
             let set = set_of(alloc, shape, free.as_slice())?;
             Ok(Some(Content::Set(set)))
         }
-        // A map whose CPUs share no lists has no such lock.
-        DomainId::Local(_) | DomainId::Global => Ok(None),
+        DomainId::Local(cpu) => {
+            let lists = LocalSet::create(alloc, shape.elements, cpu)?;
+            Ok(Some(Content::Local(lists)))
+        }
     }
 }
 
 /// What stands in the slot of a lock at first.
 fn first_slot(alloc: Global, shape: &Shape, owners: &[Owner], lock: u32) -> Result<Behind, NoMemory>
     requires shape { IsShape shape.now }
-    requires own_lists { shape.now.common ≡ false }
     requires owners { AreOpeningOwners shape.now owners.now }
     ensures { IfOk result (λ behind. IsFirstSlot shape.now lock behind) }
 {
@@ -212,7 +212,6 @@ fn first_slot(alloc: Global, shape: &Shape, owners: &[Owner], lock: u32) -> Resu
 /// What stands in the slots of all locks at first.
 fn first_slots(alloc: Global, shape: &Shape, owners: &[Owner]) -> Result<Vec<Behind>, NoMemory>
     requires shape { IsShape shape.now }
-    requires own_lists { shape.now.common ≡ false }
     requires owners { AreOpeningOwners shape.now owners.now }
     ensures { IfOk result (λ slots. AreFirstSlots shape.now (lock_count shape.now) slots.items) }
 {

@@ -1,17 +1,19 @@
 //! What a closed table leaves, read of its slots.
 
-ghost use Rattle.std.specs.Prelude.{◌≡◌, ◌≤◌, ℕ, ◌+◌, Bool, List, [], true, false, All, IfOk, OnOk, drop, filter, length, map, slice_index_or, slice_range, take};
+ghost use Rattle.std.specs.Prelude.{◌≡◌, ◌<◌, ◌≤◌, ℕ, ◌+◌, Bool, List, [], ◌∷◌, None, true, false, All, IfOk, OnOk, drop, filter, length, map, slice_index_or, slice_range, take};
 ghost use Rattle.std.specs.List.{range_with_len};
 ghost use Rattle.cpu_freelist.specs.Stack.{numbers};
 ghost use Rattle.lru_lists.specs.Sets.{numbers_of};
 ghost use Rattle.map_types.specs.Creation.{IsShape};
 ghost use Rattle.place_words.specs.Locks.{lock_count, first_bucket, first_freelist};
-ghost use Rattle.place_words.specs.Logs.{final_set};
+ghost use Rattle.place_words.specs.Logs.{final_set, final_local};
+ghost use Rattle.local_lists.specs.LocalLists.{local_told};
+ghost use Rattle.place_words.specs.Locals.{new_locals};
 ghost use Rattle.place_words.specs.Sets.{new_set};
 ghost use Rattle.place_table.specs.declared.view.Ended.{Ended};
 ghost use Rattle.place_table.specs.Closing.{has_lock};
 ghost use Rattle.place_table.specs.Contents.{set_told};
-ghost use Rattle.place_table.specs.Leaving.{Logs, bodies_in, numbers_in, set_in, freelists_in, sets_in, spares_in, HasSizedBodies, IsHistory, HaveHistories, AreContents, AreKept, finished_told, AreTold, WasLeft};
+ghost use Rattle.place_table.specs.Leaving.{Logs, bodies_in, numbers_in, set_in, locals_in, freelists_in, sets_in, all_locals_in, spares_in, HasSizedBodies, IsHistory, HaveHistories, AreContents, AreKept, finished_told, AreTold, WasLeft};
 ghost use Rattle.place_table.specs.Passes.{AreFinished};
 
 use crate::closed::Closed;
@@ -19,10 +21,13 @@ use crate::content::{Content, Listing};
 use crate::kept::bucket_copy;
 use crate::strands::Finished;
 use cpu_freelist::Freelist;
+use local_lists::LocalSet;
 use lru_lists::{ListName, ListSet};
 use map_types::{List, NoMemory, Numbers, Shape};
 use percpu_values::BoxedBody;
-use place_words::{Entry, Finals, Kept, LockHistory, SetFinal, Strand, is_lock, lock_named};
+use place_words::{
+    Entry, Finals, Kept, LocalFinal, LockHistory, SetFinal, Strand, is_lock, lock_named,
+};
 use row_list::Rows;
 use std::alloc::Global;
 
@@ -38,7 +43,6 @@ pub(crate) fn left(
     spares: &[Option<BoxedBody>; 16],
 ) -> Result<Closed, NoMemory>
     requires shape { IsShape shape.now }
-    requires own_lists { shape.now.common ≡ false }
     requires counted { (length contents.items ≡ lock_count shape.now) × (length histories.items ≡ lock_count shape.now) }
     requires sized { All (HasSizedBodies shape.now) (slice_range contents.items (first_bucket shape.now) (first_freelist shape.now)) }
     ensures { (log : Logs) (lost bit : ℕ → Bool) (strands : List Ended) → AreContents shape.now log contents.items → HaveHistories shape.now log lost histories.items
@@ -47,7 +51,11 @@ pub(crate) fn left(
     let first_bucket = 2 * shape.cpus as usize + 1;
     let first_freelist = first_bucket + shape.buckets as usize;
     let buckets = buckets_left(alloc, shape, &contents[first_bucket..first_freelist])?;
-    let Lists { freelists, sets } = lists_left(alloc, shape, contents)?;
+    let Lists {
+        freelists,
+        sets,
+        locals,
+    } = lists_left(alloc, shape, contents)?;
     let Turns {
         histories,
         strands,
@@ -62,7 +70,7 @@ pub(crate) fn left(
             freelists: List::of(freelists),
             spares,
             sets: List::of(sets),
-            locals: List::of(Vec::new(alloc)),
+            locals: List::of(locals),
             marked,
         },
         lost,
@@ -105,32 +113,118 @@ fn bucket_left(
 struct Lists {
     freelists: Vec<Numbers>,
     sets: Vec<SetFinal>,
+    locals: Vec<LocalFinal>,
 }
 
-/// The freelists of a map that doesn't evict, and the list sets of one that does.
+/// The freelists of a map that doesn't evict; of one that does the list sets of the CPUs, or the one that they share and their
+/// local lists.
 fn lists_left(
     alloc: Global,
     shape: &Shape,
     contents: Vec<Option<Content>>,
 ) -> Result<Lists, NoMemory>
     requires shape { IsShape shape.now }
+    requires counted { length contents.items ≡ lock_count shape.now }
     ensures freelists { IfOk result (λ lists. lists.freelists.items ≡ freelists_in shape.now contents.items) }
     ensures sets { IfOk result (λ lists. lists.sets.items ≡ sets_in shape.now contents.items) }
+    ensures locals { IfOk result (λ lists. lists.locals.items ≡ all_locals_in shape.now contents.items) }
 {
     let first_set = shape.cpus as usize + 1;
     let first_bucket = first_set + shape.cpus as usize;
-    if shape.kind.is_lru() {
+    if shape.common {
+        shared_left(alloc, contents, shape.cpus as usize)
+    } else if shape.kind.is_lru() {
         Ok(Lists {
             freelists: Vec::new(alloc),
             sets: sets_left(alloc, contents, first_set, first_bucket)?,
+            locals: Vec::new(alloc),
         })
     } else {
         let first_freelist = first_bucket + shape.buckets as usize;
         Ok(Lists {
             freelists: freelists_left(alloc, contents, first_freelist)?,
             sets: Vec::new(alloc),
+            locals: Vec::new(alloc),
         })
     }
+}
+
+/// The list set that the CPUs share, which stands at this place, and their local lists, which stand before it.
+fn shared_left(
+    alloc: Global,
+    mut contents: Vec<Option<Content>>,
+    cpus: usize,
+) -> Result<Lists, NoMemory>
+    requires within { cpus < length contents.items }
+    ensures freelists { IfOk result (λ lists. lists.freelists.items ≡ []) }
+    ensures sets { IfOk result (λ lists. lists.sets.items ≡ set_in (slice_index_or contents.items cpus None) ∷ []) }
+    ensures locals { IfOk result (λ lists. lists.locals.items ≡ map locals_in (take cpus contents.items)) }
+{
+    let shared = contents[cpus].take();
+    Ok(Lists {
+        freelists: Vec::new(alloc),
+        sets: vec![in alloc; set_left(alloc, shared)?]?,
+        locals: locals_left(alloc, contents, cpus)?,
+    })
+}
+
+/// The local lists, which stand up to one place.
+fn locals_left(
+    alloc: Global,
+    mut contents: Vec<Option<Content>>,
+    past: usize,
+) -> Result<Vec<LocalFinal>, NoMemory>
+    ensures { IfOk result (λ locals. locals.items ≡ map locals_in (take past contents.items)) }
+{
+    contents.truncate(past);
+    let mut locals = Vec::new(alloc);
+    for content in contents {
+        locals.push(local_left(alloc, content)?)?;
+    }
+    Ok(locals)
+}
+
+/// The elements of local lists, and their steal cursor.
+fn local_left(alloc: Global, content: Option<Content>) -> Result<LocalFinal, NoMemory>
+    ensures { IfOk result (λ local. local ≡ locals_in content) }
+{
+    match content {
+        Some(Content::Local(lists)) => lists_of_cpu(alloc, lists),
+        _ => Ok(no_locals(alloc)),
+    }
+}
+
+/// Local lists without elements.
+fn no_locals(alloc: Global) -> LocalFinal
+    ensures { result ≡ final_local (new_locals 0) }
+{
+    LocalFinal {
+        free: List::of(Vec::new(alloc)),
+        pending: List::of(Vec::new(alloc)),
+        steal: 0,
+    }
+}
+
+/// The elements of local lists, and their steal cursor.
+fn lists_of_cpu(alloc: Global, lists: LocalSet<Listing>) -> Result<LocalFinal, NoMemory>
+    ensures { IfOk result (λ told. told ≡ final_local (local_told lists)) }
+{
+    Ok(LocalFinal {
+        pending: lists.pending().elements(alloc)?,
+        steal: lists.steal_cursor(),
+        free: local_free_left(alloc, lists)?,
+    })
+}
+
+/// The free elements of local lists, head first.
+fn local_free_left(alloc: Global, mut lists: LocalSet<Listing>) -> Result<Numbers, NoMemory>
+    ensures { IfOk result (λ elements. elements ≡ numbers_of lists.free.bodies) }
+{
+    let mut elements = Vec::new(alloc);
+    while let Some(body) = lists.pop_free() {
+        elements.push(body.body().element())?;
+    }
+    Ok(List::of(elements))
 }
 
 /// The list sets, which stand from one place up to another.

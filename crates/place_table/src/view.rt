@@ -2,7 +2,7 @@
 
 use map_types::Shape;
 use place_core::Lists;
-use place_words::{Entry, Home, Owner, StrandStep};
+use place_words::{Entry, Flush, Home, Owner, StrandStep};
 use std::collections::LinkedList;
 
 /// A lock that is held: its number, the CPU, the turns before, what lies there at this step, and whether the record of
@@ -78,7 +78,8 @@ pub struct WordStep {
     pub left: u64,
 }
 
-/// What was done and read while a lock was the last one taken of those that are held, the last first.
+/// What was done and read while a lock was the last one taken of those that are held, the last first; but what was flushed in the
+/// order in which it was told.
 pub struct Notes {
     /// The elements that came to the CPU's hand from this lock's free list, or to its lists from another home.
     pub came: LinkedList<u64>,
@@ -87,6 +88,10 @@ pub struct Notes {
     pub asked: LinkedList<BitAsked>,
     pub owners: LinkedList<OwnerSeen>,
     pub homes: LinkedList<HomeSeen>,
+    /// What turns of the global lists inside this turn told that they flushed.
+    pub flushed: LinkedList<Flush>,
+    /// The elements that went from these local lists to the global ones.
+    pub off: LinkedList<u64>,
 }
 
 /// The turns of a lock that isn't held, as a pass with all CPUs knows them.

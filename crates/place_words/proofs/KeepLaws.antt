@@ -324,7 +324,7 @@ freed_pending e lists first second search =
         omega (arith, named, rows_cut e any (length second) (reverse lists.pending), rows_reverse e any lists.pending)
     second_named false none = let empty : times e (map (λ (try : Try). try.element) second) ≡ 0 = ap (λ (tries : List Try). times e (map (λ (try : Try). try.element) tries)) none in omega (arith, empty)
 
-stolen_there : (e : ℕ) (lists : LocalLists) (first : List Look) (second : List Try) → IsSearch lists first second → freed first second ≡ e ∷ [] → 1 ≤ rows_of e any lists.pending
+pub stolen_there : (e : ℕ) (lists : LocalLists) (first : List Look) (second : List Try) → IsSearch lists first second → freed first second ≡ e ∷ [] → 1 ≤ rows_of e any lists.pending
 stolen_there e lists first second search took =
     let some : times e (freed first second) ≡ 1 = ap (times e) took ∙ times_here e in
     omega (arith, some, freed_pending e lists first second search)

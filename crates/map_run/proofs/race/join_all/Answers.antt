@@ -23,7 +23,7 @@ join-requires c =
     let turn = YieldsList-turn (YieldsList-from_vec {s = c.into_iter-worker-iterator.result} c.args.workers.items made.0 (made.1 ∙ c.args.workers.ok.0)) c.loop-worker.yielded c.loop-worker.worker-iterator c.loop-worker.yielded_by c.next.result c.next.new.self worker c.in-Some.is c.next.ensures.steps in
     let worked : HasWorked t n c.args.calls.now worker.pass worker.replies = subst (λ (w : Worker). HasWorked t n c.args.calls.now w.pass w.replies) (sym turn.1) (worker_at t c.args.calls.now c.args.workers.items n worker c.requires.worked turn.0) in
     let real : n < t.shape.cpus = subst (λ (k : ℕ). n < k) c.requires.count turn.0 in
-    subst (λ (z : TableView). CanJoin z c.loop-worker.pass worker.pass) (sym c.table.ensures) (can_join c.loop-worker.invariant.2 real worked)
+    subst (λ (z : TableView). CanJoin z c.loop-worker.pass worker.pass) (sym c.table.ensures.value) (can_join c.loop-worker.invariant.2 real worked)
 
 pub loop-worker-preserved : goal.loop-worker-preserved
 loop-worker-preserved c =

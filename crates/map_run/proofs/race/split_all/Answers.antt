@@ -9,7 +9,7 @@ use Rattle.map_run.proofs.race.split_all.Goals as goal
 pub split-part-requires : goal.split-part-requires
 split-part-requires c =
     let rest = c.loop-cpu.invariant.rest in
-    subst (λ (z : TableView). CanSplit z c.loop-cpu.cpu c.loop-cpu.pass) (sym c.table.ensures)
+    subst (λ (z : TableView). CanSplit z c.loop-cpu.cpu c.loop-cpu.pass) (sym c.table.ensures.value)
     record { of_table = rest.of_table; has_cpu = rest.here c.loop-cpu.cpu (omega arith) (omega arith); in_no_call = rest.in_no_call }
 
 pub loop-cpu-preserved : goal.loop-cpu-preserved

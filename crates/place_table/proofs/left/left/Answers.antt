@@ -16,12 +16,12 @@ returns c = λ log lost bit strands told turns set finished.
         histories_are = kept.are_kept.kept_are;
         lost_is = kept.are_kept.lost_is;
         strands_are = kept.told_are;
-        finals_are = finals_left c.args.shape.now log bit c.args.spares.now c.args.contents.items told c.requires.counted.0 _ _ _ c.requires.own_lists (omega arith) (omega arith)
+        finals_are = finals_left c.args.shape.now log bit c.args.spares.now c.args.contents.items told c.requires.counted.0 _ _ _ (omega arith) (omega arith)
             (c.of.ensures ∙ c.in_ok-buckets.ensures ∙ ap (λ (l : List (Option Content)). map bodies_in (take (2 * c.args.shape.now.cpus + 1 + c.args.shape.now.buckets - (2 * c.args.shape.now.cpus + 1)) (drop (2 * c.args.shape.now.cpus + 1) l))) c.deref.ensures.value)
             (c.of-2.ensures ∙ c.in_ok-freelists.ensures.freelists)
             c.in_ok-spares.ensures
             (c.of-3.ensures ∙ c.in_ok-freelists.ensures.sets)
-            (c.of-4.ensures ∙ c.new.ensures.items)
+            (c.of-4.ensures ∙ c.in_ok-freelists.ensures.locals)
             set;
       };
     }

@@ -12,8 +12,9 @@ use Rattle.place_table.specs.Contents.{IsSized}
 use Rattle.place_table.specs.declared.content.Content.TheVariants as contents
 use Rattle.place_table.specs.Passes.{TableView, CanAttach, CanGive}
 use Rattle.hash_ops.specs.Free.{Popped}
-use Rattle.hash_ops.proofs.Added.{nowhere, few_bodies, may_look, can_give_full, answered_full, can_attach_popped, can_give_added, answered_added}
+use Rattle.hash_ops.proofs.Added.{may_look, can_give_full, answered_full, can_attach_popped, can_give_added, answered_added}
 use Rattle.place_table.proofs.BucketTurns.{added_turn, full_turn}
+use Rattle.place_table.proofs.BucketBodies.{few_bodies, nowhere}
 use Rattle.hash_ops.proofs.Under.{is_plain_of, update_entry}
 use Rattle.hash_ops.proofs.map.PlainMap.add.Goals as goal
 
@@ -67,7 +68,7 @@ attach-requires g c =
 
 pub add_head-requires-clause-countable : goal.add_head-requires-clause-countable
 add_head-requires-clause-countable g c =
-    few_bodies c.args.self.now c.args.bucket c.args.pass.now c.args.chain.bodies c.requires.inside (subst (λ (z : TableView). HasBounds z.shape) c.self.view_is (bounds_of_shape _ c.self.invariant.0))
+    few_bodies c.requires.inside (subst (λ (z : TableView). HasBounds z.shape) c.self.view_is (bounds_of_shape _ c.self.invariant.0))
 
 pub add_head-requires-clause-absent : goal.add_head-requires-clause-absent
 add_head-requires-clause-absent g c =

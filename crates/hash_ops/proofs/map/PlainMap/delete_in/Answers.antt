@@ -4,8 +4,9 @@ use Rattle.place_words.specs.declared.bucket_part.BucketPart.TheVariants.{Delete
 use Rattle.place_table.specs.declared.content.Content.TheVariants as contents
 use Rattle.place_table.specs.Passes.{TableView, MayGiveBack, GaveBack}
 use Rattle.place_table.proofs.BucketTurns.{delete_missed_turn, gone_turn}
+use Rattle.place_table.proofs.BucketBodies.{sized_at}
 use Rattle.hash_ops.proofs.Gone.{can_detach, can_push_detached, gone_of, may_give_gone, answered_gone}
-use Rattle.hash_ops.proofs.Under.{none_noted, may_same, answered_turn, sized_at, is_plain_of, on_bucket}
+use Rattle.hash_ops.proofs.Under.{none_noted, may_same, answered_turn, is_plain_of, on_bucket}
 use Rattle.hash_ops.proofs.map.PlainMap.delete_in.Goals as goal
 
 pub give-requires-after_bounds : goal.give-requires-after_bounds

@@ -9,7 +9,8 @@ use Rattle.place_table.specs.Contents.{IsSized}
 use Rattle.place_table.specs.declared.content.Content.TheVariants as contents
 use Rattle.place_table.specs.Passes.{TableView, MayGiveBack, GaveBack}
 use Rattle.place_table.proofs.BucketTurns.{lookup_missed_turn, lookup_got_turn}
-use Rattle.hash_ops.proofs.Under.{none_noted, may_same, answered_turn, sized_at, is_plain_of, on_bucket}
+use Rattle.place_table.proofs.BucketBodies.{sized_at}
+use Rattle.hash_ops.proofs.Under.{none_noted, may_same, answered_turn, is_plain_of, on_bucket}
 use Rattle.hash_ops.proofs.map.PlainMap.lookup_in.Goals as goal
 
 pub give-requires-after_bounds : goal.give-requires-after_bounds

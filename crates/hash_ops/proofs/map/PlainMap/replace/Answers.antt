@@ -19,7 +19,8 @@ use Rattle.place_table.specs.Passes.{PassView, TableView, CanGive, CanMark, CanK
 use Rattle.place_table.specs.Views.{is_among, is_in_hand_of, with_in_hand, without_in_hand}
 use Rattle.place_table.proofs.Hands.{in_hand_more}
 use Rattle.place_table.proofs.BucketTurns.{replaced_turn}
-use Rattle.hash_ops.proofs.Under.{can_detach, body_inside, body_real, is_plain_of, sized_at, update_entry}
+use Rattle.place_table.proofs.BucketBodies.{sized_at}
+use Rattle.hash_ops.proofs.Under.{can_detach, body_inside, body_real, is_plain_of, update_entry}
 use Rattle.hash_ops.proofs.Replaced.{under_new, under_replaced, old_there, can_replace, answered_replaced}
 use Rattle.hash_ops.proofs.map.PlainMap.replace.Goals as goal
 

@@ -6,7 +6,7 @@ use Rattle.map_types.specs.Stored.{Stored}
 use Rattle.bucket_chain.specs.Places.{place_of_key}
 use Rattle.place_table.specs.declared.content.Content.TheVariants as contents
 use Rattle.place_table.specs.Passes.{TableView, CanGive}
-use Rattle.lru_ops.proofs.BodiesThere.{few_bodies, nowhere}
+use Rattle.place_table.proofs.BucketBodies.{few_bodies, nowhere}
 use Rattle.lru_ops.proofs.Puts.{add_done}
 use Rattle.lru_ops.proofs.Turned.{lru_of}
 use Rattle.lru_ops.proofs.map.LruMap.add.Goals as goal

@@ -10,9 +10,10 @@ use Rattle.place_table.specs.Contents.{IsSized}
 use Rattle.place_table.specs.declared.content.Content.TheVariants as contents
 use Rattle.place_table.specs.Passes.{TableView, MayGiveBack, GaveBack}
 use Rattle.place_table.proofs.BucketTurns.{lookup_missed_turn, lookup_got_turn}
+use Rattle.place_table.proofs.BucketBodies.{sized_at}
 use Rattle.bucket_chain.proofs.Turns.{found_body}
 use Rattle.lru_ops.proofs.Under.{under_nothing}
-use Rattle.lru_ops.proofs.Turned.{sized_at, can_mark_at, may_give, gives, unchanged, looked, missed_marks, under_looked, lru_of}
+use Rattle.lru_ops.proofs.Turned.{can_mark_at, may_give, gives, unchanged, looked, missed_marks, under_looked, lru_of}
 use Rattle.lru_ops.proofs.map.LruMap.lookup_in.Goals as goal
 
 pub give-requires-after_bounds : goal.give-requires-after_bounds

@@ -13,8 +13,9 @@ use Rattle.place_table.specs.Contents.{IsSized}
 use Rattle.place_table.specs.declared.content.Content.TheVariants as contents
 use Rattle.place_table.specs.Passes.{TableView, CanMark, MayGiveBack, GaveBack}
 use Rattle.place_table.proofs.BucketTurns.{take_missed_turn, taken_turn}
+use Rattle.place_table.proofs.BucketBodies.{sized_at}
 use Rattle.lru_ops.proofs.Under.{under_nothing, under_detached}
-use Rattle.lru_ops.proofs.Turned.{sized_at, is_real, can_mark_at, may_give, gives, unchanged, taken_out, given_as, lru_of}
+use Rattle.lru_ops.proofs.Turned.{is_real, can_mark_at, may_give, gives, unchanged, taken_out, given_as, lru_of}
 use Rattle.lru_ops.proofs.map.LruMap.take_in.Goals as goal
 
 pub give-requires-after_bounds : goal.give-requires-after_bounds

@@ -8,15 +8,6 @@ use Rattle.place_table.proofs.Closes.{at_its_end, if_closed}
 use Rattle.place_table.proofs.Leaves.{buckets_sized, contents_apart, histories_apart}
 use Rattle.place_table.proofs.table.PlaceTable.close.Goals as goal
 
-pub left-requires-clause-own_lists : goal.left-requires-clause-own_lists
-left-requires-clause-own_lists c =
-    let table : c.self.inside.shape ≡ c.args.self.shape = ap (λ (t : TableView). t.shape) c.self.view_is in
-    let view = ap (λ (p : PassView). p.view) c.pass.view_is in
-    let slots = slots_items c.close_with-closed.result.slots in
-    let e = at_its_end c.self.inside.shape c.self.inside.table.shared.key c.args.self.shape (slots_items c.close_with-closed.result.words) slots c.pass.inside.seat.id c.pass.inside.seat.me.0 c.args.pass.view
-    c.self.invariant.0 table view c.close_with-closed.ensures.values.2 c.requires.all_cpus c.requires.in_no_call.holds_nothing in
-    e.own_lists
-
 pub left-requires-clause-sized : goal.left-requires-clause-sized
 left-requires-clause-sized c =
     let table : c.self.inside.shape ≡ c.args.self.shape = ap (λ (t : TableView). t.shape) c.self.view_is in

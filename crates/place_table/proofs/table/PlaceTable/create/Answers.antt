@@ -13,7 +13,7 @@ first_cpus-requires c = let bounds = bounds_of_shape c.args.shape.now c.requires
 
 pub new-requires : goal.new-requires
 new-requires c =
-    opens c.args.shape.now c.as_slice-3.result.now c.in_ok-slots.slots.items c.requires.shape c.requires.own_lists (c.as_slice-3.ensures.value ∙ c.in_ok-words.ensures) c.in_ok-slots.ensures
+    opens c.args.shape.now c.as_slice-3.result.now c.in_ok-slots.slots.items c.requires.shape (c.as_slice-3.ensures.value ∙ c.in_ok-words.ensures) c.in_ok-slots.ensures
 
 pub invariant_of-result : goal.invariant_of-result
 invariant_of-result c =
