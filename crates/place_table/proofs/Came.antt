@@ -47,9 +47,9 @@ came_owner_read e owner k held [] = refl
 came_owner_read e owner k [] (n ∷ ns) = refl
 came_owner_read e owner k (h ∷ hs) (n ∷ ns) = refl
 
-pub came_home_read : (e : ℕ) (home : Home) (k : ℕ) (held : List Hold) (notes : List Notes) → came_at k held (with_home_read e home notes) ≡ came_at k held notes
-came_home_read e home k held [] = refl
-came_home_read e home k [] (n ∷ ns) = refl
+pub came_home_read : (e : ℕ) (home : Home) (k : ℕ) (held : List Hold) (notes : List Notes) → came_at k held (with_home_read e home held notes) ≡ came_at k held notes
+came_home_read e home k [] notes = refl
+came_home_read e home k (h ∷ hs) [] = refl
 came_home_read e home k (h ∷ hs) (n ∷ ns) = refl
 
 pub came_flushed : (flushed : List Flush) (k : ℕ) (held : List Hold) (notes : List Notes) → came_at k held (with_flushed flushed notes) ≡ came_at k held notes

@@ -566,10 +566,10 @@ sees_home_step shape slots pass me e real s r wide at_pass _ =
     let home : Home = w.core.home e in
     let home_is : home ≡ home_of_place shape (r.placed.place e) = r.placed.placed.homes e real in
     let x : WordStep = record { at = made w; word = home_word shape e; seen = Some (home_code home); left = home_code home } in (
-      noted (with_home_read e home me.0.notes) me.0.bits (touching (made w) (home_word shape e) (Some (home_code home)) (home_code home) me.0) (with_reading e home me.0.hand me.0.readings) me.0,
+      noted (with_home_read e home me.0.held me.0.notes) me.0.bits (touching (made w) (home_word shape e) (Some (home_code home)) (home_code home) me.0) (with_reading e home me.0.hand me.0.readings) me.0,
       keeps,
       tt,
-      look_rule shape s r pass me.0 at_pass (with_home_read e home me.0.notes) (λ k. came_home_read e home k me.0.held me.0.notes) (home_word shape e) (home_code home) me.1 me.0.bits (with_reading e home me.0.hand me.0.readings)
+      look_rule shape s r pass me.0 at_pass (with_home_read e home me.0.held me.0.notes) (λ k. came_home_read e home k me.0.held me.0.notes) (home_word shape e) (home_code home) me.1 me.0.bits (with_reading e home me.0.hand me.0.readings)
           (λ x d read within found. ⊎_elim
           (λ (new : IsNew x d e home read me.0.hand). record {
             real = subst (λ (z : ℕ). z < shape.elements) (sym new.same) real;
@@ -587,7 +587,7 @@ sees_home_step shape slots pass me e real s r wide at_pass _ =
         has_code = subst HasHomeCode (sym home_is) (has_home_code shape e (w.core.owner e) (r.placed.place e) (bounds_of_shape shape r.is_shape) (r.placed.placed.owners e real) (r.placed.placed.places e real));
         fits = subst (λ z. HomeFits z me.0 e home) (sym kn.shape_is) (home_fits shape s r pass me.0 at_pass e real);
         at = made w;
-        after_is = λ i. (noted (with_home_read e home me.0.notes) me.0.bits (touching (made w) (home_word (sym kn.shape_is i) e) (Some (home_code home)) (home_code home) me.0) (with_reading e home me.0.hand me.0.readings) me.0, me.1);
+        after_is = λ i. (noted (with_home_read e home me.0.held me.0.notes) me.0.bits (touching (made w) (home_word (sym kn.shape_is i) e) (Some (home_code home)) (home_code home) me.0) (with_reading e home me.0.hand me.0.readings) me.0, me.1);
       },
     )
 

@@ -176,7 +176,7 @@ noted_owner shape steps more (h ∷ hs) (n ∷ ns) e owner are off has =
       are.7,
     )
 
-pub noted_home : (shape : Shape) (steps more : List WordStep) (holds : List Hold) (notes : List Notes) (e : ℕ) (home : Home) → AreNoted shape steps holds notes → AreOffHeld holds more → HasStep (home_step shape record { element = e; home = home }) more → AreNoted shape (steps ++ more) holds (with_home_read e home notes)
+pub noted_home : (shape : Shape) (steps more : List WordStep) (holds : List Hold) (notes : List Notes) (e : ℕ) (home : Home) → AreNoted shape steps holds notes → AreOffHeld holds more → HasStep (home_step shape record { element = e; home = home }) more → AreNoted shape (steps ++ more) holds (with_home_read e home holds notes)
 noted_home shape steps more [] notes e home are off has = tt
 noted_home shape steps more (h ∷ hs) [] e home are off has = absurd are
 noted_home shape steps more (h ∷ hs) (n ∷ ns) e home are off has =

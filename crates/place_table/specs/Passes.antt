@@ -165,6 +165,7 @@ pub record Takes (t : TableView) (lock : DomainId) (before after : PassView) (he
   pub hold : Hold
   pub lock_is : hold.lock ≡ lock_number t.shape lock
   pub cpu_is : hold.cpu ≡ before.cpu
+  -- the CPU of the pass is one of the map's
   pub within : before.cpu < t.shape.cpus
   pub at : ℕ
   pub after_is : after ≡ with_view before (holding at hold before.view)
@@ -188,7 +189,7 @@ abbrev pub entry_of : PassView → Part → Entry
 entry_of p part = record { cpu = p.cpu; call = p.call; part = part }
 
 -- What give asks: the lock is the last one taken, the part is allowed on what lay there at the take and leads to what is
--- put back, and this has the elements that lie there at this step.
+-- put back; this has the elements that lie there at this step; and the part tells what was done and read in the turn.
 pub record CanGive (t : TableView) (lock : DomainId) (p : PassView) (here : Content) (part : Part) : Type 0 where
   pub of_table : IsPassOf t p
   pub begun : HasBegun p

@@ -353,9 +353,11 @@ abbrev pub with_bit_read : ℕ → Bool → List Notes → List Notes
 with_bit_read e bit [] = []
 with_bit_read e bit (n ∷ below) = record n { asked = record { element = e; bit = bit; cleared = false } ∷ n.asked } ∷ below
 
-abbrev pub with_home_read : ℕ → Home → List Notes → List Notes
-with_home_read e home [] = []
-with_home_read e home (n ∷ below) = record n { homes = record { element = e; home = home } ∷ n.homes } ∷ below
+-- nothing is noted of a home that is read while no lock is held
+abbrev pub with_home_read : ℕ → Home → List Hold → List Notes → List Notes
+with_home_read e home [] notes = notes
+with_home_read e home (hold ∷ holds) [] = []
+with_home_read e home (hold ∷ holds) (n ∷ below) = record n { homes = record { element = e; home = home } ∷ n.homes } ∷ below
 
 -- a pass with all CPUs keeps what a bit is
 abbrev pub bits_with : ℕ → Bool → View → List BitSeen
@@ -377,7 +379,7 @@ owner_read at e owner v =
 
 abbrev pub home_read : ℕ → ℕ → Home → View → View
 home_read at e home v =
-    noted (with_home_read e home v.notes) v.bits (touching at (home_word v.shape e) (Some (home_code home)) (home_code home) v) (with_reading e home v.hand v.readings) v
+    noted (with_home_read e home v.held v.notes) v.bits (touching at (home_word v.shape e) (Some (home_code home)) (home_code home) v) (with_reading e home v.hand v.readings) v
 
 -- what lies under a lock that is held, as the pass knows it, and the locks held where other lists lie under one
 abbrev pub now_at : ℕ → List Hold → Lists

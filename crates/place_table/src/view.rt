@@ -62,7 +62,8 @@ pub struct HomeSeen {
     pub home: Home,
 }
 
-/// The home of an element in the hand of a CPU, as it was last read since it came there.
+/// The home of an element in the hand of a CPU, as it was last read since it came there. Where it was read as local lists, whose lock
+/// was taken since and which had the element no more, it is the global ones.
 pub struct HomeIn {
     pub element: u64,
     pub cpu: u64,
@@ -81,7 +82,8 @@ pub struct WordStep {
 /// What was done and read while a lock was the last one taken of those that are held, the last first; but what was flushed in the
 /// order in which it was told.
 pub struct Notes {
-    /// The elements that came to the CPU's hand from this lock's free list, or to its lists from another home.
+    /// The elements that came to the CPU's hand from this lock's free list, or to its lists from another home. One that left again
+    /// stays noted, and one that goes home to the home that it has isn't noted.
     pub came: LinkedList<u64>,
     pub marks: LinkedList<u64>,
     /// The clears and the reads of bits.
@@ -90,7 +92,7 @@ pub struct Notes {
     pub homes: LinkedList<HomeSeen>,
     /// What turns of the global lists inside this turn told that they flushed.
     pub flushed: LinkedList<Flush>,
-    /// The elements that went from these local lists to the global ones.
+    /// The elements that went from these local lists to the global ones, also where they came back since.
     pub off: LinkedList<u64>,
 }
 
