@@ -1,22 +1,23 @@
--- What calls for bits and probes leave of a pass that holds its own set's lock, from where it was lent.
-use Rattle.std.proofs.Common.{◌≡◌, ◌≢◌, ℕ, ◌<◌, ◌+◌, inl, inr, ⊎_elim, cond, true, false, Bool, List, [], ◌∷◌, ◌++◌, map, sym, refl, ap, ◌∙◌, subst, Some, None, append_assoc, arith}
-use Rattle.std.specs.Prelude.{◌&&◌, ◌==◌, reverse, filter_map, IsTrue, suc}
+-- What calls for bits and probes leave of a pass that holds the lock of a walk, from where it was lent.
+use Rattle.std.proofs.Common.{◌≡◌, ◌≢◌, ℕ, ◌<◌, ◌+◌, inl, inr, ⊎_elim, cond, true, false, Bool, List, [], ◌∷◌, ◌++◌, map, sym, refl, ap, ◌∙◌, subst, Option, Some, None, append_assoc, arith}
+use Rattle.std.specs.Prelude.{◌&&◌, ◌==◌, ◌↔◌, reverse, filter_map, option_map, unwrap_or, IsTrue, suc}
 use Rattle.std.proofs.lemmas.List.{reverse-append, map-append}
 use Rattle.std.proofs.lemmas.List.Elements.{filter_map-append}
 use Rattle.map_types.specs.declared.attr.Shape.{Shape}
 use Rattle.map_types.specs.declared.kind.DomainId.{DomainId}
-use Rattle.map_types.specs.declared.kind.DomainId.TheVariants.{CpuLru}
+use Rattle.map_types.specs.declared.kind.DomainId.TheVariants.{CpuLru, Global, Local}
 use Rattle.map_types.specs.declared.row.Row.{Row}
 use Rattle.map_types.specs.ElementLists.{times, without, IsIn}
 use Rattle.map_types.specs.Kind.{is_lru}
-use Rattle.map_types.specs.Stored.{Stored}
 use Rattle.key_hash.specs.Bucket.{bucket_number}
 use Rattle.place_words.specs.declared.bucket_part.Seen.{Seen}
 use Rattle.place_words.specs.declared.bucket_part.Seen.TheVariants.{Removed, Held}
 use Rattle.place_words.specs.declared.history.Entry.{Entry}
 use Rattle.place_words.specs.declared.home.Home.TheVariants as homes
-use Rattle.place_words.specs.Histories.{Content, content}
-use Rattle.place_words.specs.Locks.{is_lock, lock_number}
+use Rattle.place_words.specs.Histories.{content}
+use Rattle.place_words.specs.Locks.{is_lock, lock_named, lock_number, rank_of}
+use Rattle.place_words.specs.Takings.{stored_hash}
+use Rattle.place_words.proofs.LockLemmas.{named_by_number}
 use Rattle.place_core.specs.declared.step.Lists.{Lists}
 use Rattle.place_core.specs.State.{rows}
 use Rattle.place_core.specs.Steps.{with_free, without_row}
@@ -30,205 +31,385 @@ use Rattle.place_table.specs.declared.view.OwnerSeen.{OwnerSeen}
 use Rattle.place_table.specs.declared.view.Turned.{Turned}
 use Rattle.place_table.specs.declared.view.View.{View}
 use Rattle.place_table.specs.Known.{BitTouch, Learns}
-use Rattle.place_table.specs.Passes.{PassView, TableView, CanSettle, Settled, Cleared, SawBit, Goes, with_view}
+use Rattle.place_table.specs.Passes.{PassView, TableView, IsPassOf, Cleared, SawBit, Goes, with_view}
 use Rattle.place_table.specs.Plays.{MayClear, HoldsLock, IsKnownHome}
+use Rattle.place_table.specs.TurnNotes.{HasOnlyHash}
+use Rattle.place_table.specs.Rules.{IsAboveAll}
 use Rattle.place_table.specs.StoredHashes.{stored_in}
-use Rattle.place_table.specs.Views.{is_among, is_in_hand_of, hold_at, now_under, with_now, with_in_hand, without_in_hand, settled as settled_view, cleared, bit_read, with_clear, with_bit_read, owners_probed}
+use Rattle.place_table.specs.Views.{is_among, is_in_hand_of, hold_at, cleared, bit_read, with_clear, with_bit_read}
 use Rattle.place_table.proofs.Entries.{append_nil}
-use Rattle.place_table.proofs.Going.{goes_on, goes_nowhere, goes_moved, goes_noted, goes_of_table, goes_begun, same_head, learns_on, learns_none, learns_moved, learns_cleared, learns_bit_read, learns_before}
-use Rattle.place_table.proofs.Hands.{now_at_is, in_hand_more}
-use Rattle.place_table.proofs.Worlds.{hold_at_first, some_is, none_some, true_false}
+use Rattle.place_table.proofs.Going.{goes_on, goes_noted, goes_of_table, goes_begun, same_head, learns_on, learns_cleared, learns_bit_read}
+use Rattle.place_table.proofs.Hands.{in_hand_more, in_hand_more_else}
+use Rattle.place_table.proofs.Worlds.{hold_at_first, hold_at_other, some_is, none_some}
 use Rattle.lru_lists.specs.declared.bits.BitCall.{BitCall}
 use Rattle.lru_lists.specs.declared.bits.BitCall.TheVariants as calls
 use Rattle.lru_lists.specs.declared.bits.ProbeCall.{ProbeCall}
 use Rattle.lru_lists.specs.declared.bits.Probed.{Probed}
 use Rattle.lru_lists.specs.declared.bits.Probed.TheVariants as answers
-use Rattle.lru_ops.specs.Askings.{call_of, calls_noted, probe_of, probes_made, asked_by, asked_after, owners_with, owners_after, notes_after, lists_after, touch_by, AreEvicts, Since, MayAsk, MayChase}
-use Rattle.lru_ops.specs.Evictions.{HoldsOwnSet, MayProbe, CanProbe, IsEvict, SawHolders, EvictedWith, Evicted, hold_with, lists_with, Chased, ChasedFor}
-use Rattle.lru_ops.proofs.Holders.{saw_on, saw_on_none, saw_none, saw_nothing}
+use Rattle.lru_lists.specs.Probes.{seen_of, IsHeld}
+use Rattle.lru_ops.specs.declared.probing.Destination.{Destination}
+use Rattle.lru_ops.specs.declared.probing.Destination.TheVariants.{OwnFree, LocalFree, OwnHand}
+use Rattle.lru_ops.specs.Askings.{call_of, calls_noted, probe_of, probes_made, asked_by, asked_after, owners_with, owners_after, notes_after, came_with, came_after, held_after, taken_after, touch_by, AreEvicts, hash_in, Since, MayAsk, MayChase}
+use Rattle.lru_ops.specs.Evictions.{HoldsLists, HoldsFor, MayProbe, IsEvict, SawHolders, hold_with, lists_with, freed_outside, held_with, taken_with, noted_with, CanChase, Chased}
+use Rattle.lru_ops.proofs.DoesOn.{does_nothing}
+use Rattle.lru_ops.proofs.Holders.{saw_on, saw_on_none, saw_none}
 
--- What a probe removed, settled
+-- Where a probe's element goes, lock by lock: on the lists of the lock of the walk, and under those around it
 
-without_cons : (b : Bool) (x : InHand) (xs ys : List InHand) (rest : Bool) → (rest ≡ false → ys ≡ xs) → cond b true rest ≡ false → cond b ys (x ∷ ys) ≡ x ∷ xs
-without_cons true x xs ys rest same none = true_false none
-without_cons false x xs ys rest same none = ap (λ (l : List InHand). x ∷ l) (same none)
+abbrev pub now_with : Destination → ℕ → Seen → Lists → Lists
+now_with OwnFree e seen now = lists_with e seen now
+now_with LocalFree e Removed now = without_row e now
+now_with LocalFree e (Held holder) now = now
+now_with OwnHand e Removed now = without_row e now
+now_with OwnHand e (Held holder) now = now
 
-pub without_absent : (e cpu : ℕ) (hand : List InHand) → is_in_hand_of e cpu hand ≡ false → without_in_hand e cpu hand ≡ hand
-without_absent e cpu [] none = refl
-without_absent e cpu (x ∷ xs) none = without_cons ((x.element == e) && (x.cpu == cpu)) x xs (without_in_hand e cpu xs) (is_in_hand_of e cpu xs) (without_absent e cpu xs) none
+abbrev pub outer_with : Destination → ℕ → Seen → List Hold → List Hold
+outer_with OwnFree e seen outer = outer
+outer_with LocalFree e Removed outer = freed_outside e outer
+outer_with LocalFree e (Held holder) outer = outer
+outer_with OwnHand e seen outer = outer
 
--- what comes to a hand and leaves it leaves the hand as it was
-pub comes_and_goes : (e cpu : ℕ) (hand : List InHand) → is_in_hand_of e cpu hand ≡ false → without_in_hand e cpu (with_in_hand e cpu hand) ≡ hand
-comes_and_goes e cpu hand none =
-    by_test e e (λ b. cond (b && (cpu == cpu)) (without_in_hand e cpu hand) (record { element = e; cpu = cpu } ∷ without_in_hand e cpu hand) ≡ hand)
-    (λ _. by_test cpu cpu (λ b. cond b (without_in_hand e cpu hand) (record { element = e; cpu = cpu } ∷ without_in_hand e cpu hand) ≡ hand) (λ _. without_absent e cpu hand none) (λ other. absurd (other refl)))
-    (λ other. absurd (other refl))
+pub held_first : (to : Destination) (e : ℕ) (seen : Seen) (hold : Hold) (outer : List Hold) → held_with to e seen (hold ∷ outer) ≡ hold_with hold (now_with to e seen hold.now) ∷ outer_with to e seen outer
+held_first OwnFree e Removed hold outer = refl
+held_first LocalFree e Removed hold outer = refl
+held_first OwnHand e Removed hold outer = refl
+held_first OwnFree e (Held holder) hold outer = refl
+held_first LocalFree e (Held holder) hold outer = refl
+held_first OwnHand e (Held holder) hold outer = refl
 
-pub now_first : (k : ℕ) (now : Lists) (hold : Hold) → k ≡ hold.lock → with_now k now (hold ∷ []) ≡ hold_with hold now ∷ []
-now_first k now hold is = by_test hold.lock k (λ b. cond b (hold_with hold now ∷ []) (hold ∷ []) ≡ hold_with hold now ∷ []) (λ _. refl) (λ other. absurd (other (sym is)))
+outer_above : (to : Destination) (e : ℕ) (seen : Seen) (shape : Shape) (rank : ℕ) (outer : List Hold) → IsAboveAll shape rank outer → IsAboveAll shape rank (outer_with to e seen outer)
+outer_above OwnFree e seen shape rank outer above = above
+outer_above LocalFree e Removed shape rank [] above = above
+outer_above LocalFree e Removed shape rank (local ∷ outer) above = above
+outer_above LocalFree e (Held holder) shape rank outer above = above
+outer_above OwnHand e seen shape rank outer above = above
 
-module _ {t : TableView} {bucket e : ℕ} {p : PassView} (can : CanProbe t bucket e p) where
-  pub can_settle : (r : PassView) → EvictedWith t bucket e p r Removed → CanSettle t e (CpuLru r.cpu) r
-  can_settle r done =
-      let h = can.holds in
-      let m = can.may in
-      let one : m.hold ≡ h.hold = same_head (sym m.held ∙ h.held) in
-      record {
-        of_table = goes_of_table t p r (done.turn ∷ []) [] done.goes h.of_table;
-        begun = goes_begun p r (done.turn ∷ []) [] done.goes h.begun;
-        hold = h.hold;
-        there = subst (λ (c : ℕ). IsTrue (is_lock t.shape (CpuLru c))) (sym done.goes.cpu) h.there;
-        held = (λ i. hold_at (lock_number t.shape (CpuLru (done.goes.cpu i))) (done.held i)) ∙ ((λ i. hold_at (sym h.lock_is i) (h.held i)) ∙ hold_at_first h.hold []);
-        cpu_is = h.cpu_is ∙ sym done.goes.cpu;
-        has_free_list = refl;
-        in_hand = (λ i. is_in_hand_of e (done.goes.cpu i) (done.hand i)) ∙ in_hand_more e p.cpu p.view.hand;
-        listed = λ _. subst (λ (z : Hold). IsIn e (rows z.now)) one m.listed;
-      }
+-- the locks that a walk holds, once a probe was made
+pub holds_for_on : (t : TableView) (to : Destination) (lock : DomainId) (e : ℕ) (seen : Seen) (p q : PassView) → q.cpu ≡ p.cpu → q.view.held ≡ held_with to e seen p.view.held → HoldsFor t to lock p → HoldsFor t to lock q
+holds_for_on t OwnFree lock e seen p q cpu held for =
+    (for.0 ∙ ap CpuLru (sym cpu), (hold_with for.1.0 (now_with OwnFree e seen for.1.0.now), held ∙ (ap (held_with OwnFree e seen) for.1.1 ∙ held_first OwnFree e seen for.1.0 [])))
+holds_for_on t LocalFree lock e Removed p q cpu held for =
+    let hold : Hold = for.2.0 in
+    let local : Hold = for.2.1 in (
+      for.0,
+      subst (λ (c : ℕ). IsTrue (is_lock t.shape (Local c))) (sym cpu) for.1,
+      (
+        hold_with hold (without_row e hold.now),
+        hold_with local (with_free e (without_row e local.now)),
+        held ∙ ap (held_with LocalFree e Removed) for.2.2,
+        for.2.3 ∙ ap (λ (c : ℕ). lock_number t.shape (Local c)) (sym cpu),
+        for.2.4 ∙ sym cpu,
+      ),
+    )
+holds_for_on t LocalFree lock e (Held holder) p q cpu held for = (
+  for.0,
+  subst (λ (c : ℕ). IsTrue (is_lock t.shape (Local c))) (sym cpu) for.1,
+  (for.2.0, for.2.1, held ∙ for.2.2, for.2.3 ∙ ap (λ (c : ℕ). lock_number t.shape (Local c)) (sym cpu), for.2.4 ∙ sym cpu),
+)
+holds_for_on t OwnHand lock e seen p q cpu held for =
+    (for.0, for.1, (hold_with for.2.0 (now_with OwnHand e seen for.2.0.now), held ∙ (ap (held_with OwnHand e seen) for.2.1 ∙ held_first OwnHand e seen for.2.0 [])))
 
-  pub chased_removed : (at : ℕ) (r s : PassView) → EvictedWith t bucket e p r Removed → s ≡ with_view r (settled_view at (CpuLru r.cpu) e r.cpu r.view) → Chased t bucket e p s Removed
-  chased_removed at r s done is =
-      let h = can.holds in
-      let k : ℕ = lock_number r.view.shape (CpuLru r.cpu) in
-      let shape_is : r.view.shape ≡ t.shape = (goes_of_table t p r (done.turn ∷ []) [] done.goes h.of_table).1 in
-      let k_is : k ≡ h.hold.lock = (λ i. lock_number (shape_is i) (CpuLru (done.goes.cpu i))) ∙ sym h.lock_is in
-      let held_is : r.view.held ≡ h.hold ∷ [] = done.held ∙ h.held in
-      let now_is : now_under (CpuLru r.cpu) r.view ≡ h.hold.now = now_at_is k r.view.held h.hold ((λ i. hold_at (k_is i) (held_is i)) ∙ hold_at_first h.hold []) in
-      let then : Lists = with_free e (without_row e h.hold.now) in
-      let moved_on = goes_moved at k (with_free e (without_row e (now_under (CpuLru r.cpu) r.view))) (without_in_hand e r.cpu r.view.hand) _ _ _ r s is in
-      record {
-        turn = done.turn;
-        goes = goes_on p r s (done.turn ∷ []) [] [] [] done.goes moved_on;
-        hold = h.hold;
-        was = h.held;
-        held = ap (λ (z : PassView). z.view.held) is ∙ ((λ i. with_now k (with_free e (without_row e (now_is i))) (held_is i)) ∙ now_first k then h.hold k_is);
-        notes = ap (λ (z : PassView). z.view.notes) is ∙ done.notes;
-        carried = ap (λ (z : PassView). z.view.carried) is ∙ done.carried;
-        hand = ap (λ (z : PassView). z.view.hand) is ∙ ((λ i. without_in_hand e (done.goes.cpu i) (done.hand i)) ∙ comes_and_goes e p.cpu p.view.hand (h.hands_empty e p.cpu h.begun));
-        spares = ap (λ (z : PassView). z.spares) is ∙ done.spares;
-        is_evict = done.is_evict;
-        saw = saw_on_none t.shape p r s (done.turn ∷ []) done.saw (saw_none t.shape r s _ (ap (λ (z : PassView). z.view.touched) is));
-        learns = learns_before t.shape p.view r.view s.view (done.turn ∷ []) done.learns (learns_moved t.shape at k (with_free e (without_row e (now_under (CpuLru r.cpu) r.view))) (without_in_hand e r.cpu r.view.hand) _ _ _ r s is);
-      }
-
-  pub chased_held : (holder : ℕ) (r : PassView) → EvictedWith t bucket e p r (Held holder) → Chased t bucket e p r (Held holder)
-  chased_held holder r done =
-      let h = can.holds in
-      record {
-        turn = done.turn;
-        goes = done.goes;
-        hold = h.hold;
-        was = h.held;
-        held = done.held ∙ h.held;
-        notes = done.notes;
-        carried = done.carried;
-        hand = done.hand;
-        spares = done.spares;
-        is_evict = done.is_evict;
-        saw = done.saw;
-        learns = done.learns;
-      }
-
-  pub chased_for_removed : (r s : PassView) (cpu : ℕ) (answer : Probed) (body : Stored) → answer ≡ answers.Removed body → Evicted t bucket e p r answer → cpu ≡ r.cpu → Settled (CpuLru cpu) e r s → ChasedFor t bucket e p s answer
-  chased_for_removed r s cpu answer body is done mine settled =
-      let known : Evicted t bucket e p r (answers.Removed body) = subst (Evicted t bucket e p r) is done in
-      let after : s ≡ with_view r (settled_view settled.0 (CpuLru r.cpu) e r.cpu r.view) = settled.1 ∙ ap (λ (c : ℕ). with_view r (settled_view settled.0 (CpuLru c) e r.cpu r.view)) mine in
-      subst (ChasedFor t bucket e p s) (sym is) (record { chased = chased_removed settled.0 r s known.evicted after; body = known.body })
-
-  pub can_settle_for : (r : PassView) (cpu : ℕ) (answer : Probed) (body : Stored) → answer ≡ answers.Removed body → Evicted t bucket e p r answer → cpu ≡ r.cpu → CanSettle t e (CpuLru cpu) r
-  can_settle_for r cpu answer body is done mine =
-      let known : Evicted t bucket e p r (answers.Removed body) = subst (Evicted t bucket e p r) is done in
-      subst (λ (c : ℕ). CanSettle t e (CpuLru c) r) (sym mine) (can_settle r known.evicted)
-
-  pub chased_for_held : (r : PassView) (answer : Probed) (holder : ℕ) → answer ≡ answers.Held holder → Evicted t bucket e p r answer → ChasedFor t bucket e p r answer
-  chased_for_held r answer holder is done =
-      let known : Evicted t bucket e p r (answers.Held holder) = subst (Evicted t bucket e p r) is done in
-      subst (ChasedFor t bucket e p r) (sym is) (record { chased = chased_held holder r known.evicted; body = tt })
+-- and where nothing moved
+pub holds_for_still : (t : TableView) (to : Destination) (lock : DomainId) (p q : PassView) → q.cpu ≡ p.cpu → q.view.held ≡ p.view.held → HoldsFor t to lock p → HoldsFor t to lock q
+holds_for_still t OwnFree lock p q cpu held for = (for.0 ∙ ap CpuLru (sym cpu), (for.1.0, held ∙ for.1.1))
+holds_for_still t LocalFree lock p q cpu held for = (
+  for.0,
+  subst (λ (c : ℕ). IsTrue (is_lock t.shape (Local c))) (sym cpu) for.1,
+  (for.2.0, for.2.1, held ∙ for.2.2, for.2.3 ∙ ap (λ (c : ℕ). lock_number t.shape (Local c)) (sym cpu), for.2.4 ∙ sym cpu),
+)
+holds_for_still t OwnHand lock p q cpu held for = (for.0, for.1, (for.2.0, held ∙ for.2.1))
 
 -- What may be asked and probed stays so
 
-rows_of_removed : (x e : ℕ) (now : Lists) → x ≢ e → times x (rows (with_free e (without_row e now))) ≡ times x (rows now)
+rows_of_removed : (x e : ℕ) (now : Lists) → x ≢ e → times x (rows (without_row e now)) ≡ times x (rows now)
 rows_of_removed x e now other =
     times_append x (without e now.first) (without e now.second)
     ∙ ((λ i. times_without_other x e now.first other i + times_without_other x e now.second other i) ∙ sym (times_append x now.first now.second))
 
-pub still_listed : (x e : ℕ) (seen : Seen) (now : Lists) → x ≢ e → IsIn x (rows now) → IsIn x (rows (lists_with e seen now))
-still_listed x e Removed now other listed = subst (λ (n : ℕ). 0 < n) (sym (rows_of_removed x e now other)) listed
-still_listed x e (Held holder) now other listed = listed
+pub still_listed : (to : Destination) (x e : ℕ) (seen : Seen) (now : Lists) → x ≢ e → IsIn x (rows now) → IsIn x (rows (now_with to e seen now))
+still_listed OwnFree x e Removed now other listed = subst (λ (n : ℕ). 0 < n) (sym (rows_of_removed x e now other)) listed
+still_listed OwnFree x e (Held holder) now other listed = listed
+still_listed LocalFree x e Removed now other listed = subst (λ (n : ℕ). 0 < n) (sym (rows_of_removed x e now other)) listed
+still_listed LocalFree x e (Held holder) now other listed = listed
+still_listed OwnHand x e Removed now other listed = subst (λ (n : ℕ). 0 < n) (sym (rows_of_removed x e now other)) listed
+still_listed OwnHand x e (Held holder) now other listed = listed
 
-pub still_there : (x e : ℕ) (seen : Seen) (now : Lists) → IsIn x (all_of now) → IsIn x (all_of (lists_with e seen now))
-still_there x e Removed now inside =
-    by_test x e (λ _. IsIn x (all_of (with_free e (without_row e now))))
-    (λ same. subst (λ (y : ℕ). IsIn y (all_of (with_free e (without_row e now)))) (sym same)
-    (let more : times e (e ∷ (now.free ++ rows (without_row e now))) ≡ suc (times e (now.free ++ rows (without_row e now))) = times_cons_same e (now.free ++ rows (without_row e now)) in omega (arith, more)))
-    (λ other.
+all_of_removed : (x e : ℕ) (now : Lists) → x ≢ e → IsIn x (all_of now) → IsIn x (all_of (without_row e now))
+all_of_removed x e now other inside =
     let was : times x (now.free ++ rows now) ≡ times x now.free + times x (rows now) = times_append x now.free (rows now) in
     let rows_same : times x (rows (without_row e now)) ≡ times x (rows now) = rows_of_removed x e now other in
     let some : 0 < times x (now.free ++ rows now) = inside in
-    let then : times x (e ∷ (now.free ++ rows (without_row e now))) ≡ times x (now.free ++ rows (without_row e now)) = times_cons_other x e (now.free ++ rows (without_row e now)) other in
     let parts : times x (now.free ++ rows (without_row e now)) ≡ times x now.free + times x (rows (without_row e now)) = times_append x now.free (rows (without_row e now)) in
-    omega (arith, was, rows_same, some, then, parts))
-still_there x e (Held holder) now inside = inside
+    omega (arith, was, rows_same, some, parts)
 
-pub hold_at_only : (k : ℕ) (hold x : Hold) → hold_at k (hold ∷ []) ≡ Some x → (hold.lock ≡ k) × (hold ≡ x)
-hold_at_only k hold x is =
-    by_test hold.lock k (λ b. cond b (Some hold) None ≡ Some x → (hold.lock ≡ k) × (hold ≡ x)) (λ same f. (same, some_is f)) (λ _ f. absurd (none_some f)) is
+freed_here : (e : ℕ) (now : Lists) → IsIn e (all_of (with_free e (without_row e now)))
+freed_here e now =
+    let more : times e (e ∷ (now.free ++ rows (without_row e now))) ≡ suc (times e (now.free ++ rows (without_row e now))) = times_cons_same e (now.free ++ rows (without_row e now)) in omega (arith, more)
 
--- with other lists of the same elements under the one lock that is held
-may_clear_on : (shape : Shape) (v w : View) (c d x : ℕ) (hold : Hold) (now : Lists) → d ≡ c → v.held ≡ hold ∷ [] → w.held ≡ hold_with hold now ∷ [] → w.hand ≡ v.hand → (IsIn x (all_of hold.now) → IsIn x (all_of now)) → MayClear shape v c x → MayClear shape w d x
-may_clear_on shape v w c d x hold now cpu was held hand stays may =
+all_of_freed : (x e : ℕ) (now : Lists) → IsIn x (all_of now) → IsIn x (all_of (with_free e (without_row e now)))
+all_of_freed x e now inside =
+    by_test x e (λ _. IsIn x (all_of (with_free e (without_row e now))))
+    (λ same. subst (λ (y : ℕ). IsIn y (all_of (with_free e (without_row e now)))) (sym same) (freed_here e now))
+    (λ other.
+    let then : times x (e ∷ (now.free ++ rows (without_row e now))) ≡ times x (now.free ++ rows (without_row e now)) = times_cons_other x e (now.free ++ rows (without_row e now)) other in
+    let some : 0 < times x (now.free ++ rows (without_row e now)) = all_of_removed x e now other inside in
+    omega (arith, some, then))
+
+keeps_first : (to : Destination) (x e : ℕ) (seen : Seen) (now : Lists) → x ≢ e → IsIn x (all_of now) → IsIn x (all_of (now_with to e seen now))
+keeps_first OwnFree x e Removed now other inside = all_of_freed x e now inside
+keeps_first OwnFree x e (Held holder) now other inside = inside
+keeps_first LocalFree x e Removed now other inside = all_of_removed x e now other inside
+keeps_first LocalFree x e (Held holder) now other inside = inside
+keeps_first OwnHand x e Removed now other inside = all_of_removed x e now other inside
+keeps_first OwnHand x e (Held holder) now other inside = inside
+
+-- the same locks are held, and an element that stands on the lists of one still does
+abbrev KeepOn : ℕ → List Hold → List Hold → Type 0
+KeepOn x [] [] = Unit {0}
+KeepOn x [] (k ∷ ks) = ⊥
+KeepOn x (h ∷ hs) [] = ⊥
+KeepOn x (h ∷ hs) (k ∷ ks) = (k.lock ≡ h.lock) × (k.cpu ≡ h.cpu) × (IsIn x (all_of h.now) → IsIn x (all_of k.now)) × KeepOn x hs ks
+
+keep_same : (x : ℕ) (hs : List Hold) → KeepOn x hs hs
+keep_same x [] = tt
+keep_same x (h ∷ hs) = (refl, refl, (λ z. z), keep_same x hs)
+
+keep_at : (x k : ℕ) (hs ks : List Hold) (one : Hold) → KeepOn x hs ks → hold_at k hs ≡ Some one → (other : Hold) × (hold_at k ks ≡ Some other) × (other.cpu ≡ one.cpu) × (IsIn x (all_of one.now) → IsIn x (all_of other.now))
+keep_at x k [] [] one on is = absurd (none_some is)
+keep_at x k [] (other ∷ ks) one on is = absurd on
+keep_at x k (h ∷ hs) [] one on is = absurd on
+keep_at x k (h ∷ hs) (other ∷ ks) one on is =
+    by_test h.lock k (λ b. cond b (Some h) (hold_at k hs) ≡ Some one → (y : Hold) × (hold_at k (other ∷ ks) ≡ Some y) × (y.cpu ≡ one.cpu) × (IsIn x (all_of one.now) → IsIn x (all_of y.now)))
+    (λ same f. (
+      other,
+      by_test other.lock k (λ b. cond b (Some other) (hold_at k ks) ≡ Some other) (λ _. refl) (λ apart. absurd (apart (on.0 ∙ same))),
+      on.1 ∙ ap (λ (y : Hold). y.cpu) (some_is f),
+      (λ inside. on.2 (subst (λ (y : Hold). IsIn x (all_of y.now)) (sym (some_is f)) inside)),
+    ))
+    (λ apart f.
+    let rest = keep_at x k hs ks one on.3 f in (
+      rest.0,
+      by_test other.lock k (λ b. cond b (Some other) (hold_at k ks) ≡ Some rest.0) (λ same. absurd (apart (sym on.0 ∙ same))) (λ _. rest.1),
+      rest.2,
+      rest.3,
+    ))
+    is
+
+keep_outer : (to : Destination) (x e : ℕ) (seen : Seen) (outer : List Hold) → KeepOn x outer (outer_with to e seen outer)
+keep_outer OwnFree x e seen outer = keep_same x outer
+keep_outer LocalFree x e Removed [] = tt
+keep_outer LocalFree x e Removed (local ∷ outer) = (refl, refl, (λ inside. all_of_freed x e local.now inside), keep_same x outer)
+keep_outer LocalFree x e (Held holder) outer = keep_same x outer
+keep_outer OwnHand x e seen outer = keep_same x outer
+
+may_clear_on : (shape : Shape) (v w : View) (c d x : ℕ) → d ≡ c → KeepOn x v.held w.held → (is_in_hand_of x c v.hand ≡ true → is_in_hand_of x c w.hand ≡ true) → MayClear shape v c x → MayClear shape w d x
+may_clear_on shape v w c d x cpu on hand may =
     subst (λ (n : ℕ). MayClear shape w n x) (sym cpu)
     (⊎_elim
-    (λ (in_hand : is_in_hand_of x c v.hand ≡ true). inl (ap (is_in_hand_of x c) hand ∙ in_hand))
+    (λ (in_hand : is_in_hand_of x c v.hand ≡ true). inl (hand in_hand))
     (λ (at_home : IsTrue (is_lru shape.kind) × ((lock : DomainId) × IsKnownHome shape v c x (homes.In lock))).
     let lock : DomainId = at_home.1.0 in
     let h = at_home.1.1.0 in
-    let only = hold_at_only (lock_number shape lock) hold h.hold (ap (hold_at (lock_number shape lock)) (sym was) ∙ h.held) in
+    let then = keep_at x (lock_number shape lock) v.held w.held h.hold on h.held in
     let holds : HoldsLock shape w c lock = record {
-      hold = hold_with hold now;
+      hold = then.0;
       there = h.there;
-      held = ap (hold_at (lock_number shape lock)) held ∙ ap (λ (n : ℕ). hold_at n (hold_with hold now ∷ [])) (sym only.0) ∙ hold_at_first (hold_with hold now) [];
-      cpu_is = ap (λ (z : Hold). z.cpu) only.1 ∙ h.cpu_is;
+      held = then.1;
+      cpu_is = then.2 ∙ h.cpu_is;
     } in
-    inr (at_home.0, (lock, (holds, at_home.1.1.1, stays (subst (λ (z : Hold). IsIn x (all_of z.now)) (sym only.1) at_home.1.1.2)))))
+    inr (at_home.0, (lock, (holds, at_home.1.1.1, then.3 at_home.1.1.2))))
     may)
 
-module _ {t : TableView} {hash : ℕ → ℕ} {start p : PassView} (s : Since t hash start p) where
-  asked_on : (x : ℕ) (q : PassView) → q.cpu ≡ p.cpu → q.view.held ≡ p.view.held → q.view.hand ≡ p.view.hand → MayAsk t p x → MayAsk t q x
-  asked_on x q cpu held hand may =
-      (may.0, may_clear_on t.shape p.view q.view p.cpu q.cpu x s.holds.hold s.holds.hold.now cpu s.holds.held (held ∙ s.holds.held) hand (λ z. z) may.1)
+-- nothing leaves a hand
+in_hand_on : (to : Destination) (x c cpu e : ℕ) (seen : Seen) (hand : List InHand) → is_in_hand_of x c hand ≡ true → is_in_hand_of x c (taken_with to cpu e seen hand) ≡ true
+in_hand_on OwnFree x c cpu e Removed hand is = is
+in_hand_on LocalFree x c cpu e Removed hand is = is
+in_hand_on OwnHand x c cpu e Removed hand is = still ((e == x) && (cpu == c)) (is_in_hand_of x c hand) is
+  where
+    still : (b rest : Bool) → rest ≡ true → cond b true rest ≡ true
+    still true rest is = refl
+    still false rest is = is
+in_hand_on to x c cpu e (Held holder) hand is = is
 
-  pub asked_cleared : (x e : ℕ) (q : PassView) (bit : Bool) → Cleared e p q bit → MayAsk t p x → MayAsk t q x
-  asked_cleared x e q bit done may = asked_on x q (ap (λ (z : PassView). z.cpu) done.after_is) (ap (λ (z : PassView). z.view.held) done.after_is) (ap (λ (z : PassView). z.view.hand) done.after_is) may
+-- and what wasn't there still isn't, but for the element
+no_hand_on : (to : Destination) (x c cpu e : ℕ) (seen : Seen) (hand : List InHand) → x ≢ e → is_in_hand_of x c hand ≡ false → is_in_hand_of x c (taken_with to cpu e seen hand) ≡ false
+no_hand_on OwnFree x c cpu e Removed hand other is = is
+no_hand_on LocalFree x c cpu e Removed hand other is = is
+no_hand_on OwnHand x c cpu e Removed hand other is = in_hand_more_else x c e cpu hand (λ same _. other same) ∙ is
+no_hand_on to x c cpu e (Held holder) hand other is = is
 
-  pub asked_read : (x e : ℕ) (q : PassView) (bit : Bool) → SawBit e p q bit → MayAsk t p x → MayAsk t q x
-  asked_read x e q bit done may = asked_on x q (ap (λ (z : PassView). z.cpu) done.after_is) (ap (λ (z : PassView). z.view.held) done.after_is) (ap (λ (z : PassView). z.view.hand) done.after_is) may
+local_no_global : (cpu : ℕ) → Local cpu ≡ Global → ⊥
+local_no_global cpu e = cc
 
-pub asked_chased : (t : TableView) (x bucket e : ℕ) (p q : PassView) (seen : Seen) → Chased t bucket e p q seen → MayAsk t p x → MayAsk t q x
-asked_chased t x bucket e p q seen done may =
-    (may.0, may_clear_on t.shape p.view q.view p.cpu q.cpu x done.hold (lists_with e seen done.hold.now) done.goes.cpu done.was done.held done.hand (still_there x e seen done.hold.now) may.1)
+pub other_local : (shape : Shape) (cpu : ℕ) → IsTrue (is_lock shape Global) → IsTrue (is_lock shape (Local cpu)) → lock_number shape (Local cpu) ≢ lock_number shape Global
+other_local shape cpu there local_there same =
+    local_no_global cpu (sym (named_by_number shape (Local cpu) local_there) ∙ (ap (lock_named shape) same ∙ named_by_number shape Global there))
 
--- Rows of other elements may be probed as before, and so may this one where it is in a hand.
-chase_on : (t : TableView) (hash : ℕ → ℕ) (bucket e : ℕ) (p q : PassView) (seen : Seen) (row : Row) (done : Chased t bucket e p q seen) → (IsIn row.element (rows done.hold.now) → IsIn row.element (rows (lists_with e seen done.hold.now))) → MayChase t hash p row → MayChase t hash q row
-chase_on t hash bucket e p q seen row done stays may =
-    let m = may.1 in
-    let one : m.hold ≡ done.hold = same_head (sym m.held ∙ done.was) in (
+module _ {t : TableView} {to : Destination} {lock : DomainId} {p : PassView} (h : HoldsLists t lock p) (for : HoldsFor t to lock p) where
+  -- of the element itself
+  may_clear_same : (bucket e : ℕ) (q : PassView) (seen : Seen) → Chased t to bucket e p q seen → MayClear t.shape p.view p.cpu e → MayClear t.shape q.view q.cpu e
+  may_clear_same bucket e q seen done may = go to seen for done.held done.hand
+    where
+      still : KeepOn e p.view.held q.view.held → (is_in_hand_of e p.cpu p.view.hand ≡ true → is_in_hand_of e p.cpu q.view.hand ≡ true) → MayClear t.shape q.view q.cpu e
+      still on hand = may_clear_on t.shape p.view q.view p.cpu q.cpu e done.goes.cpu on hand may
+
+      unmoved : q.view.held ≡ p.view.held → q.view.hand ≡ p.view.hand → MayClear t.shape q.view q.cpu e
+      unmoved held hand = still (subst (KeepOn e p.view.held) (sym held) (keep_same e p.view.held)) (λ is. ap (is_in_hand_of e p.cpu) hand ∙ is)
+
+      go : (to : Destination) (seen : Seen) → HoldsFor t to lock p → q.view.held ≡ held_with to e seen p.view.held → q.view.hand ≡ taken_with to p.cpu e seen p.view.hand → MayClear t.shape q.view q.cpu e
+      go OwnFree Removed for held hand =
+          still (subst (λ (z : List Hold × List Hold). KeepOn e z.0 z.1) (λ i. (sym h.held i, sym (held ∙ ap (held_with OwnFree e Removed) h.held) i)) ((refl, refl, (λ inside. freed_here e h.hold.now), keep_same e h.outer)))
+          (λ is. ap (is_in_hand_of e p.cpu) hand ∙ is)
+      go LocalFree Removed for held hand =
+          let local : Hold = hold_with for.2.1 (with_free e (without_row e for.2.1.now)) in
+          let first : Hold = hold_with for.2.0 (without_row e for.2.0.now) in
+          let one : h.hold ≡ for.2.0 = same_head (sym h.held ∙ for.2.2) in
+          let there : IsTrue (is_lock t.shape (Local p.cpu)) = for.1 in
+          let lock_is : for.2.0.lock ≡ lock_number t.shape Global = ap (λ (z : Hold). z.lock) (sym one) ∙ (h.lock_is ∙ ap (lock_number t.shape) for.0) in
+          let apart : lock_number t.shape (Local p.cpu) ≢ first.lock = (λ same. other_local t.shape p.cpu (subst (λ (d : DomainId). IsTrue (is_lock t.shape d)) for.0 h.there) there (same ∙ lock_is)) in
+          let found : hold_at (lock_number t.shape (Local p.cpu)) q.view.held ≡ Some local =
+          ap (hold_at (lock_number t.shape (Local p.cpu))) (held ∙ ap (held_with LocalFree e Removed) for.2.2)
+          ∙ (hold_at_other (lock_number t.shape (Local p.cpu)) first (local ∷ []) apart
+          ∙ (ap (λ (k : ℕ). hold_at k (local ∷ [])) (sym for.2.3) ∙ hold_at_first local [])) in
+          let holds : HoldsLock t.shape q.view p.cpu (Local p.cpu) = record {
+            hold = local;
+            there = there;
+            held = found;
+            cpu_is = for.2.4;
+          } in
+          subst (λ (c : ℕ). MayClear t.shape q.view c e) (sym done.goes.cpu) (inr (h.evicts, (Local p.cpu, (holds, refl, freed_here e for.2.1.now))))
+      go OwnHand Removed for held hand =
+          subst (λ (c : ℕ). MayClear t.shape q.view c e) (sym done.goes.cpu) (inl (ap (is_in_hand_of e p.cpu) hand ∙ in_hand_more e p.cpu p.view.hand))
+      go OwnFree (Held holder) for held hand = unmoved held hand
+      go LocalFree (Held holder) for held hand = unmoved held hand
+      go OwnHand (Held holder) for held hand = unmoved held hand
+
+  keep_chased : (x bucket e : ℕ) (q : PassView) (seen : Seen) → x ≢ e → Chased t to bucket e p q seen → KeepOn x p.view.held q.view.held
+  keep_chased x bucket e q seen other done =
+      subst (λ (z : List Hold × List Hold). KeepOn x z.0 z.1) (λ i. (sym h.held i, sym (done.held ∙ (ap (held_with to e seen) h.held ∙ held_first to e seen h.hold h.outer)) i))
+      ((refl, refl, (λ inside. keeps_first to x e seen h.hold.now other inside), keep_outer to x e seen h.outer))
+
+  pub asked_chased : (x bucket e : ℕ) (q : PassView) (seen : Seen) → Chased t to bucket e p q seen → MayAsk t p x → MayAsk t q x
+  asked_chased x bucket e q seen done may = (
+    may.0,
+    by_test x e (λ _. MayClear t.shape q.view q.cpu x)
+        (λ same. subst (λ (y : ℕ). MayClear t.shape q.view q.cpu y) (sym same) (may_clear_same bucket e q seen done (subst (λ (y : ℕ). MayClear t.shape p.view p.cpu y) same may.1)))
+        (λ other.
+        may_clear_on t.shape p.view q.view p.cpu q.cpu x done.goes.cpu (keep_chased x bucket e q seen other done)
+        (λ is. ap (is_in_hand_of x p.cpu) done.hand ∙ in_hand_on to x p.cpu p.cpu e seen p.view.hand is) may.1),
+  )
+
+-- where nothing moved
+pub asked_still : (t : TableView) (x : ℕ) (p q : PassView) → q.cpu ≡ p.cpu → q.view.held ≡ p.view.held → q.view.hand ≡ p.view.hand → MayAsk t p x → MayAsk t q x
+asked_still t x p q cpu held hand may = (
+  may.0,
+  may_clear_on t.shape p.view q.view p.cpu q.cpu x cpu (subst (KeepOn x p.view.held) (sym held) (keep_same x p.view.held)) (λ is. ap (is_in_hand_of x p.cpu) hand ∙ is) may.1,
+)
+
+pub asked_cleared : (t : TableView) (x e : ℕ) (p q : PassView) (bit : Bool) → Cleared e p q bit → MayAsk t p x → MayAsk t q x
+asked_cleared t x e p q bit done may = asked_still t x p q (ap (λ (z : PassView). z.cpu) done.after_is) (ap (λ (z : PassView). z.view.held) done.after_is) (ap (λ (z : PassView). z.view.hand) done.after_is) may
+
+pub asked_read : (t : TableView) (x e : ℕ) (p q : PassView) (bit : Bool) → SawBit e p q bit → MayAsk t p x → MayAsk t q x
+asked_read t x e p q bit done may = asked_still t x p q (ap (λ (z : PassView). z.cpu) done.after_is) (ap (λ (z : PassView). z.view.held) done.after_is) (ap (λ (z : PassView). z.view.hand) done.after_is) may
+
+-- Logs of what is held
+
+abbrev pub log_at : ℕ → List Hold → Option (List Entry)
+log_at k held = option_map (λ (hold : Hold). hold.log) (hold_at k held)
+
+pub log_first : (k : ℕ) (hold : Hold) (now : Lists) (outer others : List Hold) → log_at k others ≡ log_at k outer → log_at k (hold_with hold now ∷ others) ≡ log_at k (hold ∷ outer)
+log_first k hold now outer others same = go (hold.lock == k)
+  where
+    go : (b : Bool) → option_map (λ (x : Hold). x.log) (cond b (Some (hold_with hold now)) (hold_at k others)) ≡ option_map (λ (x : Hold). x.log) (cond b (Some hold) (hold_at k outer))
+    go true = refl
+    go false = same
+
+log_outer : (to : Destination) (e : ℕ) (seen : Seen) (k : ℕ) (outer : List Hold) → log_at k (outer_with to e seen outer) ≡ log_at k outer
+log_outer OwnFree e seen k outer = refl
+log_outer LocalFree e Removed k [] = refl
+log_outer LocalFree e Removed k (local ∷ outer) = log_first k local (with_free e (without_row e local.now)) outer outer refl
+log_outer LocalFree e (Held holder) k outer = refl
+log_outer OwnHand e seen k outer = refl
+
+log_with : (to : Destination) (e : ℕ) (seen : Seen) (k : ℕ) (held : List Hold) → log_at k (held_with to e seen held) ≡ log_at k held
+log_with to e seen k (hold ∷ outer) =
+    ap (log_at k) (held_first to e seen hold outer) ∙ log_first k hold (now_with to e seen hold.now) outer (outer_with to e seen outer) (log_outer to e seen k outer)
+log_with OwnFree e Removed k [] = refl
+log_with LocalFree e Removed k [] = refl
+log_with OwnHand e Removed k [] = refl
+log_with to e (Held holder) k [] = refl
+
+pub log_after : (to : Destination) (probes : List ProbeCall) (k : ℕ) (held : List Hold) → log_at k (held_after to probes held) ≡ log_at k held
+log_after to [] k held = refl
+log_after to (probe ∷ probes) k held = log_after to probes k (held_with to probe.element probe.probed held) ∙ log_with to probe.element probe.probed k held
+
+log_found : (found : Option Hold) (log : List Entry) → option_map (λ (x : Hold). x.log) found ≡ Some log → (hold : Hold) × (found ≡ Some hold) × (hold.log ≡ log)
+log_found None log is = absurd (none_some is)
+log_found (Some hold) log is = (hold, refl, some_is is)
+
+-- a hash that is the only one stays so where the logs are the same
+pub only_hash_on : (shape : Shape) (v w : View) (x hash : ℕ) → ((k : ℕ) → log_at k w.held ≡ log_at k v.held) → HasOnlyHash shape v x hash → HasOnlyHash shape w x hash
+only_hash_on shape v w x hash same only k h hold held stored =
+    let was = log_found (hold_at k v.held) hold.log (sym (same k) ∙ ap (option_map (λ (y : Hold). y.log)) held) in
+    only k h was.0 was.1 (ap (λ (log : List Entry). stored_in (content shape (lock_named shape k) log) x) was.2 ∙ stored)
+
+pub only_hash_still : (shape : Shape) (v w : View) (x hash : ℕ) → w.held ≡ v.held → HasOnlyHash shape v x hash → HasOnlyHash shape w x hash
+only_hash_still shape v w x hash held only = only_hash_on shape v w x hash (λ k. ap (log_at k) held) only
+
+-- where nothing moved
+pub probe_still : (t : TableView) (rows : List Row) (p q : PassView) (row : Row) → q.view.held ≡ p.view.held → q.view.hand ≡ p.view.hand → q.view.cpus ≡ p.view.cpus → MayChase t rows p row → MayChase t rows q row
+probe_still t rows p q row held hand cpus may =
+    let m = may.1 in (
       may.0,
       record {
         real = m.real;
-        hold = hold_with done.hold (lists_with e seen done.hold.now);
-        held = done.held;
-        listed = stays (subst (λ (z : Hold). IsIn row.element (rows z.now)) one m.listed);
-        stored = (λ i. stored_in (content t.shape (CpuLru (done.goes.cpu i)) ((sym one i).log)) row.element) ∙ m.stored;
+        hold = m.hold;
+        outer = m.outer;
+        held = held ∙ m.held;
+        listed = m.listed;
+        hashed = only_hash_still t.shape p.view q.view row.element row.hash held m.hashed;
+        in_no_hand = λ cpu among. ap (is_in_hand_of row.element cpu) hand ∙ m.in_no_hand cpu (ap (is_among cpu) (sym cpus) ∙ among);
       },
     )
 
-pub chased_other : (t : TableView) (hash : ℕ → ℕ) (bucket e h : ℕ) (p q : PassView) (seen : Seen) (row : Row) → Chased t bucket e p q seen → h ≡ hash e → row ≢ record { element = e; hash = h } → MayChase t hash p row → MayChase t hash q row
-chased_other t hash bucket e h p q seen row done stored other may =
-    let apart : row.element ≢ e = (λ same. other (λ i. record { element = same i; hash = (may.0 ∙ (ap hash same ∙ sym stored)) i })) in
-    chase_on t hash bucket e p q seen row done (still_listed row.element e seen done.hold.now apart) may
+pub probe_cleared : (t : TableView) (rows : List Row) (e : ℕ) (p q : PassView) (bit : Bool) (row : Row) → Cleared e p q bit → MayChase t rows p row ↔ MayChase t rows q row
+probe_cleared t rows e p q bit row done =
+    let held = ap (λ (z : PassView). z.view.held) done.after_is in
+    let hand = ap (λ (z : PassView). z.view.hand) done.after_is in
+    let cpus = ap (λ (z : PassView). z.view.cpus) done.after_is in
+    ((λ may. probe_still t rows p q row held hand cpus may), (λ may. probe_still t rows q p row (sym held) (sym hand) (sym cpus) may))
 
-pub chased_same : (t : TableView) (hash : ℕ → ℕ) (bucket e holder : ℕ) (p q : PassView) (row : Row) → Chased t bucket e p q (Held holder) → MayChase t hash p row → MayChase t hash q row
-chased_same t hash bucket e holder p q row done may = chase_on t hash bucket e p q (Held holder) row done (λ z. z) may
+pub probe_read : (t : TableView) (rows : List Row) (e : ℕ) (p q : PassView) (bit : Bool) (row : Row) → SawBit e p q bit → MayChase t rows p row ↔ MayChase t rows q row
+probe_read t rows e p q bit row done =
+    let held = ap (λ (z : PassView). z.view.held) done.after_is in
+    let hand = ap (λ (z : PassView). z.view.hand) done.after_is in
+    let cpus = ap (λ (z : PassView). z.view.cpus) done.after_is in
+    ((λ may. probe_still t rows p q row held hand cpus may), (λ may. probe_still t rows q p row (sym held) (sym hand) (sym cpus) may))
+
+-- Rows of other elements may be probed as before
+pub chased_other : (t : TableView) (to : Destination) (rows : List Row) (bucket e h : ℕ) (p q : PassView) (seen : Seen) (row : Row) → Chased t to bucket e p q seen → stored_hash e rows ≡ Some h → row ≢ record { element = e; hash = h } → MayChase t rows p row → MayChase t rows q row
+chased_other t to rows bucket e h p q seen row done stored other may =
+    let m = may.1 in
+    let apart : row.element ≢ e = (λ same. other (λ i. record { element = same i; hash = some_is (sym may.0 ∙ (ap (λ (x : ℕ). stored_hash x rows) same ∙ stored)) i })) in
+    let held : q.view.held ≡ hold_with m.hold (now_with to e seen m.hold.now) ∷ outer_with to e seen m.outer = done.held ∙ (ap (held_with to e seen) m.held ∙ held_first to e seen m.hold m.outer) in (
+      may.0,
+      record {
+        real = m.real;
+        hold = hold_with m.hold (now_with to e seen m.hold.now);
+        outer = outer_with to e seen m.outer;
+        held = held;
+        listed = still_listed to row.element e seen m.hold.now apart m.listed;
+        hashed = only_hash_on t.shape p.view q.view row.element row.hash
+            (λ k. ap (log_at k) held ∙ (log_first k m.hold (now_with to e seen m.hold.now) m.outer (outer_with to e seen m.outer) (log_outer to e seen k m.outer) ∙ ap (log_at k) (sym m.held)))
+            m.hashed;
+        in_no_hand = λ cpu among. ap (is_in_hand_of row.element cpu) done.hand ∙ no_hand_on to row.element cpu p.cpu e seen p.view.hand apart (m.in_no_hand cpu (ap (is_among cpu) (sym done.goes.cpus) ∙ among));
+      },
+    )
+
+-- and so may this one where it is in a hand
+pub chased_held : (t : TableView) (to : Destination) (rows : List Row) (bucket e : ℕ) (p q : PassView) (row : Row) (answer : Probed) → IsHeld answer → Chased t to bucket e p q (seen_of answer) → MayChase t rows p row → MayChase t rows q row
+chased_held t to rows bucket e p q row (answers.Removed body) held done may = absurd held
+chased_held t to rows bucket e p q row (answers.Held holder) held done may = probe_still t rows p q row done.held done.hand done.goes.cpus may
 
 -- Lists that grow at their end
 
@@ -240,16 +421,29 @@ owners_more : (probes : List ProbeCall) (probe : ProbeCall) (owners : List Owner
 owners_more [] probe owners = refl
 owners_more (first ∷ probes) probe owners = owners_more probes probe (owners_with first.element first.probed owners)
 
-lists_more : (probes : List ProbeCall) (probe : ProbeCall) (now : Lists) → lists_after (probes ++ probe ∷ []) now ≡ lists_with probe.element probe.probed (lists_after probes now)
-lists_more [] probe now = refl
-lists_more (first ∷ probes) probe now = lists_more probes probe (lists_with first.element first.probed now)
+held_more : (to : Destination) (probes : List ProbeCall) (probe : ProbeCall) (held : List Hold) → held_after to (probes ++ probe ∷ []) held ≡ held_with to probe.element probe.probed (held_after to probes held)
+held_more to [] probe held = refl
+held_more to (first ∷ probes) probe held = held_more to probes probe (held_with to first.element first.probed held)
 
-evicts_more : (shape : Shape) (cpu call : ℕ) (found : Content) (probes : List ProbeCall) (turns : List Turned) (probe : ProbeCall) (turn : Turned) → AreEvicts shape cpu call found probes turns
-    → IsEvict shape cpu call (bucket_number probe.hash shape.buckets) probe.element probe.probed turn → stored_in found probe.element ≡ Some probe.hash → AreEvicts shape cpu call found (probes ++ probe ∷ []) (turns ++ turn ∷ [])
-evicts_more shape cpu call found [] [] probe turn are one stored = (one, stored, tt)
-evicts_more shape cpu call found [] (turn' ∷ turns) probe turn are one stored = absurd are
-evicts_more shape cpu call found (probe' ∷ probes) [] probe turn are one stored = absurd are
-evicts_more shape cpu call found (probe' ∷ probes) (turn' ∷ turns) probe turn are one stored = (are.0, are.1, evicts_more shape cpu call found probes turns probe turn are.2 one stored)
+came_more : (to : Destination) (probes : List ProbeCall) (probe : ProbeCall) (below : List Notes) → came_after to (probes ++ probe ∷ []) below ≡ came_with to probe.element probe.probed (came_after to probes below)
+came_more to [] probe below = refl
+came_more to (first ∷ probes) probe below = came_more to probes probe (came_with to first.element first.probed below)
+
+taken_more : (to : Destination) (cpu : ℕ) (probes : List ProbeCall) (probe : ProbeCall) (hand : List InHand) → taken_after to cpu (probes ++ probe ∷ []) hand ≡ taken_with to cpu probe.element probe.probed (taken_after to cpu probes hand)
+taken_more to cpu [] probe hand = refl
+taken_more to cpu (first ∷ probes) probe hand = taken_more to cpu probes probe (taken_with to cpu first.element first.probed hand)
+
+-- where what is removed is freed, nothing stays in a hand
+pub taken_none : (to : Destination) → ((cpu e : ℕ) (seen : Seen) (hand : List InHand) → taken_with to cpu e seen hand ≡ hand) → (cpu : ℕ) (probes : List ProbeCall) (hand : List InHand) → taken_after to cpu probes hand ≡ hand
+taken_none to none cpu [] hand = refl
+taken_none to none cpu (probe ∷ probes) hand = ap (taken_after to cpu probes) (none cpu probe.element probe.probed hand) ∙ taken_none to none cpu probes hand
+
+evicts_more : (shape : Shape) (cpu call : ℕ) (rows : List Row) (probes : List ProbeCall) (turns : List Turned) (probe : ProbeCall) (turn : Turned) → AreEvicts shape cpu call rows probes turns
+    → IsEvict shape cpu call (bucket_number probe.hash shape.buckets) probe.element probe.probed turn → stored_hash probe.element rows ≡ Some probe.hash → AreEvicts shape cpu call rows (probes ++ probe ∷ []) (turns ++ turn ∷ [])
+evicts_more shape cpu call rows [] [] probe turn are one stored = (one, stored, tt)
+evicts_more shape cpu call rows [] (turn' ∷ turns) probe turn are one stored = absurd are
+evicts_more shape cpu call rows (probe' ∷ probes) [] probe turn are one stored = absurd are
+evicts_more shape cpu call rows (probe' ∷ probes) (turn' ∷ turns) probe turn are one stored = (are.0, are.1, evicts_more shape cpu call rows probes turns probe turn are.2 one stored)
 
 call_is : (call : BitCall) → call_of (asked_by call) ≡ call
 call_is (calls.Cleared visit) = refl
@@ -260,59 +454,79 @@ one_more call asked =
     ap (map call_of) (reverse-append (asked_by call ∷ []) asked)
     ∙ (map-append call_of (reverse asked) (asked_by call ∷ []) ∙ ap (λ (c : BitCall). map call_of (reverse asked) ++ c ∷ []) (call_is call))
 
--- what a probe read is noted of the turn around it
-owners_noted : (e : ℕ) (seen : Seen) (n : Notes) (below : List Notes) → owners_probed e seen (n ∷ below) ≡ record n { owners = owners_with e seen n.owners } ∷ below
-owners_noted e Removed n below = refl
-owners_noted e (Held holder) n below = refl
+-- what a probe read is noted of the turn around it, and what came to the local lists of the turn around that
+noted_first : (to : Destination) (e : ℕ) (seen : Seen) (n : Notes) (below : List Notes) → noted_with to e seen (n ∷ below) ≡ record n { owners = owners_with e seen n.owners } ∷ came_with to e seen below
+noted_first OwnFree e Removed n below = refl
+noted_first LocalFree e Removed n below = refl
+noted_first OwnHand e Removed n below = refl
+noted_first OwnFree e (Held holder) n below = refl
+noted_first LocalFree e (Held holder) n below = refl
+noted_first OwnHand e (Held holder) n below = refl
 
--- the same set's lock is still held
-abbrev pub holds_after : (t : TableView) (p q : PassView) (more : List Turned) (h : HoldsOwnSet t p) (hold : Hold) (now : Lists) (n : Notes) (below : List Notes) → Goes p q more [] → p.view.held ≡ hold ∷ [] → q.view.held ≡ hold_with hold now ∷ [] → q.view.notes ≡ n ∷ below → q.view.hand ≡ p.view.hand → HoldsOwnSet t q
-holds_after t p q more h hold now n below goes was held notes hand =
-    let one : h.hold ≡ hold = same_head (sym h.held ∙ was) in
-    record {
-      of_table = goes_of_table t p q more [] goes h.of_table;
-      begun = goes_begun p q more [] goes h.begun;
-      is_shape = h.is_shape;
-      evicts = h.evicts;
-      there = subst (λ (c : ℕ). IsTrue (is_lock t.shape (CpuLru c))) (sym goes.cpu) h.there;
-      hold = hold_with hold now;
-      held = held;
-      lock_is = ap (λ (z : Hold). z.lock) (sym one) ∙ (h.lock_is ∙ ap (λ (c : ℕ). lock_number t.shape (CpuLru c)) (sym goes.cpu));
-      cpu_is = ap (λ (z : Hold). z.cpu) (sym one) ∙ (h.cpu_is ∙ sym goes.cpu);
-      notes = n;
-      below = below;
-      notes_are = notes;
-      hands_empty = λ e cpu among. ap (is_in_hand_of e cpu) hand ∙ h.hands_empty e cpu (ap (is_among cpu) (sym goes.cpus) ∙ among);
-    }
+-- a probe is one more among the turns
+pub probed_more : {t : TableView} {to : Destination} {p : PassView} (hash : ℕ → ℕ) (bucket e h : ℕ) (q : PassView) (seen : Seen) → hash e ≡ h → Chased t to bucket e p q seen
+    → probes_made hash q.view.steps ≡ probes_made hash p.view.steps ++ record { element = e; hash = h; probed = seen } ∷ []
+probed_more {t} {to} {p} hash bucket e h q seen named done =
+    ap (probes_made hash) done.goes.steps
+    ∙ (filter_map-append (λ (step : Turned). probe_of hash step.entry.part) p.view.steps (done.turn ∷ [])
+    ∙ (ap (λ (entry : Entry). probes_made hash p.view.steps ++ filter_map (probe_of hash) (entry.part ∷ [])) done.is_evict.entry
+    ∙ ap (λ (n : ℕ). probes_made hash p.view.steps ++ record { element = e; hash = n; probed = seen } ∷ []) named))
 
-module _ {t : TableView} {hash : ℕ → ℕ} {start p : PassView} (s : Since t hash start p) where
+-- the lock of the walk is still held
+pub holds_after : {t : TableView} {lock : DomainId} {p : PassView} (h : HoldsLists t lock p) (q : PassView) (more : List Turned) (now : Lists) (outer : List Hold) (n : Notes) (below : List Notes)
+    → Goes p q more [] → q.view.held ≡ hold_with h.hold now ∷ outer → IsAboveAll t.shape (rank_of lock) outer → q.view.notes ≡ n ∷ below → HoldsLists t lock q
+holds_after {t} {lock} {p} h q more now outer n below goes held above notes = record {
+  of_table = goes_of_table t p q more [] goes h.of_table;
+  begun = goes_begun p q more [] goes h.begun;
+  is_shape = h.is_shape;
+  evicts = h.evicts;
+  there = h.there;
+  lists = h.lists;
+  hold = hold_with h.hold now;
+  outer = outer;
+  held = held;
+  above = above;
+  lock_is = h.lock_is;
+  cpu_is = h.cpu_is ∙ sym goes.cpu;
+  notes = n;
+  below = below;
+  notes_are = notes;
+}
+
+-- what is named for an element is the hash that it has among the rows
+pub hash_named : (rows : List Row) (e h : ℕ) → stored_hash e rows ≡ Some h → hash_in rows e ≡ h
+hash_named rows e h stored = ap (λ (found : Option ℕ). unwrap_or found 0) stored
+
+module _ {t : TableView} {to : Destination} {lock : DomainId} {rows : List Row} {start p : PassView} (s : Since t to lock rows start p) where
   abbrev now_notes : Notes
   now_notes = notes_after s.calls s.probes s.does.notes
 
+  abbrev now_below : List Notes
+  now_below = came_after to s.probes s.does.below
+
   -- a step that only notes a call for a bit
-  noted_more : (call : BitCall) (q : PassView) → Goes p q [] [] → q.view.held ≡ p.view.held → q.view.notes ≡ record now_notes { asked = asked_by call ∷ now_notes.asked } ∷ s.does.below → q.view.carried ≡ p.view.carried → q.view.hand ≡ p.view.hand
-      → q.spares ≡ p.spares → SawHolders t.shape p q [] → Learns t.shape p.view q.view [] (touch_by call ∷ []) → Since t hash start q
+  noted_more : (call : BitCall) (q : PassView) → Goes p q [] [] → q.view.held ≡ p.view.held → q.view.notes ≡ record now_notes { asked = asked_by call ∷ now_notes.asked } ∷ now_below → q.view.carried ≡ p.view.carried → q.view.hand ≡ p.view.hand
+      → q.spares ≡ p.spares → SawHolders t.shape p q [] → Learns t.shape p.view q.view [] (touch_by call ∷ []) → Since t to lock rows start q
   noted_more call q goes held notes carried hand spares saw learns =
       let d = s.does in
       let then : Notes = record now_notes { asked = asked_by call ∷ now_notes.asked } in
       record {
-        holds = holds_after t p q [] s.holds s.holds.hold s.holds.hold.now then d.below goes s.holds.held (held ∙ s.holds.held) notes hand;
+        holds = holds_after s.holds q [] s.holds.hold.now s.holds.outer then now_below goes (held ∙ s.holds.held) s.holds.above notes;
+        holds_for = holds_for_still t to lock p q goes.cpu held s.holds_for;
         calls = s.calls ++ call ∷ [];
         calls_are =
             ap calls_noted notes ∙ (one_more call now_notes.asked ∙ (ap (λ (l : List Notes). calls_noted l ++ call ∷ []) (sym d.noted)
             ∙ (ap (λ (l : List BitCall). l ++ call ∷ []) s.calls_are ∙ append_assoc (calls_noted start.view.notes) s.calls (call ∷ []))));
         probes = s.probes;
-        probes_are = ap (probes_made hash) (goes.steps ∙ append_nil p.view.steps) ∙ s.probes_are;
+        probes_are = ap (probes_made (hash_in rows)) (goes.steps ∙ append_nil p.view.steps) ∙ s.probes_are;
         does = record {
           turns = d.turns;
           goes = subst (λ (l : List Turned). Goes start q l []) (append_nil d.turns) (goes_on start p q d.turns [] [] [] d.goes goes);
-          hold = d.hold;
-          was = d.was;
           held = held ∙ d.held;
           notes = d.notes;
           below = d.below;
           was_noted = d.was_noted;
-          noted = notes ∙ ap (λ (l : List BitAsked). record now_notes { asked = l } ∷ d.below) (sym (asked_more s.calls call d.notes.asked));
+          noted = notes ∙ ap (λ (l : List BitAsked). record now_notes { asked = l } ∷ now_below) (sym (asked_more s.calls call d.notes.asked));
           carried = carried ∙ d.carried;
           hand = hand ∙ d.hand;
           spares = spares ∙ d.spares;
@@ -323,59 +537,59 @@ module _ {t : TableView} {hash : ℕ → ℕ} {start p : PassView} (s : Since t 
         };
       }
 
-  pub since_cleared : (e : ℕ) (q : PassView) (bit : Bool) → Cleared e p q bit → Since t hash start q
+  pub since_cleared : (e : ℕ) (q : PassView) (bit : Bool) → Cleared e p q bit → Since t to lock rows start q
   since_cleared e q bit done =
       let v : View = cleared done.at e bit p.view in
-      subst (Since t hash start) (sym done.after_is)
+      subst (Since t to lock rows start) (sym done.after_is)
       (noted_more (calls.Cleared (record { element = e; bit = bit })) (with_view p v) (goes_noted v.notes v.bits v.touched v.readings p (with_view p v) refl) refl (ap (with_clear e bit) s.does.noted) refl refl refl (saw_none t.shape p (with_view p v) _ refl)
       (learns_cleared t.shape done.at e bit p.view done.known))
 
-  pub since_read : (e : ℕ) (q : PassView) (bit : Bool) → SawBit e p q bit → Since t hash start q
+  pub since_read : (e : ℕ) (q : PassView) (bit : Bool) → SawBit e p q bit → Since t to lock rows start q
   since_read e q bit done =
       let v : View = bit_read done.at e bit p.view in
-      subst (Since t hash start) (sym done.after_is)
+      subst (Since t to lock rows start) (sym done.after_is)
       (noted_more (calls.Read (record { element = e; bit = bit })) (with_view p v) (goes_noted v.notes v.bits v.touched v.readings p (with_view p v) refl) refl (ap (with_bit_read e bit) s.does.noted) refl refl refl (saw_none t.shape p (with_view p v) _ refl)
       (learns_bit_read t.shape done.at e bit p.view done.known))
 
-  -- a probe
-  pub probed_more : (bucket e : ℕ) (q : PassView) (seen : Seen) → Chased t bucket e p q seen → probes_made hash q.view.steps ≡ probes_made hash p.view.steps ++ record { element = e; hash = hash e; probed = seen } ∷ []
-  probed_more bucket e q seen done =
-      ap (probes_made hash) done.goes.steps
-      ∙ (filter_map-append (λ (step : Turned). probe_of hash step.entry.part) p.view.steps (done.turn ∷ [])
-      ∙ ap (λ (entry : Entry). probes_made hash p.view.steps ++ filter_map (probe_of hash) (entry.part ∷ [])) done.is_evict.entry)
+  -- what a probe asks of the pass
+  pub can_chase : (bucket e h : ℕ) → bucket ≡ bucket_number h t.shape.buckets → bucket < t.shape.buckets → MayProbe t p (record { element = e; hash = h }) → CanChase t to bucket e p
+  can_chase bucket e h here there may = record {
+    can = record { lock = lock; holds = s.holds; hash = h; may = may; bucket_is = here; there = there };
+    holds_for = s.holds_for;
+  }
 
-  pub since_chased : (bucket e : ℕ) (q : PassView) (seen : Seen) → bucket ≡ bucket_number (hash e) t.shape.buckets → MayProbe t p (record { element = e; hash = hash e }) → Chased t bucket e p q seen → Since t hash start q
-  since_chased bucket e q seen here may done =
+  pub since_chased : (bucket e h : ℕ) (q : PassView) (seen : Seen) → bucket ≡ bucket_number h t.shape.buckets → stored_hash e rows ≡ Some h → Chased t to bucket e p q seen → Since t to lock rows start q
+  since_chased bucket e h q seen here stored done =
       let d = s.does in
-      let probe : ProbeCall = record { element = e; hash = hash e; probed = seen } in
+      let probe : ProbeCall = record { element = e; hash = h; probed = seen } in
       let turns : List Turned = d.turns ++ done.turn ∷ [] in
-      let same_cpu : p.cpu ≡ start.cpu = d.goes.cpu in
-      let was : done.hold ≡ hold_with d.hold (lists_after s.probes d.hold.now) = same_head (sym done.was ∙ d.held) in
-      let stands : may.hold ≡ hold_with d.hold (lists_after s.probes d.hold.now) = same_head (sym may.held ∙ d.held) in
       let then : Notes = record now_notes { owners = owners_with e seen now_notes.owners } in
-      let notes : q.view.notes ≡ then ∷ d.below = done.notes ∙ (ap (owners_probed e seen) d.noted ∙ owners_noted e seen now_notes d.below) in
+      let notes : q.view.notes ≡ then ∷ came_with to e seen now_below = done.notes ∙ (ap (noted_with to e seen) d.noted ∙ noted_first to e seen now_notes now_below) in
       record {
-        holds = holds_after t p q (done.turn ∷ []) s.holds done.hold (lists_with e seen done.hold.now) then d.below done.goes done.was done.held notes done.hand;
+        holds =
+            holds_after s.holds q (done.turn ∷ []) (now_with to e seen s.holds.hold.now) (outer_with to e seen s.holds.outer) then (came_with to e seen now_below) done.goes
+            (done.held ∙ (ap (held_with to e seen) s.holds.held ∙ held_first to e seen s.holds.hold s.holds.outer))
+            (outer_above to e seen t.shape (rank_of lock) s.holds.outer s.holds.above) notes;
+        holds_for = holds_for_on t to lock e seen p q done.goes.cpu done.held s.holds_for;
         calls = s.calls;
         calls_are = ap calls_noted notes ∙ (ap calls_noted (sym d.noted) ∙ s.calls_are);
         probes = s.probes ++ probe ∷ [];
-        probes_are = probed_more bucket e q seen done ∙ (ap (λ (l : List ProbeCall). l ++ probe ∷ []) s.probes_are ∙ append_assoc (probes_made hash start.view.steps) s.probes (probe ∷ []));
+        probes_are = probed_more (hash_in rows) bucket e h q seen (hash_named rows e h stored) done
+            ∙ (ap (λ (l : List ProbeCall). l ++ probe ∷ []) s.probes_are ∙ append_assoc (probes_made (hash_in rows) start.view.steps) s.probes (probe ∷ []));
         does = record {
           turns = turns;
           goes = goes_on start p q d.turns (done.turn ∷ []) [] [] d.goes done.goes;
-          hold = d.hold;
-          was = d.was;
-          held = done.held ∙ ((λ i. hold_with (was i) (lists_with e seen ((was i).now)) ∷ []) ∙ ap (λ (l : Lists). hold_with d.hold l ∷ []) (sym (lists_more s.probes probe d.hold.now)));
+          held = done.held ∙ (ap (held_with to e seen) d.held ∙ sym (held_more to s.probes probe start.view.held));
           notes = d.notes;
           below = d.below;
           was_noted = d.was_noted;
-          noted = notes ∙ ap (λ (l : List OwnerSeen). record now_notes { owners = l } ∷ d.below) (sym (owners_more s.probes probe d.notes.owners));
-          carried = done.carried ∙ d.carried;
-          hand = done.hand ∙ d.hand;
+          noted = notes ∙ (λ i. record now_notes { owners = sym (owners_more s.probes probe d.notes.owners) i } ∷ sym (came_more to s.probes probe d.below) i);
+          carried = done.carried ∙ ((λ i. taken_with to (d.goes.cpu i) e seen (d.carried i)) ∙ sym (taken_more to start.cpu s.probes probe start.view.carried));
+          hand = done.hand ∙ ((λ i. taken_with to (d.goes.cpu i) e seen (d.hand i)) ∙ sym (taken_more to start.cpu s.probes probe start.view.hand));
           spares = done.spares ∙ d.spares;
-          are_evicts = evicts_more t.shape start.cpu start.call (content t.shape (CpuLru start.cpu) d.hold.log) s.probes d.turns probe done.turn d.are_evicts
-              (subst (λ (z : ℕ × ℕ × ℕ). IsEvict t.shape z.0 z.1 z.2 e seen done.turn) (λ i. (same_cpu i, d.goes.call i, here i)) done.is_evict)
-              ((λ i. stored_in (content t.shape (CpuLru (sym same_cpu i)) ((sym stands i).log)) e) ∙ may.stored);
+          are_evicts = evicts_more t.shape start.cpu start.call rows s.probes d.turns probe done.turn d.are_evicts
+              (subst (λ (z : ℕ × ℕ × ℕ). IsEvict t.shape z.0 z.1 z.2 e seen done.turn) (λ i. (d.goes.cpu i, d.goes.call i, here i)) done.is_evict)
+              stored;
           saw = saw_on t.shape start p q d.turns (done.turn ∷ []) d.saw done.saw;
           learns = subst (λ (l : List BitTouch). Learns t.shape start.view q.view turns l) (append_nil (map touch_by s.calls))
               (learns_on t.shape start.view p.view q.view d.turns (done.turn ∷ []) (map touch_by s.calls) [] d.learns done.learns);
@@ -383,36 +597,21 @@ module _ {t : TableView} {hash : ℕ → ℕ} {start p : PassView} (s : Since t 
       }
 
 -- nothing yet
-pub since_start : (t : TableView) (hash : ℕ → ℕ) (p : PassView) → HoldsOwnSet t p → Since t hash p p
-since_start t hash p h = record {
+pub since_start : (t : TableView) (to : Destination) (lock : DomainId) (rows : List Row) (p : PassView) → HoldsLists t lock p → HoldsFor t to lock p → Since t to lock rows p p
+since_start t to lock rows p h for = record {
   holds = h;
+  holds_for = for;
   calls = [];
   calls_are = sym (append_nil (calls_noted p.view.notes));
   probes = [];
-  probes_are = sym (append_nil (probes_made hash p.view.steps));
-  does = record {
-    turns = [];
-    goes = goes_nowhere p;
-    hold = h.hold;
-    was = h.held;
-    held = h.held;
-    notes = h.notes;
-    below = h.below;
-    was_noted = h.notes_are;
-    noted = h.notes_are;
-    carried = refl;
-    hand = refl;
-    spares = refl;
-    are_evicts = tt;
-    saw = saw_nothing t.shape p;
-    learns = learns_none t.shape p.view;
-  };
+  probes_are = sym (append_nil (probes_made (hash_in rows) p.view.steps));
+  does = does_nothing t to rows p h.notes h.below h.notes_are;
 }
 
 -- A pass is of one table: whatever table the object says at the end is that of the start.
-pub same_table : (t u : TableView) (hash : ℕ → ℕ) (start p q : PassView) → HoldsOwnSet t p → start ≡ p → Since u hash start q → u ≡ t
-same_table t u hash start p q h is since =
+pub same_table : (t u : TableView) (to : Destination) (lock : DomainId) (rows : List Row) (start p q : PassView) → IsPassOf t p → start ≡ p → Since u to lock rows start q → u ≡ t
+same_table t u to lock rows start p q of_table is since =
     let goes = subst (λ (z : PassView). Goes z q since.does.turns []) is since.does.goes in λ i. record {
-      id = (sym since.holds.of_table.0 ∙ (goes.table ∙ h.of_table.0)) i;
-      shape = (sym since.holds.of_table.1 ∙ (goes.shape ∙ h.of_table.1)) i;
+      id = (sym since.holds.of_table.0 ∙ (goes.table ∙ of_table.0)) i;
+      shape = (sym since.holds.of_table.1 ∙ (goes.shape ∙ of_table.1)) i;
     }

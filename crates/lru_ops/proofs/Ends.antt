@@ -1,6 +1,6 @@
 -- From the turns of a call to what it leaves: turns one after another, and the end of the call.
 use Rattle.std.proofs.Common.{◌≡◌, ℕ, cond, true, false, List, [], ◌∷◌, ◌++◌, map, inl, inr, ⊎_elim, sym, refl, ap, ◌∙◌, subst, Option}
-use Rattle.std.specs.Prelude.{IsTrue, All, flat_map, MatchBool}
+use Rattle.std.specs.Prelude.{IsTrue, IsFalse, All, flat_map, MatchBool}
 use Rattle.std.proofs.lemmas.Grind.{flat_map-append}
 use Rattle.std.proofs.lemmas.List.Elements.{All-nil, All-cons, All-append}
 use Rattle.map_types.specs.declared.attr.Shape.{Shape}
@@ -11,29 +11,31 @@ use Rattle.map_types.specs.declared.kind.MapKind.TheVariants.{Hash}
 use Rattle.map_types.specs.declared.reply.Reply.{Reply}
 use Rattle.map_types.specs.Kind.{is_lru}
 use Rattle.percpu_values.specs.BodyList.{BodyList}
-use Rattle.place_words.specs.declared.history.Part.{Part}
+use Rattle.place_words.specs.declared.bucket_part.BucketPart.{BucketPart}
+use Rattle.place_words.specs.declared.history.Part.TheVariants as parts
 use Rattle.place_words.specs.Evicting.{IsEvictingTrace}
 use Rattle.place_words.specs.PlainTraces.{IsPlainTrace, spare_after}
-use Rattle.place_words.specs.Turns.{TurnAt, turns_of}
+use Rattle.place_words.specs.Turns.{TurnAt, Turn, turns_of}
 use Rattle.place_words.specs.Traces.{IsTrace}
 use Rattle.place_words.specs.Walks.{IsKeyTrace}
 use Rattle.place_core.proofs.ElementLemmas.{by_test}
 use Rattle.place_table.specs.declared.content.Content.TheVariants as contents
 use Rattle.place_table.specs.declared.view.InHand.{InHand}
 use Rattle.place_table.specs.declared.view.Turned.{Turned}
-use Rattle.place_table.specs.Calls.{CanCall, Called, Leaves, CouldBe, AreTold, bits_of_part, bits_of_turns, spare_element, element_of}
-use Rattle.place_table.specs.Known.{BitTouch, Learns, turn_at, IsBy}
+use Rattle.place_table.specs.Calls.{CanCall, Called, Leaves, CouldBe, AreTold, bits_of_part, bits_of_turns, finds_moved_on, spare_element, element_of}
+use Rattle.place_table.specs.Known.{BitTouch, Learns, turn_at, IsBy, logs_after}
 use Rattle.place_table.specs.Passes.{PassView, TableView, IsInNoCall, Goes, spare_of}
 use Rattle.place_table.specs.Views.{is_among, is_in_hand_of, notes_below}
 use Rattle.place_table.proofs.Entries.{append_nil}
-use Rattle.place_table.proofs.Going.{goes_on, goes_took, made_on, learns_on, learns_after, learns_took}
+use Rattle.place_table.proofs.Going.{goes_on, goes_took, made_on, learns_on, learns_after, learns_took, learns_all}
 use Rattle.place_table.proofs.Worlds.{true_false, by_bool}
 use Rattle.lru_ops.specs.Lists.{Changed}
+use Rattle.lru_ops.specs.Shared.{ChangedHands}
 use Rattle.lru_ops.specs.Under.{Enters, GivenBack}
 
 -- Turns one after another
 
-among_behind : (n : ℕ) (first second : List ℕ) → is_among n second ≡ true → is_among n (first ++ second) ≡ true
+pub among_behind : (n : ℕ) (first second : List ℕ) → is_among n second ≡ true → is_among n (first ++ second) ≡ true
 among_behind n [] second among = among
 among_behind n (x ∷ first) second among = by_test x n (λ b. cond b true (is_among n (first ++ second)) ≡ true) (λ _. refl) (λ _. among_behind n first second among)
 
@@ -43,7 +45,7 @@ among_before n (x ∷ first) second among =
     by_test x n (λ b. cond b true (is_among n first) ≡ true → cond b true (is_among n (first ++ second)) ≡ true) (λ _ _. refl) (λ _ later. among_before n first second later) among
 
 -- what is told of turns where some records are lost is so where more are
-told_where : (shape : Shape) (lost more : List ℕ) → ((n : ℕ) → is_among n lost ≡ true → is_among n more ≡ true) → (steps told : List Turned) → AreTold shape lost steps told → AreTold shape more steps told
+pub told_where : (shape : Shape) (lost more : List ℕ) → ((n : ℕ) → is_among n lost ≡ true → is_among n more ≡ true) → (steps told : List Turned) → AreTold shape lost steps told → AreTold shape more steps told
 told_where shape lost more are [] [] is = tt
 told_where shape lost more are [] (told ∷ others) is = absurd is
 told_where shape lost more are (step ∷ steps) [] is = absurd is
@@ -52,7 +54,7 @@ told_where shape lost more are (step ∷ steps) (told ∷ others) is = (
   told_where shape lost more are steps others is.1,
 )
 
-told_append : (shape : Shape) (lost : List ℕ) (first second told others : List Turned) → AreTold shape lost first told → AreTold shape lost second others → AreTold shape lost (first ++ second) (told ++ others)
+pub told_append : (shape : Shape) (lost : List ℕ) (first second told others : List Turned) → AreTold shape lost first told → AreTold shape lost second others → AreTold shape lost (first ++ second) (told ++ others)
 told_append shape lost [] second [] others is later = later
 told_append shape lost [] second (one ∷ told) others is later = absurd is
 told_append shape lost (step ∷ first) second [] others is later = absurd is
@@ -61,25 +63,53 @@ told_append shape lost (step ∷ first) second (one ∷ told) others is later = 
 abbrev bits_at : Shape → Turned → List BitTouch
 bits_at shape step = bits_of_part shape step.entry.part
 
-bits_append : (shape : Shape) (first second : List Turned) → bits_of_turns shape (first ++ second) ≡ bits_of_turns shape first ++ bits_of_turns shape second
+pub bits_append : (shape : Shape) (first second : List Turned) → bits_of_turns shape (first ++ second) ≡ bits_of_turns shape first ++ bits_of_turns shape second
 bits_append shape first second =
     by_bool (is_lru shape.kind)
     (λ b. cond b (flat_map (bits_at shape) (first ++ second)) [] ≡ cond b (flat_map (bits_at shape) first) [] ++ cond b (flat_map (bits_at shape) second) [])
     (λ _. flat_map-append (bits_at shape) first second) (λ _. refl)
 
-pub changed_on : {t : TableView} {p q r : PassView} {first second told others : List Turned} {lost more : List ℕ} → Changed t p q first told lost → Changed t q r second others more → Changed t p r (first ++ second) (told ++ others) (more ++ lost)
-changed_on {t} {p} {q} {r} {first} {second} {told} {others} {lost} {more} a b = record {
+-- where what is in hand and what is carried may have changed
+pub hands_on : {t : TableView} {p q r : PassView} {first second told others : List Turned} {lost more : List ℕ} → ChangedHands t p q first told lost → ChangedHands t q r second others more → ChangedHands t p r (first ++ second) (told ++ others) (more ++ lost)
+hands_on {t} {p} {q} {r} {first} {second} {told} {others} {lost} {more} a b = record {
   told_are = told_append t.shape (more ++ lost) first second told others (told_where t.shape lost (more ++ lost) (λ n. among_behind n more lost) first told a.told_are) (told_where t.shape more (more ++ lost) (λ n. among_before n more lost) second others b.told_are);
   made = made_on p q r first second lost more a.made b.made;
   by_call = All-append (IsBy p.cpu p.call) first second a.by_call (subst (λ (z : ℕ × ℕ). All (IsBy z.0 z.1) second) (λ i. (a.made.goes.cpu i, a.made.goes.call i)) b.by_call);
   spares = b.spares ∙ a.spares;
-  carried = b.carried ∙ a.carried;
   learns = subst (Learns t.shape p.view r.view (first ++ second)) (sym (bits_append t.shape told others))
       (learns_on t.shape p.view q.view r.view first second (bits_of_turns t.shape told) (bits_of_turns t.shape others) a.learns b.learns);
+  none_moved = λ common logs knows.
+      All-append (λ (turn : Turned). IsFalse (finds_moved_on turn.entry.part)) told others (a.none_moved common logs knows)
+      (b.none_moved common (logs_after logs first) (learns_all t.shape p.view q.view logs first (bits_of_turns t.shape told) a.learns knows).1);
 }
 
+changed_hands : {t : TableView} {p q : PassView} {steps told : List Turned} {lost : List ℕ} → Changed t p q steps told lost → ChangedHands t p q steps told lost
+changed_hands c = record {
+  told_are = c.told_are;
+  made = c.made;
+  by_call = c.by_call;
+  spares = c.spares;
+  learns = c.learns;
+  none_moved = c.none_moved;
+}
+
+-- where nothing was carried otherwise, no more than the hand has changed
+pub changed_all : {t : TableView} {p q : PassView} {steps told : List Turned} {lost : List ℕ} → ChangedHands t p q steps told lost → q.view.carried ≡ p.view.carried → Changed t p q steps told lost
+changed_all c carried = record {
+  told_are = c.told_are;
+  made = c.made;
+  by_call = c.by_call;
+  spares = c.spares;
+  carried = carried;
+  learns = c.learns;
+  none_moved = c.none_moved;
+}
+
+pub changed_on : {t : TableView} {p q r : PassView} {first second told others : List Turned} {lost more : List ℕ} → Changed t p q first told lost → Changed t q r second others more → Changed t p r (first ++ second) (told ++ others) (more ++ lost)
+changed_on a b = changed_all (hands_on (changed_hands a) (changed_hands b)) (b.carried ∙ a.carried)
+
 -- a bucket's turn, from its take
-pub changed_given : {t : TableView} {bucket : ℕ} {p q s : PassView} {chain : BodyList} {part : Part} {hand : List InHand} → p.view.held ≡ [] → Enters t bucket p q chain → (given : GivenBack t bucket q s part hand) → Changed t p s (given.step ∷ []) (given.told ∷ []) given.lost
+pub changed_given : {t : TableView} {bucket : ℕ} {p q s : PassView} {chain : BodyList} {part : BucketPart} {hand : List InHand} → p.view.held ≡ [] → Enters t bucket p q chain → (given : GivenBack t bucket q s (parts.Bucket part) hand) → Changed t p s (given.step ∷ []) (given.told ∷ []) given.lost
 changed_given {t} {bucket} {p} {q} {s} {chain} {part} {hand} none_held enters given =
     let took = enters.took in
     record {
@@ -93,6 +123,7 @@ changed_given {t} {bucket} {p} {q} {s} {chain} {part} {hand} none_held enters gi
       spares = given.spares ∙ ap (λ (z : PassView). z.spares) took.after_is;
       carried = given.carried ∙ ap (λ (z : PassView). z.view.carried) took.after_is;
       learns = learns_after t.shape p.view q.view s.view (given.step ∷ []) (bits_of_turns t.shape (given.told ∷ [])) (learns_took t (Bucket bucket) p q (contents.Bucket chain) took) given.learns;
+      none_moved = λ _ _ _. All-cons (λ (turn : Turned). IsFalse (finds_moved_on turn.entry.part)) given.told [] (ap (λ (turn : Turn). finds_moved_on turn.part) given.turn) (All-nil (λ (turn : Turned). IsFalse (finds_moved_on turn.entry.part)));
     }
 
 -- Hands
@@ -137,17 +168,17 @@ leaves_changed {t} {p} {s} {steps} {told} {lost} can lru changed hand = record {
   learns = changed.learns;
 }
 
--- a call on one key whose turns are such a trace, where the CPUs have lists of their own
-abbrev pub called_changed : {t : TableView} {p s : PassView} {steps told : List Turned} {lost : List ℕ} (verb : Verb) (reply : Reply) → CanCall t p → IsTrue (is_lru t.shape.kind) → t.shape.common ≡ false → Changed t p s steps told lost → ((e c : ℕ) → is_in_hand_of e c s.view.hand ≡ is_in_hand_of e c p.view.hand)
+-- a call on one key whose turns are such a trace
+abbrev pub called_changed : {t : TableView} {p s : PassView} {steps told : List Turned} {lost : List ℕ} (verb : Verb) (reply : Reply) → CanCall t p → IsTrue (is_lru t.shape.kind) → Changed t p s steps told lost → ((e c : ℕ) → is_in_hand_of e c s.view.hand ≡ is_in_hand_of e c p.view.hand)
     → IsTrace t.shape p.cpu (spare_element p) verb (map (turn_at t.shape) told) reply → Called t p s verb reply
-called_changed {t} {p} {s} {steps} {told} {lost} verb reply can lru apart changed hand trace = record {
+called_changed {t} {p} {s} {steps} {told} {lost} verb reply can lru changed hand trace = record {
   steps = steps;
   lost = lost;
   told = told;
   told_are = changed.told_are;
   leaves = leaves_changed can lru changed hand;
   trace = trace;
-  none_moved = λ common. true_false (sym common ∙ apart);
+  none_moved = changed.none_moved;
   spare = (λ i. element_of (spare_of (changed.made.goes.cpu i) (changed.spares i))) ∙ sym (ap (λ b. cond b (spare_element p) (spare_after (spare_element p) (turns_of (map (turn_at t.shape) told)))) lru);
 }
 

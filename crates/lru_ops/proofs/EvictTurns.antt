@@ -1,12 +1,12 @@
 -- The turn of a bucket that a probe makes, from its take to its give.
-use Rattle.std.proofs.Common.{◌≡◌, ◌≢◌, ℕ, ◌<◌, ◌+◌, inl, inr, ⊎_elim, cond, true, false, Bool, List, [], ◌∷◌, ◌++◌, sym, refl, ap, ◌∙◌, subst, arith, Option, Some, None}
+use Rattle.std.proofs.Common.{◌≡◌, ◌≢◌, ℕ, ◌<◌, ◌≤◌, ◌+◌, inl, cond, true, false, Bool, List, [], ◌∷◌, ◌++◌, sym, refl, ap, ◌∙◌, subst, arith, Option, Some, None}
 use Rattle.std.proofs.lemmas.List.Elements.{recursion_from_All, All-nil, All-cons}
 use Rattle.std.specs.List.{AllByRecursion}
-use Rattle.std.specs.Prelude.{◌⊎◌, ◌==◌, find, reverse, IsTrue, is_some, All, suc}
+use Rattle.std.specs.Prelude.{◌==◌, find, reverse, IsTrue, IsFalse, is_some, All, suc}
 use Rattle.std.proofs.lemmas.Bool.{lt-ltb, eqb-true}
 use Rattle.map_types.specs.declared.attr.Shape.{Shape}
 use Rattle.map_types.specs.declared.kind.DomainId.{DomainId}
-use Rattle.map_types.specs.declared.kind.DomainId.TheVariants.{Bucket, CpuLru, Local}
+use Rattle.map_types.specs.declared.kind.DomainId.TheVariants.{Bucket, CpuLru, Freelist, Global, Local}
 use Rattle.map_types.specs.ElementLists.{one, times, without, IsIn}
 use Rattle.map_types.specs.Kind.{is_lru}
 use Rattle.map_types.specs.Stored.{Stored}
@@ -46,16 +46,16 @@ use Rattle.place_table.specs.Known.{Learns}
 use Rattle.place_table.specs.Passes.{PassView, TableView, CanTake, CanMark, Takes, CanGive, Gave, Goes, with_view, entry_of}
 use Rattle.place_table.specs.Plays.{OwnerFits, IsListedHere}
 use Rattle.place_table.specs.Rules.{IsAboveAll, is_hand_of}
-use Rattle.place_table.specs.StoredHashes.{stored_in}
 use Rattle.place_table.specs.Flushes.{flushes}
-use Rattle.place_table.specs.TurnNotes.{WasRead, ProbeFits, CameToHand, clears_among}
+use Rattle.place_table.specs.StoredHashes.{stored_in}
+use Rattle.place_table.specs.TurnNotes.{HasOnlyHash, WasRead, ProbeFits, CameToHand, clears_among}
 use Rattle.place_table.specs.Views.{is_among, is_in_hand_of, hold_at, now_under, with_now, with_in_hand, detached, owner_read, with_owner_read, holding, known_log, no_notes, given, holds_below, notes_below, owners_probed}
 use Rattle.place_table.specs.Words.{owner_word}
 use Rattle.place_table.proofs.Entries.{append_nil}
 use Rattle.place_table.proofs.Going.{goes_on, goes_took, goes_moved, goes_noted, goes_gave, goes_of_table, goes_begun, given_turn, same_head, learns_on, learns_nothing, learns_took, learns_given}
 use Rattle.place_table.proofs.Hands.{now_at_is}
-use Rattle.place_table.proofs.Worlds.{hold_at_first, some_is, none_some, true_false}
-use Rattle.lru_ops.specs.Evictions.{CanProbe, Inside, IsEvict, hand_with, EndedWith, EvictedWith, hold_with}
+use Rattle.place_table.proofs.Worlds.{hold_at_first, hold_at_other, some_is, none_some, true_false}
+use Rattle.lru_ops.specs.Evictions.{HoldsLists, CanProbe, Inside, IsEvict, hand_with, EndedWith, EvictedWith, hold_with}
 use Rattle.lru_ops.proofs.Holders.{SawSeen, saw_on, saw_none, saw_probe}
 
 -- The body of an element that was found
@@ -88,15 +88,40 @@ one_number n = by_test n n (λ b. b ≡ true) (λ _. refl) (λ other. absurd (ot
 pub bucket_there : (shape : Shape) (bucket : ℕ) → bucket < shape.buckets → IsTrue (is_lock shape (Bucket bucket))
 bucket_there shape bucket there = lt-ltb bucket shape.buckets there
 
-bucket_no_set : (bucket cpu : ℕ) → Bucket bucket ≡ CpuLru cpu → ⊥
-bucket_no_set bucket cpu e = cc
-
 bucket_no_local : (bucket cpu : ℕ) → Bucket bucket ≡ Local cpu → ⊥
 bucket_no_local bucket cpu e = cc
 
+-- a lock of lists is no bucket
+pub no_bucket : (lock : DomainId) → rank_of lock < 3 → IsFalse (is_bucket lock)
+no_bucket (Local cpu) low = refl
+no_bucket Global low = refl
+no_bucket (CpuLru cpu) low = refl
+no_bucket (Bucket bucket) low = absurd (omega (arith, low))
+no_bucket (Freelist cpu) low = refl
+
+-- locks of two names have two numbers
+pub names_apart : (shape : Shape) (lock other : DomainId) → IsTrue (is_lock shape lock) → IsTrue (is_lock shape other) → (lock ≡ other → ⊥) → lock_number shape lock ≢ lock_number shape other
+names_apart shape lock other there other_there apart same =
+    apart (sym (named_by_number shape lock there) ∙ (ap (lock_named shape) same ∙ named_by_number shape other other_there))
+
+pub bucket_apart : (shape : Shape) (bucket : ℕ) (lock : DomainId) → IsTrue (is_lock shape (Bucket bucket)) → IsTrue (is_lock shape lock) → rank_of lock < 3 → lock_number shape (Bucket bucket) ≢ lock_number shape lock
+bucket_apart shape bucket lock there lists_there low =
+    names_apart shape (Bucket bucket) lock there lists_there (λ one. let high : 3 ≡ rank_of lock = ap rank_of one in omega (arith, high, low))
+
 pub other_lock : (shape : Shape) (bucket cpu : ℕ) → IsTrue (is_lock shape (Bucket bucket)) → IsTrue (is_lock shape (CpuLru cpu)) → lock_number shape (Bucket bucket) ≢ lock_number shape (CpuLru cpu)
-other_lock shape bucket cpu there own_there same =
-    bucket_no_set bucket cpu (sym (named_by_number shape (Bucket bucket) there) ∙ (ap (lock_named shape) same ∙ named_by_number shape (CpuLru cpu) own_there))
+other_lock shape bucket cpu there own_there = bucket_apart shape bucket (CpuLru cpu) there own_there (omega arith)
+
+above_more : (shape : Shape) (rank more : ℕ) (holds : List Hold) → rank ≤ more → IsAboveAll shape rank holds → IsAboveAll shape more holds
+above_more shape rank more [] less above = tt
+above_more shape rank more (hold ∷ holds) less above =
+    (let low : rank_of (lock_named shape hold.lock) < rank = above.0 in omega (arith, less, low), above_more shape rank more holds less above.1)
+
+-- buckets are above the locks that such a pass holds
+above_lists : (t : TableView) (lock : DomainId) (p : PassView) (h : HoldsLists t lock p) → IsAboveAll t.shape 3 (h.hold ∷ h.outer)
+above_lists t lock p h =
+    let named : lock_named t.shape h.hold.lock ≡ lock = ap (lock_named t.shape) h.lock_is ∙ named_by_number t.shape lock h.there in
+    let low : rank_of lock < 3 = h.lists in
+    (subst (λ (d : DomainId). rank_of d < 3) (sym named) low, above_more t.shape (rank_of lock) 3 h.outer (omega (arith, low)) h.above)
 
 -- nothing in a bucket tells a stored hash
 pub none_stored_in : (bodies : List Stored) (e : ℕ) → stored_in (in_bucket bodies) e ≡ None
@@ -108,16 +133,26 @@ no_hash_in found bodies e h is stored = none_some (sym (none_stored_in bodies e)
 
 -- Taking
 
--- above the own set's lock a bucket may be taken
+-- above a lock of lists a bucket may be taken
 pub can_take_bucket : (t : TableView) (bucket e : ℕ) (p : PassView) → CanProbe t bucket e p → CanTake t (Bucket bucket) p
 can_take_bucket t bucket e p can =
     let h = can.holds in record {
       of_table = h.of_table;
       begun = h.begun;
       there = bucket_there t.shape bucket can.there;
-      above = subst (IsAboveAll t.shape 3) (sym h.held)
-          (subst (λ (d : DomainId). rank_of d < 3) (sym (ap (lock_named t.shape) h.lock_is ∙ named_by_number t.shape (CpuLru p.cpu) h.there)) (let low : 2 < 3 = omega arith in low), tt);
+      above = subst (IsAboveAll t.shape 3) (sym h.held) (above_lists t can.lock p h);
     }
+
+-- no row under a bucket that was taken has a hash: the hash of the others is that of all
+hashed_inside : (t : TableView) (bucket e hash : ℕ) (p q : PassView) (chain : BodyList) → bucket < t.shape.buckets → HasOnlyHash t.shape p.view e hash → Takes t (Bucket bucket) p q (contents.Bucket chain) → HasOnlyHash t.shape q.view e hash
+hashed_inside t bucket e hash p q chain there hashed took k h hold held stored =
+    let named : lock_named t.shape took.hold.lock ≡ Bucket bucket = ap (lock_named t.shape) took.lock_is ∙ named_by_number t.shape (Bucket bucket) (bucket_there t.shape bucket there) in
+    by_test took.hold.lock k (λ b. cond b (Some took.hold) (hold_at k p.view.held) ≡ Some hold → h ≡ hash)
+    (λ same found.
+    let bare : stored_in (content t.shape (Bucket bucket) took.hold.log) e ≡ Some h = (λ i. stored_in (content t.shape ((sym named ∙ ap (lock_named t.shape) same) i) ((some_is found) i).log) e) ∙ stored in
+    absurd (no_hash_in (content t.shape (Bucket bucket) took.hold.log) chain.bodies e h took.told_is bare))
+    (λ _ found. hashed k h hold found stored)
+    (ap (λ (z : PassView). hold_at k z.view.held) (sym took.after_is) ∙ held)
 
 pub inside : (t : TableView) (bucket e : ℕ) (p q : PassView) (chain : BodyList) → CanProbe t bucket e p → Takes t (Bucket bucket) p q (contents.Bucket chain) → Inside t bucket e q chain.bodies
 inside t bucket e p q chain can took =
@@ -127,14 +162,17 @@ inside t bucket e p q chain can took =
     let view : q.view ≡ holding took.at took.hold p.view = ap (λ (z : PassView). z.view) took.after_is in
     let one : m.hold ≡ h.hold = same_head (sym m.held ∙ h.held) in
     record {
+      lock = can.lock;
       of_table = goes_of_table t p q [] [] goes h.of_table;
       begun = goes_begun p q [] [] goes h.begun;
       real = m.real;
       there = can.there;
       hold = took.hold;
-      own = h.hold;
+      lists = h.hold;
+      outer = h.outer;
       below = p.view.notes;
       held = ap (λ (v : View). v.held) view ∙ ap (λ (l : List Hold). took.hold ∷ l) h.held;
+      above = above_lists t can.lock p h;
       notes = ap (λ (v : View). v.notes) view;
       lock_is = took.lock_is;
       cpu_is = took.cpu_is ∙ sym goes.cpu;
@@ -144,12 +182,13 @@ inside t bucket e p q chain can took =
       sized = took.fits;
       known = λ log is. took.known log (ap (λ (v : View). known_log (lock_number t.shape (Bucket bucket)) v.known) (sym view) ∙ is);
       evicts = h.evicts;
-      own_there = subst (λ (c : ℕ). IsTrue (is_lock t.shape (CpuLru c))) (sym goes.cpu) h.there;
-      own_lock = h.lock_is ∙ ap (λ (c : ℕ). lock_number t.shape (CpuLru c)) (sym goes.cpu);
-      hands_empty = λ x cpu among. ap (λ (v : View). is_in_hand_of x cpu v.hand) view ∙ h.hands_empty x cpu (ap (λ (v : View). is_among cpu v.cpus) (sym view) ∙ among);
+      lists_there = h.there;
+      lists_are = h.lists;
+      lists_lock = h.lock_is;
+      in_no_hand = λ cpu among. ap (λ (v : View). is_in_hand_of e cpu v.hand) view ∙ m.in_no_hand cpu (ap (λ (v : View). is_among cpu v.cpus) (sym view) ∙ among);
       listed = subst (λ (z : Hold). IsIn e (rows z.now)) one m.listed;
       hash = can.hash;
-      stored = (λ i. stored_in (content t.shape (CpuLru (goes.cpu i)) ((sym one i).log)) e) ∙ m.stored;
+      hashed = hashed_inside t bucket e can.hash p q chain can.there m.hashed took;
       bucket_is = can.bucket_is;
     }
 
@@ -169,7 +208,7 @@ no_marks false none = refl
 -- What was done there: this lies in the bucket now, this was noted, and this is in hand.
 pub record Worked (t : TableView) (bucket e : ℕ) (q r : PassView) (bodies : List Stored) (b : Inside t bucket e q bodies) (now : Lists) (notes : Notes) (hand : List InHand) : Type 0 where
   pub goes : Goes q r [] []
-  pub held : r.view.held ≡ hold_with b.hold now ∷ b.own ∷ []
+  pub held : r.view.held ≡ hold_with b.hold now ∷ b.lists ∷ b.outer
   pub notes_are : r.view.notes ≡ notes ∷ b.below
   pub marks : notes.marks ≡ []
   pub asked : notes.asked ≡ []
@@ -186,63 +225,41 @@ module _ {t : TableView} {bucket e : ℕ} {q : PassView} {bodies : List Stored} 
   is_there = bucket_there t.shape bucket b.there
 
   held_here : (k : ℕ) → k ≡ b.hold.lock → hold_at k q.view.held ≡ Some b.hold
-  held_here k is = ap (hold_at k) b.held ∙ (ap (λ (n : ℕ). hold_at n (b.hold ∷ b.own ∷ [])) is ∙ hold_at_first b.hold (b.own ∷ []))
+  held_here k is =
+      ap (hold_at k) b.held ∙ (ap (λ (n : ℕ). hold_at n (b.hold ∷ b.lists ∷ b.outer)) is ∙ hold_at_first b.hold (b.lists ∷ b.outer))
 
   bucket_held : hold_at (lock_number t.shape (Bucket bucket)) q.view.held ≡ Some b.hold
   bucket_held = held_here (lock_number t.shape (Bucket bucket)) (sym b.lock_is)
 
-  own_held : hold_at (lock_number t.shape (CpuLru q.cpu)) q.view.held ≡ Some b.own
-  own_held =
-      ap (hold_at (lock_number t.shape (CpuLru q.cpu))) b.held
-      ∙ (by_test b.hold.lock (lock_number t.shape (CpuLru q.cpu)) (λ z. cond z (Some b.hold) (hold_at (lock_number t.shape (CpuLru q.cpu)) (b.own ∷ [])) ≡ hold_at (lock_number t.shape (CpuLru q.cpu)) (b.own ∷ []))
-      (λ same. absurd (other_lock t.shape bucket q.cpu is_there b.own_there (sym b.lock_is ∙ same))) (λ _. refl)
-      ∙ (ap (λ (n : ℕ). hold_at n (b.own ∷ [])) (sym b.own_lock) ∙ hold_at_first b.own []))
-
-  -- each lock that is held is the bucket's or the own set's
-  each_held : (k : ℕ) (other : Hold) → hold_at k q.view.held ≡ Some other → ((k ≡ lock_number t.shape (Bucket bucket)) × (other ≡ b.hold)) ⊎ ((k ≡ lock_number t.shape (CpuLru q.cpu)) × (other ≡ b.own))
-  each_held k other is =
-      by_test b.hold.lock k (λ z. cond z (Some b.hold) (cond (b.own.lock == k) (Some b.own) None) ≡ Some other → ((k ≡ lock_number t.shape (Bucket bucket)) × (other ≡ b.hold)) ⊎ ((k ≡ lock_number t.shape (CpuLru q.cpu)) × (other ≡ b.own)))
-      (λ same found. inl (sym same ∙ b.lock_is, sym (some_is found)))
-      (λ _. by_test b.own.lock k (λ z. cond z (Some b.own) None ≡ Some other → ((k ≡ lock_number t.shape (Bucket bucket)) × (other ≡ b.hold)) ⊎ ((k ≡ lock_number t.shape (CpuLru q.cpu)) × (other ≡ b.own)))
-      (λ same found. inr (sym same ∙ b.own_lock, sym (some_is found)))
-      (λ _ found. absurd (none_some found)))
-      (ap (hold_at k) (sym b.held) ∙ is)
+  lists_held : hold_at (lock_number t.shape b.lock) q.view.held ≡ Some b.lists
+  lists_held =
+      ap (hold_at (lock_number t.shape b.lock)) b.held
+      ∙ (hold_at_other (lock_number t.shape b.lock) b.hold (b.lists ∷ b.outer) (λ same. bucket_apart t.shape bucket b.lock is_there b.lists_there b.lists_are (sym b.lock_is ∙ sym same))
+      ∙ (ap (λ (n : ℕ). hold_at n (b.lists ∷ b.outer)) (sym b.lists_lock) ∙ hold_at_first b.lists b.outer))
 
   named_bucket : lock_named t.shape (lock_number t.shape (Bucket bucket)) ≡ Bucket bucket
   named_bucket = named_by_number t.shape (Bucket bucket) is_there
 
-  -- no row that lay in the bucket has a hash
-  no_hash_here : (x h : ℕ) → stored_in (content t.shape (lock_named t.shape (lock_number t.shape (Bucket bucket))) b.hold.log) x ≡ Some h → ⊥
-  no_hash_here x h stored = no_hash_in (content t.shape (lock_named t.shape (lock_number t.shape (Bucket bucket))) b.hold.log) bodies x h (b.content_is ∙ ap (λ (d : DomainId). content t.shape d b.hold.log) (sym named_bucket)) stored
-
   listed_here : IsListedHere t.shape q.view e
   listed_here = record {
-    lock = lock_number t.shape (CpuLru q.cpu);
-    hold = b.own;
-    held = own_held;
-    no_bucket = ap is_bucket (named_by_number t.shape (CpuLru q.cpu) b.own_there);
+    lock = lock_number t.shape b.lock;
+    hold = b.lists;
+    held = lists_held;
+    no_bucket = ap is_bucket (named_by_number t.shape b.lock b.lists_there) ∙ no_bucket b.lock b.lists_are;
     listed = b.listed;
   }
-
-  has_its_hash : (k h : ℕ) (hold : Hold) → hold_at k q.view.held ≡ Some hold → stored_in (content t.shape (lock_named t.shape k) hold.log) e ≡ Some h → h ≡ b.hash
-  has_its_hash k h hold held stored =
-      ⊎_elim
-      (λ (x : (k ≡ lock_number t.shape (Bucket bucket)) × (hold ≡ b.hold)). absurd (no_hash_here e h (subst (λ (z : ℕ × Hold). stored_in (content t.shape (lock_named t.shape z.0) z.1.log) e ≡ Some h) (λ i. (x.0 i, x.1 i)) stored)))
-      (λ (x : (k ≡ lock_number t.shape (CpuLru q.cpu)) × (hold ≡ b.own)).
-      some_is (sym stored ∙ ((λ i. stored_in (content t.shape (lock_named t.shape (x.0 i)) ((x.1 i).log)) e) ∙ (ap (λ (d : DomainId). stored_in (content t.shape d b.own.log) e) (named_by_number t.shape (CpuLru q.cpu) b.own_there) ∙ b.stored))))
-      (each_held k hold held)
 
   -- What isn't in its bucket is in the hand of a CPU that isn't the pass's
 
   pub not_free : (owner : Owner) → OwnerFits t.shape q.view e owner → owner ≡ owners.Free → ⊥
   not_free owner fits free =
-      let none : times e (rows b.own.now) ≡ 0 = fits.listed free (lock_number t.shape (CpuLru q.cpu)) b.own own_held in
-      let some : 0 < times e (rows b.own.now) = b.listed in
+      let none : times e (rows b.lists.now) ≡ 0 = fits.listed free (lock_number t.shape b.lock) b.lists lists_held in
+      let some : 0 < times e (rows b.lists.now) = b.listed in
       omega (arith, none, some)
 
   pub not_in_bucket : (owner : Owner) (x : ℕ) → OwnerFits t.shape q.view e owner → body_of e bodies ≡ None → owner ≡ owners.Bucket x → ⊥
   not_in_bucket owner x fits none is =
-      let here : x ≡ bucket = fits.of_hash b.evicts b.hash x listed_here has_its_hash is ∙ sym b.bucket_is in
+      let here : x ≡ bucket = fits.of_hash b.evicts b.hash x listed_here b.hashed is ∙ sym b.bucket_is in
       let counted : times e (rows b.hold.now) ≡ one (is_in_bucket bucket owner) = fits.in_held_bucket bucket b.hold b.there bucket_held in
       let inside_it : one (is_in_bucket bucket owner) ≡ 1 = ap (λ (o : Owner). one (is_in_bucket bucket o)) (is ∙ ap owners.Bucket here) ∙ ap one (one_number bucket) in
       let nothing : times e (rows b.hold.now) ≡ 0 = ap (λ (l : Lists). times e (rows l)) b.now ∙ (ap (times e) (append_nil (numbers bodies)) ∙ none_of e bodies none) in
@@ -251,7 +268,7 @@ module _ {t : TableView} {bucket e : ℕ} {q : PassView} {bodies : List Stored} 
   pub not_own_hand : (owner : Owner) (holder : ℕ) → OwnerFits t.shape q.view e owner → owner ≡ owners.Hand holder → holder ≢ q.cpu
   not_own_hand owner holder fits is same =
       let mine : is_hand_of q.cpu owner ≡ true = ap (is_hand_of q.cpu) is ∙ (ap (λ (c : ℕ). is_hand_of q.cpu (owners.Hand c)) same ∙ one_number q.cpu) in
-      true_false (sym mine ∙ (fits.in_own_hand q.cpu b.begun ∙ b.hands_empty e q.cpu b.begun))
+      true_false (sym mine ∙ (fits.in_own_hand q.cpu b.begun ∙ b.in_no_hand q.cpu b.begun))
 
   pub is_in_hand : (owner : Owner) → OwnerFits t.shape q.view e owner → body_of e bodies ≡ None → ((holder : ℕ) → owner ≡ owners.Hand holder → ⊥) → ⊥
   is_in_hand owners.Free fits none other = not_free owners.Free fits refl
@@ -283,7 +300,7 @@ module _ {t : TableView} {bucket e : ℕ} {q : PassView} {bodies : List Stored} 
         goes = goes_moved at k (without_row e (now_under (Bucket bucket) q.view)) (with_in_hand e q.cpu q.view.hand) _ _ _ q (with_view q (detached at bucket e q.cpu q.view)) refl;
         held = ap (λ (l : Lists). with_now k (without_row e l) q.view.held) now
             ∙ (ap (with_now k then) b.held
-            ∙ by_test b.hold.lock k (λ z. cond z (hold_with b.hold then ∷ b.own ∷ []) (b.hold ∷ with_now k then (b.own ∷ [])) ≡ hold_with b.hold then ∷ b.own ∷ []) (λ _. refl) (λ other. absurd (other (sym k_is))));
+            ∙ by_test b.hold.lock k (λ z. cond z (hold_with b.hold then ∷ b.lists ∷ b.outer) (b.hold ∷ with_now k then (b.lists ∷ b.outer)) ≡ hold_with b.hold then ∷ b.lists ∷ b.outer) (λ _. refl) (λ other. absurd (other (sym k_is))));
         notes_are = b.notes;
         marks = refl;
         asked = refl;
@@ -335,7 +352,7 @@ module _ {t : TableView} {bucket e : ℕ} {q : PassView} {bodies : List Stored} 
         of_table = goes_of_table t q r [] [] w.goes b.of_table;
         begun = begun;
         hold = hold_with b.hold now;
-        below = b.own ∷ [];
+        below = b.lists ∷ b.outer;
         innermost = w.held;
         notes = notes;
         notes_below = b.below;

@@ -1,6 +1,6 @@
 -- The head of the free list of the own set, given out under its lock.
 use Rattle.std.proofs.Common.{inl, inr, ◌≡◌, ◌≢◌, ℕ, ◌<◌, ◌+◌, cond, true, false, Bool, List, [], ◌∷◌, ◌++◌, map, length, sym, refl, ap, ◌∙◌, subst, Option, Some, None, append_assoc, arith}
-use Rattle.std.specs.Prelude.{◌==◌, ◌&&◌, reverse, drop, find, slice_get, option_map, option_to_list, MatchOption, All, suc}
+use Rattle.std.specs.Prelude.{◌==◌, ◌&&◌, reverse, drop, find, slice_get, option_map, option_to_list, MatchOption, IsTrue, All, suc}
 use Rattle.std.proofs.lemmas.List.{reverse-append, reverse-reverse}
 use Rattle.std.proofs.lemmas.List.Elements.{recursion_from_All, All-from_recursion, All-nil, All-cons}
 use Rattle.std.proofs.lemmas.Option.{slice_get-map}
@@ -20,8 +20,8 @@ use Rattle.place_words.specs.declared.visits.ShrinkNote.{ShrinkNote}
 use Rattle.place_words.specs.declared.visits.Try.{Try}
 use Rattle.place_words.specs.declared.visits.Visit.{Visit}
 use Rattle.place_words.specs.Bodies.{numbers}
-use Rattle.place_words.specs.Histories.{content, looks_told, got_cleared}
-use Rattle.place_words.specs.Locks.{lock_number}
+use Rattle.place_words.specs.Histories.{looks_told, got_cleared}
+use Rattle.place_words.specs.Locks.{is_lock, lock_number}
 use Rattle.place_words.specs.Sets.{ListSet, given_out, own_after, own_scans, rotated_set, shrunk_into_free, AllowsOnOwn}
 use Rattle.place_words.specs.Takings.{shrink_probes, stored_hash}
 use Rattle.place_core.specs.declared.step.Lists.{Lists}
@@ -43,7 +43,7 @@ use Rattle.place_table.proofs.Came.{came_among}
 use Rattle.place_table.specs.TurnNotes.{clears_among, clears_noted, AreCleared, WasReadInHand, ProbeFits, CameToHand}
 use Rattle.place_table.specs.Views.{is_among, is_in_hand_of, hold_at, now_under, with_now, with_came, with_clear, with_in_hand, no_notes, bit_seen, claimed as claimed_view, cleared as cleared_view}
 use Rattle.place_table.proofs.Entries.{append_nil}
-use Rattle.place_table.proofs.Going.{goes_on, goes_noted, same_head, learns_on, learns_nothing, learns_cleared}
+use Rattle.place_table.proofs.Going.{goes_on, goes_noted, goes_of_table, goes_begun, same_head, learns_on, learns_nothing, learns_cleared}
 use Rattle.place_table.proofs.Hands.{now_at_is, in_hand_more}
 use Rattle.place_table.proofs.Worlds.{hold_at_first, some_is, none_some, true_false}
 use Rattle.lru_lists.specs.declared.bits.BitCall.{BitCall}
@@ -57,31 +57,32 @@ use Rattle.lru_lists.specs.Sets.{SetView, IsSet, listed, moved_in, popped, poppe
 use Rattle.lru_ops.specs.Askings.{asked_by, asked_after, owners_with, owners_after, notes_after, lists_after, touch_by, AreEvicts}
 use Rattle.lru_ops.specs.Evictions.{SawHolders, hold_with}
 use Rattle.lru_ops.specs.OwnTurns.{note_of, rows_on, try_of, CanWork, Worked, CanGiveOut, GaveOut, GivesOut}
-use Rattle.lru_ops.proofs.Asked.{holds_after, now_first}
+use Rattle.lru_ops.proofs.OwnWalk.{now_first, DidOwn, did_own}
+use Rattle.lru_ops.proofs.PassWork.{held_alone}
 use Rattle.lru_ops.proofs.Holders.{saw_on_none, saw_none}
 
 -- The free list without its head
 
-popped_numbers : (bodies : List Stored) (spare : ℕ) → numbers (popped_from bodies spare).bodies ≡ drop 1 (numbers bodies)
+pub popped_numbers : (bodies : List Stored) (spare : ℕ) → numbers (popped_from bodies spare).bodies ≡ drop 1 (numbers bodies)
 popped_numbers [] spare = refl
 popped_numbers (body ∷ bodies) spare = refl
 
-popped_room : (bodies : List Stored) (spare : ℕ) → (bodies ≡ [] → ⊥) → length (popped_from bodies spare).bodies + (popped_from bodies spare).spare ≡ length bodies + spare
+pub popped_room : (bodies : List Stored) (spare : ℕ) → (bodies ≡ [] → ⊥) → length (popped_from bodies spare).bodies + (popped_from bodies spare).spare ≡ length bodies + spare
 popped_room [] spare some = absurd (some refl)
 popped_room (body ∷ bodies) spare some = omega arith
 
-popped_sized : (P : Stored → Type 0) (bodies : List Stored) (spare : ℕ) → AllByRecursion P bodies → AllByRecursion P (popped_from bodies spare).bodies
+pub popped_sized : (P : Stored → Type 0) (bodies : List Stored) (spare : ℕ) → AllByRecursion P bodies → AllByRecursion P (popped_from bodies spare).bodies
 popped_sized P [] spare all = tt
 popped_sized P (body ∷ bodies) spare all = all.1
 
-first_of : (P : Stored → Type 0) (bodies : List Stored) (body : Stored) → AllByRecursion P bodies → slice_get bodies 0 ≡ Some body → P body
+pub first_of : (P : Stored → Type 0) (bodies : List Stored) (body : Stored) → AllByRecursion P bodies → slice_get bodies 0 ≡ Some body → P body
 first_of P [] body all is = absurd (none_some is)
 first_of P (x ∷ bodies) body all is = subst P (some_is is) all.0
 
-some_first : (bodies : List Stored) (body : Stored) → slice_get bodies 0 ≡ Some body → bodies ≡ [] → ⊥
+pub some_first : (bodies : List Stored) (body : Stored) → slice_get bodies 0 ≡ Some body → bodies ≡ [] → ⊥
 some_first bodies body is none = none_some (ap (λ (l : List Stored). slice_get l 0) (sym none) ∙ is)
 
-head_number : (bodies : List Stored) (body : Stored) → slice_get bodies 0 ≡ Some body → numbers bodies ≡ body.element ∷ drop 1 (numbers bodies)
+pub head_number : (bodies : List Stored) (body : Stored) → slice_get bodies 0 ≡ Some body → numbers bodies ≡ body.element ∷ drop 1 (numbers bodies)
 head_number [] body is = absurd (none_some is)
 head_number (x ∷ bodies) body is = ap (λ (b : Stored). b.element ∷ numbers bodies) (some_is is)
 
@@ -125,7 +126,7 @@ own_after_is hash active inactive shrink got set = refl
 
 -- What was asked, as it is told
 
-asked_are : (made : List BitCall) (asked : List BitAsked) → asked_after made asked ≡ reverse (map asked_by made) ++ asked
+pub asked_are : (made : List BitCall) (asked : List BitAsked) → asked_after made asked ≡ reverse (map asked_by made) ++ asked
 asked_are [] asked = refl
 asked_are (call ∷ made) asked =
     asked_are made (asked_by call ∷ asked)
@@ -139,25 +140,25 @@ clears_cons : (b : Bool) (visit : Visit) (xs ys : List Visit) → cond b (visit 
 clears_cons true visit xs ys = refl
 clears_cons false visit xs ys = refl
 
-clears_append : (first second : List BitAsked) → clears_among (first ++ second) ≡ clears_among first ++ clears_among second
+pub clears_append : (first second : List BitAsked) → clears_among (first ++ second) ≡ clears_among first ++ clears_among second
 clears_append [] second = refl
 clears_append (x ∷ first) second =
     ap (λ (l : List Visit). cond x.cleared (record { element = x.element; bit = x.bit } ∷ l) l) (clears_append first second)
     ∙ clears_cons x.cleared (record { element = x.element; bit = x.bit }) (clears_among first) (clears_among second)
 
-clears_told : (visits : List Visit) → clears_among (reverse (asked_after (map calls.Cleared visits) [])) ≡ visits
+pub clears_told : (visits : List Visit) → clears_among (reverse (asked_after (map calls.Cleared visits) [])) ≡ visits
 clears_told visits =
     let made : List BitCall = map calls.Cleared visits in
     ap (λ (l : List BitAsked). clears_among (reverse l)) (asked_are made [] ∙ append_nil (reverse (map asked_by made)))
     ∙ (ap clears_among (reverse-reverse (map asked_by made)) ∙ clears_of visits)
 
-touches_of : (visits : List Visit) → map touch_by (map calls.Cleared visits) ≡ map clears_found visits
+pub touches_of : (visits : List Visit) → map touch_by (map calls.Cleared visits) ≡ map clears_found visits
 touches_of [] = refl
 touches_of (visit ∷ visits) = ap (λ (l : List BitTouch). clears_found visit ∷ l) (touches_of visits)
 
 -- What probes read of owners
 
-read_before : (e cpu x : ℕ) (seen : Seen) (owners : List OwnerSeen) → WasReadInHand e cpu owners → WasReadInHand e cpu (owners_with x seen owners)
+pub read_before : (e cpu x : ℕ) (seen : Seen) (owners : List OwnerSeen) → WasReadInHand e cpu owners → WasReadInHand e cpu (owners_with x seen owners)
 read_before e cpu x Removed owners was = was
 read_before e cpu x (Held holder) owners was = inr was
 
@@ -176,7 +177,7 @@ fits_here : (e : ℕ) (seen : Seen) (owners : List OwnerSeen) → ProbeFits (own
 fits_here e Removed owners = tt
 fits_here e (Held holder) owners = inl (refl, refl)
 
-probes_fit : (probes : List ProbeCall) (owners : List OwnerSeen) → All (ProbeFits (owners_after probes owners)) (map try_of probes)
+pub probes_fit : (probes : List ProbeCall) (owners : List OwnerSeen) → All (ProbeFits (owners_after probes owners)) (map try_of probes)
 probes_fit [] owners = All-nil (ProbeFits owners)
 probes_fit (probe ∷ probes) owners =
     All-cons (ProbeFits (owners_after probes (owners_with probe.element probe.probed owners))) (try_of probe) (map try_of probes)
@@ -189,7 +190,7 @@ skipped : (b : Bool) (test : Row → Bool) (x : Row) (xs ys : List Row) → find
 skipped true test x xs ys same = refl
 skipped false test x xs ys same = same
 
-skip_row : (test : Row → Bool) (row : Row) (xs ys : List Row) → test row ≡ false → find test (xs ++ row ∷ ys) ≡ find test (xs ++ ys)
+pub skip_row : (test : Row → Bool) (row : Row) (xs ys : List Row) → test row ≡ false → find test (xs ++ row ∷ ys) ≡ find test (xs ++ ys)
 skip_row test row [] ys other = ap (λ (b : Bool). cond b (Some row) (find test ys)) other
 skip_row test row (x ∷ xs) ys other = skipped (test x) test x (xs ++ row ∷ ys) (xs ++ ys) (skip_row test row xs ys other)
 
@@ -239,13 +240,13 @@ pub record Ready (t : TableView) (hash : ℕ) (turning turning_after : RotateNot
   pub owners : All (ProbeFits notes.owners) (shrink_probes (note_of shrunk looks forced))
   pub came : All (CameToHand s.view (hold_with hold now) notes) (option_to_list got)
   pub probes : List ProbeCall
-  pub are_evicts : AreEvicts t.shape q.cpu q.call (content t.shape (CpuLru q.cpu) hold.log) probes turns
+  pub are_evicts : AreEvicts t.shape q.cpu q.call (rows_on set) probes turns
   pub saw : SawHolders t.shape q s turns
   pub tried : map try_of probes ≡ shrink_probes (note_of shrunk looks forced)
   pub learns : Learns t.shape q.view s.view turns (map clears_found (active ++ (inactive ++ looks_told (note_of shrunk looks forced))) ++ map clears_bit (got_cleared got))
 
 -- the clear of what is given out, whatever it found
-forget_seen : (shape : Shape) (v w : View) (e : ℕ) (bit : Bool) → Learns shape v w [] (record { element = e; seen = Some bit; left = false } ∷ []) → Learns shape v w [] (clears_bit e ∷ [])
+pub forget_seen : (shape : Shape) (v w : View) (e : ℕ) (bit : Bool) → Learns shape v w [] (record { element = e; seen = Some bit; left = false } ∷ []) → Learns shape v w [] (clears_bit e ∷ [])
 forget_seen shape v w e bit l = record {
   allowed = tt;
   all = l.all;
@@ -257,11 +258,11 @@ forget_seen shape v w e bit l = record {
     any_known None = tt
     any_known (Some bit) = tt
 
-came_first : (k e : ℕ) (hold : Hold) (n : Notes) (below : List Notes) → k ≡ hold.lock → with_came k e (hold ∷ []) (n ∷ below) ≡ record n { came = e ∷ n.came } ∷ below
+pub came_first : (k e : ℕ) (hold : Hold) (n : Notes) (below : List Notes) → k ≡ hold.lock → with_came k e (hold ∷ []) (n ∷ below) ≡ record n { came = e ∷ n.came } ∷ below
 came_first k e hold n below is =
     by_test hold.lock k (λ b. cond b (record n { came = e ∷ n.came } ∷ below) (n ∷ with_came k e [] below) ≡ record n { came = e ∷ n.came } ∷ below) (λ _. refl) (λ other. absurd (other (sym is)))
 
-without_head : (e : ℕ) (xs rest : List ℕ) → xs ≡ e ∷ rest → without e xs ≡ rest
+pub without_head : (e : ℕ) (xs rest : List ℕ) → xs ≡ e ∷ rest → without e xs ≡ rest
 without_head e xs rest is = ap (without e) is ∙ by_test e e (λ b. cond b rest (e ∷ without e rest) ≡ rest) (λ _. refl) (λ other. absurd (other refl))
 
 pub row_more : (x e : ℕ) (first second : List ℕ) → times x (first ++ e ∷ second) ≡ times x (e ∷ (first ++ second))
@@ -271,7 +272,7 @@ row_more x e first second =
     by_test e x (λ b. times x (first ++ e ∷ second) ≡ times x first + cond b (suc (times x second)) (times x second) → times x (first ++ e ∷ second) ≡ cond b (suc (times x (first ++ second))) (times x (first ++ second)))
     (λ _ is. omega (arith, is, other)) (λ _ is. omega (arith, is, other)) one
 
-head_got : (bodies : List Stored) (got : Option Stored) → slice_get bodies 0 ≡ got → option_map (λ (body : Stored). body.element) got ≡ slice_get (numbers bodies) 0
+pub head_got : (bodies : List Stored) (got : Option Stored) → slice_get bodies 0 ≡ got → option_map (λ (body : Stored). body.element) got ≡ slice_get (numbers bodies) 0
 head_got bodies got is = ap (option_map (λ (body : Stored). body.element)) (sym is) ∙ sym (slice_get-map (λ (body : Stored). body.element) bodies 0)
 
 none_first : (bodies : List Stored) → bodies ≡ [] → slice_get bodies 0 ≡ None
@@ -279,20 +280,45 @@ none_first bodies none = ap (λ (l : List Stored). slice_get l 0) none
 
 module _ {t : TableView} {set worked : SetView} {turning turning_after : RotateNotes} {shrinking shrinking_after : ShrinkNotes} {shrunk : Bool} {q r : PassView}
     (can : CanWork t set q) (w : Worked t set worked turning turning_after shrinking shrinking_after shrunk q r) where
+  abbrev hold_there : Hold
+  hold_there = can.holds.lists.hold
+
   abbrev now_after : Lists
-  now_after = lists_after w.probes w.does.hold.now
+  now_after = lists_after w.probes hold_there.now
 
-  stands : w.does.hold ≡ can.holds.hold
-  stands = same_head (sym w.does.was ∙ can.holds.held)
+  did : DidOwn t (rows_on set) w.calls w.probes q r hold_there
+  did = did_own hold_there (held_alone can) w.does
 
-  now_was : w.does.hold.now ≡ lists_of_set (set_told set)
-  now_was = ap (λ (z : Hold). z.now) stands ∙ can.now
+  now_was : hold_there.now ≡ lists_of_set (set_told set)
+  now_was = can.now
 
   -- the free list is as the pass knows it
   pub can_give_out : CanGiveOut t worked r
   can_give_out =
-      let d = w.does in record {
-        holds = holds_after t q r d.turns can.holds d.hold (lists_after w.probes d.hold.now) (notes_after w.calls w.probes d.notes) d.below d.goes d.was d.held d.noted d.hand;
+      let d = did in
+      let h = can.holds.lists in
+      record {
+        holds = record {
+          lists = record {
+            of_table = goes_of_table t q r d.turns [] d.goes h.of_table;
+            begun = goes_begun q r d.turns [] d.goes h.begun;
+            is_shape = h.is_shape;
+            evicts = h.evicts;
+            there = subst (λ (c : ℕ). IsTrue (is_lock t.shape (CpuLru c))) (sym d.goes.cpu) h.there;
+            lists = h.lists;
+            hold = hold_with hold_there (lists_after w.probes hold_there.now);
+            outer = [];
+            held = d.held;
+            above = tt;
+            lock_is = h.lock_is ∙ ap (λ (c : ℕ). lock_number t.shape (CpuLru c)) (sym d.goes.cpu);
+            cpu_is = h.cpu_is ∙ sym d.goes.cpu;
+            notes = notes_after w.calls w.probes d.notes;
+            below = d.below;
+            notes_are = d.noted;
+          };
+          alone = refl;
+          hands_empty = λ e cpu among. ap (is_in_hand_of e cpu) d.hand ∙ can.holds.hands_empty e cpu (ap (is_among cpu) (sym d.goes.cpus) ∙ among);
+        };
         fits = w.works.fits;
         free_is = ap (λ (l : Lists). (lists_after w.probes l).free) now_was ∙ w.works.same_free;
       }
@@ -300,7 +326,7 @@ module _ {t : TableView} {set worked : SetView} {turning turning_after : RotateN
   -- nothing was free
   pub ready_none : (hash : ℕ) (below : List Notes) → q.view.notes ≡ no_notes ∷ below → worked.free.bodies ≡ [] → Ready t hash turning turning_after shrinking shrinking_after shrunk set worked q r None
   ready_none hash below fresh none =
-      let d = w.does in
+      let d = did in
       let k = w.works in
       let n_is : d.notes ≡ no_notes = same_head (sym d.was_noted ∙ fresh) in
       let bits : List Visit = k.active ++ (k.inactive ++ looks_told (note_of shrunk k.looks k.forced)) in
@@ -316,9 +342,9 @@ module _ {t : TableView} {set worked : SetView} {turning turning_after : RotateN
         noted_forced = k.noted_forced;
         turns = d.turns;
         goes = d.goes;
-        hold = d.hold;
+        hold = hold_there;
         was = d.was;
-        now = lists_after w.probes d.hold.now;
+        now = lists_after w.probes hold_there.now;
         held = d.held;
         notes = notes_after w.calls w.probes d.notes;
         below = d.below;
@@ -337,7 +363,7 @@ module _ {t : TableView} {set worked : SetView} {turning turning_after : RotateN
         off = ap (λ (n : Notes). n.off) n_is;
         cleared = (λ i. clears_among (reverse (asked_after (k.calls_are i) ((n_is i).asked)))) ∙ clears_told bits;
         owners = subst (All (ProbeFits (owners_after w.probes d.notes.owners))) k.probes_are (probes_fit w.probes d.notes.owners);
-        came = All-nil (CameToHand r.view (hold_with d.hold (lists_after w.probes d.hold.now)) (notes_after w.calls w.probes d.notes));
+        came = All-nil (CameToHand r.view (hold_with hold_there (lists_after w.probes hold_there.now)) (notes_after w.calls w.probes d.notes));
         probes = w.probes;
         are_evicts = d.are_evicts;
         saw = d.saw;
@@ -352,8 +378,8 @@ module _ {t : TableView} {set worked : SetView} {turning turning_after : RotateN
 
     out_rows : (x : ℕ) → times x (rows (lists_of_set (set_told out))) ≡ times x (rows (with_row (CpuLru r.cpu) body.element (without_free body.element now_after)))
     out_rows x =
-        let was : times x (rows (lists_after w.probes w.does.hold.now)) ≡ times x (rows (lists_of_set (set_told worked))) = ap (λ (l : Lists). times x (rows (lists_after w.probes l))) now_was ∙ w.works.same_rows x in
-        let now : Lists = lists_after w.probes w.does.hold.now in
+        let was : times x (rows (lists_after w.probes hold_there.now)) ≡ times x (rows (lists_of_set (set_told worked))) = ap (λ (l : Lists). times x (rows (lists_after w.probes l))) now_was ∙ w.works.same_rows x in
+        let now : Lists = lists_after w.probes hold_there.now in
         ap (λ (z : SetView). times x (rows (lists_of_set (set_told z)))) g.after_is
         ∙ (row_more x body.element (elements_of worked.active) (elements_of worked.inactive)
         ∙ (by_test body.element x (λ b. cond b (suc (times x (elements_of worked.active ++ elements_of worked.inactive))) (times x (elements_of worked.active ++ elements_of worked.inactive)) ≡ cond b (suc (times x (rows now))) (times x (rows now))) (λ _. ap suc (sym was)) (λ _. sym was)
@@ -361,13 +387,13 @@ module _ {t : TableView} {set worked : SetView} {turning turning_after : RotateN
 
     pub ready_some : (below : List Notes) → q.view.notes ≡ no_notes ∷ below → Ready t hash turning turning_after shrinking shrinking_after shrunk set out q s (Some body.element)
     ready_some below fresh =
-        let d = w.does in
+        let d = did in
         let k = w.works in
         let e : ℕ = body.element in
         let n_is : d.notes ≡ no_notes = same_head (sym d.was_noted ∙ fresh) in
         let n : Notes = notes_after w.calls w.probes d.notes in
         let bits : List Visit = k.active ++ (k.inactive ++ looks_told (note_of shrunk k.looks k.forced)) in
-        let now : Lists = lists_after w.probes d.hold.now in
+        let now : Lists = lists_after w.probes hold_there.now in
         let then : Lists = with_row (CpuLru r.cpu) e (without_free e now) in
         let m : PassView = g.middle in
         let v : View = claimed_view g.claimed.0 (CpuLru r.cpu) e r.cpu r.view in
@@ -375,8 +401,8 @@ module _ {t : TableView} {set worked : SetView} {turning turning_after : RotateN
         let c : View = cleared_view g.cleared.at e g.bit m.view in
         let s_is : s ≡ with_view m c = g.cleared.after_is in
         let lock : ℕ = lock_number r.view.shape (CpuLru r.cpu) in
-        let here : lock ≡ (hold_with d.hold now).lock = (λ i. lock_number ((d.goes.shape ∙ can.holds.of_table.1) i) (CpuLru (d.goes.cpu i))) ∙ (sym can.holds.lock_is ∙ ap (λ (z : Hold). z.lock) (sym stands)) in
-        let known : now_under (CpuLru r.cpu) r.view ≡ now = now_at_is lock r.view.held (hold_with d.hold now) ((λ i. hold_at (here i) (d.held i)) ∙ hold_at_first (hold_with d.hold now) []) in
+        let here : lock ≡ (hold_with hold_there now).lock = (λ i. lock_number ((d.goes.shape ∙ can.holds.lists.of_table.1) i) (CpuLru (d.goes.cpu i))) ∙ sym can.holds.lists.lock_is in
+        let known : now_under (CpuLru r.cpu) r.view ≡ now = now_at_is lock r.view.held (hold_with hold_there now) ((λ i. hold_at (here i) (d.held i)) ∙ hold_at_first (hold_with hold_there now) []) in
         let noted_then : Notes = record n { came = e ∷ n.came; asked = record { element = e; bit = g.bit; cleared = true } ∷ n.asked } in
         let goes_claim : Goes r m [] [] = subst (λ (z : PassView). Goes r z [] []) (sym m_is) (record {
           table = refl;
@@ -393,8 +419,8 @@ module _ {t : TableView} {set worked : SetView} {turning turning_after : RotateN
         let goes_clear : Goes m s [] [] = goes_noted c.notes c.bits c.touched c.readings m s s_is in
         let goes_out : Goes q s d.turns [] = subst (λ (l : List Turned). Goes q s l []) (ap (λ (l : List Turned). l ++ []) (append_nil d.turns) ∙ append_nil d.turns) (goes_on q m s (d.turns ++ []) [] [] [] (goes_on q r m d.turns [] [] [] d.goes goes_claim) goes_clear) in
         let hand_is : s.view.hand ≡ with_in_hand e q.cpu q.view.hand = ap (λ (z : PassView). z.view.hand) s_is ∙ (ap (λ (z : PassView). z.view.hand) m_is ∙ (λ i. with_in_hand e (d.goes.cpu i) (d.hand i))) in
-        let mine : d.hold.cpu ≡ q.cpu = ap (λ (z : Hold). z.cpu) stands ∙ can.holds.cpu_is in
-        let in_hand : is_in_hand_of e d.hold.cpu s.view.hand ≡ true = (λ i. is_in_hand_of e (mine i) (hand_is i)) ∙ in_hand_more e q.cpu q.view.hand in
+        let mine : hold_there.cpu ≡ q.cpu = can.holds.lists.cpu_is in
+        let in_hand : is_in_hand_of e hold_there.cpu s.view.hand ≡ true = (λ i. is_in_hand_of e (mine i) (hand_is i)) ∙ in_hand_more e q.cpu q.view.hand in
         let left : shrunk_into_free (note_of shrunk k.looks k.forced) (rotated_set own_scans k.active k.inactive (set_told set)) ≡ set_told worked = sym k.after_is in
         let clears_then : clears_among (reverse noted_then.asked) ≡ bits ++ (record { element = e; bit = g.bit }) ∷ [] =
         ap clears_among (reverse-append (record { element = e; bit = g.bit; cleared = true } ∷ []) n.asked)
@@ -413,16 +439,16 @@ module _ {t : TableView} {set worked : SetView} {turning turning_after : RotateN
           noted_forced = k.noted_forced;
           turns = d.turns;
           goes = goes_out;
-          hold = d.hold;
+          hold = hold_there;
           was = d.was;
           now = then;
           held = ap (λ (z : PassView). z.view.held) s_is ∙ (ap (λ (z : PassView). z.view.held) m_is
-              ∙ ((λ i. with_now lock (with_row (CpuLru r.cpu) e (without_free e (known i))) (d.held i)) ∙ now_first lock then (hold_with d.hold now) here));
+              ∙ ((λ i. with_now lock (with_row (CpuLru r.cpu) e (without_free e (known i))) (d.held i)) ∙ now_first lock then (hold_with hold_there now) here));
           notes = noted_then;
           below = d.below;
           was_noted = d.was_noted ∙ ap (λ (x : Notes). x ∷ d.below) n_is;
           noted = ap (λ (z : PassView). z.view.notes) s_is ∙ (ap (λ (z : PassView). with_clear e g.bit z.view.notes) m_is
-              ∙ ((λ i. with_clear e g.bit (with_came lock e (d.held i) (d.noted i))) ∙ ap (with_clear e g.bit) (came_first lock e (hold_with d.hold now) n d.below here)));
+              ∙ ((λ i. with_clear e g.bit (with_came lock e (d.held i) (d.noted i))) ∙ ap (with_clear e g.bit) (came_first lock e (hold_with hold_there now) n d.below here)));
           carried = ap (λ (z : PassView). z.view.carried) s_is ∙ (ap (λ (z : PassView). z.view.carried) m_is ∙ d.carried);
           spares = ap (λ (z : PassView). z.spares) s_is ∙ (ap (λ (z : PassView). z.spares) m_is ∙ d.spares);
           hand = hand_is;
@@ -434,14 +460,14 @@ module _ {t : TableView} {set worked : SetView} {turning turning_after : RotateN
               ∙ (popped_numbers worked.free.bodies worked.free.spare ∙ sym (without_head e now.free (drop 1 (numbers worked.free.bodies)) free_now));
           same_rows = out_rows;
           rows_kept = λ x h n' not_mine before after.
-              let apart : x ≢ e = λ same. true_false (sym ((λ i. is_in_hand_of (same i) d.hold.cpu s.view.hand && is_among (same i) (e ∷ n.came)) ∙ (λ i. in_hand i && came_among e (e ∷ n.came) (let more = times_cons_same e n.came in omega (arith, more)) i)) ∙ not_mine) in
+              let apart : x ≢ e = λ same. true_false (sym ((λ i. is_in_hand_of (same i) hold_there.cpu s.view.hand && is_among (same i) (e ∷ n.came)) ∙ (λ i. in_hand i && came_among e (e ∷ n.came) (let more = times_cons_same e n.came in omega (arith, more)) i)) ∙ not_mine) in
               let skipped_is = skip_row (λ (row : Row). row.element == x) (record { element = e; hash = hash }) worked.active worked.inactive (by_test e x (λ b. b ≡ false) (λ same. absurd (apart (sym same))) (λ _. refl)) in
               k.rows_kept x h n' before (ap (option_map (λ (row : Row). row.hash)) (sym skipped_is) ∙ (ap (λ (z : SetView). stored_hash x (rows_on z)) (sym g.after_is) ∙ after));
           marks = ap (λ (x : Notes). x.marks) n_is;
           off = ap (λ (x : Notes). x.off) n_is;
           cleared = (bits, g.bit, [], clears_then, append_nil bits);
           owners = subst (All (ProbeFits (owners_after w.probes d.notes.owners))) k.probes_are (probes_fit w.probes d.notes.owners);
-          came = All-cons (CameToHand s.view (hold_with d.hold then) noted_then) e [] ((let more = times_cons_same e n.came in omega (arith, more)), in_hand) (All-nil (CameToHand s.view (hold_with d.hold then) noted_then));
+          came = All-cons (CameToHand s.view (hold_with hold_there then) noted_then) e [] ((let more = times_cons_same e n.came in omega (arith, more)), in_hand) (All-nil (CameToHand s.view (hold_with hold_there then) noted_then));
           probes = w.probes;
           are_evicts = d.are_evicts;
           saw = saw_on_none t.shape q m s d.turns

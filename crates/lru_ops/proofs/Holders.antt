@@ -1,7 +1,7 @@
 -- What a pass saw of holders by its steps on words.
 use Rattle.std.proofs.Common.{◌≡◌, ℕ, inl, inr, ⊎_elim, List, [], ◌∷◌, ◌++◌, sym, ap, ◌∙◌, subst, append_assoc}
 use Rattle.std.specs.Prelude.{All}
-use Rattle.std.proofs.lemmas.List.Elements.{All-nil, All-cons, All-append}
+use Rattle.std.proofs.lemmas.List.Elements.{All-nil, All-cons, All-head, All-tail, All-append}
 use Rattle.map_types.specs.declared.attr.Shape.{Shape}
 use Rattle.place_words.specs.declared.bucket_part.BucketPart.TheVariants.{Evict}
 use Rattle.place_words.specs.declared.bucket_part.Seen.{Seen}
@@ -50,6 +50,25 @@ saw_nothing shape p = saw_none shape p p [] (sym (append_nil p.view.touched))
 
 pub saw_on_none : (shape : Shape) (p q r : PassView) (turns : List Turned) → SawHolders shape p q turns → SawHolders shape q r [] → SawHolders shape p r turns
 saw_on_none shape p q r turns a b = subst (SawHolders shape p r) (append_nil turns) (saw_on shape p q r turns [] a b)
+
+-- two stretches, each with its turns as they were made and as they are told
+pub all_split : {X : Type 0} (P : X → Type 0) (xs ys : List X) → All P (xs ++ ys) → All P xs × All P ys
+all_split P [] ys all = (All-nil P, all)
+all_split P (x ∷ xs) ys all =
+    let rest = all_split P xs ys (All-tail P x (xs ++ ys) all) in (All-cons P x xs (All-head P x (xs ++ ys) all) rest.0, rest.1)
+
+pub saw_on_both : (shape : Shape) (p q r : PassView) (first second told others : List Turned) → SawHolders shape p q (first ++ told) → SawHolders shape q r (second ++ others) → SawHolders shape p r ((first ++ second) ++ (told ++ others))
+saw_on_both shape p q r first second told others a b =
+    let x = saw_on shape p q r (first ++ told) (second ++ others) a b in
+    let P : Turned → Type 0 = SawHolder shape x.touched in
+    let both = all_split P (first ++ told) (second ++ others) x.saw in
+    let one = all_split P first told both.0 in
+    let other = all_split P second others both.1 in
+    record {
+      touched = x.touched;
+      touched_are = x.touched_are;
+      saw = All-append P (first ++ second) (told ++ others) (All-append P first second one.0 other.0) (All-append P told others one.1 other.1);
+    }
 
 -- Parts
 

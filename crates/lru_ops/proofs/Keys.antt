@@ -24,7 +24,7 @@ use Rattle.lru_ops.proofs.Ends.{changed_on, changed_given, in_no_hand, called_ch
 
 -- From where a call has entered the bucket of its key
 module _ {t : TableView} {bucket : ℕ} {p q : PassView} {chain : BodyList} (can : CanCall t p) (enters : Enters t bucket p q chain) where
-  changed_here : {s : PassView} {part : Part} {hand : List InHand} (given : GivenBack t bucket q s part hand) → Changed t p s (given.step ∷ []) (given.told ∷ []) given.lost
+  changed_here : {s : PassView} {part : BucketPart} {hand : List InHand} (given : GivenBack t bucket q s (parts.Bucket part) hand) → Changed t p s (given.step ∷ []) (given.told ∷ []) given.lost
   changed_here given = changed_given can.in_no_call.holds_nothing enters given
 
   -- the turn is one of the bucket of the key
@@ -37,7 +37,7 @@ module _ {t : TableView} {bucket : ℕ} {p q : PassView} {chain : BodyList} (can
 
   pub looked_up : {s : PassView} {side : Side} {key : List ℕ} {reply : Reply} → bucket ≡ bucket_of_key t.shape key → LooksUp t bucket q s side key reply → Called t p s (verbs.Lookup side key) reply
   looked_up {s} {side} {key} {reply} here looks =
-      called_changed (verbs.Lookup side key) reply can enters.evicts enters.own_lists (changed_here looks.gives) (hand_kept looks.gives)
+      called_changed (verbs.Lookup side key) reply can enters.evicts (changed_here looks.gives) (hand_kept looks.gives)
       (trace_here t.shape p.cpu (spare_element p) (verbs.Lookup side key) (map (turn_at t.shape) (looks.gives.told ∷ [])) reply enters.evicts
       record { got = looks.got; turns_are = ap (λ (x : Turn). x ∷ []) (turn_here key here looks.gives); reply_is = looks.reply_is })
 
@@ -55,24 +55,24 @@ module _ {t : TableView} {bucket : ℕ} {p q : PassView} {chain : BodyList} (can
 
   pub delete_missed : {s : PassView} {key : List ℕ} → bucket ≡ bucket_of_key t.shape key → Deletes t bucket q s key None → Called t p s (verbs.Delete key) (Refused Enoent)
   delete_missed {s} {key} here d =
-      called_changed (verbs.Delete key) (Refused Enoent) can enters.evicts enters.own_lists (changed_here d.gives) (hand_kept d.gives)
+      called_changed (verbs.Delete key) (Refused Enoent) can enters.evicts (changed_here d.gives) (hand_kept d.gives)
       (trace_here t.shape p.cpu (spare_element p) (verbs.Delete key) (map (turn_at t.shape) (d.gives.told ∷ [])) (Refused Enoent) enters.evicts
       record { gone = None; at_bucket = turn_at t.shape d.gives.told; freeing = []; turns_are = refl; bucket_is = turn_here key here d.gives; frees = refl; reply_is = refl })
 
   pub delete_done : {r s : PassView} {key : List ℕ} {body : Stored} → bucket ≡ bucket_of_key t.shape key → Deletes t bucket q r key (Some body) → Freed t body r s → Called t p s (verbs.Delete key) Done
   delete_done {r} {s} {key} {body} here d freed =
-      called_changed (verbs.Delete key) Done can enters.evicts enters.own_lists (changed_gone d.is_out d.gives freed) (hand_gone d.is_out d.gives freed)
+      called_changed (verbs.Delete key) Done can enters.evicts (changed_gone d.is_out d.gives freed) (hand_gone d.is_out d.gives freed)
       (trace_here t.shape p.cpu (spare_element p) (verbs.Delete key) (map (turn_at t.shape) (d.gives.told ∷ freed.steps)) Done enters.evicts
       record { gone = Some body.element; at_bucket = turn_at t.shape d.gives.told; freeing = map (turn_at t.shape) freed.steps; turns_are = refl; bucket_is = turn_here key here d.gives; frees = freed.trace; reply_is = refl })
 
   pub take_missed : {s : PassView} {key value : List ℕ} → bucket ≡ bucket_of_key t.shape key → TakesOut t bucket q s key value None → Called t p s (verbs.Take key) (Refused Enoent)
   take_missed {s} {key} here d =
-      called_changed (verbs.Take key) (Refused Enoent) can enters.evicts enters.own_lists (changed_here d.gives) (hand_kept d.gives)
+      called_changed (verbs.Take key) (Refused Enoent) can enters.evicts (changed_here d.gives) (hand_kept d.gives)
       (trace_here t.shape p.cpu (spare_element p) (verbs.Take key) (map (turn_at t.shape) (d.gives.told ∷ [])) (Refused Enoent) enters.evicts
       record { gone = None; at_bucket = turn_at t.shape d.gives.told; freeing = []; turns_are = refl; bucket_is = turn_here key here d.gives; frees = refl; reply_is = refl })
 
   pub take_done : {r s : PassView} {key value : List ℕ} {body : Stored} → bucket ≡ bucket_of_key t.shape key → TakesOut t bucket q r key value (Some body) → Freed t body r s → Called t p s (verbs.Take key) (Value value)
   take_done {r} {s} {key} {value} {body} here d freed =
-      called_changed (verbs.Take key) (Value value) can enters.evicts enters.own_lists (changed_gone d.is_out d.gives freed) (hand_gone d.is_out d.gives freed)
+      called_changed (verbs.Take key) (Value value) can enters.evicts (changed_gone d.is_out d.gives freed) (hand_gone d.is_out d.gives freed)
       (trace_here t.shape p.cpu (spare_element p) (verbs.Take key) (map (turn_at t.shape) (d.gives.told ∷ freed.steps)) (Value value) enters.evicts
       record { gone = Some (body.element, value); at_bucket = turn_at t.shape d.gives.told; freeing = map (turn_at t.shape) freed.steps; turns_are = refl; bucket_is = turn_here key here d.gives; frees = freed.trace; reply_is = refl })

@@ -125,7 +125,7 @@ module _ {t : TableView} {bucket : ℕ} {p q : PassView} {chain : BodyList} (can
     wrote_alone reply a =
         let turns : List TurnAt = map (turn_at t.shape) (a.gives.told ∷ []) in
         let trace : IsWriteTrace t.shape side 2 key value turns reply = record { put = a.put; may_put = a.may_put; turns_are = ap (λ (x : Turn). x ∷ []) (turn_here key here a.gives); reply_is = a.reply_is } in
-        called_changed (verbs.Update side 2 key value) reply can lru enters.own_lists (changed_given can.in_no_call.holds_nothing enters a.gives) (hand_kept a.gives)
+        called_changed (verbs.Update side 2 key value) reply can lru (changed_given can.in_no_call.holds_nothing enters a.gives) (hand_kept a.gives)
         (trace_here t.shape p.cpu (spare_element p) (verbs.Update side 2 key value) turns reply lru
         (inr (known, subst (λ b. MatchBool (b && (2 == 2)) (IsWriteTrace t.shape side 2 key value turns reply) (IsOfferTrace t.shape p.cpu side 2 key value turns reply)) (sym percpu) trace)))
       where
@@ -195,6 +195,7 @@ changed_nothing t r = record {
   spares = refl;
   carried = refl;
   learns = subst (Learns t.shape r.view r.view []) (by_bool (is_lru t.shape.kind) (λ (b : Bool). ◌≡◌ {A = List BitTouch} [] (cond b [] [])) (λ _. refl) (λ _. refl)) (learns_none t.shape r.view);
+  none_moved = λ _ _ _. All-nil (λ (turn : Turned). IsFalse (finds_moved_on turn.entry.part));
 }
 
 left_freed : {t : TableView} {r s : PassView} (left : Option Stored) → HasFreedLeft t left r s → LeftFreed t (option_map (λ (body : Stored). body.element) left) r s
@@ -298,7 +299,7 @@ module _ {t : TableView} {bucket : ℕ} {p q : PassView} {chain : BodyList} {key
 
 -- A whole update
 
-module _ {t : TableView} {p : PassView} (q : PassView) (side : Side) (flags : ℕ) (key value : List ℕ) (can : CanCall t p) (lru : IsTrue (is_lru t.shape.kind)) (apart : t.shape.common ≡ false) (known : flags ≤ 2) (takes : (is_percpu t.shape.kind && (flags == 2)) ≡ false) where
+module _ {t : TableView} {p : PassView} (q : PassView) (side : Side) (flags : ℕ) (key value : List ℕ) (can : CanCall t p) (lru : IsTrue (is_lru t.shape.kind)) (known : flags ≤ 2) (takes : (is_percpu t.shape.kind && (flags == 2)) ≡ false) where
   offer_trace : {turns : List TurnAt} {reply : Reply} → IsOfferTrace t.shape p.cpu side flags key value turns reply → IsEvictingUpdate t.shape p.cpu side flags key value turns reply
   offer_trace {turns} {reply} trace = inr (known, subst (λ b. MatchBool b (IsWriteTrace t.shape side flags key value turns reply) (IsOfferTrace t.shape p.cpu side flags key value turns reply)) (sym takes) trace)
 
@@ -306,7 +307,7 @@ module _ {t : TableView} {p : PassView} (q : PassView) (side : Side) (flags : �
   pub took_none : Acquired t (hash key t.shape.seed) p q None → FoundNoElement t side flags key value p q
   took_none a = record {
     called =
-        called_changed (verbs.Update side flags key value) (Refused errnos.Enomem) can lru apart a.changed (λ e c. ap (is_in_hand_of e c) a.hand)
+        called_changed (verbs.Update side flags key value) (Refused errnos.Enomem) can lru a.changed (λ e c. ap (is_in_hand_of e c) a.hand)
         (trace_here t.shape p.cpu (spare_element p) (verbs.Update side flags key value) (map (turn_at t.shape) a.told) (Refused errnos.Enomem) lru
         (offer_trace record { got = None; taking = map (turn_at t.shape) a.told; rest = []; turns_are = sym (append_nil (map (turn_at t.shape) a.told)); takes = a.trace; offers = (refl, refl) }));
     none = a.none;
@@ -336,7 +337,7 @@ module _ {t : TableView} {p : PassView} (q : PassView) (side : Side) (flags : �
 
     took_one : (s : PassView) (reply : Reply) → HasOffered t q s side flags key value body.element reply → Called t p s (verbs.Update side flags key value) reply
     took_one s reply o =
-        called_changed (verbs.Update side flags key value) reply can lru apart (changed_on a.changed o.changed) (hand_out s o.hand)
+        called_changed (verbs.Update side flags key value) reply can lru (changed_on a.changed o.changed) (hand_out s o.hand)
         (trace_here t.shape p.cpu (spare_element p) (verbs.Update side flags key value) (map (turn_at t.shape) (a.told ++ o.told)) reply lru
         (offer_trace record {
           got = Some body.element;
@@ -404,6 +405,6 @@ called_unknown {t} {p} side flags key value can unknown =
         learns = changed.learns;
       };
       trace = by_either (is_lru t.shape.kind) _ _ (inl (unknown, refl, refl)) (inl (unknown, refl, refl));
-      none_moved = λ _ _ _. All-nil (λ (turn : Turned). IsFalse (finds_moved_on turn.entry.part));
+      none_moved = changed.none_moved;
       spare = either_same (is_lru t.shape.kind) (spare_element p);
     }

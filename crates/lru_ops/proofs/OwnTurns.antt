@@ -9,6 +9,7 @@ use Rattle.std.proofs.lemmas.List.Elements.{All-nil, All-head, All-cons, All-app
 use Rattle.map_types.specs.declared.attr.Shape.{Shape}
 use Rattle.map_types.specs.declared.kind.DomainId.{DomainId}
 use Rattle.map_types.specs.declared.kind.DomainId.TheVariants.{Bucket, CpuLru, Local}
+use Rattle.map_types.specs.declared.row.Row.{Row}
 use Rattle.map_types.specs.Creation.{IsShape}
 use Rattle.map_types.specs.ElementLists.{times}
 use Rattle.map_types.specs.Kind.{is_lru}
@@ -60,9 +61,9 @@ use Rattle.lru_lists.specs.declared.notes.ShrinkNotes.{ShrinkNotes}
 use Rattle.lru_lists.specs.Sets.{SetView}
 use Rattle.lru_ops.specs.Askings.{AreEvicts}
 use Rattle.lru_ops.specs.Evictions.{IsEvict, SawHolders, hold_with}
-use Rattle.lru_ops.specs.Lists.{Acquired, Changed, FoundNone, IsHeldByOther, IsTakenFor}
+use Rattle.lru_ops.specs.Lists.{Acquired, Changed, FoundNone, FoundNoneOwn, FoundNoneShared, IsHeldByOther, IsTakenFor}
 use Rattle.lru_ops.specs.OwnTurns.{note_of, rows_on, try_of, own_part, IsOwnTurn, CanWork, Worked, GaveOut, GivesOut}
-use Rattle.lru_ops.proofs.Asked.{hold_at_only}
+use Rattle.lru_ops.proofs.OwnWalk.{hold_at_only}
 use Rattle.lru_ops.proofs.EvictTurns.{bucket_there, other_lock}
 use Rattle.lru_ops.proofs.GivingOut.{Ready, ready, hand_with_got, found_new, row_more}
 use Rattle.lru_ops.proofs.Holders.{saw_on, saw_none, saw_both, own_tells_none}
@@ -89,18 +90,24 @@ can_work t p q set is_shape evicts there can took =
     let view : q.view ≡ holding took.at took.hold p.view = ap (λ (z : PassView). z.view) took.after_is in
     record {
       holds = record {
-        of_table = goes_of_table t p q [] [] goes can.of_table;
-        begun = goes_begun p q [] [] goes can.begun;
-        is_shape = is_shape;
-        evicts = evicts;
-        there = subst (λ (c : ℕ). IsTrue (is_lock t.shape (CpuLru c))) (sym goes.cpu) there;
-        hold = took.hold;
-        held = ap (λ (v : View). v.held) view ∙ ap (λ (l : List Hold). took.hold ∷ l) can.in_no_call.holds_nothing;
-        lock_is = took.lock_is ∙ ap (λ (c : ℕ). lock_number t.shape (CpuLru c)) (sym goes.cpu);
-        cpu_is = took.cpu_is ∙ sym goes.cpu;
-        notes = no_notes;
-        below = p.view.notes;
-        notes_are = ap (λ (v : View). v.notes) view;
+        lists = record {
+          of_table = goes_of_table t p q [] [] goes can.of_table;
+          begun = goes_begun p q [] [] goes can.begun;
+          is_shape = is_shape;
+          evicts = evicts;
+          there = subst (λ (c : ℕ). IsTrue (is_lock t.shape (CpuLru c))) (sym goes.cpu) there;
+          lists = let low : 2 < 3 = omega arith in low;
+          hold = took.hold;
+          outer = [];
+          held = ap (λ (v : View). v.held) view ∙ ap (λ (l : List Hold). took.hold ∷ l) can.in_no_call.holds_nothing;
+          above = tt;
+          lock_is = took.lock_is ∙ ap (λ (c : ℕ). lock_number t.shape (CpuLru c)) (sym goes.cpu);
+          cpu_is = took.cpu_is ∙ sym goes.cpu;
+          notes = no_notes;
+          below = p.view.notes;
+          notes_are = ap (λ (v : View). v.notes) view;
+        };
+        alone = refl;
         hands_empty = λ e cpu among. ap (λ (v : View). is_in_hand_of e cpu v.hand) view ∙ none_in_hand t p can evicts e cpu (ap (λ (v : View). is_among cpu v.cpus) (sym view) ∙ among);
       };
       fits = took.fits;
@@ -110,61 +117,60 @@ can_work t p q set is_shape evicts there can took =
 
 -- The turns of probes
 
-evict_lock : (shape : Shape) (cpu call hash e : ℕ) (seen : Seen) (turn : Turned) → IsPowerOfTwo shape.buckets → IsEvict shape cpu call (bucket_number hash shape.buckets) e seen turn → IsTrue (is_lock shape (Bucket (bucket_number hash shape.buckets)))
+pub evict_lock : (shape : Shape) (cpu call hash e : ℕ) (seen : Seen) (turn : Turned) → IsPowerOfTwo shape.buckets → IsEvict shape cpu call (bucket_number hash shape.buckets) e seen turn → IsTrue (is_lock shape (Bucket (bucket_number hash shape.buckets)))
 evict_lock shape cpu call hash e seen turn power is = bucket_there shape (bucket_number hash shape.buckets) (bucket_number-lt hash shape.buckets power)
 
-evicts_elsewhere : (shape : Shape) (cpu call own_cpu : ℕ) (there : Content) (probes : List ProbeCall) (turns : List Turned) → IsPowerOfTwo shape.buckets → IsTrue (is_lock shape (CpuLru own_cpu)) → AreEvicts shape cpu call there probes turns → AreElsewhere (lock_number shape (CpuLru own_cpu)) turns
-evicts_elsewhere shape cpu call own_cpu there [] [] power own_there are = tt
-evicts_elsewhere shape cpu call own_cpu there [] (turn ∷ turns) power own_there are = absurd are
-evicts_elsewhere shape cpu call own_cpu there (probe ∷ probes) [] power own_there are = absurd are
-evicts_elsewhere shape cpu call own_cpu there (probe ∷ probes) (turn ∷ turns) power own_there are = (
+evicts_elsewhere : (shape : Shape) (cpu call own_cpu : ℕ) (rows : List Row) (probes : List ProbeCall) (turns : List Turned) → IsPowerOfTwo shape.buckets → IsTrue (is_lock shape (CpuLru own_cpu)) → AreEvicts shape cpu call rows probes turns → AreElsewhere (lock_number shape (CpuLru own_cpu)) turns
+evicts_elsewhere shape cpu call own_cpu rows [] [] power own_there are = tt
+evicts_elsewhere shape cpu call own_cpu rows [] (turn ∷ turns) power own_there are = absurd are
+evicts_elsewhere shape cpu call own_cpu rows (probe ∷ probes) [] power own_there are = absurd are
+evicts_elsewhere shape cpu call own_cpu rows (probe ∷ probes) (turn ∷ turns) power own_there are = (
   (λ same. other_lock shape (bucket_number probe.hash shape.buckets) own_cpu (evict_lock shape cpu call probe.hash probe.element probe.probed turn power are.0) own_there (sym are.0.lock ∙ same)),
-  evicts_elsewhere shape cpu call own_cpu there probes turns power own_there are.2,
+  evicts_elsewhere shape cpu call own_cpu rows probes turns power own_there are.2,
 )
 
-evicts_by : (shape : Shape) (cpu call : ℕ) (there : Content) (probes : List ProbeCall) (turns : List Turned) → AreEvicts shape cpu call there probes turns → All (IsBy cpu call) turns
-evicts_by shape cpu call there [] [] are = All-nil (IsBy cpu call)
-evicts_by shape cpu call there [] (turn ∷ turns) are = absurd are
-evicts_by shape cpu call there (probe ∷ probes) [] are = absurd are
-evicts_by shape cpu call there (probe ∷ probes) (turn ∷ turns) are =
-    All-cons (IsBy cpu call) turn turns (ap (λ (x : Entry). x.cpu) are.0.entry, ap (λ (x : Entry). x.call) are.0.entry) (evicts_by shape cpu call there probes turns are.2)
+pub evicts_by : (shape : Shape) (cpu call : ℕ) (rows : List Row) (probes : List ProbeCall) (turns : List Turned) → AreEvicts shape cpu call rows probes turns → All (IsBy cpu call) turns
+evicts_by shape cpu call rows [] [] are = All-nil (IsBy cpu call)
+evicts_by shape cpu call rows [] (turn ∷ turns) are = absurd are
+evicts_by shape cpu call rows (probe ∷ probes) [] are = absurd are
+evicts_by shape cpu call rows (probe ∷ probes) (turn ∷ turns) are =
+    All-cons (IsBy cpu call) turn turns (ap (λ (x : Entry). x.cpu) are.0.entry, ap (λ (x : Entry). x.call) are.0.entry) (evicts_by shape cpu call rows probes turns are.2)
 
-evict_bits : (shape : Shape) (e : ℕ) (seen : Seen) → bits_of_part shape (parts.Bucket (Evict e seen)) ≡ []
+pub evict_bits : (shape : Shape) (e : ℕ) (seen : Seen) → bits_of_part shape (parts.Bucket (Evict e seen)) ≡ []
 evict_bits shape e seen = go (is_lru shape.kind)
   where
     go : (b : Bool) → (map sets_bit (cond b [] []) ++ []) ++ [] ≡ []
     go true = refl
     go false = refl
 
-evicts_bits : (shape : Shape) (cpu call : ℕ) (there : Content) (probes : List ProbeCall) (turns : List Turned) → AreEvicts shape cpu call there probes turns → flat_map (λ (step : Turned). bits_of_part shape step.entry.part) turns ≡ []
-evicts_bits shape cpu call there [] [] are = refl
-evicts_bits shape cpu call there [] (turn ∷ turns) are = absurd are
-evicts_bits shape cpu call there (probe ∷ probes) [] are = absurd are
-evicts_bits shape cpu call there (probe ∷ probes) (turn ∷ turns) are =
-    (λ i. (ap (λ (x : Entry). bits_of_part shape x.part) are.0.entry ∙ evict_bits shape probe.element probe.probed) i ++ evicts_bits shape cpu call there probes turns are.2 i)
+pub evicts_bits : (shape : Shape) (cpu call : ℕ) (rows : List Row) (probes : List ProbeCall) (turns : List Turned) → AreEvicts shape cpu call rows probes turns → flat_map (λ (step : Turned). bits_of_part shape step.entry.part) turns ≡ []
+evicts_bits shape cpu call rows [] [] are = refl
+evicts_bits shape cpu call rows [] (turn ∷ turns) are = absurd are
+evicts_bits shape cpu call rows (probe ∷ probes) [] are = absurd are
+evicts_bits shape cpu call rows (probe ∷ probes) (turn ∷ turns) are =
+    (λ i. (ap (λ (x : Entry). bits_of_part shape x.part) are.0.entry ∙ evict_bits shape probe.element probe.probed) i ++ evicts_bits shape cpu call rows probes turns are.2 i)
 
-chased_by : (shape : Shape) (there : Content) (e h : ℕ) (seen : Seen) (turn : Turn) → stored_in there e ≡ Some h → turn ≡ evicts shape (record { element = e; probed = seen }) h → option_map (evicts shape (record { element = e; probed = seen })) (stored_hash e (listed_rows there)) ≡ Some turn
-unfolding stored_in
-chased_by shape there e h seen turn stored is = ap (option_map (evicts shape (record { element = e; probed = seen }))) stored ∙ ap Some (sym is)
+chased_by : (shape : Shape) (rows : List Row) (e h : ℕ) (seen : Seen) (turn : Turn) → stored_hash e rows ≡ Some h → turn ≡ evicts shape (record { element = e; probed = seen }) h → option_map (evicts shape (record { element = e; probed = seen })) (stored_hash e rows) ≡ Some turn
+chased_by shape rows e h seen turn stored is = ap (option_map (evicts shape (record { element = e; probed = seen }))) stored ∙ ap Some (sym is)
 
-chase_of : (shape : Shape) (cpu call : ℕ) (there : Content) (probes : List ProbeCall) (turns : List Turned) → IsPowerOfTwo shape.buckets → AreEvicts shape cpu call there probes turns → Chase shape (listed_rows there) (map try_of probes) (turns_of (map (turn_at shape) turns))
-chase_of shape cpu call there [] [] power are = tt
-chase_of shape cpu call there [] (turn ∷ turns) power are = absurd are
-chase_of shape cpu call there (probe ∷ probes) [] power are = absurd are
-chase_of shape cpu call there (probe ∷ probes) (turn ∷ turns) power are =
+pub chase_of : (shape : Shape) (cpu call : ℕ) (rows : List Row) (probes : List ProbeCall) (turns : List Turned) → IsPowerOfTwo shape.buckets → AreEvicts shape cpu call rows probes turns → Chase shape rows (map try_of probes) (turns_of (map (turn_at shape) turns))
+chase_of shape cpu call rows [] [] power are = tt
+chase_of shape cpu call rows [] (turn ∷ turns) power are = absurd are
+chase_of shape cpu call rows (probe ∷ probes) [] power are = absurd are
+chase_of shape cpu call rows (probe ∷ probes) (turn ∷ turns) power are =
     let b : ℕ = bucket_number probe.hash shape.buckets in
     let lock : lock_named shape turn.lock ≡ Bucket b = ap (lock_named shape) are.0.lock ∙ named_by_number shape (Bucket b) (evict_lock shape cpu call probe.hash probe.element probe.probed turn power are.0) in (
-      chased_by shape there probe.element probe.hash probe.probed (turn_of shape turn) are.1 (λ i. record { lock = lock i; part = (are.0.entry i).part }),
-      chase_of shape cpu call there probes turns power are.2,
+      chased_by shape rows probe.element probe.hash probe.probed (turn_of shape turn) are.1 (λ i. record { lock = lock i; part = (are.0.entry i).part }),
+      chase_of shape cpu call rows probes turns power are.2,
     )
 
 -- Telling
 
-told_last : (shape : Shape) (lost : List ℕ) (steps : List Turned) (step told : Turned) → IsTold shape lost step told → AreTold shape lost (steps ++ step ∷ []) (steps ++ told ∷ [])
+pub told_last : (shape : Shape) (lost : List ℕ) (steps : List Turned) (step told : Turned) → IsTold shape lost step told → AreTold shape lost (steps ++ step ∷ []) (steps ++ told ∷ [])
 told_last shape lost [] step told is = (is, tt)
 told_last shape lost (first ∷ steps) step told is = (inl refl, told_last shape lost steps step told is)
 
-cleared_times : (x : ℕ) (also : List ℕ) (told done : List Visit) → AreCleared also told done → times x (visited_elements told ++ also) ≡ times x (visited_elements done)
+pub cleared_times : (x : ℕ) (also : List ℕ) (told done : List Visit) → AreCleared also told done → times x (visited_elements told ++ also) ≡ times x (visited_elements done)
 cleared_times x [] told done are = ap (times x) (append_nil (visited_elements told)) ∙ ap (λ (l : List Visit). times x (visited_elements l)) (sym are)
 cleared_times x (e ∷ also) told done are =
     let before : List Visit = are.0 in
@@ -190,7 +196,7 @@ own_passed shape cpu part there lists below is allowed = go part (subst (Allows 
 
 -- Hashes
 
-first_hash : (cpu mine buckets e h : ℕ) (there : Content) (came : List ℕ) (hand : List InHand) (hashes : List HashIn) → mine ≡ cpu → is_among e came ≡ true → stored_in there e ≡ Some h → bucket_known e cpu (hashes_given mine buckets there came (with_in_hand e cpu hand) hashes) ≡ Some (bucket_number h buckets)
+pub first_hash : (cpu mine buckets e h : ℕ) (there : Content) (came : List ℕ) (hand : List InHand) (hashes : List HashIn) → mine ≡ cpu → is_among e came ≡ true → stored_in there e ≡ Some h → bucket_known e cpu (hashes_given mine buckets there came (with_in_hand e cpu hand) hashes) ≡ Some (bucket_number h buckets)
 first_hash cpu mine buckets e h there came hand hashes is inside stored =
     by_test cpu mine (λ b. bucket_known e cpu (cond (b && is_among e came) (hash_given buckets (record { element = e; cpu = cpu }) (stored_in there e) (hashes_given mine buckets there came hand hashes)) (hashes_given mine buckets there came hand hashes)) ≡ Some (bucket_number h buckets))
     (λ _. (λ i. bucket_known e cpu (cond (inside i) (hash_given buckets (record { element = e; cpu = cpu }) (stored i) (hashes_given mine buckets there came hand hashes)) (hashes_given mine buckets there came hand hashes)))
@@ -228,7 +234,7 @@ pub record GaveAs (t : TableView) (s u : PassView) (hold : Hold) (part : Part) (
   pub touched : List WordStep
   pub touched_are : u.view.touched ≡ s.view.touched ++ touched
 
-gave_as : (t : TableView) (s u : PassView) (part : Part) (gave : Gave s u part) → GaveAs t s u gave.hold part []
+pub gave_as : (t : TableView) (s u : PassView) (part : Part) (gave : Gave s u part) → GaveAs t s u gave.hold part []
 gave_as t s u part gave = record {
   goes = goes_gave s u part gave;
   held = ap (λ (z : PassView). z.view.held) gave.after_is;
@@ -243,7 +249,7 @@ gave_as t s u part gave = record {
   touched_are = ap (λ (z : PassView). z.view.touched) gave.after_is;
 }
 
-gave_some_as : (t : TableView) (lock : DomainId) (s u : PassView) (here : _) (gave : GaveSome t lock s u here) → GaveAs t s u gave.can.hold gave.part (gave.can.hold.lock ∷ [])
+pub gave_some_as : (t : TableView) (lock : DomainId) (s u : PassView) (here : _) (gave : GaveSome t lock s u here) → GaveAs t s u gave.can.hold gave.part (gave.can.hold.lock ∷ [])
 gave_some_as t lock s u here gave = record {
   goes = goes_gave_some t lock s u here gave;
   held = ap (λ (z : PassView). z.view.held) gave.after_is;
@@ -382,14 +388,14 @@ module _ {t : TableView} {p q s : PassView} {set out : SetView} {hash : ℕ} {tu
     bits_told =
         sym (ap (λ (b : Bool). cond b (flat_map (λ (x : Turned). bits_of_part t.shape x.entry.part) (y.turns ++ told ∷ [])) []) evicts
         ∙ (flat_map-append (λ (x : Turned). bits_of_part t.shape x.entry.part) y.turns (told ∷ [])
-        ∙ ((λ i. evicts_bits t.shape q.cpu q.call (content t.shape (CpuLru q.cpu) y.hold.log) y.probes y.turns y.are_evicts i ++ flat_map (λ (x : Turned). bits_of_part t.shape x.entry.part) (told ∷ []))
+        ∙ ((λ i. evicts_bits t.shape q.cpu q.call (rows_on set) y.probes y.turns y.are_evicts i ++ flat_map (λ (x : Turned). bits_of_part t.shape x.entry.part) (told ∷ []))
         ∙ append_nil (map clears_found (y.active ++ (y.inactive ++ looks_told (note_of shrunk y.looks y.forced))) ++ map clears_bit (got_cleared got)))))
 
     power : IsPowerOfTwo t.shape.buckets
     power = (bounds_of_shape t.shape is_shape).buckets_power
 
     elsewhere : AreElsewhere (lock_number t.shape lock) y.turns
-    elsewhere = evicts_elsewhere t.shape q.cpu q.call p.cpu (content t.shape (CpuLru q.cpu) y.hold.log) y.probes y.turns power there y.are_evicts
+    elsewhere = evicts_elsewhere t.shape q.cpu q.call p.cpu (rows_on set) y.probes y.turns power there y.are_evicts
 
     log_is : can.hold.log ≡ took.hold.log
     log_is = ap (λ (z : Hold). z.log) hold_there ∙ ap (λ (z : Hold). z.log) hold_is
@@ -421,17 +427,17 @@ module _ {t : TableView} {p q s : PassView} {set out : SetView} {hash : ℕ} {tu
         notes = g.notes ∙ (ap (λ (l : List Notes). passed_on actual (notes_below l)) y.noted ∙ (own_passed t.shape s.cpu actual content_there (set_told set) y.below set_there can.may_put.allowed ∙ below_is));
       };
       by_call = All-append (IsBy p.cpu p.call) y.turns (step ∷ [])
-          (subst (λ (z : ℕ × ℕ). All (IsBy z.0 z.1) y.turns) (λ i. (to_q.cpu i, to_q.call i)) (evicts_by t.shape q.cpu q.call (content t.shape (CpuLru q.cpu) y.hold.log) y.probes y.turns y.are_evicts))
+          (subst (λ (z : ℕ × ℕ). All (IsBy z.0 z.1) y.turns) (λ i. (to_q.cpu i, to_q.call i)) (evicts_by t.shape q.cpu q.call (rows_on set) y.probes y.turns y.are_evicts))
           (All-cons (IsBy p.cpu p.call) step [] (to_s.cpu, to_s.call) (All-nil (IsBy p.cpu p.call)));
       spares = g.spares ∙ (y.spares ∙ ap (λ (z : PassView). z.spares) took.after_is);
       carried = g.carried ∙ (y.carried ∙ ap (λ (z : PassView). z.view.carried) took.after_is);
       learns = learns_it;
+      none_moved = λ common. true_false (sym common ∙ apart);
     }
 
     trace : Acquires t.shape p.cpu hash got (map (turn_at t.shape) (y.turns ++ told ∷ []))
     trace =
         let lock_there : lock_named t.shape can.hold.lock ≡ lock = ap (λ (z : Hold). lock_named t.shape z.lock) hold_there ∙ named in
-        let same : content t.shape (CpuLru q.cpu) y.hold.log ≡ content_there = ap (λ (c : ℕ). content t.shape (CpuLru c) y.hold.log) to_q.cpu ∙ (sym found_set ∙ set_there) in
         subst (λ (b : Bool). MatchBool b (TakesFree p.cpu hash got (map (turn_at t.shape) (y.turns ++ told ∷ [])) ⊎ TakesByRefill t.shape p.cpu hash got (map (turn_at t.shape) (y.turns ++ told ∷ []))) (TakesOwn t.shape p.cpu hash got (map (turn_at t.shape) (y.turns ++ told ∷ [])))) (sym apart) (record {
           active = y.active;
           inactive = y.inactive;
@@ -441,8 +447,8 @@ module _ {t : TableView} {p q s : PassView} {set out : SetView} {hash : ℕ} {tu
             last = turn_at t.shape told;
             turns_are = map-append (turn_at t.shape) y.turns (told ∷ []);
             last_is = λ i. record { lock = lock_there i; part = part };
-            chase = subst (λ (z : Content × List Try). Chase t.shape (listed_rows z.0) z.1 (turns_of (map (turn_at t.shape) y.turns))) (λ i. (same i, y.tried i))
-                (chase_of t.shape q.cpu q.call (content t.shape (CpuLru q.cpu) y.hold.log) y.probes y.turns power y.are_evicts);
+            chase = subst (λ (z : List Row × List Try). Chase t.shape z.0 z.1 (turns_of (map (turn_at t.shape) y.turns))) (λ i. (listed_rows (set_there i), y.tried i))
+                (chase_of t.shape q.cpu q.call (rows_on set) y.probes y.turns power y.are_evicts);
           };
         })
 
@@ -458,9 +464,9 @@ module _ {t : TableView} {p q s : PassView} {set out : SetView} {hash : ℕ} {tu
     found_none none =
         let shrank = shrank_none shrunk (rotated_set own_scans y.active y.inactive (set_told set)) y.looks y.forced y.allowed.1 (sym y.allowed.2 ∙ none) in
         let lock_there : lock_named t.shape can.hold.lock ≡ lock = ap (λ (z : Hold). lock_named t.shape z.lock) hold_there ∙ named in
-        let held = held_elsewhere t.shape q.cpu q.call (content t.shape (CpuLru q.cpu) y.hold.log) y.probes y.turns y.looks y.forced y.are_evicts y.learns.allowed
+        let held = held_elsewhere t.shape q.cpu q.call (rows_on set) y.probes y.turns y.looks y.forced y.are_evicts y.learns.allowed
         (y.tried ∙ ap (λ (b : Bool). shrink_probes (note_of b y.looks y.forced)) shrank.was_shrunk) shrank.none_removed in
-        record {
+        subst (λ (b : Bool). MatchBool b (FoundNoneShared t.shape p.cpu hash (y.turns ++ told ∷ [])) (FoundNoneOwn t.shape p.cpu hash (y.turns ++ told ∷ []))) (sym apart) (record {
           probing = y.turns;
           last = told;
           turns_are = refl;
@@ -474,7 +480,7 @@ module _ {t : TableView} {p q s : PassView} {set out : SetView} {hash : ℕ} {tu
           last_is = λ i. record { lock = lock_there i; part = own_part hash y.active y.inactive (note_of (shrank.was_shrunk i) y.looks y.forced) (none i) };
           tried_all = shrank.tried_all;
           held = subst (λ (c : ℕ). All (IsHeldByOther c) (walk_probes y.looks y.forced)) to_q.cpu held;
-        }
+        })
 
     hand_left : u.view.hand ≡ hand_with_got got p.cpu p.view.hand
     hand_left = g.hand ∙ (y.hand ∙ ((λ i. hand_with_got got (to_q.cpu i) (took_hand i))))
@@ -506,7 +512,7 @@ module _ {t : TableView} {p q s u : PassView} {set out : SetView} {hash : ℕ} {
     trace = trace is_shape evicts apart there begins took y actual can g told_as;
     hand = hand_for found (hand_left is_shape evicts apart there begins took y actual can g told_as);
     taken = taken_for found gives y.came (hashes_left is_shape evicts apart there begins took y actual can g told_as);
-    none = none_for found (found_none is_shape evicts apart there begins took y actual can g told_as);
+    none = none_for (y.turns ++ given_turn s can.hold (part is_shape evicts apart there begins took y) ∷ []) found (found_none is_shape evicts apart there begins took y actual can g told_as);
     saw = saw is_shape evicts apart there begins took y actual can g told_as;
   }
     where
@@ -514,9 +520,9 @@ module _ {t : TableView} {p q s u : PassView} {set out : SetView} {hash : ℕ} {
       hand_for None is = is
       hand_for (Some body) is = is
 
-      none_for : {turns : List Turned} (found : Option Stored) → (option_map (λ (body : Stored). body.element) found ≡ None → FoundNone t.shape p.cpu hash turns) → MatchOption found (FoundNone t.shape p.cpu hash turns) (λ body. Unit {0})
-      none_for None shows = shows refl
-      none_for (Some body) shows = tt
+      none_for : (turns : List Turned) (found : Option Stored) → (option_map (λ (body : Stored). body.element) found ≡ None → FoundNone t.shape p.cpu hash turns) → MatchOption found (FoundNone t.shape p.cpu hash turns) (λ body. Unit {0})
+      none_for turns None shows = shows refl
+      none_for turns (Some body) shows = tt
 
       taken_for : (found : Option Stored) → GivesOut t hash worked out r s found → All (CameToHand s.view (hold_with y.hold y.now) y.notes) (option_to_list (option_map (λ (body : Stored). body.element) found)) → u.view.hashes ≡ hashes_given can.hold.cpu t.shape.buckets (in_own (set_told out)) (came_last s.view.notes) (hand_with_got (option_map (λ (body : Stored). body.element) found) q.cpu q.view.hand) s.view.hashes → MatchOption found (Unit {0}) (IsTakenFor t hash u)
       taken_for None gave came hashes = tt
@@ -530,7 +536,7 @@ module _ {t : TableView} {p q s u : PassView} {set out : SetView} {hash : ℕ} {
             (stored_here out body.element ∙ new_hash t hash worked out r s body gave);
       }
 
-lock_among : (k : ℕ) → is_among k (k ∷ []) ≡ true
+pub lock_among : (k : ℕ) → is_among k (k ∷ []) ≡ true
 lock_among k = by_test k k (λ b. cond b true false ≡ true) (λ _. refl) (λ other. absurd (other refl))
 
 -- The entry that the notes tell is that of the turn.

@@ -1,11 +1,11 @@
--- How an element is freed: a turn of the lock of the set in which it lives, from its take to its give.
+-- How an element is freed: a turn of a lock of lists, from its take to its give; and the turn of a CPU's own set, in which an element lives.
 use Rattle.std.proofs.Common.{◌+◌, ◌≡◌, ◌≢◌, ℕ, suc, ◌<◌, ◌≤◌, cond, eqb, Bool, true, false, List, [], ◌∷◌, ◌++◌, map, length, inl, inr, ⊎_elim, sym, refl, ap, ◌∙◌, subst, arith, Option, Some, None}
-use Rattle.std.specs.Prelude.{◌⊎◌, IsTrue, All, MatchBool, MatchOption, ◌%◌, ◌^◌, ◌||◌, ◌&&◌, not, option_map}
+use Rattle.std.specs.Prelude.{◌⊎◌, IsTrue, IsFalse, All, MatchBool, MatchOption, ◌%◌, ◌^◌, ◌||◌, ◌&&◌, not, option_map}
 use Rattle.std.proofs.lemmas.List.Elements.{All-nil, All-cons, filter-append}
 use Rattle.std.proofs.lemmas.Bool.{cases_lt, lt-ltb, ne_eqb}
 use Rattle.map_types.specs.declared.attr.Shape.{Shape}
 use Rattle.map_types.specs.declared.kind.DomainId.{DomainId}
-use Rattle.map_types.specs.declared.kind.DomainId.TheVariants.{CpuLru, Local}
+use Rattle.map_types.specs.declared.kind.DomainId.TheVariants.{CpuLru}
 use Rattle.map_types.specs.declared.row.Row.{Row}
 use Rattle.map_types.specs.Kind.{is_lru}
 use Rattle.map_types.specs.Listed.{elements_of}
@@ -16,40 +16,48 @@ use Rattle.row_list.specs.RowWords as row_words
 use Rattle.row_list.specs.RowWords.{row_of, AreRows}
 use Rattle.row_list.proofs.RowLemmas.{gone_without, kept_without, row_of_absent, room_for}
 use Rattle.lru_lists.specs.Sets.{SetView, IsSet, taken_off, with_free, pushed}
+use Rattle.place_words.specs.declared.history.Entry.{Entry}
 use Rattle.place_words.specs.declared.history.Part.{Part}
 use Rattle.place_words.specs.declared.history.Part.TheVariants as parts
 use Rattle.place_words.specs.declared.list_part.OwnPart.TheVariants as own
 use Rattle.place_words.specs.Bodies.{numbers}
 use Rattle.place_words.specs.Histories as histories
-use Rattle.place_words.specs.Histories.{in_own, content, content_after, Allows, IsLegal}
+use Rattle.place_words.specs.Histories.{content, content_after, Allows, IsLegal, marks, bits_cleared, bits_read, also_cleared}
 use Rattle.place_words.specs.Locks.{is_lock, lock_named, lock_number}
+use Rattle.place_words.specs.SerialOrder.{probes_in}
 use Rattle.place_words.specs.Sets.{ListSet, has_row, is_listed, own_after, pushed_free}
 use Rattle.place_words.specs.Takings.{set_of, Frees, FreesPending, FreesFlushed, freed_globally}
 use Rattle.place_words.specs.Turns.{TurnAt, Turn, on_lock, turns_of}
 use Rattle.place_words.proofs.LockLemmas.{named_by_number}
 use Rattle.place_core.specs.declared.step.Lists.{Lists}
-use Rattle.place_core.specs.State.{rows}
+use Rattle.place_core.specs.State.{rows, is_bucket}
 use Rattle.place_core.specs.Steps as steps
+use Rattle.place_core.specs.Wholeness.{all_of}
 use Rattle.place_core.proofs.ElementLemmas.{by_test, times_append, times_without_same, times_without_other}
 use Rattle.place_core.proofs.OpeningLemmas.{its_cpu_is, its_quotient}
+use Rattle.place_table.specs.declared.content.Content.{Content}
 use Rattle.place_table.specs.declared.content.Content.TheVariants as contents
 use Rattle.place_table.specs.declared.view.View.{View}
 use Rattle.place_table.specs.declared.view.Hold.{Hold}
 use Rattle.place_table.specs.declared.view.Notes.{Notes}
 use Rattle.place_table.specs.declared.view.Turned.{Turned}
-use Rattle.place_table.specs.Calls.{clears_bit}
-use Rattle.place_table.specs.Contents.{told, set_told, lists_of, Fits, FitsSet, IsSized}
-use Rattle.place_table.specs.Known.{Learns, SeesBit, turn_of, turn_at, IsBy}
-use Rattle.place_table.specs.Passes.{PassView, TableView, Takes, CanGive, Gave, Goes, Cleared, Settled, entry_of}
-use Rattle.place_table.specs.StoredHashes.{stored_in}
+use Rattle.place_table.specs.Calls.{clears_bit, bits_of_part, finds_moved_on}
+use Rattle.place_table.specs.Contents.{told, set_told, set_under, lists_of, lists_of_set, Fits, FitsSet, IsSized}
 use Rattle.place_table.specs.Flushes.{flushes}
-use Rattle.place_table.specs.TurnNotes.{WasRead, ProbeFits, CameToHand}
-use Rattle.place_table.specs.Views.{hold_at, now_under, without_in_hand, with_clear, bits_with, bit_seen, touching, notes_below, holds_below, with_now, learned}
+use Rattle.place_table.specs.Known.{BitTouch, Learns, KnowsAll, SeesBit, turn_of, turn_at, IsBy}
+use Rattle.place_table.specs.Passes.{PassView, TableView, Takes, CanGive, CanSettle, Gave, Goes, Cleared, Settled, entry_of}
+use Rattle.place_table.specs.StoredHashes.{stored_in}
+use Rattle.place_table.specs.TurnNotes.{NotesFit, WasRead, AreCleared, FlushedFit, clears_noted, given_out_by, ProbeFits, CameToHand}
+use Rattle.place_table.specs.Views.{hold_at, is_in_hand_of, now_under, without_in_hand, with_clear, bits_with, bit_seen, touching, no_notes, notes_below, holds_below, with_now, learned, passed_on}
 use Rattle.place_table.specs.Words.{owner_word, bit_word}
+use Rattle.place_table.proofs.Entries.{append_nil}
 use Rattle.place_table.proofs.Going.{goes_on, goes_took, goes_moved, goes_noted, goes_gave, goes_of_table, goes_begun, given_turn, same_head, learns_on, learns_after, learns_took, learns_moved, learns_cleared, learns_gave}
 use Rattle.place_table.proofs.Hands.{now_at_is}
+use Rattle.place_table.proofs.StoredHashes.{stored_listed}
 use Rattle.place_table.proofs.Worlds.{some_is, none_some, hold_at_first}
-use Rattle.lru_ops.specs.Lists.{CanFree, Freed}
+use Rattle.lru_ops.specs.Evictions.{hold_with}
+use Rattle.lru_ops.specs.Lists.{Changed, CanFree, Freed}
+use Rattle.lru_ops.specs.Shared.{FreedBy}
 
 -- The set in which an element lives
 
@@ -67,7 +75,7 @@ set_there shape c lru apart few = (λ i. (lru i && not (apart i)) && lt-ltb c sh
 
 -- Rows without one
 
-has_row_in : (e : ℕ) (rows : List Row) → IsIn e (elements_of rows) → has_row e rows ≡ true
+pub has_row_in : (e : ℕ) (rows : List Row) → IsIn e (elements_of rows) → has_row e rows ≡ true
 has_row_in e [] is = absurd (omega arith)
 has_row_in e (row ∷ rows) is =
     by_test row.element e (λ b. 0 < cond b (suc (times e (elements_of rows))) (times e (elements_of rows)) → (b || has_row e rows) ≡ true) (λ _ _. refl) (λ _ later. has_row_in e rows later) is
@@ -78,14 +86,14 @@ either_true false b (inl is) = absurd cc
 either_true false b (inr is) = is
 
 -- each stands there as often as without it in the list of elements
-left_times : (x e : ℕ) (rows : List Row) → times e (elements_of rows) ≤ 1 → times x (elements_of (row_words.without_row e rows)) ≡ times x (without e (elements_of rows))
+pub left_times : (x e : ℕ) (rows : List Row) → times e (elements_of rows) ≤ 1 → times x (elements_of (row_words.without_row e rows)) ≡ times x (without e (elements_of rows))
 left_times x e rows once =
     by_test x e (λ _. times x (elements_of (row_words.without_row e rows)) ≡ times x (without e (elements_of rows)))
     (λ same. subst (λ (k : ℕ). times k (elements_of (row_words.without_row e rows)) ≡ times k (without e (elements_of rows))) (sym same) (let gone = gone_without e rows in let left = times_without_same e (elements_of rows) in omega arith))
     (λ other. kept_without x e rows other ∙ sym (times_without_other x e (elements_of rows) other))
 
 -- a row that is left is the one that the element had
-left_row : (e x : ℕ) (listed : List Row) → x ≢ e → row_of x (row_words.without_row e listed) ≡ row_of x listed
+pub left_row : (e x : ℕ) (listed : List Row) → x ≢ e → row_of x (row_words.without_row e listed) ≡ row_of x listed
 left_row e x [] other = refl
 left_row e x (row ∷ listed) other =
     by_test row.element e (λ b. row_of x (cond (not b) (row ∷ row_words.without_row e listed) (row_words.without_row e listed)) ≡ cond (eqb row.element x) (Some row) (row_of x listed))
@@ -95,23 +103,27 @@ left_row e x (row ∷ listed) other =
 abbrev hash_of : Option Row → Option ℕ
 hash_of found = option_map (λ (row : Row). row.hash) found
 
--- and so is its stored hash
-stored_left : (e x n : ℕ) (set : ListSet) → stored_in (in_own (pushed_free e set)) x ≡ Some n → stored_in (in_own set) x ≡ Some n
-unfolding stored_in
-stored_left e x n set is =
-    let all : List Row = set.lists.active ++ set.lists.inactive in
-    let apart : row_of x (row_words.without_row e all) ≡ row_of x (row_words.without_row e set.lists.active ++ row_words.without_row e set.lists.inactive) = ap (row_of x) (filter-append (λ (row : Row). not (eqb row.element e)) set.lists.active set.lists.inactive) in
-    let found : hash_of (row_of x (row_words.without_row e all)) ≡ Some n = ap hash_of apart ∙ is in
-    by_test x e (λ _. hash_of (row_of x all) ≡ Some n)
-    (λ same. absurd (none_some (sym (ap hash_of (ap (λ (k : ℕ). row_of k (row_words.without_row e all)) same ∙ row_of_absent e (row_words.without_row e all) (gone_without e all))) ∙ found)))
-    (λ other. ap hash_of (sym (left_row e x all other)) ∙ found)
+-- and so is its hash
+pub left_hash : (e x n : ℕ) (listed : List Row) → hash_of (row_of x (row_words.without_row e listed)) ≡ Some n → hash_of (row_of x listed) ≡ Some n
+left_hash e x n listed is =
+    by_test x e (λ _. hash_of (row_of x listed) ≡ Some n)
+    (λ same. absurd (none_some (sym (ap hash_of (ap (λ (k : ℕ). row_of k (row_words.without_row e listed)) same ∙ row_of_absent e (row_words.without_row e listed) (gone_without e listed))) ∙ is)))
+    (λ other. ap hash_of (sym (left_row e x listed other)) ∙ is)
 
--- what a push leaves
-push_leads : (shape : Shape) (cpu e : ℕ) (set : ListSet) → in_own (pushed_free e set) ≡ content_after shape cpu (parts.Own (own.Push e)) (in_own set)
-unfolding own_after
-push_leads shape cpu e set = refl
+-- what was listed is listed without one element, or is that element, which is free then
+pub none_lost : (e x : ℕ) (now : Lists) → IsIn x (rows now) → IsIn x (all_of (steps.with_free e (steps.without_row e now)))
+none_lost e x now inside =
+    let left : List ℕ = without e now.first ++ without e now.second in
+    let all = times_append x (e ∷ now.free) left in
+    by_test x e (λ _. IsIn x (all_of (steps.with_free e (steps.without_row e now))))
+    (λ same. let there : 0 < times x (e ∷ now.free) = subst (λ (k : ℕ). 0 < times x (k ∷ now.free)) same (by_test x x (λ b. 0 < cond b (suc (times x now.free)) (times x now.free)) (λ _. omega arith) (λ other. absurd (other refl))) in omega arith)
+    (λ other.
+    let before = times_append x now.first now.second in
+    let after = times_append x (without e now.first) (without e now.second) in
+    let first = times_without_other x e now.first other in
+    let second = times_without_other x e now.second other in omega arith)
 
--- Room on the free list: it was made for every element, and no element stands there twice.
+-- Room on a free list: it was made for every element, and no element stands there twice.
 abbrev rows_numbered : List Stored → List Row
 rows_numbered [] = []
 rows_numbered (body ∷ bodies) = record { element = body.element; hash = 0 } ∷ rows_numbered bodies
@@ -124,19 +136,18 @@ numbered_length : (bodies : List Stored) → length (rows_numbered bodies) ≡ l
 numbered_length [] = refl
 numbered_length (body ∷ bodies) = ap suc (numbered_length bodies)
 
-room_left : (shape : Shape) (set : SetView) (e : ℕ) → FitsSet shape set → e < shape.elements → times e (numbers set.free.bodies) ≡ 0 → 1 ≤ set.free.spare
-room_left shape set e fits real absent =
-    let bodies : List Stored = set.free.bodies in
-    let few : length (rows_numbered bodies) ≤ shape.elements = let room = fits.room in let long = numbered_length bodies in omega arith in
+pub room_left : (bodies : List Stored) (spare elements e : ℕ) → length bodies + spare ≡ elements → elements < 2 ^ 32 → ((x : ℕ) → times x (numbers bodies) ≤ 1) → ((x : ℕ) → IsIn x (numbers bodies) → x < elements) → e < elements → times e (numbers bodies) ≡ 0 → 1 ≤ spare
+room_left bodies spare elements e room countable once below real absent =
+    let few : length (rows_numbered bodies) ≤ elements = let long = numbered_length bodies in omega arith in
     let counted : (x : ℕ) → times x (elements_of (rows_numbered bodies)) ≡ times x (numbers bodies) = λ x. ap (times x) (numbered_are bodies) in
-    let are : AreRows shape.elements (rows_numbered bodies) = record {
-      once = λ x. let once = fits.whole.once x in let here = counted x in omega arith;
-      below = λ x inside. subst (λ (n : ℕ). x < n) fits.bound (fits.whole.below x (let here = counted x in omega (arith, inside)));
+    let are : AreRows elements (rows_numbered bodies) = record {
+      once = λ x. let one = once x in let here = counted x in omega arith;
+      below = λ x inside. below x (subst (λ (n : ℕ). 0 < n) (counted x) inside);
       few = few;
-      countable = subst (λ (n : ℕ). n < 2 ^ 32) fits.bound fits.whole.countable;
+      countable = countable;
     } in
-    let left = room_for shape.elements e (rows_numbered bodies) are real (counted e ∙ absent) in
-    let long = numbered_length bodies in let room = fits.room in omega arith
+    let left = room_for elements e (rows_numbered bodies) are real (counted e ∙ absent) in
+    let long = numbered_length bodies in omega arith
 
 -- The bit of an element was cleared, whatever it was
 learns_any : {shape : Shape} {v w : View} {e : ℕ} {was : Bool} → Learns shape v w [] (record { element = e; seen = Some was; left = false } ∷ []) → Learns shape v w [] (clears_bit e ∷ [])
@@ -151,27 +162,77 @@ learns_any {shape} {v} {w} {e} {was} l = record {
     any None = tt
     any (Some bit) = tt
 
-frees_own : (shape : Shape) (e : ℕ) (turns : List TurnAt) → shape.common ≡ false → turns_of turns ≡ on_lock (CpuLru (set_of shape e)) (parts.Own (own.Push e)) ∷ [] → Frees shape e turns
-frees_own shape e turns apart are =
-    subst (λ b. MatchBool b (FreesPending e turns ⊎ (FreesFlushed e turns ⊎ (turns_of turns ≡ freed_globally e ∷ []))) (turns_of turns ≡ on_lock (CpuLru (set_of shape e)) (parts.Own (own.Push e)) ∷ [])) (sym apart) are
+-- Turns under way
 
-abbrev with_clear_of : ℕ → Bool → Notes
+-- what is noted of a turn in which the bit of one element was cleared
+abbrev pub with_clear_of : ℕ → Bool → Notes
 with_clear_of e bit = record { came = []; marks = []; asked = record { element = e; bit = bit; cleared = true } ∷ []; owners = []; homes = []; flushed = []; off = [] }
 
-abbrev hold_with : Hold → Lists → Hold
-hold_with hold now = record { lock = hold.lock; cpu = hold.cpu; log = hold.log; now = now; lost = hold.lost }
+-- The pass held no lock, took this one, and did this since: these lists lie there now, this is noted of the turn, and these steps
+-- were made on bits.
+pub record Underway (t : TableView) (hold : Hold) (p s : PassView) (now : Lists) (notes : Notes) (touches : List BitTouch) : Type 0 where
+  pub goes : Goes p s [] []
+  pub held : s.view.held ≡ hold_with hold now ∷ []
+  pub noted : s.view.notes ≡ notes ∷ p.view.notes
+  pub spares : s.spares ≡ p.spares
+  pub carried : s.view.carried ≡ p.view.carried
+  pub learns : Learns t.shape p.view s.view [] touches
 
--- the set that is given back
-abbrev pub given_set : Stored → SetView → SetView
-given_set body set = with_free (pushed body (taken_off body.element set).free) (taken_off body.element set)
+-- What may be given back under a lock by a part, from what lay there at the take, where these lists lie there now: nothing that was
+-- listed is gone, and no row has a new hash.
+pub record Leads (t : TableView) (lock : DomainId) (cpu : ℕ) (here back : Content) (now : Lists) (part : Part) : Type 0 where
+  pub told_is : told lock back ≡ content_after t.shape cpu part (told lock here)
+  pub fits : Fits t.shape lock back
+  pub allowed : Allows t.shape cpu part (told lock here)
+  pub same_free : (x : ℕ) → times x (lists_of (told lock back)).free ≡ times x now.free
+  pub same_rows : (x : ℕ) → times x (rows (lists_of (told lock back))) ≡ times x (rows now)
+  pub none_gone : (x : ℕ) → IsIn x (rows (lists_of (told lock here))) → IsIn x (all_of now)
+  pub same_hashes : (x n : ℕ) → stored_in (told lock back) x ≡ Some n → stored_in (told lock here) x ≡ Some n
 
--- From the take of the set's lock, where the element is listed
-module _ {t : TableView} {c : ℕ} {p q : PassView} {body : Stored} {set : SetView} (is_there : IsTrue (is_lock t.shape (CpuLru c))) (can : CanFree t body p) (took : Takes t (CpuLru c) p q (contents.Set set)) (listed : IsIn body.element (rows took.hold.now)) where
+-- The lock was given back by this part: one turn was made, after those that the lock had at the take.
+pub record TurnMade (t : TableView) (lock : DomainId) (hold : Hold) (part : Part) (p s z : PassView) : Type 0 where
+  pub step : Turned
+  pub changed : Changed t p z (step ∷ []) (step ∷ []) []
+  pub turn : turn_of t.shape step ≡ on_lock lock part
+  pub earlier : step.earlier ≡ hold.log
+  pub hand : z.view.hand ≡ s.view.hand
+  pub readings : z.view.readings ≡ s.view.readings
+
+-- the notes of a turn whose part reads no bit, probes nothing and gives nothing out
+pub fits_with : (shape : Shape) (v : View) (hold : Hold) (part : Part) (notes : Notes) → notes.marks ≡ marks shape part → AreCleared (also_cleared part) (bits_cleared part) (clears_noted notes) → bits_read part ≡ [] → FlushedFit shape v part notes.flushed → notes.off ≡ [] → probes_in part ≡ [] → given_out_by part ≡ [] → NotesFit shape v hold part notes
+fits_with shape v hold part notes marks_are clears_are no_reads flushed none_off no_probes none_out = record {
+  marks_are = marks_are;
+  clears_are = clears_are;
+  reads = subst (All (WasRead notes.asked)) (sym no_reads) (All-nil (WasRead notes.asked));
+  flushed = flushed;
+  off = subst (All (λ e. flushes e part ≡ true)) (sym none_off) (All-nil (λ e. flushes e part ≡ true));
+  held = subst (All (ProbeFits notes.owners)) (sym no_probes) (All-nil (ProbeFits notes.owners));
+  came = subst (All (CameToHand v hold notes)) (sym none_out) (All-nil (CameToHand v hold notes));
+}
+
+-- From the take of a lock by a pass that frees an element
+module _ {t : TableView} {lock : DomainId} {p q : PassView} {body : Stored} {here : Content} (is_there : IsTrue (is_lock t.shape lock)) (can : CanFree t body p) (took : Takes t lock p q here) where
+  named : lock_named t.shape took.hold.lock ≡ lock
+  named = ap (lock_named t.shape) took.lock_is ∙ named_by_number t.shape lock is_there
+
+  found : told lock here ≡ content t.shape (lock_named t.shape took.hold.lock) took.hold.log
+  found = took.told_is ∙ ap (λ (d : DomainId). content t.shape d took.hold.log) (sym named)
+
   goes_there : Goes p q [] []
-  goes_there = goes_took t (CpuLru c) p q (contents.Set set) took
+  goes_there = goes_took t lock p q here took
 
   held_there : q.view.held ≡ took.hold ∷ []
   held_there = ap (λ (z : PassView). z.view.held) took.after_is ∙ ap (λ (l : List Hold). took.hold ∷ l) can.no_lock
+
+  pub underway_taken : Underway t took.hold p q took.hold.now no_notes []
+  underway_taken = record {
+    goes = goes_there;
+    held = held_there;
+    noted = ap (λ (z : PassView). z.view.notes) took.after_is;
+    spares = ap (λ (z : PassView). z.spares) took.after_is;
+    carried = ap (λ (z : PassView). z.view.carried) took.after_is;
+    learns = learns_took t lock p q here took;
+  }
 
   -- the bit is cleared
   module _ {r : PassView} {bit : Bool} (clear : Cleared body.element q r bit) where
@@ -184,202 +245,315 @@ module _ {t : TableView} {c : ℕ} {p q : PassView} {body : Stored} {set : SetVi
     held_cleared : r.view.held ≡ took.hold ∷ []
     held_cleared = ap (λ (z : PassView). z.view.held) clear.after_is ∙ held_there
 
-    number_here : lock_number r.view.shape (CpuLru c) ≡ took.hold.lock
-    number_here = ap (λ (s : Shape). lock_number s (CpuLru c)) (to_here.shape ∙ can.of_table.1) ∙ sym took.lock_is
+    abbrev number_then : ℕ
+    number_then = lock_number r.view.shape lock
 
-    held_at : (k : ℕ) → k ≡ took.hold.lock → hold_at k r.view.held ≡ Some took.hold
-    held_at k is = ap (λ (n : ℕ). hold_at n r.view.held) is ∙ (ap (hold_at took.hold.lock) held_cleared ∙ hold_at_first took.hold [])
+    number_here : number_then ≡ took.hold.lock
+    number_here = ap (λ (s : Shape). lock_number s lock) (to_here.shape ∙ can.of_table.1) ∙ sym took.lock_is
 
-    -- and the element settled
-    module _ {s : PassView} (settle : Settled (CpuLru c) body.element r s) where
-      abbrev now_there : Lists
-      now_there = steps.with_free body.element (steps.without_row body.element took.hold.now)
+    held_at : hold_at number_then r.view.held ≡ Some took.hold
+    held_at = ap (λ (n : ℕ). hold_at n r.view.held) number_here ∙ (ap (hold_at took.hold.lock) held_cleared ∙ hold_at_first took.hold [])
 
-      now_is : now_under (CpuLru c) r.view ≡ took.hold.now
-      now_is = now_at_is (lock_number r.view.shape (CpuLru c)) r.view.held took.hold (held_at (lock_number r.view.shape (CpuLru c)) number_here)
+    now_is : now_under lock r.view ≡ took.hold.now
+    now_is = now_at_is number_then r.view.held took.hold held_at
 
-      goes_settled : Goes p s [] []
-      goes_settled =
-          goes_on p r s [] [] [] [] to_here
-          (goes_moved settle.0 (lock_number r.view.shape (CpuLru c)) (steps.with_free body.element (steps.without_row body.element (now_under (CpuLru c) r.view))) (without_in_hand body.element r.cpu r.view.hand) r.view.notes (owner_word r.view.shape body.element) 0 r s settle.1)
+    -- the element may settle where it is listed
+    pub can_settle_listed : IsFalse (is_bucket lock) → IsIn body.element (rows took.hold.now) → CanSettle t body.element lock r
+    can_settle_listed has_free_list listed = record {
+      of_table = goes_of_table t p r [] [] to_here can.of_table;
+      begun = goes_begun p r [] [] to_here can.begun;
+      hold = took.hold;
+      there = is_there;
+      held = subst (λ (s : Shape). hold_at (lock_number s lock) r.view.held ≡ Some took.hold) (to_here.shape ∙ can.of_table.1) held_at;
+      cpu_is = took.cpu_is ∙ sym to_here.cpu;
+      has_free_list = has_free_list;
+      in_hand = ap (λ (z : PassView). is_in_hand_of body.element z.cpu z.view.hand) clear.after_is ∙ (ap (λ (z : PassView). is_in_hand_of body.element z.cpu z.view.hand) took.after_is ∙ can.in_hand);
+      listed = λ _. listed;
+    }
 
-      held_settled : s.view.held ≡ hold_with took.hold now_there ∷ []
-      held_settled =
-          let then : Lists = steps.with_free body.element (steps.without_row body.element (now_under (CpuLru c) r.view)) in
-          let k : ℕ = lock_number r.view.shape (CpuLru c) in
-          ap (λ (z : PassView). z.view.held) settle.1 ∙ (ap (with_now k then) held_cleared
-          ∙ (by_test took.hold.lock k (λ b. cond b (hold_with took.hold then ∷ []) (took.hold ∷ []) ≡ hold_with took.hold then ∷ []) (λ _. refl) (λ other. absurd (other (sym number_here)))
-          ∙ ap (λ (now : Lists). hold_with took.hold (steps.with_free body.element (steps.without_row body.element now)) ∷ []) now_is))
+    -- and settles there
+    module _ {s : PassView} (settle : Settled lock body.element r s) where
+      abbrev now_then : Lists
+      now_then = steps.with_free body.element (steps.without_row body.element (now_under lock r.view))
 
-      notes_settled : s.view.notes ≡ with_clear_of body.element bit ∷ p.view.notes
-      notes_settled = ap (λ (z : PassView). z.view.notes) settle.1 ∙ (ap (λ (z : PassView). z.view.notes) clear.after_is ∙ ap (λ (z : PassView). with_clear body.element bit z.view.notes) took.after_is)
+      pub underway_pushed : Underway t took.hold p s (steps.with_free body.element (steps.without_row body.element took.hold.now)) (with_clear_of body.element bit) (clears_bit body.element ∷ [])
+      underway_pushed = record {
+        goes = goes_on p r s [] [] [] [] to_here (goes_moved settle.0 number_then now_then (without_in_hand body.element r.cpu r.view.hand) r.view.notes (owner_word r.view.shape body.element) 0 r s settle.1);
+        held = ap (λ (z : PassView). z.view.held) settle.1 ∙ (ap (with_now number_then now_then) held_cleared
+            ∙ (by_test took.hold.lock number_then (λ b. cond b (hold_with took.hold now_then ∷ []) (took.hold ∷ []) ≡ hold_with took.hold now_then ∷ []) (λ _. refl) (λ other. absurd (other (sym number_here)))
+            ∙ ap (λ (now : Lists). hold_with took.hold (steps.with_free body.element (steps.without_row body.element now)) ∷ []) now_is));
+        noted = ap (λ (z : PassView). z.view.notes) settle.1 ∙ (ap (λ (z : PassView). z.view.notes) clear.after_is ∙ ap (λ (z : PassView). with_clear body.element bit z.view.notes) took.after_is);
+        spares = ap (λ (z : PassView). z.spares) settle.1 ∙ (ap (λ (z : PassView). z.spares) clear.after_is ∙ ap (λ (z : PassView). z.spares) took.after_is);
+        carried = ap (λ (z : PassView). z.view.carried) settle.1 ∙ (ap (λ (z : PassView). z.view.carried) clear.after_is ∙ ap (λ (z : PassView). z.view.carried) took.after_is);
+        learns =
+            let known : Learns t.shape q.view r.view [] (clears_bit body.element ∷ []) = learns_any (subst (λ (z : PassView). Learns t.shape q.view z.view [] (record { element = body.element; seen = Some bit; left = false } ∷ [])) (sym clear.after_is) (learns_cleared t.shape clear.at body.element bit q.view clear.known)) in
+            learns_on t.shape p.view r.view s.view [] [] (clears_bit body.element ∷ []) []
+            (learns_after t.shape p.view q.view r.view [] (clears_bit body.element ∷ []) (learns_took t lock p q here took) known)
+            (learns_moved t.shape settle.0 number_then now_then (without_in_hand body.element r.cpu r.view.hand) r.view.notes (owner_word r.view.shape body.element) 0 r s settle.1);
+      }
 
-      hand_settled : s.view.hand ≡ without_in_hand body.element p.cpu p.view.hand
-      hand_settled =
+      pub hand_pushed : s.view.hand ≡ without_in_hand body.element p.cpu p.view.hand
+      hand_pushed =
           ap (λ (z : PassView). z.view.hand) settle.1
           ∙ (ap (λ (z : PassView). without_in_hand body.element z.cpu z.view.hand) clear.after_is ∙ ap (λ (z : PassView). without_in_hand body.element z.cpu z.view.hand) took.after_is)
 
-      learns_settled : Learns t.shape p.view s.view [] (clears_bit body.element ∷ [])
-      learns_settled =
-          let known : Learns t.shape q.view r.view [] (clears_bit body.element ∷ []) = learns_any (subst (λ (z : PassView). Learns t.shape q.view z.view [] (record { element = body.element; seen = Some bit; left = false } ∷ [])) (sym clear.after_is) (learns_cleared t.shape clear.at body.element bit q.view clear.known)) in
-          learns_on t.shape p.view r.view s.view [] [] (clears_bit body.element ∷ []) []
-          (learns_after t.shape p.view q.view r.view [] (clears_bit body.element ∷ []) (learns_took t (CpuLru c) p q (contents.Set set) took) known)
-          (learns_moved t.shape settle.0 (lock_number r.view.shape (CpuLru c)) (steps.with_free body.element (steps.without_row body.element (now_under (CpuLru c) r.view))) (without_in_hand body.element r.cpu r.view.hand) r.view.notes (owner_word r.view.shape body.element) 0 r s settle.1)
+  -- what was done so far may be given back, by a part that leads there
+  module _ {s : PassView} {now : Lists} {notes : Notes} {touches : List BitTouch} (u : Underway t took.hold p s now notes touches) {back : Content} {part : Part} where
+    pub can_give_under : Leads t lock s.cpu here back now part → NotesFit t.shape s.view (hold_with took.hold now) part notes → CanGive t lock s back part
+    can_give_under leads noted =
+        let begun = goes_begun p s [] [] u.goes can.begun in record {
+          of_table = goes_of_table t p s [] [] u.goes can.of_table;
+          begun = begun;
+          hold = hold_with took.hold now;
+          below = [];
+          innermost = u.held;
+          notes = notes;
+          notes_below = p.view.notes;
+          notes_are = u.noted;
+          there = is_there;
+          lock_is = took.lock_is;
+          may_put = record {
+            cpu = begun;
+            told_is = ap (λ (d : DomainId). told d back) named ∙ (leads.told_is ∙ ap (content_after t.shape s.cpu part) found);
+            fits = subst (λ (d : DomainId). Fits t.shape d back) (sym named) leads.fits;
+            allowed = subst (Allows t.shape s.cpu part) found leads.allowed;
+            same_free = λ x. ap (λ (d : DomainId). times x (lists_of (told d back)).free) named ∙ leads.same_free x;
+            same_rows = λ x. ap (λ (d : DomainId). times x (rows (lists_of (told d back)))) named ∙ leads.same_rows x;
+            rows_kept = λ _ j x h n other held _ was is_now.
+                some_is (sym (ap (λ (z : histories.Content). stored_in z x) (was_there j other held) ∙ was) ∙ leads.same_hashes x n (ap (λ (d : DomainId). stored_in (told d back) x) (sym named) ∙ is_now));
+            gone = λ _ on x h is_local was none.
+                let inside = leads.none_gone x (stored_listed (told lock here) x h (ap (λ (z : histories.Content). stored_in z x) found ∙ was)) in absurd (omega (arith, none, inside));
+          };
+          notes_fit = noted;
+        }
+      where
+        was_there : (j : ℕ) (other : Hold) → hold_at j s.view.held ≡ Some other → told lock here ≡ content t.shape (lock_named t.shape j) other.log
+        was_there j other held =
+            by_test took.hold.lock j (λ b. cond b (Some (hold_with took.hold now)) None ≡ Some other → told lock here ≡ content t.shape (lock_named t.shape j) other.log)
+            (λ same here_is. found ∙ (λ i. content t.shape (lock_named t.shape (same i)) ((some_is here_is i).log)))
+            (λ _ none. absurd (none_some none))
+            (sym (ap (hold_at j) u.held) ∙ held)
 
-      named : lock_named t.shape took.hold.lock ≡ CpuLru c
-      named = ap (lock_named t.shape) took.lock_is ∙ named_by_number t.shape (CpuLru c) is_there
-
-      found : told (CpuLru c) (contents.Set set) ≡ content t.shape (lock_named t.shape took.hold.lock) took.hold.log
-      found = took.told_is ∙ ap (λ (d : DomainId). content t.shape d took.hold.log) (sym named)
-
-      is_free_nowhere : times body.element (numbers set.free.bodies) ≡ 0
-      is_free_nowhere = ap (λ (l : Lists). times body.element l.free) (sym took.now) ∙ (took.apart body.element p.cpu can.begun can.in_hand).0
-
-      -- the free list has room
-      pub has_room : 1 ≤ set.free.spare
-      has_room = room_left t.shape set body.element took.fits can.real is_free_nowhere
-
-      pub can_give_pushed : (back : SetView) → back ≡ given_set body set → IsSet back → CanGive t (CpuLru c) s (contents.Set back) (parts.Own (own.Push body.element))
-      can_give_pushed back is whole =
-          let begun = goes_begun p s [] [] goes_settled can.begun in
-          let leads : told (lock_named t.shape took.hold.lock) (contents.Set back) ≡ in_own (pushed_free body.element (set_told set)) = λ i. told (named i) (contents.Set (is i)) in
-          record {
-            of_table = goes_of_table t p s [] [] goes_settled can.of_table;
-            begun = begun;
-            hold = hold_with took.hold now_there;
-            below = [];
-            innermost = held_settled;
-            notes = with_clear_of body.element bit;
-            notes_below = p.view.notes;
-            notes_are = notes_settled;
-            there = is_there;
-            lock_is = took.lock_is;
-            may_put = record {
-              cpu = begun;
-              told_is = leads ∙ (push_leads t.shape s.cpu body.element (set_told set) ∙ ap (content_after t.shape s.cpu (parts.Own (own.Push body.element))) found);
-              fits = subst (λ (d : DomainId). Fits t.shape d (contents.Set back)) (sym named) (pushed_fits back is whole);
-              allowed = subst (Allows t.shape s.cpu (parts.Own (own.Push body.element))) found is_listed_there;
-              same_free = λ x. ap (λ (l : histories.Content). times x (lists_of l).free) leads ∙ ap (λ (l : Lists). times x (body.element ∷ l.free)) (sym took.now);
-              same_rows = λ x. ap (λ (l : histories.Content). times x (rows (lists_of l))) leads ∙ (rows_left x ∙ ap (λ (l : Lists). times x (rows (steps.without_row body.element l))) (sym took.now));
-              rows_kept = λ _ j x h n other held _ was is_now.
-                  some_is (sym (ap (λ (z : histories.Content). stored_in z x) (was_there j other held) ∙ was) ∙ stored_left body.element x n (set_told set) (ap (λ (z : histories.Content). stored_in z x) (sym leads) ∙ is_now));
-              gone = λ _ on x h is_local _ _. absurd (not_local c on (sym named ∙ is_local));
+    -- and was
+    pub turn_made : (z : PassView) → IsTrue (is_lru t.shape.kind) → (meant : CanGive t lock s back part) → Gave s z part → bits_of_part t.shape part ≡ touches → passed_on part p.view.notes ≡ p.view.notes
+        → (IsTrue t.shape.common → (logs : ℕ → List Entry) → KnowsAll t.shape logs p.view → IsFalse (finds_moved_on part)) → TurnMade t lock took.hold part p s z
+    turn_made z lru meant gave bits hands_on moved =
+        let hold_is : meant.hold ≡ hold_with took.hold now = same_head (sym meant.innermost ∙ u.held) in
+        let gave_is : gave.hold ≡ meant.hold = same_head (sym gave.innermost ∙ meant.innermost) in
+        let step : Turned = given_turn s meant.hold part in
+        let made : Goes s z (step ∷ []) [] = subst (λ (h : Hold). Goes s z (given_turn s h part ∷ []) []) gave_is (goes_gave s z part gave) in
+        let gives : Learns t.shape s.view z.view (step ∷ []) [] =
+        learns_gave t lock s back part z.view meant
+        (subst (λ (h : Hold). IsLegal t.shape lock h.log) (sym hold_is) took.legal)
+        (λ has log known. ap (λ (h : Hold). h.log) hold_is ∙ took.known log (sym (u.learns.logs (sym u.learns.all ∙ has) (lock_number t.shape lock)).known_is ∙ known))
+        (ap (λ (x : PassView). x.view.known) gave.after_is ∙ ap (λ (h : Hold). learned h (entry_of s part) s.view) gave_is) (ap (λ (x : PassView). x.view.bits) gave.after_is) (ap (λ (x : PassView). x.view.cpus) gave.after_is) (ap (λ (x : PassView). x.view.shape) gave.after_is) in
+        record {
+          step = step;
+          changed = record {
+            told_are = (inl refl, tt);
+            made = record {
+              goes = goes_on p s z [] (step ∷ []) [] [] u.goes made;
+              held = ap (λ (x : PassView). x.view.held) gave.after_is ∙ (ap holds_below u.held ∙ sym can.no_lock);
+              notes = ap (λ (x : PassView). x.view.notes) gave.after_is ∙ (ap (λ (l : List Notes). passed_on part (notes_below l)) u.noted ∙ hands_on);
             };
-            notes_fit = record {
-              marks_are = refl;
-              clears_are = ([], bit, [], refl, refl);
-              reads = All-nil (WasRead (with_clear_of body.element bit).asked);
-              flushed = tt;
-              off = All-nil (λ e. flushes e (parts.Own (own.Push body.element)) ≡ true);
-              held = All-nil (ProbeFits []);
-              came = All-nil (CameToHand s.view (hold_with took.hold now_there) (with_clear_of body.element bit));
-            };
+            by_call = All-cons (IsBy p.cpu p.call) step [] (u.goes.cpu, u.goes.call) (All-nil (IsBy p.cpu p.call));
+            spares = ap (λ (x : PassView). x.spares) gave.after_is ∙ u.spares;
+            carried = ap (λ (x : PassView). x.view.carried) gave.after_is ∙ u.carried;
+            learns = subst (Learns t.shape p.view z.view (step ∷ [])) (sym (ap (λ b. cond b (bits_of_part t.shape part ++ []) []) lru ∙ (append_nil (bits_of_part t.shape part) ∙ bits))) (subst (Learns t.shape p.view z.view (step ∷ [])) (append_nil touches) (learns_on t.shape p.view s.view z.view [] (step ∷ []) touches [] u.learns gives));
+            none_moved = λ common logs knows. All-cons (λ (turn : Turned). IsFalse (finds_moved_on turn.entry.part)) step [] (moved common logs knows) (All-nil (λ (turn : Turned). IsFalse (finds_moved_on turn.entry.part)));
+          };
+          turn = (λ i. on_lock ((ap (λ (h : Hold). lock_named t.shape h.lock) hold_is ∙ named) i) part);
+          earlier = ap (λ (h : Hold). h.log) hold_is;
+          hand = ap (λ (x : PassView). x.view.hand) gave.after_is;
+          readings = ap (λ (x : PassView). x.view.readings) gave.after_is;
+        }
+
+-- Pushes
+
+-- This part of a push clears the bit of the element alone, reads nothing and hands nothing on.
+pub record IsPush (shape : Shape) (e : ℕ) (part : Part) : Type 0 where
+  pub noted : (v : View) (hold : Hold) (bit : Bool) → NotesFit shape v hold part (with_clear_of e bit)
+  pub bits : bits_of_part shape part ≡ clears_bit e ∷ []
+  pub hands_on : (below : List Notes) → passed_on part below ≡ below
+  pub finds_it : IsFalse (finds_moved_on part)
+
+-- the turn of a push, from the take of its lock
+module _ {t : TableView} {lock : DomainId} {p q r s : PassView} {body : Stored} {here : Content} {bit : Bool} {part : Part} (push : IsPush t.shape body.element part) (is_there : IsTrue (is_lock t.shape lock)) (can : CanFree t body p) (took : Takes t lock p q here) (clear : Cleared body.element q r bit) (settle : Settled lock body.element r s) where
+  abbrev now_pushed : Lists
+  now_pushed = steps.with_free body.element (steps.without_row body.element took.hold.now)
+
+  abbrev pushed_here : Underway t took.hold p s now_pushed (with_clear_of body.element bit) (clears_bit body.element ∷ [])
+  pushed_here = underway_pushed is_there can took clear settle
+
+  pub can_give_pushed : {back : Content} → Leads t lock s.cpu here back now_pushed part → CanGive t lock s back part
+  can_give_pushed leads = can_give_under is_there can took pushed_here leads (push.noted s.view (hold_with took.hold now_pushed) bit)
+
+  pub freed : {back : Content} (z : PassView) → IsTrue (is_lru t.shape.kind) → CanGive t lock s back part → Gave s z part → FreedBy t (on_lock lock part) body p z
+  freed z lru meant gave =
+      let made = turn_made is_there can took pushed_here z lru meant gave push.bits (push.hands_on p.view.notes) (λ _ _ _. push.finds_it) in record {
+        step = made.step;
+        changed = made.changed;
+        turn_is = made.turn;
+        hand = made.hand ∙ hand_pushed is_there can took clear settle;
+      }
+
+-- which frees the element
+pub frees_on : (shape : Shape) (e : ℕ) (turns : List TurnAt) (common : Bool) → shape.common ≡ common
+    → MatchBool common (FreesPending e turns ⊎ (FreesFlushed e turns ⊎ (turns_of turns ≡ freed_globally e ∷ []))) (turns_of turns ≡ on_lock (CpuLru (set_of shape e)) (parts.Own (own.Push e)) ∷ []) → Frees shape e turns
+frees_on shape e turns common is frees =
+    subst (λ b. MatchBool b (FreesPending e turns ⊎ (FreesFlushed e turns ⊎ (turns_of turns ≡ freed_globally e ∷ []))) (turns_of turns ≡ on_lock (CpuLru (set_of shape e)) (parts.Own (own.Push e)) ∷ [])) (sym is) frees
+
+pub freed_once : {t : TableView} {turn : Turn} {body : Stored} {p z : PassView} → ((turns : List TurnAt) → turns_of turns ≡ turn ∷ [] → Frees t.shape body.element turns) → FreedBy t turn body p z → Freed t body p z
+freed_once {t} frees by = record {
+  steps = by.step ∷ [];
+  changed = by.changed;
+  trace = frees (map (turn_at t.shape) (by.step ∷ [])) (ap (λ (x : Turn). x ∷ []) by.turn_is);
+  hand = by.hand;
+}
+
+-- List sets
+
+-- the set that is given back
+abbrev pub given_set : Stored → SetView → SetView
+given_set body set = with_free (pushed body (taken_off body.element set).free) (taken_off body.element set)
+
+-- A list set lies under this lock, and this part pushes the element there.
+pub record OnSet (shape : Shape) (lock : DomainId) (e : ℕ) (part : Part) : Type 0 where
+  pub lists : (set : ListSet) → lists_of (set_under lock set) ≡ lists_of_set set
+  pub after : (cpu : ℕ) (set : ListSet) → content_after shape cpu part (set_under lock set) ≡ set_under lock (pushed_free e set)
+  pub allows : (cpu : ℕ) (set : ListSet) → IsTrue (is_listed e set.lists) → Allows shape cpu part (set_under lock set)
+  pub hashes : (x : ℕ) (set : ListSet) → stored_in (set_under lock set) x ≡ hash_of (row_of x (set.lists.active ++ set.lists.inactive))
+  pub fits : (set : SetView) → Fits shape lock (contents.Set set) → FitsSet shape set
+  pub fit : (set : SetView) → FitsSet shape set → Fits shape lock (contents.Set set)
+
+-- a list set in which the element of a body is listed
+module _ {t : TableView} {lock : DomainId} {p q : PassView} {body : Stored} {set : SetView} {part : Part} (on : OnSet t.shape lock body.element part) (can : CanFree t body p) (took : Takes t lock p q (contents.Set set)) where
+  fitting : FitsSet t.shape set
+  fitting = on.fits set took.fits
+
+  lists_now : took.hold.now ≡ lists_of_set (set_told set)
+  lists_now = took.now ∙ on.lists (set_told set)
+
+  -- the free list has room
+  pub has_room : 1 ≤ set.free.spare
+  has_room =
+      room_left set.free.bodies set.free.spare t.shape.elements body.element fitting.room (subst (λ (n : ℕ). n < 2 ^ 32) fitting.bound fitting.whole.countable)
+      (λ x. let once = fitting.whole.once x in omega arith)
+      (λ x inside. subst (λ (n : ℕ). x < n) fitting.bound (fitting.whole.below x (omega (arith, inside))))
+      can.real (ap (λ (l : Lists). times body.element l.free) (sym lists_now) ∙ (took.apart body.element p.cpu can.begun can.in_hand).0)
+
+  -- and is given back with the body at its head
+  pub set_leads : (cpu : ℕ) (back : SetView) → IsIn body.element (rows took.hold.now) → back ≡ given_set body set → IsSet back
+      → Leads t lock cpu (contents.Set set) (contents.Set back) (steps.with_free body.element (steps.without_row body.element took.hold.now)) part
+  set_leads cpu back listed is whole =
+      let e : ℕ = body.element in
+      let leads : told lock (contents.Set back) ≡ set_under lock (pushed_free e (set_told set)) = ap (λ (x : SetView). told lock (contents.Set x)) is in
+      let then : lists_of (told lock (contents.Set back)) ≡ lists_of_set (pushed_free e (set_told set)) = ap lists_of leads ∙ on.lists (pushed_free e (set_told set)) in record {
+        told_is = leads ∙ sym (on.after cpu (set_told set));
+        fits = on.fit back pushed_fits;
+        allowed = on.allows cpu (set_told set) is_listed_there;
+        same_free = λ x. ap (λ (l : Lists). times x l.free) then ∙ ap (λ (l : Lists). times x (e ∷ l.free)) (sym lists_now);
+        same_rows = λ x. ap (λ (l : Lists). times x (rows l)) then ∙ (rows_left x ∙ ap (λ (l : Lists). times x (rows (steps.without_row e l))) (sym lists_now));
+        none_gone = λ x inside. none_lost e x took.hold.now (subst (λ (l : Lists). IsIn x (rows l)) (sym took.now) inside);
+        same_hashes = λ x n is_now. on.hashes x (set_told set) ∙ hash_left x n (sym (ap (λ (z : histories.Content). stored_in z x) leads ∙ on.hashes x (pushed_free e (set_told set))) ∙ is_now);
+      }
+    where
+      pushed_fits : FitsSet t.shape back
+      pushed_fits =
+          let room = fitting.room in let some = has_room in record {
+            sized = subst (λ (x : SetView). All (IsSized t.shape) x.free.bodies) (sym is) (All-cons (IsSized t.shape) body set.free.bodies can.sized fitting.sized);
+            bound = ap (λ (x : SetView). x.elements) is ∙ fitting.bound;
+            room = ap (λ (x : SetView). length x.free.bodies + x.free.spare) is ∙ omega arith;
+            whole = whole;
           }
-        where
-          not_local : (c on : ℕ) → CpuLru c ≡ Local on → ⊥
-          not_local c on e = cc
 
-          pushed_fits : (back : SetView) → back ≡ given_set body set → IsSet back → FitsSet t.shape back
-          pushed_fits back is whole =
-              let room = took.fits.room in let some = has_room in record {
-                sized = subst (λ (x : SetView). All (IsSized t.shape) x.free.bodies) (sym is) (All-cons (IsSized t.shape) body set.free.bodies can.sized took.fits.sized);
-                bound = ap (λ (x : SetView). x.elements) is ∙ took.fits.bound;
-                room = ap (λ (x : SetView). length x.free.bodies + x.free.spare) is ∙ omega arith;
-                whole = whole;
-              }
+      is_listed_there : IsTrue (is_listed body.element (set_told set).lists)
+      is_listed_there =
+          either_true (has_row body.element set.active) (has_row body.element set.inactive)
+          (let both = times_append body.element (elements_of set.active) (elements_of set.inactive) in
+          let inside : 0 < times body.element (elements_of set.active ++ elements_of set.inactive) = subst (λ (l : Lists). 0 < times body.element (rows l)) lists_now listed in
+          ⊎_elim (λ (one : 0 < times body.element (elements_of set.active)). inl (has_row_in body.element set.active one)) (λ (none : times body.element (elements_of set.active) ≤ 0). inr (has_row_in body.element set.inactive (omega arith))) (cases_lt 0 (times body.element (elements_of set.active))))
 
-          is_listed_there : IsTrue (is_listed body.element (set_told set).lists)
-          is_listed_there =
-              either_true (has_row body.element set.active) (has_row body.element set.inactive)
-              (let both = times_append body.element (elements_of set.active) (elements_of set.inactive) in
-              let inside : 0 < times body.element (elements_of set.active ++ elements_of set.inactive) = subst (λ (l : Lists). 0 < times body.element (rows l)) took.now listed in
-              ⊎_elim (λ (one : 0 < times body.element (elements_of set.active)). inl (has_row_in body.element set.active one)) (λ (none : times body.element (elements_of set.active) ≤ 0). inr (has_row_in body.element set.inactive (omega arith))) (cases_lt 0 (times body.element (elements_of set.active))))
+      rows_left : (x : ℕ) → times x (elements_of (row_words.without_row body.element set.active) ++ elements_of (row_words.without_row body.element set.inactive)) ≡ times x (without body.element (elements_of set.active) ++ without body.element (elements_of set.inactive))
+      rows_left x =
+          let once = fitting.whole.once body.element in
+          let first = left_times x body.element set.active (omega arith) in
+          let second = left_times x body.element set.inactive (omega arith) in
+          let here = times_append x (elements_of (row_words.without_row body.element set.active)) (elements_of (row_words.without_row body.element set.inactive)) in
+          let there = times_append x (without body.element (elements_of set.active)) (without body.element (elements_of set.inactive)) in omega arith
 
-          rows_left : (x : ℕ) → times x (elements_of (row_words.without_row body.element set.active) ++ elements_of (row_words.without_row body.element set.inactive)) ≡ times x (without body.element (elements_of set.active) ++ without body.element (elements_of set.inactive))
-          rows_left x =
-              let once = took.fits.whole.once body.element in
-              let first = left_times x body.element set.active (omega arith) in
-              let second = left_times x body.element set.inactive (omega arith) in
-              let here = times_append x (elements_of (row_words.without_row body.element set.active)) (elements_of (row_words.without_row body.element set.inactive)) in
-              let there = times_append x (without body.element (elements_of set.active)) (without body.element (elements_of set.inactive)) in omega arith
+      hash_left : (x n : ℕ) → hash_of (row_of x (row_words.without_row body.element set.active ++ row_words.without_row body.element set.inactive)) ≡ Some n → hash_of (row_of x (set.active ++ set.inactive)) ≡ Some n
+      hash_left x n is_now =
+          left_hash body.element x n (set.active ++ set.inactive)
+          (ap (λ (l : List Row). hash_of (row_of x l)) (filter-append (λ (row : Row). not (eqb row.element body.element)) set.active set.inactive) ∙ is_now)
 
-          was_there : (j : ℕ) (other : Hold) → hold_at j s.view.held ≡ Some other → told (CpuLru c) (contents.Set set) ≡ content t.shape (lock_named t.shape j) other.log
-          was_there j other held =
-              by_test took.hold.lock j (λ b. cond b (Some (hold_with took.hold now_there)) None ≡ Some other → told (CpuLru c) (contents.Set set) ≡ content t.shape (lock_named t.shape j) other.log)
-              (λ same here. found ∙ (λ i. content t.shape (lock_named t.shape (same i)) ((some_is here i).log)))
-              (λ _ none. absurd (none_some none))
-              (sym (ap (hold_at j) held_settled) ∙ held)
-
-      -- Given back
-      pub freed : (back : SetView) (z : PassView) → IsTrue (is_lru t.shape.kind) → t.shape.common ≡ false → c ≡ set_of t.shape body.element → (meant : CanGive t (CpuLru c) s (contents.Set back) (parts.Own (own.Push body.element))) → Gave s z (parts.Own (own.Push body.element)) → Freed t body p z
-      freed back z lru apart c_is meant gave =
-          let hold_is : meant.hold ≡ hold_with took.hold now_there = same_head (sym meant.innermost ∙ held_settled) in
-          let gave_is : gave.hold ≡ meant.hold = same_head (sym gave.innermost ∙ meant.innermost) in
-          let part : Part = parts.Own (own.Push body.element) in
-          let step : Turned = given_turn s meant.hold part in
-          let made : Goes s z (step ∷ []) [] = subst (λ (h : Hold). Goes s z (given_turn s h part ∷ []) []) gave_is (goes_gave s z part gave) in
-          let gives : Learns t.shape s.view z.view (step ∷ []) [] =
-          learns_gave t (CpuLru c) s (contents.Set back) part z.view meant
-          (subst (λ (h : Hold). IsLegal t.shape (CpuLru c) h.log) (sym hold_is) took.legal)
-          (λ has log known. ap (λ (h : Hold). h.log) hold_is ∙ took.known log (sym (learns_settled.logs (sym learns_settled.all ∙ has) (lock_number t.shape (CpuLru c))).known_is ∙ known))
-          (ap (λ (x : PassView). x.view.known) gave.after_is ∙ ap (λ (h : Hold). learned h (entry_of s part) s.view) gave_is) (ap (λ (x : PassView). x.view.bits) gave.after_is) (ap (λ (x : PassView). x.view.cpus) gave.after_is) (ap (λ (x : PassView). x.view.shape) gave.after_is) in
-          let turn : turn_of t.shape step ≡ on_lock (CpuLru c) part = (λ i. on_lock ((ap (λ (h : Hold). lock_named t.shape h.lock) hold_is ∙ named) i) part) in
-          record {
-            steps = step ∷ [];
-            changed = record {
-              told_are = (inl refl, tt);
-              made = record {
-                goes = goes_on p s z [] (step ∷ []) [] [] goes_settled made;
-                held = ap (λ (x : PassView). x.view.held) gave.after_is ∙ (ap holds_below held_settled ∙ sym can.no_lock);
-                notes = ap (λ (x : PassView). x.view.notes) gave.after_is ∙ ap notes_below notes_settled;
-              };
-              by_call = All-cons (IsBy p.cpu p.call) step [] (goes_settled.cpu, goes_settled.call) (All-nil (IsBy p.cpu p.call));
-              spares = ap (λ (x : PassView). x.spares) gave.after_is ∙ (ap (λ (x : PassView). x.spares) settle.1 ∙ (ap (λ (x : PassView). x.spares) clear.after_is ∙ ap (λ (x : PassView). x.spares) took.after_is));
-              carried = ap (λ (x : PassView). x.view.carried) gave.after_is ∙ (ap (λ (x : PassView). x.view.carried) settle.1 ∙ (ap (λ (x : PassView). x.view.carried) clear.after_is ∙ ap (λ (x : PassView). x.view.carried) took.after_is));
-              learns = subst (Learns t.shape p.view z.view (step ∷ [])) (sym (ap (λ b. cond b (clears_bit body.element ∷ []) []) lru)) (learns_on t.shape p.view s.view z.view [] (step ∷ []) (clears_bit body.element ∷ []) [] learns_settled gives);
-            };
-            trace = frees_own t.shape body.element (map (turn_at t.shape) (step ∷ [])) apart (ap (λ (x : Turn). x ∷ []) (turn ∙ ap (λ (k : ℕ). on_lock (CpuLru k) part) c_is));
-            hand = ap (λ (x : PassView). x.view.hand) gave.after_is ∙ hand_settled;
-          }
-
--- The element of a body is pushed: the lock of its set was taken, its bit cleared, and it settled there.
-pub record Pushing (t : TableView) (c : ℕ) (p q r s : PassView) (body : Stored) (set : SetView) (bit : Bool) : Type 0 where
+-- The element of a body is pushed on a list set by a part: the lock was taken, the bit cleared, and the element settled there.
+pub record Pushing (t : TableView) (lock : DomainId) (part : ℕ → Part) (p q r s : PassView) (body : Stored) (set : SetView) (bit : Bool) : Type 0 where
   pub lru : IsTrue (is_lru t.shape.kind)
-  pub apart : t.shape.common ≡ false
-  pub is_there : IsTrue (is_lock t.shape (CpuLru c))
-  pub its_set : c ≡ set_of t.shape body.element
+  pub push : IsPush t.shape body.element (part body.element)
+  pub on : OnSet t.shape lock body.element (part body.element)
+  pub is_there : IsTrue (is_lock t.shape lock)
   pub can : CanFree t body p
-  pub took : Takes t (CpuLru c) p q (contents.Set set)
+  pub took : Takes t lock p q (contents.Set set)
   pub listed : IsIn body.element (rows took.hold.now)
   pub clear : Cleared body.element q r bit
-  pub settle : Settled (CpuLru c) body.element r s
+  pub settle : Settled lock body.element r s
 
-pub pushing : (t now : TableView) (p q r s : PassView) (body : Stored) (set : SetView) (c e : ℕ) (bit : Bool) → t ≡ now → IsTrue (is_lru t.shape.kind) → t.shape.common ≡ false → CanFree now body p → e ≡ body.element → c ≡ set_of now.shape e → c < now.shape.cpus
-    → Takes t (CpuLru c) p q (contents.Set set) → Cleared e q r bit → Settled (CpuLru c) e r s → Pushing t c p q r s body set bit
-pushing t now p q r s body set c e bit is lru apart can e_is c_is few took clear settle =
+module _ {t : TableView} {lock : DomainId} {part : ℕ → Part} {p q r s : PassView} {body : Stored} {set : SetView} {bit : Bool} (x : Pushing t lock part p q r s body set bit) where
+  pub push_room : (off : SetView) → off ≡ taken_off body.element set → 1 ≤ off.free.spare
+  push_room off is = subst (λ (z : SetView). 1 ≤ z.free.spare) (sym is) (has_room x.on x.can x.took)
+
+  pub push_given : (e : ℕ) (off back : SetView) → e ≡ body.element → off ≡ taken_off e set → back ≡ with_free (pushed body off.free) off → IsSet back → CanGive t lock s (contents.Set back) (part e)
+  push_given e off back e_is off_is is whole =
+      subst (λ (n : ℕ). CanGive t lock s (contents.Set back) (part n)) (sym e_is)
+      (can_give_pushed x.push x.is_there x.can x.took x.clear x.settle
+      (set_leads x.on x.can x.took s.cpu back x.listed (is ∙ ap (λ (z : SetView). with_free (pushed body z.free) z) (off_is ∙ ap (λ (n : ℕ). taken_off n set) e_is)) whole))
+
+  pub push_freed : (e : ℕ) (back : SetView) (z : PassView) → e ≡ body.element → CanGive t lock s (contents.Set back) (part e) → Gave s z (part e) → FreedBy t (on_lock lock (part body.element)) body p z
+  push_freed e back z e_is meant gave =
+      freed x.push x.is_there x.can x.took x.clear x.settle z x.lru (subst (λ (n : ℕ). CanGive t lock s (contents.Set back) (part n)) e_is meant) (subst (λ (n : ℕ). Gave s z (part n)) e_is gave)
+
+-- The set of a CPU's own
+
+abbrev pub own_push : ℕ → Part
+own_push e = parts.Own (own.Push e)
+
+is_own_push : (shape : Shape) (e : ℕ) → IsPush shape e (own_push e)
+is_own_push shape e = record {
+  noted = λ v hold bit. fits_with shape v hold (own_push e) (with_clear_of e bit) refl ([], bit, [], refl, refl) refl tt refl refl refl;
+  bits = refl;
+  hands_on = λ below. refl;
+  finds_it = refl;
+}
+
+pub freed_own : {t : TableView} {body : Stored} {c : ℕ} {p z : PassView} → t.shape.common ≡ false → c ≡ set_of t.shape body.element → FreedBy t (on_lock (CpuLru c) (own_push body.element)) body p z → Freed t body p z
+freed_own {t} {body} apart c_is by =
+    freed_once (λ turns are. frees_on t.shape body.element turns false apart (are ∙ ap (λ (k : ℕ). on_lock (CpuLru k) (own_push body.element) ∷ []) c_is)) by
+
+on_own_set : (shape : Shape) (c e : ℕ) → OnSet shape (CpuLru c) e (own_push e)
+unfolding own_after stored_in
+on_own_set shape c e = record {
+  lists = λ set. refl;
+  after = λ cpu set. refl;
+  allows = λ cpu set listed. listed;
+  hashes = λ x set. refl;
+  fits = λ set fits. fits;
+  fit = λ set fits. fits;
+}
+
+pub pushing : (t now : TableView) (p q r s : PassView) (body : Stored) (set : SetView) (c e : ℕ) (bit : Bool) → t ≡ now → IsTrue (is_lru t.shape.kind) → now.shape.common ≡ false → CanFree now body p → e ≡ body.element → c ≡ set_of now.shape e → c < now.shape.cpus
+    → Takes t (CpuLru c) p q (contents.Set set) → Cleared e q r bit → Settled (CpuLru c) e r s → Pushing t (CpuLru c) own_push p q r s body set bit
+pushing t now p q r s body set c e bit is lru own_lists can e_is c_is few took clear settle =
     let may : CanFree t body p = subst (λ (z : TableView). CanFree z body p) (sym is) can in
+    let apart : t.shape.common ≡ false = subst (λ (z : TableView). z.shape.common ≡ false) (sym is) own_lists in
     let its : c ≡ set_of t.shape body.element = c_is ∙ (λ i. set_of ((sym is i).shape) (e_is i)) in record {
       lru = lru;
-      apart = apart;
+      push = is_own_push t.shape body.element;
+      on = on_own_set t.shape c body.element;
       is_there = set_there t.shape c lru apart (subst (λ (z : TableView). c < z.shape.cpus) (sym is) few);
-      its_set = its;
       can = may;
       took = took;
       listed = took.lives lru apart body.element p.cpu may.begun may.in_hand (ap CpuLru its);
       clear = subst (λ (x : ℕ). Cleared x q r bit) e_is clear;
       settle = subst (λ (x : ℕ). Settled (CpuLru c) x r s) e_is settle;
     }
-
-module _ {t : TableView} {c : ℕ} {p q r s : PassView} {body : Stored} {set : SetView} {bit : Bool} (x : Pushing t c p q r s body set bit) where
-  pub push_room : (off : SetView) → off ≡ taken_off body.element set → 1 ≤ off.free.spare
-  push_room off is = subst (λ (z : SetView). 1 ≤ z.free.spare) (sym is) (has_room x.is_there x.can x.took x.listed x.clear x.settle)
-
-  pub push_given : (e : ℕ) (off back : SetView) → e ≡ body.element → off ≡ taken_off e set → back ≡ with_free (pushed body off.free) off → IsSet back → CanGive t (CpuLru c) s (contents.Set back) (parts.Own (own.Push e))
-  push_given e off back e_is off_is is whole =
-      subst (λ (n : ℕ). CanGive t (CpuLru c) s (contents.Set back) (parts.Own (own.Push n))) (sym e_is)
-      (can_give_pushed x.is_there x.can x.took x.listed x.clear x.settle back (is ∙ ap (λ (z : SetView). with_free (pushed body z.free) z) (off_is ∙ ap (λ (n : ℕ). taken_off n set) e_is)) whole)
-
-  pub push_freed : (e : ℕ) (back : SetView) (z : PassView) → e ≡ body.element → CanGive t (CpuLru c) s (contents.Set back) (parts.Own (own.Push e)) → Gave s z (parts.Own (own.Push e)) → Freed t body p z
-  push_freed e back z e_is meant gave =
-      freed x.is_there x.can x.took x.listed x.clear x.settle back z x.lru x.apart x.its_set
-      (subst (λ (n : ℕ). CanGive t (CpuLru c) s (contents.Set back) (parts.Own (own.Push n))) e_is meant) (subst (λ (n : ℕ). Gave s z (parts.Own (own.Push n))) e_is gave)

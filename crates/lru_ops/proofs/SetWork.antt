@@ -3,7 +3,7 @@ use Rattle.std.proofs.Common.{◌≡◌, ◌≢◌, ℕ, ◌<◌, ◌≤◌, ◌
 use Rattle.std.specs.Prelude.{reverse, filter, option_map, unwrap_or, All, IsPermutation, is_some, suc}
 use Rattle.std.specs.List.{cons_option, flat_map}
 use Rattle.std.proofs.lemmas.List.{reverse-append, map-append, length-append}
-use Rattle.std.proofs.lemmas.List.Elements.{filter-append, recursion_from_All, All-nil, All-cons, All-weaker}
+use Rattle.std.proofs.lemmas.List.Elements.{filter-append, recursion_from_All, All-nil, All-cons, All-append, All-weaker}
 use Rattle.std.proofs.lemmas.List.Sorted.{All-permutation, IsPermutation-reverse, length_permutation}
 use Rattle.map_types.specs.declared.attr.Shape.{Shape}
 use Rattle.map_types.specs.declared.row.Row.{Row}
@@ -41,7 +41,7 @@ use Rattle.lru_lists.proofs.NoteLemmas.{noted_none}
 use Rattle.lru_lists.proofs.SetLemmas.{listed_present, its_row}
 use Rattle.lru_rotate.specs.Rotating.{Rotation, cleared as cleared_visits}
 use Rattle.lru_rotate.proofs.RowsStay.{times_permuted}
-use Rattle.lru_shrink.specs.Shrunk.{Shrink, AreStacked, probe_on, look_probes, try_probes, cleared as cleared_looks}
+use Rattle.lru_shrink.specs.Shrunk.{probe_by, probes_of_looks, probes_of_tries, Shrink, AreStacked, look_probes, try_probes, cleared as cleared_looks}
 use Rattle.lru_ops.specs.Askings.{lists_after}
 use Rattle.lru_ops.specs.Evictions.{lists_with}
 use Rattle.lru_ops.specs.OwnTurns.{no_bodies, ShrinksFree, rows_on, try_of, WorksOn}
@@ -56,25 +56,38 @@ numbers_reverse (body ∷ bodies) =
     ∙ (map-append (λ (b : Stored). b.element) (reverse bodies) (body ∷ [])
     ∙ (ap (λ (l : List ℕ). l ++ body.element ∷ []) (numbers_reverse bodies) ∙ sym (reverse-append (body.element ∷ []) (numbers_of bodies))))
 
-pub stacked_numbers : (gives : Stored → Type 0) (elements : List ℕ) (before after : BodyList) → AreStacked gives elements before after → before.bodies ≡ [] → numbers_of after.bodies ≡ reverse elements
-stacked_numbers gives elements before after s none =
+-- what came on a stack lies above what lay there, the first deepest
+pub stacked_on : (gives : Stored → Type 0) (elements : List ℕ) (before after : BodyList) → AreStacked gives elements before after → numbers_of after.bodies ≡ reverse elements ++ numbers_of before.bodies
+stacked_on gives elements before after s =
     ap (λ (z : BodyList). numbers_of z.bodies) s.stacked
-    ∙ (ap (λ (l : List Stored). numbers_of (reverse s.bodies ++ l)) none
-    ∙ (ap numbers_of (append_nil (reverse s.bodies)) ∙ (numbers_reverse s.bodies ∙ ap reverse s.numbers)))
+    ∙ (map-append (λ (b : Stored). b.element) (reverse s.bodies) before.bodies ∙ ap (λ (l : List ℕ). l ++ numbers_of before.bodies) (numbers_reverse s.bodies ∙ ap reverse s.numbers))
+
+pub stacked_numbers : (gives : Stored → Type 0) (elements : List ℕ) (before after : BodyList) → AreStacked gives elements before after → before.bodies ≡ [] → numbers_of after.bodies ≡ reverse elements
+stacked_numbers gives elements before after s none = stacked_on gives elements before after s ∙ (ap (λ (l : List Stored). reverse elements ++ numbers_of l) none ∙ append_nil (reverse elements))
+
+pub stacked_all : (P gives : Stored → Type 0) (elements : List ℕ) (before after : BodyList) → AreStacked gives elements before after → ((body : Stored) → gives body → P body) → All P before.bodies → All P after.bodies
+stacked_all P gives elements before after s is all =
+    subst (λ (z : BodyList). All P z.bodies) (sym s.stacked)
+    (All-append P (reverse s.bodies) before.bodies (All-weaker gives P is (reverse s.bodies) (All-permutation gives s.bodies (reverse s.bodies) (IsPermutation-reverse s.bodies) s.given)) all)
 
 stacked_given : (gives : Stored → Type 0) (elements : List ℕ) (before after : BodyList) → AreStacked gives elements before after → before.bodies ≡ [] → All gives after.bodies
-stacked_given gives elements before after s none =
-    subst (All gives) (sym (ap (λ (z : BodyList). z.bodies) s.stacked ∙ (ap (λ (l : List Stored). reverse s.bodies ++ l) none ∙ append_nil (reverse s.bodies))))
-    (All-permutation gives s.bodies (reverse s.bodies) (IsPermutation-reverse s.bodies) s.given)
+stacked_given gives elements before after s none = stacked_all gives gives elements before after s (λ body given. given) (subst (All gives) (sym none) (All-nil gives))
 
-stacked_room : (gives : Stored → Type 0) (elements : List ℕ) (before after : BodyList) → AreStacked gives elements before after → before.bodies ≡ [] → length after.bodies + after.spare ≡ before.spare
-stacked_room gives elements before after s none =
-    let bodies : length after.bodies ≡ length s.bodies = ap (λ (z : BodyList). length z.bodies) s.stacked ∙ (ap (λ (l : List Stored). length (reverse s.bodies ++ l)) none ∙ (ap length (append_nil (reverse s.bodies)) ∙ length_permutation _ _ (IsPermutation-reverse s.bodies))) in
+pub stacked_rooms : (gives : Stored → Type 0) (elements : List ℕ) (before after : BodyList) → AreStacked gives elements before after → length after.bodies + after.spare ≡ length before.bodies + before.spare
+stacked_rooms gives elements before after s =
+    let bodies : length after.bodies ≡ length s.bodies + length before.bodies = ap (λ (z : BodyList). length z.bodies) s.stacked
+    ∙ (length-append (reverse s.bodies) before.bodies ∙ ap (λ (n : ℕ). n + length before.bodies) (length_permutation _ _ (IsPermutation-reverse s.bodies))) in
     let spare : after.spare ≡ before.spare - length s.bodies = ap (λ (z : BodyList). z.spare) s.stacked in
     let fits = s.fits in
     omega (arith, bodies, spare, fits)
 
-length_numbers : (bodies : List Stored) → length (numbers bodies) ≡ length bodies
+stacked_room : (gives : Stored → Type 0) (elements : List ℕ) (before after : BodyList) → AreStacked gives elements before after → before.bodies ≡ [] → length after.bodies + after.spare ≡ before.spare
+stacked_room gives elements before after s none =
+    let all = stacked_rooms gives elements before after s in
+    let empty : length before.bodies ≡ 0 = ap length none in
+    omega (arith, all, empty)
+
+pub length_numbers : (bodies : List Stored) → length (numbers bodies) ≡ length bodies
 length_numbers [] = refl
 length_numbers (body ∷ bodies) = ap suc (length_numbers bodies)
 
@@ -86,7 +99,7 @@ listed_times e set = ap (times e) (elements_append set.active set.inactive) ∙ 
 pub rows_once : (set : SetView) → IsSet set → (e : ℕ) → times e (elements_of (rows_on set)) ≤ 1
 rows_once set whole e = let same = listed_times e set in let few = whole.once e in omega (arith, same, few)
 
-rows_few : (bound : ℕ) (rows : List Row) → bound < 2 ^ 32 → ((e : ℕ) → times e (elements_of rows) ≤ 1) → ((e : ℕ) → IsIn e (elements_of rows) → e < bound) → length rows ≤ bound
+pub rows_few : (bound : ℕ) (rows : List Row) → bound < 2 ^ 32 → ((e : ℕ) → times e (elements_of rows) ≤ 1) → ((e : ℕ) → IsIn e (elements_of rows) → e < bound) → length rows ≤ bound
 rows_few bound [] countable once below = omega arith
 rows_few bound (row ∷ rows) countable once below =
     let once_behind : (e : ℕ) → times e (elements_of rows) ≤ 1 = λ e. by_test row.element e (λ b. cond b (suc (times e (elements_of rows))) (times e (elements_of rows)) ≤ 1 → times e (elements_of rows) ≤ 1) (λ _ few. omega (arith, few)) (λ _ few. few) (once e) in
@@ -122,7 +135,7 @@ free_room shape set fits none =
 found_first : (e : ℕ) (row : Row) (rows : List Row) → row.element ≡ e → row_of e (row ∷ rows) ≡ Some row
 found_first e row rows is = row_of_split e [] row rows refl is
 
-own_row : (before : List Row) (rows : List Row) → ((e : ℕ) → times e (elements_of (before ++ rows)) ≤ 1) → All (λ (row : Row). row_of row.element (before ++ rows) ≡ Some row) rows
+pub own_row : (before : List Row) (rows : List Row) → ((e : ℕ) → times e (elements_of (before ++ rows)) ≤ 1) → All (λ (row : Row). row_of row.element (before ++ rows) ≡ Some row) rows
 own_row before [] once = All-nil (λ (row : Row). row_of row.element (before ++ []) ≡ Some row)
 own_row before (row ∷ rows) once =
     let P : Row → Type 0 = λ (r : Row). row_of r.element (before ++ row ∷ rows) ≡ Some r in
@@ -166,11 +179,11 @@ kept_by before after same e h n was is =
 abbrev pub taken_by : List ProbeCall → List ℕ
 taken_by probes = map (λ (probe : ProbeCall). probe.element) (filter (λ (probe : ProbeCall). is_removed probe.probed) probes)
 
-abbrev taken_with : ℕ → Seen → List ℕ → List ℕ
+abbrev pub taken_with : ℕ → Seen → List ℕ → List ℕ
 taken_with e Removed taken = e ∷ taken
 taken_with e (Held holder) taken = taken
 
-taken_cons : (e hash : ℕ) (seen : Seen) (probes : List ProbeCall) → taken_by (record { element = e; hash = hash; probed = seen } ∷ probes) ≡ taken_with e seen (taken_by probes)
+pub taken_cons : (e hash : ℕ) (seen : Seen) (probes : List ProbeCall) → taken_by (record { element = e; hash = hash; probed = seen } ∷ probes) ≡ taken_with e seen (taken_by probes)
 taken_cons e hash Removed probes = refl
 taken_cons e hash (Held holder) probes = refl
 
@@ -185,7 +198,7 @@ free_after (probe ∷ probes) now =
     ∙ (free_with probe.element probe.probed now (taken_by probes)
     ∙ ap (λ (l : List ℕ). reverse l ++ now.free) (sym (taken_cons probe.element probe.hash probe.probed probes)))
 
-row_gone : (x e : ℕ) (now : Lists) → times x (rows now) ≤ 1 → times x (without e now.first ++ without e now.second) ≡ times x (rows now) - times x (e ∷ [])
+pub row_gone : (x e : ℕ) (now : Lists) → times x (rows now) ≤ 1 → times x (without e now.first ++ without e now.second) ≡ times x (rows now) - times x (e ∷ [])
 row_gone x e now once =
     let parts = times_append x now.first now.second in
     let left = times_append x (without e now.first) (without e now.second) in
@@ -223,16 +236,16 @@ look_cases : (b : Bool) (look : Look) (looks : List Look) → map (λ (l : Look)
 look_cases true look looks = refl
 look_cases false look looks = refl
 
-looks_taken : (set : SetView) (looks : List Look) → taken_by (look_probes set looks) ≡ map (λ (look : Look). look.element) (filter look_removed looks)
-looks_taken set [] = refl
-looks_taken set (look ∷ looks) =
-    go look.probed (looks_taken set looks) ∙ sym (look_cases (look_removed look) look (filter look_removed looks))
+looks_taken : (rows : List Row) (looks : List Look) → taken_by (probes_of_looks rows looks) ≡ map (λ (look : Look). look.element) (filter look_removed looks)
+looks_taken rows [] = refl
+looks_taken rows (look ∷ looks) =
+    go look.probed (looks_taken rows looks) ∙ sym (look_cases (look_removed look) look (filter look_removed looks))
   where
     rest : List ℕ
     rest = map (λ (l : Look). l.element) (filter look_removed looks)
 
-    go : (probed : Option Seen) → taken_by (look_probes set looks) ≡ rest
-        → taken_by (cons_option (option_map (probe_on set look.element) probed) (look_probes set looks)) ≡ cond (unwrap_or (option_map is_removed probed) false) (look.element ∷ rest) rest
+    go : (probed : Option Seen) → taken_by (probes_of_looks rows looks) ≡ rest
+        → taken_by (cons_option (option_map (probe_by rows look.element) probed) (probes_of_looks rows looks)) ≡ cond (unwrap_or (option_map is_removed probed) false) (look.element ∷ rest) rest
     go None same = same
     go (Some Removed) same = ap (λ (l : List ℕ). look.element ∷ l) same
     go (Some (Held holder)) same = same
@@ -241,15 +254,15 @@ try_cases : (b : Bool) (try : Try) (tries : List Try) → map (λ (t : Try). t.e
 try_cases true try tries = refl
 try_cases false try tries = refl
 
-tries_taken : (set : SetView) (tries : List Try) → taken_by (try_probes set tries) ≡ map (λ (try : Try). try.element) (filter try_removed tries)
-tries_taken set [] = refl
-tries_taken set (try ∷ tries) =
-    go try.probed (tries_taken set tries) ∙ sym (try_cases (try_removed try) try (filter try_removed tries))
+tries_taken : (rows : List Row) (tries : List Try) → taken_by (probes_of_tries rows tries) ≡ map (λ (try : Try). try.element) (filter try_removed tries)
+tries_taken rows [] = refl
+tries_taken rows (try ∷ tries) =
+    go try.probed (tries_taken rows tries) ∙ sym (try_cases (try_removed try) try (filter try_removed tries))
   where
     rest : List ℕ
     rest = map (λ (t : Try). t.element) (filter try_removed tries)
 
-    go : (seen : Seen) → taken_by (try_probes set tries) ≡ rest → taken_by (probe_on set try.element seen ∷ try_probes set tries) ≡ cond (is_removed seen) (try.element ∷ rest) rest
+    go : (seen : Seen) → taken_by (probes_of_tries rows tries) ≡ rest → taken_by (probe_by rows try.element seen ∷ probes_of_tries rows tries) ≡ cond (is_removed seen) (try.element ∷ rest) rest
     go Removed same = ap (λ (l : List ℕ). try.element ∷ l) same
     go (Held holder) same = same
 
@@ -258,26 +271,33 @@ taken_append first second =
     ap (map (λ (probe : ProbeCall). probe.element)) (filter-append (λ (probe : ProbeCall). is_removed probe.probed) first second)
     ∙ map-append (λ (probe : ProbeCall). probe.element) (filter (λ (probe : ProbeCall). is_removed probe.probed) first) (filter (λ (probe : ProbeCall). is_removed probe.probed) second)
 
-pub shrink_taken : (set : SetView) (looks : List Look) (forced : List Try) → taken_by (look_probes set looks ++ try_probes set forced) ≡ freed looks forced
-shrink_taken set looks forced = taken_append (look_probes set looks) (try_probes set forced) ∙ (λ i. looks_taken set looks i ++ tries_taken set forced i)
+-- of a walk over some rows, and of a shrink of a set
+pub walk_taken : (rows : List Row) (looks : List Look) (forced : List Try) → taken_by (probes_of_looks rows looks ++ probes_of_tries rows forced) ≡ freed looks forced
+walk_taken rows looks forced = taken_append (probes_of_looks rows looks) (probes_of_tries rows forced) ∙ (λ i. looks_taken rows looks i ++ tries_taken rows forced i)
 
-looks_tried : (set : SetView) (looks : List Look) → map try_of (look_probes set looks) ≡ flat_map look_tries looks
-looks_tried set [] = refl
-looks_tried set (look ∷ looks) = go look.probed (looks_tried set looks)
+pub shrink_taken : (set : SetView) (looks : List Look) (forced : List Try) → taken_by (look_probes set looks ++ try_probes set forced) ≡ freed looks forced
+shrink_taken set looks forced = walk_taken (rows_on set) looks forced
+
+looks_tried : (rows : List Row) (looks : List Look) → map try_of (probes_of_looks rows looks) ≡ flat_map look_tries looks
+looks_tried rows [] = refl
+looks_tried rows (look ∷ looks) = go look.probed (looks_tried rows looks)
   where
-    go : (probed : Option Seen) → map try_of (look_probes set looks) ≡ flat_map look_tries looks
-        → map try_of (cons_option (option_map (probe_on set look.element) probed) (look_probes set looks)) ≡ unwrap_or (option_map (λ seen. (record { element = look.element; probed = seen }) ∷ []) probed) [] ++ flat_map look_tries looks
+    go : (probed : Option Seen) → map try_of (probes_of_looks rows looks) ≡ flat_map look_tries looks
+        → map try_of (cons_option (option_map (probe_by rows look.element) probed) (probes_of_looks rows looks)) ≡ unwrap_or (option_map (λ seen. (record { element = look.element; probed = seen }) ∷ []) probed) [] ++ flat_map look_tries looks
     go None same = same
     go (Some seen) same = ap (λ (l : List Try). record { element = look.element; probed = seen } ∷ l) same
 
-tries_tried : (set : SetView) (tries : List Try) → map try_of (try_probes set tries) ≡ tries
-tries_tried set [] = refl
-tries_tried set (try ∷ tries) = ap (λ (l : List Try). try ∷ l) (tries_tried set tries)
+tries_tried : (rows : List Row) (tries : List Try) → map try_of (probes_of_tries rows tries) ≡ tries
+tries_tried rows [] = refl
+tries_tried rows (try ∷ tries) = ap (λ (l : List Try). try ∷ l) (tries_tried rows tries)
+
+pub walk_tried : (rows : List Row) (looks : List Look) (forced : List Try) → map try_of (probes_of_looks rows looks ++ probes_of_tries rows forced) ≡ walk_probes looks forced
+walk_tried rows looks forced = map-append try_of (probes_of_looks rows looks) (probes_of_tries rows forced) ∙ (λ i. looks_tried rows looks i ++ tries_tried rows forced i)
 
 shrink_tried : (set : SetView) (looks : List Look) (forced : List Try) → map try_of (look_probes set looks ++ try_probes set forced) ≡ walk_probes looks forced
-shrink_tried set looks forced = map-append try_of (look_probes set looks) (try_probes set forced) ∙ (λ i. looks_tried set looks i ++ tries_tried set forced i)
+shrink_tried set looks forced = walk_tried (rows_on set) looks forced
 
-looks_cleared : (looks : List Look) → cleared_looks looks ≡ map calls.Cleared (map look_visit looks)
+pub looks_cleared : (looks : List Look) → cleared_looks looks ≡ map calls.Cleared (map look_visit looks)
 looks_cleared [] = refl
 looks_cleared (look ∷ looks) = ap (λ (l : List BitCall). calls.Cleared (look_visit look) ∷ l) (looks_cleared looks)
 
@@ -303,26 +323,38 @@ module _ {before after : SetView} {calls_before calls_after : List BitCall} {pro
 
 -- A rotation alone
 
+module _ {shape : Shape} {scans : ℕ} {before middle : SetView} {calls_before calls_after : List BitCall} {turning turning_after : RotateNotes}
+    (fits : FitsSet shape before) (r : Rotation scans before middle calls_before calls_after turning turning_after) (moved : IsPermutation (rows_on before) (rows_on middle)) (whole : IsSet middle) where
+  pub rotated_free : middle.free ≡ before.free
+  rotated_free = ap (λ (z : SetView). z.free) r.set
+
+  pub fits_rotated : FitsSet shape middle
+  fits_rotated = record {
+    sized = subst (λ (z : BodyList). All (IsSized shape) z.bodies) (sym rotated_free) fits.sized;
+    bound = ap (λ (z : SetView). z.elements) r.set ∙ fits.bound;
+    room = ap (λ (z : BodyList). length z.bodies + z.spare) rotated_free ∙ fits.room;
+    whole = whole;
+  }
+
+pub rotated_times : (before middle : SetView) → IsPermutation (rows_on before) (rows_on middle) → (e : ℕ) → times_listed e before ≡ times_listed e middle
+rotated_times before middle moved e = sym (listed_times e before) ∙ (sym (times_permuted e (rows_on before) (rows_on middle) moved) ∙ listed_times e middle)
+
 module _ {shape : Shape} {before middle : SetView} {calls_before calls_after : List BitCall} {turning turning_after : RotateNotes}
     (fits : FitsSet shape before) (r : Rotation own_scans before middle calls_before calls_after turning turning_after) (moved : IsPermutation (rows_on before) (rows_on middle)) (whole : IsSet middle) where
   same_free : middle.free ≡ before.free
-  same_free = ap (λ (z : SetView). z.free) r.set
+  same_free = rotated_free fits r moved whole
 
   told_rotated : set_told middle ≡ rotated_set own_scans r.active r.inactive (set_told before)
   told_rotated = ap set_told r.set
 
-  pub fits_rotated : FitsSet shape middle
-  fits_rotated = record {
-    sized = subst (λ (z : BodyList). All (IsSized shape) z.bodies) (sym same_free) fits.sized;
-    bound = ap (λ (z : SetView). z.elements) r.set ∙ fits.bound;
-    room = ap (λ (z : BodyList). length z.bodies + z.spare) same_free ∙ fits.room;
-    whole = whole;
-  }
+  fits_middle : FitsSet shape middle
+  fits_middle = fits_rotated fits r moved whole
 
-  rotated_times : (e : ℕ) → times e (elements_of before.active ++ elements_of before.inactive) ≡ times e (elements_of middle.active ++ elements_of middle.inactive)
-  rotated_times e =
-      ap (times e) (sym (elements_append before.active before.inactive))
-      ∙ (sym (times_permuted e (rows_on before) (rows_on middle) moved) ∙ ap (times e) (elements_append middle.active middle.inactive))
+  -- on both lists together
+  both_times : (e : ℕ) → times e (elements_of before.active ++ elements_of before.inactive) ≡ times e (elements_of middle.active ++ elements_of middle.inactive)
+  both_times e =
+      times_append e (elements_of before.active) (elements_of before.inactive)
+      ∙ (rotated_times before middle moved e ∙ sym (times_append e (elements_of middle.active) (elements_of middle.inactive)))
 
   row_was : (e : ℕ) (row : Row) → row_on e middle ≡ Some row → row_on e before ≡ Some row
   row_was = rotated_row before middle fits.whole moved
@@ -343,11 +375,11 @@ module _ {shape : Shape} {before middle : SetView} {calls_before calls_after : L
     visits = r.visits;
     shrinks = some_free (numbers before.free.bodies) (subst (λ (n : ℕ). 0 < n) (ap (λ (z : BodyList). length z.bodies) same_free ∙ sym (length_numbers before.free.bodies)) long);
     after_is = told_rotated;
-    fits = fits_rotated;
+    fits = fits_middle;
     calls_are = asked_is ∙ ap (λ (l : List Visit). map calls.Cleared (r.active ++ l)) (sym (append_nil r.inactive));
     probes_are = refl;
     same_free = ap (λ (z : BodyList). numbers z.bodies) (sym same_free);
-    same_rows = rotated_times;
+    same_rows = both_times;
     rows_kept = kept_by before middle row_was;
   }
 
@@ -377,11 +409,11 @@ module _ {shape : Shape} {before middle : SetView} {calls_before calls_after : L
     fits_shrunk : ((body : Stored) → gives body → IsSized shape body) → FitsSet shape after
     fits_shrunk is_sized =
         let room : length s.freed.bodies + s.freed.spare ≡ middle.free.spare = stacked_room gives gone middle.free s.freed s.shrink.left none in
-        let all : length middle.free.bodies + middle.free.spare ≡ shape.elements = fits_rotated.room in
+        let all : length middle.free.bodies + middle.free.spare ≡ shape.elements = fits_middle.room in
         let empty : length middle.free.bodies ≡ 0 = ap length none in
         record {
           sized = subst (λ (z : SetView). All (IsSized shape) z.free.bodies) (sym s.after_is) (All-weaker gives (IsSized shape) is_sized s.freed.bodies (stacked_given gives gone middle.free s.freed s.shrink.left none));
-          bound = ap (λ (z : SetView). z.elements) s.after_is ∙ (ap (λ (z : SetView). z.elements) s.shrink.set ∙ fits_rotated.bound);
+          bound = ap (λ (z : SetView). z.elements) s.after_is ∙ (ap (λ (z : SetView). z.elements) s.shrink.set ∙ fits_middle.bound);
           room = ap (λ (z : SetView). length z.free.bodies + z.free.spare) s.after_is ∙ (let sum : length s.freed.bodies + s.freed.spare ≡ shape.elements = omega (arith, room, all, empty) in sum);
           whole = whole_after;
         }
@@ -421,7 +453,7 @@ module _ {shape : Shape} {before middle : SetView} {calls_before calls_after : L
               let once_before : times e (elements_of before.active ++ elements_of before.inactive) ≤ 1 = subst (λ (n : ℕ). n ≤ 1) (ap (times e) (elements_append before.active before.inactive)) (rows_once before fits.whole e) in
               let then = rows_after e made (lists_of_set (set_told before)) once_before in
               let same : times e (taken_by made) ≡ times e gone = ap (times e) taken in
-              let turned : times e (elements_of before.active ++ elements_of before.inactive) ≡ times e (elements_of middle.active ++ elements_of middle.inactive) = rotated_times e in
+              let turned : times e (elements_of before.active ++ elements_of before.inactive) ≡ times e (elements_of middle.active ++ elements_of middle.inactive) = both_times e in
               let parts : times e (elements_of middle.active ++ elements_of middle.inactive) ≡ times_listed e middle = times_append e (elements_of middle.active) (elements_of middle.inactive) in
               let left : times e (elements_of after.active ++ elements_of after.inactive) ≡ times_listed e s.left = times_append e (elements_of after.active) (elements_of after.inactive) ∙ ap (times_listed e) s.after_is in
               let rows_left = s.shrink.rows e in

@@ -67,13 +67,12 @@ can_take_bucket t bucket p can = record {
   above = subst (IsAboveAll t.shape (rank_of (Bucket bucket))) (sym can.no_lock) tt;
 }
 
-pub enters : (t : TableView) (bucket : ℕ) (p q : PassView) (chain : BodyList) → IsTrue (is_lru t.shape.kind) → t.shape.common ≡ false → CanEnter t bucket p → p.cpu < t.shape.cpus → Takes t (Bucket bucket) p q (contents.Bucket chain) → Enters t bucket p q chain
-enters t bucket p q chain lru apart can few took =
+pub enters : (t : TableView) (bucket : ℕ) (p q : PassView) (chain : BodyList) → IsTrue (is_lru t.shape.kind) → CanEnter t bucket p → p.cpu < t.shape.cpus → Takes t (Bucket bucket) p q (contents.Bucket chain) → Enters t bucket p q chain
+enters t bucket p q chain lru can few took =
     let goes = goes_took t (Bucket bucket) p q (contents.Bucket chain) took in
     let view : q.view ≡ holding took.at took.hold p.view = ap (λ (z : PassView). z.view) took.after_is in
     record {
       evicts = lru;
-      own_lists = apart;
       took = took;
       inside = record {
         of_table = goes_of_table t p q [] [] goes can.of_table;

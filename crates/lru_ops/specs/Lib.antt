@@ -1,7 +1,13 @@
 pub mod Askings
 pub mod Calls
 pub mod Evictions
+pub mod Filling
+pub mod GlobalWork
 pub mod Lists
+pub mod LocalWork
 pub mod Offers
 pub mod OwnTurns
+pub mod Refills
+pub mod Shared
+pub mod Thefts
 pub mod Under

@@ -1,21 +1,28 @@
 -- How an element is taken for a new key, and how one is freed: what each leaves of a pass.
-use Rattle.std.specs.Prelude.{◌≡◌, ◌≢◌, ℕ, ◌<◌, true, false, All, List, [], ◌∷◌, ◌++◌, map, option_map, reverse, Option, None, Some, MatchOption}
+use Rattle.std.specs.Prelude.{◌≡◌, ◌≢◌, ℕ, ◌<◌, true, false, All, List, [], ◌∷◌, ◌++◌, map, option_map, reverse, Option, None, Some, MatchOption, MatchBool}
 use Rattle.key_hash.specs.Bucket.{bucket_number}
 use Rattle.map_types.specs.declared.attr.Shape.{Shape}
-use Rattle.map_types.specs.declared.kind.DomainId.TheVariants.{CpuLru}
+use Rattle.map_types.specs.declared.kind.DomainId.TheVariants.{Local, Global, CpuLru}
 use Rattle.map_types.specs.Listed.{elements_of}
 use Rattle.map_types.specs.Stored.{Stored}
 use Rattle.place_words.specs.declared.bucket_part.Seen.TheVariants.{Held}
+use Rattle.place_words.specs.declared.history.Part.TheVariants as parts
+use Rattle.place_words.specs.declared.list_part.GlobalPart.TheVariants as global
+use Rattle.place_words.specs.declared.list_part.LocalPart.TheVariants as local
+use Rattle.place_words.specs.declared.list_part.Stolen.TheVariants.{Nothing}
+use Rattle.place_words.specs.declared.visits.Flush.{Flush}
 use Rattle.place_words.specs.declared.visits.Look.{Look}
 use Rattle.place_words.specs.declared.visits.Try.{Try}
 use Rattle.place_words.specs.declared.visits.Visit.{Visit}
-use Rattle.place_words.specs.Histories.{in_own}
+use Rattle.place_words.specs.Globals.{global_target, flushed_rotated}
+use Rattle.place_words.specs.Histories.{in_locals, in_global, in_own}
+use Rattle.place_words.specs.Locals.{LocalLists}
 use Rattle.place_words.specs.Sets.{ListSet, own_scans, rotated_set}
 use Rattle.place_words.specs.Shrinking.{after_looks, forced_rows}
 use Rattle.place_words.specs.Takings.{Acquires, Frees, walk_probes}
-use Rattle.place_words.specs.Turns.{found, on_lock}
+use Rattle.place_words.specs.Turns.{found, on_lock, ring}
 use Rattle.place_table.specs.declared.view.Turned.{Turned}
-use Rattle.place_table.specs.Calls.{AreTold, bits_of_turns}
+use Rattle.place_table.specs.Calls.{AreTold, FindNoneMoved, bits_of_turns}
 use Rattle.place_table.specs.Contents.{IsSized}
 use Rattle.place_table.specs.Known.{Learns, turn_of, turn_at, IsBy}
 use Rattle.place_table.specs.Passes.{PassView, TableView, IsPassOf, HasBegun, Made}
@@ -32,6 +39,7 @@ pub record Changed (t : TableView) (before after : PassView) (steps told : List 
   pub spares : after.spares ≡ before.spares
   pub carried : after.view.carried ≡ before.view.carried
   pub learns : Learns t.shape before.view after.view steps (bits_of_turns t.shape told)
+  pub none_moved : FindNoneMoved t before told
 
 -- an element that was taken for a key of this hash: it is one of the map's, and the bucket of its last stored hash is known to be that
 -- of this hash
@@ -44,10 +52,10 @@ pub record IsTakenFor (t : TableView) (hash : ℕ) (after : PassView) (body : St
 abbrev pub IsHeldByOther : ℕ → Try → Type 0
 IsHeldByOther cpu probe = (holder : ℕ) × (probe.probed ≡ Held holder) × (holder ≢ cpu)
 
--- Why no element was found: the last of these turns is one of the CPU's own set, whose free list was empty. After its looks the forced
--- walk tried all that was inactive, or all that was active where nothing was inactive. Each probe, of the looks and of the forced
--- walk, found its element in the hand of another CPU.
-pub record FoundNone (shape : Shape) (cpu hash : ℕ) (turns : List Turned) : Type 0 where
+-- Why no element was found where each CPU has a list set of its own: the last of these turns is one of the CPU's own set, whose free
+-- list was empty. After its looks the forced walk tried all that was inactive, or all that was active where nothing was inactive. Each
+-- probe, of the looks and of the forced walk, found its element in the hand of another CPU.
+pub record FoundNoneOwn (shape : Shape) (cpu hash : ℕ) (turns : List Turned) : Type 0 where
   pub probing : List Turned
   pub last : Turned
   pub turns_are : turns ≡ probing ++ last ∷ []
@@ -61,6 +69,62 @@ pub record FoundNone (shape : Shape) (cpu hash : ℕ) (turns : List Turned) : Ty
   pub last_is : turn_of shape last ≡ on_lock (CpuLru cpu) (own_part hash active inactive (note_of true looks forced) None)
   pub tried_all : map (λ try. try.element) forced ≡ elements_of (reverse (forced_rows (after_looks (rotated_set own_scans active inactive set).lists looks)))
   pub held : All (IsHeldByOther cpu) (walk_probes looks forced)
+
+-- A turn of the global lists that gave none: their free list was empty. After its looks the forced walk tried all that was inactive, or
+-- all that was active where nothing was inactive. Each probe found its element in the hand of another CPU.
+pub record GaveNone (shape : Shape) (cpu : ℕ) (turns : List Turned) : Type 0 where
+  pub probing : List Turned
+  pub last : Turned
+  pub turns_are : turns ≡ probing ++ last ∷ []
+  pub set : ListSet
+  pub found_there : found shape (turn_at shape last) ≡ in_global set
+  pub none_free : set.free ≡ []
+  pub flushed : List Flush
+  pub active : List Visit
+  pub inactive : List Visit
+  pub looks : List Look
+  pub forced : List Try
+  pub last_is : turn_of shape last ≡ on_lock Global (parts.Global (global.Turn flushed active inactive [] (Some (record { target = global_target; looks = looks; forced = forced }))))
+  pub tried_all : map (λ try. try.element) forced ≡ elements_of (reverse (forced_rows (after_looks (flushed_rotated flushed active inactive set).lists looks)))
+  pub held : All (IsHeldByOther cpu) (walk_probes looks forced)
+
+-- A theft that found none under the local lists of a CPU: their free list was empty, and each pending element was probed at last, and
+-- was in the hand of another CPU than the thief.
+pub record StoleNone (shape : Shape) (cpu from : ℕ) (turns : List Turned) : Type 0 where
+  pub probing : List Turned
+  pub last : Turned
+  pub turns_are : turns ≡ probing ++ last ∷ []
+  pub lists : LocalLists
+  pub found_there : found shape (turn_at shape last) ≡ in_locals lists
+  pub none_free : lists.free ≡ []
+  pub first : List Look
+  pub second : List Try
+  pub last_is : turn_of shape last ≡ on_lock (Local from) (parts.Local (local.Steal Nothing first second))
+  pub tried_all : map (λ try. try.element) second ≡ elements_of (reverse lists.pending)
+  pub held : All (IsHeldByOther cpu) (walk_probes first second)
+
+abbrev pub StoleNoneOf : Shape → ℕ → List ℕ → List Turned → Type 0
+StoleNoneOf shape cpu [] turns = turns ≡ []
+StoleNoneOf shape cpu (from ∷ others) turns =
+    (tried : List Turned) × (rest : List Turned) × ((turns ≡ tried ++ rest) × StoleNone shape cpu from tried × StoleNoneOf shape cpu others rest)
+
+-- Why no element was found where the CPUs share lists: the own local free list was empty, a turn of the global lists gave none, and a
+-- theft from the local lists of every CPU, in the order of the ring from the own steal cursor, found none.
+pub record FoundNoneShared (shape : Shape) (cpu hash : ℕ) (turns : List Turned) : Type 0 where
+  pub inner : List Turned
+  pub last : Turned
+  pub stealing : List Turned
+  pub turns_are : turns ≡ (inner ++ last ∷ []) ++ stealing
+  pub gave_none : GaveNone shape cpu inner
+  pub lists : LocalLists
+  pub found_there : found shape (turn_at shape last) ≡ in_locals lists
+  pub none_free : lists.free ≡ []
+  pub flushed : List Visit
+  pub last_is : turn_of shape last ≡ on_lock (Local cpu) (parts.Local (local.Refill hash flushed [] None))
+  pub stole_none : StoleNoneOf shape cpu (ring lists.steal shape.cpus) stealing
+
+abbrev pub FoundNone : Shape → ℕ → ℕ → List Turned → Type 0
+FoundNone shape cpu hash turns = MatchBool shape.common (FoundNoneShared shape cpu hash turns) (FoundNoneOwn shape cpu hash turns)
 
 -- An element was taken for a key of this hash, by turns that take it. It is in the CPU's hand. Or these turns got none, and show why.
 -- In either case each holder that a probe tells was read meanwhile in the owner word of the element.

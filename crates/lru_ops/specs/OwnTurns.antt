@@ -19,6 +19,7 @@ use Rattle.place_words.specs.Rotation.{AreRotationVisits}
 use Rattle.place_words.specs.Sets.{own_scans, own_target, rotated_set, shrunk_into_free, AllowsOwnShrink}
 use Rattle.place_words.specs.Takings.{shrink_probes, stored_hash}
 use Rattle.place_core.specs.State.{rows}
+use Rattle.place_table.specs.Views.{is_among, is_in_hand_of}
 use Rattle.place_table.specs.Contents.{set_told, lists_of_set, FitsSet, IsSized}
 use Rattle.place_table.specs.Passes.{PassView, TableView, Claimed, Cleared}
 use Rattle.lru_lists.specs.declared.bits.BitCall.{BitCall}
@@ -31,8 +32,15 @@ use Rattle.lru_lists.specs.declared.notes.ShrinkNotes.{ShrinkNotes}
 use Rattle.lru_lists.specs.Notes.{AreNoted}
 use Rattle.lru_lists.specs.Sets.{SetView, listed, moved_in, popped, with_free}
 use Rattle.lru_shrink.specs.Shrunk.{Shrink}
+use Rattle.lru_ops.specs.declared.probing.Destination.TheVariants.{OwnFree}
 use Rattle.lru_ops.specs.Askings.{Does, lists_after}
-use Rattle.lru_ops.specs.Evictions.{HoldsOwnSet}
+use Rattle.lru_ops.specs.Evictions.{HoldsLists}
+
+-- The pass holds the lock of its CPU's own set and no other, and its CPUs have nothing in hand.
+pub record HoldsOwnSet (t : TableView) (p : PassView) : Type 0 where
+  pub lists : HoldsLists t (CpuLru p.cpu) p
+  pub alone : lists.outer ≡ []
+  pub hands_empty : (e cpu : ℕ) → is_among cpu p.view.cpus ≡ true → is_in_hand_of e cpu p.view.hand ≡ false
 
 -- no bodies, and room for none
 abbrev pub no_bodies : BodyList
@@ -82,21 +90,21 @@ pub record WorksOn (shape : Shape) (before after : SetView) (turning turning_aft
 pub record CanWork (t : TableView) (set : SetView) (p : PassView) : Type 0 where
   pub holds : HoldsOwnSet t p
   pub fits : FitsSet t.shape set
-  pub found : in_own (set_told set) ≡ content t.shape (CpuLru p.cpu) holds.hold.log
-  pub now : holds.hold.now ≡ lists_of_set (set_told set)
+  pub found : in_own (set_told set) ≡ content t.shape (CpuLru p.cpu) holds.lists.hold.log
+  pub now : holds.lists.hold.now ≡ lists_of_set (set_told set)
 
 -- The set was rotated, and shrunk where nothing was free, by this pass.
 pub record Worked (t : TableView) (before after : SetView) (turning turning_after : RotateNotes) (shrinking shrinking_after : ShrinkNotes) (shrunk : Bool) (p q : PassView) : Type 0 where
   pub calls : List BitCall
   pub probes : List ProbeCall
   pub works : WorksOn t.shape before after turning turning_after shrinking shrinking_after shrunk calls probes
-  pub does : Does t calls probes p q
+  pub does : Does t OwnFree (rows_on before) calls probes p q
 
 -- The pass knows the free list of its own set, whose lock it holds.
 pub record CanGiveOut (t : TableView) (set : SetView) (p : PassView) : Type 0 where
   pub holds : HoldsOwnSet t p
   pub fits : FitsSet t.shape set
-  pub free_is : holds.hold.now.free ≡ numbers set.free.bodies
+  pub free_is : holds.lists.hold.now.free ≡ numbers set.free.bodies
 
 -- The body at the head of the free list was taken: its element was claimed and its bit cleared, and it is the head of inactive
 -- with this hash.

@@ -1,5 +1,5 @@
 -- A turn of a key's bucket: how the bucket is taken, what the turn leaves, and what the turns of lookups, deletes and takes tell.
-use Rattle.std.specs.Prelude.{◌≡◌, ℕ, ◌<◌, false, List, [], ◌∷◌, IsTrue, option_map, Option, None, Some, MatchOption}
+use Rattle.std.specs.Prelude.{◌≡◌, ℕ, ◌<◌, List, [], ◌∷◌, IsTrue, option_map, Option, None, Some, MatchOption}
 use Rattle.map_types.specs.declared.kind.DomainId.TheVariants.{Bucket}
 use Rattle.map_types.specs.declared.kind.Side.{Side}
 use Rattle.map_types.specs.declared.kind.Side.TheVariants.{Prog, Sys}
@@ -29,10 +29,9 @@ pub record CanEnter (t : TableView) (bucket : ℕ) (p : PassView) : Type 0 where
   pub no_lock : p.view.held ≡ []
   pub there : bucket < t.shape.buckets
 
--- the bucket was taken, of a map that evicts, whose CPUs have lists of their own, whatever is in hand
+-- the bucket was taken, of a map that evicts, whatever is in hand
 pub record Enters (t : TableView) (bucket : ℕ) (p q : PassView) (chain : BodyList) : Type 0 where
   pub evicts : IsTrue (is_lru t.shape.kind)
-  pub own_lists : t.shape.common ≡ false
   pub took : Takes t (Bucket bucket) p q (contents.Bucket chain)
   pub inside : InBucket t bucket q chain.bodies
 

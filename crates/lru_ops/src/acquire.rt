@@ -1,6 +1,6 @@
 //! How an element is taken for a new key.
 
-ghost use Rattle.std.specs.Prelude.{◌≡◌, IfSome, IfNone, MatchOption, option_map};
+ghost use Rattle.std.specs.Prelude.{◌≡◌, false, IfSome, IfNone, MatchOption, option_map};
 ghost use Rattle.map_types.specs.declared.kind.DomainId.TheVariants as locks;
 ghost use Rattle.lru_lists.specs.declared.notes.Noted.TheVariants as noted;
 ghost use Rattle.place_table.specs.Calls.{CanCall};
@@ -20,12 +20,14 @@ use std::sync::Wait;
 pub(crate) const OWN_TARGET: u32 = 4;
 
 impl LruMap {
-    /// Takes an element for a key of this hash, or finds none (ENOMEM): in one turn of the lock of the CPU's own set it is
-    /// rotated, shrunk where nothing is free, and gives out the head of its free list, as in the kernel's
-    /// `bpf_percpu_lru_pop_free`. The element is in the CPU's hand then, and listed there with the hash. None comes exactly
-    /// where that turn got none: the free list was empty, and each element that the forced walk looked at was in the hand of
-    /// another CPU, whose owner word showed it. The pass is in no other call. It takes no memory that it needs: where there is
-    /// none for what the turn tells, the record of the set's turns is lost.
+    /// Takes an element for a key of this hash, or finds none (ENOMEM). The element is in the CPU's hand then, and listed with the
+    /// hash. Where each CPU has a list set of its own, one turn of the CPU's set is made: it is rotated, shrunk where nothing is free,
+    /// and gives out the head of its free list, as in the kernel's `bpf_percpu_lru_pop_free`. Where the CPUs share lists, as in
+    /// `bpf_common_lru_pop_free`: the head of the CPU's local free list is given out, which is filled from the global lists where it is
+    /// empty; and where these give nothing, an element is stolen from the local lists of a CPU, in a round from the CPU's own steal
+    /// cursor. None comes exactly where every list that was looked at gave nothing: its free list was empty, and each element that was
+    /// tried at last was in the hand of another CPU, whose owner word showed it. The pass is in no other call. It takes no memory that it needs:
+    /// where there is none for what a turn tells, the record of that lock's turns is lost.
     pub fn acquire<R: Wait, G: Gate>(
         &self,
         rt: &R,
@@ -34,6 +36,25 @@ impl LruMap {
         gate: &G,
     ) -> Option<BoxedBody>
         requires { CanCall self.now pass.old }
+        ensures { Acquired self.now hash pass.old pass.new result }
+    {
+        if self.table.shape().common {
+            self.take_shared(rt, pass, hash, gate)
+        } else {
+            self.take_own(rt, pass, hash, gate)
+        }
+    }
+
+    /// Takes an element in one turn of the lock of the CPU's own set.
+    fn take_own<R: Wait, G: Gate>(
+        &self,
+        rt: &R,
+        pass: &mut Pass,
+        hash: u32,
+        gate: &G,
+    ) -> Option<BoxedBody>
+        requires can { CanCall self.now pass.old }
+        requires own_lists { self.now.shape.common ≡ false }
         ensures { Acquired self.now hash pass.old pass.new result }
     {
         let lock = DomainId::CpuLru(self.table.cpu_of(pass));
@@ -60,7 +81,7 @@ impl LruMap {
 }
 
 /// The element of a body.
-fn element_of(got: &Option<BoxedBody>) -> Option<u32>
+pub(crate) fn element_of(got: &Option<BoxedBody>) -> Option<u32>
     ensures { result ≡ option_map (λ body. body.element) got.now }
 {
     got.as_ref().map(|body| body.body().element())
@@ -88,7 +109,7 @@ fn give_out(
 }
 
 /// The list of notes, none where memory for one was not found.
-fn kept<T>(notes: Noted<T>) -> Option<List<T>>
+pub(crate) fn kept<T>(notes: Noted<T>) -> Option<List<T>>
     ensures { MatchOption result (notes ≡ noted.Lost) (λ list. notes ≡ noted.Kept list) }
 {
     match notes {

@@ -1,6 +1,6 @@
 //! The calls on a map.
 
-ghost use Rattle.std.specs.Prelude.{◌≡◌, ℕ, ◌≤◌, ◌==◌, ◌&&◌, IfErr, IsTrue, false, length};
+ghost use Rattle.std.specs.Prelude.{◌≡◌, ℕ, ◌≤◌, ◌==◌, ◌&&◌, IfErr, IsTrue, length};
 ghost use Rattle.map_types.specs.declared.call.Verb.TheVariants as verbs;
 ghost use Rattle.map_types.specs.declared.kind.Side.TheVariants.{Sys};
 ghost use Rattle.map_types.specs.Kind.{is_lru, is_percpu};
@@ -48,12 +48,12 @@ impl LruMap {
     /// Updates a key with a value of a side's length, by flags: BPF_ANY (0), BPF_NOEXIST (1) or BPF_EXIST (2). It is refused
     /// with `Einval` exactly where the flags are others, before anything is looked at. Else an element is taken first, which
     /// may evict others, but on LRU_PERCPU_HASH under BPF_EXIST; it is refused with `Enomem` exactly where none was found: then
-    /// the CPU's own free list was empty, and each element that was probed was in the hand of another CPU. With one taken it is
-    /// refused with `Eexist` or `Enoent` where the bucket's turn found the key there under BPF_NOEXIST, or not there under
-    /// BPF_EXIST: so an update under BPF_EXIST may evict its own key. What isn't needed, or was replaced, is freed. `NoMemory`
-    /// may come wherever a key or a value can't be copied, or the bucket has no room: then the bucket is as its turn found it,
-    /// and the record of its turns is lost. The rules are those of `htab_lru_map_update_elem` and
-    /// `__htab_lru_percpu_map_update_elem`.
+    /// each free list that was looked at was empty, the CPU's own first, and each element that was probed was in the hand of
+    /// another CPU. With one taken it is refused with `Eexist` or `Enoent` where the bucket's turn found the key there under
+    /// BPF_NOEXIST, or not there under BPF_EXIST: so an update under BPF_EXIST may evict its own key. What isn't needed, or was
+    /// replaced, is freed. `NoMemory` may come wherever a key or a value can't be copied, or the bucket has no room: then the
+    /// bucket is as its turn found it, and the record of its turns is lost. The rules are those of `htab_lru_map_update_elem`
+    /// and `__htab_lru_percpu_map_update_elem`.
     pub fn update<R: Wait, G: Gate>(
         &self,
         rt: &R,
@@ -222,7 +222,6 @@ impl LruMap {
     fn only_writes(&self, flags: u32) -> bool
         ensures value { result ≡ (is_percpu self.now.shape.kind && (flags == 2)) }
         ensures evicts { IsTrue (is_lru self.now.shape.kind) }
-        ensures own_lists { self.now.shape.common ≡ false }
     {
         self.table.shape().kind.is_percpu() && flags == BPF_EXIST
     }

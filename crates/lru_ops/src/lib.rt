@@ -9,6 +9,9 @@ mod map;
 mod probe;
 mod probing;
 mod push;
+mod refill;
+mod shared;
+mod steal;
 mod updates;
 
 pub use map::{LruMap, LruRefusal};

@@ -1,6 +1,6 @@
 //! A map that evicts.
 
-ghost use Rattle.std.specs.Prelude.{◌≡◌, ℕ, ◌<◌, true, false, IfOk, IsTrue, length};
+ghost use Rattle.std.specs.Prelude.{◌≡◌, ℕ, ◌<◌, true, IfOk, IsTrue, length};
 ghost use Rattle.map_types.specs.Creation.{IsShape};
 ghost use Rattle.map_types.specs.Kind.{is_lru};
 ghost use Rattle.map_types.specs.Shape.{HasBounds};
@@ -39,7 +39,7 @@ pub enum LruRefusal {
 }
 
 /// A map of kind LRU_HASH or LRU_PERCPU_HASH, which may be shared by threads, each of which has a pass. Contracts see its
-/// table. Maps whose CPUs have lists of their own (NO_COMMON_LRU) are served.
+/// table.
 #[derive(Drop)]
 pub struct LruMap {
     pub(crate) table: PlaceTable,
@@ -47,7 +47,7 @@ pub struct LruMap {
 }
 
 impl Model for LruMap {
-    ghost use Rattle.std.specs.Prelude.{◌≡◌, false, IsTrue};
+    ghost use Rattle.std.specs.Prelude.{IsTrue};
     ghost use Rattle.map_types.specs.Creation.{IsShape};
     ghost use Rattle.map_types.specs.Kind.{is_lru};
     ghost use Rattle.place_table.specs.Passes.{TableView};
@@ -56,7 +56,7 @@ impl Model for LruMap {
 
     ghost view = { λ m. m.table };
 
-    ghost invariant = { λ m. IsShape m.table.shape × IsTrue (is_lru m.table.shape.kind) × (m.table.shape.common ≡ false) };
+    ghost invariant = { λ m. IsShape m.table.shape × IsTrue (is_lru m.table.shape.kind) };
 }
 
 impl LruMap {
@@ -65,18 +65,16 @@ impl LruMap {
     pub fn create(alloc: Global, shape: &Shape) -> Result<(LruMap, Pass), NoMemory>
         requires shape { IsShape shape.now }
         requires evicts { IsTrue (is_lru shape.now.kind) }
-        requires own_lists { shape.now.common ≡ false }
         ensures { IfOk result (λ made. (made.0.shape ≡ shape.now) × IsFirstPass made.0 made.1) }
     {
         let (table, pass) = PlaceTable::create(alloc, shape)?;
         Ok((LruMap { table, alloc }, pass))
     }
 
-    /// The table of the map, whose kind evicts, and whose CPUs have lists of their own.
+    /// The table of the map, whose kind evicts.
     pub fn table(&self) -> &PlaceTable
         ensures value { result.now ≡ self.now }
         ensures evicts { IsTrue (is_lru self.now.shape.kind) }
-        ensures own_lists { self.now.shape.common ≡ false }
     {
         &self.table
     }

@@ -1,15 +1,13 @@
 use Rattle.std.proofs.Common.{rules, true, false, ◌<◌, ℕ, sym, subst}
 use Rattle.place_table.specs.Passes.{PassView}
-use Rattle.lru_ops.specs.Askings.{Since}
+use Rattle.lru_ops.specs.Askings.{MayChase}
 use Rattle.lru_ops.specs.OwnTurns.{Worked}
-use Rattle.lru_ops.proofs.Asked.{since_start}
 use Rattle.lru_ops.proofs.SetWork.{fits_rotated, free_room, none_free}
-use Rattle.lru_ops.proofs.PassWork.{may_ask, may_chase, still_on, still_listed_on, rotated_worked, shrunk_worked}
+use Rattle.lru_ops.proofs.PassWork.{since_own, may_ask, may_chase, still_on, still_listed_on, rotated_worked, shrunk_worked}
 use Rattle.lru_ops.proofs.probing.work_since.Goals as goal
 
 pub rotate-requires-clause-noted : goal.rotate-requires-clause-noted
-rotate-requires-clause-noted g c =
-    subst (λ (z : PassView). Since c.args.table.now g.K.Begun.hash z c.args.pass.now) (sym c.requires.start) (since_start c.args.table.now g.K.Begun.hash c.args.pass.now c.requires.can.holds)
+rotate-requires-clause-noted g c = (sym c.requires.to, since_own c.requires.can c.requires.start c.requires.lock c.requires.to c.requires.rows)
 
 pub rotate-requires-clause-asked : goal.rotate-requires-clause-asked
 rotate-requires-clause-asked g c e listed = may_ask c.requires.can e listed
@@ -19,9 +17,9 @@ returns-then-free_len-gt0 g c =
     let a = c.args in
     let m = c.rotate.new in
     let e = c.rotate.ensures in
-    let start : Since a.table.now g.K.Begun.hash g.K.Begun.start a.pass.now = subst (λ (z : PassView). Since a.table.now g.K.Begun.hash z a.pass.now) (sym c.requires.start) (since_start a.table.now g.K.Begun.hash a.pass.now c.requires.can.holds) in
+    let start = since_own c.requires.can c.requires.start c.requires.lock c.requires.to c.requires.rows in
     let done : Worked a.table.now a.set.now m.set a.turning.now m.notes a.shrinking.now a.shrinking.now false a.pass.now m.bits.pass.now =
-    rotated_worked c.requires.can c.requires.start (e.noted 0 start) a.shrinking.now e.rotation e.rows e.whole e.only.probed (subst (λ (n : ℕ). 0 < n) c.free_len.ensures.exact c.if-free_len-gt0.true) in
+    rotated_worked c.requires.can c.requires.start c.requires.to c.requires.rows (e.noted 0 (sym c.requires.to, start)).1 a.shrinking.now e.rotation e.rows e.whole e.only.probed (subst (λ (n : ℕ). 0 < n) c.free_len.ensures.exact c.if-free_len-gt0.true) in
     subst (λ (z : PassView). Worked a.table.now a.set.now m.set a.turning.now m.notes a.shrinking.now a.shrinking.now false a.pass.now z) (search rules) done
 
 pub shrink_free-requires-clause-room : goal.shrink_free-requires-clause-room
@@ -30,7 +28,7 @@ shrink_free-requires-clause-room g c =
 
 pub shrink_free-requires-clause-noted : goal.shrink_free-requires-clause-noted
 shrink_free-requires-clause-noted g c =
-    c.rotate.ensures.noted 0 (subst (λ (z : PassView). Since c.args.table.now g.K.Begun.hash z c.args.pass.now) (sym c.requires.start) (since_start c.args.table.now g.K.Begun.hash c.args.pass.now c.requires.can.holds))
+    c.rotate.ensures.noted 0 (sym c.requires.to, since_own c.requires.can c.requires.start c.requires.lock c.requires.to c.requires.rows)
 
 pub shrink_free-requires-clause-asked : goal.shrink_free-requires-clause-asked
 shrink_free-requires-clause-asked g c e listed =
@@ -38,7 +36,8 @@ shrink_free-requires-clause-asked g c e listed =
 
 pub shrink_free-requires-clause-probed : goal.shrink_free-requires-clause-probed
 shrink_free-requires-clause-probed g c row found =
-    (c.rotate.ensures.only.probing row).0 (may_chase c.requires.can g.K.Begun.hash c.requires.hashes row (still_on c.args.set.now c.rotate.new.set c.requires.can.fits.whole c.rotate.ensures.rows row found))
+    (c.rotate.ensures.only.probing row).0
+    (subst (λ rows. MayChase c.args.table.now rows c.args.pass.now row) (sym c.requires.rows) (may_chase c.requires.can row (still_on c.args.set.now c.rotate.new.set c.requires.can.fits.whole c.rotate.ensures.rows row found)))
 
 pub returns : goal.returns
 returns g c =
@@ -47,7 +46,7 @@ returns g c =
     let n = c.shrink_free.new in
     let e = c.rotate.ensures in
     let f = c.shrink_free.ensures in
-    let start : Since a.table.now g.K.Begun.hash g.K.Begun.start a.pass.now = subst (λ (z : PassView). Since a.table.now g.K.Begun.hash z a.pass.now) (sym c.requires.start) (since_start a.table.now g.K.Begun.hash a.pass.now c.requires.can.holds) in
+    let start = since_own c.requires.can c.requires.start c.requires.lock c.requires.to c.requires.rows in
     let done : Worked a.table.now a.set.now n.set a.turning.now m.notes a.shrinking.now n.notes true a.pass.now n.probe.pass.now =
-    shrunk_worked c.requires.can c.requires.start (f.noted 0 (e.noted 0 start)) e.rotation e.rows e.whole e.only.probed f.shrinks (none_free m.set.free.bodies c.free_len.result c.free_len.ensures.exact c.if-free_len-gt0.false) f.whole in
+    shrunk_worked c.requires.can c.requires.start c.requires.to c.requires.rows (f.noted 0 (e.noted 0 (sym c.requires.to, start))).1 e.rotation e.rows e.whole e.only.probed f.shrinks (none_free m.set.free.bodies c.free_len.result c.free_len.ensures.exact c.if-free_len-gt0.false) f.whole in
     subst (λ (z : PassView). Worked a.table.now a.set.now n.set a.turning.now m.notes a.shrinking.now n.notes true a.pass.now z) (search rules) done

@@ -1,6 +1,7 @@
-use Rattle.std.specs.Prelude.{option_map, unwrap_or}
-use Rattle.lru_lists.specs.Sets.{row_on}
+use Rattle.map_types.specs.declared.kind.DomainId.TheVariants.{CpuLru}
+use Rattle.lru_ops.specs.declared.probing.Destination.TheVariants.{OwnFree}
+use Rattle.lru_ops.specs.OwnTurns.{rows_on}
 use Rattle.lru_ops.proofs.probing.work_under.Given as goal
 
 abbrev pub ghosts-work_since : goal.ghosts-work_since
-ghosts-work_since g a = record { start = a.pass.now; hash = λ e. unwrap_or (option_map (λ row. row.hash) (row_on e a.set.now)) 0 }
+ghosts-work_since g a = record { start = a.pass.now; lock = CpuLru a.pass.now.cpu; rows = rows_on a.set.now; to = OwnFree }

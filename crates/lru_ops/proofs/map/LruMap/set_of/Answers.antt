@@ -1,4 +1,4 @@
-use Rattle.std.proofs.Common.{◌<◌, ◌/◌, arith, sym, subst}
+use Rattle.std.proofs.Common.{◌≡◌, ◌<◌, ◌/◌, false, arith, sym, subst}
 use Rattle.map_types.specs.declared.attr.Shape.{Shape}
 use Rattle.map_types.proofs.CreationLemmas.{bounds_of_shape}
 use Rattle.place_core.proofs.StartLemmas.{set_some}
@@ -14,11 +14,11 @@ nonzero_div-result c =
 
 pub nonzero_div-result-2 : goal.nonzero_div-result-2
 nonzero_div-result-2 c =
-    subst (λ (s : Shape). 0 < s.elements / s.cpus) (sym c.shape-shape.ensures) (set_some _ (bounds_of_shape _ c.self.invariant.0) c.self.invariant.1 c.self.invariant.2)
+    subst (λ (s : Shape). 0 < s.elements / s.cpus) (sym c.shape-shape.ensures) (set_some _ (bounds_of_shape _ c.self.invariant.0) c.self.invariant.1 (subst (λ (z : TableView). z.shape.common ≡ false) (sym c.self.view_is) c.requires.own_lists))
 
 pub returns-clause-in_range : goal.returns-clause-in_range
 returns-clause-in_range c =
     let t = c.self.inside.table in
-    let real : c.args.element < t.shape.elements = subst (λ (z : TableView). c.args.element < z.shape.elements) (sym c.self.view_is) c.requires in
+    let real : c.args.element < t.shape.elements = subst (λ (z : TableView). c.args.element < z.shape.elements) (sym c.self.view_is) c.requires.real in
     subst (λ (z : TableView). set_of c.shape-shape.result.now c.args.element < z.shape.cpus) c.self.view_is
-    (subst (λ (s : Shape). set_of s c.args.element < t.shape.cpus) (sym c.shape-shape.ensures) (set_within t.shape (bounds_of_shape _ c.self.invariant.0) c.self.invariant.1 c.self.invariant.2 c.args.element real))
+    (subst (λ (s : Shape). set_of s c.args.element < t.shape.cpus) (sym c.shape-shape.ensures) (set_within t.shape (bounds_of_shape _ c.self.invariant.0) c.self.invariant.1 (subst (λ (z : TableView). z.shape.common ≡ false) (sym c.self.view_is) c.requires.own_lists) c.args.element real))

@@ -9,17 +9,17 @@ returns-then-flags-gt-BPF_EXIST-clause-updates g c = (refl, called_unknown c.arg
 pub offer-requires-clause-can : goal.offer-requires-clause-can
 offer-requires-clause-can g c κs within =
     let a = c.args in
-    can_offer c.acquire.new.pass a.side a.flags a.key.now a.value.now c.requires.can c.only_writes.ensures.evicts c.only_writes.ensures.own_lists c.if-flags-gt-BPF_EXIST.false (sym c.if-only_writes.ensures.value)
+    can_offer c.acquire.new.pass a.side a.flags a.key.now a.value.now c.requires.can c.only_writes.ensures.evicts c.if-flags-gt-BPF_EXIST.false (sym c.if-only_writes.ensures.value)
     (subst (λ (n : ℕ). Acquired a.self.now n a.pass.now c.acquire.new.pass (Some c.in-Some.body)) c.hash_of_key-hash.ensures c.in-Some.ensures)
 
 pub returns-in-Some-clause-updates : goal.returns-in-Some-clause-updates
 returns-in-Some-clause-updates g c =
     let a = c.args in
-    updates_offered c.acquire.new.pass a.side a.flags a.key.now a.value.now c.requires.can c.only_writes.ensures.evicts c.only_writes.ensures.own_lists c.if-flags-gt-BPF_EXIST.false (sym c.if-only_writes.ensures.value)
+    updates_offered c.acquire.new.pass a.side a.flags a.key.now a.value.now c.requires.can c.only_writes.ensures.evicts c.if-flags-gt-BPF_EXIST.false (sym c.if-only_writes.ensures.value)
     (subst (λ (n : ℕ). Acquired a.self.now n a.pass.now c.acquire.new.pass (Some c.in-Some.body)) c.hash_of_key-hash.ensures c.in-Some.ensures) c.offer.new.pass c.offer.result c.offer.ensures.answers
 
 pub returns-in-None-clause-updates : goal.returns-in-None-clause-updates
 returns-in-None-clause-updates g c =
     let a = c.args in
-    took_none c.acquire.new.pass a.side a.flags a.key.now a.value.now c.requires.can c.only_writes.ensures.evicts c.only_writes.ensures.own_lists c.if-flags-gt-BPF_EXIST.false (sym c.if-only_writes.ensures.value)
+    took_none c.acquire.new.pass a.side a.flags a.key.now a.value.now c.requires.can c.only_writes.ensures.evicts c.if-flags-gt-BPF_EXIST.false (sym c.if-only_writes.ensures.value)
     (subst (λ (n : ℕ). Acquired a.self.now n a.pass.now c.acquire.new.pass None) c.hash_of_key-hash.ensures c.in-None.ensures)

@@ -1,31 +1,51 @@
-use Rattle.std.proofs.Common.{ℕ, sym, ap, ◌∙◌, subst, ◌++◌, ◌∷◌, []}
+use Rattle.std.proofs.Common.{◌≡◌, ◌<◌, sym, subst}
 use Rattle.key_hash.specs.Bucket.{bucket_number, IsPowerOfTwo}
 use Rattle.map_types.proofs.CreationLemmas.{bounds_of_shape}
 use Rattle.lru_lists.specs.Probes.{seen_of}
-use Rattle.lru_ops.specs.Askings.{probes_made}
-use Rattle.lru_ops.specs.Evictions.{MayProbe}
-use Rattle.lru_ops.proofs.Asked.{asked_chased, chased_other, since_chased, probed_more}
+use Rattle.lru_ops.specs.declared.probing.Destination.{Destination}
+use Rattle.lru_ops.specs.Askings.{hash_in}
+use Rattle.lru_ops.specs.Evictions.{CanChase, ChasedFor}
+use Rattle.lru_ops.proofs.Asked.{asked_chased, can_chase, chased_held, chased_other, hash_named, since_chased, probed_more}
 use Rattle.lru_ops.proofs.probing.ProbingProbe.evict.Goals as goal
 
 pub bucket_of-bucket-requires : goal.bucket_of-bucket-requires
-bucket_of-bucket-requires g c = subst (λ z. IsPowerOfTwo (z.buckets)) (sym c.shape.ensures) ((bounds_of_shape _ c.requires.noted.holds.is_shape).buckets_power)
+bucket_of-bucket-requires g c = subst (λ z. IsPowerOfTwo (z.buckets)) (sym c.shape.ensures) ((bounds_of_shape _ c.requires.noted.1.holds.is_shape).buckets_power)
+
+pub chase-requires : goal.chase-requires
+chase-requires g c =
+    let s = c.args.self.now in
+    let noted = c.requires.noted in
+    let here = subst (λ z. c.bucket_of-bucket.result ≡ bucket_number c.args.hash z.buckets) c.shape.ensures c.bucket_of-bucket.ensures.value in
+    let there = subst (λ z. c.bucket_of-bucket.result < z.buckets) c.shape.ensures c.bucket_of-bucket.ensures.in_range in
+    record {
+      can = subst (λ (to : Destination). CanChase s.table.now to c.bucket_of-bucket.result c.args.element s.pass.now) (sym noted.0) (can_chase noted.1 c.bucket_of-bucket.result c.args.element c.args.hash here there c.requires.probed.1);
+    }
 
 pub returns-clause-probe : goal.returns-clause-probe
 returns-clause-probe g c =
-    probed_more c.requires.noted c.bucket_of-bucket.result c.args.element c.chase.new.pass (seen_of c.chase.result) c.chase.ensures.chased
-    ∙ ap (λ (n : ℕ). probes_made g.K.Begun.hash c.args.self.now.pass.now.view.steps ++ record { element = c.args.element; hash = n; probed = seen_of c.chase.result } ∷ []) (sym c.requires.probed.0)
+    let s = c.args.self.now in
+    let done = subst (λ (to : Destination). ChasedFor s.table.now to c.bucket_of-bucket.result c.args.element s.pass.now c.chase.new.pass c.chase.result) c.requires.noted.0 c.chase.ensures in
+    probed_more (hash_in g.K.Begun.rows) c.bucket_of-bucket.result c.args.element c.args.hash c.chase.new.pass (seen_of c.chase.result) (hash_named g.K.Begun.rows c.args.element c.args.hash c.requires.probed.0) done.chased
 
 pub returns-clause-noted : goal.returns-clause-noted
-returns-clause-noted g c n since =
-    since_chased since c.bucket_of-bucket.result c.args.element c.chase.new.pass (seen_of c.chase.result)
-    (c.bucket_of-bucket.ensures.value ∙ (λ i. bucket_number (c.requires.probed.0 i) ((c.shape.ensures i).buckets)))
-    (subst (λ (h : ℕ). MayProbe c.args.self.now.table.now c.args.self.now.pass.now (record { element = c.args.element; hash = h })) c.requires.probed.0 c.requires.probed.1)
-    c.chase.ensures.chased
+returns-clause-noted g c n can =
+    let s = c.args.self.now in
+    let here = subst (λ z. c.bucket_of-bucket.result ≡ bucket_number c.args.hash z.buckets) c.shape.ensures c.bucket_of-bucket.ensures.value in
+    let done = subst (λ (to : Destination). ChasedFor s.table.now to c.bucket_of-bucket.result c.args.element s.pass.now c.chase.new.pass c.chase.result) can.0 c.chase.ensures in
+    (can.0, since_chased can.1 c.bucket_of-bucket.result c.args.element c.args.hash c.chase.new.pass (seen_of c.chase.result) here c.requires.probed.0 done.chased)
 
 pub returns-clause-asked : goal.returns-clause-asked
 returns-clause-asked g c e may =
-    asked_chased c.args.self.now.table.now e c.bucket_of-bucket.result c.args.element c.args.self.now.pass.now c.chase.new.pass (seen_of c.chase.result) c.chase.ensures.chased may
+    let s = c.args.self.now in
+    let done = subst (λ (to : Destination). ChasedFor s.table.now to c.bucket_of-bucket.result c.args.element s.pass.now c.chase.new.pass c.chase.result) c.requires.noted.0 c.chase.ensures in
+    asked_chased c.requires.noted.1.holds c.requires.noted.1.holds_for e c.bucket_of-bucket.result c.args.element c.chase.new.pass (seen_of c.chase.result) done.chased may
 
 pub returns-clause-others : goal.returns-clause-others
 returns-clause-others g c row other may =
-    chased_other c.args.self.now.table.now g.K.Begun.hash c.bucket_of-bucket.result c.args.element c.args.hash c.args.self.now.pass.now c.chase.new.pass (seen_of c.chase.result) row c.chase.ensures.chased c.requires.probed.0 other may
+    let s = c.args.self.now in
+    chased_other s.table.now s.to g.K.Begun.rows c.bucket_of-bucket.result c.args.element c.args.hash s.pass.now c.chase.new.pass (seen_of c.chase.result) row c.chase.ensures.chased c.requires.probed.0 other may
+
+pub returns-clause-held : goal.returns-clause-held
+returns-clause-held g c held =
+    let s = c.args.self.now in
+    chased_held s.table.now s.to g.K.Begun.rows c.bucket_of-bucket.result c.args.element s.pass.now c.chase.new.pass (record { element = c.args.element; hash = c.args.hash }) c.chase.result held c.chase.ensures.chased c.requires.probed

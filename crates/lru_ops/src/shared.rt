@@ -1,0 +1,105 @@
+//! How an element is taken where the CPUs of a map share its lists.
+
+ghost use Rattle.std.specs.Prelude.{◌≡◌, MatchOption, None};
+ghost use Rattle.map_types.specs.declared.kind.DomainId.TheVariants as locks;
+ghost use Rattle.lru_ops.specs.Lists.{Acquired};
+ghost use Rattle.lru_ops.specs.LocalWork.{CanMakePending, MakesPending};
+ghost use Rattle.lru_ops.specs.Shared.{CanTakeShared, IsRefillPart, TookLocal};
+
+use crate::acquire::element_of;
+use crate::map::LruMap;
+use crate::refill::{Refilled, refill};
+use local_lists::LocalSet;
+use map_types::{DomainId, Gate, Row};
+use percpu_values::BoxedBody;
+use place_table::{Content, Listing, Pass, PlaceTable};
+use place_words::{LocalPart, Part};
+use std::sync::Wait;
+
+/// What a CPU's local lists gave.
+pub(crate) enum Taken {
+    /// A body, whose element is in the CPU's hand and pending there.
+    Got(BoxedBody),
+    /// Nothing: a round of thefts starts at this CPU.
+    Nothing(u32),
+}
+
+impl LruMap {
+    /// Takes an element for a key of this hash where the CPUs share lists, as in the kernel's `bpf_common_lru_pop_free`.
+    pub(crate) fn take_shared<R: Wait, G: Gate>(
+        &self,
+        rt: &R,
+        pass: &mut Pass,
+        hash: u32,
+        gate: &G,
+    ) -> Option<BoxedBody>
+        requires can { CanTakeShared self.now pass.old }
+        ensures { Acquired self.now hash pass.old pass.new result }
+    {
+        match self.take_local(rt, pass, hash, gate) {
+            Taken::Got(body) => Some(body),
+            Taken::Nothing(cursor) => self.steal_round(rt, pass, cursor, hash, gate),
+        }
+    }
+
+    /// Takes the head of the CPU's local free list, which is filled from the global lists where it is empty.
+    fn take_local<R: Wait, G: Gate>(&self, rt: &R, pass: &mut Pass, hash: u32, gate: &G) -> Taken
+        requires can { CanTakeShared self.now pass.old }
+        ensures { TookLocal self.now hash pass.old pass.new result }
+    {
+        let lock = DomainId::Local(self.table.cpu_of(pass));
+        let Content::Local(mut lists) = self.table.take(rt, pass, lock, gate) else {
+            unreachable!()
+        };
+        if let Some(body) = make_pending(&self.table, pass, lock, &mut lists, hash) {
+            let element = body.body().element();
+            let part = Part::Local(LocalPart::Pop { hash, element });
+            self.table
+                .give(pass, lock, Content::Local(lists), Some(part), gate);
+            return Taken::Got(body);
+        }
+        let refilled = refill(rt, self.alloc, &self.table, pass, &mut lists, gate);
+        let got = make_pending(&self.table, pass, lock, &mut lists, hash);
+        let cursor = lists.steal_cursor();
+        let part = refill_part(hash, refilled, element_of(&got));
+        self.table
+            .give(pass, lock, Content::Local(lists), part, gate);
+        match got {
+            Some(body) => Taken::Got(body),
+            None => Taken::Nothing(cursor),
+        }
+    }
+}
+
+/// The entry of a turn of the local lists that were refilled, none where the refill didn't tell what it did.
+fn refill_part(hash: u32, refilled: Option<Refilled>, got: Option<u32>) -> Option<Part>
+    ensures { MatchOption result (refilled ≡ None) (IsRefillPart hash refilled got) }
+{
+    let refilled = refilled?;
+    Some(Part::Local(LocalPart::Refill {
+        hash,
+        flushed: refilled.flushed,
+        gained: refilled.gained,
+        got,
+    }))
+}
+
+/// Moves the head of the local free list, where there is one, to the head of pending with this hash, and to the CPU's hand.
+fn make_pending(
+    table: &PlaceTable,
+    pass: &mut Pass,
+    lock: DomainId,
+    lists: &mut LocalSet<Listing>,
+    hash: u32,
+) -> Option<BoxedBody>
+    requires can { CanMakePending table.now lists.old pass.old }
+    requires lock { lock ≡ locks.Local pass.old.cpu }
+    ensures { MakesPending table.now hash lists.old lists.new pass.old pass.new result }
+{
+    let body = lists.pop_free()?;
+    let element = body.body().element();
+    table.claim(pass, element, lock);
+    let _ = table.clear(pass, element);
+    lists.add_pending(Row { element, hash });
+    Some(body)
+}

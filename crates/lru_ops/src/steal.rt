@@ -1,0 +1,182 @@
+//! The round of thefts of a CPU that found no free element.
+
+ghost use Rattle.std.specs.Prelude.{◌≡◌, ◌<◌, [], IfSome};
+ghost use Rattle.place_words.specs.Turns.{ring};
+ghost use Rattle.lru_ops.specs.Shared.{CanSteal, StoleFrom, StoleRound, CanBringHome, BroughtHome};
+ghost use Rattle.lru_ops.specs.Thefts.{CanSearch, Walked, Searched, stolen_of, IsTheft};
+
+use crate::map::LruMap;
+use crate::probing::{search_all, search_sparing};
+use local_lists::LocalSet;
+use lru_lists::Noted;
+use map_types::{DomainId, Gate, List, Row};
+use percpu_values::BoxedBody;
+use place_table::{Content, Listing, Pass};
+use place_words::{Home, LocalPart, Look, Part, Stolen, Try};
+use std::sync::Wait;
+use steal_ring::{Ring, ring_next};
+
+impl LruMap {
+    /// Looks for an element under the local lists of each CPU, from this one upwards with wrapping, up to the first that gives one,
+    /// and brings it to the own local lists.
+    pub(crate) fn steal_round<R: Wait, G: Gate>(
+        &self,
+        rt: &R,
+        pass: &mut Pass,
+        cursor: u32,
+        hash: u32,
+        gate: &G,
+    ) -> Option<BoxedBody>
+        requires can { CanSteal self.now pass.old }
+        requires below { cursor < self.now.shape.cpus }
+        ensures { StoleRound self.now hash (ring cursor self.now.shape.cpus) pass.old pass.new result }
+    {
+        let cpus = self.table.shape().cpus;
+        for from in Ring::of(cursor, cpus) {
+            if let Some(body) = self.steal_from(rt, pass, from, gate) {
+                let element = body.body().element();
+                self.bring_home(rt, pass, element, hash, from, gate);
+                return Some(body);
+            }
+        }
+        None
+    }
+
+    /// Takes an element from the local lists of a CPU, in one turn of their lock: the head of the free list; or the first pending one,
+    /// from the tail, whose bit isn't set and that a probe removes; or the first that a probe removes, whatever its bit. It is carried
+    /// by the pass's CPU then.
+    fn steal_from<R: Wait, G: Gate>(
+        &self,
+        rt: &R,
+        pass: &mut Pass,
+        from: u32,
+        gate: &G,
+    ) -> Option<BoxedBody>
+        requires can { CanSteal self.now pass.old }
+        requires there { from < self.now.shape.cpus }
+        ensures { StoleFrom self.now from pass.old pass.new result }
+    {
+        let lock = DomainId::Local(from);
+        let cpu = self.table.cpu_of(pass);
+        let Content::Local(mut lists) = self.table.take(rt, pass, lock, gate) else {
+            unreachable!()
+        };
+        if let Some(body) = lists.pop_free() {
+            let element = body.body().element();
+            self.table.claim(pass, element, lock);
+            self.table.rehome(pass, element, Home::Hand(cpu));
+            let part = Part::Local(LocalPart::Steal {
+                got: Stolen::Free(element),
+                first: List::of(Vec::new(self.alloc)),
+                second: List::of(Vec::new(self.alloc)),
+            });
+            self.table
+                .give(pass, lock, Content::Local(lists), Some(part), gate);
+            return Some(body);
+        }
+        let mut first = Noted::empty(self.alloc);
+        let mut second = Noted::empty(self.alloc);
+        let got = self.search(rt, pass, &mut lists, &mut first, &mut second, gate);
+        let part = steal_part(stolen_of(&got), first, second);
+        self.table
+            .give(pass, lock, Content::Local(lists), part, gate);
+        got
+    }
+
+    /// Walks over the pending list of local lists, whose lock alone the pass holds, first sparing set bits and then not, up to the first
+    /// element that a probe removes. That one leaves the list.
+    fn search<R: Wait, G: Gate>(
+        &self,
+        rt: &R,
+        pass: &mut Pass,
+        lists: &mut LocalSet<Listing>,
+        first: &mut Noted<Look>,
+        second: &mut Noted<Try>,
+        gate: &G,
+    ) -> Option<BoxedBody>
+        requires can { CanSearch self.now lists.old pass.old }
+        requires none_free { lists.old.free.bodies ≡ [] }
+        ensures { Searched self.now lists.old lists.new first.old first.new second.old second.new pass.old pass.new result }
+    {
+        let body = self.walk(rt, pass, lists, first, second, gate)?;
+        let _ = lists.take_pending(body.body().element());
+        Some(body)
+    }
+
+    /// The walks alone.
+    fn walk<R: Wait, G: Gate>(
+        &self,
+        rt: &R,
+        pass: &mut Pass,
+        lists: &LocalSet<Listing>,
+        first: &mut Noted<Look>,
+        second: &mut Noted<Try>,
+        gate: &G,
+    ) -> Option<BoxedBody>
+        requires can { CanSearch self.now lists.now pass.old }
+        requires none_free { lists.now.free.bodies ≡ [] }
+        ensures { Walked self.now lists.now first.old first.new second.old second.new pass.old pass.new result }
+    {
+        match search_sparing(rt, &self.table, pass, lists, first, gate) {
+            Some(body) => Some(body),
+            None => search_all(rt, &self.table, pass, lists, second, gate),
+        }
+    }
+
+    /// Brings an element that the CPU carries to the head of the own pending list, with this hash and a cleared bit. The next theft
+    /// starts at the CPU after the one from which it was stolen.
+    fn bring_home<R: Wait, G: Gate>(
+        &self,
+        rt: &R,
+        pass: &mut Pass,
+        element: u32,
+        hash: u32,
+        from: u32,
+        gate: &G,
+    )
+        requires can { CanBringHome self.now element pass.old }
+        requires there { from < self.now.shape.cpus }
+        ensures { BroughtHome self.now hash from element pass.old pass.new }
+    {
+        let cursor = ring_next(from, self.table.shape().cpus);
+        let lock = DomainId::Local(self.table.cpu_of(pass));
+        let Content::Local(mut lists) = self.table.take(rt, pass, lock, gate) else {
+            unreachable!()
+        };
+        self.table.rehome(pass, element, Home::In(lock));
+        let _ = self.table.clear(pass, element);
+        lists.add_pending(Row { element, hash });
+        lists.set_steal_cursor(cursor);
+        let part = Part::Local(LocalPart::Add {
+            hash,
+            element,
+            cursor,
+        });
+        self.table
+            .give(pass, lock, Content::Local(lists), Some(part), gate);
+    }
+}
+
+/// What a search of the pending list stole.
+fn stolen_of(got: &Option<BoxedBody>) -> Stolen
+    ensures { result ≡ stolen_of got.now }
+{
+    match got {
+        Some(body) => Stolen::Pending(body.body().element()),
+        None => Stolen::Nothing,
+    }
+}
+
+/// The entry of a theft's turn, none where memory for a part of it was not found.
+fn steal_part(stolen: Stolen, first: Noted<Look>, second: Noted<Try>) -> Option<Part>
+    ensures { IfSome result (IsTheft stolen first second) }
+{
+    let (Noted::Kept(first), Noted::Kept(second)) = (first, second) else {
+        return None;
+    };
+    Some(Part::Local(LocalPart::Steal {
+        got: stolen,
+        first,
+        second,
+    }))
+}
