@@ -52,4 +52,4 @@ module _ (t : TableView) (before after : PassView) (side : Side) (flags : ℕ) (
     pub of_lru : map ≡ Lru t → (answer : Result (Unit {0}) LruRefusal) → lru_calls.Updates t before after side flags key value answer → result ≡ answer_of_lru answer → Updates (table_of map) before after side flags key value result
     of_lru is answer updates answered =
         subst (λ (m : AnyMap). Updates (table_of m) before after side flags key value result) (sym is)
-        (subst (Updates t before after side flags key value) (sym answered) (lru_updates answer (subst IsOfItsSort is sort).0 updates))
+        (subst (Updates t before after side flags key value) (sym answered) (lru_updates answer (subst IsOfItsSort is sort) updates))

@@ -28,10 +28,10 @@ abbrev pub table_of : AnyMap → TableView
 table_of (Plain table) = table
 table_of (Lru table) = table
 
--- A map of each sort has a kind of that sort, and the CPUs of one that evicts have lists of their own.
+-- a map of each sort has a kind of that sort
 abbrev pub IsOfItsSort : AnyMap → Type 0
 IsOfItsSort (Plain table) = IsFalse (is_lru table.shape.kind)
-IsOfItsSort (Lru table) = IsTrue (is_lru table.shape.kind) × IsFalse table.shape.common
+IsOfItsSort (Lru table) = IsTrue (is_lru table.shape.kind)
 
 -- the answer of an update, as maps of each sort give it
 abbrev pub answer_of_plain : Result (Unit {0}) PlainRefusal → Result (Unit {0}) AnyRefusal

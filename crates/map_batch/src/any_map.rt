@@ -1,4 +1,4 @@
-//! A map of any kind that is served, and its calls on one key.
+//! A map of any kind, and its calls on one key.
 
 ghost use Rattle.std.specs.Prelude.{◌≡◌, ℕ, ◌<◌, true, false, IfErr, IfOk, length};
 ghost use Rattle.map_types.specs.Creation.{IsShape};
@@ -18,8 +18,8 @@ use place_table::{Closed, Pass, PlaceTable};
 use std::alloc::Global;
 use std::sync::Wait;
 
-/// A map that doesn't evict, or one that evicts and whose CPUs have lists of their own (NO_COMMON_LRU). It may be shared by
-/// threads, each of which has a pass.
+/// A map that doesn't evict, or one that evicts, whose CPUs share lists or have lists of their own (NO_COMMON_LRU). It may be
+/// shared by threads, each of which has a pass.
 #[derive(Drop)]
 pub enum AnyMap {
     Plain(PlainMap),
@@ -40,7 +40,6 @@ impl AnyMap {
     /// here. The rule of `htab_map_alloc`, without the checks of the attributes.
     pub fn create(alloc: Global, shape: &Shape) -> Result<(AnyMap, Pass), NoMemory>
         requires shape { IsShape shape.now }
-        requires own_lists { shape.now.common ≡ false }
         ensures { IfOk result (λ made. ((table_of made.0).shape ≡ shape.now) × IsFirstPass (table_of made.0) made.1) }
     {
         if shape.kind.is_lru() {

@@ -1,6 +1,6 @@
 -- Where a map that evicts rests between calls in serial order, what it holds has each element on one list, and in a bucket or free.
-use Rattle.std.proofs.Common.{◌≡◌, ℕ, zero, suc, ◌+◌, ◌<◌, ◌≤◌, Bool, true, false, cond, ltb, List, [], ◌∷◌, ◌++◌, map, length, refl, ap, ◌∙◌, sym, subst, arith}
-use Rattle.std.specs.Prelude.{Option, None, Some, All, MatchBool, filter, option_to_list}
+use Rattle.std.proofs.Common.{◌≡◌, ℕ, zero, suc, ◌+◌, ◌<◌, ◌≤◌, Bool, true, false, cond, ltb, List, [], ◌∷◌, ◌++◌, length, refl, ap, ◌∙◌, sym, arith}
+use Rattle.std.specs.Prelude.{Option, None, All, filter, option_to_list}
 use Rattle.std.specs.List.{flat_map, range_with_len}
 use Rattle.std.proofs.lemmas.Bool.{lt-ltb}
 use Rattle.std.proofs.lemmas.List.{length-append}
@@ -14,23 +14,19 @@ use Rattle.map_types.specs.Kind.{is_lru}
 use Rattle.map_types.specs.Shape.{HasBounds}
 use Rattle.map_types.proofs.CreationLemmas.{bounds_of_shape}
 use Rattle.map_types.proofs.RowLemmas.{times_append}
-use Rattle.place_words.specs.declared.finals.Finals.{Finals}
 use Rattle.place_words.specs.declared.finals.LocalFinal.{LocalFinal}
 use Rattle.place_words.specs.declared.finals.SetFinal.{SetFinal}
 use Rattle.place_words.specs.Bodies.{numbers}
-use Rattle.place_words.specs.Histories.{Content}
-use Rattle.place_words.specs.Locks.{is_lock}
 use Rattle.place_words.specs.Logs.{State, lies_in, new_state, run, bucket_at, freelist_at, locals_at, globals_at, own_at, final_set, final_local, where_lock, finals_of}
 use Rattle.place_words.proofs.EvictingDone.{IsAtRest}
-use Rattle.place_words.proofs.EvictingRuns.{IsReached, new_reached, run_done}
+use Rattle.place_words.proofs.EvictingRuns.{new_reached, run_done}
 use Rattle.place_words.proofs.ListContents.{lies_locals, lies_globals, lies_own}
 use Rattle.place_words.proofs.ListSums.{list_locks, sum_over}
 use Rattle.place_words.proofs.Permutes.{counts_permute, numbers_count}
 use Rattle.place_words.proofs.RestCounts.{told_none, told_length, free_on, bucketed_or_free, lists_told}
 use Rattle.place_words.proofs.Settled.{elements_on}
 use Rattle.place_words.proofs.Supplies.{first_of_two}
-use Rattle.map_report.specs.EachOnce.{in_buckets}
-use Rattle.map_report.specs.Record.{Ascend, HasElements, HasListedElements, HoldsElements, free_elements, on_lists}
+use Rattle.map_report.specs.Record.{Ascend, HasListedElements, HoldsElements}
 
 -- what is marked are some of the elements, in order
 all_from : (a n : ℕ) → All (λ (e : ℕ). a ≤ e) (range_with_len a n)
@@ -59,7 +55,10 @@ no_spares_told spares [] none = refl
 no_spares_told spares (cpu ∷ cpus) none =
     ap (λ (spare : Option ℕ). option_to_list spare ++ flat_map (λ c. option_to_list (spares c)) cpus) (none cpu) ∙ no_spares_told spares cpus none
 
-module _ (shape : Shape) (bounds : HasBounds shape) (lru : is_lru shape.kind ≡ true) (state : State) (rest_now : IsAtRest shape (lies_in shape state)) (none : (cpu : ℕ) → state.spares cpu ≡ None) where
+-- where each element is in a bucket or free, and on one list, by counts
+module _ (shape : Shape) (lru : is_lru shape.kind ≡ true) (state : State)
+    (placed : (e : ℕ) → times e (flat_map numbers (where_lock shape Bucket (bucket_at shape state) (range_with_len 0 shape.buckets))) + sum_over (free_on e) (lies_in shape state) (list_locks shape) ≡ one (ltb e shape.elements))
+    (once : (e : ℕ) → sum_over (elements_on e) (lies_in shape state) (list_locks shape) ≡ one (ltb e shape.elements)) (none : flat_map (λ cpu. option_to_list (state.spares cpu)) (range_with_len 0 shape.cpus) ≡ []) where
   abbrev set_lists : List SetFinal
   set_lists =
       where_lock shape (λ (one : ℕ). Global) (λ (one : ℕ). final_set (globals_at shape state)) (range_with_len 0 1)
@@ -84,7 +83,7 @@ module _ (shape : Shape) (bounds : HasBounds shape) (lru : is_lru shape.kind ≡
   once_told e =
       let buckets : List ℕ = flat_map numbers (where_lock shape Bucket (bucket_at shape state) (range_with_len 0 shape.buckets)) in
       let free : List ℕ = flat_map (λ (set : SetFinal). set.free) set_lists ++ flat_map (λ (local : LocalFinal). local.free) local_lists in
-      omega (arith, times_append e buckets free, free_told e, bucketed_or_free shape bounds state rest_now e)
+      omega (arith, times_append e buckets free, free_told e, placed e)
 
   set_count : length set_lists ≡ cond shape.common 1 shape.cpus
   set_count = by shape.common refl
@@ -106,20 +105,24 @@ module _ (shape : Shape) (bounds : HasBounds shape) (lru : is_lru shape.kind ≡
       by true is = told_length shape Local (λ cpu. final_local (locals_at shape state cpu)) shape.cpus (λ k below. rw (is, lt-ltb k shape.cpus below) refl)
       by false is = ap (length {A = LocalFinal}) (told_none shape Local (λ cpu. final_local (locals_at shape state cpu)) (range_with_len 0 shape.cpus) (λ k. rw is refl))
 
-  pub listed_at_rest : HasListedElements shape (finals_of shape state)
+  pub listed_by_counts : HasListedElements shape (finals_of shape state)
   unfolding finals_of
-  listed_at_rest = record {
+  listed_by_counts = record {
     buckets = told_length shape Bucket (bucket_at shape state) shape.buckets (λ k below. lt-ltb k shape.buckets below);
     no_freelists = told_none shape Freelist (freelist_at shape state) (range_with_len 0 shape.cpus) (λ k. rw lru refl);
-    no_spares = no_spares_told state.spares (range_with_len 0 shape.cpus) none;
+    no_spares = none;
     sets = set_count;
     locals = local_count;
     each_once = counts_permute _ _ (λ e. numbers_count e shape.elements ∙ sym (once_told e));
-    each_listed = counts_permute _ _ (λ e. numbers_count e shape.elements ∙ sym (all_told e ∙ rest_now.once e));
+    each_listed = counts_permute _ _ (λ e. numbers_count e shape.elements ∙ sym (all_told e ∙ once e));
     marked = All-filter state.bits (λ (e : ℕ). e < shape.elements) (range_with_len 0 shape.elements)
         (All-weaker (λ (e : ℕ). e < 0 + shape.elements) (λ (e : ℕ). e < shape.elements) (λ e less. omega (arith, less)) (range_with_len 0 shape.elements) (all_to 0 shape.elements));
     in_order = ascends state.bits 0 shape.elements;
   }
+
+listed_at_rest : (shape : Shape) → HasBounds shape → is_lru shape.kind ≡ true → (state : State) → IsAtRest shape (lies_in shape state) → ((cpu : ℕ) → state.spares cpu ≡ None) → HasListedElements shape (finals_of shape state)
+listed_at_rest shape bounds lru state rest_now none =
+    listed_by_counts shape lru state (bucketed_or_free shape bounds state rest_now) rest_now.once (no_spares_told state.spares (range_with_len 0 shape.cpus) none)
 
 -- what a created map that evicts holds after any run in serial order
 pub run_holds : (shape : Shape) → IsShape shape → is_lru shape.kind ≡ true → (number : ℕ) (calls : List Call) → All (λ (call : Call). call.cpu < shape.cpus) calls → HoldsElements shape (finals_of shape (run shape number calls (new_state shape)))

@@ -1,7 +1,7 @@
 -- A run in serial order on a map of either sort: what its pass knows before the first call, after one call more, and what the closed
 -- table leaves at the end.
-use Rattle.std.proofs.Common.{◌≡◌, ℕ, ◌+◌, ◌<◌, Bool, true, false, not, List, [], ◌∷◌, ◌++◌, length, get_or, take, All, refl, sym, subst}
-use Rattle.std.specs.Prelude.{IsTrue, MatchBool}
+use Rattle.std.proofs.Common.{◌≡◌, ℕ, ◌+◌, ◌<◌, false, List, [], ◌∷◌, ◌++◌, length, get_or, take, All, sym, subst}
+use Rattle.std.specs.Prelude.{MatchBool}
 use Rattle.map_types.specs.Creation.{IsShape}
 use Rattle.map_types.specs.Kind.{is_lru}
 use Rattle.map_types.specs.declared.attr.Shape.{Shape}
@@ -16,15 +16,10 @@ use Rattle.map_report.specs.Runs.{serial}
 use Rattle.map_run.specs.ByLogs.{HaveRunByLogs}
 use Rattle.map_run.specs.Copies.{IsCopyOf, record_left}
 use Rattle.map_run.specs.Going.{HaveRun, HaveRunOnLists}
-use Rattle.map_run.specs.Served.{is_built_map, IsServed, IsServedCall}
+use Rattle.map_run.specs.Served.{IsServed, IsServedCall}
 use Rattle.map_run.proofs.HistoryTurns.{by_bool}
 use Rattle.map_run.proofs.RunByLogs.{first_by_logs, next_by_logs, end_by_logs}
 use Rattle.map_run.proofs.SerialCalls.{first_on_lists, next_on_lists, end_on_lists, is_copy}
-
--- where each CPU has lists of its own none are shared
-pub own_lists : (common : Bool) → not common ≡ true → common ≡ false
-own_lists true own = cc
-own_lists false own = refl
 
 pub run_first : (t : TableView) (p : PassView) → IsShape t.shape → IsFirstPass t p → HaveRun t [] p []
 run_first t p shape_is first =
@@ -32,11 +27,11 @@ run_first t p shape_is first =
     (λ lru. first_by_logs t p first) (λ plain. first_on_lists t p shape_is plain first)
 
 pub run_next : (t : TableView) (calls : List Call) (n : ℕ) (call : Call) (p q : PassView) (number : ℕ) (reply : Reply) (replies after : List Reply)
-    → IsShape t.shape → IsTrue (is_built_map t.shape) → All (IsServedCall t.shape) calls → n < length calls → call ≡ get_or calls n call → number ≡ n + 1
+    → IsShape t.shape → All (IsServedCall t.shape) calls → n < length calls → call ≡ get_or calls n call → number ≡ n + 1
     → HaveRun t (take n calls) p replies → Called t (begun p call.cpu number) q call.verb reply → after ≡ replies ++ reply ∷ [] → HaveRun t (take (n + 1) calls) q after
-run_next t calls n call p q number reply replies after shape_is built served within is count run called pushed =
+run_next t calls n call p q number reply replies after shape_is served within is count run called pushed =
     by_bool (is_lru t.shape.kind) (λ b. MatchBool b (HaveRunByLogs t (take n calls) p replies) (HaveRunOnLists t (take n calls) p replies) → MatchBool b (HaveRunByLogs t (take (n + 1) calls) q after) (HaveRunOnLists t (take (n + 1) calls) q after))
-    (λ lru ran. next_by_logs t calls n call p q number reply replies after shape_is lru (own_lists t.shape.common built) served within is count ran called pushed)
+    (λ lru ran. next_by_logs t calls n call p q number reply replies after shape_is lru served within is count ran called pushed)
     (λ plain ran. next_on_lists t calls n call p q number reply replies after shape_is plain served within is count ran called pushed)
     run
 

@@ -1,10 +1,10 @@
 -- One call more of a run in serial order, on a map that evicts and whose takings and freeings are determined by their traces: what
 -- the pass knows then, and the reply, are those of the run by the logs of the locks.
 use Rattle.std.proofs.Common.{◌≡◌, ℕ, suc, ◌+◌, ◌<◌, Bool, true, false, List, [], ◌∷◌, ◌++◌, length, map, Option, Some, refl, ap, ◌∙◌, sym, subst, inl, inr, arith, append_assoc, append-nil}
-use Rattle.std.specs.Prelude.{All}
+use Rattle.std.specs.Prelude.{All, IsFalse}
 use Rattle.std.proofs.lemmas.Bool.{both_ways, cond-true}
 use Rattle.std.proofs.lemmas.List.{map-append}
-use Rattle.std.proofs.lemmas.List.Elements.{All-nil, All-cons, All-append}
+use Rattle.std.proofs.lemmas.List.Elements.{All-nil, All-cons, All-head, All-tail, All-append}
 use Rattle.map_types.specs.declared.attr.Shape.{Shape}
 use Rattle.map_types.specs.declared.call.Call.{Call}
 use Rattle.map_types.specs.declared.call.Verb.{Verb}
@@ -14,14 +14,14 @@ use Rattle.map_types.specs.Kind.{is_lru}
 use Rattle.place_words.specs.declared.history.Entry.{Entry}
 use Rattle.place_words.specs.declared.history.StrandStep.{StrandStep}
 use Rattle.place_words.specs.Locks.{lock_named}
-use Rattle.place_words.specs.Logs.{State, lies_in, all_turned, Does, does, after_one, run, answers}
+use Rattle.place_words.specs.Logs.{State, lies_in, turned, all_turned, Does, does, after_one, run, answers}
 use Rattle.place_words.specs.Traces.{IsTrace}
 use Rattle.place_words.specs.Turns.{Turn, turns_of}
 use Rattle.place_words.proofs.DoneLaws.{IsKeyVerb}
 use Rattle.place_words.proofs.EvictingDone.{IsAtRest}
 use Rattle.place_words.proofs.EvictingRuns.{supplies}
 use Rattle.place_table.specs.declared.view.Turned.{Turned}
-use Rattle.place_table.specs.Calls.{bits_of_turns, IsTold, AreTold, Called, spare_element}
+use Rattle.place_table.specs.Calls.{bits_of_turns, finds_moved_on, IsTold, AreTold, Called, spare_element}
 use Rattle.place_table.specs.Known.{AreAllowedAt, BitTouch, Learns, KnowsAll, logs_after, turn_of, turn_at}
 use Rattle.place_table.specs.Passes.{PassView, TableView, begun}
 use Rattle.place_table.specs.Views.{bit_seen, place_of, kept_step}
@@ -29,10 +29,12 @@ use Rattle.place_table.proofs.Going.{learns_all}
 use Rattle.map_report.specs.Runs.{steps_of_turns, steps_of_calls}
 use Rattle.map_run.specs.ByLogs.{IsOfMap, KnowsState}
 use Rattle.map_run.specs.Served.{IsServedVerb}
+use Rattle.map_run.proofs.BitsRead.{ReadsBits}
 use Rattle.map_run.proofs.CallIs.{IsAs, call_is}
 use Rattle.map_run.proofs.Decides.{Decides}
-use Rattle.map_run.proofs.TurnsMade.{EachTurn}
 use Rattle.map_run.proofs.MadeBy.{GoOnBy, made_by, touches_of}
+use Rattle.map_run.proofs.SharedFreesIs.{TellsShared}
+use Rattle.map_run.proofs.TurnsMade.{EachTurn}
 
 -- Turns as the call tells them
 
@@ -68,13 +70,18 @@ key_verb shape (verbs.BatchRead remove count start flags) served = absurd served
 key_verb shape (verbs.BatchUpdate flags pairs) served = absurd served
 key_verb shape (verbs.BatchDelete flags keys) served = absurd served
 
--- One call
+-- what each turn reads and finds
+each_pair : (shape : Shape) (cpu number : ℕ) (steps : List Turned) (state : State) → EachTurn (ReadsBits shape) shape cpu number (map (turn_at shape) steps) state
+    → All (λ (turn : Turned). IsFalse (finds_moved_on turn.entry.part)) steps → EachTurn (TellsShared shape) shape cpu number (map (turn_at shape) steps) state
+each_pair shape cpu number [] state read found = tt
+each_pair shape cpu number (step ∷ steps) state read found =
+    let stays : Turned → Type 0 = λ turn. IsFalse (finds_moved_on turn.entry.part) in
+    ((read.0, All-head stays step steps found), each_pair shape cpu number steps (turned shape cpu number (turn_of shape step) state) read.1 (All-tail stays step steps found))
 
-module _ (Fact : State → Turn → Type 0) (t : TableView) (state : State) (strand : List StrandStep) (p q : PassView) (call : Call) (number : ℕ) (reply : Reply) (lru : is_lru t.shape.kind ≡ true) (within : call.cpu < t.shape.cpus) (decides : Decides Fact t.shape call.cpu)
-    (rests : IsAtRest t.shape (lies_in t.shape state)) (verb_is : IsKeyVerb call.verb) (knows : KnowsState t.shape state strand p.view) (called : Called t (begun p call.cpu number) q call.verb reply) (none : called.lost ≡ []) (each : EachTurn Fact t.shape call.cpu number (map (turn_at t.shape) called.steps) state) where
-  abbrev did : Does
-  did = does t.shape call.cpu number state call.verb
+-- One call: what its turns were made from, and what they tell
 
+module _ (t : TableView) (state : State) (strand : List StrandStep) (p q : PassView) (call : Call) (number : ℕ) (reply : Reply) (lru : is_lru t.shape.kind ≡ true)
+    (knows : KnowsState t.shape state strand p.view) (called : Called t (begun p call.cpu number) q call.verb reply) (none : called.lost ≡ []) where
   told_is : called.told ≡ called.steps
   told_is = told_made t.shape called.lost called.steps called.told none called.told_are
 
@@ -99,10 +106,30 @@ module _ (Fact : State → Turn → Type 0) (t : TableView) (state : State) (str
       (learns_all t.shape p.view q.view logs called.steps (touches_of t.shape call.cpu number called.steps) learns knows.knows).0
       (λ e. (learns.bits knows.knows.all e).see_on) called.leaves.by_call
 
+  -- Where CPUs share lists each turn tells the bits that it reads, and none finds moved on what it frees.
+  pub tells_shared : t.shape.common ≡ true → EachTurn (TellsShared t.shape) t.shape call.cpu number (map (turn_at t.shape) called.steps) state
+  tells_shared shared =
+      each_pair t.shape call.cpu number called.steps state goes.read
+      (subst (All (λ (turn : Turned). IsFalse (finds_moved_on turn.entry.part))) told_is (called.none_moved shared logs knows.knows))
+
+-- Where the takings and freeings of its CPU are determined by their traces, under what holds of each turn: its turns and its reply are
+-- those of the run.
+
+module _ (Fact : State → Turn → Type 0) (t : TableView) (state : State) (strand : List StrandStep) (p q : PassView) (call : Call) (number : ℕ) (reply : Reply) (lru : is_lru t.shape.kind ≡ true) (within : call.cpu < t.shape.cpus) (decides : Decides Fact t.shape call.cpu)
+    (rests : IsAtRest t.shape (lies_in t.shape state)) (verb_is : IsKeyVerb call.verb) (knows : KnowsState t.shape state strand p.view) (called : Called t (begun p call.cpu number) q call.verb reply) (none : called.lost ≡ []) (each : EachTurn Fact t.shape call.cpu number (map (turn_at t.shape) called.steps) state) where
+  abbrev did : Does
+  did = does t.shape call.cpu number state call.verb
+
+  abbrev made_from : GoOnBy t.shape call.cpu number called.steps state (logs t state strand p q call number reply lru knows called none) (known t state strand p q call number reply lru knows called none)
+  made_from = goes t state strand p q call number reply lru knows called none
+
+  abbrev learned : Learns t.shape p.view q.view called.steps (touches_of t.shape call.cpu number called.steps)
+  learned = learns t state strand p q call number reply lru knows called none
+
   as_run : IsAs did (map (turn_at t.shape) called.steps) reply
   as_run =
-      call_is Fact t.shape call.cpu number (supplies t.shape call.cpu within) decides state rests lru (map (turn_at t.shape) called.steps) reply goes.made each (spare_element (begun p call.cpu number)) call.verb verb_is
-      (subst (λ (steps : List Turned). IsTrace t.shape call.cpu (spare_element (begun p call.cpu number)) call.verb (map (turn_at t.shape) steps) reply) told_is called.trace)
+      call_is Fact t.shape call.cpu number (supplies t.shape call.cpu within) decides state rests lru (map (turn_at t.shape) called.steps) reply made_from.made each (spare_element (begun p call.cpu number)) call.verb verb_is
+      (subst (λ (steps : List Turned). IsTrace t.shape call.cpu (spare_element (begun p call.cpu number)) call.verb (map (turn_at t.shape) steps) reply) (told_is t state strand p q call number reply lru knows called none) called.trace)
 
   turns_then : map (turn_of t.shape) called.steps ≡ did.turns
   turns_then = sym (turns_of_steps t.shape called.steps) ∙ as_run.turns_are
@@ -111,19 +138,19 @@ module _ (Fact : State → Turn → Type 0) (t : TableView) (state : State) (str
   strand_then =
       ap (map (λ (step : Turned). kept_step t.shape step.lock (place_of step))) called.leaves.made.goes.steps
       ∙ map-append (λ (step : Turned). kept_step t.shape step.lock (place_of step)) p.view.steps called.steps
-      ∙ (λ i. knows.steps_are i ++ (goes.steps_are ∙ ap (λ (turns : List Turn). steps_of_turns t.shape call.cpu number turns state) turns_then) i)
+      ∙ (λ i. knows.steps_are i ++ (made_from.steps_are ∙ ap (λ (turns : List Turn). steps_of_turns t.shape call.cpu number turns state) turns_then) i)
 
   -- what the pass knows then
   pub knows_next : KnowsState t.shape (after_one t.shape number call state) (strand ++ steps_of_turns t.shape call.cpu number did.turns state) q.view
   knows_next = record {
     knows = record {
-      all = after_is.all;
-      each = λ k below there. after_is.each k below there ∙ ap Some (goes.logs_are k ∙ ap (λ (turns : List Turn). (all_turned t.shape call.cpu number turns state).logs (lock_named t.shape k)) turns_then);
+      all = (after_is t state strand p q call number reply lru knows called none).all;
+      each = λ k below there. (after_is t state strand p q call number reply lru knows called none).each k below there ∙ ap Some (made_from.logs_are k ∙ ap (λ (turns : List Turn). (all_turned t.shape call.cpu number turns state).logs (lock_named t.shape k)) turns_then);
     };
-    bits = λ e real. (learns.bits knows.knows.all e).known_is ∙ goes.bits_are e real ∙ ap (λ (turns : List Turn). Some ((all_turned t.shape call.cpu number turns state).bits e)) turns_then;
+    bits = λ e real. (learned.bits knows.knows.all e).known_is ∙ made_from.bits_are e real ∙ ap (λ (turns : List Turn). Some ((all_turned t.shape call.cpu number turns state).bits e)) turns_then;
     steps_are = strand_then;
     real = subst (All (IsOfMap t.shape)) (sym called.leaves.made.goes.steps)
-        (All-append (IsOfMap t.shape) p.view.steps called.steps knows.real (all_real t.shape called.steps learns.allowed));
+        (All-append (IsOfMap t.shape) p.view.steps called.steps knows.real (all_real t.shape called.steps learned.allowed));
   }
 
   -- and the reply

@@ -14,7 +14,6 @@ pub mod OwnTakes
 pub mod FoundIn
 pub mod Decides
 pub mod CallIs
-pub mod OwnCallIs
 pub mod MadeBy
 pub mod CallsByLogs
 pub mod FinalsByLogs

@@ -1,5 +1,5 @@
 -- The turns that a pass made in one call, from what it knew where a run in serial order had come to a state: they go on from there.
-use Rattle.std.proofs.Common.{◌≡◌, ℕ, ◌<◌, Bool, true, false, cond, ◌||◌, eqb, List, [], ◌∷◌, ◌++◌, length, map, Option, Some, refl, ap, ◌∙◌, sym, subst}
+use Rattle.std.proofs.Common.{◌≡◌, ℕ, ◌<◌, Bool, true, false, cond, ◌||◌, eqb, List, [], ◌∷◌, ◌++◌, length, map, Option, Some, refl, ap, ◌∙◌, sym, subst, append-nil}
 use Rattle.std.specs.Prelude.{All, MatchOption}
 use Rattle.std.specs.List.{flat_map}
 use Rattle.std.proofs.lemmas.List.Elements.{All-head, All-tail}
@@ -10,18 +10,19 @@ use Rattle.place_words.specs.declared.history.Part.{Part}
 use Rattle.place_words.specs.declared.history.Part.TheVariants as parts
 use Rattle.place_words.specs.declared.visits.Visit.{Visit}
 use Rattle.place_words.specs.Choices.{among, with_bits, without_bits}
-use Rattle.place_words.specs.Histories.{content, Allows, marks, bits_read, bits_cleared, also_cleared, clears}
+use Rattle.place_words.specs.Histories.{content, Allows, marks, bits_cleared, bits_read, also_cleared, clears}
 use Rattle.place_words.specs.Locks.{is_same_lock, lock_named}
 use Rattle.place_words.specs.Logs.{State, turned, all_turned}
 use Rattle.place_words.specs.Rotation.{visited_elements}
 use Rattle.place_words.proofs.LockLemmas.{one_number, same_lock, other_lock}
 use Rattle.place_core.proofs.ElementLemmas.{at_put, by_test}
 use Rattle.place_table.specs.declared.view.Turned.{Turned}
-use Rattle.place_table.specs.Calls.{sets_bit, clears_found, clears_bit, reads_bit, bits_of_part}
-use Rattle.place_table.specs.Known.{BitTouch, bit_then, bit_after_all, SeesBit, SeeOn, log_after, logs_after, FollowOn, turn_of, turn_at, IsBy}
+use Rattle.place_table.specs.Calls.{reads_bit, sets_bit, clears_found, clears_bit, bits_of_part}
+use Rattle.place_table.specs.Known.{BitTouch, bit_then, bit_after_all, SeesBit, SeesOn, SeeOn, log_after, logs_after, FollowOn, turn_of, turn_at, IsBy}
 use Rattle.place_table.specs.Views.{place_of, kept_step}
 use Rattle.map_report.specs.Runs.{steps_of_turns}
-use Rattle.map_run.proofs.TurnsMade.{FindBits, AreMade, cleared_both}
+use Rattle.map_run.proofs.BitsRead.{ReadBits, ReadsBits}
+use Rattle.map_run.proofs.TurnsMade.{FindBits, AreMade, EachTurn, cleared_both}
 
 -- Bits
 
@@ -80,32 +81,34 @@ after_only_clears visits es e b =
     ∙ after_clears es e (cond (among (visited_elements visits) e) false b)
     ∙ ap Some (cleared_both e (visited_elements visits) es b)
 
--- reads leave a bit as they found it
+-- reads leave each bit as they find it
+read_then : (visit : Visit) (e : ℕ) (b : Bool) → SeesOn e (Some b) (reads_bit visit) → bit_then e (Some b) (reads_bit visit) ≡ Some b
+read_then visit e b sees = by_test visit.element e (λ c. cond c (Some visit.bit) (Some b) ≡ Some b) (λ here. ap Some (sees here)) (λ other. refl)
+
 after_reads : (visits : List Visit) (e : ℕ) (b : Bool) → SeeOn e (Some b) (map reads_bit visits) → bit_after_all e (Some b) (map reads_bit visits) ≡ Some b
 after_reads [] e b see = refl
 after_reads (visit ∷ visits) e b see =
-    let stays : bit_then e (Some b) (reads_bit visit) ≡ Some b = by_test visit.element e (λ c. cond c (Some visit.bit) (Some b) ≡ Some b) (λ same. ap Some (see.0 same)) (λ _. refl) in
-    ap (λ (o : Option Bool). bit_after_all e o (map reads_bit visits)) stays ∙ after_reads visits e b (subst (λ (o : Option Bool). SeeOn e o (map reads_bit visits)) stays see.1)
+    let same = read_then visit e b see.0 in
+    ap (λ (o : Option Bool). bit_after_all e o (map reads_bit visits)) same ∙ after_reads visits e b (subst (λ (o : Option Bool). SeeOn e o (map reads_bit visits)) same see.1)
 
--- reads, and then clears
-after_reads_and_clears : (reads visits : List Visit) (es : List ℕ) (e : ℕ) (b : Bool) → SeeOn e (Some b) (((map reads_bit reads ++ []) ++ map clears_found visits) ++ map clears_bit es)
-    → bit_after_all e (Some b) (((map reads_bit reads ++ []) ++ map clears_found visits) ++ map clears_bit es) ≡ Some (cond (among (visited_elements visits ++ es) e) false b)
-after_reads_and_clears reads visits es e b see =
-    let read : List BitTouch = map reads_bit reads in
-    let found : List BitTouch = map clears_found visits in
-    let cleared : List BitTouch = map clears_bit es in
-    let seen = see_both e (Some b) read [] (see_both e (Some b) (read ++ []) found (see_both e (Some b) ((read ++ []) ++ found) cleared see).0).0 in
-    let stays : bit_after_all e (Some b) (read ++ []) ≡ Some b = bits_both e (Some b) read [] ∙ after_reads reads e b seen.0 in
-    bits_both e (Some b) ((read ++ []) ++ found) cleared
-    ∙ ap (λ (o : Option Bool). bit_after_all e o cleared) (bits_both e (Some b) (read ++ []) found ∙ ap (λ (o : Option Bool). bit_after_all e o found) stays)
-    ∙ sym (bits_both e (Some b) found cleared)
-    ∙ after_only_clears visits es e b
+-- the steps of a turn of local lists: those that it read come first
+reads_of : (visits : List Visit) (es : List ℕ) → ((map reads_bit visits ++ map sets_bit []) ++ map clears_found []) ++ map clears_bit es ≡ map reads_bit visits ++ map clears_bit es
+reads_of visits es = ap (λ (l : List BitTouch). l ++ map clears_bit es) (append-nil (map reads_bit visits ++ []) ∙ append-nil (map reads_bit visits))
 
--- what a turn tells of bits leads to what it leaves, where it tells what was there
+after_reads_and_clears : (visits : List Visit) (es : List ℕ) (e : ℕ) (b : Bool) → SeeOn e (Some b) (map reads_bit visits ++ map clears_bit es) → bit_after_all e (Some b) (map reads_bit visits ++ map clears_bit es) ≡ Some (cond (among es e) false b)
+after_reads_and_clears visits es e b see =
+    bits_both e (Some b) (map reads_bit visits) (map clears_bit es)
+    ∙ ap (λ (o : Option Bool). bit_after_all e o (map clears_bit es)) (after_reads visits e b (see_both e (Some b) (map reads_bit visits) (map clears_bit es) see).0)
+    ∙ after_clears es e b
+
+-- what a turn tells of bits leads to what it leaves, where it goes on from what was there
 part_bits : (shape : Shape) (part : Part) (bits : ℕ → Bool) (e : ℕ) → SeeOn e (Some (bits e)) (bits_of_part shape part) → bit_after_all e (Some (bits e)) (bits_of_part shape part) ≡ Some (with_bits (marks shape part) (without_bits (clears part) bits) e)
 part_bits shape (parts.Bucket part) bits e see = after_only_marks (marks shape (parts.Bucket part)) e (bits e)
 part_bits shape (parts.Free part) bits e see = refl
-part_bits shape (parts.Local part) bits e see = after_reads_and_clears (bits_read (parts.Local part)) (bits_cleared (parts.Local part)) (also_cleared (parts.Local part)) e (bits e) see
+part_bits shape (parts.Local part) bits e see =
+    let told = reads_of (bits_read (parts.Local part)) (also_cleared (parts.Local part)) in
+    ap (bit_after_all e (Some (bits e))) told
+    ∙ after_reads_and_clears (bits_read (parts.Local part)) (also_cleared (parts.Local part)) e (bits e) (subst (SeeOn e (Some (bits e))) told see)
 part_bits shape (parts.Global part) bits e see = after_only_clears (bits_cleared (parts.Global part)) (also_cleared (parts.Global part)) e (bits e)
 part_bits shape (parts.Own part) bits e see = after_only_clears (bits_cleared (parts.Own part)) (also_cleared (parts.Own part)) e (bits e)
 
@@ -132,6 +135,31 @@ part_finds shape (parts.Global part) n known bits are see =
     finds n known bits (bits_cleared (parts.Global part)) are (λ e. (see_both e (known e) (map clears_found (bits_cleared (parts.Global part))) (map clears_bit (also_cleared (parts.Global part))) (see e)).0)
 part_finds shape (parts.Own part) n known bits are see =
     finds n known bits (bits_cleared (parts.Own part)) are (λ e. (see_both e (known e) (map clears_found (bits_cleared (parts.Own part))) (map clears_bit (also_cleared (parts.Own part))) (see e)).0)
+
+-- and visits that are read tell these bits
+reads : (n : ℕ) (known : ℕ → Option Bool) (bits : ℕ → Bool) (visits : List Visit) → BitsAre n known bits → ((e : ℕ) → SeeOn e (known e) (map reads_bit visits)) → ReadBits n bits visits
+reads n known bits [] are see = tt
+reads n known bits (visit ∷ visits) are see = (seen, reads n (λ e. bit_then e (known e) (reads_bit visit)) bits visits then_are (λ e. (see e).1))
+  where
+    seen : visit.element < n → visit.bit ≡ bits visit.element
+    seen real = subst (λ (o : Option Bool). MatchOption o (Unit {0}) (SeesBit (Some visit.bit))) (are visit.element real) ((see visit.element).0 refl)
+
+    then_are : BitsAre n (λ e. bit_then e (known e) (reads_bit visit)) bits
+    then_are e real =
+        by_test visit.element e (λ c. cond c (Some visit.bit) (known e) ≡ Some (bits e))
+        (λ here. subst (λ (x : ℕ). Some visit.bit ≡ Some (bits x)) here (ap Some (seen (subst (λ (x : ℕ). x < n) (sym here) real))))
+        (λ other. are e real)
+
+part_reads : (shape : Shape) (part : Part) (n : ℕ) (known : ℕ → Option Bool) (bits : ℕ → Bool) → BitsAre n known bits → ((e : ℕ) → SeeOn e (known e) (bits_of_part shape part)) → ReadBits n bits (bits_read part)
+part_reads shape (parts.Bucket part) n known bits are see = tt
+part_reads shape (parts.Free part) n known bits are see = tt
+part_reads shape (parts.Local part) n known bits are see =
+    reads n known bits (bits_read (parts.Local part)) are
+    (λ e.
+    (see_both e (known e) (map reads_bit (bits_read (parts.Local part))) (map clears_bit (also_cleared (parts.Local part)))
+    (subst (SeeOn e (known e)) (reads_of (bits_read (parts.Local part)) (also_cleared (parts.Local part))) (see e))).0)
+part_reads shape (parts.Global part) n known bits are see = tt
+part_reads shape (parts.Own part) n known bits are see = tt
 
 -- Logs
 
@@ -165,13 +193,14 @@ module _ (shape : Shape) (cpu number : ℕ) where
   -- these turns were made from this state on, and lead to what is known then
   pub record GoOnBy (steps : List Turned) (state : State) (logs : ℕ → List Entry) (known : ℕ → Option Bool) : Type 0 where
     pub made : AreMade shape cpu number (map (turn_at shape) steps) state
+    pub read : EachTurn (ReadsBits shape) shape cpu number (map (turn_at shape) steps) state
     pub logs_are : LogsAre shape (logs_after logs steps) (state_then steps state)
     pub bits_are : BitsAre shape.elements (λ e. bit_after_all e (known e) (touches_of steps)) (state_then steps state).bits
     pub steps_are : map (λ (step : Turned). kept_step shape step.lock (place_of step)) steps ≡ steps_of_turns shape cpu number (map (turn_of shape) steps) state
 
   pub made_by : (steps : List Turned) (state : State) (logs : ℕ → List Entry) (known : ℕ → Option Bool) → LogsAre shape logs state → BitsAre shape.elements known state.bits → FollowOn shape logs steps
       → ((e : ℕ) → SeeOn e (known e) (touches_of steps)) → AllBy cpu number steps → GoOnBy steps state logs known
-  made_by [] state logs known are bits follow see by = record { made = tt; logs_are = are; bits_are = bits; steps_are = refl }
+  made_by [] state logs known are bits follow see by = record { made = tt; read = tt; logs_are = are; bits_are = bits; steps_are = refl }
   made_by (step ∷ steps) state logs known are bits follow see by =
       let by_here : IsBy cpu number step = All-head (IsBy cpu number) step steps by in
       let part : Part = step.entry.part in
@@ -183,10 +212,12 @@ module _ (shape : Shape) (cpu number : ℕ) where
       subst (λ (l : List Entry). Allows shape cpu part (content shape lock l)) (are step.lock)
       (subst (λ (c : ℕ). Allows shape c part (content shape lock (logs step.lock))) by_here.0 follow.0.allowed) in
       let bits_next : BitsAre shape.elements (λ e. bit_after_all e (known e) (bits_of_part shape part)) next.bits =
-      (λ e real. ap (λ (o : Option Bool). bit_after_all e o (bits_of_part shape part)) (bits e real) ∙ part_bits shape part state.bits e (subst (λ (o : Option Bool). SeeOn e o (bits_of_part shape part)) (bits e real) (apart e).0)) in
+      (λ e real. ap (λ (o : Option Bool). bit_after_all e o (bits_of_part shape part)) (bits e real)
+      ∙ part_bits shape part state.bits e (subst (λ (o : Option Bool). SeeOn e o (bits_of_part shape part)) (bits e real) (apart e).0)) in
       let rest = made_by steps next (log_after logs step) (λ e. bit_after_all e (known e) (bits_of_part shape part)) (logs_more logs state step by_here are) bits_next follow.1 (λ e. (apart e).1) (All-tail (IsBy cpu number) step steps by) in
       record {
         made = (record { there = follow.0.there; earlier = earlier; allowed = allowed; bits = part_finds shape part shape.elements known state.bits bits (λ e. (apart e).0) }, rest.made);
+        read = (part_reads shape part shape.elements known state.bits bits (λ e. (apart e).0), rest.read);
         logs_are = rest.logs_are;
         bits_are = λ e real. bits_both e (known e) (bits_of_part shape part) (touches_of steps) ∙ rest.bits_are e real;
         steps_are = (λ i. record { lock = lock; index = length (earlier i) } ∷ rest.steps_are i);

@@ -65,10 +65,10 @@ filter_ascends p a (suc n) =
 
 -- Sums
 
-pub none_of_sum : (n : ℕ) (f : ℕ → ℕ) → ((k : ℕ) → k < n → f k ≡ 0) → sum_below n f ≡ 0
+none_of_sum : (n : ℕ) (f : ℕ → ℕ) → ((k : ℕ) → k < n → f k ≡ 0) → sum_below n f ≡ 0
 none_of_sum n f none = sum_same n f (λ _. 0) none ∙ sum_zero n
 
-pub shifted : (a x y : ℕ) → eqb (a + x) (a + y) ≡ eqb x y
+shifted : (a x y : ℕ) → eqb (a + x) (a + y) ≡ eqb x y
 shifted a x y =
     by_bool (eqb x y) (λ b. eqb x y ≡ b → eqb (a + x) (a + y) ≡ b)
     (λ _ is. eq-eqb (a + x) (a + y) (ap (λ n. a + n) (eqb-true x y is)))
@@ -136,13 +136,13 @@ module _ (shape : Shape) (p : PassView) (closed : ClosedView) (ends : IsClosed s
       ap (times e) (sym same) ∙ bucket_list shape ends.core ends.placed b e real)
 
   -- what is marked are elements of the map, in order
-  pub marked_below : All (λ (element : ℕ). element < shape.elements) closed.finals.marked
+  marked_below : All (λ (element : ℕ). element < shape.elements) closed.finals.marked
   marked_below =
       subst (All (λ (element : ℕ). element < shape.elements)) (sym (map_left.marked_are ends.left))
       (All-filter ends.core.bit (λ (element : ℕ). element < shape.elements) (range_with_len 0 shape.elements)
       (All-from_recursion (λ (element : ℕ). element < shape.elements) (range_with_len 0 shape.elements) (range_below shape.elements 0 shape.elements (omega arith))))
 
-  pub marked_ascend : Ascend closed.finals.marked
+  marked_ascend : Ascend closed.finals.marked
   marked_ascend = subst Ascend (sym (map_left.marked_are ends.left)) (filter_ascends ends.core.bit 0 shape.elements)
 
 -- a kind that has no spares isn't HASH

@@ -36,7 +36,6 @@ use Rattle.map_run.specs.Copies.{has_step, IsCopyOf}
 use Rattle.map_run.specs.Served.{IsServedCall, IsServed}
 use Rattle.map_run.specs.Work.{has_turn, replies_of, AreCallsBy, HaveRaced, strand_of_cpu, race_left, IsRaceRecord}
 use Rattle.map_run.proofs.AnyRecord.{evicting_none}
-use Rattle.map_run.proofs.BothRuns.{own_lists}
 use Rattle.map_run.proofs.Closing.{IsReal}
 use Rattle.map_run.proofs.HistoryTurns.{by_bool}
 use Rattle.map_run.proofs.OpeningTurns.{no_opening_spares}
@@ -171,7 +170,7 @@ module _ (script : Script) (t : TableView) (p : PassView) (replies : List Reply)
   holds =
       by_bool (is_lru shape.kind) (λ b. MatchBool b (HasListedElements shape closed.finals) (HasElements shape closed.finals))
       (λ lru.
-      listed_left shape p closed ends lru (own_lists shape.common served.built)
+      listed_left shape p closed ends lru
       (nothing_in_hand shape p closed ends raced.of_table.1 raced.all_cpus raced.in_no_call spareless (evicting_kind shape.kind lru))
       (no_spares_left shape.kind refl lru))
       (λ plain. elements_left shape p closed ends raced.of_table.1 raced.all_cpus raced.in_no_call spareless served.bounds plain)

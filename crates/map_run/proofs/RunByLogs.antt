@@ -1,6 +1,6 @@
 -- A run in serial order of a map that evicts, by one pass that has all CPUs: from the table's opening to its close it leaves the
--- record of the run by the logs of the locks, where the takings and freeings of its CPUs are determined by their traces, as on a map
--- whose CPUs have list sets of their own.
+-- record of the run by the logs of the locks, since the takings and freeings of its CPUs are determined by their traces: where CPUs
+-- share lists, by the bits that each turn reads too, and since no element is found moved on.
 use Rattle.std.proofs.Common.{◌≡◌, ℕ, zero, suc, ◌+◌, ◌<◌, true, false, cond, List, [], ◌∷◌, ◌++◌, length, map, take, get_or, Option, Some, None, refl, ap, ◌∙◌, sym, subst, arith}
 use Rattle.std.specs.Prelude.{All, IsTrue, filter, option_map, slice_get}
 use Rattle.std.specs.List.{range_with_len}
@@ -48,10 +48,11 @@ use Rattle.map_report.specs.Runs.{steps_of_turns, steps_of_calls, serial}
 use Rattle.map_run.specs.ByLogs.{IsOfMap, KnowsState, HaveRunByLogs}
 use Rattle.map_run.specs.Copies.{record_left, strand_left}
 use Rattle.map_run.specs.Served.{IsServedCall}
-use Rattle.map_run.proofs.CallsByLogs.{key_verb, knows_next, reply_next, run_more, answers_more, steps_more}
+use Rattle.map_run.proofs.CallsByLogs.{key_verb, tells_shared, knows_next, reply_next, run_more, answers_more, steps_more}
 use Rattle.map_run.proofs.Closing.{kept_all, made_of_all, length_indexes}
 use Rattle.map_run.proofs.Decides.{Decides, own_decides}
 use Rattle.map_run.proofs.FinalsByLogs.{IsSameState, same_finals}
+use Rattle.map_run.proofs.HistoryTurns.{by_bool}
 use Rattle.map_run.proofs.SerialRun.{take_next}
 use Rattle.map_run.proofs.SharedFreesIs.{TellsShared, shared_decides}
 use Rattle.map_run.proofs.TurnsMade.{EachTurn, NothingMore, nothing_more}
@@ -102,11 +103,16 @@ first_by_logs t p first =
 
 -- One call more
 
+-- what holds of each turn of a call, whatever the run had come to, as far as the pass knew that
+abbrev TellsEach : (State → Turn → Type 0) → (t : TableView) (call : Call) (number : ℕ) (p q : PassView) (reply : Reply) → Called t (begun p call.cpu number) q call.verb reply → Type 0
+TellsEach Fact t call number p q reply called =
+    (state : State) (strand : List StrandStep) → KnowsState t.shape state strand p.view → called.lost ≡ [] → EachTurn Fact t.shape call.cpu number (map (turn_at t.shape) called.steps) state
+
 module _ (Fact : State → Turn → Type 0) (t : TableView) (calls : List Call) (n : ℕ) (call : Call) (p q : PassView) (reply : Reply) (replies : List Reply)
     (shape_is : IsShape t.shape) (lru : is_lru t.shape.kind ≡ true) (decides : Decides Fact t.shape call.cpu) (served : All (IsServedCall t.shape) calls)
     (at : slice_get calls n ≡ Some call) (own : IsServedCall t.shape call)
     (ran : HaveRunByLogs t (take n calls) p replies) (called : Called t (begun p call.cpu (1 + length (take n calls))) q call.verb reply)
-    (each : EachTurn Fact t.shape call.cpu (1 + length (take n calls)) (map (turn_at t.shape) called.steps) (come_to t.shape (take n calls))) where
+    (each : TellsEach Fact t call (1 + length (take n calls)) p q reply called) where
   abbrev before : List Call
   before = take n calls
 
@@ -122,11 +128,13 @@ module _ (Fact : State → Turn → Type 0) (t : TableView) (calls : List Call) 
   knows_then : (none : q.view.lost ≡ []) → KnowsState t.shape (after_one t.shape number call (come_to t.shape before))
       (steps_of_calls t.shape 1 before (new_state t.shape) ++ steps_of_turns t.shape call.cpu number (does t.shape call.cpu number (come_to t.shape before) call.verb).turns (come_to t.shape before)) q.view
   knows_then none =
-      knows_next Fact t (come_to t.shape before) (steps_of_calls t.shape 1 before (new_state t.shape)) p q call number reply lru own.cpu decides rests (key_verb t.shape call.verb own.verb) (ran.knows (none_before none).1) called (none_before none).0 each
+      knows_next Fact t (come_to t.shape before) (steps_of_calls t.shape 1 before (new_state t.shape)) p q call number reply lru own.cpu decides rests (key_verb t.shape call.verb own.verb) (ran.knows (none_before none).1) called (none_before none).0
+      (each (come_to t.shape before) (steps_of_calls t.shape 1 before (new_state t.shape)) (ran.knows (none_before none).1) (none_before none).0)
 
   replied_then : (none : q.view.lost ≡ []) → reply ≡ (does t.shape call.cpu number (come_to t.shape before) call.verb).reply
   replied_then none =
-      reply_next Fact t (come_to t.shape before) (steps_of_calls t.shape 1 before (new_state t.shape)) p q call number reply lru own.cpu decides rests (key_verb t.shape call.verb own.verb) (ran.knows (none_before none).1) called (none_before none).0 each
+      reply_next Fact t (come_to t.shape before) (steps_of_calls t.shape 1 before (new_state t.shape)) p q call number reply lru own.cpu decides rests (key_verb t.shape call.verb own.verb) (ran.knows (none_before none).1) called (none_before none).0
+      (each (come_to t.shape before) (steps_of_calls t.shape 1 before (new_state t.shape)) (ran.knows (none_before none).1) (none_before none).0)
 
   more_by_logs : HaveRunByLogs t (before ++ call ∷ []) q (replies ++ reply ∷ [])
   more_by_logs = record {
@@ -147,34 +155,32 @@ module _ (Fact : State → Turn → Type 0) (t : TableView) (calls : List Call) 
 pub next_if_decided : (Fact : State → Turn → Type 0) (t : TableView) (calls : List Call) (n : ℕ) (call : Call) (p q : PassView) (number : ℕ) (reply : Reply) (replies after : List Reply)
     → IsShape t.shape → is_lru t.shape.kind ≡ true → ((cpu : ℕ) → cpu < t.shape.cpus → Decides Fact t.shape cpu) → All (IsServedCall t.shape) calls → n < length calls → call ≡ get_or calls n call → number ≡ n + 1
     → HaveRunByLogs t (take n calls) p replies → (called : Called t (begun p call.cpu number) q call.verb reply)
-    → EachTurn Fact t.shape call.cpu number (map (turn_at t.shape) called.steps) (come_to t.shape (take n calls)) → after ≡ replies ++ reply ∷ [] → HaveRunByLogs t (take (n + 1) calls) q after
+    → TellsEach Fact t call number p q reply called → after ≡ replies ++ reply ∷ [] → HaveRunByLogs t (take (n + 1) calls) q after
 next_if_decided Fact t calls n call p q number reply replies after shape_is lru decides served within is count ran called each pushed =
     let at : slice_get calls n ≡ Some call = slice_get_read calls (length calls) n call refl within is in
     let own : IsServedCall t.shape call = subst (IsServedCall t.shape) (sym is) (All-get_or (IsServedCall t.shape) calls n call within served) in
     let long : length (take n calls) ≡ n = length-take-le n calls (omega (arith, within)) in
     let number_is : number ≡ 1 + length (take n calls) = omega (arith, count, long) in
     let next : suc n ≡ n + 1 = omega arith in
-    let more = subst (λ (k : ℕ). (c : Called t (begun p call.cpu k) q call.verb reply) → EachTurn Fact t.shape call.cpu k (map (turn_at t.shape) c.steps) (come_to t.shape (take n calls)) → HaveRunByLogs t (take n calls ++ call ∷ []) q (replies ++ reply ∷ [])) (sym number_is)
+    let more = subst (λ (k : ℕ). (c : Called t (begun p call.cpu k) q call.verb reply) → TellsEach Fact t call k p q reply c → HaveRunByLogs t (take n calls ++ call ∷ []) q (replies ++ reply ∷ [])) (sym number_is)
     (λ c holds. more_by_logs Fact t calls n call p q reply replies shape_is lru (decides call.cpu own.cpu) served at own ran c holds) in
     subst (λ (k : ℕ). HaveRunByLogs t (take k calls) q after) next
     (subst (λ (made : List Call). HaveRunByLogs t made q after) (sym (take_next calls n call at))
     (subst (HaveRunByLogs t (take n calls ++ call ∷ []) q) (sym pushed) (more called each)))
 
--- on a map whose CPUs have list sets of their own
+-- on a map whose CPUs have list sets of their own, and on one whose CPUs share lists
 pub next_by_logs : (t : TableView) (calls : List Call) (n : ℕ) (call : Call) (p q : PassView) (number : ℕ) (reply : Reply) (replies after : List Reply)
-    → IsShape t.shape → is_lru t.shape.kind ≡ true → t.shape.common ≡ false → All (IsServedCall t.shape) calls → n < length calls → call ≡ get_or calls n call → number ≡ n + 1
+    → IsShape t.shape → is_lru t.shape.kind ≡ true → All (IsServedCall t.shape) calls → n < length calls → call ≡ get_or calls n call → number ≡ n + 1
     → HaveRunByLogs t (take n calls) p replies → Called t (begun p call.cpu number) q call.verb reply → after ≡ replies ++ reply ∷ [] → HaveRunByLogs t (take (n + 1) calls) q after
-next_by_logs t calls n call p q number reply replies after shape_is lru apart served within is count ran called pushed =
+next_by_logs t calls n call p q number reply replies after shape_is lru served within is count ran called pushed =
+    by_bool t.shape.common (λ b. t.shape.common ≡ b → HaveRunByLogs t (take (n + 1) calls) q after)
+    (λ _ shared.
+    next_if_decided (TellsShared t.shape) t calls n call p q number reply replies after shape_is lru (λ cpu below. shared_decides t.shape cpu shared below) served within is count ran called
+    (λ state strand knows none. tells_shared t state strand p q call number reply lru knows called none shared) pushed)
+    (λ _ apart.
     next_if_decided NothingMore t calls n call p q number reply replies after shape_is lru (λ cpu below. own_decides NothingMore t.shape cpu apart below) served within is count ran called
-    (nothing_more t.shape call.cpu number (map (turn_at t.shape) called.steps) (come_to t.shape (take n calls))) pushed
-
--- and on one whose CPUs share lists, where each turn tells the bits that it reads and each push finds its element pending
-pub next_shared_by_logs : (t : TableView) (calls : List Call) (n : ℕ) (call : Call) (p q : PassView) (number : ℕ) (reply : Reply) (replies after : List Reply)
-    → IsShape t.shape → is_lru t.shape.kind ≡ true → t.shape.common ≡ true → All (IsServedCall t.shape) calls → n < length calls → call ≡ get_or calls n call → number ≡ n + 1
-    → HaveRunByLogs t (take n calls) p replies → (called : Called t (begun p call.cpu number) q call.verb reply) → EachTurn (TellsShared t.shape) t.shape call.cpu number (map (turn_at t.shape) called.steps) (come_to t.shape (take n calls))
-    → after ≡ replies ++ reply ∷ [] → HaveRunByLogs t (take (n + 1) calls) q after
-next_shared_by_logs t calls n call p q number reply replies after shape_is lru shared =
-    next_if_decided (TellsShared t.shape) t calls n call p q number reply replies after shape_is lru (λ cpu below. shared_decides t.shape cpu shared below)
+    (λ state strand knows none. nothing_more t.shape call.cpu number (map (turn_at t.shape) called.steps) state) pushed)
+    refl
 
 -- At the end
 

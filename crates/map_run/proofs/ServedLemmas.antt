@@ -11,7 +11,7 @@ use Rattle.map_script.specs.declared.script.Script.{Script}
 use Rattle.map_script.specs.declared.script.Form.TheVariants.{Calls}
 use Rattle.map_script.specs.WellFormed.{HasSizes, IsCallOn, IsWellFormed}
 use Rattle.map_script.proofs.WellFormedLemmas.{IsWellFormed-read_as}
-use Rattle.map_run.specs.Served.{is_built_map, is_built_verb, is_built, IsScript, IsServedVerb, IsServedCall, IsServed}
+use Rattle.map_run.specs.Served.{is_built_verb, is_built, IsScript, IsServedVerb, IsServedCall, IsServed}
 
 -- both of two tests hold
 both_hold : (a b : Bool) → (a && b) ≡ true → (a ≡ true) × (b ≡ true)
@@ -41,9 +41,7 @@ well_formed script is = IsWellFormed-read_as Calls is.0 script is.1
 pub IsServed-from_script : (script : Script) → IsScript script → is_built script ≡ true → IsServed script
 IsServed-from_script script is built =
     let like = well_formed script is in
-    let parts = both_hold (is_built_map script.shape) (list_all (λ call. is_built_verb call.verb) script.calls) built in
     record {
-      built = parts.0;
       bounds = bounds_of_shape script.shape like.shape;
-      calls = calls_served script.shape script.calls parts.1 (recursion_from_All (IsCallOn script.shape) script.calls like.calls);
+      calls = calls_served script.shape script.calls built (recursion_from_All (IsCallOn script.shape) script.calls like.calls);
     }

@@ -2,15 +2,13 @@
 -- leaves two ways to free an element that a refill flushed: by the global lists, or by a push on local lists that finds it moved, and
 -- then by the global lists.
 use Rattle.std.proofs.Common.{◌≡◌, ◌⊎◌, ℕ, ◌<◌, ◌≤◌, Bool, true, false, List, [], ◌∷◌, ◌++◌, Option, None, Some, refl, ap, ◌∙◌, sym, subst, inl, inr, ⊎_elim, arith}
-use Rattle.std.specs.Prelude.{MatchBool, IsTrue, find, nat_lt}
+use Rattle.std.specs.Prelude.{MatchBool, IsTrue, IsFalse, find, nat_lt}
 use Rattle.std.specs.List.{range_with_len}
 use Rattle.std.proofs.lemmas.Bool.{both_ways, cases_eq, cond-true, ltb-true, and_parts, ne_eqb}
 use Rattle.map_types.specs.declared.attr.Shape.{Shape}
 use Rattle.map_types.specs.declared.kind.DomainId.TheVariants.{Local, Global}
-use Rattle.place_words.specs.declared.history.Part.{Part}
 use Rattle.place_words.specs.declared.history.Part.TheVariants as parts
 use Rattle.place_words.specs.declared.list_part.GlobalPart.TheVariants as global
-use Rattle.place_words.specs.declared.list_part.LocalPart.{LocalPart}
 use Rattle.place_words.specs.declared.list_part.LocalPart.TheVariants as local
 use Rattle.place_words.specs.Histories.{Allows, in_locals, in_global}
 use Rattle.place_words.specs.Locals.{LocalLists, new_locals}
@@ -27,30 +25,16 @@ use Rattle.place_words.proofs.RowCounts.{any, rows_append}
 use Rattle.place_words.proofs.Settled.{rows_on, elements_on, IsSettled, once_on}
 use Rattle.place_words.proofs.SharedFrees.{locals_there, globals_there, found_within, missed_within}
 use Rattle.place_words.proofs.TwoLists.{two_of}
+use Rattle.place_table.specs.Calls.{finds_moved_on}
 use Rattle.map_run.proofs.BitsRead.{ReadsBits}
 use Rattle.map_run.proofs.Decides.{Decides}
 use Rattle.map_run.proofs.LooksTold.{heads}
 use Rattle.map_run.proofs.SharedTakesIs.{takes_shared_is}
 use Rattle.map_run.proofs.TurnsMade.{AreMade, EachTurn, each_weaker}
 
--- a push finds its element pending
-abbrev pub PushesPending : LocalPart → Type 0
-PushesPending (local.Pop hash e) = Unit {0}
-PushesPending (local.Refill hash flushed gained got) = Unit {0}
-PushesPending (local.Steal got first second) = Unit {0}
-PushesPending (local.Add hash e cursor) = Unit {0}
-PushesPending (local.Push e done) = IsTrue done
-
-abbrev pub FindsPending : Part → Type 0
-FindsPending (parts.Bucket part) = Unit {0}
-FindsPending (parts.Free part) = Unit {0}
-FindsPending (parts.Local part) = PushesPending part
-FindsPending (parts.Global part) = Unit {0}
-FindsPending (parts.Own part) = Unit {0}
-
 -- what is asked of each turn of a call where CPUs share lists, beside that it may be made there and tells what it clears
 abbrev pub TellsShared : Shape → State → Turn → Type 0
-TellsShared shape state turn = ReadsBits shape state turn × FindsPending turn.part
+TellsShared shape state turn = ReadsBits shape state turn × IsFalse (finds_moved_on turn.part)
 
 first_of : (b : Bool) (A B : Type 0) → b ≡ true → MatchBool b A B → A
 first_of true A B is it = it
@@ -144,7 +128,7 @@ module _ (shape : Shape) (cpu number : ℕ) (state : State) (home e : ℕ) (hand
   no_flushed : (turns : List TurnAt) → FreesFlushed e turns → EachTurn (TellsShared shape) shape cpu number turns state → ⊥
   no_flushed turns frees each =
       let first = subst (λ (l : List TurnAt). EachTurn (TellsShared shape) shape cpu number l state) frees.turns_are each in
-      both_ways false refl (subst (λ (turn : Turn). FindsPending turn.part) frees.first_is first.0.1)
+      both_ways true (subst (λ (turn : Turn). IsFalse (finds_moved_on turn.part)) frees.first_is first.0.1) refl
 
   pub frees_shared_is : (turns : List TurnAt) → Frees shape e turns → AreMade shape cpu number turns state → EachTurn (TellsShared shape) shape cpu number turns state → turns_of turns ≡ freeing shape state e ∷ []
   frees_shared_is turns frees made each = by (first_of shape.common _ _ shared frees) ∙ ap (λ (turn : Turn). turn ∷ []) (sym freeing_is)

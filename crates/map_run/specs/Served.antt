@@ -1,5 +1,5 @@
--- The scripts whose run is built: those of maps whose CPUs share no lists, without walks and batches.
-use Rattle.std.specs.Prelude.{◌≡◌, ◌<◌, ◌&&◌, Bool, true, false, not, IsTrue, length, All}
+-- The scripts whose run is built: those without walks and batches, on maps of any kind.
+use Rattle.std.specs.Prelude.{◌≡◌, ◌<◌, Bool, true, false, length, All}
 use Rattle.std.specs.List.{list_all}
 use Rattle.map_types.specs.Shape.{HasBounds}
 use Rattle.map_types.specs.ValueLen.{value_len_of}
@@ -15,10 +15,6 @@ use Rattle.map_script.specs.Reading.{IsReadAs}
 abbrev pub IsScript : Script → Type 0
 IsScript script = IsReadAs Calls script
 
--- a map that doesn't evict, or one that evicts whose CPUs have lists of their own
-abbrev pub is_built_map : Shape → Bool
-is_built_map shape = not shape.common
-
 abbrev pub is_built_verb : Verb → Bool
 is_built_verb (Lookup side key) = true
 is_built_verb (Update side flags key value) = true
@@ -31,8 +27,7 @@ is_built_verb (BatchDelete flags keys) = false
 
 -- the run of the script is built
 abbrev pub is_built : Script → Bool
-is_built script =
-    is_built_map script.shape && list_all (λ call. is_built_verb call.verb) script.calls
+is_built script = list_all (λ call. is_built_verb call.verb) script.calls
 
 -- the keys and values have the map's sizes
 abbrev pub IsServedVerb : Shape → Verb → Type 0
@@ -52,6 +47,5 @@ pub record IsServedCall (shape : Shape) (call : Call) : Type 0 where
 
 -- what is known of a script whose run is built
 pub record IsServed (script : Script) : Type 0 where
-  pub built : IsTrue (is_built_map script.shape)
   pub bounds : HasBounds script.shape
   pub calls : All (IsServedCall script.shape) script.calls

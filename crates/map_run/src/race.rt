@@ -6,7 +6,7 @@ ghost use Rattle.map_types.specs.Creation.{IsShape};
 ghost use Rattle.map_batch.specs.Calls.{table_of};
 ghost use Rattle.map_run.specs.declared.worker.Worker.{Worker};
 ghost use Rattle.map_run.specs.Copies.{IsCopyOf};
-ghost use Rattle.map_run.specs.Served.{is_built, is_built_map, IsScript, IsServed, IsServedCall};
+ghost use Rattle.map_run.specs.Served.{is_built, IsScript, IsServed, IsServedCall};
 ghost use Rattle.map_run.specs.Work.{HasWorked, HaveRaced, IsRaceRecord, count_of, race_left, replies_of, strand_of_cpu};
 ghost use Rattle.map_run.specs.Workers.{HasDone, HasSplit, HaveWorked, replies_by};
 ghost use Rattle.map_report.specs.Record.{has_cpu};

@@ -9,7 +9,7 @@ ghost use Rattle.map_run.specs.Laws.{SerialLaws};
 ghost use Rattle.map_run.specs.Copies.{IsCopyOf};
 ghost use Rattle.map_report.specs.Runs.{serial};
 ghost use Rattle.map_run.specs.Copies.{record_left, strand_left};
-ghost use Rattle.map_run.specs.Served.{is_built, is_built_map, IsScript, IsServed, IsServedCall};
+ghost use Rattle.map_run.specs.Served.{is_built, IsScript, IsServed, IsServedCall};
 
 use crate::RunRecord;
 use crate::one_call::run_call;
@@ -74,7 +74,6 @@ fn run_calls<R: Wait, G: Gate>(
     gate: &G,
 ) -> Result<Vec<Reply>, NoMemory>
     requires shape { IsShape (table_of map.now).shape }
-    requires built { IsTrue (is_built_map (table_of map.now).shape) }
     requires calls { All (IsServedCall (table_of map.now).shape) calls.now }
     requires few { length calls.now ≤ 200000 }
     requires first { HaveRun (table_of map.now) [] pass.old [] }

@@ -6,13 +6,9 @@ use Rattle.map_report.specs.declared.record.RunRecord.{RunRecord}
 use Rattle.map_batch.specs.Calls.{table_of}
 use Rattle.map_run.specs.Copies.{IsCopyOf}
 use Rattle.map_run.specs.Work.{HaveRaced, IsRaceRecord}
-use Rattle.map_run.proofs.BothRuns.{own_lists}
 use Rattle.map_run.proofs.RaceRecord.{race_is_record}
 use Rattle.map_run.proofs.Workers.{first_split}
 use Rattle.map_run.proofs.race.race_script.Goals as goal
-
-pub create-requires-clause-own_lists : goal.create-requires-clause-own_lists
-create-requires-clause-own_lists g c = own_lists c.args.script.now.shape.common c.requires.served.built
 
 pub race_calls-requires-clause-first : goal.race_calls-requires-clause-first
 race_calls-requires-clause-first g c κs within =

@@ -7,5 +7,5 @@ pub loop-call-preserved : goal.loop-call-preserved
 loop-call-preserved g c = record {
   count = omega arith;
   run = run_next (table_of c.args.map.now) c.args.calls.now c.loop-call.call-index c.call-item.result c.loop-call.pass c.run_call.new.pass (c.loop-call.number + 1) c.in_ok-reply.reply c.loop-call.replies.items
-      c.push.new.self.items c.requires.shape c.requires.built c.requires.calls (omega arith) c.call-item.is (omega arith) c.loop-call.invariant.run c.in_ok-reply.ensures.called c.in_ok-push.ensures.items;
+      c.push.new.self.items c.requires.shape c.requires.calls (omega arith) c.call-item.is (omega arith) c.loop-call.invariant.run c.in_ok-reply.ensures.called c.in_ok-push.ensures.items;
 }

@@ -6,11 +6,8 @@ use Rattle.map_batch.specs.Calls.{table_of}
 use Rattle.map_run.specs.Going.{HaveRun}
 use Rattle.map_run.specs.Copies.{IsCopyOf}
 use Rattle.map_report.specs.Runs.{serial}
-use Rattle.map_run.proofs.BothRuns.{own_lists, run_first, run_end, run_copy}
+use Rattle.map_run.proofs.BothRuns.{run_first, run_end, run_copy}
 use Rattle.map_run.proofs.serial.run_script.Goals as goal
-
-pub create-requires-clause-own_lists : goal.create-requires-clause-own_lists
-create-requires-clause-own_lists g c = own_lists c.args.script.now.shape.common c.requires.served.built
 
 pub run_calls-requires-clause-first : goal.run_calls-requires-clause-first
 run_calls-requires-clause-first g c κs within =
