@@ -1,0 +1,135 @@
+"""Reports that are edited, so that mistakes can be made in them on purpose."""
+from reports import LOCKS
+
+
+class Draft:
+    """The lines of a report in its parts."""
+
+    def __init__(self, text):
+        self.head, self.histories, self.strands, self.dump = [], {}, [], []
+        part = self.head
+        for line in text.splitlines():
+            name, *words = line.split(" ")
+            if name == "lock":
+                part = self.histories[" ".join(words[:-1])] = []
+            elif name == "strand":
+                part = []
+                self.strands.append((words[0], part))
+            elif name == "at":
+                part.append((" ".join(words[:-1]), int(words[-1])))
+            else:
+                part = self.dump if self.strands else part
+                part.append(line)
+
+    def text(self):
+        lines = list(self.head)
+        for lock, entries in sorted(self.histories.items(), key=lambda history: in_order(history[0])):
+            if entries:
+                lines += [f"lock {lock} {len(entries)}", *entries]
+        for cpus, steps in self.strands:
+            lines += [f"strand {cpus} {len(steps)}", *(f"at {lock} {index}" for lock, index in steps)]
+        return "\n".join(lines + self.dump) + "\n"
+
+    def renumber(self, lock, number):
+        """Gives each step of a lock the number that this function says, or drops it where that is none."""
+        for _, steps in self.strands:
+            numbered = [(name, number(index) if name == lock else index) for name, index in steps]
+            steps[:] = [step for step in numbered if step[1] is not None]
+
+
+def in_order(lock):
+    name, *number = lock.split(" ")
+    return LOCKS.index(name), list(map(int, number))
+
+
+# Edits, each of which is a function on drafts.
+
+
+def entry(lock, index, old, new):
+    """In an entry one text becomes another."""
+
+    def edit(draft):
+        line = draft.histories[lock][index]
+        assert line.count(old) == 1, line
+        draft.histories[lock][index] = line.replace(old, new)
+
+    return edit
+
+
+def drop(lock, index):
+    """An entry goes, with its step."""
+
+    def edit(draft):
+        del draft.histories[lock][index]
+        draft.renumber(lock, lambda other: None if other == index else other - (other > index))
+
+    return edit
+
+
+def move(lock, index, other, to):
+    """An entry goes to another lock, with its step."""
+
+    def edit(draft):
+        draft.renumber(other, lambda number: number + (number >= to))
+        draft.histories.setdefault(other, []).insert(to, draft.histories[lock].pop(index))
+        for _, named in draft.strands:
+            at = named.index((lock, index)) if (lock, index) in named else None
+            if at is not None:
+                named[at] = (other, to)
+        draft.renumber(lock, lambda number: number - (number > index))
+
+    return edit
+
+
+def swap(lock, index):
+    """An entry and the next one change places; the strands stay as they are but for the numbers of these."""
+
+    def edit(draft):
+        entries = draft.histories[lock]
+        entries[index : index + 2] = entries[index : index + 2][::-1]
+        draft.renumber(lock, lambda other: {index: index + 1, index + 1: index}.get(other, other))
+
+    return edit
+
+
+def steps(strand, at):
+    """Two neighbors in a strand change places."""
+
+    def edit(draft):
+        named = draft.strands[strand][1]
+        named[at : at + 2] = named[at : at + 2][::-1]
+
+    return edit
+
+
+def line(old, new):
+    """A line of the replies or of the lists at the end becomes another."""
+
+    def edit(draft):
+        (part,) = [part for part in (draft.head, draft.dump) if old in part]
+        assert part.count(old) == 1, old
+        part[part.index(old)] = new
+
+    return edit
+
+
+def word_changes(text):
+    """The text with each letter and digit of each word changed alone, each with its line's index."""
+    line = 0
+    for at, char in enumerate(text):
+        line += char == "\n"
+        if char.isalnum():
+            other = {"9": "8", "f": "e", "z": "y"}.get(char, chr(ord(char) + 1))
+            yield line, text[:at] + other + text[at + 1 :]
+
+
+def line_changes(text):
+    """The text with each line gone, doubled, or in the next one's place, each with the line's index."""
+    lines = text.split("\n")[:-1]
+    for at, line in enumerate(lines):
+        before, after = lines[:at], lines[at + 1 :]
+        changes = [before + after, [*before, line, line, *after]]
+        if after and after[0] != line:
+            changes.append([*before, after[0], line, *after[1:]])
+        for changed in changes:
+            yield at, "\n".join(changed) + "\n"

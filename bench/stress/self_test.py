@@ -1,0 +1,246 @@
+"""Shows that the judge refuses wrong reports: lawful ones with mistakes, and with each word and each line changed."""
+import pathlib
+
+from drafts import Draft, drop, entry, line, line_changes, move, steps, swap, word_changes
+from judge import judge
+from reports import Unlawful
+
+LAWFUL = pathlib.Path(__file__).resolve().parent / "lawful"
+
+# A report, what is done to it, and the edits that do it.
+WRONG = [
+    ("moved", "another bit in the flush of the global turn alone", entry("global", 1, "0:04ec883b:0", "0:04ec883b:1")),
+    (
+        "moved",
+        "another bit in both tellings of a flush",
+        entry("global", 1, "0:04ec883b:0", "0:04ec883b:1"),
+        entry("local 0", 2, "0:0", "0:1"),
+    ),
+    ("moved", "another hash in a flush", entry("global", 1, "0:04ec883b:0", "0:df8eb2bb:0")),
+    (
+        "moved",
+        "a flush from the head",
+        entry("global", 1, "0:04ec883b:0 1:df8eb2bb:0", "1:df8eb2bb:0 0:04ec883b:0"),
+        entry("local 0", 2, "0:0 1:0", "1:0 0:0"),
+    ),
+    ("moved", "a rotation from the head", entry("global", 1, "inactive 2 0:0 1:0", "inactive 2 1:0 0:0")),
+    (
+        "moved",
+        "a visit of active where inactive isn't shorter",
+        entry("global", 1, "active 0 inactive", "active 1 0:0 inactive"),
+    ),
+    (
+        "moved",
+        "no global push behind a push moved",
+        drop("global", 2),
+        line("global inactive", "global inactive 0"),
+        line("global free 0", "global free"),
+    ),
+    ("moved", "a push done of an element that was flushed", entry("local 0", 3, "moved", "done")),
+    ("moved", "a push moved before the flush", swap("local 0", 2)),
+    ("moved", "a push moved of an element that is pending", entry("local 0", 3, "push 0", "push 1")),
+    ("moved", "a push moved on a lock where the element never was", move("local 0", 3, "local 1", 0)),
+    ("moved", "gained in another order", entry("local 0", 0, "gain 2 1 0 got 0", "gain 2 0 1 got 1")),
+    ("moved", "a refill that gains what the global turn didn't give", entry("local 0", 2, "gain 1 1", "gain 2 0 1")),
+    ("moved", "the tail of the local free list", entry("local 0", 1, "df8eb2bb 1", "df8eb2bb 0")),
+    ("moved", "a pop for a key of another hash", entry("local 0", 1, "df8eb2bb", "bb60a9ce")),
+    (
+        "moved",
+        "an element held by the own CPU",
+        entry("global", 1, "0:0:h1", "0:0:h0"),
+        entry("bucket 1", 3, "held 1", "held 0"),
+    ),
+    ("moved", "an eviction for which no look asked", entry("global", 1, "0:0:h1", "0:1")),
+    ("moved", "a probe that isn't answered", drop("bucket 1", 3)),
+    ("moved", "a probe answered in the bucket of another hash", move("bucket 1", 3, "bucket 0", 0)),
+    ("moved", "probes answered in another order", swap("bucket 1", 3), steps(0, 5)),
+    (
+        "moved",
+        "an update in the bucket of another hash",
+        move("bucket 0", 0, "bucket 1", 5),
+        line("bucket 0 1 03 c3", "bucket 1 1 03 c3"),
+    ),
+    ("moved", "a shrink for one more", entry("global", 0, "shrink 126", "shrink 127")),
+    ("moved", "a shrink that stops early", entry("global", 1, "2 0:0:h1 1:0:r forced 0", "1 0:0:h1 forced 1 1:r")),
+    ("moved", "no shrink where too little was free", entry("global", 0, "shrink 126 0 forced 0", "shrink no")),
+    ("moved", "another reply", line("2 ok", "2 enoent")),
+    ("moved", "another element offered", entry("bucket 0", 0, "offer 1", "offer 0")),
+    ("moved", "a cursor where nothing is inactive", line("global cursor -", "global cursor 0")),
+    ("moved", "an element on no list at the end", line("local 0 pending 1", "local 0 pending")),
+    ("held", "ENOMEM from the first search alone", entry("local 0", 1, "second 1 0:h0", "second 0"), drop("bucket 0", 1)),
+    ("held", "ENOMEM without a look at the last CPU", drop("local 0", 1), drop("bucket 0", 1), drop("bucket 0", 0)),
+    ("held", "ENOMEM without a round", drop("local 0", 1), drop("bucket 0", 1), drop("bucket 0", 0), drop("local 1", 1)),
+    (
+        "held",
+        "an element held by a CPU that isn't there",
+        entry("local 0", 1, "0:0:h0", "0:0:h3"),
+        entry("bucket 0", 0, "held 0", "held 3"),
+    ),
+    ("held", "ok in place of ENOMEM", line("2 enomem", "2 ok")),
+    ("held", "a probe before the update, and in the bucket after it", swap("bucket 0", 1)),
+    ("stolen", "a round that begins at another CPU", steps(0, 5)),
+    ("stolen", "a round that leaves a CPU out", drop("local 2", 0)),
+    (
+        "stolen",
+        "another steal cursor",
+        entry("local 2", 3, "cursor 1", "cursor 2"),
+        line("local 2 steal 1", "local 2 steal 2"),
+    ),
+    ("stolen", "a steal cursor that isn't kept", line("local 0 steal 2", "local 0 steal 0")),
+    (
+        "stolen",
+        "a steal of a used key in the first search",
+        entry("local 0", 2, "first 1 0:1 second 1 0:r", "first 1 0:1:r second 0"),
+    ),
+    ("stolen", "a second search behind one that gave", entry("local 1", 4, "second 0", "second 1 1:r")),
+    ("stolen", "pending before the free list", entry("local 0", 1, "steal free 1 first 0", "steal pending 0 first 1 0:0:r")),
+    (
+        "stolen",
+        "a steal without an element added",
+        drop("local 0", 5),
+        line("local 0 pending 1", "local 0 pending"),
+        line("local 0 steal 2", "local 0 steal 0"),
+    ),
+    ("stolen", "another CPU's value", entry("bucket 0", 7, "b600000000000000c6", "c600000000000000b6")),
+    ("stolen", "the old value behind a write", line("bucket 0 0 06 00 b6 c6", "bucket 0 0 06 00 b6 00")),
+    ("own", "a push on another CPU's set", entry("lru 0", 2, "push 0", "push 1")),
+    (
+        "own",
+        "no push behind a deletion",
+        drop("lru 0", 2),
+        line("lru 0 inactive", "lru 0 inactive 0"),
+        line("lru 0 free 0", "lru 0 free"),
+    ),
+    ("own", "ENOMEM without a forced search", entry("lru 0", 1, "forced 1 0:h1", "forced 0"), drop("bucket 1", 3)),
+    ("own", "a shrink for one less", entry("lru 0", 1, "shrink 4", "shrink 3")),
+    ("cursor", "a rotation from the tail where there is a cursor", entry("lru 0", 6, "1:0 0:1 5:1 4:0", "5:1 4:0 3:0 2:0")),
+    (
+        "cursor",
+        "one visit more than the limit",
+        entry("lru 0", 5, "inactive 4 5:0 4:0 3:0 2:0", "inactive 5 5:0 4:0 3:0 2:0 1:0"),
+    ),
+    ("cursor", "no visit of active where inactive is shorter", entry("lru 0", 7, "active 2 0:0 5:0", "active 0")),
+    ("cursor", "the element freed first is taken", entry("lru 0", 6, "got 1", "got 4")),
+    (
+        "cursor",
+        "the old element of a key isn't pushed free",
+        drop("lru 0", 8),
+        line("lru 0 inactive 2 5 1", "lru 0 inactive 2 0 5 1"),
+        line("lru 0 free 0 3 4", "lru 0 free 3 4"),
+    ),
+    ("spare", "another spare", entry("bucket 1", 2, "replaced 0 3", "replaced 2 3")),
+    ("spare", "a full map without a look at each freelist", drop("freelist 0", 2)),
+    ("spare", "freelists in another order", steps(0, 6)),
+    (
+        "spare",
+        "a push on another CPU's freelist",
+        move("freelist 1", 3, "freelist 0", 3),
+        entry("freelist 0", 4, "empty", "pop 2"),
+        drop("freelist 1", 3),
+    ),
+    (
+        "walks",
+        "a batch that takes a part of a bucket",
+        entry("bucket 1", 8, "taken 1 1:01=a1", "taken 0"),
+        drop("freelist 0", 4),
+    ),
+    ("walks", "a batch with more room than it asked for", entry("bucket 0", 5, "keep 1", "keep 3")),
+    (
+        "walks",
+        "a batch that goes on behind a bucket without room",
+        line("7 ok taken 1 next 1 03=a3", "7 enoent taken 1 next 2 03=a3"),
+    ),
+    ("walks", "a batch that keeps what it takes", entry("bucket 0", 6, "drop", "keep"), drop("freelist 0", 3)),
+    ("walks", "a walk that leaves a bucket out", drop("bucket 0", 4)),
+    ("walks", "a batch that updates another key", entry("bucket 1", 1, "01 a1", "05 a1")),
+    ("walks", "one entry more done", line("2 e2big done 2", "2 e2big done 3")),
+    (
+        "batches",
+        "the elements taken are freed in order",
+        swap("local 0", 2),
+        steps(0, 12),
+        line("local 0 free 1 0", "local 0 free 0 1"),
+    ),
+    ("batches", "a next key that isn't the next one", entry("bucket 1", 3, "key 01", "key 02"), line("3 ok 01", "3 ok 02")),
+    ("batches", "ENOSPC for a bucket that fits", entry("bucket 0", 0, "taken 0", "over 0")),
+    ("spare", "an element in two places", line("spare 1 3", "spare 1 2")),
+]
+# The same with edits that leave a lawful report, and why they do.
+LAWFUL_EDITS = [
+    (
+        "moved",
+        "a push moved dropped",
+        "a CPU that reads the home word after the flush makes no turn of the local lock",
+        drop("local 0", 3),
+    ),
+    (
+        "moved",
+        "two turns of a bucket in another order",
+        "they are of two CPUs and two keys, so either may come first",
+        swap("bucket 1", 1),
+    ),
+    (
+        "held",
+        "another CPU that holds an element",
+        "no entry tells in whose hand an element is, but that it is another's",
+        entry("local 0", 1, "first 1 0:0:h0 second 1 0:h0", "first 1 0:0:h2 second 1 0:h2"),
+        entry("bucket 0", 0, "held 0", "held 2"),
+        entry("bucket 0", 1, "held 0", "held 2"),
+    ),
+]
+# Lines in which a word can be changed alone, and why.
+LAWFUL_CHANGES = {
+    "marked": "no entry tells which bits the last lookups left",
+    "0 10 turn": "a bit that is read moves the element to active, from which it is pushed free as well as from inactive",
+}
+
+
+def edited(text, edits):
+    draft = Draft(text)
+    assert draft.text() == text
+    for edit in edits:
+        edit(draft)
+    return draft.text()
+
+
+def refusal(script, report):
+    """Why a report is refused; none where it isn't."""
+    try:
+        judge(script, report)
+    except Unlawful as why:
+        return why
+    return None
+
+
+def self_test():
+    reports = sorted(LAWFUL.glob("*.report"))
+    texts = {file.stem: (file.with_suffix(".bpfmap").read_text(), file.read_text()) for file in reports}
+    failed = 0
+    for name, (script, report) in texts.items():
+        why = refusal(script, report)
+        print(f"{name}:", "lawful" if why is None else f"REFUSED: {why}")
+        failed += why is not None
+    for name, what, *edits in WRONG:
+        script, report = texts[name]
+        why = refusal(script, edited(report, edits))
+        print(f"{name}, {what}:", "PASSES" if why is None else f"refused: {why}")
+        failed += why is None
+    for name, what, reason, *edits in LAWFUL_EDITS:
+        script, report = texts[name]
+        why = refusal(script, edited(report, edits))
+        print(f"{name}, {what}:", f"passes: {reason}" if why is None else f"REFUSED: {why}")
+        failed += why is not None
+    for name, (script, report) in texts.items():
+        for kind, changes in (("word", word_changes), ("line", line_changes)):
+            refused = 0
+            for number, changed in changes(report):
+                if refusal(script, changed) is not None:
+                    refused += 1
+                    continue
+                old, new = report.splitlines()[number], changed.splitlines()[number]
+                reasons = [why for start, why in LAWFUL_CHANGES.items() if kind == "word" and old.startswith(start)]
+                print(f"{name}, {old!r} changed to {new!r}:", f"passes: {reasons[0]}" if reasons else "PASSES")
+                failed += not reasons
+            print(f"{name}: refused {refused} changes of a {kind}")
+    if failed:
+        raise SystemExit(f"{failed} failed")
