@@ -22,7 +22,7 @@ takes_block w added v bytes block left some cut is_added is_mixed =
     cc
 
 -- The last bytes, padded, added to w and mixed for the last time.
-pub takes_last : (w added : Words) (bytes block : List ℕ) → 1 ≤ length bytes → length bytes ≤ 12 → block ≡ padded bytes → added ≡ add_block w block → finish added ≡ absorb w bytes
-takes_last w added bytes block some few is_padded is_added =
+pub takes_last : (w added : Words) (bytes : List ℕ) → 1 ≤ length bytes → length bytes ≤ 12 → added ≡ add_block w (padded bytes) → finish added ≡ absorb w bytes
+takes_last w added bytes some few is_added =
     let step = absorb-last w bytes some few in
     cc

@@ -3,7 +3,7 @@
 
 ghost use Rattle.std.specs.Prelude.{◌≡◌, ◌%◌, ◌<◌, ◌≤◌, length};
 ghost use Rattle.key_hash.specs.Bucket.{IsPowerOfTwo, bucket_number};
-ghost use Rattle.key_hash.specs.Jhash.{hash, padded};
+ghost use Rattle.key_hash.specs.Jhash.{hash};
 
 use state::{BLOCK_LEN, State};
 
@@ -25,7 +25,7 @@ pub fn jhash(key: &[u8], seed: u32) -> u32
         state.mix();
         rest = left;
     }
-    state.add_block(&padded(rest));
+    state.add_last(rest);
     state.finish()
 }
 
@@ -39,14 +39,4 @@ pub fn bucket_of(hash: u32, buckets: u32) -> u32
     ensures remainder { result ≡ hash % buckets }
 {
     hash & (buckets - 1)
-}
-
-// The last bytes of a key, with zeros after them up to a block.
-fn padded(bytes: &[u8]) -> [u8; BLOCK_LEN]
-    requires { length bytes.now ≤ BLOCK_LEN }
-    ensures { result ≡ padded bytes.now }
-{
-    let mut block = [0; BLOCK_LEN];
-    block[..bytes.len()].copy_from_slice(bytes);
-    block
 }

@@ -1,7 +1,8 @@
 //! The three words that a hash works on.
 
-ghost use Rattle.std.specs.Prelude.{◌≡◌};
-ghost use Rattle.key_hash.specs.Jhash.{start, add_block, mix_a, mix_b, mix_c, mix, finish_a, finish_b, finish_c, finish};
+ghost use Rattle.std.specs.Prelude.{◌≡◌, drop};
+ghost use Rattle.std.specs.Int.{w32, from_le_bytes};
+ghost use Rattle.key_hash.specs.Jhash.{start, add_block, mix_a, mix_b, mix_c, mix, finish_a, finish_b, finish_c, finish, padded};
 ghost use Rattle.key_hash.specs.State.{words_of};
 
 /// How many bytes are added to the words at a time.
@@ -40,6 +41,15 @@ impl State {
         self.a = self.a.wrapping_add(a);
         self.b = self.b.wrapping_add(b);
         self.c = self.c.wrapping_add(c);
+    }
+
+    /// Adds the last bytes, at most a block of them, with zeros after them.
+    pub fn add_last(&mut self, bytes: &[u8])
+        ensures { words_of self.new ≡ add_block (words_of self.old) (padded bytes.now) }
+    {
+        self.a = self.a.wrapping_add(word_at(bytes, 0));
+        self.b = self.b.wrapping_add(word_at(bytes, 4));
+        self.c = self.c.wrapping_add(word_at(bytes, 8));
     }
 
     /// Mixes the words after a block that is not the last.
@@ -113,5 +123,28 @@ impl State {
         ensures { words_of self.new ≡ finish_b places (words_of self.old) }
     {
         self.b = (self.b ^ self.a).wrapping_sub(self.a.rotate_left(places));
+    }
+}
+
+/// The little-endian word of the four bytes from a place on, with zeros after the last byte.
+fn word_at(bytes: &[u8], place: usize) -> u32
+    ensures { result ≡ from_le_bytes w32 (drop place bytes.now) }
+{
+    match bytes.get(place..) {
+        Some(rest) => first_word(rest),
+        None => 0,
+    }
+}
+
+/// The little-endian word of the first four bytes, with zeros after them where there are fewer.
+fn first_word(bytes: &[u8]) -> u32
+    ensures { result ≡ from_le_bytes w32 bytes.now }
+{
+    match *bytes {
+        [a, b, c, d, ..] => u32::from_le_bytes([a, b, c, d]),
+        [a, b, c] => u32::from_le_bytes([a, b, c, 0]),
+        [a, b] => u32::from_le_bytes([a, b, 0, 0]),
+        [a] => u32::from_le_bytes([a, 0, 0, 0]),
+        [] => 0,
     }
 }

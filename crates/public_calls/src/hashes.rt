@@ -18,6 +18,50 @@ static HASHES: [(&[u8], u32, u32); 12] = [
     (b"abcdefghijklmnopqrstuvwxy", 0, 0x6c29_c5e2),
 ];
 
+/// The hashes of the first bytes of a text, of one byte and of one more each, under the seed 7.
+static BEGINNINGS: [u32; 40] = [
+    0x9f84_d9b3,
+    0x367d_4d26,
+    0x14b3_d2d0,
+    0xc55b_2ad5,
+    0x35d3_db76,
+    0xcb64_3258,
+    0x9e5c_c3fb,
+    0x7642_bc7d,
+    0x50fc_ae6a,
+    0x6373_fe3a,
+    0x4b20_fbae,
+    0x6646_9bfe,
+    0x4a04_fabf,
+    0x63c4_6cb0,
+    0xc814_51b6,
+    0x508f_f468,
+    0x2d36_881d,
+    0xea03_d655,
+    0xf7ad_139d,
+    0x2a1f_c398,
+    0xb412_26f2,
+    0xd022_61ef,
+    0x205f_d9e9,
+    0x49c9_a203,
+    0x051f_6048,
+    0xbf56_0f0e,
+    0xa40c_8c9f,
+    0xcd85_e4f0,
+    0x24ec_78d4,
+    0x763d_219b,
+    0x7927_7093,
+    0x97c7_50d5,
+    0x8aac_5ed0,
+    0x13ea_eb2d,
+    0x54cd_7727,
+    0x9923_233b,
+    0x621e_8811,
+    0x8c73_1d14,
+    0x5c14_eebb,
+    0xbba2_2899,
+];
+
 /// A hash, and its bucket of 2, of 4 and of 8.
 static BUCKETS: [(u32, u32, u32, u32); 5] = [
     (0x04ec_883b, 1, 3, 3),
@@ -41,6 +85,22 @@ fn wrong_hash(rows: &[(&[u8], u32, u32)]) -> Option<usize> {
 #[test]
 fn hashes(rt: HostRuntime) {
     assert_eq!(rt; wrong_hash(&HASHES), None);
+}
+
+/// The first row that isn't the hash of as many bytes of a text and one more, under the seed 7.
+fn wrong_beginning(text: &[u8], hashes: &[u32]) -> Option<usize> {
+    for row in 0..hashes.len() {
+        if row >= text.len() || row >= 512 || jhash(&text[..row + 1], 7) != hashes[row] {
+            return Some(row);
+        }
+    }
+    None
+}
+
+#[test]
+fn hashes_of_beginnings(rt: HostRuntime) {
+    let text = b"The quick brown fox jumps over the lazy dog";
+    assert_eq!(rt; wrong_beginning(text, &BEGINNINGS), None);
 }
 
 /// The first row whose hash is in another bucket of 2, of 4 or of 8.

@@ -1,3 +1,4 @@
 pub mod ElementLemmas
 pub mod RowLemmas
 pub mod PlainLemmas
+pub mod MoveLemmas

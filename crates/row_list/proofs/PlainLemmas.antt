@@ -14,7 +14,7 @@ use Rattle.row_list.specs.RowWords.{is_of, row_of, without_row, head_row, row_be
 use Rattle.row_list.proofs.ElementLemmas.{by_test, times_here, times_append}
 use Rattle.row_list.proofs.RowLemmas.{elements_append, times_rows_reverse, row_of_split, without_split, last_of_reverse, row_before_split, row_after_split}
 
-around : (front back : List Row) (row : Row) → reverse (front ++ row ∷ back) ≡ reverse back ++ (row ∷ reverse front)
+pub around : (front back : List Row) (row : Row) → reverse (front ++ row ∷ back) ≡ reverse back ++ (row ∷ reverse front)
 around front back row =
     reverse-append front (row ∷ back) ∙ ap (λ (rows : List Row). rows ++ reverse front) (reverse_onto back row []) ∙ append_assoc (reverse back) (row ∷ []) (reverse front)
 

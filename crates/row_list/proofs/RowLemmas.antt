@@ -285,7 +285,7 @@ none_equal e (x ∷ xs) none =
     let parts = absent_parts x e xs none in
     (ne_eqb e x (λ is. parts.0 (sym is)), none_equal e xs parts.1)
 
-fewer_behind : (x e : ℕ) (xs : List ℕ) → times e (x ∷ xs) ≤ 1 → times e xs ≤ 1
+pub fewer_behind : (x e : ℕ) (xs : List ℕ) → times e (x ∷ xs) ≤ 1 → times e xs ≤ 1
 fewer_behind x e xs =
     by_test x e (λ b. cond b (suc (times e xs)) (times e xs) ≤ 1 → times e xs ≤ 1) (λ _ few. omega arith) (λ _ few. few)
 

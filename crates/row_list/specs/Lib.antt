@@ -1,1 +1,2 @@
 pub mod RowWords
+pub mod Moves

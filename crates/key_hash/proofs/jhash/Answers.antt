@@ -15,5 +15,5 @@ pub returns : goal.returns
 unfolding hash
 returns c =
     let few : length c.loop-block.rest.now ≤ 12 = grind (arith, nat_tests) in
-    let ended = takes_last _ _ _ _ c.loop-block.invariant.0 few c.padded.ensures c.add_block-2.ensures in
+    let ended = takes_last _ _ _ c.loop-block.invariant.0 few c.add_last.ensures in
     c.finish.ensures ∙ ap (λ (w : Words). w.c) (ended ∙ c.loop-block.invariant.1)

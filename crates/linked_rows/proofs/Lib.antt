@@ -1,0 +1,4 @@
+pub mod LeadLemmas
+pub mod ListLemmas
+pub mod FoundLemmas
+pub mod ChangeLemmas
