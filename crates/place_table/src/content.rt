@@ -4,13 +4,13 @@ ghost use Rattle.std.specs.Prelude.{◌≡◌, None};
 
 use bucket_chain::Chain;
 use cpu_freelist::Freelist;
+use linked_rows::LinkedRows;
 use local_lists::LocalSet;
 use lru_lists::ListSet;
 use place_words::Entry;
-use row_list::PlainRows;
 
 /// The lists of rows of a map that evicts.
-pub type Listing = PlainRows;
+pub type Listing = LinkedRows;
 
 /// What lies under a lock.
 #[derive(Drop)]
