@@ -1,0 +1,78 @@
+-- The keys that are found in a bucket, and the turns that tell them.
+use Rattle.std.proofs.Common.{◌≡◌, ℕ, zero, suc, ◌+◌, ◌<◌, ◌≤◌, List, [], ◌∷◌, length, drop, get_or, ⊎_elim, sym, refl, ap, ◌∙◌, subst, arith, Option, Some, None}
+use Rattle.std.specs.Prelude.{All, MatchOption, option_map, slice_get}
+use Rattle.std.proofs.lemmas.Option.{slice_get_cases}
+use Rattle.map_types.specs.declared.attr.Shape.{Shape}
+use Rattle.map_types.specs.Stored.{Stored}
+use Rattle.bucket_chain.specs.Places.{place_of_key}
+use Rattle.bucket_chain.specs.Turns.{IsTurn}
+use Rattle.bucket_chain.proofs.Found.{position_some}
+use Rattle.place_words.specs.declared.bucket_part.BucketPart.TheVariants.{Next, First}
+use Rattle.place_words.specs.declared.bucket_part.NextFound.{NextFound}
+use Rattle.place_words.specs.declared.bucket_part.NextFound.TheVariants as nexts
+use Rattle.place_words.specs.Bodies.{has_key, present, first_key, next_key}
+use Rattle.place_words.specs.Buckets.{AllowsInBucket, AllowsNext, IsPresentWith, bucket_after}
+use Rattle.place_table.specs.Contents.{IsSized}
+use Rattle.bucket_walks.specs.Looks.{HasKeyOf}
+
+-- Turns
+
+pub first_turn : (shape : Shape) (cpu : ℕ) (bodies : List Stored) (found : Option (List ℕ)) → found ≡ first_key bodies → IsTurn shape cpu (First found) bodies bodies
+unfolding AllowsInBucket bucket_after
+first_turn shape cpu bodies found is = record { allowed = is; left = refl }
+
+pub next_turn : (shape : Shape) (cpu : ℕ) (bodies : List Stored) (key : List ℕ) (found : NextFound) → AllowsNext key found bodies → IsTurn shape cpu (Next key found) bodies bodies
+unfolding AllowsInBucket bucket_after
+next_turn shape cpu bodies key found allowed = record { allowed = allowed; left = refl }
+
+-- the keys of a bucket that is held have the size of the map's
+pub keys_sized : (shape : Shape) (size : ℕ) (bodies : List Stored) → size ≡ shape.key_size → All (IsSized shape) bodies → All (HasKeyOf size) bodies
+keys_sized shape size bodies is sized place below default = (sized place below default).key_sized ∙ sym is
+
+-- The first key
+
+pub none_first : (bodies : List Stored) → length bodies ≡ 0 → None ≡ first_key bodies
+none_first [] is = refl
+none_first (body ∷ bodies) is = absurd (omega (arith, is))
+
+pub some_first : (bodies : List Stored) (out : List ℕ) → option_map (λ (body : Stored). body.key) (slice_get bodies 0) ≡ Some out → Some out ≡ first_key bodies
+some_first [] out copied = sym copied
+some_first (body ∷ bodies) out copied = sym copied
+
+-- The key after another one
+
+-- the key at the head of what is left behind some bodies
+first_dropped : (k : ℕ) (bodies : List Stored) → first_key (drop k bodies) ≡ option_map (λ (body : Stored). body.key) (slice_get bodies k)
+first_dropped zero [] = refl
+first_dropped (suc k) [] = refl
+first_dropped zero (body ∷ bodies) = refl
+first_dropped (suc k) (body ∷ bodies) = first_dropped k bodies
+
+next_is : (key : List ℕ) (bodies : List Stored) (place : ℕ) → Some place ≡ place_of_key key bodies → next_key key bodies ≡ option_map (λ (body : Stored). body.key) (slice_get bodies (place + 1))
+next_is key bodies place at =
+    ap (λ k. first_key (drop (k + 1) bodies)) (sym (position_some (has_key key) bodies place (sym at))) ∙ first_dropped (place + 1) bodies
+
+-- there is a body at the place of the key
+holds : (key : List ℕ) (bodies : List Stored) (place : ℕ) (Fact : Type 0) → place < length bodies → slice_get bodies place ≡ present key bodies → Fact → IsPresentWith key bodies (λ body. Fact)
+holds key bodies place Fact below found fact =
+    ⊎_elim
+    (λ (x : (body : Stored) × (place < length bodies) × (slice_get bodies place ≡ Some body) × (get_or bodies place body ≡ body)).
+    subst (λ (there : Option Stored). MatchOption there ⊥ (λ (body : Stored). Fact)) (sym x.2 ∙ found) fact)
+    (λ (x : (length bodies ≤ place) × (slice_get bodies place ≡ None)). let past = x.0 in absurd (omega (arith, below, past)))
+    (slice_get_cases bodies place).1
+
+none_at : (bodies : List Stored) (place : ℕ) → length bodies ≤ place → slice_get bodies place ≡ None
+none_at bodies place past =
+    ⊎_elim
+    (λ (x : (body : Stored) × (place < length bodies) × (slice_get bodies place ≡ Some body) × (get_or bodies place body ≡ body)). let below = x.1 in absurd (omega (arith, below, past)))
+    (λ (x : (length bodies ≤ place) × (slice_get bodies place ≡ None)). x.1)
+    (slice_get_cases bodies place).1
+
+pub next_last : (key : List ℕ) (bodies : List Stored) (place : ℕ) → Some place ≡ place_of_key key bodies → slice_get bodies place ≡ present key bodies → place < length bodies → place + 1 ≡ length bodies → AllowsNext key nexts.Last bodies
+next_last key bodies place at found below last =
+    let past : length bodies ≤ place + 1 = omega (arith, last) in
+    holds key bodies place (next_key key bodies ≡ None) below found (next_is key bodies place at ∙ ap (option_map (λ (body : Stored). body.key)) (none_at bodies (place + 1) past))
+
+pub next_some : (key : List ℕ) (bodies : List Stored) (place : ℕ) (out : List ℕ) → Some place ≡ place_of_key key bodies → slice_get bodies place ≡ present key bodies → place < length bodies
+    → option_map (λ (body : Stored). body.key) (slice_get bodies (place + 1)) ≡ Some out → AllowsNext key (nexts.Key out) bodies
+next_some key bodies place out at found below copied = holds key bodies place (next_key key bodies ≡ Some out) below found (next_is key bodies place at ∙ copied)

@@ -1,0 +1,143 @@
+-- Turns one after another: what they are told as, what looks at buckets leave of bits and spares, and the looks of two parts of a
+-- walk.
+use Rattle.std.proofs.Common.{◌≡◌, ℕ, cond, true, false, List, [], ◌∷◌, ◌++◌, map, inl, inr, ⊎_elim, sym, refl, ap, ◌∙◌, subst, Option}
+use Rattle.std.specs.Prelude.{Bool, IsFalse, All, flat_map}
+use Rattle.std.proofs.lemmas.List.Elements.{All-nil, All-cons, All-append}
+use Rattle.map_types.specs.declared.attr.Shape.{Shape}
+use Rattle.map_types.specs.Kind.{is_lru}
+use Rattle.place_words.specs.declared.bucket_part.BucketPart.TheVariants.{Next, First}
+use Rattle.place_words.specs.declared.bucket_part.NextFound.{NextFound}
+use Rattle.place_words.specs.declared.history.Part.{Part}
+use Rattle.place_words.specs.declared.history.Part.TheVariants as parts
+use Rattle.place_words.specs.PlainTraces.{spare_after, spare_after_part}
+use Rattle.place_words.specs.Histories.{marks}
+use Rattle.place_words.specs.SerialOrder.{probes_in}
+use Rattle.place_words.specs.Turns.{Turn, turns_of}
+use Rattle.place_core.proofs.ElementLemmas.{by_test}
+use Rattle.place_table.specs.declared.view.Turned.{Turned}
+use Rattle.place_table.specs.Calls.{CouldBe, AreTold, sets_bit, bits_of_part, bits_of_turns, finds_moved_on}
+use Rattle.place_table.specs.Known.{BitTouch, turn_of, turn_at, IsBy}
+use Rattle.place_table.specs.Passes.{PassView, TableView}
+use Rattle.place_table.specs.Views.{is_among}
+use Rattle.place_table.proofs.Going.{goes_nowhere, made_on, learns_on, learns_none}
+use Rattle.place_table.proofs.Worlds.{true_false, by_bool}
+use Rattle.bucket_walks.specs.Looks.{IsLook, AreLooks, Looked}
+
+-- What turns are told as
+
+among_behind : (n : ℕ) (first second : List ℕ) → is_among n second ≡ true → is_among n (first ++ second) ≡ true
+among_behind n [] second among = among
+among_behind n (x ∷ first) second among = by_test x n (λ b. cond b true (is_among n (first ++ second)) ≡ true) (λ _. refl) (λ _. among_behind n first second among)
+
+among_before : (n : ℕ) (first second : List ℕ) → is_among n first ≡ true → is_among n (first ++ second) ≡ true
+among_before n [] second among = absurd (true_false (sym among))
+among_before n (x ∷ first) second among =
+    by_test x n (λ b. cond b true (is_among n first) ≡ true → cond b true (is_among n (first ++ second)) ≡ true) (λ _ _. refl) (λ _ later. among_before n first second later) among
+
+-- what is told of turns where some records are lost is so where more are
+told_where : (shape : Shape) (lost more : List ℕ) → ((n : ℕ) → is_among n lost ≡ true → is_among n more ≡ true) → (steps told : List Turned) → AreTold shape lost steps told → AreTold shape more steps told
+told_where shape lost more are [] [] is = tt
+told_where shape lost more are [] (told ∷ others) is = absurd is
+told_where shape lost more are (step ∷ steps) [] is = absurd is
+told_where shape lost more are (step ∷ steps) (told ∷ others) is = (
+  ⊎_elim (λ (same : told ≡ step). inl same) (λ (x : (is_among step.lock lost ≡ true) × CouldBe shape step told). inr (are step.lock x.0, x.1)) is.0,
+  told_where shape lost more are steps others is.1,
+)
+
+told_append : (shape : Shape) (lost : List ℕ) (first second told others : List Turned) → AreTold shape lost first told → AreTold shape lost second others → AreTold shape lost (first ++ second) (told ++ others)
+told_append shape lost [] second [] others is later = later
+told_append shape lost [] second (one ∷ told) others is later = absurd is
+told_append shape lost (step ∷ first) second [] others is later = absurd is
+told_append shape lost (step ∷ first) second (one ∷ told) others is later = (is.0, told_append shape lost first second told others is.1 later)
+
+-- the turns alone, without what came before them
+pub turns_alone : (shape : Shape) (told : List Turned) → turns_of (map (turn_at shape) told) ≡ map (turn_of shape) told
+turns_alone shape [] = refl
+turns_alone shape (turn ∷ told) = ap (λ (l : List Turn). turn_of shape turn ∷ l) (turns_alone shape told)
+
+-- What looks leave
+
+looks_append : (told others : List Turned) → AreLooks told → AreLooks others → AreLooks (told ++ others)
+looks_append [] others are later = later
+looks_append (turn ∷ told) others are later = (are.0, looks_append told others are.1 later)
+
+-- of one part
+pub by_look : (Fact : Part → Type 0) → ((found : Option (List ℕ)) → Fact (parts.Bucket (First found))) → ((key : List ℕ) (found : NextFound) → Fact (parts.Bucket (Next key found))) → (part : Part) → IsLook part → Fact part
+by_look Fact first next part is =
+    ⊎_elim
+    (λ (x : (found : Option (List ℕ)) × (part ≡ parts.Bucket (First found))). subst Fact (sym x.1) (first x.0))
+    (λ (x : (key : List ℕ) × (found : NextFound) × (part ≡ parts.Bucket (Next key found))). subst Fact (sym x.2) (next x.0 x.1)) is
+
+either_none : (b : Bool) → cond {A = List ℕ} b [] [] ≡ []
+either_none true = refl
+either_none false = refl
+
+pub marks_none : (shape : Shape) (part : Part) → IsLook part → marks shape part ≡ []
+marks_none shape part is = by_look (λ (p : Part). marks shape p ≡ []) (λ _. either_none (is_lru shape.kind)) (λ _ _. either_none (is_lru shape.kind)) part is
+
+pub probes_none : (part : Part) → IsLook part → probes_in part ≡ []
+probes_none part is = by_look (λ (p : Part). probes_in p ≡ []) (λ _. refl) (λ _ _. refl) part is
+
+bits_of_look : (shape : Shape) (part : Part) → IsLook part → bits_of_part shape part ≡ []
+bits_of_look shape part is =
+    by_look (λ (p : Part). bits_of_part shape p ≡ [])
+    (λ _. ap (λ (l : List ℕ). map sets_bit l ++ [] ++ []) (either_none (is_lru shape.kind)))
+    (λ _ _. ap (λ (l : List ℕ). map sets_bit l ++ [] ++ []) (either_none (is_lru shape.kind))) part is
+
+spare_of_look : (spare : Option ℕ) (part : Part) → IsLook part → spare_after_part spare part ≡ spare
+spare_of_look spare part is = by_look (λ (p : Part). spare_after_part spare p ≡ spare) (λ _. refl) (λ _ _. refl) part is
+
+moved_on_by_look : (part : Part) → IsLook part → finds_moved_on part ≡ false
+moved_on_by_look part is = by_look (λ (p : Part). finds_moved_on p ≡ false) (λ _. refl) (λ _ _. refl) part is
+
+-- of all
+abbrev bits_at : Shape → Turned → List BitTouch
+bits_at shape turn = bits_of_part shape turn.entry.part
+
+all_no_bits : (shape : Shape) (told : List Turned) → AreLooks told → flat_map (bits_at shape) told ≡ []
+all_no_bits shape [] are = refl
+all_no_bits shape (turn ∷ told) are = (λ i. bits_of_look shape turn.entry.part are.0 i ++ all_no_bits shape told are.1 i)
+
+pub looks_no_bits : (shape : Shape) (told : List Turned) → AreLooks told → bits_of_turns shape told ≡ []
+looks_no_bits shape told are = by_bool (is_lru shape.kind) (λ b. cond b (flat_map (bits_at shape) told) [] ≡ []) (λ _. all_no_bits shape told are) (λ _. refl)
+
+pub looks_keep_spare : (shape : Shape) (spare : Option ℕ) (told : List Turned) → AreLooks told → spare_after spare (turns_of (map (turn_at shape) told)) ≡ spare
+looks_keep_spare shape spare [] are = refl
+looks_keep_spare shape spare (turn ∷ told) are =
+    ap (λ (kept : Option ℕ). spare_after kept (turns_of (map (turn_at shape) told))) (spare_of_look spare turn.entry.part are.0) ∙ looks_keep_spare shape spare told are.1
+
+pub looks_move_none : (told : List Turned) → AreLooks told → All (λ (turn : Turned). IsFalse (finds_moved_on turn.entry.part)) told
+looks_move_none [] are = All-nil (λ (turn : Turned). IsFalse (finds_moved_on turn.entry.part))
+looks_move_none (turn ∷ told) are = All-cons (λ (turn : Turned). IsFalse (finds_moved_on turn.entry.part)) turn told (moved_on_by_look turn.entry.part are.0) (looks_move_none told are.1)
+
+-- One part of a walk after another
+
+pub looked_nowhere : (t : TableView) (p : PassView) → Looked t p p [] [] []
+looked_nowhere t p = record {
+  told_are = tt;
+  are_looks = tt;
+  went = record {
+    made = record { goes = goes_nowhere p; held = refl; notes = refl };
+    spares = refl;
+    hand = refl;
+    carried = refl;
+  };
+  by_call = All-nil (IsBy p.cpu p.call);
+  bits = refl;
+  learns = learns_none t.shape p.view;
+}
+
+pub looked_on : {t : TableView} {p q r : PassView} {first second told others : List Turned} {lost more : List ℕ} → Looked t p q first told lost → Looked t q r second others more → Looked t p r (first ++ second) (told ++ others) (more ++ lost)
+looked_on {t} {p} {q} {r} {first} {second} {told} {others} {lost} {more} a b = record {
+  told_are = told_append t.shape (more ++ lost) first second told others (told_where t.shape lost (more ++ lost) (λ n. among_behind n more lost) first told a.told_are) (told_where t.shape more (more ++ lost) (λ n. among_before n more lost) second others b.told_are);
+  are_looks = looks_append told others a.are_looks b.are_looks;
+  went = record {
+    made = made_on p q r first second lost more a.went.made b.went.made;
+    spares = b.went.spares ∙ a.went.spares;
+    hand = b.went.hand ∙ a.went.hand;
+    carried = b.went.carried ∙ a.went.carried;
+  };
+  by_call = All-append (IsBy p.cpu p.call) first second a.by_call (subst (λ (z : ℕ × ℕ). All (IsBy z.0 z.1) second) (λ i. (a.went.made.goes.cpu i, a.went.made.goes.call i)) b.by_call);
+  bits = b.bits ∙ a.bits;
+  learns = learns_on t.shape p.view q.view r.view first second [] [] a.learns b.learns;
+}
