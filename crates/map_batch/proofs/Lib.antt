@@ -1,1 +1,5 @@
+pub mod DeletedEach
+pub mod Entries
+pub mod Joined
 pub mod Sorts
+pub mod UpdatedEach

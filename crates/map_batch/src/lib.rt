@@ -2,5 +2,7 @@
 #![tactic(auto)]
 
 mod any_map;
+mod writes;
 
 pub use any_map::{AnyMap, AnyRefusal};
+pub use writes::{BatchCount, WriteRefusal, delete_batch, update_batch};

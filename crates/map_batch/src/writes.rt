@@ -1,0 +1,150 @@
+//! Batch update and batch delete.
+
+ghost use Rattle.std.specs.Prelude.{◌≡◌, ◌<◌, ◌^◌, All, length};
+ghost use Rattle.map_types.specs.Pairs.{HaveSizes};
+ghost use Rattle.map_types.specs.declared.kind.Side.TheVariants.{Sys};
+ghost use Rattle.map_types.specs.ValueLen.{value_len_of};
+ghost use Rattle.place_table.specs.Calls.{CanCall};
+ghost use Rattle.map_batch.specs.Calls.{table_of};
+ghost use Rattle.map_batch.specs.Writes.{UpdatesBatch, DeletesBatch, ended_by};
+
+use crate::any_map::{AnyMap, AnyRefusal};
+use map_types::{Absent, Bytes, Errno, Gate, List, Pairs, Side};
+use place_table::Pass;
+use std::alloc::Global;
+use std::sync::Wait;
+
+/// What a batch write did.
+#[derive(Clone, Copy, Debug, PartialEq, Eq)]
+pub struct BatchCount {
+    /// How many entries are done.
+    pub done: u32,
+    /// The error with which the next one was refused; none where all are done.
+    pub stop: Option<Errno>,
+}
+
+/// Why a batch write is refused.
+#[derive(Clone, Copy, Debug, PartialEq, Eq)]
+pub enum WriteRefusal {
+    /// Flags that aren't 0.
+    Einval,
+    /// Memory for an entry was not found. Those before it are done.
+    NoMemory,
+}
+
+/// Updates the keys of some pairs one after another, each by the system call with BPF_ANY, up to the first that is refused. The
+/// rule of `generic_map_update_batch`. Flags that aren't 0 are `Einval`, before anything is looked at.
+pub fn update_batch<R: Wait, G: Gate>(
+    map: &AnyMap,
+    rt: &R,
+    alloc: Global,
+    pass: &mut Pass,
+    flags: u32,
+    pairs: &Pairs,
+    gate: &G,
+) -> Result<BatchCount, WriteRefusal>
+    requires can { CanCall (table_of map.now) pass.old }
+    requires sizes { HaveSizes (table_of map.now).shape.key_size (value_len_of (table_of map.now).shape Sys) pairs.now }
+    requires few { length pairs.now < 2 ^ 32 }
+    ensures { UpdatesBatch (table_of map.now) pass.old pass.new flags pairs.now result }
+{
+    if flags != 0 {
+        return Err(WriteRefusal::Einval);
+    }
+    update_each(map, rt, alloc, pass, pairs, gate)
+}
+
+/// Updates the keys of some pairs up to the first that is refused.
+fn update_each<R: Wait, G: Gate>(
+    map: &AnyMap,
+    rt: &R,
+    alloc: Global,
+    pass: &mut Pass,
+    pairs: &Pairs,
+    gate: &G,
+) -> Result<BatchCount, WriteRefusal>
+    requires can { CanCall (table_of map.now) pass.old }
+    requires sizes { HaveSizes (table_of map.now).shape.key_size (value_len_of (table_of map.now).shape Sys) pairs.now }
+    requires few { length pairs.now < 2 ^ 32 }
+    ensures { UpdatesBatch (table_of map.now) pass.old pass.new 0 pairs.now result }
+{
+    let mut done = 0;
+    for i in 0..pairs.len() {
+        match map.update(
+            rt,
+            alloc,
+            pass,
+            Side::Sys,
+            0,
+            pairs.key(i),
+            pairs.value(i),
+            gate,
+        ) {
+            Ok(()) => done += 1,
+            Err(refusal) => return ended_with(refusal, done),
+        }
+    }
+    Ok(BatchCount { done, stop: None })
+}
+
+/// What a batch update answers whose next entry was refused so, after so many that are done.
+fn ended_with(refusal: AnyRefusal, done: u32) -> Result<BatchCount, WriteRefusal>
+    ensures { result ≡ ended_by refusal done }
+{
+    match refusal {
+        AnyRefusal::Refused(errno) => Ok(BatchCount {
+            done,
+            stop: Some(errno),
+        }),
+        AnyRefusal::NoMemory => Err(WriteRefusal::NoMemory),
+    }
+}
+
+/// Deletes some keys one after another, up to the first that isn't there. The rule of `generic_map_delete_batch`. Flags that
+/// aren't 0 are `Einval`, before anything is looked at.
+pub fn delete_batch<R: Wait, G: Gate>(
+    map: &AnyMap,
+    rt: &R,
+    pass: &mut Pass,
+    flags: u32,
+    keys: &List<Bytes>,
+    gate: &G,
+) -> Result<BatchCount, WriteRefusal>
+    requires can { CanCall (table_of map.now) pass.old }
+    requires sizes { All (λ key. length key ≡ (table_of map.now).shape.key_size) keys.now }
+    requires few { length keys.now < 2 ^ 32 }
+    ensures { DeletesBatch (table_of map.now) pass.old pass.new flags keys.now result }
+{
+    if flags != 0 {
+        return Err(WriteRefusal::Einval);
+    }
+    Ok(delete_each(map, rt, pass, keys.as_slice(), gate))
+}
+
+/// Deletes some keys up to the first that isn't there.
+fn delete_each<R: Wait, G: Gate>(
+    map: &AnyMap,
+    rt: &R,
+    pass: &mut Pass,
+    keys: &[Bytes],
+    gate: &G,
+) -> BatchCount
+    requires can { CanCall (table_of map.now) pass.old }
+    requires sizes { All (λ key. length key ≡ (table_of map.now).shape.key_size) keys.now }
+    requires few { length keys.now < 2 ^ 32 }
+    ensures { DeletesBatch (table_of map.now) pass.old pass.new 0 keys.now (Ok result) }
+{
+    let mut done = 0;
+    for key in keys {
+        match map.delete(rt, pass, key.as_slice(), gate) {
+            Ok(()) => done += 1,
+            Err(Absent) => {
+                return BatchCount {
+                    done,
+                    stop: Some(Errno::Enoent),
+                };
+            }
+        }
+    }
+    BatchCount { done, stop: None }
+}
