@@ -1,16 +1,18 @@
 -- The values that are written as JSON, and what they are seen as.
-use Rattle.std.proofs.Common.{◌≡◌, ℕ, List, [], ◌∷◌, map, Bool, true, false, String, Vec, Global, string_bytes, refl, ap, ◌∙◌, rules}
+use Rattle.std.proofs.Common.{◌≡◌, ℕ, List, [], ◌∷◌, map, Bool, true, false, Option, Some, None, String, Vec, Global, string_bytes, refl, ap, ◌∙◌, rules}
 use Rattle.std.specs.List.{flat_map}
-use Rattle.serde_json.specs.Data.{string, array, Members}
+use Rattle.std.specs.Prelude.{codes}
+use Rattle.serde_json.specs.Data.{string, array, Members, member, put}
 use Rattle.serde_json.specs.View.{view, items_of, items_view}
 use Rattle.serde_json.specs.Written.{has_float, items_have_float, members_have_float}
 use Rattle.serde_json.specs.declared.value.Value.{Value, Array, the_lemmas}
 use Rattle.serde_json.specs.declared.value.Value as values
 use Rattle.serde_json.proofs.Views.{view-Array}
+use Rattle.map_script.specs.declared.script.GenSpec.{GenSpec}
 use Rattle.map_script.specs.declared.script.Script.{Script}
 use Rattle.map_report.specs.declared.record.Options.{Options}
 use Rattle.map_report.specs.declared.record.RunRecord.{RunRecord}
-use Rattle.map_report.specs.Json.{texts, asked, json_object}
+use Rattle.map_report.specs.Json.{texts, asked, answers, json_object}
 
 pub view-String : (s : String Global) → view (values.String s) ≡ string (string_bytes s)
 view-String s = search (rules, the_lemmas)
@@ -36,6 +38,15 @@ asked_without : (wanted : Bool) (name : List ℕ) (lines : List (List ℕ)) (oth
 asked_without true name lines others e = rw (no_floats lines) e
 asked_without false name lines others e = e
 
+answers_without : (script : Script) (kept : RunRecord) (spec : Option GenSpec) → members_have_float (answers script kept spec) ≡ false
+answers_without script kept None = rw (no_floats _) refl
+answers_without script kept (Some spec) = rw (no_floats _) refl
+
 pub object_without : (script : Script) (kept : RunRecord) (options : Options) → has_float (json_object script kept options) ≡ false
 object_without script kept options =
-    asked_without options.dump _ _ _ (asked_without options.history _ _ _ (rw (no_floats _) refl))
+    asked_without options.dump _ _ _ (asked_without options.history _ _ _ (answers_without script kept script.spec))
+
+-- the map's line comes before the answers
+pub map_is_first : (script : Script) (kept : RunRecord) (spec : Option GenSpec) (line : List ℕ) → put (codes "map") (string line) (answers script kept spec) ≡ member (codes "map") (string line) (answers script kept spec)
+map_is_first script kept None line = refl
+map_is_first script kept (Some spec) line = refl

@@ -1,4 +1,5 @@
 mod JsonLemmas
+mod SummaryLemmas
 mod WorkedRecord
 pub mod LogGrowth
 pub mod LogNames

@@ -12,5 +12,6 @@ pub mod Runs
 pub mod Serial
 pub mod Soundness
 pub mod Text
+pub mod Summary
 pub mod Turns
 pub mod Words

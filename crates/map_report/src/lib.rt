@@ -10,10 +10,12 @@ mod list_part;
 mod piece;
 mod record;
 mod reply;
+mod summary;
 mod text;
 mod words;
 
 pub use json::json_of;
 pub use place_words::{Finals, Kept, LocalFinal, SetFinal};
 pub use record::{Options, RunRecord};
+pub use summary::summary_of;
 pub use text::text_of;

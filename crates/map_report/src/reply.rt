@@ -70,7 +70,7 @@ fn push_pairs(text: &mut String, pairs: &Pairs) -> Result<(), AllocError>
 }
 
 /// `ok`, or the name of the error at which a batch stopped.
-fn stop_name(stop: Option<Errno>) -> &'static str
+pub(crate) fn stop_name(stop: Option<Errno>) -> &'static str
     ensures { result.now ≡ stop_name stop }
 {
     match stop {

@@ -40,7 +40,11 @@ pub fn text_of(
 }
 
 /// Adds what happened, if that is asked for.
-fn add_history_if(text: &mut String, kept: &RunRecord, asked: bool) -> Result<(), AllocError>
+pub(crate) fn add_history_if(
+    text: &mut String,
+    kept: &RunRecord,
+    asked: bool,
+) -> Result<(), AllocError>
     ensures { OnOk result (string_bytes text.new
         ≡ string_bytes text.old ++ flat_map ended (if asked then history_lines kept.now else [])) }
 {
@@ -52,7 +56,7 @@ fn add_history_if(text: &mut String, kept: &RunRecord, asked: bool) -> Result<()
 }
 
 /// Adds what the map holds, if that is asked for.
-fn add_dump_if(
+pub(crate) fn add_dump_if(
     text: &mut String,
     shape: &Shape,
     finals: &Finals,

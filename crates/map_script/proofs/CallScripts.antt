@@ -75,19 +75,19 @@ pub record IsCallScript (script : Script) : Type 0 where
 
 -- ---- one step behind another
 
-and_then : {A B E : Type 0} (P : A → Type 0) (Q : B → Type 0) (r : Result A E) (next : A → Result B E) → IfOk r P → ((a : A) → P a → IfOk (next a) Q) → IfOk (r >>= next) Q
+pub and_then : {A B E : Type 0} (P : A → Type 0) (Q : B → Type 0) (r : Result A E) (next : A → Result B E) → IfOk r P → ((a : A) → P a → IfOk (next a) Q) → IfOk (r >>= next) Q
 and_then P Q (Ok a) next h k = k a h
 and_then P Q (Err e) next h k = tt
 
 -- where nothing is told of the first step
-and_any : {A B E : Type 0} (Q : B → Type 0) (r : Result A E) (next : A → Result B E) → ((a : A) → IfOk (next a) Q) → IfOk (r >>= next) Q
+pub and_any : {A B E : Type 0} (Q : B → Type 0) (r : Result A E) (next : A → Result B E) → ((a : A) → IfOk (next a) Q) → IfOk (r >>= next) Q
 and_any Q (Ok a) next k = k a
 and_any Q (Err e) next k = tt
 
 -- ---- the places
 
 -- what is known of the value that is found
-abbrev Found : {A : Type 0} → (A → Type 0) → A × Tokens → Type 0
+abbrev pub Found : {A : Type 0} → (A → Type 0) → A × Tokens → Type 0
 Found P found = P found.0
 
 valued_gives : {A : Type 0} (cause : Cause) (value : List ℕ → Option A) (P : A → Type 0) → ((token : List ℕ) → IfSome (value token) P) → (tokens : Tokens) → IfOk (valued cause value tokens) (Found P)
@@ -121,7 +121,7 @@ cpu_gives cpus tokens =
     cond_both (nat_lt found.0 cpus) (Ok found) (Err causes.Cpu) (λ r. IfOk r (Found (IsCpu cpus)))
     (λ below. (is, ltb-true found.0 cpus below)) (λ above. tt))
 
-labelled_gives : (label : List ℕ) (tokens : Tokens) → IfOk (labelled label tokens) (Found IsNumber)
+pub labelled_gives : (label : List ℕ) (tokens : Tokens) → IfOk (labelled label tokens) (Found IsNumber)
 labelled_gives label tokens =
     and_any (Found IsNumber) (word causes.Missing label tokens) _ (λ found. number_gives found.1)
 
@@ -137,7 +137,7 @@ number_or_end_gives : (tokens : Tokens) → IfOk (number_or_end tokens) (Found I
 number_or_end_gives [] = zero_number
 number_or_end_gives (first ∷ rest) = number_gives (first ∷ rest)
 
-end_gives : {A : Type 0} (P : A → Type 0) (value : A) (tokens : Tokens) → P value → IfOk (at_end value tokens) P
+pub end_gives : {A : Type 0} (P : A → Type 0) (value : A) (tokens : Tokens) → P value → IfOk (at_end value tokens) P
 end_gives P value [] h = h
 end_gives P value (first ∷ rest) h = tt
 
@@ -242,11 +242,11 @@ call_gives shape tokens =
     and_then (IsVerb shape) (IsCall shape) (verb_line shape on.1) (λ verb. Ok (call_on on.0 verb)) (verb_gives shape on.1) (λ verb verb_is.
     record { on = on_is.0; one_of = on_is.1; does = verb_is }))
 
-instead_gives : {A : Type 0} (P : A → Type 0) (cause : Cause) (r : Result A Cause) → IfOk r P → IfOk (instead cause r) P
+pub instead_gives : {A : Type 0} (P : A → Type 0) (cause : Cause) (r : Result A Cause) → IfOk r P → IfOk (instead cause r) P
 instead_gives P cause (Ok a) h = h
 instead_gives P cause (Err e) h = tt
 
-map_gives : (tokens : Tokens) → IfOk (map_line tokens) IsAttr
+pub map_gives : (tokens : Tokens) → IfOk (map_line tokens) IsAttr
 unfolding map_line
 map_gives tokens =
     instead_gives IsAttr causes.Map _ (
@@ -267,7 +267,7 @@ fault_gives : {A : Type 0} (P : A → Type 0) (at : ℕ) (r : Result A Cause) �
 fault_gives P at (Ok a) h = h
 fault_gives P at (Err e) h = tt
 
-at_line_gives : {A : Type 0} (P : A → Type 0) (line : Line) (reading : Tokens → Result A Cause) → ((tokens : Tokens) → IfOk (reading tokens) P) → IfOk (at_line line reading) P
+pub at_line_gives : {A : Type 0} (P : A → Type 0) (line : Line) (reading : Tokens → Result A Cause) → ((tokens : Tokens) → IfOk (reading tokens) P) → IfOk (at_line line reading) P
 at_line_gives P line reading gives = fault_gives P line.number _ (and_any P line.says reading gives)
 
 abbrev IsCallWithin : Shape → ℕ → ℕ → Call → Type 0
@@ -290,7 +290,7 @@ calls_give shape count room (line ∷ lines) =
     and_then (AreCalls shape (count + 1) (room + reply_bytes shape call.verb)) (AreCalls shape count room) (calls_of shape (count + 1) (room + reply_bytes shape call.verb) lines) (λ calls. Ok (call ∷ calls)) (calls_give shape (count + 1) (room + reply_bytes shape call.verb) lines) (λ calls calls_are.
     (call_is.0, call_is.1, call_is.2, calls_are)))
 
-create_gives : (r : Result Shape CreateRefusal) → IfOk (or_create r) (λ shape. r ≡ Ok shape)
+pub create_gives : (r : Result Shape CreateRefusal) → IfOk (or_create r) (λ shape. r ≡ Ok shape)
 create_gives (Ok shape) = refl
 create_gives (Err refusal) = tt
 

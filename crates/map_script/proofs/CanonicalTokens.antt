@@ -36,7 +36,7 @@ script_lines script = version_tokens ∷ (codes "map" ∷ map_tokens script.attr
 
 -- ---- the text is these lines
 
-line_text-append : (first : List ℕ) (others : List (List ℕ)) (rest : List ℕ) → line_text first others ++ rest ≡ joined (first ∷ others) ++ 10 ∷ rest
+pub line_text-append : (first : List ℕ) (others : List (List ℕ)) (rest : List ℕ) → line_text first others ++ rest ≡ joined (first ∷ others) ++ 10 ∷ rest
 line_text-append first others rest = append_assoc (first ++ spaced others) (10 ∷ []) rest
 
 call_lines : (calls : List Call) → flat_map call_text calls ≡ text_of_lines (map call_tokens calls)
@@ -131,7 +131,7 @@ calls_are_lines shape count room (call ∷ calls) sizes h = (
   calls_are_lines shape (count + 1) _ calls sizes h.3,
 )
 
-map_are_tokens : (attr : CreateAttr) → IsAttr attr → AreTokens (map_tokens attr)
+pub map_are_tokens : (attr : CreateAttr) → IsAttr attr → AreTokens (map_tokens attr)
 map_are_tokens attr h =
     let flags = tokens_if (attr.flags == 0) (label_and_number (codes "flags") attr.flags) (refl, (is_token-decimal attr.flags h.flags, tt)) in
     let seed = tokens_if (attr.seed == 0) (label_and_number (codes "seed") attr.seed) (refl, (is_token-decimal attr.seed h.seed, tt)) in

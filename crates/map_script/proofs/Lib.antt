@@ -9,7 +9,9 @@ pub mod WellFormedLemmas
 pub mod TokenLines
 pub mod TokenValues
 pub mod CallScripts
+pub mod SpecScripts
 pub mod CanonicalTokens
 pub mod RoundTrip
+pub mod SpecRoundTrip
 pub mod BlankLemmas
 pub mod LineLaws

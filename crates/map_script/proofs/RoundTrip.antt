@@ -29,7 +29,7 @@ use Rattle.map_script.proofs.CallScripts.{ArePairs, AreKeys, IsVerb, IsCall, IsA
 use Rattle.map_script.proofs.CanonicalTokens.{version_tokens, call_tokens, script_lines, canonical-lines, script_are_lines}
 
 -- one step behind another
-then : {A B E : Type 0} (r : Result A E) (next : A → Result B E) (a : A) (s : Result B E) → r ≡ Ok a → next a ≡ s → (r >>= next) ≡ s
+pub then : {A B E : Type 0} (r : Result A E) (next : A → Result B E) (a : A) (s : Result B E) → r ≡ Ok a → next a ≡ s → (r >>= next) ≡ s
 then r next a s first second = ap (λ q. q >>= next) first ∙ second
 
 -- ---- the places
@@ -37,7 +37,7 @@ then r next a s first second = ap (λ q. q >>= next) first ∙ second
 valued_at : {A : Type 0} (cause : Cause) (value : List ℕ → Option A) (token : List ℕ) (a : A) (rest : Tokens) → value token ≡ Some a → valued cause value (token ∷ rest) ≡ Ok (a, rest)
 valued_at cause value token a rest is = ap (λ o. ok_or o cause >>= (λ found. Ok (found, rest))) is
 
-number_at : (n : ℕ) (rest : Tokens) → IsNumber n → number (decimal n ∷ rest) ≡ Ok (n, rest)
+pub number_at : (n : ℕ) (rest : Tokens) → IsNumber n → number (decimal n ∷ rest) ≡ Ok (n, rest)
 number_at n rest h = valued_at causes.Number number_of (decimal n) n rest (number_of-decimal n h)
 
 flag_at : (flags : ℕ) (rest : Tokens) → IsNumber flags → flag (flag_token flags ∷ rest) ≡ Ok (flags, rest)
@@ -165,11 +165,11 @@ call_read shape call h =
     then _ _ (call.cpu, verb_tokens call.verb) _ (cpu_at shape.cpus call.cpu (verb_tokens call.verb) h.on h.one_of)
     (then _ _ call.verb _ (verb_read shape call.verb h.does) refl)
 
-version_read : version_line version_tokens ≡ Ok tt
+pub version_read : version_line version_tokens ≡ Ok tt
 unfolding version_line
 version_read = refl
 
-map_read : (attr : CreateAttr) → IsAttr attr → map_line (codes "map" ∷ map_tokens attr) ≡ Ok attr
+pub map_read : (attr : CreateAttr) → IsAttr attr → map_line (codes "map" ∷ map_tokens attr) ≡ Ok attr
 unfolding map_line
 map_read attr h =
     let seed = unless_zero attr.seed (label_and_number (codes "seed") attr.seed) in
@@ -213,12 +213,15 @@ unfolding version_of
 version_of_read script end at h =
     then _ _ tt _ (ap (or_fault at) version_read) (map_of_read script end (at + 1) h)
 
--- a script that form Calls gives is what form Calls reads from its canonical text
-pub read_as-canonical : (script : Script) → IsReadAs forms.Calls script → read_as forms.Calls (canonical script) ≡ Ok script
+-- a script of calls is what form Calls reads from its canonical text
+pub call_script_read : (script : Script) → IsCallScript script → read_as forms.Calls (canonical script) ≡ Ok script
 unfolding read_as
-read_as-canonical script read =
-    let h : IsCallScript script = script_gives read.0 script read.1 in
+call_script_read script h =
     let end = end_number (canonical script) in
     let lines : lines_of (canonical script) ≡ saying_from 1 (script_lines script) = ap lines_of (canonical-lines script h.no_spec) ∙ lines_of-text_of_lines (script_lines script) (script_are_lines script h) in
     ap (version_of forms.Calls end) lines ∙ version_of_read script end 1 h
     ∙ ap (λ spec. Ok (script_of script.attr script.shape script.calls spec)) (sym h.no_spec)
+
+-- and so is one that form Calls gives
+pub read_as-canonical : (script : Script) → IsReadAs forms.Calls script → read_as forms.Calls (canonical script) ≡ Ok script
+read_as-canonical script read = call_script_read script (script_gives read.0 script read.1)

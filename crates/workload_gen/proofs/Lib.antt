@@ -1,0 +1,5 @@
+pub mod Numbered
+pub mod ByteLemmas
+pub mod DrawLemmas
+pub mod CallLemmas
+pub mod WorkloadLemmas
