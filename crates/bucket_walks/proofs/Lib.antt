@@ -2,4 +2,6 @@ pub mod Told
 pub mod Turn
 pub mod Past
 pub mod Found
+pub mod Gathered
+pub mod Wholes
 pub mod Ends

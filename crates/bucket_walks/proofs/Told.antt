@@ -5,8 +5,9 @@ use Rattle.std.specs.Prelude.{Bool, IsFalse, All, flat_map}
 use Rattle.std.proofs.lemmas.List.Elements.{All-nil, All-cons, All-append}
 use Rattle.map_types.specs.declared.attr.Shape.{Shape}
 use Rattle.map_types.specs.Kind.{is_lru}
-use Rattle.place_words.specs.declared.bucket_part.BucketPart.TheVariants.{Next, First}
+use Rattle.place_words.specs.declared.bucket_part.BucketPart.TheVariants.{Next, First, Walk}
 use Rattle.place_words.specs.declared.bucket_part.NextFound.{NextFound}
+use Rattle.place_words.specs.declared.bucket_part.Walked.{Walked}
 use Rattle.place_words.specs.declared.history.Part.{Part}
 use Rattle.place_words.specs.declared.history.Part.TheVariants as parts
 use Rattle.place_words.specs.PlainTraces.{spare_after, spare_after_part}
@@ -62,33 +63,37 @@ looks_append [] others are later = later
 looks_append (turn ∷ told) others are later = (are.0, looks_append told others are.1 later)
 
 -- of one part
-pub by_look : (Fact : Part → Type 0) → ((found : Option (List ℕ)) → Fact (parts.Bucket (First found))) → ((key : List ℕ) (found : NextFound) → Fact (parts.Bucket (Next key found))) → (part : Part) → IsLook part → Fact part
-by_look Fact first next part is =
+pub by_look : (Fact : Part → Type 0) → ((found : Option (List ℕ)) → Fact (parts.Bucket (First found))) → ((key : List ℕ) (found : NextFound) → Fact (parts.Bucket (Next key found)))
+    → ((room : ℕ) (walked : Walked) → Fact (parts.Bucket (Walk false room walked))) → (part : Part) → IsLook part → Fact part
+by_look Fact first next walk part is =
     ⊎_elim
     (λ (x : (found : Option (List ℕ)) × (part ≡ parts.Bucket (First found))). subst Fact (sym x.1) (first x.0))
-    (λ (x : (key : List ℕ) × (found : NextFound) × (part ≡ parts.Bucket (Next key found))). subst Fact (sym x.2) (next x.0 x.1)) is
+    (⊎_elim
+    (λ (x : (key : List ℕ) × (found : NextFound) × (part ≡ parts.Bucket (Next key found))). subst Fact (sym x.2) (next x.0 x.1))
+    (λ (x : (room : ℕ) × (walked : Walked) × (part ≡ parts.Bucket (Walk false room walked))). subst Fact (sym x.2) (walk x.0 x.1))) is
 
 either_none : (b : Bool) → cond {A = List ℕ} b [] [] ≡ []
 either_none true = refl
 either_none false = refl
 
 pub marks_none : (shape : Shape) (part : Part) → IsLook part → marks shape part ≡ []
-marks_none shape part is = by_look (λ (p : Part). marks shape p ≡ []) (λ _. either_none (is_lru shape.kind)) (λ _ _. either_none (is_lru shape.kind)) part is
+marks_none shape part is = by_look (λ (p : Part). marks shape p ≡ []) (λ _. either_none (is_lru shape.kind)) (λ _ _. either_none (is_lru shape.kind)) (λ _ _. either_none (is_lru shape.kind)) part is
 
 pub probes_none : (part : Part) → IsLook part → probes_in part ≡ []
-probes_none part is = by_look (λ (p : Part). probes_in p ≡ []) (λ _. refl) (λ _ _. refl) part is
+probes_none part is = by_look (λ (p : Part). probes_in p ≡ []) (λ _. refl) (λ _ _. refl) (λ _ _. refl) part is
 
 bits_of_look : (shape : Shape) (part : Part) → IsLook part → bits_of_part shape part ≡ []
 bits_of_look shape part is =
     by_look (λ (p : Part). bits_of_part shape p ≡ [])
     (λ _. ap (λ (l : List ℕ). map sets_bit l ++ [] ++ []) (either_none (is_lru shape.kind)))
+    (λ _ _. ap (λ (l : List ℕ). map sets_bit l ++ [] ++ []) (either_none (is_lru shape.kind)))
     (λ _ _. ap (λ (l : List ℕ). map sets_bit l ++ [] ++ []) (either_none (is_lru shape.kind))) part is
 
 spare_of_look : (spare : Option ℕ) (part : Part) → IsLook part → spare_after_part spare part ≡ spare
-spare_of_look spare part is = by_look (λ (p : Part). spare_after_part spare p ≡ spare) (λ _. refl) (λ _ _. refl) part is
+spare_of_look spare part is = by_look (λ (p : Part). spare_after_part spare p ≡ spare) (λ _. refl) (λ _ _. refl) (λ _ _. refl) part is
 
 moved_on_by_look : (part : Part) → IsLook part → finds_moved_on part ≡ false
-moved_on_by_look part is = by_look (λ (p : Part). finds_moved_on p ≡ false) (λ _. refl) (λ _ _. refl) part is
+moved_on_by_look part is = by_look (λ (p : Part). finds_moved_on p ≡ false) (λ _. refl) (λ _ _. refl) (λ _ _. refl) part is
 
 -- of all
 abbrev bits_at : Shape → Turned → List BitTouch

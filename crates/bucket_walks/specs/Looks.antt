@@ -1,13 +1,14 @@
 -- What a walk over buckets asks of a pass, what each of its turns tells, and what the turns so far leave.
-use Rattle.std.specs.Prelude.{◌≡◌, ◌⊎◌, ℕ, ◌<◌, Bool, All, List, [], ◌∷◌, length, map, Option, None, Some, if◌then◌else◌}
+use Rattle.std.specs.Prelude.{◌≡◌, ◌⊎◌, ℕ, ◌<◌, Bool, false, All, List, [], ◌∷◌, length, map, Option, None, Some, if◌then◌else◌}
 use Rattle.map_types.specs.declared.kind.DomainId.TheVariants.{Bucket}
 use Rattle.map_types.specs.declared.reply.Reply.{Reply}
 use Rattle.map_types.specs.Stored.{Stored}
 use Rattle.percpu_values.specs.BodyList.{BodyList}
 use Rattle.place_words.specs.declared.bucket_part.BucketPart.{BucketPart}
-use Rattle.place_words.specs.declared.bucket_part.BucketPart.TheVariants.{Next, First}
+use Rattle.place_words.specs.declared.bucket_part.BucketPart.TheVariants.{Next, First, Walk}
 use Rattle.place_words.specs.declared.bucket_part.NextFound.{NextFound}
 use Rattle.place_words.specs.declared.bucket_part.NextFound.TheVariants as nexts
+use Rattle.place_words.specs.declared.bucket_part.Walked.{Walked}
 use Rattle.place_words.specs.declared.history.Part.{Part}
 use Rattle.place_words.specs.declared.history.Part.TheVariants as parts
 use Rattle.place_words.specs.Turns.{Turn, on_lock}
@@ -51,11 +52,13 @@ found_after afters.Absent key = nexts.Absent
 found_after afters.Last key = nexts.Last
 found_after afters.Key key = nexts.Key key
 
--- a turn that looks at a bucket's head, and finds this key or none, or at what follows a key there
+-- A turn that looks at a bucket's head, and finds this key or none; one that looks at what follows a key there; and one that reads
+-- the bucket and takes nothing out.
 abbrev pub IsLook : Part → Type 0
 IsLook part =
     ((found : Option (List ℕ)) × (part ≡ parts.Bucket (First found)))
     ⊎ ((key : List ℕ) × (found : NextFound) × (part ≡ parts.Bucket (Next key found)))
+    ⊎ ((room : ℕ) × (walked : Walked) × (part ≡ parts.Bucket (Walk false room walked)))
 
 abbrev pub AreLooks : List Turned → Type 0
 AreLooks [] = Unit {0}

@@ -76,7 +76,7 @@ pub(crate) fn next_in<R: Wait, G: Gate>(
 }
 
 /// Takes a bucket.
-fn enter<R: Wait, G: Gate>(
+pub(crate) fn enter<R: Wait, G: Gate>(
     rt: &R,
     table: &PlaceTable,
     pass: &mut Pass,

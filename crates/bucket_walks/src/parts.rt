@@ -1,13 +1,23 @@
-//! The entries of next key's turns of buckets. Each takes memory for its copies of keys, and there is none where that isn't
+//! The entries of the turns of buckets. Each takes memory for its copies of keys, and there is none where that isn't
 //! found. That of an empty bucket has no key to copy.
 
-ghost use Rattle.std.specs.Prelude.{◌≡◌, IfOk, IfSome};
+ghost use Rattle.std.specs.Prelude.{◌≡◌, ◌<◌, ◌∷◌, [], false, All, IfOk, IfSome};
+ghost use Rattle.map_types.specs.Creation.{IsShape};
+ghost use Rattle.map_types.specs.declared.kind.Side.TheVariants.{Sys};
+ghost use Rattle.map_types.specs.Shape.{HasBounds};
+ghost use Rattle.map_types.specs.Sides.{value_read};
+ghost use Rattle.place_words.specs.Buckets.{as_read};
 ghost use Rattle.place_words.specs.declared.bucket_part.BucketPart.TheVariants as turns;
 ghost use Rattle.place_words.specs.declared.history.Part.TheVariants as parts;
+ghost use Rattle.bucket_entries.specs.Sized.{IsSized};
 ghost use Rattle.bucket_walks.specs.Looks.{key_where, found_after};
+ghost use Rattle.bucket_walks.specs.Reads.{all_read, walked_by};
 
-use map_types::{Bytes, List, NoMemory};
-use place_words::{BucketPart, NextFound, Part};
+use bucket_chain::Chain;
+use bucket_entries::{body_at, read_value};
+use map_types::{Bytes, List, NoMemory, Shape, Side, value_len};
+use percpu_values::Body;
+use place_words::{BucketPart, Kept, NextFound, Part, Walked};
 use std::alloc::Global;
 
 /// What follows a key in its bucket.
@@ -58,4 +68,102 @@ fn next_found(alloc: Global, after: After, next: &[u8]) -> Result<NextFound, NoM
         After::Last => Ok(NextFound::Last),
         After::Key => Ok(NextFound::Key(bytes_of(alloc, next)?)),
     }
+}
+
+/// The entry of a batch lookup that comes by with room for so many elements.
+pub(crate) fn walk_part(
+    alloc: Global,
+    shape: &Shape,
+    cpu: u32,
+    room: u32,
+    chain: &Chain,
+) -> Option<Part>
+    requires shape { IsShape shape.now }
+    requires bounds { HasBounds shape.now }
+    requires cpu { cpu < shape.now.cpus }
+    requires sized { All (IsSized shape.now) chain.now.bodies }
+    ensures { IfSome result (λ part. part ≡ parts.Bucket (turns.Walk false room (walked_by shape.now cpu room chain.now.bodies))) }
+{
+    let result = walked(alloc, shape, cpu, room, chain).ok()?;
+    Some(Part::Bucket(BucketPart::Walk {
+        remove: false,
+        room,
+        result,
+    }))
+}
+
+/// What a batch lookup reads of a bucket: copies of all its elements, or how many they are where there is no room for them.
+fn walked(
+    alloc: Global,
+    shape: &Shape,
+    cpu: u32,
+    room: u32,
+    chain: &Chain,
+) -> Result<Walked, NoMemory>
+    requires shape { IsShape shape.now }
+    requires bounds { HasBounds shape.now }
+    requires cpu { cpu < shape.now.cpus }
+    requires sized { All (IsSized shape.now) chain.now.bodies }
+    ensures { IfOk result (λ found. found ≡ walked_by shape.now cpu room chain.now.bodies) }
+{
+    let count = chain.len();
+    if room < count {
+        return Ok(Walked::Over(count));
+    }
+    Ok(Walked::Taken(copies_of(alloc, shape, cpu, chain)?))
+}
+
+/// Copies of all elements of a bucket, each with the value that the system call reads.
+fn copies_of(alloc: Global, shape: &Shape, cpu: u32, chain: &Chain) -> Result<List<Kept>, NoMemory>
+    requires shape { IsShape shape.now }
+    requires bounds { HasBounds shape.now }
+    requires cpu { cpu < shape.now.cpus }
+    requires sized { All (IsSized shape.now) chain.now.bodies }
+    ensures { IfOk result (λ copies. copies ≡ all_read shape.now cpu chain.now.bodies) }
+{
+    let count = chain.len();
+    let mut copies = Vec::with_capacity(alloc, count as usize)?;
+    for place in 0..count {
+        copies.push(copy_of(alloc, shape, cpu, body_at(chain, place))?)?;
+    }
+    Ok(List::of(copies))
+}
+
+/// A copy of an element, with the value that the system call reads.
+fn copy_of(alloc: Global, shape: &Shape, cpu: u32, body: &Body) -> Result<Kept, NoMemory>
+    requires shape { IsShape shape.now }
+    requires bounds { HasBounds shape.now }
+    requires cpu { cpu < shape.now.cpus }
+    requires sized { IsSized shape.now body.now }
+    ensures { IfOk result (λ copy. copy ≡ as_read shape.now cpu body.now) }
+{
+    let key = bytes_of(alloc, body.key())?;
+    let value = value_of(alloc, shape, cpu, body)?;
+    Ok(Kept {
+        element: body.element(),
+        key,
+        values: only(alloc, value)?,
+    })
+}
+
+/// The value that the system call reads of an element.
+fn value_of(alloc: Global, shape: &Shape, cpu: u32, body: &Body) -> Result<Bytes, NoMemory>
+    requires shape { IsShape shape.now }
+    requires bounds { HasBounds shape.now }
+    requires cpu { cpu < shape.now.cpus }
+    requires sized { IsSized shape.now body.now }
+    ensures { IfOk result (λ value. value ≡ value_read shape.now Sys cpu body.now.values) }
+{
+    let mut value = vec![in alloc; 0; value_len(shape, Side::Sys) as usize]?;
+    read_value(shape, Side::Sys, cpu, body, &mut value);
+    Ok(List::of(value))
+}
+
+/// A list of one value.
+fn only(alloc: Global, value: Bytes) -> Result<List<Bytes>, NoMemory>
+    ensures { IfOk result (λ list. list ≡ value ∷ []) }
+{
+    let mut values = Vec::with_capacity(alloc, 1)?;
+    values.push(value)?;
+    Ok(List::of(values))
 }
