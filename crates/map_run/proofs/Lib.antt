@@ -50,6 +50,7 @@ pub mod SerialCalls
 pub mod SerialLaws
 pub mod SerialRun
 pub mod ServedLemmas
+pub mod GeneratedCalls
 pub mod SoundRun
 pub mod StackLemmas
 pub mod StayLaws

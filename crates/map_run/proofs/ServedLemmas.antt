@@ -1,4 +1,4 @@
--- A script that is read, and whose run is built, is one that is run.
+-- A script whose run is built is one that is run.
 use Rattle.std.proofs.Common.{◌≡◌, Bool, true, false, ◌&&◌, List, [], ◌∷◌, All, refl}
 use Rattle.std.specs.List.{AllByRecursion, list_all}
 use Rattle.std.proofs.lemmas.List.Elements.{All-nil, All-cons, recursion_from_All}
@@ -8,9 +8,7 @@ use Rattle.map_types.specs.declared.call.Verb.{Verb}
 use Rattle.map_types.specs.declared.call.Verb.TheVariants.{Lookup, Update, Delete, Take, Next, BatchRead, BatchUpdate, BatchDelete}
 use Rattle.map_types.proofs.CreationLemmas.{bounds_of_shape}
 use Rattle.map_script.specs.declared.script.Script.{Script}
-use Rattle.map_script.specs.declared.script.Form.TheVariants.{Calls}
 use Rattle.map_script.specs.WellFormed.{HasSizes, IsCallOn, IsWellFormed}
-use Rattle.map_script.proofs.WellFormedLemmas.{IsWellFormed-read_as}
 use Rattle.map_run.specs.Served.{is_built_verb, is_built, IsScript, IsServedVerb, IsServedCall, IsServed}
 
 -- both of two tests hold
@@ -36,7 +34,7 @@ calls_served shape (call ∷ calls) built are =
     (calls_served shape calls each.1 are.1)
 
 pub well_formed : (script : Script) → IsScript script → IsWellFormed script
-well_formed script is = IsWellFormed-read_as Calls is.0 script is.1
+well_formed script is = is
 
 pub IsServed-from_script : (script : Script) → IsScript script → is_built script ≡ true → IsServed script
 IsServed-from_script script is built =

@@ -4,7 +4,6 @@ use Rattle.std.specs.Prelude.{IsTrue}
 use Rattle.std.specs.Borrow.{Bor}
 use Rattle.std.specs.List.{list_any}
 use Rattle.std.specs.Str.{bytes_eq}
-use Rattle.std.proofs.Math.Bool.{or-false}
 use Rattle.std.proofs.lemmas.Slice.Eq.{bytes_eq-Decides}
 use Rattle.clap.specs.Matches.{first_value, found_of, one_text}
 use Rattle.clap.specs.Walk.{Row, Text, first_of, nothing_held, one_of, rows_of, walk}
@@ -102,12 +101,19 @@ bytes_symmetric a b = go (bytes_eq a b) (bytes_eq b a) refl refl
     go false false e f = refl
 
 -- the parser of the mode takes the words of the modes alone
-pub accepts_modes : (p : ValueParser) (names : Bor (List (Bor Text))) → p ≡ Names names → map (λ s. s.now) names.now ≡ codes "serial" ∷ codes "race" ∷ []
+one_of_three : (a b c : Bool) → (a || (b || (c || false))) ≡ (a || b || c)
+one_of_three true b c = refl
+one_of_three false true c = refl
+one_of_three false false true = refl
+one_of_three false false false = refl
+
+pub accepts_modes : (p : ValueParser) (names : Bor (List (Bor Text))) → p ≡ Names names → map (λ s. s.now) names.now ≡ codes "serial" ∷ codes "race" ∷ codes "gen" ∷ []
     → (text : Text) → accepts false p text ≡ is_mode text
 accepts_modes p names is listed text =
     ap (λ q. accepts false q text) is ∙ list_any-map (λ n. bytes_eq n text) (λ s. s.now) names.now ∙ ap (list_any (λ n. bytes_eq n text)) listed
-    ∙ ap (λ b. bytes_eq (codes "serial") text || b) (or-false (bytes_eq (codes "race") text))
-    ∙ ap₂ (λ (a b : Bool). a || b) (bytes_symmetric (codes "serial") text) (bytes_symmetric (codes "race") text)
+    ∙ one_of_three (bytes_eq (codes "serial") text) (bytes_eq (codes "race") text) (bytes_eq (codes "gen") text)
+    ∙ ap₂ (λ (a b : Bool). a || b || bytes_eq (codes "gen") text) (bytes_symmetric (codes "serial") text) (bytes_symmetric (codes "race") text)
+    ∙ ap (λ b. bytes_eq text (codes "serial") || bytes_eq text (codes "race") || b) (bytes_symmetric (codes "gen") text)
 
 none_of : (kinds : Kinds) → kinds ≡ [] → none kinds ≡ true
 none_of kinds e = ap none e

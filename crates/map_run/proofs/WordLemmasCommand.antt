@@ -14,7 +14,7 @@ use Rattle.clap.specs.declared.builder.value_parser.Reading.TheVariants as readi
 use Rattle.clap.specs.declared.parser.matches.ValueSource.TheVariants.{CommandLine, DefaultValue}
 use Rattle.map_run.specs.Words.{is_mode, is_option, is_end_of_options, mode_word}
 use Rattle.map_run.specs.declared.words.Mode.{Mode}
-use Rattle.map_run.specs.declared.words.Mode.TheVariants.{Serial, Race}
+use Rattle.map_run.specs.declared.words.Mode.TheVariants.{Serial, Race, Gen}
 
 -- ---- the words
 
@@ -80,9 +80,13 @@ kind_of_word word = by_serial (bytes_eq word (codes "serial")) refl
     by_history true e no_mode = an_option history (same_text word (codes "--history") e)
     by_history false e no_mode = by_dump (is_flag dump word) refl no_mode e
 
+    by_gen : (b : Bool) → bytes_eq word (codes "gen") ≡ b → bytes_eq word (codes "serial") ≡ false → bytes_eq word (codes "race") ≡ false → Kind word
+    by_gen true e no_serial no_race = a_mode Gen (same_text word (codes "gen") e)
+    by_gen false e no_serial no_race = by_history (is_flag history word) refl (rw (no_serial, no_race, e) refl)
+
     by_race : (b : Bool) → bytes_eq word (codes "race") ≡ b → bytes_eq word (codes "serial") ≡ false → Kind word
     by_race true e no_serial = a_mode Race (same_text word (codes "race") e)
-    by_race false e no_serial = by_history (is_flag history word) refl (rw (no_serial, e) refl)
+    by_race false e no_serial = by_gen (bytes_eq word (codes "gen")) refl no_serial e
 
     by_serial : (b : Bool) → bytes_eq word (codes "serial") ≡ b → Kind word
     by_serial true e = a_mode Serial (same_text word (codes "serial") e)
@@ -171,14 +175,15 @@ has_mode unread = false
 has_mode (met m) = true
 has_mode (past m) = true
 
-abbrev pub is_race : Mode → Bool
-is_race Serial = false
-is_race Race = true
+-- the first mode's word is the second's
+abbrev pub is_word_of : Mode → Mode → Bool
+is_word_of m k = bytes_eq (mode_word m) (mode_word k)
 
-abbrev pub races : Stage → Bool
-races unread = false
-races (met m) = is_race m
-races (past m) = is_race m
+-- whether a mode's word was met
+abbrev pub was_met : Stage → Mode → Bool
+was_met unread k = false
+was_met (met m) k = is_word_of m k
+was_met (past m) k = is_word_of m k
 
 -- the mode that has a row
 abbrev pub checked : Stage → Option Mode

@@ -7,7 +7,7 @@ use Rattle.std.proofs.lemmas.List.Sums.{sum_by-cons}
 use Rattle.clap.specs.Walk.{Text}
 use Rattle.map_run.specs.Words.{are_arguments, is_end_of_options, is_mode, is_option, mode_word}
 use Rattle.map_run.specs.declared.words.Mode.{Mode}
-use Rattle.map_run.specs.declared.words.Mode.TheVariants.{Serial, Race}
+use Rattle.map_run.specs.declared.words.Mode.TheVariants.{Serial, Race, Gen}
 use Rattle.map_run.proofs.WordLemmasCommand.{Flag, history, dump, json, flag_is, flag_word, flags_apart, is_flag}
 use Rattle.map_run.proofs.WordLemmasRows.{with_flag}
 use Rattle.map_run.proofs.WordLemmasShapes.{after-cons_no, after-cons_yes, before-cons_no, before-cons_yes}
@@ -77,6 +77,7 @@ other_counts m seen word words no_mode no_flag = same_counts m m seen seen (word
 mode_is : (m : Mode) → is_mode (mode_word m) ≡ true
 mode_is Serial = refl
 mode_is Race = refl
+mode_is Gen = refl
 
 pub mode_is_no_flag : (m : Mode) (f : Flag) → is_flag f (mode_word m) ≡ false
 mode_is_no_flag Serial history = refl
@@ -85,6 +86,9 @@ mode_is_no_flag Serial json = refl
 mode_is_no_flag Race history = refl
 mode_is_no_flag Race dump = refl
 mode_is_no_flag Race json = refl
+mode_is_no_flag Gen history = refl
+mode_is_no_flag Gen dump = refl
+mode_is_no_flag Gen json = refl
 
 pub flag_is_no_mode : (f : Flag) → is_mode (flag_word f) ≡ false
 flag_is_no_mode history = refl
@@ -156,12 +160,16 @@ flag_counts m seen f words = go (seen f) refl
 in_place_mode : (behind : Bool) (k : Mode) (words : List Text) → are_in_place behind (mode_word k ∷ words) ≡ are_in_place behind words
 in_place_mode true Serial words = refl
 in_place_mode true Race words = refl
+in_place_mode true Gen words = refl
 in_place_mode false Serial words =
     ap₂ (λ (before after : List Text). list_all is_argument before && list_all is_mode after)
     (before-cons_no is_end_of_options (codes "serial") words refl) (after-cons_no is_end_of_options (codes "serial") words refl)
 in_place_mode false Race words =
     ap₂ (λ (before after : List Text). list_all is_argument before && list_all is_mode after)
     (before-cons_no is_end_of_options (codes "race") words refl) (after-cons_no is_end_of_options (codes "race") words refl)
+in_place_mode false Gen words =
+    ap₂ (λ (before after : List Text). list_all is_argument before && list_all is_mode after)
+    (before-cons_no is_end_of_options (codes "gen") words refl) (after-cons_no is_end_of_options (codes "gen") words refl)
 
 in_place_open : (word : Text) (words : List Text) → is_end_of_options word ≡ false → are_in_place false (word ∷ words) ≡ (is_argument word && are_in_place false words)
 in_place_open word words e =

@@ -8,10 +8,11 @@ use Rattle.clap.specs.Values.{bool_text}
 use Rattle.clap.specs.ValueTests.{accepts}
 use Rattle.clap.specs.Faults.{check_fault, default_fault, defaults_fault, given_default_fault, settle_fault, turn_fault, walk_fault}
 use Rattle.clap.specs.declared.builder.value_parser.ValueParser.{ValueParser}
+use Rattle.std.specs.Str.{bytes_eq}
 use Rattle.map_run.specs.Words.{is_mode, is_option, is_end_of_options, mode_word, stands}
 use Rattle.map_run.specs.declared.words.Mode.{Mode}
-use Rattle.map_run.specs.declared.words.Mode.TheVariants.{Serial, Race}
-use Rattle.map_run.proofs.WordLemmasCommand.{Flag, history, dump, json, Kind, a_mode, an_option, another, dashes, kind_of_word, Stage, unread, met, past, built_flag, built_mode, checked, default_row, flag_name, flag_row, flag_word, for_mode, has_mode, held_by, is_flag, is_race, mode_row, none, races, rules, shape, walk_at, walk_by}
+use Rattle.map_run.specs.declared.words.Mode.TheVariants.{Serial, Race, Gen}
+use Rattle.map_run.proofs.WordLemmasCommand.{Flag, history, dump, json, Kind, a_mode, an_option, another, dashes, kind_of_word, Stage, unread, met, past, built_flag, built_mode, checked, default_row, flag_name, flag_row, flag_word, for_mode, has_mode, held_by, is_flag, is_word_of, mode_row, none, rules, shape, walk_at, walk_by, was_met}
 use Rattle.map_run.proofs.WordLemmasRows.{AreRows, defaulted, flag_added, flag_has_row, found, has_none, mode_added, mode_has_no_default, no_flag_row, not_found, or_row, with_flag}
 use Rattle.map_run.proofs.WordLemmasTurns.{IsRefused, IsValue, end_fault, end_walk, first_value_fault, first_value_walk, flag_passes, flag_repeats, flag_walk, refused_turn, second_value, settled_is, settling_flag_passes, settling_flag_refuses, settling_flag_repeats, settling_flag_walk, value_behind}
 use Rattle.map_run.proofs.WordLemmasShapes.{mode_is_value, told_apart}
@@ -140,45 +141,49 @@ module _ (p : ValueParser) (word : Text) (rows : List Row) (absent : found (code
 
 -- ---- the words pass, and what was read
 
-abbrev mode_by : Bool → Mode
-mode_by b = if b then Race else Serial
+abbrev mode_chosen : Bool → Bool → Mode
+mode_chosen race gen = if race then Race else if gen then Gen else Serial
 
--- what the rows at the end say of these flags and of this mode
-pub record Reads (p : ValueParser) (rows : List Row) (flags : Flag → Bool) (race : Bool) : Type 0 where
+-- the mode whose word is among those that stood
+abbrev mode_by : (Mode → Bool) → Mode
+mode_by stood = mode_chosen (stood Race) (stood Gen)
+
+-- what the rows at the end say of these flags and of the modes whose words stood
+pub record Reads (p : ValueParser) (rows : List Row) (flags : Flag → Bool) (stood : Mode → Bool) : Type 0 where
   pub flag_is : (f : Flag) → one_of (flag_name f) rows ≡ Some (bool_text (flags f))
-  pub mode_is : first_of (codes "mode") rows ≡ Some (mode_word (mode_by race))
+  pub mode_is : first_of (codes "mode") rows ≡ Some (mode_word (mode_by stood))
 
 abbrev flags_by : (Flag → Bool) → List Text → Flag → Bool
 flags_by seen words f = seen f || stands (flag_word f) words
 
-abbrev race_by : Bool → List Text → Bool
-race_by race words = race || stands (mode_word Race) words
+abbrev modes_by : (Mode → Bool) → List Text → Mode → Bool
+modes_by stood words k = stood k || stands (mode_word k) words
 
 -- no kind comes exactly where the words pass, and then each option and the mode is read
 abbrev pub Meets : ValueParser → List Row → Stage → (Flag → Bool) → Bool → List Text → Type 0
 Meets p rows stage seen behind words = (none (rest_fault p (walk_at rows stage behind) words) ≡ passes (has_mode stage) seen behind words)
-    × (passes (has_mode stage) seen behind words ≡ true → Reads p (rows_left p (walk_at rows stage behind) words) (flags_by seen words) (race_by (races stage) words))
+    × (passes (has_mode stage) seen behind words ≡ true → Reads p (rows_left p (walk_at rows stage behind) words) (flags_by seen words) (modes_by (was_met stage) words))
 
 or_shift : (a b c : Bool) → ((a || b) || c) ≡ (b || (a || c))
 or_shift true true c = refl
 or_shift true false c = refl
 or_shift false b c = refl
 
-same_reads : {p : ValueParser} {rows now : List Row} {flags read : Flag → Bool} {race races : Bool} → rows ≡ now → ((f : Flag) → flags f ≡ read f) → race ≡ races
-    → Reads p now flags race → Reads p rows read races
-same_reads same flags_same race_same h = record {
+same_reads : {p : ValueParser} {rows now : List Row} {flags read : Flag → Bool} {stood stands_now : Mode → Bool} → rows ≡ now → ((f : Flag) → flags f ≡ read f)
+    → ((k : Mode) → stood k ≡ stands_now k) → Reads p now flags stood → Reads p rows read stands_now
+same_reads same flags_same modes_same h = record {
   flag_is = λ f. ap (one_of (flag_name f)) same ∙ h.flag_is f ∙ ap (λ b. Some (bool_text b)) (flags_same f);
-  mode_is = ap (first_of (codes "mode")) same ∙ h.mode_is ∙ ap (λ b. Some (mode_word (mode_by b))) race_same;
+  mode_is = ap (first_of (codes "mode")) same ∙ h.mode_is ∙ ap₂ (λ (race gen : Bool). Some (mode_word (mode_chosen race gen))) (modes_same Race) (modes_same Gen);
 }
 
 module _ (p : ValueParser) (rows now : List Row) (stage after : Stage) (seen next : Flag → Bool) (behind later : Bool) (word : Text) (words : List Text) where
   goes_on : turn_fault (shape p) [] (walk_at rows stage behind) word ≡ [] → walked (rules p) [] (walk_at rows stage behind) word ≡ walk_at now after later
       → passes (has_mode stage) seen behind (word ∷ words) ≡ passes (has_mode after) next later words
-      → ((f : Flag) → flags_by next words f ≡ flags_by seen (word ∷ words) f) → race_by (races after) words ≡ race_by (races stage) (word ∷ words)
+      → ((f : Flag) → flags_by next words f ≡ flags_by seen (word ∷ words) f) → ((k : Mode) → modes_by (was_met after) words k ≡ modes_by (was_met stage) (word ∷ words) k)
       → Meets p now after next later words → Meets p rows stage seen behind (word ∷ words)
-  goes_on fault walk passing flags race h = (
+  goes_on fault walk passing flags modes h = (
     ap none (rest_on p (walk_at rows stage behind) word words fault ∙ ap (λ w. rest_fault p w words) walk) ∙ h.0 ∙ sym passing,
-    λ passed. same_reads (rows_on p (walk_at rows stage behind) word words ∙ ap (λ w. rows_left p w words) walk) flags race (h.1 (sym passing ∙ passed)),
+    λ passed. same_reads (rows_on p (walk_at rows stage behind) word words ∙ ap (λ w. rows_left p w words) walk) flags modes (h.1 (sym passing ∙ passed)),
   )
 
 module _ (p : ValueParser) (rows : List Row) (stage : Stage) (seen : Flag → Bool) (behind : Bool) where
@@ -223,14 +228,28 @@ module _ (p : ValueParser) (rows : List Row) (absent : found (codes "mode") rows
 
 -- ---- the walk
 
-mode_stands : (m : Mode) (words : List Text) → race_by (is_race m) words ≡ race_by false (mode_word m ∷ words)
-mode_stands Serial words = refl
-mode_stands Race words = refl
+mode_stands : (m : Mode) (words : List Text) (k : Mode) → modes_by (is_word_of m) words k ≡ modes_by (was_met unread) (mode_word m ∷ words) k
+mode_stands m words k = refl
 
-flag_is_no_race : (f : Flag) (words : List Text) → stands (mode_word Race) words ≡ stands (mode_word Race) (flag_word f ∷ words)
-flag_is_no_race history words = refl
-flag_is_no_race dump words = refl
-flag_is_no_race json words = refl
+-- a word that is no mode's, before these
+no_mode_stands : (k : Mode) (word : Text) (words : List Text) → bytes_eq word (mode_word k) ≡ false → stands (mode_word k) words ≡ stands (mode_word k) (word ∷ words)
+no_mode_stands k word words e = ap (λ b. b || stands (mode_word k) words) (sym e)
+
+flag_is_no_word : (f : Flag) (k : Mode) → bytes_eq (flag_word f) (mode_word k) ≡ false
+flag_is_no_word history Serial = refl
+flag_is_no_word history Race = refl
+flag_is_no_word history Gen = refl
+flag_is_no_word dump Serial = refl
+flag_is_no_word dump Race = refl
+flag_is_no_word dump Gen = refl
+flag_is_no_word json Serial = refl
+flag_is_no_word json Race = refl
+flag_is_no_word json Gen = refl
+
+dashes_are_no_word : (k : Mode) → bytes_eq (codes "--") (mode_word k) ≡ false
+dashes_are_no_word Serial = refl
+dashes_are_no_word Race = refl
+dashes_are_no_word Gen = refl
 
 -- a word that is none of the option's, before these
 passed_over : (f : Flag) (word : Text) (words : List Text) → is_flag f word ≡ false → stands (flag_word f) words ≡ stands (flag_word f) (word ∷ words)
@@ -244,16 +263,18 @@ module _ (p : ValueParser) (accepted : (text : Text) → accepts false p text �
   good : (m : Mode) → accepts false p (mode_word m) ≡ true
   good Serial = accepted (codes "serial")
   good Race = accepted (codes "race")
+  good Gen = accepted (codes "gen")
 
-  read_last : {rows : List Row} {seen : Flag → Bool} {m : Mode} → AreRows p rows seen (Some m) → Reads p (fold with_default rows (rules p)) (flags_by seen []) (race_by (is_race m) [])
+  read_last : {rows : List Row} {seen : Flag → Bool} {m : Mode} → AreRows p rows seen (Some m) → Reads p (fold with_default rows (rules p)) (flags_by seen []) (modes_by (is_word_of m) [])
   read_last {rows} {seen} {m} are = record {
     flag_is = λ f. flag_read are f ∙ ap (λ b. Some (bool_text b)) (sym (or-false (seen f)));
     mode_is = mode_read are ∙ ap (λ k. Some (mode_word k)) (named m);
   }
     where
-      named : (m : Mode) → m ≡ mode_by (is_race m || false)
+      named : (m : Mode) → m ≡ mode_by (modes_by (is_word_of m) [])
       named Serial = refl
       named Race = refl
+      named Gen = refl
 
   no_words : MeetsAll p []
   unfolding rest_fault walk_fault rows_left
@@ -263,7 +284,7 @@ module _ (p : ValueParser) (accepted : (text : Text) → accepts false p text �
       let settles = settled_is p (mode_word m) rows are.mode_is in (
         ap (λ kinds. none (or_else kinds (rows_fault p (settled (rules p) (held_by rows (for_mode (mode_word m)))).rows))) (settling_passes p (mode_word m) rows are.mode_is (good m))
             ∙ ap (λ h. none (rows_fault p h.rows)) settles ∙ ends now ∙ sym (passes_none true seen behind),
-        λ passed. same_reads (ap (λ h. fold with_default h.rows (rules p)) settles) (λ f. refl) refl (read_last now),
+        λ passed. same_reads (ap (λ h. fold with_default h.rows (rules p)) settles) (λ f. refl) (λ k. refl) (read_last now),
       )
   no_words rows (past m) seen behind are = (ends are ∙ sym (passes_none true seen behind), λ passed. read_last are)
 
@@ -289,8 +310,8 @@ module _ (p : ValueParser) (accepted : (text : Text) → accepts false p text �
     flag_stands : (f g : Flag) → flags_by (with_flag f seen) words g ≡ flags_by seen (flag_word f ∷ words) g
     flag_stands f g = or_shift (is_flag g (flag_word f)) (seen g) (stands (flag_word g) words)
 
-    race_stands : (stage : Stage) (f : Flag) → race_by (races stage) words ≡ race_by (races stage) (flag_word f ∷ words)
-    race_stands stage f = ap (λ b. races stage || b) (flag_is_no_race f words)
+    modes_stand : (stage : Stage) (f : Flag) (k : Mode) → modes_by (was_met stage) words k ≡ modes_by (was_met stage) (flag_word f ∷ words) k
+    modes_stand stage f k = ap (λ b. was_met stage k || b) (no_mode_stands k (flag_word f) words (flag_is_no_word f k))
 
     passes_first : (m : Bool) (f : Flag) → seen f ≡ false → passes m seen false (flag_word f ∷ words) ≡ passes m (with_flag f seen) false words
     passes_first m f e = passes_flag m seen words f ∙ ap (λ b. not b && passes m (with_flag f seen) false words) e
@@ -302,15 +323,15 @@ module _ (p : ValueParser) (accepted : (text : Text) → accepts false p text �
     new_flag : (stage : Stage) (f : Flag) → AreRows p rows seen (checked stage) → seen f ≡ false → Meets p rows stage seen false (flag_word f ∷ words)
     new_flag unread f are e =
         goes_on p rows (rows ++ flag_row f ∷ []) unread unread seen (with_flag f seen) false false (flag_word f) words (flag_passes p rows 1 f (no_flag_row are f e))
-        (flag_walk p rows 1 f (not_found are f e)) (passes_first false f e) (flag_stands f) (race_stands unread f) (h _ unread (with_flag f seen) false (flag_added are f e))
+        (flag_walk p rows 1 f (not_found are f e)) (passes_first false f e) (flag_stands f) (modes_stand unread f) (h _ unread (with_flag f seen) false (flag_added are f e))
     new_flag (met m) f are e =
         let now = mode_added are m in
         goes_on p rows ((rows ++ mode_row p (mode_word m) ∷ []) ++ flag_row f ∷ []) (met m) (past m) seen (with_flag f seen) false false (flag_word f) words
         (settling_flag_passes p (mode_word m) rows are.mode_is f (good m) (no_flag_row now f e)) (settling_flag_walk p (mode_word m) rows are.mode_is f (not_found now f e))
-        (passes_first true f e) (flag_stands f) (race_stands (met m) f) (h _ (past m) (with_flag f seen) false (flag_added now f e))
+        (passes_first true f e) (flag_stands f) (modes_stand (met m) f) (h _ (past m) (with_flag f seen) false (flag_added now f e))
     new_flag (past m) f are e =
         goes_on p rows (rows ++ flag_row f ∷ []) (past m) (past m) seen (with_flag f seen) false false (flag_word f) words (flag_passes p rows 2 f (no_flag_row are f e))
-        (flag_walk p rows 2 f (not_found are f e)) (passes_first true f e) (flag_stands f) (race_stands (past m) f) (h _ (past m) (with_flag f seen) false (flag_added are f e))
+        (flag_walk p rows 2 f (not_found are f e)) (passes_first true f e) (flag_stands f) (modes_stand (past m) f) (h _ (past m) (with_flag f seen) false (flag_added are f e))
 
     -- one that was
     old_flag : (stage : Stage) (f : Flag) → AreRows p rows seen (checked stage) → seen f ≡ true → Meets p rows stage seen false (flag_word f ∷ words)
@@ -328,7 +349,8 @@ module _ (p : ValueParser) (accepted : (text : Text) → accepts false p text �
 
     end_turn : (stage : Stage) → AreRows p rows seen (checked stage) → Meets p rows stage seen false (codes "--" ∷ words)
     end_turn stage are = goes_on p rows rows stage stage seen seen false true (codes "--") words (fault stage) (walk stage) (passes_end (has_mode stage) seen words)
-        (λ f. ap (λ b. seen f || b) (passed_over f (codes "--") words (dashes_are_no_flag f))) refl (h rows stage seen true are)
+        (λ f. ap (λ b. seen f || b) (passed_over f (codes "--") words (dashes_are_no_flag f)))
+        (λ k. ap (λ b. was_met stage k || b) (no_mode_stands k (codes "--") words (dashes_are_no_word k))) (h rows stage seen true are)
       where
         fault : (stage : Stage) → turn_fault (shape p) [] (walk_at rows stage false) (codes "--") ≡ []
         fault unread = end_fault p rows None 1

@@ -1,10 +1,10 @@
 -- How a run of the program ends: its status, what it writes, and what it keeps.
-use Rattle.std.specs.Prelude.{◌≡◌, ℕ, ◌≤◌, ◌⊎◌, false, List, ◌++◌, length, Option, Some, None, Result, Ok, Err, IsTrue, codes, decimal, nat_le, if◌then◌else◌, ⊤}
+use Rattle.std.specs.Prelude.{◌≡◌, ℕ, ◌≤◌, ◌⊎◌, Bool, true, false, List, ◌++◌, length, Option, Some, None, Result, Ok, Err, IsTrue, codes, decimal, nat_le, if◌then◌else◌, ⊤}
 use Rattle.map_run.specs.declared.record.Finish.{Finish}
 use Rattle.map_report.specs.declared.record.Options.{Options}
 use Rattle.map_run.specs.declared.words.Asked.{Asked}
 use Rattle.map_run.specs.declared.words.Mode.{Mode}
-use Rattle.map_run.specs.declared.words.Mode.TheVariants.{Serial, Race}
+use Rattle.map_run.specs.declared.words.Mode.TheVariants.{Serial, Race, Gen}
 use Rattle.map_script.specs.declared.script.Script.{Script}
 use Rattle.map_report.specs.declared.record.RunRecord.{RunRecord}
 use Rattle.map_types.specs.declared.refusal.CreateRefusal.{CreateRefusal}
@@ -14,7 +14,8 @@ use Rattle.map_types.specs.declared.refusal.Limit.TheVariants.{Cpus, Max, Key, V
 use Rattle.map_script.specs.declared.refusal.Cause.{Cause}
 use Rattle.map_script.specs.declared.refusal.ScriptRefusal.{ScriptRefusal}
 use Rattle.map_script.specs.declared.refusal.ScriptRefusal.TheVariants.{Fault, Create, NoMemory}
-use Rattle.map_script.specs.declared.script.Form.TheVariants.{Calls}
+use Rattle.map_script.specs.declared.script.Form.{Form}
+use Rattle.map_script.specs.declared.script.Form.TheVariants.{Calls, Generator}
 use Rattle.map_script.specs.Reading.{read_as}
 use Rattle.map_script.specs.CauseName.{cause_name}
 use Rattle.place_table.specs.Closing.{ClosedView}
@@ -24,10 +25,30 @@ use Rattle.map_run.specs.Copies.{IsCopyOf}
 use Rattle.map_report.specs.Runs.{serial}
 use Rattle.map_run.specs.Served.{is_built}
 use Rattle.map_report.specs.Json.{json}
+use Rattle.map_report.specs.Summary.{summary}
 use Rattle.map_report.specs.Text.{report}
-use Rattle.map_run.specs.Words.{are_words, asked_of}
+use Rattle.map_run.specs.Words.{are_words, asked_of, mode_of}
 use Rattle.map_run.specs.Work.{IsRaceRecord}
 use Rattle.map_run.specs.Writes.{Written, AddsWhole, AddsPrefix}
+use Rattle.workload_gen.specs.Generated.{generated_script}
+
+-- the form that the input of a mode has
+abbrev pub form_of : Mode → Form
+form_of Serial = Calls
+form_of Race = Calls
+form_of Gen = Generator
+
+-- the script that is run of one that was read: itself, or the one with the calls that its generator line stands for
+abbrev pub script_run : Mode → Script → Script
+script_run Serial script = script
+script_run Race script = script
+script_run Gen script = generated_script script
+
+-- The run of a script that was read is built. That of generated calls always is.
+abbrev pub is_built_in : Mode → Script → Bool
+is_built_in Serial script = is_built script
+is_built_in Race script = is_built script
+is_built_in Gen script = true
 
 -- how a run ends, before anything is written
 pub data Ending : Type 0 where
@@ -38,11 +59,11 @@ pub data Ending : Type 0 where
   Refused : CreateRefusal → Ending
   NotBuilt : Ending
   OutOfMemory : Ending
-  Ran : Options → Script → RunRecord → Ending
+  Ran : Asked → Script → RunRecord → Ending
 
 -- the status that it has
 abbrev pub status_of : Ending → ℕ
-status_of (Ran options script kept) = 0
+status_of (Ran asked script kept) = 0
 status_of (Faulty line cause) = 1
 status_of BadWords = 2
 status_of ReadFault = 3
@@ -64,13 +85,20 @@ refusal_name Einval = codes "einval"
 refusal_name Enotsupp = codes "enotsupp"
 refusal_name (Limit limit) = codes "limit " ++ limit_name limit
 
--- what is written of a run: its report in lines, or as a JSON object where that is asked for
-abbrev pub out : Options → Script → RunRecord → List ℕ
-out options script kept = if options.json then json script kept options else report script kept options
+-- what is written of a run in lines: its report, or where the calls were generated a summary
+abbrev pub lines_of : Mode → Script → RunRecord → Options → List ℕ
+lines_of Serial script kept options = report script kept options
+lines_of Race script kept options = report script kept options
+lines_of Gen script kept options = summary script kept options
 
--- what is to be written: what a run kept, or a line
+-- what is written of a run: its lines, or a JSON object where that is asked for
+abbrev pub out : Asked → Script → RunRecord → List ℕ
+out asked script kept =
+    if asked.options.json then json script kept asked.options else lines_of asked.mode script kept asked.options
+
+-- what is to be written: what was kept of the script that was run of the one that was read, or a line
 abbrev pub text_due : Ending → List ℕ
-text_due (Ran options script kept) = out options script kept
+text_due (Ran asked script kept) = out asked (script_run asked.mode script) kept
 text_due (Faulty line cause) = codes "bpfmap: line " ++ decimal line ++ codes ": " ++ cause_name cause ++ codes "\n"
 text_due BadWords = codes "bpfmap: words\n"
 text_due ReadFault = codes "bpfmap: read\n"
@@ -81,7 +109,7 @@ text_due NotBuilt = codes "bpfmap: not built\n"
 
 -- what is kept of the run
 abbrev pub kept_of : Ending → Option RunRecord
-kept_of (Ran options script kept) = Some kept
+kept_of (Ran asked script kept) = Some kept
 kept_of _ = None
 
 -- what the table left of which the record was made, exactly where a record is kept
@@ -96,20 +124,23 @@ pub record IsInput (before after : Option (List ℕ)) (input : List ℕ) : Type 
   pub all : TakesAll before after input
   pub short : length input ≤ 16777216
 
--- What is kept of a script that ran in a mode. In serial order it is that of the calls one after another, by the logs of the
--- locks, and the laws of such runs hold. In a race it is a record of the script with a strand for each CPU, in whatever order
--- the CPUs' steps fell.
+-- What is kept of a script that ran in a mode. In serial order, which is that of generated calls too, it is that of the calls
+-- one after another, by the logs of the locks, and the laws of such runs hold. In a race it is a record of the script with a
+-- strand for each CPU, in whatever order the CPUs' steps fell.
 abbrev pub RanAs : Mode → Script → RunRecord → Type 0
 RanAs Serial script kept = (kept ≡ serial script) × SerialLaws script
 RanAs Race script kept = IsRaceRecord script kept
+RanAs Gen script kept = (kept ≡ serial script) × SerialLaws script
 
 -- Which endings an input has that was read to its end, where this is asked for.
 abbrev pub HasInput : Asked → List ℕ → Ending → Type 0
-HasInput asked input (Ran options script kept) =
-    (options ≡ asked.options) × (read_as Calls input ≡ Ok script) × IsTrue (is_built script) × RanAs asked.mode script kept
-HasInput asked input (Faulty line cause) = read_as Calls input ≡ Err (Fault line cause)
-HasInput asked input (Refused why) = read_as Calls input ≡ Err (Create why)
-HasInput asked input NotBuilt = (script : Script) × (read_as Calls input ≡ Ok script) × (is_built script ≡ false)
+HasInput asked input (Ran was_asked script kept) =
+    (was_asked ≡ asked) × (read_as (form_of asked.mode) input ≡ Ok script) × IsTrue (is_built_in asked.mode script)
+    × RanAs asked.mode (script_run asked.mode script) kept
+HasInput asked input (Faulty line cause) = read_as (form_of asked.mode) input ≡ Err (Fault line cause)
+HasInput asked input (Refused why) = read_as (form_of asked.mode) input ≡ Err (Create why)
+HasInput asked input NotBuilt =
+    (script : Script) × (read_as (form_of asked.mode) input ≡ Ok script) × (is_built_in asked.mode script ≡ false)
 HasInput asked input OutOfMemory = ⊤
 HasInput asked input _ = ⊥
 
@@ -145,17 +176,20 @@ pub record Finishes (MayEnd : Ending → Type 0) (before after : Option Written)
   pub cause : MayEnd ending
   pub ends : Ends ending before after rose finish
 
--- the status of what an input is read as
-abbrev pub status_read : Result Script ScriptRefusal → ℕ
-status_read (Ok script) = if is_built script then 0 else 8
-status_read (Err (Fault line cause)) = 1
-status_read (Err (Create why)) = 6
-status_read (Err NoMemory) = 5
+-- the status of what the input of a mode is read as
+abbrev pub status_read : Mode → Result Script ScriptRefusal → ℕ
+status_read mode (Ok script) = if is_built_in mode script then 0 else 8
+status_read mode (Err (Fault line cause)) = 1
+status_read mode (Err (Create why)) = 6
+status_read mode (Err NoMemory) = 5
 
 -- the status of words and an input, where memory is found and no count of faults rises
 abbrev pub status_due : List (List ℕ) → List ℕ → ℕ
 status_due words input =
-    if are_words words then (if nat_le (length input) 16777216 then status_read (read_as Calls input) else 7) else 2
+    let mode = mode_of words in
+    if are_words words
+    then (if nat_le (length input) 16777216 then status_read mode (read_as (form_of mode) input) else 7)
+    else 2
 
 -- Each status has its cause: it is the one due, or a read failed, a write failed, or memory was not found.
 abbrev pub IsStatus : ℕ → ℕ → Type 0 → Type 0 → Type 0

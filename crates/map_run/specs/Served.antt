@@ -7,13 +7,13 @@ use Rattle.map_types.specs.declared.attr.Shape.{Shape}
 use Rattle.map_types.specs.declared.call.Call.{Call}
 use Rattle.map_types.specs.declared.call.Verb.{Verb}
 use Rattle.map_types.specs.declared.call.Verb.TheVariants.{Lookup, Update, Delete, Take, Next, BatchRead, BatchUpdate, BatchDelete}
-use Rattle.map_script.specs.declared.script.Form.TheVariants.{Calls}
 use Rattle.map_script.specs.declared.script.Script.{Script}
-use Rattle.map_script.specs.Reading.{IsReadAs}
+use Rattle.map_script.specs.WellFormed.{IsWellFormed}
 
--- a script that is read from some text, with a line for each call
+-- A script whose calls are on its map, within the limits: each that is read from some text, and each whose calls are
+-- generated, is one.
 abbrev pub IsScript : Script → Type 0
-IsScript script = IsReadAs Calls script
+IsScript script = IsWellFormed script
 
 abbrev pub is_built_verb : Verb → Bool
 is_built_verb (Lookup side key) = true

@@ -4,15 +4,16 @@ use Rattle.std.specs.List.{list_all, list_any, before_first, after_first}
 use Rattle.map_report.specs.declared.record.Options.{Options}
 use Rattle.map_run.specs.declared.words.Asked.{Asked}
 use Rattle.map_run.specs.declared.words.Mode.{Mode}
-use Rattle.map_run.specs.declared.words.Mode.TheVariants.{Serial, Race}
+use Rattle.map_run.specs.declared.words.Mode.TheVariants.{Serial, Race, Gen}
 
 -- the word of a mode
 abbrev pub mode_word : Mode → List ℕ
 mode_word Serial = codes "serial"
 mode_word Race = codes "race"
+mode_word Gen = codes "gen"
 
 abbrev pub is_mode : List ℕ → Bool
-is_mode word = bytes_eq word (mode_word Serial) || bytes_eq word (mode_word Race)
+is_mode word = bytes_eq word (mode_word Serial) || bytes_eq word (mode_word Race) || bytes_eq word (mode_word Gen)
 
 -- the words of the options
 abbrev pub option_words : List (List ℕ)
@@ -53,7 +54,7 @@ options_of (name ∷ words) = record {
 
 abbrev pub mode_of : List (List ℕ) → Mode
 mode_of [] = Serial
-mode_of (name ∷ words) = if stands (mode_word Race) words then Race else Serial
+mode_of (name ∷ words) = if stands (mode_word Race) words then Race else if stands (mode_word Gen) words then Gen else Serial
 
 abbrev pub asked_of : List (List ℕ) → Asked
 asked_of words = record { mode = mode_of words; options = options_of words }

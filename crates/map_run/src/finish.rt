@@ -3,9 +3,9 @@
 ghost use Rattle.std.specs.Prelude.{◌≡◌, ◌≤◌, ◌++◌, ℕ, List, Some, None, false, length, map, codes, decimal, IfOk, IfSome, OnOk, IsTrue, string_bytes};
 ghost use Rattle.map_run.specs.Copies.{IsCopyOf};
 ghost use Rattle.map_run.specs.declared.words.Asked.{Asked};
-ghost use Rattle.map_run.specs.Finish.{Ending, out, RanAs, refusal_name, kept_of, status_of, text_due, Ends, Finishes, HasCause, HasInput, HasSource, IsStatus, status_due};
+ghost use Rattle.map_run.specs.Finish.{Ending, form_of, lines_of, out, RanAs, refusal_name, script_run, kept_of, status_of, text_due, Ends, Finishes, HasCause, HasInput, HasSource, is_built_in, IsStatus, status_due};
 ghost use Rattle.map_script.specs.CauseName.{cause_name};
-ghost use Rattle.map_script.specs.Reading.{read_as};
+ghost use Rattle.map_script.specs.Reading.{IsReadAs, read_as};
 ghost use Rattle.map_run.specs.Reads.{Rose};
 ghost use Rattle.map_run.specs.Served.{is_built, IsScript};
 ghost use Rattle.map_run.specs.Words.{are_words};
@@ -16,8 +16,8 @@ use crate::reading::{ReadStop, read_all};
 use crate::serial::run_serial;
 use crate::served::is_built;
 use crate::words::{Asked, Mode, WordsStop, asked_of};
-use crate::{Finish, Options, RunRecord, Sink, Source};
-use map_report::{json_of, text_of};
+use crate::{Finish, RunRecord, Sink, Source};
+use map_report::{json_of, summary_of, text_of};
 use map_script::{Cause, Form, Script, ScriptRefusal, read_script};
 use map_types::{CreateRefusal, Gate, Limit, NoMemory};
 use place_table::Closed;
@@ -25,6 +25,7 @@ use std::alloc::{AllocError, Global};
 use std::io::Write;
 use std::sync::Wait;
 use std::thread::Threads;
+use workload_gen::generate;
 
 /// Ends a run with a line.
 fn end_with_line<K: Sink>(sink: &mut K, status: u8, line: &[u8]) -> Finish
@@ -42,8 +43,16 @@ fn end_with_line<K: Sink>(sink: &mut K, status: u8, line: &[u8]) -> Finish
     }
 }
 
-/// Runs a script in the mode that is asked for.
-fn run_in<R: Threads + Wait + Sync, G: Gate>(
+/// A run, and what is written of it.
+#[derive(Drop)]
+struct Run {
+    text: Vec<u8>,
+    kept: RunRecord,
+    closed: Closed,
+}
+
+/// Runs the calls of a script in the order of a mode.
+fn run_calls_in<R: Threads + Wait + Sync, G: Gate>(
     rt: &R,
     alloc: Global,
     mode: Mode,
@@ -56,7 +65,7 @@ fn run_in<R: Threads + Wait + Sync, G: Gate>(
     ensures closed { IfOk result (λ kept. IsCopyOf kept.0 kept.1) }
 {
     match mode {
-        Mode::Serial => run_serial(rt, alloc, script, gate),
+        Mode::Serial | Mode::Gen => run_serial(rt, alloc, script, gate),
         Mode::Race => run_race(rt, alloc, script, gate),
     }
 }
@@ -64,16 +73,73 @@ fn run_in<R: Threads + Wait + Sync, G: Gate>(
 /// What is written of a run.
 fn text_in(
     alloc: Global,
-    options: Options,
+    asked: Asked,
     script: &Script,
     kept: &RunRecord,
 ) -> Result<Vec<u8>, NoMemory>
-    ensures { IfOk result (λ text. text.items ≡ out options script.now kept.now) }
+    ensures { IfOk result (λ text. text.items ≡ out asked script.now kept.now) }
 {
-    if options.json {
-        json_of(alloc, script, kept, options)
+    if asked.options.json {
+        json_of(alloc, script, kept, asked.options)
     } else {
-        text_of(alloc, script, kept, options)
+        lines_in(alloc, asked, script, kept)
+    }
+}
+
+/// What is written of a run in lines.
+fn lines_in(
+    alloc: Global,
+    asked: Asked,
+    script: &Script,
+    kept: &RunRecord,
+) -> Result<Vec<u8>, NoMemory>
+    ensures { IfOk result (λ text. text.items ≡ lines_of asked.mode script.now kept.now asked.options) }
+{
+    match asked.mode {
+        Mode::Serial | Mode::Race => text_of(alloc, script, kept, asked.options),
+        Mode::Gen => summary_of(alloc, script, kept, asked.options),
+    }
+}
+
+/// Runs the calls of a script as it is asked for, and makes the text of it.
+fn run_calls<R: Threads + Wait + Sync, G: Gate>(
+    rt: &R,
+    alloc: Global,
+    asked: Asked,
+    script: &Script,
+    gate: &G,
+) -> Result<Run, NoMemory>
+    requires script { IsScript script.now }
+    requires built { IsTrue (is_built script.now) }
+    ensures ran { IfOk result (λ run. RanAs asked.mode script.now run.kept) }
+    ensures closed { IfOk result (λ run. IsCopyOf run.kept run.closed) }
+    ensures text { IfOk result (λ run. run.text.items ≡ out asked script.now run.kept) }
+{
+    let (kept, closed) = run_calls_in(rt, alloc, asked.mode, script, gate)?;
+    let text = text_in(alloc, asked, script, &kept)?;
+    Ok(Run { text, kept, closed })
+}
+
+/// Runs a script as it is asked for: its own calls, or those that are generated of it.
+fn run_in<R: Threads + Wait + Sync, G: Gate>(
+    rt: &R,
+    alloc: Global,
+    asked: Asked,
+    script: &Script,
+    gate: &G,
+) -> Result<Run, NoMemory>
+    requires read { IsReadAs (form_of asked.mode) script.now }
+    requires built { IsTrue (is_built_in asked.mode script.now) }
+    ensures ran { IfOk result (λ run. RanAs asked.mode (script_run asked.mode script.now) run.kept) }
+    ensures closed { IfOk result (λ run. IsCopyOf run.kept run.closed) }
+    ensures text { IfOk result (λ run. run.text.items ≡ out asked (script_run asked.mode script.now) run.kept) }
+{
+    match asked.mode {
+        Mode::Serial | Mode::Race => run_calls(rt, alloc, asked, script, gate),
+        Mode::Gen => {
+            let generated = generate(alloc, script)?;
+            run_calls(rt, alloc, asked, &generated, gate)
+        }
     }
 }
 
@@ -87,17 +153,15 @@ fn end_with_run<R: Threads + Wait + Sync, K: Sink, G: Gate>(
     sink: &mut K,
     gate: &G,
 ) -> Finish
-    requires read { read_as Form.Calls input.now ≡ Ok script.now }
-    requires built { IsTrue (is_built script.now) }
+    requires read { read_as (form_of asked.mode) input.now ≡ Ok script.now }
+    requires built { IsTrue (is_built_in asked.mode script.now) }
     ensures { Finishes (HasInput asked input.now) (K.written sink.old) (K.written sink.new)
         (Rose (K.faults sink.old) (K.faults sink.new)) result }
 {
-    let Ok((kept, closed)) = run_in(rt, alloc, asked.mode, script, gate) else {
+    let Ok(ran) = run_in(rt, alloc, asked, script, gate) else {
         return end_with_line(sink, 5, b"bpfmap: memory\n");
     };
-    let Ok(text) = text_in(alloc, asked.options, script, &kept) else {
-        return end_with_line(sink, 5, b"bpfmap: memory\n");
-    };
+    let Run { text, kept, closed } = ran;
     let status = match deliver(sink, text.as_slice()) {
         Ok(()) => 0,
         Err(_) => 4,
@@ -156,8 +220,8 @@ fn end_with_fault<K: Sink>(
     line: u32,
     cause: Cause,
 ) -> Finish
-    requires { read_as Form.Calls input.now ≡ Err (ScriptRefusal.Fault line cause) }
-    ensures { (asked : Asked) → Finishes (HasInput asked input.now) (K.written sink.old) (K.written sink.new)
+    ensures { (asked : Asked) → read_as (form_of asked.mode) input.now ≡ Err (ScriptRefusal.Fault line cause)
+        → Finishes (HasInput asked input.now) (K.written sink.old) (K.written sink.new)
         (Rose (K.faults sink.old) (K.faults sink.new)) result }
 {
     let Ok(text) = fault_line(alloc, line, cause) else {
@@ -168,8 +232,8 @@ fn end_with_fault<K: Sink>(
 
 /// Ends a run whose script has a map that can't be created.
 fn end_with_refusal<K: Sink>(input: &[u8], sink: &mut K, why: CreateRefusal) -> Finish
-    requires { read_as Form.Calls input.now ≡ Err (ScriptRefusal.Create why) }
-    ensures { (asked : Asked) → Finishes (HasInput asked input.now) (K.written sink.old) (K.written sink.new)
+    ensures { (asked : Asked) → read_as (form_of asked.mode) input.now ≡ Err (ScriptRefusal.Create why)
+        → Finishes (HasInput asked input.now) (K.written sink.old) (K.written sink.new)
         (Rose (K.faults sink.old) (K.faults sink.new)) result }
 {
     end_with_line(sink, 6, refusal_line(why).as_bytes())
@@ -185,14 +249,34 @@ fn end_with_script<R: Threads + Wait + Sync, K: Sink, G: Gate>(
     sink: &mut K,
     gate: &G,
 ) -> Finish
-    requires { read_as Form.Calls input.now ≡ Ok script.now }
+    requires { read_as (form_of asked.mode) input.now ≡ Ok script.now }
     ensures { Finishes (HasInput asked input.now) (K.written sink.old) (K.written sink.new)
         (Rose (K.faults sink.old) (K.faults sink.new)) result }
 {
-    if !is_built(script) {
+    if !is_built_in(asked.mode, script) {
         return end_with_line(sink, 8, b"bpfmap: not built\n");
     }
     end_with_run(rt, alloc, asked, input, script, sink, gate)
+}
+
+/// The form that the input of a mode has.
+fn form_of(mode: Mode) -> Form
+    ensures { result ≡ form_of mode }
+{
+    match mode {
+        Mode::Serial | Mode::Race => Form::Calls,
+        Mode::Gen => Form::Generator,
+    }
+}
+
+/// Whether the run of a script in a mode is built.
+fn is_built_in(mode: Mode, script: &Script) -> bool
+    ensures { result ≡ is_built_in mode script.now }
+{
+    match mode {
+        Mode::Serial | Mode::Race => is_built(script),
+        Mode::Gen => true,
+    }
 }
 
 /// Ends a run whose input was read to its end.
@@ -208,7 +292,7 @@ fn end_with_input<R: Threads + Wait + Sync, K: Sink, G: Gate>(
     ensures { Finishes (HasInput asked input.now) (K.written sink.old) (K.written sink.new)
         (Rose (K.faults sink.old) (K.faults sink.new)) result }
 {
-    match read_script(alloc, input, Form::Calls) {
+    match read_script(alloc, input, form_of(asked.mode)) {
         Ok(script) => end_with_script(rt, alloc, asked, input, &script, sink, gate),
         Err(ScriptRefusal::Fault { line, cause }) => end_with_fault(
             alloc, input, sink, line, cause,
@@ -262,13 +346,14 @@ fn end_with_source<R: Threads + Wait + Sync, S: Source, K: Sink, G: Gate>(
 
 /// Runs the program: reads a script to its end, runs it in the mode that the words name, and writes its report.
 ///
-/// The words are the program's name, which is not looked at, then the mode once, `serial` or `race`, and each of
+/// The words are the program's name, which is not looked at, then the mode once, `serial`, `race` or `gen`, and each of
 /// `--history`, `--dump` and `--json` at most once, in any order. One `--` may stand among them, after which no option
 /// follows. A script whose run is built is run: in mode `serial` its calls one after another, in mode `race` the calls of
-/// each CPU in a thread of their own. In both the gate is passed at each call's beginning and end, and wherever a lock is
-/// taken or given back, on the call's CPU. With `--history` the report says what happened under each lock, with `--dump` what
-/// the map holds at the end, and with `--json` it is a JSON object. The status says how it ended, and what was written is the
-/// report or one line:
+/// each CPU in a thread of their own. In mode `gen` the script has a generator line, whose calls are run one after another,
+/// and the report has a summary in place of the replies. In all modes the gate is passed at each call's beginning and end,
+/// and wherever a lock is taken or given back, on the call's CPU. With `--history` the report says what happened under each
+/// lock, with `--dump` what the map holds at the end, and with `--json` it is a JSON object. The status says how it ended,
+/// and what was written is the report or one line:
 ///
 /// | status | comes | written |
 /// |---|---|---|
@@ -280,7 +365,7 @@ fn end_with_source<R: Threads + Wait + Sync, S: Source, K: Sink, G: Gate>(
 /// | 5 | memory was not found | `bpfmap: memory` |
 /// | 6 | exactly where the script's map can't be created | `bpfmap: map refused: WHY` |
 /// | 7 | exactly where 16,777,217 bytes were read | `bpfmap: too long` |
-/// | 8 | exactly where the input is a script whose run isn't built | `bpfmap: not built` |
+/// | 8 | exactly where the input is a script whose run isn't built, in no mode but `serial` and `race` | `bpfmap: not built` |
 ///
 /// Status 4 replaces the one whose report or line could not be written, and status 5 may come in the place of any other. The
 /// record of the run is kept, with what its table left, exactly where its report was due: with status 0, and with 4 in the

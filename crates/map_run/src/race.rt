@@ -30,8 +30,8 @@ use std::thread::Threads;
 /// the script. What is kept are the replies, in the order of the script, what happened under each lock, a strand for each CPU,
 /// and what the map holds at the end; beside it stands what the closed table left. It fails only where memory does.
 ///
-/// The script is one that `read_script` gives, and its run is built. A worker passes the gate at each call's beginning and
-/// end, and wherever it takes a lock or gives one back.
+/// The script is one as `read_script` and `generate` give them, and its run is built. A worker passes the gate at each call's
+/// beginning and end, and wherever it takes a lock or gives one back.
 pub fn run_race<R: Threads + Wait + Sync, G: Gate>(
     rt: &R,
     alloc: Global,

@@ -25,9 +25,9 @@ use std::sync::Wait;
 /// kept are the replies, what happened under each lock, and what the map holds at the end; beside it stands what the closed
 /// table left. It fails only where memory does.
 ///
-/// The script is one that `read_script` gives, and its run is built. The record is the one by the logs of the locks, which
-/// serves maps of any kind (`serial`, map_report/specs/Runs.antt). Of a map that doesn't evict it is also the one on plain lists,
-/// by the rules of the kernel functions that map_report/specs/Serial.antt names: the laws say so.
+/// The script is one as `read_script` and `generate` give them, and its run is built. The record is the one by the logs of the
+/// locks, which serves maps of any kind (`serial`, map_report/specs/Runs.antt). Of a map that doesn't evict it is also the one
+/// on plain lists, by the rules of the kernel functions that map_report/specs/Serial.antt names: the laws say so.
 ///
 /// The gate is passed at each call's beginning and end, and wherever a lock is taken or given back, on the call's CPU.
 pub fn run_serial<R: Wait, G: Gate>(

@@ -10,13 +10,15 @@ use clap::error::ErrorKind;
 use clap::{Arg, ArgAction, ArgMatches, Command, Error};
 use std::alloc::Global;
 
-/// In which order the calls of a script are made.
+/// Which calls are made, in which order, and what is printed of them.
 #[derive(Clone, Copy, Debug, PartialEq, Eq)]
 pub enum Mode {
-    /// One after another, as they stand in the script.
+    /// The calls of a script one after another, as they stand there.
     Serial,
     /// Each CPU's calls by a thread of its own.
     Race,
+    /// Generated calls one after another, of which a summary is printed.
+    Gen,
 }
 
 /// What the command words ask for.
@@ -35,7 +37,7 @@ pub(crate) enum WordsStop {
     NoMemory,
 }
 
-static MODES: [&str; 2] = ["serial", "race"];
+static MODES: [&str; 3] = ["serial", "race", "gen"];
 
 /// An option that is given or not.
 fn flag<'a>(alloc: Global, name: &'a str) -> Arg<'a>
@@ -68,8 +70,8 @@ fn matches_of<'a>(alloc: Global, words: &'a [String]) -> Result<ArgMatches<'a>, 
     command.try_get_matches_from(words)
 }
 
-/// What the command words ask for: the program's name, which is not looked at, then `serial` or `race` once and each of
-/// `--history`, `--dump` and `--json` at most once, in any order. One `--` may stand, after which no option follows.
+/// What the command words ask for: the program's name, which is not looked at, then `serial`, `race` or `gen` once and each
+/// of `--history`, `--dump` and `--json` at most once, in any order. One `--` may stand, after which no option follows.
 pub(crate) fn asked_of(alloc: Global, words: &[String]) -> Result<Asked, WordsStop>
     ensures taken { IfOk result (λ asked. IsTrue (are_words (map string_bytes words.now))
         × (asked.options ≡ options_of (map string_bytes words.now)) × (asked.mode ≡ mode_of (map string_bytes words.now))) }
@@ -79,6 +81,7 @@ pub(crate) fn asked_of(alloc: Global, words: &[String]) -> Result<Asked, WordsSt
         Ok(matches) => Ok(Asked {
             mode: match matches.get_str("mode") {
                 Some("race") => Mode::Race,
+                Some("gen") => Mode::Gen,
                 _ => Mode::Serial,
             },
             options: Options {

@@ -1,21 +1,17 @@
 use Rattle.std.proofs.Common.{refl, ◌≡◌, inl, inr, ◌∙◌, subst}
 use Rattle.map_run.specs.Writes.{AddsWhole, AddsPrefix}
-use Rattle.map_run.specs.Finish.{Ran, OutOfMemory, out}
+use Rattle.map_run.specs.Finish.{Ran, OutOfMemory, out, script_run}
 use Rattle.map_run.proofs.finish.end_with_run.Goals as goal
 use Rattle.map_run.proofs.finish.end_with_run.Goals.{in-Ok-deliver, in-Err}
 
 pub returns-in_default : goal.returns-in_default
 returns-in_default g c = record { ending = OutOfMemory; cause = tt; ends = c.end_with_line.ensures OutOfMemory refl refl refl }
 
-pub returns-in_default-text_in : goal.returns-in_default-text_in
-returns-in_default-text_in g c =
-    record { ending = OutOfMemory; cause = tt; ends = c.end_with_line-in_default-text_in.ensures OutOfMemory refl refl refl }
-
 pub returns : goal.returns
 returns g c =
-    let whole : c.as_slice.result.now ≡ out c.args.asked.options c.args.script.now c.in-Ok.kept = c.as_slice.ensures.value ∙ c.in-Ok-text_in.ensures in
+    let whole : c.as_slice.result.now ≡ out c.args.asked (script_run c.args.asked.mode c.args.script.now) c.in-Ok.ran.kept = c.as_slice.ensures.value ∙ c.in-Ok.ensures.text in
     record {
-      ending = Ran c.args.asked.options c.args.script.now c.in-Ok.kept;
+      ending = Ran c.args.asked c.args.script.now c.in-Ok.ran.kept;
       cause = (refl, c.requires.read, c.requires.built, c.in-Ok.ensures.ran);
       ends = record {
         kept = refl;
