@@ -1,8 +1,8 @@
 -- Where an element is found, and that it isn't.
-use Rattle.std.proofs.Common.{◌≡◌, ℕ, zero, suc, ◌+◌, ◌-◌, ◌<◌, ◌≤◌, Bool, true, false, not, cond, List, [], ◌∷◌, ◌++◌, length, drop, get_or, refl, ap, sym, ◌∙◌, arith}
+use Rattle.std.proofs.Common.{◌≡◌, ℕ, zero, suc, ◌+◌, ◌<◌, ◌≤◌, Bool, true, false, not, cond, List, [], ◌∷◌, ◌++◌, length, drop, get_or, refl, ap, sym, ◌∙◌, arith}
 use Rattle.std.specs.Prelude.{remove, position, find, slice_get, nat_lt, None, Some}
 use Rattle.std.specs.List.{list_any, position_or_len, before_first, after_first}
-use Rattle.std.proofs.lemmas.Bool.{ltb-true, ltb-false}
+use Rattle.std.proofs.lemmas.Bool.{ltb-false}
 use Rattle.std.proofs.lemmas.List.Folds.{list_any_none}
 use Rattle.std.proofs.lemmas.List.Sums.{fails_before_first}
 use Rattle.std.proofs.lemmas.List.{get_or-map}
@@ -19,12 +19,6 @@ some_if false x y some = cc
 none_if : (b : Bool) (x : ℕ) → cond b (Some x) None ≡ None → b ≡ false
 none_if true x none = cc
 none_if false x none = refl
-
--- an index that is there
-pub index_is : (place n at : ℕ) → Some at ≡ cond (nat_lt place n) (Some (n - 1 - place)) None → (place < n) × (at ≡ n - 1 - place)
-index_is place n at is =
-    let parts = some_if (nat_lt place n) (n - 1 - place) at (sym is) in
-    (ltb-true place n parts.0, sym parts.1)
 
 one_more : (n : ℕ) → 1 + n ≡ suc n
 one_more n = omega arith

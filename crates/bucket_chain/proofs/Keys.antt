@@ -1,6 +1,6 @@
 -- Distinct keys, over what is written and removed.
 use Rattle.std.proofs.Common.{◌≡◌, ℕ, zero, suc, ◌<◌, Bool, true, false, ◌||◌, List, [], ◌∷◌, length, get_or, refl, ap, ◌∙◌, arith}
-use Rattle.std.specs.Prelude.{remove, bytes_eq, slice_set}
+use Rattle.std.specs.Prelude.{remove, bytes_eq}
 use Rattle.std.specs.List.{list_any}
 use Rattle.std.proofs.lemmas.List.{get_or-map}
 use Rattle.map_types.specs.Stored.{Stored}
@@ -58,13 +58,6 @@ gone_removed (suc place) (body ∷ bodies) distinct within =
     let inside : place < length bodies = omega arith in
     let other = bytes_differ (key_at place bodies) body.key (differs_at body.key place bodies distinct.0 inside) in
     both_false (has_key (key_at place bodies) body) (list_any (has_key (key_at place bodies)) (remove bodies place)) other (gone_removed place bodies distinct.1 inside)
-
--- what a write of values at a place is, of the body that stands there
-pub written_is : (place : ℕ) (values : List (List ℕ)) (bodies : List Stored) (d : Stored) → place < length bodies → with_values_at place values bodies ≡ slice_set bodies place (record (get_or bodies place d) { values = values })
-written_is place values [] d within = absurd (omega arith)
-written_is zero values (body ∷ bodies) d within = refl
-written_is (suc place) values (body ∷ bodies) d within =
-    ap (λ rest. body ∷ rest) (written_is place values bodies d (omega arith))
 
 pub values_at-is : (place : ℕ) (bodies : List Stored) (d : Stored) → place < length bodies → values_at place bodies ≡ (get_or bodies place d).values
 values_at-is place bodies d within = get_or-map (λ (body : Stored). body.values) bodies place d [] within

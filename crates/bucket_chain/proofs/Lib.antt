@@ -1,8 +1,11 @@
 pub mod ByKey
 pub mod Changes
 pub mod Found
+pub mod Fronts
+pub mod Heads
 pub mod Keys
-pub mod Reversed
 pub mod SizeLaws
 pub mod Turns
 pub mod WriteLaws
+pub mod Walks
+pub mod Crossing

@@ -1,54 +1,58 @@
 //! A bucket's list of bodies.
 
-ghost use Rattle.std.specs.Prelude.{◌≡◌, ◌-◌, ◌*◌, ◌^◌, ◌<◌, ◌≤◌, ◌↔◌, [], ◌∷◌, ◌++◌, length, remove, reverse, position, slice_get, slice_index_or, nat_lt, if◌then◌else◌, map, IsSome, IfSome, IfNone, MatchOption, OnOk};
+ghost use Rattle.std.specs.Prelude.{◌≡◌, ◌-◌, ◌*◌, ◌^◌, ◌<◌, ◌≤◌, ◌↔◌, [], ◌∷◌, length, remove, slice_get, map, IsOk, IsSome, IfSome, IfNone, MatchOption, OnOk};
 ghost use Rattle.std.specs.Option.{option_map};
 ghost use Rattle.map_types.specs.Parts.{part_size, values_in, written_own};
 ghost use Rattle.map_types.specs.ValueLen.{round8};
-ghost use Rattle.place_words.specs.Bodies.{present, without_key, body_of, without_element, has_key, has_number, HasDistinctKeys};
+ghost use Rattle.place_words.specs.Bodies.{present, without_key, body_of, without_element, HasDistinctKeys};
 ghost use Rattle.bucket_chain.specs.Places.{place_of_key, key_at, values_at, with_values_at, rewritten};
 
+use crate::cells::Cells;
 use map_types::NoMemory;
 use percpu_values::{Body, BoxedBody};
 use std::alloc::Global;
 use std::marker::Model;
-use std::mem;
 
-/// A bucket's list of bodies, with distinct keys. Contracts see the list, head first, and how many bodies it has room
-/// for. A place is an index of the list, from 0 at the head.
+/// A bucket's list of bodies, with distinct keys, linked through the bodies: it takes no memory of its own. Contracts see
+/// the list, head first, and how many bodies it has room for, which is always one. A place is an index of the list, from 0
+/// at the head. A chain of any length is dropped body by body from its head.
 #[derive(Drop)]
 pub struct Chain {
-    /// The head is the last.
-    bodies: Vec<BoxedBody>,
+    cells: Cells,
+    count: u32,
 }
 
 impl Model for Chain {
-    ghost use Rattle.std.specs.Prelude.{◌-◌, ◌<◌, ◌^◌, length, reverse, vec_len, vec_capacity};
+    ghost use Rattle.std.specs.Prelude.{◌≡◌, ◌<◌, ◌^◌, length};
     ghost use Rattle.percpu_values.specs.BodyList.{BodyList};
     ghost use Rattle.place_words.specs.Bodies.{HasDistinctKeys};
 
     ghost Value = { BodyList };
 
-    ghost view = { λ c. record { bodies = reverse c.bodies.items; spare = vec_capacity c.bodies - vec_len c.bodies } };
+    ghost view = { λ c. record { bodies = c.cells; spare = 1 } };
 
-    ghost invariant = { λ c. HasDistinctKeys (reverse c.bodies.items) × (length c.bodies.items < 2 ^ 32) };
+    ghost invariant = { λ c. HasDistinctKeys c.cells × (length c.cells ≡ c.count) × (c.count < 2 ^ 32) };
 }
 
 impl Chain {
     /// A list with no body.
-    pub fn empty(alloc: Global) -> Chain
+    pub fn empty(_alloc: Global) -> Chain
         ensures { result.bodies ≡ [] }
     {
         Chain {
-            bodies: Vec::new(alloc),
+            cells: Cells::empty(),
+            count: 0,
         }
     }
 
-    /// Finds room for one more body. The list stays, also where there is none.
+    /// Room for one more body, which is always there: no memory is taken. The list stays.
     pub fn reserve_one(&mut self, _alloc: Global) -> Result<(), NoMemory>
         ensures bodies { self.new.bodies ≡ self.old.bodies }
         ensures room { OnOk result (1 ≤ self.new.spare) }
+        ensures always { IsOk result }
+        ensures one { self.new.spare ≡ 1 }
     {
-        self.bodies.reserve(1)?;
+        let _ = &self.count;
         Ok(())
     }
 
@@ -60,8 +64,7 @@ impl Chain {
         ensures found { IfSome result (λ place. (place < length self.now.bodies) × (key_at place self.now.bodies ≡ key.now)) }
         ensures distinct { HasDistinctKeys self.now.bodies }
     {
-        let place = position_of_key(&self.bodies, key)?;
-        Some(place as u32)
+        self.cells.position_of_key(key)
     }
 
     /// The body at a place, where there is one.
@@ -69,8 +72,7 @@ impl Chain {
         ensures value { option_map (λ body. body.now) result ≡ slice_get self.now.bodies place }
         ensures present { IsSome result ↔ (place < length self.now.bodies) }
     {
-        let at = self.index_of(place)?;
-        Some(self.bodies[at].body())
+        self.cells.body(place)
     }
 
     /// Writes one part of the values at a place, below the length, by a value of its size, as `Values` does.
@@ -82,9 +84,7 @@ impl Chain {
         ensures of_key { self.new.bodies ≡ map (rewritten (key_at place self.old.bodies) (written_own part value.now)) self.old.bodies }
         ensures room { self.new.spare ≡ self.old.spare }
     {
-        let at = self.bodies.len() - 1 - place as usize;
-        let body = self.bodies[at].body_mut();
-        body.values_mut().write_own(part, value);
+        self.cells.write_own(place, part, value);
     }
 
     /// Writes all parts of the values at a place, below the length, from their fields, as `Values` does.
@@ -95,8 +95,7 @@ impl Chain {
         ensures of_key { self.new.bodies ≡ map (rewritten (key_at place self.old.bodies) (λ values. values_in (length values) (part_size values) fields.now)) self.old.bodies }
         ensures room { self.new.spare ≡ self.old.spare }
     {
-        let at = self.bodies.len() - 1 - place as usize;
-        self.bodies[at].body_mut().values_mut().write_all(fields);
+        self.cells.write_all(place, fields);
     }
 
     /// Adds a body at the head, where there is room and its key is not in the list.
@@ -106,7 +105,8 @@ impl Chain {
         requires absent { place_of_key body.key self.old.bodies ≡ None }
         ensures { self.new.bodies ≡ body ∷ self.old.bodies }
     {
-        self.bodies.push_reserved(body);
+        self.cells.push(body);
+        self.count += 1;
     }
 
     /// Takes out the body at a place, below the length, and adds one of the same key at the head.
@@ -119,8 +119,10 @@ impl Chain {
         ensures of_key { self.new.bodies ≡ body ∷ without_key body.key self.old.bodies }
         ensures room { self.new.spare ≡ self.old.spare }
     {
-        let at = self.bodies.len() - 1 - place as usize;
-        replace_last(&mut self.bodies, at, body)
+        match self.cells.replace(place, body) {
+            Some(old) => old,
+            None => unreachable!(),
+        }
     }
 
     /// Takes out the body at a place, where there is one.
@@ -132,8 +134,14 @@ impl Chain {
         ensures same { IfNone result (self.new ≡ self.old) }
         ensures room { self.old.spare ≤ self.new.spare }
     {
-        let at = self.index_of(place)?;
-        Some(self.bodies.remove(at))
+        if place >= self.count {
+            return None;
+        }
+        let Some(body) = self.cells.remove(place) else {
+            unreachable!()
+        };
+        self.count -= 1;
+        Some(body)
     }
 
     /// Takes out the body of an element, where there is one: the first from the head.
@@ -143,58 +151,16 @@ impl Chain {
         ensures same { IfNone result (self.new ≡ self.old) }
         ensures room { self.old.spare ≤ self.new.spare }
     {
-        let place = position_of_element(&self.bodies, element)?;
-        self.take_out(place as u32)
+        let place = self.cells.position_of_element(element)?;
+        self.take_out(place)
     }
 
-    /// How many bodies there are.
+    /// How many bodies there are, which is kept and not counted.
     pub fn len(&self) -> u32
         ensures count { result ≡ length self.now.bodies }
         ensures distinct { HasDistinctKeys self.now.bodies }
+        ensures room { self.now.spare ≡ 1 }
     {
-        self.bodies.len() as u32
+        self.count
     }
-
-    /// Where the body at a place lies.
-    fn index_of(&self, place: u32) -> Option<usize>
-        ensures { result ≡ (if nat_lt place (length self.now.bodies) then Some (length self.now.bodies - 1 - place) else None) }
-    {
-        let len = self.bodies.len();
-        if (place as usize) < len {
-            Some(len - 1 - place as usize)
-        } else {
-            None
-        }
-    }
-}
-
-/// The place of a key in the list whose head is the last.
-fn position_of_key(bodies: &[BoxedBody], key: &[u8]) -> Option<usize>
-    ensures { result ≡ position (has_key key.now) (reverse bodies.now) }
-{
-    bodies
-        .iter()
-        .rev()
-        .position(|body| body.body().key() == key)
-}
-
-/// The place of an element in the list whose head is the last.
-fn position_of_element(bodies: &[BoxedBody], element: u32) -> Option<usize>
-    ensures { result ≡ position (has_number element) (reverse bodies.now) }
-{
-    bodies
-        .iter()
-        .rev()
-        .position(|body| body.body().element() == element)
-}
-
-/// Takes out the body at an index, and adds one at the end.
-fn replace_last(bodies: &mut [BoxedBody], at: usize, body: BoxedBody) -> BoxedBody
-    requires { at < length bodies.old }
-    ensures taken { result ≡ slice_index_or bodies.old at result }
-    ensures bodies { bodies.new ≡ remove bodies.old at ++ body ∷ [] }
-{
-    let old = mem::replace(&mut bodies[at], body);
-    bodies[at..].rotate_left(1);
-    old
 }

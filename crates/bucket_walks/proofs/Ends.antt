@@ -1,5 +1,5 @@
 -- The end of a call of next key or of a batch lookup: its turns are a trace of it, and nothing else has changed.
-use Rattle.std.specs.Prelude.{◌==◌, ◌<◌, ◌≤◌, nat_lt, min, unwrap_or, MatchBool, Ok}
+use Rattle.std.specs.Prelude.{◌==◌, nat_lt, min, unwrap_or, MatchBool, Ok, Err}
 use Rattle.std.proofs.lemmas.Bool.{lt-ltb, le-ltb, ne_eqb}
 use Rattle.std.proofs.Common.{◌≡◌, ℕ, cond, Bool, true, false, List, [], ◌∷◌, map, sym, refl, ap, ◌∙◌, subst, Option, Some, None}
 use Rattle.map_types.specs.declared.attr.Shape.{Shape}
@@ -26,7 +26,11 @@ use Rattle.place_table.proofs.Worlds.{by_bool}
 use Rattle.bucket_walks.specs.Looks.{CanWalk, Looked, LooksInto, WalksOn}
 use Rattle.bucket_walks.specs.declared.read.BatchOut.{BatchOut}
 use Rattle.bucket_walks.specs.declared.read.BatchOut.TheVariants as outs
-use Rattle.bucket_walks.specs.Reads.{Answers, ReadsOn, stop_of}
+use Rattle.bucket_walks.specs.declared.read.BatchRefusal.{BatchRefusal}
+use Rattle.bucket_walks.specs.declared.read.BatchRefusal.TheVariants as refusals
+use Rattle.bucket_walks.specs.declared.read.Planned.{Planned}
+use Rattle.bucket_walks.specs.Plans.{Plans}
+use Rattle.bucket_walks.specs.Reads.{Answers, IsToRead, ReadsOn, stop_of}
 use Rattle.bucket_walks.proofs.Told.{turns_alone, looked_nowhere, looks_no_bits, looks_keep_spare, looks_move_none, looked_on}
 use Rattle.bucket_walks.proofs.Past.{walk_on}
 
@@ -88,10 +92,10 @@ module _ {t : TableView} {p q : PassView} {bucket : ℕ} (key : List ℕ) (found
       called_by (Some key) reply can (looked_on into.looked walk.looked)
       (record { found = found; rest = map (turn_of t.shape) walk.told; turns_are = ap (λ (turn : Turn). turn ∷ map (turn_of t.shape) walk.told) on_bucket; goes_on = goes_on })
 
--- Batch lookups: which of their traces the tests choose
-module _ (shape : Shape) (cpu count : ℕ) (start : Option ℕ) (flags : ℕ) (turns : List TurnAt) (reply : Reply) where
+-- Batch reads: which of their traces the tests choose
+module _ (shape : Shape) (cpu : ℕ) (remove : Bool) (count : ℕ) (start : Option ℕ) (flags : ℕ) (turns : List TurnAt) (reply : Reply) where
   abbrev read_whole : Type 0
-  read_whole = Walks shape cpu false (min count shape.elements) (buckets_from shape (unwrap_or start 0)) [] turns reply
+  read_whole = Walks shape cpu remove (min count shape.elements) (buckets_from shape (unwrap_or start 0)) [] turns reply
 
   abbrev replies : Reply → Type 0
   replies answer = (turns ≡ []) × (reply ≡ answer)
@@ -100,42 +104,51 @@ module _ (shape : Shape) (cpu count : ℕ) (start : Option ℕ) (flags : ℕ) (t
   abbrev chosen : Bool → Bool → Bool → Type 0
   chosen clear idle within = MatchBool clear (MatchBool idle (replies Done) (MatchBool within read_whole (replies (Refused Enoent)))) (replies (Refused Einval))
 
-  by_tests : (clear idle within : Bool) → flags == 0 ≡ clear → count == 0 ≡ idle → nat_lt (unwrap_or start 0) shape.buckets ≡ within → chosen clear idle within → IsReadTrace shape cpu false count start flags turns reply
+  by_tests : (clear idle within : Bool) → flags == 0 ≡ clear → count == 0 ≡ idle → nat_lt (unwrap_or start 0) shape.buckets ≡ within → chosen clear idle within → IsReadTrace shape cpu remove count start flags turns reply
   by_tests clear idle within clear_is idle_is within_is trace = subst (λ (z : Bool × Bool × Bool). chosen z.0 z.1 z.2) (λ i. (sym clear_is i, sym idle_is i, sym within_is i)) trace
 
 is_zero : (n : ℕ) → n ≡ 0 → n == 0 ≡ true
 is_zero n e = ap (λ (m : ℕ). m == 0) e
 
-module _ {t : TableView} {p : PassView} (count : ℕ) (start : Option ℕ) (flags : ℕ) (can : CanCall t p) where
+-- buckets were gone over
+pub walks_read : (shape : Shape) (cpu : ℕ) (remove : Bool) (count : ℕ) (start : Option ℕ) (flags : ℕ) (turns : List TurnAt) (reply : Reply) → IsToRead shape count start flags
+    → Walks shape cpu remove (min count shape.elements) (buckets_from shape (unwrap_or start 0)) [] turns reply → IsReadTrace shape cpu remove count start flags turns reply
+walks_read shape cpu remove count start flags turns reply to_read trace =
+    by_tests shape cpu remove count start flags turns reply true false true (is_zero flags to_read.0) (ne_eqb count 0 to_read.1) (lt-ltb (unwrap_or start 0) shape.buckets to_read.2) trace
+
+module _ {t : TableView} {p : PassView} (remove : Bool) (count : ℕ) (start : Option ℕ) (flags : ℕ) (can : CanCall t p) where
   -- no lock was taken
-  called_none : (reply : Reply) → IsReadTrace t.shape p.cpu false count start flags [] reply → Called t p p (verbs.BatchRead false count start flags) reply
-  called_none reply trace = called_looked (verbs.BatchRead false count start flags) reply can (looked_nowhere t p) trace
+  called_none : (reply : Reply) → IsReadTrace t.shape p.cpu remove count start flags [] reply → Called t p p (verbs.BatchRead remove count start flags) reply
+  called_none reply trace = called_looked (verbs.BatchRead remove count start flags) reply can (looked_nowhere t p) trace
 
-  pub flags_refused : (flags ≡ 0 → ⊥) → Called t p p (verbs.BatchRead false count start flags) (Refused Einval)
-  flags_refused set =
-      called_none (Refused Einval) (by_tests t.shape p.cpu count start flags [] (Refused Einval) false (count == 0) (nat_lt (unwrap_or start 0) t.shape.buckets) (ne_eqb flags 0 set) refl refl (refl, refl))
+  -- a batch read that makes no walk
+  pub none_to_read : flags ≡ 0 → count ≡ 0 → Answers t p p (verbs.BatchRead remove count start flags) (Ok outs.Idle)
+  none_to_read clear none = (
+    refl,
+    called_none Done (by_tests t.shape p.cpu remove count start flags [] Done true true (nat_lt (unwrap_or start 0) t.shape.buckets) (is_zero flags clear) (is_zero count none) refl (refl, refl)),
+  )
 
-  pub none_to_read : flags ≡ 0 → count ≡ 0 → Called t p p (verbs.BatchRead false count start flags) Done
-  none_to_read clear none =
-      called_none Done (by_tests t.shape p.cpu count start flags [] Done true true (nat_lt (unwrap_or start 0) t.shape.buckets) (is_zero flags clear) (is_zero count none) refl (refl, refl))
+  pub refused_read : (shape : Shape) (refusal : BatchRefusal) → shape ≡ t.shape → Plans shape count start flags (Err refusal) → Answers t p p (verbs.BatchRead remove count start flags) (Err refusal)
+  refused_read shape refusals.Einval shape_is set = (
+    refl,
+    called_none (Refused Einval) (by_tests t.shape p.cpu remove count start flags [] (Refused Einval) false (count == 0) (nat_lt (unwrap_or start 0) t.shape.buckets) (ne_eqb flags 0 set) refl refl (refl, refl)),
+  )
+  refused_read shape refusals.Past shape_is (clear, some, past) = (
+    refl,
+    called_none (Refused Enoent)
+        (by_tests t.shape p.cpu remove count start flags [] (Refused Enoent) true false false (is_zero flags clear) (ne_eqb count 0 some)
+        (ap (λ (s : Shape). nat_lt (unwrap_or start 0) s.buckets) (sym shape_is) ∙ le-ltb (unwrap_or start 0) shape.buckets past) (refl, refl)),
+  )
+  refused_read shape refusals.NoMemory shape_is to_read = refl
 
-  -- the shape that the table tells, and where the batch starts
-  module _ (shape : Shape) (from : ℕ) (shape_is : shape ≡ t.shape) (from_is : from ≡ unwrap_or start 0) where
-    start_test : (b : Bool) → nat_lt from shape.buckets ≡ b → nat_lt (unwrap_or start 0) t.shape.buckets ≡ b
-    start_test b is = (λ i. nat_lt (sym from_is i) (sym shape_is i).buckets) ∙ is
-
-    pub past_the_end : flags ≡ 0 → (count ≡ 0 → ⊥) → shape.buckets ≤ from → Called t p p (verbs.BatchRead false count start flags) (Refused Enoent)
-    past_the_end clear some past =
-        called_none (Refused Enoent) (by_tests t.shape p.cpu count start flags [] (Refused Enoent) true false false (is_zero flags clear) (ne_eqb count 0 some) (start_test false (le-ltb from shape.buckets past)) (refl, refl))
-
-    -- buckets were read
-    pub called_read : {s : PassView} {pairs : List (List ℕ × List ℕ)} {next limit : ℕ} (out : BatchOut) → flags ≡ 0 → (count ≡ 0 → ⊥) → from < shape.buckets → limit ≡ min count shape.elements → ReadsOn t from p s limit pairs next → out ≡ outs.Read (stop_of shape next pairs) pairs next
-        → Answers t p s (verbs.BatchRead false count start flags) (Ok out)
-    called_read {s} {pairs} {next} {limit} out clear some within limit_is read out_is =
-        let reply : Reply = Batch (stop_of t.shape next pairs) pairs next in
-        let there : nat_lt (unwrap_or start 0) t.shape.buckets ≡ true = start_test true (lt-ltb from shape.buckets within) in
-        let read_here : ReadsOn t (unwrap_or start 0) p s (min count t.shape.elements) pairs next = subst (λ (z : ℕ × ℕ). ReadsOn t z.0 p s z.1 pairs next) (λ i. (from_is i, (limit_is ∙ ap (λ (x : Shape). min count x.elements) shape_is) i)) read in
-        let called : Called t p s (verbs.BatchRead false count start flags) reply =
-        called_looked (verbs.BatchRead false count start flags) reply can read_here.looked
-        (by_tests t.shape p.cpu count start flags (map (turn_at t.shape) read_here.told) reply true false true (is_zero flags clear) (ne_eqb count 0 some) there read_here.trace) in
-        subst (λ (o : BatchOut). Answers t p s (verbs.BatchRead false count start flags) (Ok o)) (sym (out_is ∙ ap (λ (x : Shape). outs.Read (stop_of x next pairs) pairs next) shape_is)) called
+-- Batch lookups: buckets were read
+module _ {t : TableView} {p s : PassView} (count : ℕ) (start : Option ℕ) (flags : ℕ) (can : CanCall t p) where
+  pub called_read : {pairs : List (List ℕ × List ℕ)} {next limit : ℕ} (shape : Shape) (planned : Planned) (out : BatchOut) → shape ≡ t.shape → Plans shape count start flags (Ok (Some planned)) → limit ≡ planned.out.limit → ReadsOn t planned.from p s limit pairs next → out ≡ outs.Read (stop_of shape next pairs) pairs next
+      → Answers t p s (verbs.BatchRead false count start flags) (Ok out)
+  called_read {pairs} {next} {limit} shape planned out shape_is plans limit_is read out_is =
+      let reply : Reply = Batch (stop_of t.shape next pairs) pairs next in
+      let to_read : IsToRead t.shape count start flags = subst (λ (x : Shape). IsToRead x count start flags) shape_is plans.0 in
+      let read_here : ReadsOn t (unwrap_or start 0) p s (min count t.shape.elements) pairs next = subst (λ (z : ℕ × ℕ). ReadsOn t z.0 p s z.1 pairs next) (λ i. (plans.1.from_is i, ((limit_is ∙ plans.1.begins.limit_is) ∙ ap (λ (x : Shape). min count x.elements) shape_is) i)) read in
+      let called : Called t p s (verbs.BatchRead false count start flags) reply =
+      called_looked (verbs.BatchRead false count start flags) reply can read_here.looked (walks_read t.shape p.cpu false count start flags (map (turn_at t.shape) read_here.told) reply to_read read_here.trace) in
+      subst (λ (o : BatchOut). Answers t p s (verbs.BatchRead false count start flags) (Ok o)) (sym (out_is ∙ ap (λ (x : Shape). outs.Read (stop_of x next pairs) pairs next) shape_is)) called

@@ -51,6 +51,11 @@ told_append shape lost [] second (one ∷ told) others is later = absurd is
 told_append shape lost (step ∷ first) second [] others is later = absurd is
 told_append shape lost (step ∷ first) second (one ∷ told) others is later = (is.0, told_append shape lost first second told others is.1 later)
 
+-- of two parts, each with its lost records
+pub told_on : (shape : Shape) (lost more : List ℕ) (first second told others : List Turned) → AreTold shape lost first told → AreTold shape more second others → AreTold shape (more ++ lost) (first ++ second) (told ++ others)
+told_on shape lost more first second told others are later =
+    told_append shape (more ++ lost) first second told others (told_where shape lost (more ++ lost) (λ n. among_behind n more lost) first told are) (told_where shape more (more ++ lost) (λ n. among_before n more lost) second others later)
+
 -- the turns alone, without what came before them
 pub turns_alone : (shape : Shape) (told : List Turned) → turns_of (map (turn_at shape) told) ≡ map (turn_of shape) told
 turns_alone shape [] = refl
@@ -134,7 +139,7 @@ looked_nowhere t p = record {
 
 pub looked_on : {t : TableView} {p q r : PassView} {first second told others : List Turned} {lost more : List ℕ} → Looked t p q first told lost → Looked t q r second others more → Looked t p r (first ++ second) (told ++ others) (more ++ lost)
 looked_on {t} {p} {q} {r} {first} {second} {told} {others} {lost} {more} a b = record {
-  told_are = told_append t.shape (more ++ lost) first second told others (told_where t.shape lost (more ++ lost) (λ n. among_behind n more lost) first told a.told_are) (told_where t.shape more (more ++ lost) (λ n. among_before n more lost) second others b.told_are);
+  told_are = told_on t.shape lost more first second told others a.told_are b.told_are;
   are_looks = looks_append told others a.are_looks b.are_looks;
   went = record {
     made = made_on p q r first second lost more a.went.made b.went.made;

@@ -1,2 +1,5 @@
+pub mod LruTakes
 pub mod Looks
+pub mod PlainTakes
+pub mod Plans
 pub mod Reads

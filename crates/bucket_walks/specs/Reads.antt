@@ -75,12 +75,13 @@ pub record ReadsOn (t : TableView) (from : ℕ) (before after : PassView) (limit
   pub looked : Looked t before after steps told lost
   pub trace : Walks t.shape before.cpu false limit (buckets_from t.shape from) [] (map (turn_at t.shape) told) (Batch (stop_of t.shape next pairs) pairs next)
 
--- A batch lookup made a trace of it, with the reply that goes with its answer. Where memory wasn't found nothing was done.
+-- A batch read made a trace of it, with the reply that goes with its answer. One that makes no walk changed nothing, and where memory
+-- wasn't found nothing was done.
 abbrev pub Answers : TableView → PassView → PassView → Verb → Result BatchOut BatchRefusal → Type 0
-Answers t before after verb (Ok Idle) = Called t before after verb Done
+Answers t before after verb (Ok Idle) = (after ≡ before) × Called t before after verb Done
 Answers t before after verb (Ok (Read stop taken next)) = Called t before after verb (Batch stop taken next)
-Answers t before after verb (Err refusals.Einval) = Called t before after verb (Refused Einval)
-Answers t before after verb (Err refusals.Past) = Called t before after verb (Refused Enoent)
+Answers t before after verb (Err refusals.Einval) = (after ≡ before) × Called t before after verb (Refused Einval)
+Answers t before after verb (Err refusals.Past) = (after ≡ before) × Called t before after verb (Refused Enoent)
 Answers t before after verb (Err refusals.NoMemory) = after ≡ before
 
 -- a walk was to be made

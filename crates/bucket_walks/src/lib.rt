@@ -1,4 +1,4 @@
-//! Walks over the buckets of a map of any kind: next key and batch lookups.
+//! Walks over the buckets of a map of any kind: next key, batch lookups and batch takes.
 #![tactic(auto)]
 
 mod buckets;
@@ -6,7 +6,11 @@ mod next;
 mod parts;
 mod read;
 mod room;
+mod take_lru;
+mod take_plain;
 mod whole;
 
 pub use next::next_key;
 pub use read::{BatchOut, BatchRefusal, look_up_batch};
+pub use take_lru::take_batch_lru;
+pub use take_plain::take_batch_plain;

@@ -70,9 +70,10 @@ fn next_found(alloc: Global, after: After, next: &[u8]) -> Result<NextFound, NoM
     }
 }
 
-/// The entry of a batch lookup that comes by with room for so many elements.
+/// The entry of a batch read that comes by with room for so many elements, and takes them out or doesn't.
 pub(crate) fn walk_part(
     alloc: Global,
+    remove: bool,
     shape: &Shape,
     cpu: u32,
     room: u32,
@@ -82,11 +83,11 @@ pub(crate) fn walk_part(
     requires bounds { HasBounds shape.now }
     requires cpu { cpu < shape.now.cpus }
     requires sized { All (IsSized shape.now) chain.now.bodies }
-    ensures { IfSome result (λ part. part ≡ parts.Bucket (turns.Walk false room (walked_by shape.now cpu room chain.now.bodies))) }
+    ensures { IfSome result (λ part. part ≡ parts.Bucket (turns.Walk remove room (walked_by shape.now cpu room chain.now.bodies))) }
 {
     let result = walked(alloc, shape, cpu, room, chain).ok()?;
     Some(Part::Bucket(BucketPart::Walk {
-        remove: false,
+        remove,
         room,
         result,
     }))

@@ -7,6 +7,7 @@ ghost use Rattle.map_types.specs.Shape.{HasBounds};
 ghost use Rattle.place_table.specs.Calls.{CanCall};
 ghost use Rattle.bucket_walks.specs.Looks.{CanWalk};
 ghost use Rattle.bucket_walks.specs.declared.read.BatchOut.TheVariants as outs;
+ghost use Rattle.bucket_walks.specs.Plans.{Plans};
 ghost use Rattle.bucket_walks.specs.Reads.{Answers, BeginsAt, Comes, ReadsOn, stop_of};
 
 use crate::room::ReadRoom;
@@ -21,7 +22,7 @@ use std::sync::Wait;
 pub enum BatchOut {
     /// It was to take nothing.
     Idle,
-    /// What it took, why it stopped, and the bucket at which the next one starts.
+    /// What it took, why it stopped, and the bucket at which the next one starts: the number of buckets after the last one.
     Read {
         stop: Option<Errno>,
         taken: Pairs,
@@ -51,11 +52,11 @@ impl From<NoMemory> for BatchRefusal {
     }
 }
 
-/// Copies the keys, each with the value that the system call reads on the pass's CPU, of whole buckets from `start` on, or
-/// from the first one, as long as there is room for what they hold: for `count` pairs, and at most for as many as the map has
-/// elements. A bucket for which there is no room ends it, with ENOSPC where nothing was taken before and else without an error;
-/// after the last bucket it stops with ENOENT. Flags that aren't 0 are refused, and so is a start at or past the number of
-/// buckets. Each bucket is read in a turn of its own, head first; where memory for its entry isn't found, the record of that
+/// Copies the keys, each with the value that the system call reads on the pass's CPU, of whole buckets from the one of number
+/// `start` on, or from the first one (0), as long as there is room for what they hold: for `count` pairs, and at most for as many
+/// as the map has elements. A bucket for which there is no room ends it, with ENOSPC where nothing was taken before and else without an error;
+/// after the last bucket it stops with ENOENT. Flags that aren't 0 are `Einval`; else a count of 0 is `Idle`; else a start at or
+/// past the number of buckets is `Past`; in all three nothing is looked at. Each bucket is read in a turn of its own, head first; where memory for its entry isn't found, the record of that
 /// bucket's turns is lost, and the call goes on. Memory for all pairs is found before anything is looked at, and where there is
 /// none nothing is done. The rule is that of the kernel's `__htab_map_lookup_and_delete_batch`.
 pub fn look_up_batch<R: Wait, G: Gate>(
@@ -73,20 +74,48 @@ pub fn look_up_batch<R: Wait, G: Gate>(
     ensures answers { Answers table.now pass.old pass.new (verbs.BatchRead false count start flags) result }
     ensures comes { Comes table.now.shape count start flags result }
 {
+    let shape = table.shape();
+    match plan(alloc, shape, count, start, flags) {
+        Err(refusal) => Err(refusal),
+        Ok(None) => Ok(BatchOut::Idle),
+        Ok(Some(mut planned)) => {
+            let from = planned.from;
+            let next = read_from(rt, alloc, table, pass, from, &mut planned.out, gate);
+            Ok(read_out(shape, next, planned.out))
+        }
+    }
+}
+
+/// A batch read that is to go over buckets: the first of them, and room for all that it may read.
+#[derive(Drop)]
+pub(crate) struct Planned {
+    pub(crate) from: u32,
+    pub(crate) out: ReadRoom,
+}
+
+/// Where a batch read starts, with room for what it reads, or nothing where it is to read nothing.
+pub(crate) fn plan(
+    alloc: Global,
+    shape: &Shape,
+    count: u32,
+    start: Option<u32>,
+    flags: u32,
+) -> Result<Option<Planned>, BatchRefusal>
+    requires { IsShape shape.now }
+    ensures { Plans shape.now count start flags result }
+{
     if flags != 0 {
         return Err(BatchRefusal::Einval);
     }
     if count == 0 {
-        return Ok(BatchOut::Idle);
+        return Ok(None);
     }
-    let shape = table.shape();
     let from = start.unwrap_or(0);
     if from >= shape.buckets {
         return Err(BatchRefusal::Past);
     }
-    let mut out = room_for(alloc, shape, count)?;
-    let next = read_from(rt, alloc, table, pass, from, &mut out, gate);
-    Ok(read_out(shape, next, out))
+    let out = room_for(alloc, shape, count)?;
+    Ok(Some(Planned { from, out }))
 }
 
 /// Room for the pairs of a batch read, at most for as many as there are elements.
@@ -126,7 +155,7 @@ fn read_from<R: Wait, G: Gate>(
 }
 
 /// What a batch read gives that ended at this bucket, or after the last one.
-fn read_out(shape: &Shape, next: u32, out: ReadRoom) -> BatchOut
+pub(crate) fn read_out(shape: &Shape, next: u32, out: ReadRoom) -> BatchOut
     ensures { result ≡ outs.Read (stop_of shape.now next out.pairs) out.pairs next }
 {
     let taken = out.into_pairs();

@@ -39,7 +39,7 @@ pub(crate) fn read_in<R: Wait, G: Gate>(
     let chain = enter(rt, table, pass, bucket, gate);
     let cpu = table.cpu_of(pass);
     let whole = read_whole(shape, cpu, &chain, out);
-    let part = walk_part(alloc, shape, cpu, room, &chain);
+    let part = walk_part(alloc, false, shape, cpu, room, &chain);
     table.give(
         pass,
         DomainId::Bucket(bucket),
@@ -51,7 +51,7 @@ pub(crate) fn read_in<R: Wait, G: Gate>(
 }
 
 /// Reads a bucket whole where there is room for it.
-fn read_whole(shape: &Shape, cpu: u32, chain: &Chain, out: &mut ReadRoom) -> bool
+pub(crate) fn read_whole(shape: &Shape, cpu: u32, chain: &Chain, out: &mut ReadRoom) -> bool
     requires bounds { HasBounds shape.now }
     requires cpu { cpu < shape.now.cpus }
     requires sized { All (IsSized shape.now) chain.now.bodies }

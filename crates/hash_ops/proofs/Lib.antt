@@ -1,3 +1,4 @@
+pub mod Crossing
 pub mod Added
 pub mod AfterJoin
 pub mod DeleteThenLookup

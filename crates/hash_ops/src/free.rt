@@ -31,8 +31,9 @@ impl PlainMap {
         }
     }
 
-    /// Pushes an element on the CPU's own freelist, as in the kernel's `__pcpu_freelist_push`.
-    pub(crate) fn push<R: Wait, G: Gate>(&self, rt: &R, pass: &mut Pass, body: BoxedBody, gate: &G)
+    /// Pushes the element of a body, which is in the hand of the pass's CPU, on the CPU's own freelist, in one turn of it, as in
+    /// the kernel's `__pcpu_freelist_push`. No lock that is held has the rank of a freelist. It takes no memory that it needs.
+    pub fn push<R: Wait, G: Gate>(&self, rt: &R, pass: &mut Pass, body: BoxedBody, gate: &G)
         requires { CanPush self.now body pass.old }
         ensures { Pushed self.now body pass.old pass.new }
     {

@@ -67,9 +67,10 @@ impl PlainMap {
         Ok((PlainMap { table, alloc }, pass))
     }
 
-    /// The table of the map, whose kind doesn't evict.
+    /// The table of the map, whose shape is within the limits and whose kind doesn't evict.
     pub fn table(&self) -> &PlaceTable
         ensures value { result.now ≡ self.now }
+        ensures shape { IsShape self.now.shape }
         ensures plain { is_lru self.now.shape.kind ≡ false }
     {
         &self.table

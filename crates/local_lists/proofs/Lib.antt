@@ -1,3 +1,4 @@
+pub mod Crossing
 pub mod LocalLemmas
 pub mod ToldLemmas
 mod WorkedLocals

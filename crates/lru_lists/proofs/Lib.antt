@@ -1,3 +1,4 @@
+pub mod Crossing
 pub mod CursorLemmas
 pub mod NoteLemmas
 pub mod SetLemmas

@@ -1,3 +1,4 @@
+pub mod Crossing
 pub mod Asked
 pub mod BroughtHome
 pub mod DoesOn

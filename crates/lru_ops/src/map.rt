@@ -71,9 +71,10 @@ impl LruMap {
         Ok((LruMap { table, alloc }, pass))
     }
 
-    /// The table of the map, whose kind evicts.
+    /// The table of the map, whose shape is within the limits and whose kind evicts.
     pub fn table(&self) -> &PlaceTable
         ensures value { result.now ≡ self.now }
+        ensures shape { IsShape self.now.shape }
         ensures evicts { IsTrue (is_lru self.now.shape.kind) }
     {
         &self.table

@@ -1,3 +1,4 @@
+pub mod Crossing
 pub mod DeletedEach
 pub mod Entries
 pub mod Joined

@@ -51,9 +51,10 @@ impl AnyMap {
         }
     }
 
-    /// The table of the map, whose kind evicts exactly where the map does.
+    /// The table of the map, whose shape is within the limits, and whose kind evicts exactly where the map does.
     pub fn table(&self) -> &PlaceTable
         ensures value { result.now ≡ table_of self.now }
+        ensures shape { IsShape (table_of self.now).shape }
         ensures sort { IsOfItsSort self.now }
     {
         match self {

@@ -32,8 +32,10 @@ pub enum WriteRefusal {
     NoMemory,
 }
 
-/// Updates the keys of some pairs one after another, each by the system call with BPF_ANY, up to the first that is refused. The
-/// rule of `generic_map_update_batch`. Flags that aren't 0 are `Einval`, before anything is looked at.
+/// Updates the keys of some pairs, fewer than 2^32, one after another, each by the system call with BPF_ANY, up to the first that is
+/// refused: with E2BIG on a map that doesn't evict, and with ENOMEM on one that does. Keys have key_size bytes, and values those that
+/// the system call writes. Flags that aren't 0 are `Einval`, before anything is looked at. Where memory for an entry isn't found it is
+/// `NoMemory`, and the entries before it are done. The rule of `generic_map_update_batch`.
 pub fn update_batch<R: Wait, G: Gate>(
     map: &AnyMap,
     rt: &R,
@@ -100,8 +102,9 @@ fn ended_with(refusal: AnyRefusal, done: u32) -> Result<BatchCount, WriteRefusal
     }
 }
 
-/// Deletes some keys one after another, up to the first that isn't there. The rule of `generic_map_delete_batch`. Flags that
-/// aren't 0 are `Einval`, before anything is looked at.
+/// Deletes some keys, fewer than 2^32, of key_size bytes, one after another, up to the first that isn't there (ENOENT). Flags that
+/// aren't 0 are `Einval`, before anything is looked at. It takes no memory that it needs, so it is never `NoMemory`. The rule of
+/// `generic_map_delete_batch`.
 pub fn delete_batch<R: Wait, G: Gate>(
     map: &AnyMap,
     rt: &R,

@@ -32,7 +32,7 @@ use Rattle.place_words.specs.declared.bucket_part.Walked.{Walked}
 use Rattle.place_words.specs.declared.bucket_part.Walked.TheVariants.{Over, Taken}
 use Rattle.place_words.specs.Bodies.{has_key, present, first_key, next_key}
 use Rattle.place_words.specs.Buckets.{as_read, new_stored}
-use Rattle.place_words.specs.Logs.{State, new_state, all_turned, taken_out, bucket_at, present_in, acquired, popped, Does, first_does, put_offered, put_alone, puts_in, offered, evicting_does, put_popped, plain_does, got_by, key_does, first_or, firsts, following, found_next, goes_on, next_does, walked, after_walk, walks, read_does, counted_or, writes, write_does, does, after_one, run, answers}
+use Rattle.place_words.specs.Logs.{State, new_state, all_turned, taken_out, bucket_at, present_in, acquired, popped, Does, first_does, put_offered, put_alone, puts_in, offered, evicting_does, put_popped, plain_does, got_by, key_does, first_or, firsts, following, found_next, goes_on, next_does, walked, after_walk, walks, read_does, counted_or, writes, write_does, does, after_one, answers}
 use Rattle.place_words.specs.PlainTraces.{reply_of_put, reply_of_got, reply_of_gone}
 use Rattle.place_words.specs.Turns.{ring, on_lock, bucket_of_key}
 use Rattle.place_words.specs.Walks.{buckets_from, pair_of, walked_out, refused_with, updates_of, deletes_of}
@@ -101,23 +101,23 @@ module _ (shape : Shape) (cpu number : ℕ) (within : cpu < shape.cpus) where
         by true is = alone_answers (eqb-true flags 2 (and_parts (is_percpu shape.kind) (eqb flags 2) is).1) (present_in shape state key)
         by false is = offered_answers lru side key value (all_turned shape cpu number (acquired shape cpu number (hash key shape.seed) state).turns state) (acquired shape cpu number (hash key shape.seed) state).got
 
-    popped_answers : flags ≢ 2 → (got : Option ℕ) → MayAnswerUpdate shape flags (reply_of_put (put_popped got))
-    popped_answers other None = omega (arith, few, other)
-    popped_answers other (Some e) = few
+    popped_answers : is_lru shape.kind ≡ false → flags ≢ 2 → (got : Option ℕ) → MayAnswerUpdate shape flags (reply_of_put (put_popped got))
+    popped_answers plain other None = (omega (arith, few, other), plain)
+    popped_answers plain other (Some e) = few
 
-    plain_answers : (side : Side) (key value : List ℕ) (state : State) (found : Option Stored) → MayAnswerUpdate shape flags (plain_does shape cpu side flags key value state found).reply
-    plain_answers side key value state (Some old) = exists_or (eqb flags 1) (is_percpu shape.kind) old.element (unwrap_or (state.spares cpu) 0) refl
-    plain_answers side key value state None = by (eqb flags 2) refl
+    plain_answers : is_lru shape.kind ≡ false → (side : Side) (key value : List ℕ) (state : State) (found : Option Stored) → MayAnswerUpdate shape flags (plain_does shape cpu side flags key value state found).reply
+    plain_answers plain side key value state (Some old) = exists_or (eqb flags 1) (is_percpu shape.kind) old.element (unwrap_or (state.spares cpu) 0) refl
+    plain_answers plain side key value state None = by (eqb flags 2) refl
       where
         by : (two : Bool) → eqb flags 2 ≡ two → MayAnswerUpdate shape flags (cond two (puts_in shape side flags key value puts.Absent) (first_does (popped shape state (ring cpu shape.cpus)).turns (puts_in shape side flags key value (put_popped (popped shape state (ring cpu shape.cpus)).got)))).reply
         by true is = eqb-true flags 2 is
-        by false is = popped_answers (eqb-false flags 2 is) (popped shape state (ring cpu shape.cpus)).got
+        by false is = popped_answers plain (eqb-false flags 2 is) (popped shape state (ring cpu shape.cpus)).got
 
   update_answers : (side : Side) (flags : ℕ) (key value : List ℕ) (state : State) (many lru : Bool) → ltb 2 flags ≡ many → is_lru shape.kind ≡ lru
       → MayAnswerUpdate shape flags (cond many (record { turns = []; reply = Refused Einval }) (cond lru (evicting_does shape cpu number side flags key value state) (plain_does shape cpu side flags key value state (present_in shape state key)))).reply
   update_answers side flags key value state true lru more kind = ltb-true 2 flags more
   update_answers side flags key value state false true less lru = evicting_answers flags (ltb-false 2 flags less) lru side key value state
-  update_answers side flags key value state false false less plain = plain_answers flags (ltb-false 2 flags less) side key value state (present_in shape state key)
+  update_answers side flags key value state false false less plain = plain_answers flags (ltb-false 2 flags less) plain side key value state (present_in shape state key)
 
   -- Next key
   key_fits : (bodies : List Stored) → All (λ (body : Stored). FitsMap shape body) bodies → (key : List ℕ) → first_key bodies ≡ Some key → length key ≡ shape.key_size

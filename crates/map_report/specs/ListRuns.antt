@@ -1,5 +1,5 @@
--- The record of a run in serial order of a map that doesn't evict, without walks and batches, on plain lists: the replies, what
--- happened under each lock and in which order, and what the map holds at the end.
+-- The record of a run in serial order of a map that doesn't evict, on plain lists: the replies, what happened under each lock and
+-- in which order, and what the map holds at the end.
 use Rattle.std.specs.Prelude.{List, [], ◌∷◌}
 use Rattle.map_script.specs.declared.script.Script.{Script}
 use Rattle.map_report.specs.declared.record.RunRecord.{RunRecord}

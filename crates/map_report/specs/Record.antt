@@ -1,6 +1,6 @@
 -- What a record of a run is, of maps of any kind: what happened under each lock replays by the kernel's rules, and each
 -- CPU's calls stand in these histories once, in its order, with the replies.
-use Rattle.std.specs.Prelude.{◌≡◌, ◌≢◌, ℕ, suc, ◌<◌, ◌≤◌, ◌==◌, Bool, IsTrue, IsPermutation, MatchBool, MatchOption, Option, Some, All, List, [], ◌∷◌, ◌++◌, length, map, filter, slice_get, slice_index_or, ⊤, if◌then◌else◌}
+use Rattle.std.specs.Prelude.{◌≡◌, ◌≢◌, ℕ, suc, ◌<◌, ◌≤◌, ◌==◌, Bool, IsTrue, IsFalse, IsPermutation, MatchBool, MatchOption, Option, Some, All, List, [], ◌∷◌, ◌++◌, length, map, filter, slice_get, slice_index_or, ⊤, if◌then◌else◌}
 use Rattle.std.specs.List.{list_any, flat_map, range_with_len}
 use Rattle.map_types.specs.Kind.{is_lru}
 use Rattle.map_types.specs.ValueLen.{value_len_of}
@@ -40,12 +40,13 @@ use Rattle.map_report.specs.Soundness.{HasLists}
 use Rattle.map_report.specs.Turns.{spare_at}
 
 -- Which error an update with these flags may answer: EINVAL for flags that aren't known, EEXIST only under BPF_NOEXIST (1),
--- ENOENT only under BPF_EXIST (2), E2BIG only where a key may be added, and ENOMEM only on a map that evicts, under known flags.
+-- ENOENT only under BPF_EXIST (2), E2BIG only where a key may be added and the map doesn't evict, and ENOMEM only on a map that
+-- evicts, under known flags.
 abbrev pub MayRefuseUpdate : Shape → ℕ → Errno → Type 0
 MayRefuseUpdate shape flags Einval = 2 < flags
 MayRefuseUpdate shape flags Eexist = flags ≡ 1
 MayRefuseUpdate shape flags Enoent = flags ≡ 2
-MayRefuseUpdate shape flags E2big = flags < 2
+MayRefuseUpdate shape flags E2big = (flags < 2) × IsFalse (is_lru shape.kind)
 MayRefuseUpdate shape flags Enomem = (flags ≤ 2) × IsTrue (is_lru shape.kind)
 MayRefuseUpdate shape flags Enospc = ⊥
 

@@ -52,7 +52,7 @@ outcome_line replies error = total_line (stop_name error) (count_by (names error
 unfoldable pub outcomes : List (Option Errno)
 outcomes = None ∷ Some Einval ∷ Some Enoent ∷ Some Eexist ∷ Some E2big ∷ Some Enomem ∷ Some Enospc ∷ []
 
--- a turn of a bucket that took an element out, for another key
+-- a turn of a bucket that took an element out for a key that an update brings
 abbrev pub evicts : Part → Bool
 evicts (parts.Bucket (Evict element Removed)) = true
 evicts part = false

@@ -17,7 +17,7 @@ use Rattle.map_types.specs.declared.kind.Side.{Side}
 use Rattle.map_types.specs.declared.kind.Side.TheVariants.{Sys}
 use Rattle.map_types.proofs.CreationLemmas.{bounds_of_shape}
 use Rattle.map_script.specs.declared.script.Script.{Script}
-use Rattle.map_script.specs.WellFormed.{HasSizes, IsCallOn}
+use Rattle.map_script.specs.WellFormed.{HasSizes, IsCallOn, IsWellFormed}
 use Rattle.percpu_values.proofs.SideLemmas.{HaveSizes, length-value_read, HaveSizes-written, HaveSizes-new}
 use Rattle.place_words.specs.Buckets.{new_stored}
 use Rattle.place_words.specs.Logs.{first_spares, new_state, answers}
@@ -30,9 +30,7 @@ use Rattle.map_report.specs.Serial.{opening, has_spares}
 use Rattle.map_report.proofs.EachAtRest.{run_holds_elements}
 use Rattle.map_report.proofs.LogAnswers.{FitsMap, all_answered}
 use Rattle.map_report.proofs.LogRecord.{record_of_done}
-use Rattle.map_run.specs.Served.{IsScript}
 use Rattle.map_run.proofs.OpeningTurns.{opening_spares_are, no_opening_spares}
-use Rattle.map_run.proofs.ServedLemmas.{well_formed}
 
 -- Sizes: what is written has the map's, and so has all that lies in the buckets
 
@@ -91,10 +89,9 @@ spares_of shape bounds LruPercpuHash is = evicting_none shape LruPercpuHash is r
 
 -- All in all
 
-pub any_is_record : (script : Script) → IsScript script → IsRecord script (serial script)
-any_is_record script is =
+pub any_is_record : (script : Script) → IsWellFormed script → IsRecord script (serial script)
+any_is_record script like =
     let shape : Shape = script.shape in
-    let like = well_formed script is in
     let served = on_cpus shape script.calls like.calls in
     record_of_done script like.shape served (every_run shape like.shape 1 script.calls served).0
     (λ cpu within. ap (λ (spares : List ℕ). slice_get spares cpu) (spares_of shape (bounds_of_shape shape like.shape) shape.kind refl))

@@ -1,52 +1,95 @@
--- A run in serial order on a map of either sort: what its pass knows before the first call, after one call more, and what the closed
--- table leaves at the end.
-use Rattle.std.proofs.Common.{◌≡◌, ℕ, ◌+◌, ◌<◌, false, List, [], ◌∷◌, ◌++◌, length, get_or, take, All, sym, subst}
-use Rattle.std.specs.Prelude.{MatchBool}
+-- A run in serial order on a map of either sort: its calls are determined by their traces. On a map that evicts they are since the
+-- takings and freeings of each CPU are: where CPUs share lists, by the bits that each turn reads too, and since no element is found
+-- moved on.
+use Rattle.std.proofs.Common.{◌≡◌, ℕ, suc, ◌+◌, ◌<◌, true, false, not, cond, List, [], ◌∷◌, ◌++◌, length, get_or, map, take, All, refl, ap, sym, ◌∙◌, subst, arith}
+use Rattle.std.specs.Prelude.{filter}
+use Rattle.std.specs.List.{range_with_len}
+use Rattle.std.proofs.lemmas.Bool.{ne_eqb}
+use Rattle.std.proofs.lemmas.List.Elements.{All-get_or, All-take, All-weaker}
 use Rattle.map_types.specs.Creation.{IsShape}
 use Rattle.map_types.specs.Kind.{is_lru}
 use Rattle.map_types.specs.declared.attr.Shape.{Shape}
 use Rattle.map_types.specs.declared.call.Call.{Call}
 use Rattle.map_types.specs.declared.reply.Reply.{Reply}
-use Rattle.map_script.specs.declared.script.Script.{Script}
+use Rattle.map_types.proofs.CreationLemmas.{bounds_of_shape}
+use Rattle.place_words.specs.declared.history.Strand.{Strand}
+use Rattle.place_words.specs.declared.history.StrandStep.{StrandStep}
+use Rattle.place_words.specs.Logs.{State, lies_in, new_state, does}
+use Rattle.place_words.specs.Turns.{Turn}
+use Rattle.place_words.proofs.EvictingDone.{IsAtRest}
+use Rattle.place_words.proofs.EvictingRuns.{supplies, new_reached, run_done}
 use Rattle.place_table.specs.Calls.{Called}
 use Rattle.place_table.specs.Closing.{ClosedView, IsClosed}
-use Rattle.place_table.specs.Passes.{PassView, TableView, begun, IsFirstPass}
+use Rattle.place_table.specs.Known.{turn_at}
+use Rattle.place_table.specs.Passes.{PassView, TableView, begun}
 use Rattle.map_report.specs.declared.record.RunRecord.{RunRecord}
-use Rattle.map_report.specs.Runs.{serial}
-use Rattle.map_run.specs.ByLogs.{HaveRunByLogs}
-use Rattle.map_run.specs.Copies.{IsCopyOf, record_left}
-use Rattle.map_run.specs.Going.{HaveRun, HaveRunOnLists}
-use Rattle.map_run.specs.Served.{IsServed, IsServedCall}
+use Rattle.map_run.specs.ByLogs.{HaveRun}
+use Rattle.map_run.specs.Copies.{has_step, IsCopyOf, record_left, strand_left}
+use Rattle.map_run.specs.Served.{IsServedCall}
+use Rattle.map_run.proofs.CallsByLogs.{tells_shared, IsDetermined}
+use Rattle.map_run.proofs.Decides.{Decides, own_decides}
+use Rattle.map_run.proofs.EveryCallIs.{evicting_call_is, plain_call_is}
 use Rattle.map_run.proofs.HistoryTurns.{by_bool}
-use Rattle.map_run.proofs.RunByLogs.{first_by_logs, next_by_logs, end_by_logs}
-use Rattle.map_run.proofs.SerialCalls.{first_on_lists, next_on_lists, end_on_lists, is_copy}
+use Rattle.map_run.proofs.KeyCalls.{IsAs}
+use Rattle.map_run.proofs.PlainKeyIs.{plain_decides}
+use Rattle.map_run.proofs.RunByLogs.{come_to, next_by_logs}
+use Rattle.map_run.proofs.SharedFreesIs.{TellsShared, shared_decides}
+use Rattle.map_run.proofs.TurnsMade.{NothingMore, nothing_more}
+use Rattle.map_run.proofs.Whole.{strands_of, strands_are_told, told_of_one}
 
-pub run_first : (t : TableView) (p : PassView) → IsShape t.shape → IsFirstPass t p → HaveRun t [] p []
-run_first t p shape_is first =
-    by_bool (is_lru t.shape.kind) (λ b. MatchBool b (HaveRunByLogs t [] p []) (HaveRunOnLists t [] p []))
-    (λ lru. first_by_logs t p first) (λ plain. first_on_lists t p shape_is plain first)
+-- One call more
+
+-- what lies under the locks of a map that evicts
+rests_by : (shape : Shape) (calls : List Call) → IsShape shape → is_lru shape.kind ≡ true → All (IsServedCall shape) calls → IsAtRest shape (lies_in shape (come_to shape calls))
+rests_by shape calls shape_is lru served =
+    (run_done shape lru 1 calls (new_state shape) (All-weaker (IsServedCall shape) (λ (call : Call). call.cpu < shape.cpus) (λ call is. is.cpu) calls served)
+    (new_reached shape (bounds_of_shape shape shape_is) lru)).1.rests
+
+-- A call that is served is determined by its trace, wherever such a run has come to.
+pub determined_by : (Fact : State → Turn → Type 0) (shape : Shape) (calls : List Call) (call : Call) (number : ℕ) → IsShape shape → (is_lru shape.kind ≡ true → Decides Fact shape call.cpu) → All (IsServedCall shape) calls → IsServedCall shape call
+    → IsDetermined Fact shape call.cpu number (come_to shape calls) call.verb
+determined_by Fact shape calls call number shape_is decides served own turns reply trace made each =
+    by_bool (is_lru shape.kind) (λ _. IsAs (does shape call.cpu number (come_to shape calls) call.verb) turns reply)
+    (λ lru.
+    evicting_call_is Fact shape call.cpu (supplies shape call.cpu own.cpu) (decides lru) lru number (come_to shape calls) (rests_by shape calls shape_is lru served)
+    ((come_to shape calls).spares call.cpu) call.verb turns reply trace made each)
+    (λ plain.
+    plain_call_is Fact shape call.cpu number (λ state. Unit {0}) plain (plain_decides Fact shape call.cpu plain) (come_to shape calls) tt call.verb turns reply trace made each)
 
 pub run_next : (t : TableView) (calls : List Call) (n : ℕ) (call : Call) (p q : PassView) (number : ℕ) (reply : Reply) (replies after : List Reply)
     → IsShape t.shape → All (IsServedCall t.shape) calls → n < length calls → call ≡ get_or calls n call → number ≡ n + 1
     → HaveRun t (take n calls) p replies → Called t (begun p call.cpu number) q call.verb reply → after ≡ replies ++ reply ∷ [] → HaveRun t (take (n + 1) calls) q after
-run_next t calls n call p q number reply replies after shape_is served within is count run called pushed =
-    by_bool (is_lru t.shape.kind) (λ b. MatchBool b (HaveRunByLogs t (take n calls) p replies) (HaveRunOnLists t (take n calls) p replies) → MatchBool b (HaveRunByLogs t (take (n + 1) calls) q after) (HaveRunOnLists t (take (n + 1) calls) q after))
-    (λ lru ran. next_by_logs t calls n call p q number reply replies after shape_is lru served within is count ran called pushed)
-    (λ plain ran. next_on_lists t calls n call p q number reply replies after shape_is plain served within is count ran called pushed)
-    run
+run_next t calls n call p q number reply replies after shape_is served within is count ran called pushed =
+    let before = All-take (IsServedCall t.shape) n calls served in
+    let own : IsServedCall t.shape call = subst (IsServedCall t.shape) (sym is) (All-get_or (IsServedCall t.shape) calls n call within served) in
+    by_bool t.shape.common (λ b. HaveRun t (take (n + 1) calls) q after)
+    (λ shared.
+    next_by_logs (TellsShared t.shape) t calls n call p q number reply replies after shape_is
+    (λ k. determined_by (TellsShared t.shape) t.shape (take n calls) call k shape_is (λ lru. shared_decides t.shape call.cpu shared own.cpu) before own) within is count ran called
+    (λ state strand knows none. tells_shared t state strand p q call number reply shape_is knows called none shared) pushed)
+    (λ apart.
+    next_by_logs NothingMore t calls n call p q number reply replies after shape_is
+    (λ k. determined_by NothingMore t.shape (take n calls) call k shape_is (λ lru. own_decides NothingMore t.shape call.cpu apart own.cpu) before own) within is count ran called
+    (λ state strand knows none. nothing_more t.shape call.cpu number (map (turn_at t.shape) called.steps) state) pushed)
 
-pub run_end : (script : Script) (t : TableView) (p : PassView) (closed : ClosedView) (replies : List Reply) → t.shape ≡ script.shape → IsShape t.shape → IsServed script
-    → HaveRun t script.calls p replies → IsClosed t.shape p closed → closed.lost ≡ false → record_left script.shape.cpus replies closed ≡ serial script
-run_end script t p closed replies same shape_is served run ends whole =
-    by_bool (is_lru t.shape.kind) (λ b. MatchBool b (HaveRunByLogs t script.calls p replies) (HaveRunOnLists t script.calls p replies) → record_left script.shape.cpus replies closed ≡ serial script)
-    (λ lru ran. end_by_logs script t p closed replies same shape_is lru (subst (λ (shape : Shape). All (IsServedCall shape) script.calls) (sym same) served.calls) ran ends whole)
-    (λ plain ran. end_on_lists script t p closed replies same shape_is (subst (λ (shape : Shape). is_lru shape.kind ≡ false) same plain) served ran ends whole)
-    run
+-- At the end
+
+strands_there : (shape : Shape) (steps : List StrandStep) → filter has_step (strand_left shape.cpus (strands_of shape steps) ∷ []) ≡ strands_of shape steps
+strands_there shape [] = refl
+strands_there shape (step ∷ steps) =
+    let strand : Strand = record { cpus = range_with_len 0 shape.cpus; steps = step ∷ steps } in
+    ap (λ b. cond (not b) (strand ∷ []) []) (ne_eqb (suc (length steps)) 0 (λ is. omega arith))
 
 pub run_copy : (t : TableView) (shape : Shape) (calls : List Call) (p : PassView) (kept : RunRecord) (closed back : ClosedView) (replies : List Reply) → t.shape ≡ shape → IsShape t.shape
     → HaveRun t calls p replies → IsClosed t.shape p closed → (kept ≡ record_left shape.cpus replies closed) × (back ≡ closed) × (closed.lost ≡ false) → IsCopyOf kept back
-run_copy t shape calls p kept closed back replies same shape_is run ends is =
-    by_bool (is_lru t.shape.kind) (λ b. MatchBool b (HaveRunByLogs t calls p replies) (HaveRunOnLists t calls p replies) → IsCopyOf kept back)
-    (λ lru ran. is_copy t shape p kept closed back replies same shape_is ran.ended ran.all_cpus ends is)
-    (λ plain ran. is_copy t shape p kept closed back replies same shape_is ran.between.ended ran.between.all_cpus ends is)
-    run
+run_copy t shape calls p kept closed back replies same shape_is ran ends is =
+    let told : closed.strands ≡ strands_of t.shape p.view.kept =
+    strands_are_told t.shape p closed ends is.2 (bounds_of_shape t.shape shape_is) ∙ told_of_one t.shape p.view ran.ended ran.all_cpus in
+    let copy : IsCopyOf (record_left t.shape.cpus replies closed) closed = record {
+      histories = refl;
+      strands = subst (λ (strands : List Strand). filter has_step (strand_left t.shape.cpus strands ∷ []) ≡ strands) (sym told) (strands_there t.shape p.view.kept);
+      finals = refl;
+      whole = is.2;
+    } in
+    subst (IsCopyOf kept) (sym is.1)
+    (subst (λ (k : RunRecord). IsCopyOf k closed) (sym (is.0 ∙ ap (λ (s : Shape). record_left s.cpus replies closed) (sym same))) copy)

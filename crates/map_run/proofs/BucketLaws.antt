@@ -1,17 +1,15 @@
--- At each step of a run each key is in its bucket, once, with a key and values of the map's sizes.
+-- Over a call on one key each key stays in its bucket, once, with a key and values of the map's sizes.
 use Rattle.std.proofs.Common.{◌≡◌, ℕ, zero, suc, false, ◌||◌, eqb, nat_lt, List, [], ◌∷◌, ◌++◌, length, replicate, get_or, set, Option, Some, None, refl, ap, sym, ◌∙◌, subst}
 use Rattle.std.specs.Prelude.{bytes_eq, slice_index, slice_index_or}
 use Rattle.std.specs.List.{AllByRecursion, list_any, before_first, after_first}
 use Rattle.std.proofs.lemmas.Bool.{cond_both}
 use Rattle.std.proofs.lemmas.Slice.Eq.{bytes_eq-Decides}
 use Rattle.place_words.specs.Bodies.{has_key, HasDistinctKeys}
-use Rattle.map_types.specs.Kind.{is_lru, is_percpu}
-use Rattle.map_types.specs.Shape.{HasBounds}
+use Rattle.map_types.specs.Kind.{is_percpu}
 use Rattle.map_types.specs.Sides.{part_count, values_written}
 use Rattle.map_types.specs.Stored.{Stored, HasSizes}
 use Rattle.map_types.specs.ValueLen.{value_len_of}
 use Rattle.map_types.specs.declared.attr.Shape.{Shape}
-use Rattle.map_types.specs.declared.call.Call.{Call}
 use Rattle.map_types.specs.declared.call.Verb.{Verb}
 use Rattle.map_types.specs.declared.call.Verb.TheVariants.{Lookup, Update, Delete, Take, Next, BatchRead, BatchUpdate, BatchDelete}
 use Rattle.map_types.specs.declared.kind.Side.{Side}
@@ -23,8 +21,9 @@ use Rattle.place_words.specs.Bodies.{present, without_key}
 use Rattle.map_report.specs.Buckets.{bucket_of_key, with_in_place}
 use Rattle.map_report.specs.Freelists.{popped, pushed}
 use Rattle.map_report.specs.Serial.{opening, bucket_at, new_stored, replaced, written, added, updated, deleted, after_call}
-use Rattle.map_run.specs.Served.{IsServedVerb, IsServedCall}
-use Rattle.map_report.specs.Soundness.{HasLists, IsBucket, HasNoLruLists}
+use Rattle.map_report.specs.Soundness.{IsBucket, HasNoLruLists}
+use Rattle.map_script.specs.WellFormed as calls
+use Rattle.place_words.proofs.DoneLaws.{IsKeyVerb}
 use Rattle.place_words.proofs.Splits.{find_passes, find_splits, none_passes}
 use Rattle.place_words.proofs.BucketLaws.{distinct_cut, key_cut}
 
@@ -118,7 +117,7 @@ abbrev pub AreBuckets : Shape → Finals → Type 0
 AreBuckets shape lists = (number : ℕ) → IsBucket shape number (slice_index_or lists.buckets number [])
 
 -- one bucket is another
-each_set : (P : ℕ → List Stored → Type 0) (buckets : List (List Stored)) (at : ℕ) (new : List Stored) → ((number : ℕ) → P number (get_or buckets number [])) → P at new → (number : ℕ) → P number (get_or (set buckets at new) number [])
+pub each_set : (P : ℕ → List Stored → Type 0) (buckets : List (List Stored)) (at : ℕ) (new : List Stored) → ((number : ℕ) → P number (get_or buckets number [])) → P at new → (number : ℕ) → P number (get_or (set buckets at new) number [])
 each_set P [] at new each here number = each number
 each_set P (bucket ∷ buckets) zero new each here zero = here
 each_set P (bucket ∷ buckets) zero new each here (suc number) = each (suc number)
@@ -199,22 +198,21 @@ module _ (shape : Shape) (lists : Finals) (each : AreBuckets shape lists) (evict
       (λ other. cond_both (is_percpu shape.kind) _ _ Keeps (λ parts. written_keeps side cpu key value old exact is)
       (λ common. replaced_keeps side cpu key value old long exact is))
 
-  -- a call
-  call_keeps : (cpu : ℕ) (verb : Verb) → IsServedVerb shape verb → Keeps (after_call shape cpu verb lists).0
+  -- a call on one key
+  key_keeps : (cpu : ℕ) (verb : Verb) → IsKeyVerb verb → calls.HasSizes shape verb → Keeps (after_call shape cpu verb lists).0
   unfolding after_call
-  call_keeps cpu (Lookup side key) served = (each, evicts)
-  call_keeps cpu (Update side flags key value) served =
+  key_keeps cpu (Lookup side key) is sizes = (each, evicts)
+  key_keeps cpu (Update side flags key value) is sizes =
       cond_both (nat_lt 2 flags) _ _ (λ (after : Finals × Reply). Keeps after.0) (λ refused. (each, evicts))
-      (λ known. updated_keeps side cpu flags key value (present key (bucket_at shape lists key)) served.0 served.1 refl)
-  call_keeps cpu (Delete key) served = deleted_keeps cpu key Done (present key (bucket_at shape lists key)) refl
-  call_keeps cpu (Take key) served = deleted_keeps cpu key _ (present key (bucket_at shape lists key)) refl
-  call_keeps cpu (Next key) served = absurd served
-  call_keeps cpu (BatchRead remove count start flags) served = absurd served
-  call_keeps cpu (BatchUpdate flags pairs) served = absurd served
-  call_keeps cpu (BatchDelete flags keys) served = absurd served
+      (λ known. updated_keeps side cpu flags key value (present key (bucket_at shape lists key)) sizes.0 sizes.1 refl)
+  key_keeps cpu (Delete key) is sizes = deleted_keeps cpu key Done (present key (bucket_at shape lists key)) refl
+  key_keeps cpu (Take key) is sizes = deleted_keeps cpu key _ (present key (bucket_at shape lists key)) refl
+  key_keeps cpu (Next key) is sizes = absurd is
+  key_keeps cpu (BatchRead remove count start flags) is sizes = absurd is
+  key_keeps cpu (BatchUpdate flags pairs) is sizes = absurd is
+  key_keeps cpu (BatchDelete flags keys) is sizes = absurd is
 
--- A call keeps each key in its bucket.
-pub buckets_step : (shape : Shape) (call : Call) (lists : Finals) → HasBounds shape → is_lru shape.kind ≡ false → IsServedCall shape call → HasLists shape lists → AreBuckets shape lists → HasNoLruLists lists
-    → AreBuckets shape (after_call shape call.cpu call.verb lists).0 × HasNoLruLists (after_call shape call.cpu call.verb lists).0
-buckets_step shape call lists bounds built served has each evicts =
-    call_keeps shape lists each evicts call.cpu call.verb served.verb
+-- A call on one key keeps each key in its bucket.
+pub buckets_key : (shape : Shape) (cpu : ℕ) (verb : Verb) (lists : Finals) → IsKeyVerb verb → calls.HasSizes shape verb → AreBuckets shape lists → HasNoLruLists lists
+    → AreBuckets shape (after_call shape cpu verb lists).0 × HasNoLruLists (after_call shape cpu verb lists).0
+buckets_key shape cpu verb lists is sizes each evicts = key_keeps shape lists each evicts cpu verb is sizes

@@ -25,10 +25,9 @@ use Rattle.place_words.specs.declared.history.Part.TheVariants as parts
 use Rattle.place_words.specs.Buckets.{AllowsInBucket, AllowsPut}
 use Rattle.place_words.specs.Evicting.{FreesOne, left_over, OffersOne, IsOfferTrace, IsWriteTrace, IsEvictingUpdate, IsEvictingDelete, IsEvictingTake, IsEvictingTrace}
 use Rattle.place_words.specs.Histories.{Content, Allows}
-use Rattle.place_words.specs.Logs.{State, Taking, lies_in, bucket_at, present_in, turned, all_turned, acquired, freeing, all_freed, taken_out, Does, first_does, put_offered, put_alone, puts_in, offered, evicting_does, got_by, key_does, does}
+use Rattle.place_words.specs.Logs.{State, Taking, lies_in, bucket_at, present_in, turned, all_turned, acquired, freeing, all_freed, taken_out, Does, first_does, put_offered, put_alone, puts_in, offered, evicting_does, got_by, key_does}
 use Rattle.place_words.specs.Moves.{brought_to_bucket, taken_from_bucket}
 use Rattle.place_words.specs.PlainTraces.{element_gone, reply_of_put, reply_of_got, reply_of_gone, IsLookupTrace}
-use Rattle.place_words.specs.Traces.{IsTrace}
 use Rattle.place_words.specs.Turns.{Turn, TurnAt, turns_of, on_lock, on_bucket_of, bucket_of_key}
 use Rattle.place_words.proofs.DoneLaws.{IsKeyVerb, lies_a_bucket}
 use Rattle.place_words.proofs.EvictingDone.{IsAtRest, IsOffered, offered_put, delete_moves, take_moves, out_is, settled_then}
@@ -37,14 +36,10 @@ use Rattle.place_words.proofs.Settled.{IsSettled, settled_anywhere}
 use Rattle.place_words.proofs.Supplies.{Supplies}
 use Rattle.map_run.proofs.Decides.{Decides}
 use Rattle.map_run.proofs.FoundIn.{lookup_gets, take_gets, delete_gets, offered_puts, alone_puts}
+use Rattle.map_run.proofs.KeyCalls.{IsAs}
 use Rattle.map_run.proofs.TurnsMade.{IsMade, AreMade, EachTurn, made_both, each_both}
 
--- These turns and this reply are those of a run in serial order.
-pub record IsAs (did : Does) (turns : List TurnAt) (reply : Reply) : Type 0 where
-  pub turns_are : turns_of turns ≡ did.turns
-  pub reply_is : reply ≡ did.reply
-
-first_of : (b : Bool) (A B : Type 0) → b ≡ true → MatchBool b A B → A
+pub first_of : (b : Bool) (A B : Type 0) → b ≡ true → MatchBool b A B → A
 first_of true A B is it = it
 first_of false A B is it = absurd cc
 
@@ -53,13 +48,13 @@ second_of true A B is it = absurd cc
 second_of false A B is it = it
 
 -- a turn of a bucket is allowed on what lies there
-in_bucket_there : (shape : Shape) (cpu : ℕ) (state : State) (bucket : ℕ) (part : BucketPart) (at : TurnAt) → at.turn ≡ on_lock (Bucket bucket) (parts.Bucket part) → IsMade shape cpu at state → AllowsInBucket shape cpu part (bucket_at shape state bucket)
+pub in_bucket_there : (shape : Shape) (cpu : ℕ) (state : State) (bucket : ℕ) (part : BucketPart) (at : TurnAt) → at.turn ≡ on_lock (Bucket bucket) (parts.Bucket part) → IsMade shape cpu at state → AllowsInBucket shape cpu part (bucket_at shape state bucket)
 in_bucket_there shape cpu state bucket part at is made =
     subst (Allows shape cpu (parts.Bucket part)) (lies_a_bucket shape state bucket)
     (subst (λ (turn : Turn). Allows shape cpu turn.part (lies_in shape state turn.lock)) is made.allowed)
 
 -- and a single one
-one_there : (shape : Shape) (cpu number : ℕ) (state : State) (bucket : ℕ) (part : BucketPart) (turns : List TurnAt) → turns_of turns ≡ on_lock (Bucket bucket) (parts.Bucket part) ∷ [] → AreMade shape cpu number turns state → AllowsInBucket shape cpu part (bucket_at shape state bucket)
+pub one_there : (shape : Shape) (cpu number : ℕ) (state : State) (bucket : ℕ) (part : BucketPart) (turns : List TurnAt) → turns_of turns ≡ on_lock (Bucket bucket) (parts.Bucket part) ∷ [] → AreMade shape cpu number turns state → AllowsInBucket shape cpu part (bucket_at shape state bucket)
 one_there shape cpu number state bucket part [] is made = absurd (none is)
   where
     none : {x : Turn} → [] ≡ x ∷ [] → ⊥
@@ -86,7 +81,7 @@ module _ (Fact : State → Turn → Type 0) (shape : Shape) (cpu number : ℕ) (
   frees_is : (left : Option ℕ) (turns : List TurnAt) (state : State) (home : ℕ) → IsSettled shape (lies_in shape state) home (option_to_list left) → FreesOne shape left turns → AreMade shape cpu number turns state → EachTurn Fact shape cpu number turns state
       → turns_of turns ≡ all_freed shape cpu number state (option_to_list left)
   frees_is None turns state home settled frees made each = ap turns_of frees
-  frees_is (Some e) turns state home settled frees made each = decides.frees number state home e turns settled frees made each
+  frees_is (Some e) turns state home settled frees made each = decides.frees number state home e [] turns settled frees made each
 
   -- a turn of a bucket, and the freeing after it
   bucket_and_freed : (state : State) (bucket : ℕ) (part : BucketPart) (hand : List ℕ) (left : Option ℕ) (at : TurnAt) (freeing : List TurnAt) → IsSettled shape (lies_in shape state) bucket hand
@@ -228,14 +223,3 @@ module _ (Fact : State → Turn → Type 0) (shape : Shape) (cpu number : ℕ) (
     key_is (verbs.BatchRead remove count start flags) is trace = absurd is
     key_is (verbs.BatchUpdate flags pairs) is trace = absurd is
     key_is (verbs.BatchDelete flags keys) is trace = absurd is
-
-    pub call_is : (spare : Option ℕ) (verb : Verb) → IsKeyVerb verb → IsTrace shape cpu spare verb turns reply → IsAs (does shape cpu number state verb) turns reply
-    unfolding does
-    call_is spare (verbs.Lookup side key) is trace = key_is (verbs.Lookup side key) tt (first_of (is_lru shape.kind) _ _ lru trace)
-    call_is spare (verbs.Update side flags key value) is trace = key_is (verbs.Update side flags key value) tt (first_of (is_lru shape.kind) _ _ lru trace)
-    call_is spare (verbs.Delete key) is trace = key_is (verbs.Delete key) tt (first_of (is_lru shape.kind) _ _ lru trace)
-    call_is spare (verbs.Take key) is trace = key_is (verbs.Take key) tt (first_of (is_lru shape.kind) _ _ lru trace)
-    call_is spare (verbs.Next key) is trace = absurd is
-    call_is spare (verbs.BatchRead remove count start flags) is trace = absurd is
-    call_is spare (verbs.BatchUpdate flags pairs) is trace = absurd is
-    call_is spare (verbs.BatchDelete flags keys) is trace = absurd is

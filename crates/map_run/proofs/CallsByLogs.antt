@@ -1,40 +1,41 @@
--- One call more of a run in serial order, on a map that evicts and whose takings and freeings are determined by their traces: what
--- the pass knows then, and the reply, are those of the run by the logs of the locks.
-use Rattle.std.proofs.Common.{◌≡◌, ℕ, suc, ◌+◌, ◌<◌, Bool, true, false, List, [], ◌∷◌, ◌++◌, length, map, Option, Some, refl, ap, ◌∙◌, sym, subst, inl, inr, arith, append_assoc, append-nil}
+-- One call more of a run in serial order, of a map of any kind: where the call is determined by its trace, what the pass knows
+-- then, and the reply, are those of the run by the logs of the locks.
+use Rattle.std.proofs.Common.{◌≡◌, ℕ, suc, ◌+◌, Bool, true, false, cond, List, [], ◌∷◌, ◌++◌, length, map, Option, Some, refl, ap, ◌∙◌, sym, subst, inl, inr, arith, append_assoc, append-nil}
 use Rattle.std.specs.Prelude.{All, IsFalse}
-use Rattle.std.proofs.lemmas.Bool.{both_ways, cond-true}
+use Rattle.std.proofs.lemmas.Bool.{both_ways}
 use Rattle.std.proofs.lemmas.List.{map-append}
 use Rattle.std.proofs.lemmas.List.Elements.{All-nil, All-cons, All-head, All-tail, All-append}
+use Rattle.map_types.specs.Creation.{IsShape}
 use Rattle.map_types.specs.declared.attr.Shape.{Shape}
 use Rattle.map_types.specs.declared.call.Call.{Call}
 use Rattle.map_types.specs.declared.call.Verb.{Verb}
-use Rattle.map_types.specs.declared.call.Verb.TheVariants as verbs
 use Rattle.map_types.specs.declared.reply.Reply.{Reply}
 use Rattle.map_types.specs.Kind.{is_lru}
+use Rattle.map_types.proofs.CreationLemmas.{bounds_of_shape}
 use Rattle.place_words.specs.declared.history.Entry.{Entry}
 use Rattle.place_words.specs.declared.history.StrandStep.{StrandStep}
 use Rattle.place_words.specs.Locks.{lock_named}
-use Rattle.place_words.specs.Logs.{State, lies_in, turned, all_turned, Does, does, after_one, run, answers}
+use Rattle.place_words.specs.Logs.{State, turned, all_turned, Does, does, after_one, run, answers}
 use Rattle.place_words.specs.Traces.{IsTrace}
-use Rattle.place_words.specs.Turns.{Turn, turns_of}
-use Rattle.place_words.proofs.DoneLaws.{IsKeyVerb}
-use Rattle.place_words.proofs.EvictingDone.{IsAtRest}
-use Rattle.place_words.proofs.EvictingRuns.{supplies}
+use Rattle.place_words.specs.Turns.{Turn, TurnAt, turns_of}
+use Rattle.place_words.specs.Walks.{spare_left}
+use Rattle.place_core.proofs.ElementLemmas.{by_test}
 use Rattle.place_table.specs.declared.view.Turned.{Turned}
-use Rattle.place_table.specs.Calls.{bits_of_turns, finds_moved_on, IsTold, AreTold, Called, spare_element}
+use Rattle.place_table.specs.Calls.{bits_of_turns, finds_moved_on, IsTold, AreTold, Called, element_of, spare_element}
 use Rattle.place_table.specs.Known.{AreAllowedAt, BitTouch, Learns, KnowsAll, logs_after, turn_of, turn_at}
-use Rattle.place_table.specs.Passes.{PassView, TableView, begun}
+use Rattle.place_table.specs.Passes.{PassView, TableView, begun, spare_of}
 use Rattle.place_table.specs.Views.{bit_seen, place_of, kept_step}
 use Rattle.place_table.proofs.Going.{learns_all}
 use Rattle.map_report.specs.Runs.{steps_of_turns, steps_of_calls}
 use Rattle.map_run.specs.ByLogs.{IsOfMap, KnowsState}
-use Rattle.map_run.specs.Served.{IsServedVerb}
 use Rattle.map_run.proofs.BitsRead.{ReadsBits}
-use Rattle.map_run.proofs.CallIs.{IsAs, call_is}
-use Rattle.map_run.proofs.Decides.{Decides}
+use Rattle.map_run.proofs.HistoryTurns.{by_bool}
+use Rattle.map_run.proofs.KeyCalls.{IsAs}
 use Rattle.map_run.proofs.MadeBy.{GoOnBy, made_by, touches_of}
+use Rattle.map_run.proofs.PlainBits.{no_touches}
 use Rattle.map_run.proofs.SharedFreesIs.{TellsShared}
-use Rattle.map_run.proofs.TurnsMade.{EachTurn}
+use Rattle.map_run.proofs.SparesLeft.{own_spare, spares_elsewhere}
+use Rattle.map_run.proofs.TurnsMade.{AreMade, EachTurn}
 
 -- Turns as the call tells them
 
@@ -60,16 +61,6 @@ pub all_real : (shape : Shape) (steps : List Turned) → AreAllowedAt shape step
 all_real shape [] allowed = All-nil (IsOfMap shape)
 all_real shape (step ∷ steps) allowed = All-cons (IsOfMap shape) step steps (allowed.0.below, allowed.0.there) (all_real shape steps allowed.1)
 
-pub key_verb : (shape : Shape) (verb : Verb) → IsServedVerb shape verb → IsKeyVerb verb
-key_verb shape (verbs.Lookup side key) served = tt
-key_verb shape (verbs.Update side flags key value) served = tt
-key_verb shape (verbs.Delete key) served = tt
-key_verb shape (verbs.Take key) served = tt
-key_verb shape (verbs.Next key) served = absurd served
-key_verb shape (verbs.BatchRead remove count start flags) served = absurd served
-key_verb shape (verbs.BatchUpdate flags pairs) served = absurd served
-key_verb shape (verbs.BatchDelete flags keys) served = absurd served
-
 -- what each turn reads and finds
 each_pair : (shape : Shape) (cpu number : ℕ) (steps : List Turned) (state : State) → EachTurn (ReadsBits shape) shape cpu number (map (turn_at shape) steps) state
     → All (λ (turn : Turned). IsFalse (finds_moved_on turn.entry.part)) steps → EachTurn (TellsShared shape) shape cpu number (map (turn_at shape) steps) state
@@ -80,13 +71,17 @@ each_pair shape cpu number (step ∷ steps) state read found =
 
 -- One call: what its turns were made from, and what they tell
 
-module _ (t : TableView) (state : State) (strand : List StrandStep) (p q : PassView) (call : Call) (number : ℕ) (reply : Reply) (lru : is_lru t.shape.kind ≡ true)
+module _ (t : TableView) (state : State) (strand : List StrandStep) (p q : PassView) (call : Call) (number : ℕ) (reply : Reply) (shape_is : IsShape t.shape)
     (knows : KnowsState t.shape state strand p.view) (called : Called t (begun p call.cpu number) q call.verb reply) (none : called.lost ≡ []) where
   told_is : called.told ≡ called.steps
   told_is = told_made t.shape called.lost called.steps called.told none called.told_are
 
+  -- on a map that doesn't evict the turns tell no bits
   touches_are : bits_of_turns t.shape called.told ≡ touches_of t.shape call.cpu number called.steps
-  touches_are = cond-true (is_lru t.shape.kind) _ _ lru ∙ ap (touches_of t.shape call.cpu number) told_is
+  touches_are =
+      by_bool (is_lru t.shape.kind) (λ b. cond b (touches_of t.shape call.cpu number called.told) [] ≡ touches_of t.shape call.cpu number called.steps)
+      (λ lru. ap (touches_of t.shape call.cpu number) told_is)
+      (λ plain. sym (no_touches t.shape (bounds_of_shape t.shape shape_is) plain call.cpu number called.steps called.leaves.learns.allowed))
 
   learns : Learns t.shape p.view q.view called.steps (touches_of t.shape call.cpu number called.steps)
   learns = subst (λ (touches : List BitTouch). Learns t.shape p.view q.view called.steps touches) touches_are called.leaves.learns
@@ -112,24 +107,34 @@ module _ (t : TableView) (state : State) (strand : List StrandStep) (p q : PassV
       each_pair t.shape call.cpu number called.steps state goes.read
       (subst (All (λ (turn : Turned). IsFalse (finds_moved_on turn.entry.part))) told_is (called.none_moved shared logs knows.knows))
 
--- Where the takings and freeings of its CPU are determined by their traces, under what holds of each turn: its turns and its reply are
--- those of the run.
+-- The call is determined by its trace: where this holds of each turn, the turns and the reply are those of the run.
+abbrev pub IsDetermined : (State → Turn → Type 0) → Shape → ℕ → ℕ → State → Verb → Type 0
+IsDetermined Fact shape cpu number state verb =
+    (turns : List TurnAt) (reply : Reply) → IsTrace shape cpu (state.spares cpu) verb turns reply → AreMade shape cpu number turns state → EachTurn Fact shape cpu number turns state
+    → IsAs (does shape cpu number state verb) turns reply
 
-module _ (Fact : State → Turn → Type 0) (t : TableView) (state : State) (strand : List StrandStep) (p q : PassView) (call : Call) (number : ℕ) (reply : Reply) (lru : is_lru t.shape.kind ≡ true) (within : call.cpu < t.shape.cpus) (decides : Decides Fact t.shape call.cpu)
-    (rests : IsAtRest t.shape (lies_in t.shape state)) (verb_is : IsKeyVerb call.verb) (knows : KnowsState t.shape state strand p.view) (called : Called t (begun p call.cpu number) q call.verb reply) (none : called.lost ≡ []) (each : EachTurn Fact t.shape call.cpu number (map (turn_at t.shape) called.steps) state) where
+module _ (Fact : State → Turn → Type 0) (t : TableView) (state : State) (strand : List StrandStep) (p q : PassView) (call : Call) (number : ℕ) (reply : Reply) (shape_is : IsShape t.shape)
+    (determined : IsDetermined Fact t.shape call.cpu number state call.verb) (knows : KnowsState t.shape state strand p.view) (spares : (cpu : ℕ) → element_of (spare_of cpu p.spares) ≡ state.spares cpu)
+    (called : Called t (begun p call.cpu number) q call.verb reply) (none : called.lost ≡ []) (each : EachTurn Fact t.shape call.cpu number (map (turn_at t.shape) called.steps) state) where
   abbrev did : Does
   did = does t.shape call.cpu number state call.verb
 
-  abbrev made_from : GoOnBy t.shape call.cpu number called.steps state (logs t state strand p q call number reply lru knows called none) (known t state strand p q call number reply lru knows called none)
-  made_from = goes t state strand p q call number reply lru knows called none
+  abbrev made_from : GoOnBy t.shape call.cpu number called.steps state (logs t state strand p q call number reply shape_is knows called none) (known t state strand p q call number reply shape_is knows called none)
+  made_from = goes t state strand p q call number reply shape_is knows called none
 
   abbrev learned : Learns t.shape p.view q.view called.steps (touches_of t.shape call.cpu number called.steps)
-  learned = learns t state strand p q call number reply lru knows called none
+  learned = learns t state strand p q call number reply shape_is knows called none
+
+  -- the turns as the call tells them are those that were made
+  abbrev told_here : called.told ≡ called.steps
+  told_here = told_is t state strand p q call number reply shape_is knows called none
 
   as_run : IsAs did (map (turn_at t.shape) called.steps) reply
   as_run =
-      call_is Fact t.shape call.cpu number (supplies t.shape call.cpu within) decides state rests lru (map (turn_at t.shape) called.steps) reply made_from.made each (spare_element (begun p call.cpu number)) call.verb verb_is
-      (subst (λ (steps : List Turned). IsTrace t.shape call.cpu (spare_element (begun p call.cpu number)) call.verb (map (turn_at t.shape) steps) reply) (told_is t state strand p q call number reply lru knows called none) called.trace)
+      determined (map (turn_at t.shape) called.steps) reply
+      (subst (λ (spare : Option ℕ). IsTrace t.shape call.cpu spare call.verb (map (turn_at t.shape) called.steps) reply) (spares call.cpu)
+      (subst (λ (steps : List Turned). IsTrace t.shape call.cpu (spare_element (begun p call.cpu number)) call.verb (map (turn_at t.shape) steps) reply) told_here called.trace))
+      made_from.made each
 
   turns_then : map (turn_of t.shape) called.steps ≡ did.turns
   turns_then = sym (turns_of_steps t.shape called.steps) ∙ as_run.turns_are
@@ -144,14 +149,28 @@ module _ (Fact : State → Turn → Type 0) (t : TableView) (state : State) (str
   pub knows_next : KnowsState t.shape (after_one t.shape number call state) (strand ++ steps_of_turns t.shape call.cpu number did.turns state) q.view
   knows_next = record {
     knows = record {
-      all = (after_is t state strand p q call number reply lru knows called none).all;
-      each = λ k below there. (after_is t state strand p q call number reply lru knows called none).each k below there ∙ ap Some (made_from.logs_are k ∙ ap (λ (turns : List Turn). (all_turned t.shape call.cpu number turns state).logs (lock_named t.shape k)) turns_then);
+      all = (after_is t state strand p q call number reply shape_is knows called none).all;
+      each = λ k below there. (after_is t state strand p q call number reply shape_is knows called none).each k below there ∙ ap Some (made_from.logs_are k ∙ ap (λ (turns : List Turn). (all_turned t.shape call.cpu number turns state).logs (lock_named t.shape k)) turns_then);
     };
     bits = λ e real. (learned.bits knows.knows.all e).known_is ∙ made_from.bits_are e real ∙ ap (λ (turns : List Turn). Some ((all_turned t.shape call.cpu number turns state).bits e)) turns_then;
     steps_are = strand_then;
     real = subst (All (IsOfMap t.shape)) (sym called.leaves.made.goes.steps)
         (All-append (IsOfMap t.shape) p.view.steps called.steps knows.real (all_real t.shape called.steps learned.allowed));
   }
+
+  -- the spares that it keeps
+  own_then : element_of (spare_of call.cpu q.spares) ≡ (after_one t.shape number call state).spares call.cpu
+  own_then =
+      ap (λ (cpu : ℕ). element_of (spare_of cpu q.spares)) (sym called.leaves.made.goes.cpu) ∙ called.spare
+      ∙ (λ i. spare_left t.shape (spares call.cpu i) (map (turn_at t.shape) (told_here i)))
+      ∙ sym (own_spare t.shape call.cpu number (map (turn_at t.shape) called.steps) state)
+      ∙ ap (λ (turns : List Turn). (all_turned t.shape call.cpu number turns state).spares call.cpu) as_run.turns_are
+
+  pub spares_next : (cpu : ℕ) → element_of (spare_of cpu q.spares) ≡ (after_one t.shape number call state).spares cpu
+  spares_next cpu =
+      by_test cpu call.cpu (λ _. element_of (spare_of cpu q.spares) ≡ (after_one t.shape number call state).spares cpu)
+      (λ own. subst (λ (c : ℕ). element_of (spare_of c q.spares) ≡ (after_one t.shape number call state).spares c) (sym own) own_then)
+      (λ other. ap element_of (called.leaves.other_spares cpu other) ∙ spares cpu ∙ sym (spares_elsewhere t.shape call.cpu number did.turns state cpu other))
 
   -- and the reply
   pub reply_next : reply ≡ did.reply

@@ -20,7 +20,7 @@ pub record IsTakenAs (taking : Taking) (got : Option ℕ) (turns : List TurnAt) 
 pub record Decides (Fact : State → Turn → Type 0) (shape : Shape) (cpu : ℕ) : Type 0 where
   pub takes : (number key_hash : ℕ) (state : State) (got : Option ℕ) (turns : List TurnAt) → IsSettled shape (lies_in shape state) (bucket_number key_hash shape.buckets) []
       → Acquires shape cpu key_hash got turns → AreMade shape cpu number turns state → EachTurn Fact shape cpu number turns state → IsTakenAs (acquired shape cpu number key_hash state) got turns
-  pub frees : (number : ℕ) (state : State) (home e : ℕ) (turns : List TurnAt) → IsSettled shape (lies_in shape state) home (e ∷ [])
+  pub frees : (number : ℕ) (state : State) (home e : ℕ) (others : List ℕ) (turns : List TurnAt) → IsSettled shape (lies_in shape state) home (e ∷ others)
       → Frees shape e turns → AreMade shape cpu number turns state → EachTurn Fact shape cpu number turns state → turns_of turns ≡ freeing shape state e ∷ []
 
 second_of_two : (b : Bool) (A B : Type 0) → b ≡ false → MatchBool b A B → B
@@ -33,6 +33,6 @@ own_decides Fact shape cpu apart within = record {
   takes = λ number key_hash state got turns settled acquires made each.
       let is = takes_own_is shape cpu number key_hash state apart within settled got turns (second_of_two shape.common _ _ apart acquires) made in
       subst (λ (taking : Taking). IsTakenAs taking got turns) (sym (cond-false shape.common _ _ apart)) (record { turns_are = is.0; got_is = is.1 });
-  frees = λ number state home e turns settled frees made each.
+  frees = λ number state home e others turns settled frees made each.
       second_of_two shape.common _ _ apart frees ∙ ap (λ (turn : Turn). turn ∷ []) (sym (cond-false shape.common _ _ apart));
 }

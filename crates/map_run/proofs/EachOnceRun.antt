@@ -1,9 +1,7 @@
--- At each step of a run each element is in one place.
-use Rattle.std.proofs.Common.{◌≡◌, ℕ, ◌<◌, false, cond, eqb, nat_lt, List, [], ◌∷◌, length, take, get_or, Option, Some, None, All, refl, ◌∙◌, arith}
-use Rattle.std.specs.List.{AllByRecursion}
+-- Over a call on one key each element stays in one place.
+use Rattle.std.proofs.Common.{◌≡◌, ℕ, ◌<◌, false, cond, eqb, nat_lt, List, [], ◌∷◌, length, get_or, Option, Some, None, refl, ◌∙◌, arith}
 use Rattle.std.proofs.lemmas.Bool.{cond_both}
 use Rattle.std.proofs.lemmas.List.{length-set}
-use Rattle.std.proofs.lemmas.List.Elements.{recursion_from_All, All-take}
 use Rattle.key_hash.proofs.Buckets.{bucket_number-lt}
 use Rattle.key_hash.specs.Jhash.{hash}
 use Rattle.place_words.specs.Bodies.{has_key}
@@ -12,7 +10,6 @@ use Rattle.map_types.specs.Shape.{HasBounds}
 use Rattle.map_types.specs.Sides.{values_written}
 use Rattle.map_types.specs.Stored.{Stored}
 use Rattle.map_types.specs.declared.attr.Shape.{Shape}
-use Rattle.map_types.specs.declared.call.Call.{Call}
 use Rattle.map_types.specs.declared.call.Verb.{Verb}
 use Rattle.map_types.specs.declared.call.Verb.TheVariants.{Lookup, Update, Delete, Take, Next, BatchRead, BatchUpdate, BatchDelete}
 use Rattle.map_types.specs.declared.kind.MapKind.{MapKind}
@@ -20,17 +17,15 @@ use Rattle.map_types.specs.declared.kind.MapKind.TheVariants.{Hash, PercpuHash, 
 use Rattle.map_types.specs.declared.kind.Side.{Side}
 use Rattle.map_types.specs.declared.reply.Reply.{Reply}
 use Rattle.map_types.specs.declared.reply.Reply.TheVariants.{Done}
-use Rattle.map_script.specs.declared.script.Script.{Script}
 use Rattle.place_words.specs.declared.finals.Finals.{Finals}
 use Rattle.place_words.specs.Bodies.{present, without_key}
+use Rattle.place_words.proofs.DoneLaws.{IsKeyVerb}
 use Rattle.map_report.specs.Buckets.{bucket_of_key, with_in_place}
 use Rattle.map_report.specs.EachOnce.{EachOnce, on_freelists}
 use Rattle.map_report.specs.Freelists.{popped}
-use Rattle.map_run.specs.Laws.{lists_before}
-use Rattle.map_report.specs.Serial.{has_spares, spare_count, opening, bucket_at, new_stored, replaced, written, added, updated, deleted, after_call, lists_after}
-use Rattle.map_run.specs.Served.{IsServedCall, IsServed}
+use Rattle.map_report.specs.Serial.{has_spares, spare_count, bucket_at, new_stored, replaced, written, added, updated, deleted, after_call}
 use Rattle.map_report.specs.Soundness.{HasLists}
-use Rattle.map_run.proofs.EachOnceOpening.{each_once_moved, each_once_opening}
+use Rattle.map_run.proofs.EachOnceOpening.{each_once_moved}
 use Rattle.map_run.proofs.EachOnceSteps.{IsPop, popped_is, pushed_permutes, added_permutes, grown_permutes, taken_permutes, written_permutes, spare_there, spare_set, stays, comes_in, goes_out, changes_places}
 
 -- a map whose lists have their lengths, with each element once
@@ -141,43 +136,21 @@ module _ (shape : Shape) (n : ℕ) (lists : Finals) (bounds : HasBounds shape) (
       let long : length lists.spares ≡ spare_count shape = has.spares in
       replaced_whole side cpu key value old (omega arith) is))
 
-  -- a call
-  call_whole : (cpu : ℕ) (verb : Verb) → is_lru shape.kind ≡ false → cpu < shape.cpus → IsWhole shape n (after_call shape cpu verb lists).0
+  -- a call on one key
+  key_whole : (cpu : ℕ) (verb : Verb) → IsKeyVerb verb → is_lru shape.kind ≡ false → cpu < shape.cpus → IsWhole shape n (after_call shape cpu verb lists).0
   unfolding after_call
-  call_whole cpu (Lookup side key) built few = record { lengths = has; once = once }
-  call_whole cpu (Update side flags key value) built few =
+  key_whole cpu (Lookup side key) is built few = record { lengths = has; once = once }
+  key_whole cpu (Update side flags key value) is built few =
       cond_both (nat_lt 2 flags) _ _ (λ (after : Finals × Reply). IsWhole shape n after.0) (λ refused. record { lengths = has; once = once })
       (λ known. updated_whole side cpu flags key value (present key (bucket_at shape lists key)) built few refl)
-  call_whole cpu (Delete key) built few = deleted_whole cpu key Done (present key (bucket_at shape lists key)) few refl
-  call_whole cpu (Take key) built few = deleted_whole cpu key _ (present key (bucket_at shape lists key)) few refl
-  call_whole cpu (Next key) built few = record { lengths = has; once = once }
-  call_whole cpu (BatchRead remove count start flags) built few = record { lengths = has; once = once }
-  call_whole cpu (BatchUpdate flags pairs) built few = record { lengths = has; once = once }
-  call_whole cpu (BatchDelete flags keys) built few = record { lengths = has; once = once }
+  key_whole cpu (Delete key) is built few = deleted_whole cpu key Done (present key (bucket_at shape lists key)) few refl
+  key_whole cpu (Take key) is built few = deleted_whole cpu key _ (present key (bucket_at shape lists key)) few refl
+  key_whole cpu (Next key) is built few = absurd is
+  key_whole cpu (BatchRead remove count start flags) is built few = absurd is
+  key_whole cpu (BatchUpdate flags pairs) is built few = absurd is
+  key_whole cpu (BatchDelete flags keys) is built few = absurd is
 
--- A call keeps each element in one place.
-pub each_once_step : (shape : Shape) (n : ℕ) (call : Call) (lists : Finals) → HasBounds shape → is_lru shape.kind ≡ false → IsServedCall shape call → HasLists shape lists → EachOnce n lists
-    → HasLists shape (after_call shape call.cpu call.verb lists).0 × EachOnce n (after_call shape call.cpu call.verb lists).0
-each_once_step shape n call lists bounds built served has once =
-    let whole = call_whole shape n lists bounds has once call.cpu call.verb built served.cpu in
-    (whole.lengths, whole.once)
-
--- calls do
-pub each_once_calls : (shape : Shape) (n : ℕ) (calls : List Call) (lists : Finals) → HasBounds shape → is_lru shape.kind ≡ false → AllByRecursion (IsServedCall shape) calls → HasLists shape lists → EachOnce n lists
-    → HasLists shape (lists_after shape lists calls) × EachOnce n (lists_after shape lists calls)
-each_once_calls shape n [] lists bounds built served has once = (has, once)
-each_once_calls shape n (call ∷ calls) lists bounds built served has once =
-    let step = each_once_step shape n call lists bounds built served.0 has once in
-    each_once_calls shape n calls (after_call shape call.cpu call.verb lists).0 bounds built served.1 step.0 step.1
-
--- the calls of a script, from its opening on
-pub each_once_from_opening : (shape : Shape) (calls : List Call) → HasBounds shape → is_lru shape.kind ≡ false → All (IsServedCall shape) calls
-    → HasLists shape (lists_after shape (opening shape) calls) × EachOnce shape.elements (lists_after shape (opening shape) calls)
-each_once_from_opening shape calls bounds built served =
-    let start = each_once_opening shape bounds built in
-    each_once_calls shape shape.elements calls (opening shape) bounds built (recursion_from_All (IsServedCall shape) calls served) start.0 start.1
-
--- Before each call of a script each element is in one place.
-pub each_once_run : (script : Script) → IsServed script → is_lru script.shape.kind ≡ false → (n : ℕ) → HasLists script.shape (lists_before script n) × EachOnce script.shape.elements (lists_before script n)
-each_once_run script served plain n =
-    each_once_from_opening script.shape (take n script.calls) served.bounds plain (All-take (IsServedCall script.shape) n script.calls served.calls)
+-- A call on one key keeps each element in one place.
+pub each_once_key : (shape : Shape) (n cpu : ℕ) (verb : Verb) (lists : Finals) → HasBounds shape → is_lru shape.kind ≡ false → cpu < shape.cpus → IsKeyVerb verb → HasLists shape lists → EachOnce n lists
+    → IsWhole shape n (after_call shape cpu verb lists).0
+each_once_key shape n cpu verb lists bounds built few is has once = key_whole shape n lists bounds has once cpu verb is built few

@@ -8,7 +8,6 @@ use Rattle.std.proofs.lemmas.List.{map-append, set-get_or, get_or-set_same, get_
 use Rattle.std.proofs.lemmas.List.Concat.{concat_is}
 use Rattle.std.proofs.lemmas.List.Sorted.{IsPermutation-refl, IsPermutation-sym, IsPermutation-trans, IsPermutation-cons, IsPermutation-append, IsPermutation-append_left, IsPermutation-append_right, IsPermutation-append_comm, IsPermutation-middle, IsPermutation-map, IsPermutation-remove}
 use Rattle.std.proofs.lemmas.Option.{none-some, same_Some}
-use Rattle.bucket_chain.proofs.Reversed.{remove-set}
 use Rattle.place_words.proofs.Splits.{find_passes, find_splits}
 use Rattle.map_types.specs.Stored.{Stored}
 use Rattle.map_report.specs.Freelists.{stack_at, first_not_empty, popped_at, popped, pushed}
@@ -171,6 +170,12 @@ spare_there spares cpu within =
     default_itself [] i inside = absurd (omega arith)
     default_itself (x ∷ xs) zero inside = refl
     default_itself (x ∷ xs) (suc i) inside = default_itself xs i (omega arith)
+
+-- what is set at a place goes with it
+remove-set : (xs : List ℕ) (i y : ℕ) → remove (set xs i y) i ≡ remove xs i
+remove-set [] i y = refl
+remove-set (x ∷ xs) zero y = refl
+remove-set (x ∷ xs) (suc i) y = ap (λ rest. x ∷ rest) (remove-set xs i y)
 
 pub spare_set : (spares : List ℕ) (cpu element : ℕ) → cpu < length spares → IsPermutation (set spares cpu element) (element ∷ remove spares cpu)
 spare_set spares cpu element within =

@@ -16,7 +16,7 @@ pub both : {A B : Type 0} (R : A → B → Type 0) (choice : Bool) (x y : A) (z 
 both R true x y z w first second = first refl
 both R false x y z w first second = second refl
 
-hit : {X : Type 0} (key_of : X → List ℕ) (values_of : X → List (List ℕ)) (key : List ℕ) (x : X) (xs : List X) → bytes_eq (key_of x) key ≡ true → hits key_of values_of key (x ∷ xs) ≡ values_of x ∷ hits key_of values_of key xs
+pub hit : {X : Type 0} (key_of : X → List ℕ) (values_of : X → List (List ℕ)) (key : List ℕ) (x : X) (xs : List X) → bytes_eq (key_of x) key ≡ true → hits key_of values_of key (x ∷ xs) ≡ values_of x ∷ hits key_of values_of key xs
 hit key_of values_of key x xs same = rw same refl
 
 miss : {X : Type 0} (key_of : X → List ℕ) (values_of : X → List (List ℕ)) (key : List ℕ) (x : X) (xs : List X) → bytes_eq (key_of x) key ≡ false → hits key_of values_of key (x ∷ xs) ≡ hits key_of values_of key xs
@@ -126,7 +126,7 @@ taken_none key_of values_of key xs none = record {
   count = omega (arith, ap length none);
 }
 
-hits-append : {X : Type 0} (key_of : X → List ℕ) (values_of : X → List (List ℕ)) (key : List ℕ) (xs ys : List X) → hits key_of values_of key (xs ++ ys) ≡ hits key_of values_of key xs ++ hits key_of values_of key ys
+pub hits-append : {X : Type 0} (key_of : X → List ℕ) (values_of : X → List (List ℕ)) (key : List ℕ) (xs ys : List X) → hits key_of values_of key (xs ++ ys) ≡ hits key_of values_of key xs ++ hits key_of values_of key ys
 hits-append key_of values_of key [] ys = refl
 hits-append key_of values_of key (x ∷ xs) ys =
     elim (bytes_eq (key_of x) key) as (λ b. cond b (values_of x ∷ hits key_of values_of key (xs ++ ys)) (hits key_of values_of key (xs ++ ys)) ≡ cond b (values_of x ∷ hits key_of values_of key xs) (hits key_of values_of key xs) ++ hits key_of values_of key ys) [

@@ -1,4 +1,4 @@
--- A call on the lists of a map does what it does on its entries.
+-- A call on one key does on the lists of a map what it does on its entries.
 use Rattle.std.proofs.Common.{◌≡◌, ℕ, zero, suc, ◌+◌, ◌-◌, ◌<◌, ◌≤◌, Bool, true, false, not, cond, List, [], ◌∷◌, length, map, replicate, get_or, set, Option, Some, None, refl, ap, sym, ◌∙◌, subst, arith, length-append, nat_lt, ◌==◌, inl, inr}
 use Rattle.std.specs.Prelude.{bytes_eq, find, option_map, is_some, slice_index}
 use Rattle.std.specs.List.{concat, flat_map, range_with_len, before_first, after_first}
@@ -16,7 +16,6 @@ use Rattle.map_types.specs.Shape.{HasBounds}
 use Rattle.map_types.specs.Sides.{value_read, values_written, new_values}
 use Rattle.map_types.specs.Stored.{Stored}
 use Rattle.map_types.specs.declared.attr.Shape.{Shape}
-use Rattle.map_types.specs.declared.call.Call.{Call}
 use Rattle.map_types.specs.declared.call.Verb.{Verb}
 use Rattle.map_types.specs.declared.call.Verb.TheVariants.{Lookup, Update, Delete, Take, Next, BatchRead, BatchUpdate, BatchDelete}
 use Rattle.map_types.specs.declared.kind.MapKind.{MapKind}
@@ -34,7 +33,7 @@ use Rattle.map_report.specs.EachOnce.{on_freelists, EachOnce}
 use Rattle.map_run.specs.Entries.{Entry, entry_of, without, read, values_put, refusal, unless, taken_out, answered}
 use Rattle.map_report.specs.Freelists.{stack_at, ring, first_not_empty, popped_at, popped}
 use Rattle.map_report.specs.Serial.{has_spares, spare_count, opening, bucket_at, value_or_absent, new_stored, replaced, written, added, updated, deleted, after_call}
-use Rattle.map_run.specs.Served.{IsServedVerb, IsServedCall}
+use Rattle.place_words.proofs.DoneLaws.{IsKeyVerb}
 use Rattle.map_report.specs.Soundness.{HasLists}
 use Rattle.map_run.proofs.EntryLemmas.{hits, both, Turned, taken_first, taken_all, taken_none, put_in, Finds, finds}
 
@@ -93,7 +92,7 @@ of_each_key P key here elsewhere other =
     ] refl
 
 -- a change of a key, in its bucket and in the entries
-changed : (shape : Shape) (buckets : List (List Stored)) (entries : List Entry) (key : List ℕ) (held : List (List (List ℕ))) (bucket : List Stored) (left : List Entry)
+pub changed : (shape : Shape) (buckets : List (List Stored)) (entries : List Entry) (key : List ℕ) (held : List (List (List ℕ))) (bucket : List Stored) (left : List Entry)
     → HasBounds shape → length buckets ≡ shape.buckets → Agree shape buckets entries → length held ≤ 1 → (is_percpu shape.kind ≡ false → AreSingle held)
     → Turned (λ (stored : Stored). stored.key) (λ (stored : Stored). stored.values) key held (get_or buckets (bucket_of_key shape key) []) bucket
     → Turned (λ (entry : Entry). entry.key) (λ (entry : Entry). entry.values) key held entries left
@@ -219,7 +218,7 @@ room_left shape lists entries bounds built has each agree =
     omega (arith, elements_by_kind shape shape.kind bounds refl built, has.spares, each.total, agree.count)
 
 -- the same answer, and maps that agree
-abbrev Follows : Shape → Finals × Reply → List Entry × Reply → Type 0
+abbrev pub Follows : Shape → Finals × Reply → List Entry × Reply → Type 0
 Follows shape first second = (first.1 ≡ second.1) × Agrees shape first.0 second.0
 
 -- what a key has, in its bucket and in the entries
@@ -341,28 +340,22 @@ updated_follows shape side cpu flags key value lists entries (Some old) (Some en
     both follows (nat_lt 2 flags) _ _ _ _ (λ high. (refl, agree))
     (λ low. both follows (flags == 1) _ _ _ _ (λ one. (refl, agree)) (λ other. (refl, kept_follows shape side cpu key value lists entries old entry bounds has agree holds have)))
 
-call_follows : (shape : Shape) (cpu : ℕ) (verb : Verb) (lists : Finals) (entries : List Entry)
-    → HasBounds shape → is_lru shape.kind ≡ false → cpu < shape.cpus → IsServedVerb shape verb → HasLists shape lists → EachOnce shape.elements lists → Agrees shape lists entries
-    → Follows shape (after_call shape cpu verb lists) (answered shape cpu verb entries)
+-- a call on one key, whatever it told
+pub key_follows : (shape : Shape) (cpu : ℕ) (verb : Verb) (told : Reply) (lists : Finals) (entries : List Entry)
+    → HasBounds shape → is_lru shape.kind ≡ false → cpu < shape.cpus → IsKeyVerb verb → HasLists shape lists → EachOnce shape.elements lists → Agrees shape lists entries
+    → Follows shape (after_call shape cpu verb lists) (answered shape cpu verb told entries)
 unfolding after_call answered
-call_follows shape cpu (Lookup side key) lists entries bounds built within served has each agree =
+key_follows shape cpu (Lookup side key) told lists entries bounds built within is has each agree =
     (reads shape side cpu _ _ _ (look_ups shape lists.buckets entries key agree), agree)
-call_follows shape cpu (Update side flags key value) lists entries bounds built within served has each agree =
+key_follows shape cpu (Update side flags key value) told lists entries bounds built within is has each agree =
     updated_follows shape side cpu flags key value lists entries (present key (bucket_at shape lists key)) (entry_of key entries) bounds has agree within (room_left shape lists entries bounds built has each agree)
     (found_passes (has_key key) (bucket_at shape lists key)) (look_ups shape lists.buckets entries key agree)
-call_follows shape cpu (Delete key) lists entries bounds built within served has each agree =
+key_follows shape cpu (Delete key) told lists entries bounds built within is has each agree =
     deleted_follows shape cpu key lists entries Done Done (present key (bucket_at shape lists key)) (entry_of key entries) bounds has agree refl (look_ups shape lists.buckets entries key agree)
-call_follows shape cpu (Take key) lists entries bounds built within served has each agree =
+key_follows shape cpu (Take key) told lists entries bounds built within is has each agree =
     let both = look_ups shape lists.buckets entries key agree in
     deleted_follows shape cpu key lists entries _ _ (present key (bucket_at shape lists key)) (entry_of key entries) bounds has agree (reads shape Sys cpu _ _ _ both) both
-call_follows shape cpu (Next key) lists entries bounds built within served has each agree = absurd served
-call_follows shape cpu (BatchRead remove count start flags) lists entries bounds built within served has each agree = absurd served
-call_follows shape cpu (BatchUpdate flags pairs) lists entries bounds built within served has each agree = absurd served
-call_follows shape cpu (BatchDelete flags keys) lists entries bounds built within served has each agree = absurd served
-
--- A call on the lists answers what it answers on the entries, and they agree after it.
-pub agrees_step : (shape : Shape) (call : Call) (lists : Finals) (entries : List Entry)
-    → HasBounds shape → is_lru shape.kind ≡ false → IsServedCall shape call → HasLists shape lists → EachOnce shape.elements lists → Agrees shape lists entries
-    → ((after_call shape call.cpu call.verb lists).1 ≡ (answered shape call.cpu call.verb entries).1) × Agrees shape (after_call shape call.cpu call.verb lists).0 (answered shape call.cpu call.verb entries).0
-agrees_step shape call lists entries bounds built served has each agree =
-    call_follows shape call.cpu call.verb lists entries bounds built served.cpu served.verb has each agree
+key_follows shape cpu (Next key) told lists entries bounds built within is has each agree = absurd is
+key_follows shape cpu (BatchRead remove count start flags) told lists entries bounds built within is has each agree = absurd is
+key_follows shape cpu (BatchUpdate flags pairs) told lists entries bounds built within is has each agree = absurd is
+key_follows shape cpu (BatchDelete flags keys) told lists entries bounds built within is has each agree = absurd is

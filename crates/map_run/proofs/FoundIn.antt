@@ -19,11 +19,11 @@ use Rattle.place_words.specs.Logs.{put_offered, put_alone, got_by}
 
 module _ (key : List ℕ) (bodies : List Stored) where
   -- the key is absent, and can't be present
-  absent_found : (found : Option Stored) → present key bodies ≡ found → present key bodies ≡ None → found ≡ None
+  pub absent_found : (found : Option Stored) → present key bodies ≡ found → present key bodies ≡ None → found ≡ None
   absent_found found is none = sym is ∙ none
 
   -- or it is present, with a fact
-  found_with : (found : Option Stored) (Fact : Stored → Type 0) → present key bodies ≡ found → IsPresentWith key bodies Fact → MatchOption found ⊥ Fact
+  pub found_with : (found : Option Stored) (Fact : Stored → Type 0) → present key bodies ≡ found → IsPresentWith key bodies Fact → MatchOption found ⊥ Fact
   found_with found Fact is there = subst (λ (o : Option Stored). MatchOption o ⊥ Fact) is there
 
 module _ (shape : Shape) (side : Side) (cpu : ℕ) (key : List ℕ) (bodies : List Stored) where

@@ -1,3 +1,4 @@
+mod RaceCrossing
 mod Io
 mod WordLemmas
 mod WordLemmasCommand
@@ -7,13 +8,24 @@ mod WordLemmasShapes
 mod WordLemmasTurns
 mod WordLemmasWalk
 pub mod TurnsMade
+pub mod LooksLeave
 pub mod LooksTold
+pub mod NeverFull
+pub mod NoKeys
 pub mod ProbesRemoved
 pub mod OwnTurnIs
 pub mod OwnTakes
 pub mod FoundIn
 pub mod Decides
+pub mod KeyCalls
 pub mod CallIs
+pub mod PlainKeyIs
+pub mod PlainBits
+pub mod SparesLeft
+pub mod NextIs
+pub mod BatchReadIs
+pub mod BatchWriteIs
+pub mod EveryCallIs
 pub mod MadeBy
 pub mod CallsByLogs
 pub mod FinalsByLogs
@@ -30,9 +42,7 @@ pub mod AnswerLaws
 pub mod AnyRecord
 pub mod BothRuns
 pub mod BucketLaws
-pub mod CallTurns
 pub mod Closing
-pub mod PlainCalls
 pub mod LogLaws
 pub mod EachOnceOpening
 pub mod EachOnceRun
@@ -41,16 +51,14 @@ pub mod EntryLemmas
 pub mod EntryRun
 pub mod EntrySteps
 pub mod HistoryTurns
-pub mod OneCall
 pub mod OpeningTurns
-pub mod ListCalls
 pub mod SameRecord
 pub mod RingTurns
-pub mod SerialCalls
 pub mod SerialLaws
 pub mod SerialRun
 pub mod ServedLemmas
-pub mod GeneratedCalls
+pub mod ReadAnswers
+pub mod FewEntries
 pub mod SoundRun
 pub mod StackLemmas
 pub mod StayLaws
@@ -69,3 +77,17 @@ pub mod RaceHistories
 pub mod RaceRecord
 pub mod Joining
 pub mod Workers
+pub mod EachCall
+pub mod Emptied
+pub mod EntryWalks
+pub mod KeyTurns
+pub mod Leads
+pub mod NextKey
+pub mod SameCalls
+pub mod SameWalks
+pub mod SameBatches
+pub mod WalkedKeys
+pub mod WalkedPairs
+pub mod WalksGive
+pub mod OwnKeys
+pub mod ToldThere

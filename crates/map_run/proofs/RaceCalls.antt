@@ -1,87 +1,37 @@
 -- The calls of a race's workers: on which locks their turns are, what they leave as spares, that they are concatenations of the
 -- calls' traces, and what they answer.
-use Rattle.std.proofs.Common.{◌≡◌, ◌≢◌, ℕ, suc, ◌<◌, Bool, true, false, ◌||◌, eqb, List, [], ◌∷◌, ◌++◌, length, map, get_or, drop, Option, Some, None, refl, ap, sym, ◌∙◌, ⊎_elim, subst, arith}
+use Rattle.std.proofs.Common.{◌≡◌, ◌≢◌, ℕ, suc, ◌<◌, Bool, true, false, ◌||◌, eqb, List, [], ◌∷◌, ◌++◌, length, map, get_or, drop, Option, Some, None, refl, ap, sym, ◌∙◌, subst, arith}
 use Rattle.std.specs.Prelude.{MatchBool, All, if◌then◌else◌}
 use Rattle.std.specs.List.{AllByRecursion}
 use Rattle.std.proofs.lemmas.Bool.{eq-eqb, ne_eqb}
 use Rattle.std.proofs.lemmas.List.{map-append}
 use Rattle.std.proofs.lemmas.List.Elements.{All-nil, All-append, recursion_from_All}
-use Rattle.std.proofs.lemmas.Option.{none-some}
 use Rattle.map_types.specs.declared.attr.Shape.{Shape}
 use Rattle.map_types.specs.declared.call.Call.{Call}
-use Rattle.map_types.specs.declared.call.Verb.{Verb}
-use Rattle.map_types.specs.declared.call.Verb.TheVariants as verbs
 use Rattle.map_types.specs.declared.reply.Reply.{Reply}
 use Rattle.map_types.specs.Kind.{is_lru}
-use Rattle.place_words.specs.declared.bucket_part.BucketPart.TheVariants.{Update, Delete, Take}
-use Rattle.place_words.specs.declared.bucket_part.Put.{Put}
-use Rattle.place_words.specs.declared.bucket_part.Put.TheVariants as puts
-use Rattle.place_words.specs.declared.free_part.FreePart.TheVariants.{Popped}
 use Rattle.place_words.specs.declared.history.LockHistory.{LockHistory}
 use Rattle.map_types.specs.ElementLists.{put}
 use Rattle.place_words.specs.Locks.{lock_named}
 use Rattle.place_words.specs.Named.{NameAll}
-use Rattle.place_words.specs.Traces.{Turn, ring, on_bucket_of, on_freelist_of, found_empty, pushes, element_gone, LooksFor, IsTrace, IsPlainTrace, spare_after_put, spare_after}
+use Rattle.place_words.specs.Traces.{IsTrace, spare_after}
 use Rattle.place_words.specs.Turns.{TurnAt, turns_of}
 use Rattle.place_words.specs.Walks.{spare_left}
+use Rattle.place_words.proofs.Balances.{trace_balances}
+use Rattle.place_words.proofs.PlainLaws.{plain_spare}
 use Rattle.place_core.proofs.ElementLemmas.{by_test, put_here}
 use Rattle.map_types.proofs.RowLemmas.{eqb_turned}
 use Rattle.place_table.specs.declared.view.Turned.{Turned}
-use Rattle.place_table.specs.Known.{turn_of, turn_at, IsBy}
+use Rattle.place_table.specs.Known.{turn_at, IsBy}
 use Rattle.place_table.specs.Rules.{StandsIn}
 use Rattle.place_table.proofs.Stands.{entry_is, earlier_is}
-use Rattle.hash_ops.proofs.Under.{plain_left}
 use Rattle.map_report.specs.Record.{MayAnswer, EachAnswered, has_cpu, entries_of, IsConcatenation}
-use Rattle.map_run.specs.Served.{IsServedCall, IsServedVerb}
+use Rattle.map_run.specs.Served.{IsServedCall}
 use Rattle.map_run.specs.Work.{replies_of, IsCallBy, AreCallsBy}
 use Rattle.map_run.proofs.Closing.{IsReal}
 use Rattle.map_run.proofs.HistoryTurns.{by_bool, matched}
-use Rattle.map_run.proofs.PlainCalls.{plain_call}
 use Rattle.map_run.proofs.RaceKept.{steps_of}
-use Rattle.map_run.proofs.RingTurns.{spare_empty}
 use Rattle.map_run.proofs.TurnLocks.{all_parts}
-use Rattle.map_run.proofs.TurnSteps.{spare_more}
-
--- Spares
-
--- a CPU that has no spare gets none by a call
-looks_leave : (shape : Shape) (cpu : ℕ) (given : Put) (looks : List Turn) → LooksFor shape cpu None given looks → (spare_after None looks ≡ None) × (spare_after_put None given ≡ None)
-looks_leave shape cpu (puts.Added e) looks looked = (
-  ap (spare_after None) looked.turns_are
-      ∙ spare_more None (found_empty looked.passed) (on_freelist_of looked.giver (Popped e) ∷ [])
-      ∙ ap (λ (spare : Option ℕ). spare_after spare (on_freelist_of looked.giver (Popped e) ∷ [])) (spare_empty None looked.passed),
-  refl,
-)
-looks_leave shape cpu (puts.Replaced new old) looks looked = absurd (none-some new looked.1)
-looks_leave shape cpu (puts.Written e) looks looked = (ap (spare_after None) looked, refl)
-looks_leave shape cpu puts.Exists looks looked = (ap (spare_after None) looked, refl)
-looks_leave shape cpu puts.Absent looks looked = (ap (spare_after None) looked, refl)
-looks_leave shape cpu puts.Full looks looked = (ap (spare_after None) looked ∙ spare_empty None (ring cpu shape.cpus), refl)
-
-gone_leaves : (cpu : ℕ) (gone : Option ℕ) (last : Turn) → spare_after None (pushes cpu gone ++ last ∷ []) ≡ spare_after None (last ∷ [])
-gone_leaves cpu None last = refl
-gone_leaves cpu (Some e) last = refl
-
-none_by_call : (shape : Shape) (cpu : ℕ) (verb : Verb) (turns : List Turn) (reply : Reply) → IsPlainTrace shape cpu None verb turns reply → spare_after None turns ≡ None
-none_by_call shape cpu (verbs.Lookup side key) turns reply trace = ap (spare_after None) trace.turns_are
-none_by_call shape cpu (verbs.Update side flags key value) turns reply trace =
-    ⊎_elim (λ refused. ap (spare_after None) refused.1)
-    (λ known.
-    let left = looks_leave shape cpu known.1.put known.1.looks known.1.looks_are in
-    let last : Turn = on_bucket_of shape key (Update side flags key value None known.1.put) in
-    ap (spare_after None) known.1.turns_are
-    ∙ spare_more None known.1.looks (last ∷ [])
-    ∙ ap (λ (spare : Option ℕ). spare_after spare (last ∷ [])) left.0
-    ∙ left.1)
-    trace
-none_by_call shape cpu (verbs.Delete key) turns reply trace =
-    ap (spare_after None) trace.turns_are ∙ gone_leaves cpu trace.gone (on_bucket_of shape key (Delete key trace.gone))
-none_by_call shape cpu (verbs.Take key) turns reply trace =
-    ap (spare_after None) trace.turns_are ∙ gone_leaves cpu (element_gone trace.gone) (on_bucket_of shape key (Take key trace.gone))
-none_by_call shape cpu (verbs.Next key) turns reply trace = absurd trace
-none_by_call shape cpu (verbs.BatchRead remove count start flags) turns reply trace = absurd trace
-none_by_call shape cpu (verbs.BatchUpdate flags pairs) turns reply trace = absurd trace
-none_by_call shape cpu (verbs.BatchDelete flags keys) turns reply trace = absurd trace
 
 -- The first of some calls
 
@@ -129,29 +79,26 @@ module _ (shape : Shape) (cpu : ℕ) where
       (λ is more. calls_real calls replies (suc number) spare last steps (omega arith) more)
 
 -- a call leaves a CPU without a spare without one
-none_left : (shape : Shape) (call : Call) (spare : Option ℕ) (mine : List Turned) (reply : Reply) → IsServedVerb shape call.verb → IsTrace shape call.cpu spare call.verb (map (turn_at shape) mine) reply
+none_left : (shape : Shape) (call : Call) (spare : Option ℕ) (mine : List Turned) (reply : Reply) → IsTrace shape call.cpu spare call.verb (map (turn_at shape) mine) reply
     → spare ≡ None → spare_left shape spare (map (turn_at shape) mine) ≡ None
-none_left shape call spare mine reply served trace none =
-    let turns : List Turn = map (turn_of shape) mine in
-    by_bool (is_lru shape.kind) (λ _. spare_left shape spare (map (turn_at shape) mine) ≡ None)
-    (λ lru. ap (λ (evicts : Bool). if evicts then spare else spare_after spare (turns_of (map (turn_at shape) mine))) lru ∙ none)
-    (λ plain.
-    let own : IsPlainTrace shape call.cpu None call.verb turns reply =
-    subst (λ (s : Option ℕ). IsPlainTrace shape call.cpu s call.verb turns reply) none (plain_call shape call.cpu spare mine reply plain call.verb served trace) in
-    sym (plain_left shape spare mine plain) ∙ ap (λ (s : Option ℕ). spare_after s turns) none ∙ none_by_call shape call.cpu call.verb turns reply own)
+none_left shape call spare mine reply trace none =
+    let turns : List TurnAt = map (turn_at shape) mine in
+    by_bool (is_lru shape.kind) (λ _. spare_left shape spare turns ≡ None)
+    (λ lru. ap (λ (evicts : Bool). if evicts then spare else spare_after spare (turns_of turns)) lru ∙ none)
+    (λ plain. plain_spare shape spare turns plain ∙ (trace_balances shape call.cpu plain spare call.verb turns reply trace).none none)
 
 -- where a CPU had no spare it has none after its calls
 module _ (shape : Shape) (cpu : ℕ) where
-  pub calls_spare : (calls : List Call) (replies : List Reply) (number : ℕ) (spare last : Option ℕ) (steps : List Turned) → length replies ≡ length calls → AllByRecursion (IsServedCall shape) calls → spare ≡ None
+  pub calls_spare : (calls : List Call) (replies : List Reply) (number : ℕ) (spare last : Option ℕ) (steps : List Turned) → length replies ≡ length calls → spare ≡ None
       → AreCallsBy shape cpu number calls spare last (replies_of cpu calls replies) steps → last ≡ None
-  calls_spare [] replies number spare last steps count served none are = are.2 ∙ none
-  calls_spare (call ∷ calls) [] number spare last steps count served none are = absurd (omega arith)
-  calls_spare (call ∷ calls) (reply ∷ replies) number spare last steps count served none are =
+  calls_spare [] replies number spare last steps count none are = are.2 ∙ none
+  calls_spare (call ∷ calls) [] number spare last steps count none are = absurd (omega arith)
+  calls_spare (call ∷ calls) (reply ∷ replies) number spare last steps count none are =
       first_call shape cpu (last ≡ None) number call calls spare last reply replies steps are
       (λ is mine rest split made more.
-      calls_spare calls replies (suc number) (spare_left shape spare (map (turn_at shape) mine)) last rest (omega arith) served.1
-      (none_left shape call spare mine reply served.0.verb made.trace none) more)
-      (λ is more. calls_spare calls replies (suc number) spare last steps (omega arith) served.1 none more)
+      calls_spare calls replies (suc number) (spare_left shape spare (map (turn_at shape) mine)) last rest (omega arith)
+      (none_left shape call spare mine reply made.trace none) more)
+      (λ is more. calls_spare calls replies (suc number) spare last steps (omega arith) none more)
 
 -- Traces, one after another
 

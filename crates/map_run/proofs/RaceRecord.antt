@@ -46,7 +46,7 @@ use Rattle.map_run.proofs.RaceHistories.{entries_told, locks_are, are_legal, on_
 use Rattle.map_run.proofs.RaceKept.{steps_of, places_of_steps, strand_by, steps_there, own_strands, with_steps, strands_by_cpu, kept_is}
 use Rattle.map_run.proofs.RaceLists.{made_at, one_passes}
 use Rattle.map_run.proofs.RaceStrands.{worker, is_of, places_are, no_turn, worker_stands, owner, turns_of_cpu}
-use Rattle.map_run.proofs.SerialCalls.{element_is}
+use Rattle.map_run.proofs.SerialRun.{element_is}
 use Rattle.map_run.proofs.Whole.{no_losses}
 
 no_spare : (spare : Option Stored) → element_of spare ≡ None → spare ≡ None
@@ -91,7 +91,7 @@ module _ (script : Script) (t : TableView) (p : PassView) (replies : List Reply)
   spareless : shape.kind ≢ Hash → (cpu : ℕ) → cpu < shape.cpus → spare_of cpu p.spares ≡ None
   spareless other cpu real =
       no_spare (spare_of cpu p.spares)
-      (calls_spare shape cpu script.calls replies 1 (spare_at (opening shape) cpu) (element_of (spare_of cpu p.spares)) (raced.steps cpu) raced.counted calls_served
+      (calls_spare shape cpu script.calls replies 1 (spare_at (opening shape) cpu) (element_of (spare_of cpu p.spares)) (raced.steps cpu) raced.counted
       (ap (λ (spares : List ℕ). slice_get spares cpu) (no_spares_of_kind shape shape.kind refl other)) (calls_of cpu real))
 
   last_is : (cpu : ℕ) → element_of (spare_of cpu p.spares) ≡ spare_at closed.finals cpu

@@ -1,38 +1,30 @@
--- A run in serial order of a map that evicts, by one pass that has all CPUs: from the table's opening to its close it leaves the
--- record of the run by the logs of the locks, since the takings and freeings of its CPUs are determined by their traces: where CPUs
--- share lists, by the bits that each turn reads too, and since no element is found moved on.
-use Rattle.std.proofs.Common.{◌≡◌, ℕ, zero, suc, ◌+◌, ◌<◌, true, false, cond, List, [], ◌∷◌, ◌++◌, length, map, take, get_or, Option, Some, None, refl, ap, ◌∙◌, sym, subst, arith}
-use Rattle.std.specs.Prelude.{All, IsTrue, filter, option_map, slice_get}
+-- A run in serial order of a map of any kind, by one pass that has all CPUs: from the table's opening to its close it leaves the
+-- record of the run by the logs of the locks, where each of its calls is determined by its trace.
+use Rattle.std.proofs.Common.{◌≡◌, ℕ, zero, suc, ◌+◌, ◌<◌, false, cond, List, [], ◌∷◌, ◌++◌, length, map, take, get_or, Some, refl, ap, ◌∙◌, sym, subst, arith}
+use Rattle.std.specs.Prelude.{All, IsTrue, filter, slice_get}
 use Rattle.std.specs.List.{range_with_len}
-use Rattle.std.proofs.lemmas.Bool.{both_ways}
 use Rattle.std.proofs.lemmas.List.{length-take-le}
-use Rattle.std.proofs.lemmas.List.Elements.{All-nil, All-take, All-get_or, All-weaker}
+use Rattle.std.proofs.lemmas.List.Elements.{All-nil}
 use Rattle.std.proofs.lemmas.Option.{slice_get_read}
 use Rattle.map_types.specs.Creation.{IsShape}
 use Rattle.map_types.specs.declared.attr.Shape.{Shape}
 use Rattle.map_types.specs.declared.call.Call.{Call}
 use Rattle.map_types.specs.declared.kind.DomainId.{DomainId}
-use Rattle.map_types.specs.declared.kind.MapKind.{MapKind}
-use Rattle.map_types.specs.declared.kind.MapKind.TheVariants.{Hash}
 use Rattle.map_types.specs.declared.reply.Reply.{Reply}
-use Rattle.map_types.specs.Kind.{is_lru}
-use Rattle.map_types.specs.Stored.{Stored}
 use Rattle.map_types.proofs.CreationLemmas.{bounds_of_shape}
 use Rattle.map_script.specs.declared.script.Script.{Script}
 use Rattle.place_words.specs.declared.history.LockHistory.{LockHistory}
 use Rattle.place_words.specs.declared.history.StrandStep.{StrandStep}
 use Rattle.place_words.specs.Locks.{is_lock, lock_count, lock_named, lock_number}
-use Rattle.place_words.specs.Logs.{State, lies_in, new_state, does, after_one, run, answers, finals_of}
+use Rattle.place_words.specs.Logs.{State, new_state, does, after_one, run, answers, finals_of}
 use Rattle.place_words.specs.Turns.{Turn}
-use Rattle.place_words.proofs.EvictingDone.{IsAtRest}
-use Rattle.place_words.proofs.EvictingRuns.{IsReached, new_reached, run_done}
 use Rattle.place_words.proofs.LockLemmas.{named_by_number, number_within}
 use Rattle.place_words.proofs.ShrinkProbes.{append_empty}
 use Rattle.place_core.proofs.ElementLemmas.{by_test}
 use Rattle.place_table.specs.declared.view.Ended.{Ended}
 use Rattle.place_table.specs.declared.view.Turned.{Turned}
 use Rattle.place_table.specs.declared.view.View.{View}
-use Rattle.place_table.specs.Calls.{Called}
+use Rattle.place_table.specs.Calls.{Called, element_of}
 use Rattle.place_table.specs.Closing.{ClosedView, IsClosed, has_lock, history_of, state_left}
 use Rattle.place_table.specs.Known.{turn_at}
 use Rattle.place_table.specs.Passes.{PassView, TableView, begun, spare_of, IsFirstPass, IsKeptOf}
@@ -45,29 +37,18 @@ use Rattle.place_table.proofs.Worlds.{all_here}
 use Rattle.map_report.specs.declared.record.RunRecord.{RunRecord}
 use Rattle.map_report.specs.Record.{locks_of}
 use Rattle.map_report.specs.Runs.{steps_of_turns, steps_of_calls, serial}
-use Rattle.map_run.specs.ByLogs.{IsOfMap, KnowsState, HaveRunByLogs}
+use Rattle.map_run.specs.ByLogs.{IsOfMap, KnowsState, HaveRun}
 use Rattle.map_run.specs.Copies.{record_left, strand_left}
-use Rattle.map_run.specs.Served.{IsServedCall}
-use Rattle.map_run.proofs.CallsByLogs.{key_verb, tells_shared, knows_next, reply_next, run_more, answers_more, steps_more}
+use Rattle.map_run.proofs.CallsByLogs.{IsDetermined, knows_next, spares_next, reply_next, run_more, answers_more, steps_more}
 use Rattle.map_run.proofs.Closing.{kept_all, made_of_all, length_indexes}
-use Rattle.map_run.proofs.Decides.{Decides, own_decides}
 use Rattle.map_run.proofs.FinalsByLogs.{IsSameState, same_finals}
-use Rattle.map_run.proofs.HistoryTurns.{by_bool}
-use Rattle.map_run.proofs.SerialRun.{take_next}
-use Rattle.map_run.proofs.SharedFreesIs.{TellsShared, shared_decides}
-use Rattle.map_run.proofs.TurnsMade.{EachTurn, NothingMore, nothing_more}
+use Rattle.map_run.proofs.SerialRun.{take_next, element_is, first_same, spare_first}
+use Rattle.map_run.proofs.TurnsMade.{EachTurn}
 use Rattle.map_run.proofs.Whole.{none_lost, no_losses, strands_of, strands_are_told, told_of_one}
 
 -- what a run of these calls has come to
 abbrev pub come_to : Shape → List Call → State
 come_to shape calls = run shape 1 calls (new_state shape)
-
-module _ (shape : Shape) (shape_is : IsShape shape) (lru : is_lru shape.kind ≡ true) where
-  -- every history is legal there and nothing is in hand
-  pub reached_by : (calls : List Call) → All (IsServedCall shape) calls → IsReached shape (come_to shape calls)
-  reached_by calls served =
-      (run_done shape lru 1 calls (new_state shape) (All-weaker (IsServedCall shape) (λ (call : Call). call.cpu < shape.cpus) (λ call is. is.cpu) calls served)
-      (new_reached shape (bounds_of_shape shape shape_is) lru)).1
 
 -- Before the first call
 
@@ -79,7 +60,7 @@ no_bit_set : (e n : ℕ) → e < n → bit_seen e (no_bits n) ≡ Some false
 no_bit_set e zero real = absurd (omega (arith, real))
 no_bit_set e (suc n) real = by_test n e (λ b. cond b (Some false) (bit_seen e (no_bits n)) ≡ Some false) (λ _. refl) (λ other. no_bit_set e n (omega (arith, real, other)))
 
-pub first_by_logs : (t : TableView) (p : PassView) → IsFirstPass t p → HaveRunByLogs t [] p []
+pub first_by_logs : (t : TableView) (p : PassView) → IsFirstPass t p → HaveRun t [] p []
 first_by_logs t p first =
     let view = first.view_is in
     let no_steps : p.view.steps ≡ [] = ap (λ (v : View). v.steps) view in
@@ -98,6 +79,7 @@ first_by_logs t p first =
         steps_are = ap (map (λ (step : Turned). kept_step t.shape step.lock (place_of step))) no_steps;
         real = subst (All (IsOfMap t.shape)) (sym no_steps) (All-nil (IsOfMap t.shape));
       };
+      spares = λ none cpu. element_is (spare_of cpu p.spares) ∙ spare_first t p first cpu (spare_of cpu p.spares) refl ∙ ap (λ (spares : List ℕ). slice_get spares cpu) (first_same t.shape t.shape.kind);
       answered = λ none. refl;
     }
 
@@ -109,9 +91,8 @@ TellsEach Fact t call number p q reply called =
     (state : State) (strand : List StrandStep) → KnowsState t.shape state strand p.view → called.lost ≡ [] → EachTurn Fact t.shape call.cpu number (map (turn_at t.shape) called.steps) state
 
 module _ (Fact : State → Turn → Type 0) (t : TableView) (calls : List Call) (n : ℕ) (call : Call) (p q : PassView) (reply : Reply) (replies : List Reply)
-    (shape_is : IsShape t.shape) (lru : is_lru t.shape.kind ≡ true) (decides : Decides Fact t.shape call.cpu) (served : All (IsServedCall t.shape) calls)
-    (at : slice_get calls n ≡ Some call) (own : IsServedCall t.shape call)
-    (ran : HaveRunByLogs t (take n calls) p replies) (called : Called t (begun p call.cpu (1 + length (take n calls))) q call.verb reply)
+    (shape_is : IsShape t.shape) (determined : IsDetermined Fact t.shape call.cpu (1 + length (take n calls)) (come_to t.shape (take n calls)) call.verb)
+    (ran : HaveRun t (take n calls) p replies) (called : Called t (begun p call.cpu (1 + length (take n calls))) q call.verb reply)
     (each : TellsEach Fact t call (1 + length (take n calls)) p q reply called) where
   abbrev before : List Call
   before = take n calls
@@ -119,24 +100,31 @@ module _ (Fact : State → Turn → Type 0) (t : TableView) (calls : List Call) 
   abbrev number : ℕ
   number = 1 + length before
 
+  abbrev state_before : State
+  state_before = come_to t.shape before
+
+  abbrev strand_before : List StrandStep
+  strand_before = steps_of_calls t.shape 1 before (new_state t.shape)
+
   none_before : q.view.lost ≡ [] → (called.lost ≡ []) × (p.view.lost ≡ [])
   none_before none = append_empty called.lost p.view.lost (sym called.leaves.made.goes.lost_is ∙ none)
 
-  rests : IsAtRest t.shape (lies_in t.shape (come_to t.shape before))
-  rests = (reached_by t.shape shape_is lru before (All-take (IsServedCall t.shape) n calls served)).rests
-
-  knows_then : (none : q.view.lost ≡ []) → KnowsState t.shape (after_one t.shape number call (come_to t.shape before))
-      (steps_of_calls t.shape 1 before (new_state t.shape) ++ steps_of_turns t.shape call.cpu number (does t.shape call.cpu number (come_to t.shape before) call.verb).turns (come_to t.shape before)) q.view
+  knows_then : (none : q.view.lost ≡ []) → KnowsState t.shape (after_one t.shape number call state_before) (strand_before ++ steps_of_turns t.shape call.cpu number (does t.shape call.cpu number state_before call.verb).turns state_before) q.view
   knows_then none =
-      knows_next Fact t (come_to t.shape before) (steps_of_calls t.shape 1 before (new_state t.shape)) p q call number reply lru own.cpu decides rests (key_verb t.shape call.verb own.verb) (ran.knows (none_before none).1) called (none_before none).0
-      (each (come_to t.shape before) (steps_of_calls t.shape 1 before (new_state t.shape)) (ran.knows (none_before none).1) (none_before none).0)
+      knows_next Fact t state_before strand_before p q call number reply shape_is determined (ran.knows (none_before none).1) (ran.spares (none_before none).1) called (none_before none).0
+      (each state_before strand_before (ran.knows (none_before none).1) (none_before none).0)
 
-  replied_then : (none : q.view.lost ≡ []) → reply ≡ (does t.shape call.cpu number (come_to t.shape before) call.verb).reply
+  spares_then : (none : q.view.lost ≡ []) (cpu : ℕ) → element_of (spare_of cpu q.spares) ≡ (after_one t.shape number call state_before).spares cpu
+  spares_then none cpu =
+      spares_next Fact t state_before strand_before p q call number reply shape_is determined (ran.knows (none_before none).1) (ran.spares (none_before none).1) called (none_before none).0
+      (each state_before strand_before (ran.knows (none_before none).1) (none_before none).0) cpu
+
+  replied_then : (none : q.view.lost ≡ []) → reply ≡ (does t.shape call.cpu number state_before call.verb).reply
   replied_then none =
-      reply_next Fact t (come_to t.shape before) (steps_of_calls t.shape 1 before (new_state t.shape)) p q call number reply lru own.cpu decides rests (key_verb t.shape call.verb own.verb) (ran.knows (none_before none).1) called (none_before none).0
-      (each (come_to t.shape before) (steps_of_calls t.shape 1 before (new_state t.shape)) (ran.knows (none_before none).1) (none_before none).0)
+      reply_next Fact t state_before strand_before p q call number reply shape_is determined (ran.knows (none_before none).1) (ran.spares (none_before none).1) called (none_before none).0
+      (each state_before strand_before (ran.knows (none_before none).1) (none_before none).0)
 
-  more_by_logs : HaveRunByLogs t (before ++ call ∷ []) q (replies ++ reply ∷ [])
+  more_by_logs : HaveRun t (before ++ call ∷ []) q (replies ++ reply ∷ [])
   more_by_logs = record {
     of_table = goes_of_table t (begun p call.cpu number) q called.steps called.lost called.leaves.made.goes ran.of_table;
     all_cpus = λ cpu real. ap (is_among cpu) called.leaves.made.goes.cpus ∙ ran.all_cpus cpu real;
@@ -146,41 +134,27 @@ module _ (Fact : State → Turn → Type 0) (t : TableView) (calls : List Call) 
         (kept_on t.shape p.view.steps called.steps [] p.view.kept q.view.kept ran.kept
         (subst (λ (shape : Shape). IsKeptOf shape called.steps p.view.kept q.view.kept) ran.of_table.1 called.leaves.made.goes.kept));
     knows = λ none. subst (λ (strand : List StrandStep). KnowsState t.shape (come_to t.shape (before ++ call ∷ [])) strand q.view) (sym (steps_more t.shape 1 before call (new_state t.shape)))
-        (subst (λ (state : State). KnowsState t.shape state (steps_of_calls t.shape 1 before (new_state t.shape) ++ steps_of_turns t.shape call.cpu number (does t.shape call.cpu number (come_to t.shape before) call.verb).turns (come_to t.shape before)) q.view)
+        (subst (λ (state : State). KnowsState t.shape state (strand_before ++ steps_of_turns t.shape call.cpu number (does t.shape call.cpu number state_before call.verb).turns state_before) q.view)
         (sym (run_more t.shape 1 before call (new_state t.shape))) (knows_then none));
+    spares = λ none cpu. spares_then none cpu ∙ ap (λ (state : State). state.spares cpu) (sym (run_more t.shape 1 before call (new_state t.shape)));
     answered = λ none. (λ i. ran.answered (none_before none).1 i ++ replied_then none i ∷ []) ∙ sym (answers_more t.shape 1 before call (new_state t.shape));
   }
 
--- where the takings and freeings of its CPU are determined, under what holds of each of its turns
-pub next_if_decided : (Fact : State → Turn → Type 0) (t : TableView) (calls : List Call) (n : ℕ) (call : Call) (p q : PassView) (number : ℕ) (reply : Reply) (replies after : List Reply)
-    → IsShape t.shape → is_lru t.shape.kind ≡ true → ((cpu : ℕ) → cpu < t.shape.cpus → Decides Fact t.shape cpu) → All (IsServedCall t.shape) calls → n < length calls → call ≡ get_or calls n call → number ≡ n + 1
-    → HaveRunByLogs t (take n calls) p replies → (called : Called t (begun p call.cpu number) q call.verb reply)
-    → TellsEach Fact t call number p q reply called → after ≡ replies ++ reply ∷ [] → HaveRunByLogs t (take (n + 1) calls) q after
-next_if_decided Fact t calls n call p q number reply replies after shape_is lru decides served within is count ran called each pushed =
+-- where the call is determined by its trace, under what holds of each of its turns
+pub next_by_logs : (Fact : State → Turn → Type 0) (t : TableView) (calls : List Call) (n : ℕ) (call : Call) (p q : PassView) (number : ℕ) (reply : Reply) (replies after : List Reply)
+    → IsShape t.shape → ((k : ℕ) → IsDetermined Fact t.shape call.cpu k (come_to t.shape (take n calls)) call.verb) → n < length calls → call ≡ get_or calls n call → number ≡ n + 1
+    → HaveRun t (take n calls) p replies → (called : Called t (begun p call.cpu number) q call.verb reply)
+    → TellsEach Fact t call number p q reply called → after ≡ replies ++ reply ∷ [] → HaveRun t (take (n + 1) calls) q after
+next_by_logs Fact t calls n call p q number reply replies after shape_is determined within is count ran called each pushed =
     let at : slice_get calls n ≡ Some call = slice_get_read calls (length calls) n call refl within is in
-    let own : IsServedCall t.shape call = subst (IsServedCall t.shape) (sym is) (All-get_or (IsServedCall t.shape) calls n call within served) in
     let long : length (take n calls) ≡ n = length-take-le n calls (omega (arith, within)) in
     let number_is : number ≡ 1 + length (take n calls) = omega (arith, count, long) in
     let next : suc n ≡ n + 1 = omega arith in
-    let more = subst (λ (k : ℕ). (c : Called t (begun p call.cpu k) q call.verb reply) → TellsEach Fact t call k p q reply c → HaveRunByLogs t (take n calls ++ call ∷ []) q (replies ++ reply ∷ [])) (sym number_is)
-    (λ c holds. more_by_logs Fact t calls n call p q reply replies shape_is lru (decides call.cpu own.cpu) served at own ran c holds) in
-    subst (λ (k : ℕ). HaveRunByLogs t (take k calls) q after) next
-    (subst (λ (made : List Call). HaveRunByLogs t made q after) (sym (take_next calls n call at))
-    (subst (HaveRunByLogs t (take n calls ++ call ∷ []) q) (sym pushed) (more called each)))
-
--- on a map whose CPUs have list sets of their own, and on one whose CPUs share lists
-pub next_by_logs : (t : TableView) (calls : List Call) (n : ℕ) (call : Call) (p q : PassView) (number : ℕ) (reply : Reply) (replies after : List Reply)
-    → IsShape t.shape → is_lru t.shape.kind ≡ true → All (IsServedCall t.shape) calls → n < length calls → call ≡ get_or calls n call → number ≡ n + 1
-    → HaveRunByLogs t (take n calls) p replies → Called t (begun p call.cpu number) q call.verb reply → after ≡ replies ++ reply ∷ [] → HaveRunByLogs t (take (n + 1) calls) q after
-next_by_logs t calls n call p q number reply replies after shape_is lru served within is count ran called pushed =
-    by_bool t.shape.common (λ b. t.shape.common ≡ b → HaveRunByLogs t (take (n + 1) calls) q after)
-    (λ _ shared.
-    next_if_decided (TellsShared t.shape) t calls n call p q number reply replies after shape_is lru (λ cpu below. shared_decides t.shape cpu shared below) served within is count ran called
-    (λ state strand knows none. tells_shared t state strand p q call number reply lru knows called none shared) pushed)
-    (λ _ apart.
-    next_if_decided NothingMore t calls n call p q number reply replies after shape_is lru (λ cpu below. own_decides NothingMore t.shape cpu apart below) served within is count ran called
-    (λ state strand knows none. nothing_more t.shape call.cpu number (map (turn_at t.shape) called.steps) state) pushed)
-    refl
+    let more = subst (λ (k : ℕ). (c : Called t (begun p call.cpu k) q call.verb reply) → TellsEach Fact t call k p q reply c → HaveRun t (take n calls ++ call ∷ []) q (replies ++ reply ∷ [])) (sym number_is)
+    (λ c holds. more_by_logs Fact t calls n call p q reply replies shape_is (determined (1 + length (take n calls))) ran c holds) in
+    subst (λ (k : ℕ). HaveRun t (take k calls) q after) next
+    (subst (λ (made : List Call). HaveRun t made q after) (sym (take_next calls n call at))
+    (subst (HaveRun t (take n calls ++ call ∷ []) q) (sym pushed) (more called each)))
 
 -- At the end
 
@@ -196,11 +170,8 @@ named_histories : (shape : Shape) (state : State) (ks : List ℕ) → map (λ (k
 named_histories shape state [] = refl
 named_histories shape state (k ∷ ks) = ap (λ (histories : List LockHistory). history_in state (lock_named shape k) ∷ histories) (named_histories shape state ks)
 
-no_hash : (kind : MapKind) → kind ≡ Hash → is_lru kind ≡ true → ⊥
-no_hash kind is evicts = let plain : is_lru kind ≡ false = ap is_lru is in both_ways (is_lru kind) plain evicts
-
-module _ (t : TableView) (calls : List Call) (p : PassView) (closed : ClosedView) (replies : List Reply) (shape_is : IsShape t.shape) (lru : is_lru t.shape.kind ≡ true) (served : All (IsServedCall t.shape) calls)
-    (ran : HaveRunByLogs t calls p replies) (ends : IsClosed t.shape p closed) (whole : closed.lost ≡ false) where
+module _ (t : TableView) (calls : List Call) (p : PassView) (closed : ClosedView) (replies : List Reply) (shape_is : IsShape t.shape)
+    (ran : HaveRun t calls p replies) (ends : IsClosed t.shape p closed) (whole : closed.lost ≡ false) where
   abbrev state_end : State
   state_end = come_to t.shape calls
 
@@ -239,18 +210,11 @@ module _ (t : TableView) (calls : List Call) (p : PassView) (closed : ClosedView
       ∙ knows_end.steps_are))
       ∙ strand_is t.shape (steps_of_calls t.shape 1 calls (new_state t.shape))
 
-  -- a map that evicts has no spares
-  no_spare : (cpu : ℕ) → cpu < t.shape.cpus → (kept : Option Stored) → spare_of cpu p.spares ≡ kept → option_map (λ (body : Stored). body.element) kept ≡ None
-  no_spare cpu real None is = refl
-  no_spare cpu real (Some body) is =
-      let found = ran.in_no_call.spares_only body.element cpu (ran.all_cpus cpu real) (ran.in_no_call.spares_in_hand cpu body is) in
-      absurd (no_hash t.shape.kind (ap (λ (shape : Shape). shape.kind) (sym ran.of_table.1) ∙ found.3) lru)
-
   same_end : IsSameState t.shape (state_left t.shape ends.log ends.core.bit p.spares) state_end
   same_end = record {
     logs = log_of;
     bits = λ e real. ends.bits e (state_end.bits e) (knows_end.bits e real);
-    spares = λ cpu real. no_spare cpu real (spare_of cpu p.spares) refl ∙ sym ((reached_by t.shape shape_is lru calls served).no_spares cpu);
+    spares = λ cpu real. sym (element_is (spare_of cpu p.spares)) ∙ ran.spares (no_losses t.shape p closed ends whole) cpu;
   }
 
   finals_end : closed.finals ≡ finals_of t.shape state_end
@@ -268,13 +232,13 @@ module _ (t : TableView) (calls : List Call) (p : PassView) (closed : ClosedView
   left_by_logs = (λ i. record { replies = ran.answered (no_losses t.shape p closed ends whole) i; histories = histories_end i; strands = strand_end i ∷ []; finals = finals_end i })
 
 -- The record of a run that was closed, no record of a lock of which is lost, is that of the run by the logs of the locks.
-pub end_by_logs : (script : Script) (t : TableView) (p : PassView) (closed : ClosedView) (replies : List Reply) → t.shape ≡ script.shape → IsShape t.shape → is_lru t.shape.kind ≡ true → All (IsServedCall t.shape) script.calls
-    → HaveRunByLogs t script.calls p replies → IsClosed t.shape p closed → closed.lost ≡ false → record_left script.shape.cpus replies closed ≡ serial script
+pub end_by_logs : (script : Script) (t : TableView) (p : PassView) (closed : ClosedView) (replies : List Reply) → t.shape ≡ script.shape → IsShape t.shape
+    → HaveRun t script.calls p replies → IsClosed t.shape p closed → closed.lost ≡ false → record_left script.shape.cpus replies closed ≡ serial script
 unfolding serial
-end_by_logs script t p closed replies same shape_is lru served ran ends whole =
+end_by_logs script t p closed replies same shape_is ran ends whole =
     subst (λ (shape : Shape). record_left shape.cpus replies closed ≡ (record {
       replies = answers shape 1 script.calls (new_state shape);
       histories = map (history_in (come_to shape script.calls)) (locks_of shape);
       strands = (record { cpus = range_with_len 0 shape.cpus; steps = steps_of_calls shape 1 script.calls (new_state shape) }) ∷ [];
       finals = finals_of shape (come_to shape script.calls);
-    })) same (left_by_logs t script.calls p closed replies shape_is lru served ran ends whole)
+    })) same (left_by_logs t script.calls p closed replies shape_is ran ends whole)

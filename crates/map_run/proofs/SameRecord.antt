@@ -1,6 +1,6 @@
 -- On a map that doesn't evict the record of a run in serial order is that of the run on plain lists: what the logs lead to is what
 -- the lists are at the end, no bit is set, and there are no lists of the kinds that evict.
-use Rattle.std.proofs.Common.{◌≡◌, ℕ, zero, suc, ◌+◌, ◌<◌, ◌≤◌, Bool, true, false, not, ◌&&◌, cond, List, [], ◌∷◌, ◌++◌, length, map, get_or, Option, Some, None, refl, ap, sym, ◌∙◌, arith}
+use Rattle.std.proofs.Common.{◌≡◌, ℕ, zero, suc, ◌+◌, ◌<◌, ◌≤◌, Bool, true, false, not, ◌&&◌, cond, List, [], ◌∷◌, ◌++◌, length, map, get_or, All, Option, Some, None, refl, ap, sym, ◌∙◌, arith}
 use Rattle.std.specs.Prelude.{IsTrue, filter, slice_get, option_to_list, unwrap_or}
 use Rattle.std.specs.List.{flat_map, range_with_len}
 use Rattle.std.proofs.lemmas.Bool.{lt-ltb}
@@ -31,10 +31,11 @@ use Rattle.map_report.specs.Runs.{serial}
 use Rattle.map_report.specs.Serial.{opening, lists_after, has_spares}
 use Rattle.map_report.specs.Soundness.{IsSound}
 use Rattle.map_report.specs.Turns.{Happened, entries_on, history_on}
-use Rattle.map_run.specs.Served.{IsServed}
+use Rattle.map_script.specs.WellFormed.{IsCallOn}
 use Rattle.map_run.proofs.HistoryTurns.{by_bool}
-use Rattle.map_run.proofs.LogLaws.{Follows, log_run}
+use Rattle.map_run.proofs.LogLaws.{log_run}
 use Rattle.map_run.proofs.OpeningTurns.{no_set}
+use Rattle.map_run.proofs.SameCalls.{Follows}
 use Rattle.map_run.proofs.SoundRun.{sound_end}
 use Rattle.map_run.proofs.Whole.{all_pass, none_pass}
 
@@ -153,16 +154,16 @@ same_histories shape turns logs same (k ∷ numbers) =
 
 -- The record
 
-pub one_record : (script : Script) → IsServed script → is_lru script.shape.kind ≡ false → serial script ≡ serial_on_lists script
+pub one_record : (script : Script) → HasBounds script.shape → All (IsCallOn script.shape) script.calls → is_lru script.shape.kind ≡ false → serial script ≡ serial_on_lists script
 unfolding serial serial_on_lists
-one_record script served plain =
+one_record script bounds are plain =
     let shape : Shape = script.shape in
     let turns : List Happened = turns_of_script script in
     let lists : Finals = lists_after shape (opening shape) script.calls in
     let state : State = run shape 1 script.calls (new_state shape) in
-    let same = log_run script served plain in
+    let same = log_run script bounds are plain in
     let histories = same_histories shape turns state.logs same.follows.logs (range_with_len 0 (lock_count shape)) in
-    let finals = same_finals shape lists turns state served.bounds plain (sound_end script served plain) same.follows (run_sets_none shape plain 1 script.calls (new_state shape) (λ e. refl)) in
+    let finals = same_finals shape lists turns state bounds plain (sound_end script bounds are plain) same.follows (run_sets_none shape plain 1 script.calls (new_state shape) (λ e. refl)) in
     λ i. record {
       replies = same.replies i;
       histories = histories i;

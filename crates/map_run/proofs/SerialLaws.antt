@@ -1,30 +1,39 @@
 -- The laws of a run in serial order.
-use Rattle.std.proofs.Common.{◌≡◌, false, ◌↔◌, ℕ, List, Option, Some, None, option_map, slice_get, refl, ap, sym, ◌∙◌, subst}
+use Rattle.std.proofs.Common.{◌≡◌, false, ◌↔◌, ℕ, suc, List, [], ◌∷◌, length, take, All, Option, Some, None, option_map, slice_get, refl, ap, sym, ◌∙◌, subst}
+use Rattle.map_types.proofs.CreationLemmas.{bounds_of_shape}
 use Rattle.map_types.specs.Kind.{is_lru}
+use Rattle.map_types.specs.Shape.{HasBounds}
 use Rattle.map_types.specs.Stored.{Stored}
 use Rattle.map_types.specs.declared.attr.Shape.{Shape}
+use Rattle.map_types.specs.declared.call.Call.{Call}
 use Rattle.map_types.specs.declared.refusal.Errno.TheVariants.{E2big}
 use Rattle.map_types.specs.declared.reply.Reply.{Reply}
 use Rattle.map_types.specs.declared.reply.Reply.TheVariants.{Refused}
+use Rattle.map_script.specs.WellFormed.{IsCallOn, IsWellFormed}
 use Rattle.map_script.specs.declared.script.Script.{Script}
 use Rattle.place_words.specs.declared.finals.Finals.{Finals}
 use Rattle.place_words.specs.Bodies.{present}
 use Rattle.place_words.proofs.AlwaysGets.{created_always_gets}
 use Rattle.place_words.proofs.AlwaysRemoved.{always_removes}
-use Rattle.map_run.specs.Entries.{Entry, entry_of}
-use Rattle.map_run.specs.Laws.{lists_before, entries_before, Sees, FindsNoRoom, PlainLaws, SerialLaws}
+use Rattle.map_run.specs.Entries.{Entry, entry_of, answers_from, entries_after, TellsThere}
+use Rattle.map_run.specs.Laws.{lists_before, Sees, FindsNoRoom, PlainLaws, SerialLaws}
 use Rattle.map_report.specs.declared.record.RunRecord.{RunRecord}
+use Rattle.map_report.specs.Record.{EachAnswered}
+use Rattle.map_report.specs.Runs.{serial}
 use Rattle.map_report.specs.Serial.{bucket_at}
-use Rattle.map_run.specs.Served.{IsScript, IsServed}
+use Rattle.map_run.specs.Served.{IsScript}
 use Rattle.map_run.proofs.AnyRecord.{any_is_record}
-use Rattle.map_run.proofs.ListCalls.{calls_served, plain_replies}
+use Rattle.map_run.proofs.LogLaws.{buckets_run}
+use Rattle.map_run.proofs.LooksLeave.{looks_leave}
+use Rattle.map_run.proofs.NeverFull.{never_full}
 use Rattle.map_run.proofs.ServedLemmas.{well_formed}
 use Rattle.map_run.proofs.SameRecord.{one_record}
 use Rattle.map_run.proofs.SoundRun.{sound_run}
-use Rattle.map_run.proofs.StayLaws.{finals_are, lookups_stay, refusals_stay}
+use Rattle.map_run.proofs.StayLaws.{replies_are, finals_are, looks_stay, refusals_stay}
 use Rattle.map_run.proofs.AnswerLaws.{too_big}
-use Rattle.map_run.proofs.EachOnceRun.{each_once_run}
-use Rattle.map_run.proofs.EntryRun.{agrees_run}
+use Rattle.map_run.proofs.ToldThere.{tells_there}
+use Rattle.map_run.proofs.WalksGive.{walk_laws}
+use Rattle.map_run.proofs.EntryRun.{list_replies, plain_run, agrees_run}
 use Rattle.map_run.proofs.EntrySteps.{Agrees, Have, look_ups, entry_hits}
 
 -- What is seen
@@ -46,36 +55,53 @@ sees_agreeing shape lists entries agree = record {
 }
 
 -- Before each call of a script its user sees what the lists hold.
-pub seen_run : (script : Script) → IsServed script → is_lru script.shape.kind ≡ false → (n : ℕ) → Sees script.shape (lists_before script n) (entries_before script n)
-seen_run script served plain n =
-    sees_agreeing script.shape (lists_before script n) (entries_before script n) (agrees_run script served plain (each_once_run script served plain) n)
+pub seen_run : (script : Script) → HasBounds script.shape → All (IsCallOn script.shape) script.calls → is_lru script.shape.kind ≡ false
+    → (n : ℕ) → Sees script.shape (lists_before script n) (entries_after script.shape [] (take n script.calls) (list_replies script))
+seen_run script bounds are plain n =
+    sees_agreeing script.shape (lists_before script n) (entries_after script.shape [] (take n script.calls) (list_replies script)) (agrees_run script bounds are plain n)
 
 -- All laws
 
 -- those of a map that doesn't evict
-plain_laws : (script : Script) → IsServed script → is_lru script.shape.kind ≡ false → PlainLaws script
-plain_laws script served plain =
-    let same = one_record script served plain in
-    let replies = ap (λ (kept : RunRecord). kept.replies) same ∙ plain_replies script served plain in
+plain_laws : (script : Script) → HasBounds script.shape → All (IsCallOn script.shape) script.calls → is_lru script.shape.kind ≡ false → PlainLaws script
+plain_laws script bounds are plain =
+    let same = one_record script bounds are plain in
+    let told : (serial script).replies ≡ list_replies script = ap (λ (kept : RunRecord). kept.replies) same ∙ replies_are script in
     record {
       on_lists = same;
-      sound = sound_run script served plain;
+      sound = sound_run script bounds are plain;
       finals = ap (λ (kept : RunRecord). kept.finals) same ∙ finals_are script;
-      lookups_stay = lookups_stay script;
+      buckets = buckets_run script bounds are plain;
+      looks_stay = looks_stay script;
       refusals_stay = λ n errno is. refusals_stay script n errno (ap (λ (kept : RunRecord). slice_get kept.replies n) (sym same) ∙ is);
-      plain = replies;
-      seen = seen_run script served plain;
+      plain = subst (λ (replies : List Reply). replies ≡ answers_from script.shape [] script.calls replies) (sym told) (plain_run script bounds are plain);
+      told = λ n call reply at is.
+          subst (λ (replies : List Reply). TellsThere script.shape (entries_after script.shape [] (take n script.calls) replies) call.verb reply) (sym told)
+          (tells_there script bounds are plain n call reply at (ap (λ (replies : List Reply). slice_get replies n) (sym told) ∙ is));
+      seen = λ n. subst (λ (replies : List Reply). Sees script.shape (lists_before script n) (entries_after script.shape [] (take n script.calls) replies)) (sym told) (seen_run script bounds are plain n);
       too_big = λ n call at.
-          subst (λ (replies : List Reply). (slice_get replies n ≡ Some (Refused E2big)) ↔ FindsNoRoom script.shape (entries_before script n) call.verb) (sym replies)
-          (too_big script.shape script.calls n call (calls_served script served) at);
+          subst (λ (replies : List Reply). (slice_get replies n ≡ Some (Refused E2big)) ↔ FindsNoRoom script.shape (entries_after script.shape [] (take n script.calls) replies) call.verb) (sym told)
+          (too_big script bounds are plain n call at);
     }
 
-pub serial_laws : (script : Script) → IsScript script → IsServed script → SerialLaws script
-serial_laws script is served =
-    let created = (well_formed script is).shape in
+one_for_each : (shape : Shape) (calls : List Call) (replies : List Reply) → EachAnswered shape calls replies → length replies ≡ length calls
+one_for_each shape [] [] each = refl
+one_for_each shape [] (reply ∷ replies) each = absurd each
+one_for_each shape (call ∷ calls) [] each = absurd each
+one_for_each shape (call ∷ calls) (reply ∷ replies) each = ap suc (one_for_each shape calls replies each.1)
+
+pub serial_laws : (script : Script) → IsScript script → SerialLaws script
+serial_laws script is =
+    let like : IsWellFormed script = well_formed script is in
+    let bounds : HasBounds script.shape = bounds_of_shape script.shape like.shape in
+    let whole = any_is_record script like in
     record {
-      is_record = any_is_record script is;
-      always_gets = created_always_gets script.shape created script.calls (λ k d below. (served.calls k d below).cpu);
+      is_record = whole;
+      one_each = one_for_each script.shape script.calls (serial script).replies whole.replies;
+      always_gets = created_always_gets script.shape like.shape script.calls (λ k d below. (like.calls k d below).cpu);
+      never_full = never_full script;
       always_removes = always_removes script.shape script.calls;
-      plain = λ kind keys. plain_laws script served kind;
+      looks_leave = looks_leave script;
+      walks = walk_laws script is;
+      plain = λ kind. plain_laws script bounds like.calls kind;
     }

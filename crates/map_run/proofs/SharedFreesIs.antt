@@ -143,5 +143,5 @@ pub shared_decides : (shape : Shape) (cpu : ℕ) → shape.common ≡ true → c
 shared_decides shape cpu shared within = record {
   takes = λ number key_hash state got turns settled acquires made each.
       takes_shared_is shape cpu number key_hash state shared within settled got turns acquires made (each_weaker shape cpu number (TellsShared shape) (ReadsBits shape) (λ now turn tells. tells.0) turns state each);
-  frees = λ number state home e turns settled frees made each. frees_shared_is shape cpu number state home e [] shared settled turns frees made each;
+  frees = λ number state home e others turns settled frees made each. frees_shared_is shape cpu number state home e others shared settled turns frees made each;
 }

@@ -1,6 +1,6 @@
 -- Which calls leave the lists of a map as they were.
-use Rattle.std.proofs.Common.{◌≡◌, ℕ, zero, suc, ◌+◌, ◌==◌, nat_lt, List, [], ◌∷◌, Option, Some, None, take, length, refl, ap, sym, ◌∙◌, add-one}
-use Rattle.std.specs.Prelude.{slice_get}
+use Rattle.std.proofs.Common.{◌≡◌, ◌≢◌, ℕ, zero, suc, ◌+◌, ◌-◌, ◌==◌, nat_lt, Bool, false, List, [], ◌∷◌, ◌++◌, Option, Some, None, take, length, map, refl, ap, sym, ◌∙◌, add-one}
+use Rattle.std.specs.Prelude.{slice_get, min, unwrap_or}
 use Rattle.std.proofs.lemmas.Bool.{cond_both}
 use Rattle.std.proofs.lemmas.Option.{none-some, same_Some}
 use Rattle.map_types.specs.Stored.{Stored}
@@ -16,9 +16,10 @@ use Rattle.map_types.specs.declared.reply.Reply.TheVariants.{Done, Refused}
 use Rattle.map_script.specs.declared.script.Script.{Script}
 use Rattle.place_words.specs.declared.finals.Finals.{Finals}
 use Rattle.place_words.specs.Bodies.{present}
+use Rattle.place_words.specs.Walks.{buckets_from, refused_with}
 use Rattle.map_report.specs.Freelists.{popped}
-use Rattle.map_run.specs.Laws.{IsLookup, lists_before}
-use Rattle.map_report.specs.Serial.{opening, bucket_at, value_or_absent, added, updated, deleted, after_call, replies_from, lists_after}
+use Rattle.map_run.specs.Laws.{OnlyLooks, lists_before}
+use Rattle.map_report.specs.Serial.{opening, bucket_at, in_bucket_at, value_or_absent, added, updated, deleted, after_update, after_delete, pair_read, if_emptied, read_on, after_read, unless_stopped, each_done, unless_flags, after_call, replies_from, lists_after}
 use Rattle.map_report.specs.ListRuns.{serial_on_lists}
 
 -- a call that is refused leaves the lists
@@ -44,6 +45,32 @@ taken_stays : (errno : Errno) (shape : Shape) (cpu : ℕ) (key : List ℕ) (list
 taken_stays errno shape cpu key lists None = λ refused. refl
 taken_stays errno shape cpu key lists (Some old) = λ refused. absurd cc
 
+-- what a batch tells isn't that it was refused, once it is under way
+pub read_not_refused : (errno : Errno) (shape : Shape) (cpu : ℕ) (remove : Bool) (limit : ℕ) (buckets : List ℕ) (taken : List (List ℕ × List ℕ)) (lists : Finals) → (read_on shape cpu remove limit buckets taken lists).1 ≢ Refused errno
+read_not_refused errno shape cpu remove limit [] taken lists = λ is. absurd cc
+read_not_refused errno shape cpu remove limit (bucket ∷ buckets) taken lists =
+    cond_both (nat_lt (limit - length taken) (length (in_bucket_at lists bucket))) _ _ (λ (after : Finals × Reply). after.1 ≢ Refused errno) (λ over is. absurd cc)
+    (λ fits. read_not_refused errno shape cpu remove limit buckets (taken ++ map (pair_read shape cpu) (in_bucket_at lists bucket)) (if_emptied remove cpu bucket lists))
+
+stop_not_refused : {X : Type 0} (errno : Errno) (told : Option Errno) (done : ℕ) (now : X) (later : X × Reply) → later.1 ≢ Refused errno → (unless_stopped told done now later).1 ≢ Refused errno
+stop_not_refused errno None done now later rest = rest
+stop_not_refused errno (Some other) done now later rest = λ is. absurd cc
+
+pub each_not_refused : {A X : Type 0} (errno : Errno) (one : A → X → X × Reply) (entries : List A) (done : ℕ) (now : X) → (each_done one entries done now).1 ≢ Refused errno
+each_not_refused errno one [] done now = λ is. absurd cc
+each_not_refused errno one (entry ∷ entries) done now =
+    stop_not_refused errno (refused_with (one entry now).1) done (one entry now).0 (each_done one entries (suc done) (one entry now).0)
+    (each_not_refused errno one entries (suc done) (one entry now).0)
+
+unless_flags_stays : (errno : Errno) (flags : ℕ) (lists : Finals) (after : Finals × Reply) → Stays errno lists after → Stays errno lists (unless_flags flags lists after)
+unless_flags_stays errno flags lists after stays = cond_both (flags == 0) _ _ (Stays errno lists) (λ plain. stays) (λ other refused. refl)
+
+read_refused_stays : (errno : Errno) (shape : Shape) (cpu : ℕ) (remove : Bool) (count start : ℕ) (lists : Finals) → Stays errno lists (after_read shape cpu remove count start lists)
+read_refused_stays errno shape cpu remove count start lists =
+    cond_both (count == 0) _ _ (Stays errno lists) (λ none refused. refl)
+    (λ some. cond_both (nat_lt start shape.buckets) _ _ (Stays errno lists)
+    (λ there refused. absurd (read_not_refused errno shape cpu remove (min count shape.elements) (buckets_from shape start) [] lists refused)) (λ past refused. refl))
+
 refused_stays : (errno : Errno) (shape : Shape) (cpu : ℕ) (verb : Verb) (lists : Finals) → Stays errno lists (after_call shape cpu verb lists)
 unfolding after_call
 refused_stays errno shape cpu (Lookup side key) lists = λ refused. refl
@@ -52,20 +79,37 @@ refused_stays errno shape cpu (Update side flags key value) lists =
 refused_stays errno shape cpu (Delete key) lists = deleted_stays errno shape cpu key lists (present key (bucket_at shape lists key))
 refused_stays errno shape cpu (Take key) lists = taken_stays errno shape cpu key lists (present key (bucket_at shape lists key))
 refused_stays errno shape cpu (Next key) lists = λ refused. refl
-refused_stays errno shape cpu (BatchRead remove count start flags) lists = λ refused. refl
-refused_stays errno shape cpu (BatchUpdate flags pairs) lists = λ refused. refl
-refused_stays errno shape cpu (BatchDelete flags keys) lists = λ refused. refl
+refused_stays errno shape cpu (BatchRead remove count start flags) lists =
+    unless_flags_stays errno flags lists (after_read shape cpu remove count (unwrap_or start 0) lists) (read_refused_stays errno shape cpu remove count (unwrap_or start 0) lists)
+refused_stays errno shape cpu (BatchUpdate flags pairs) lists =
+    unless_flags_stays errno flags lists _ (λ refused. absurd (each_not_refused errno (λ (pair : List ℕ × List ℕ). after_update shape Sys cpu 0 pair.0 pair.1) pairs 0 lists refused))
+refused_stays errno shape cpu (BatchDelete flags keys) lists =
+    unless_flags_stays errno flags lists _ (λ refused. absurd (each_not_refused errno (after_delete shape cpu) keys 0 lists refused))
 
-lookup_stays : (shape : Shape) (cpu : ℕ) (verb : Verb) (lists : Finals) → IsLookup verb → (after_call shape cpu verb lists).0 ≡ lists
+-- a batch read that removes nothing
+pub read_stays : (shape : Shape) (cpu : ℕ) (remove : Bool) → remove ≡ false → (limit : ℕ) (buckets : List ℕ) (taken : List (List ℕ × List ℕ)) (lists : Finals) → (read_on shape cpu remove limit buckets taken lists).0 ≡ lists
+read_stays shape cpu remove none limit [] taken lists = refl
+read_stays shape cpu remove none limit (bucket ∷ buckets) taken lists =
+    cond_both (nat_lt (limit - length taken) (length (in_bucket_at lists bucket))) _ _ (λ (after : Finals × Reply). after.0 ≡ lists) (λ over. refl)
+    (λ fits. read_stays shape cpu remove none limit buckets (taken ++ map (pair_read shape cpu) (in_bucket_at lists bucket)) (if_emptied remove cpu bucket lists)
+    ∙ ap (λ (b : Bool). if_emptied b cpu bucket lists) none)
+
+look_stays : (shape : Shape) (cpu : ℕ) (verb : Verb) (lists : Finals) → OnlyLooks verb → (after_call shape cpu verb lists).0 ≡ lists
 unfolding after_call
-lookup_stays shape cpu (Lookup side key) lists is = refl
-lookup_stays shape cpu (Update side flags key value) lists is = absurd is
-lookup_stays shape cpu (Delete key) lists is = absurd is
-lookup_stays shape cpu (Take key) lists is = absurd is
-lookup_stays shape cpu (Next key) lists is = absurd is
-lookup_stays shape cpu (BatchRead remove count start flags) lists is = absurd is
-lookup_stays shape cpu (BatchUpdate flags pairs) lists is = absurd is
-lookup_stays shape cpu (BatchDelete flags keys) lists is = absurd is
+look_stays shape cpu (Lookup side key) lists is = refl
+look_stays shape cpu (Update side flags key value) lists is = absurd is
+look_stays shape cpu (Delete key) lists is = absurd is
+look_stays shape cpu (Take key) lists is = absurd is
+look_stays shape cpu (Next key) lists is = refl
+look_stays shape cpu (BatchRead remove count start flags) lists is =
+    let P : Finals × Reply → Type 0 = λ after. after.0 ≡ lists in
+    cond_both (flags == 0) _ _ P
+    (λ plain. cond_both (count == 0) _ _ P (λ none. refl)
+    (λ some. cond_both (nat_lt (unwrap_or start 0) shape.buckets) _ _ P
+    (λ there. read_stays shape cpu remove is (min count shape.elements) (buckets_from shape (unwrap_or start 0)) [] lists) (λ past. refl)))
+    (λ other. refl)
+look_stays shape cpu (BatchUpdate flags pairs) lists is = absurd is
+look_stays shape cpu (BatchDelete flags keys) lists is = absurd is
 
 -- the lists after the call of an index are what that call makes of those before it
 next_lists : (shape : Shape) (calls : List Call) (n : ℕ) (call : Call) (lists : Finals) → slice_get calls n ≡ Some call
@@ -81,11 +125,11 @@ reply_at shape [] n reply lists none = absurd (none-some reply none)
 reply_at shape (first ∷ calls) zero reply lists is = (first, refl, same_Some _ reply is)
 reply_at shape (first ∷ calls) (suc n) reply lists is = reply_at shape calls n reply (after_call shape first.cpu first.verb lists).0 is
 
-pub lookups_stay : (script : Script) (n : ℕ) (call : Call) → slice_get script.calls n ≡ Some call → IsLookup call.verb → lists_before script (n + 1) ≡ lists_before script n
-lookups_stay script n call is lookup =
-    rw add-one (next_lists script.shape script.calls n call (opening script.shape) is ∙ lookup_stays script.shape call.cpu call.verb (lists_before script n) lookup)
+pub looks_stay : (script : Script) (n : ℕ) (call : Call) → slice_get script.calls n ≡ Some call → OnlyLooks call.verb → lists_before script (n + 1) ≡ lists_before script n
+looks_stay script n call is look =
+    rw add-one (next_lists script.shape script.calls n call (opening script.shape) is ∙ look_stays script.shape call.cpu call.verb (lists_before script n) look)
 
-replies_are : (script : Script) → (serial_on_lists script).replies ≡ replies_from script.shape (opening script.shape) script.calls
+pub replies_are : (script : Script) → (serial_on_lists script).replies ≡ replies_from script.shape (opening script.shape) script.calls
 unfolding serial_on_lists
 replies_are script = refl
 

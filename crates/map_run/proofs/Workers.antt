@@ -1,24 +1,19 @@
 -- Workers of a race: passes split off the first one, the calls of each CPU, and passes joined again.
-use Rattle.std.proofs.Common.{◌≡◌, ◌≢◌, ℕ, zero, suc, ◌+◌, ◌<◌, Bool, true, false, cond, eqb, List, [], ◌∷◌, ◌++◌, length, get_or, map, take, Option, Some, None, option_map, refl, ap, sym, ◌∙◌, subst, arith, append_assoc, append-nil}
+use Rattle.std.proofs.Common.{◌≡◌, ◌≢◌, ℕ, zero, suc, ◌+◌, ◌<◌, Bool, true, false, cond, eqb, List, [], ◌∷◌, ◌++◌, length, get_or, map, take, Option, None, refl, ap, sym, ◌∙◌, subst, arith, append_assoc, append-nil}
 use Rattle.std.specs.Prelude.{MatchBool, filter, slice_get}
 use Rattle.std.proofs.lemmas.List.{length-append, length-take-le}
 use Rattle.std.proofs.lemmas.List.Elements.{filter-append}
 use Rattle.std.proofs.lemmas.Option.{slice_get_read}
 use Rattle.map_types.specs.declared.attr.Shape.{Shape}
 use Rattle.map_types.specs.declared.call.Call.{Call}
-use Rattle.map_types.specs.declared.kind.MapKind.{MapKind}
-use Rattle.map_types.specs.declared.kind.MapKind.TheVariants.{Hash, PercpuHash, LruHash, LruPercpuHash}
 use Rattle.map_types.specs.declared.reply.Reply.{Reply}
 use Rattle.map_types.specs.Creation.{IsShape}
-use Rattle.map_types.specs.Stored.{Stored}
 use Rattle.map_types.proofs.CreationLemmas.{bounds_of_shape}
-use Rattle.place_words.specs.Logs as logs
 use Rattle.place_words.specs.Walks.{spare_left}
 use Rattle.place_core.proofs.ElementLemmas.{by_test}
 use Rattle.place_table.specs.declared.view.Turned.{Turned}
 use Rattle.place_table.specs.declared.view.View.{View}
 use Rattle.place_table.specs.Known.{turn_at}
-use Rattle.place_table.specs.Opening.{first_spares}
 use Rattle.place_table.specs.Passes.{PassView, TableView, spare_of, begun, IsFirstPass, IsKeptOf, Split}
 use Rattle.place_table.specs.Views.{is_among, all_strands, without_cpu}
 use Rattle.place_table.proofs.Gives.{first_has}
@@ -33,7 +28,7 @@ use Rattle.map_run.specs.Work.{AreCallsBy, HasWorked, IsCallBy, count_of, has_tu
 use Rattle.map_run.specs.Workers.{HaveWorked, HasDone, HasSplit}
 use Rattle.map_run.proofs.AnyRecord.{spares_of}
 use Rattle.map_run.proofs.CallsByLogs.{all_real}
-use Rattle.map_run.proofs.SerialRun.{spare_first, take_next}
+use Rattle.map_run.proofs.SerialRun.{element_is, first_same, spare_first, take_next}
 
 -- CPUs
 
@@ -70,17 +65,6 @@ below_more n F here before cpu less =
     by_test cpu n (λ _. F cpu) (λ is. subst F (sym is) here) (λ other. before cpu other (omega arith))
 
 -- Passes split off
-
-element_is : (spare : Option Stored) → element_of spare ≡ option_map (λ (body : Stored). body.element) spare
-element_is None = refl
-element_is (Some body) = refl
-
--- the first spares, as the table has them and as a run does
-first_same : (shape : Shape) (kind : MapKind) → first_spares kind shape ≡ logs.first_spares shape kind
-first_same shape Hash = refl
-first_same shape PercpuHash = refl
-first_same shape LruHash = refl
-first_same shape LruPercpuHash = refl
 
 pub first_split : (t : TableView) (p : PassView) → IsShape t.shape → IsFirstPass t p → HasSplit t 0 p
 first_split t p shape_is first =

@@ -8,8 +8,9 @@ use Rattle.place_words.specs.Locks.{is_lock, lock_count, lock_named}
 use Rattle.place_words.specs.Logs.{State, new_state, run, answers}
 use Rattle.place_table.specs.declared.view.Turned.{Turned}
 use Rattle.place_table.specs.declared.view.View.{View}
+use Rattle.place_table.specs.Calls.{element_of}
 use Rattle.place_table.specs.Known.{KnowsAll}
-use Rattle.place_table.specs.Passes.{PassView, TableView, IsInNoCall, IsKeptOf, IsPassOf}
+use Rattle.place_table.specs.Passes.{PassView, TableView, spare_of, IsInNoCall, IsKeptOf, IsPassOf}
 use Rattle.place_table.specs.Views.{is_among, bit_seen, place_of, kept_step}
 use Rattle.map_report.specs.Runs.{steps_of_calls}
 
@@ -26,13 +27,14 @@ pub record KnowsState (shape : Shape) (state : State) (steps : List StrandStep) 
   pub real : All (IsOfMap shape) v.steps
 
 -- These calls were run from the table's opening on, and answered so, on a pass that has all CPUs and is in no call. It has one
--- strand, and of its turns, in order, some or all are recorded. Nothing is said of what the calls did and answered where the pass
--- knows that the record of a lock is lost.
-pub record HaveRunByLogs (t : TableView) (calls : List Call) (p : PassView) (replies : List Reply) : Type 0 where
+-- strand, and of its turns, in order, some or all are recorded. Nothing is said of what the calls did and answered, nor of the spares
+-- that it keeps, where the pass knows that the record of a lock is lost.
+pub record HaveRun (t : TableView) (calls : List Call) (p : PassView) (replies : List Reply) : Type 0 where
   pub of_table : IsPassOf t p
   pub all_cpus : (cpu : ℕ) → cpu < t.shape.cpus → is_among cpu p.view.cpus ≡ true
   pub in_no_call : IsInNoCall p
   pub ended : p.view.ended ≡ []
   pub kept : IsKeptOf t.shape p.view.steps [] p.view.kept
   pub knows : p.view.lost ≡ [] → KnowsState t.shape (run t.shape 1 calls (new_state t.shape)) (steps_of_calls t.shape 1 calls (new_state t.shape)) p.view
+  pub spares : p.view.lost ≡ [] → (cpu : ℕ) → element_of (spare_of cpu p.spares) ≡ (run t.shape 1 calls (new_state t.shape)).spares cpu
   pub answered : p.view.lost ≡ [] → replies ≡ answers t.shape 1 calls (new_state t.shape)

@@ -1,6 +1,8 @@
 -- A map that doesn't evict, as its user sees it: keys with their values, and room for so many of them. It knows no
--- elements, buckets, freelists or spares.
-use Rattle.std.specs.Prelude.{ℕ, ◌==◌, nat_lt, not, Bool, List, [], ◌∷◌, length, Option, Some, None, is_some, find, filter, bytes_eq, if◌then◌else◌}
+-- elements, freelists or spares, and of buckets only how many there are, and so no order of keys: which ones next key and batch reads
+-- tell is not for it to say.
+use Rattle.std.specs.Prelude.{◌≡◌, ℕ, ◌<◌, ◌≤◌, ◌==◌, nat_lt, not, Bool, List, [], ◌∷◌, length, Option, Some, None, is_some, IsSome, MatchOption, find, filter, unwrap_or, bytes_eq, if◌then◌else◌, ⊤}
+use Rattle.std.specs.List.{AllByRecursion}
 use Rattle.map_types.specs.declared.attr.Shape.{Shape}
 use Rattle.map_types.specs.declared.call.Call.{Call}
 use Rattle.map_types.specs.declared.call.Verb.{Verb}
@@ -10,8 +12,9 @@ use Rattle.map_types.specs.declared.kind.Side.TheVariants.{Sys}
 use Rattle.map_types.specs.declared.refusal.Errno.{Errno}
 use Rattle.map_types.specs.declared.refusal.Errno.TheVariants.{Enoent, E2big, Eexist, Einval}
 use Rattle.map_types.specs.declared.reply.Reply.{Reply}
-use Rattle.map_types.specs.declared.reply.Reply.TheVariants.{Done, Value, Refused}
+use Rattle.map_types.specs.declared.reply.Reply.TheVariants.{Done, Value, Refused, Batch, Count}
 use Rattle.map_types.specs.Sides.{value_read, values_written, new_values}
+use Rattle.map_report.specs.Serial.{each_done, unless_flags}
 
 -- a key with its values: one for each CPU on the kinds that keep them apart, else one
 pub record Entry : Type 0 where
@@ -61,25 +64,99 @@ abbrev pub taken_out : List ℕ → Reply → Option Entry → List Entry → Li
 taken_out key reply None entries = (entries, Refused Enoent)
 taken_out key reply (Some entry) entries = (without key entries, reply)
 
--- What a call on a CPU makes of the entries, and what it answers. Walks and batches aren't run yet.
-unfoldable pub answered : Shape → ℕ → Verb → List Entry → List Entry × Reply
-answered shape cpu (Lookup side key) entries = (entries, read shape side cpu (entry_of key entries))
-answered shape cpu (Update side flags key value) entries =
+-- an update
+abbrev pub put_in : Shape → Side → ℕ → ℕ → List ℕ → List ℕ → List Entry → List Entry × Reply
+put_in shape side cpu flags key value entries =
     unless (refusal shape.capacity flags (is_some (entry_of key entries)) (length entries)) entries
     (put shape side cpu key value entries)
-answered shape cpu (Delete key) entries = taken_out key Done (entry_of key entries) entries
-answered shape cpu (Take key) entries = taken_out key (read shape Sys cpu (entry_of key entries)) (entry_of key entries) entries
-answered shape cpu (Next key) entries = (entries, Refused Einval)
-answered shape cpu (BatchRead remove count start flags) entries = (entries, Refused Einval)
-answered shape cpu (BatchUpdate flags pairs) entries = (entries, Refused Einval)
-answered shape cpu (BatchDelete flags keys) entries = (entries, Refused Einval)
 
--- the answers to calls in their order, from entries on, and the entries after them
-abbrev pub answers_from : Shape → List Entry → List Call → List Reply
-answers_from shape entries [] = []
-answers_from shape entries (call ∷ calls) =
-    (answered shape call.cpu call.verb entries).1 ∷ answers_from shape (answered shape call.cpu call.verb entries).0 calls
+abbrev pub took_out : List ℕ → List Entry → List Entry × Reply
+took_out key entries = taken_out key Done (entry_of key entries) entries
 
-abbrev pub entries_after : Shape → List Entry → List Call → List Entry
-entries_after shape entries [] = entries
-entries_after shape entries (call ∷ calls) = entries_after shape (answered shape call.cpu call.verb entries).0 calls
+-- the entries without the keys that a batch read told
+abbrev pub without_all : List (List ℕ × List ℕ) → List Entry → List Entry
+without_all [] entries = entries
+without_all (pair ∷ pairs) entries = without_all pairs (without pair.0 entries)
+
+abbrev pub without_told : Reply → List Entry → List Entry
+without_told Done entries = entries
+without_told (Value bytes) entries = entries
+without_told (Refused errno) entries = entries
+without_told (Batch stop taken next) entries = without_all taken entries
+without_told (Count stop done) entries = entries
+
+-- Next key answers ENOENT where there is no key. Else it answers what it told.
+abbrev pub told_next : Reply → List Entry → Reply
+told_next told [] = Refused Enoent
+told_next told (entry ∷ entries) = told
+
+-- A batch read with a count of 0 does nothing. Any other answers what it told, and one that removes leaves the entries without the
+-- keys that it told.
+abbrev pub read_out : Bool → ℕ → Reply → List Entry → List Entry × Reply
+read_out remove count told entries =
+    if count == 0 then (entries, Done) else (if remove then without_told told entries else entries, told)
+
+-- What a call on a CPU makes of the entries, and what it answers. Batch updates and batch deletes are their single calls one
+-- after another, up to the first that is refused. In which order walks go over the keys isn't known here. So what a walk told,
+-- the next key or the pairs of a batch, is handed in. A batch whose flags aren't 0 is EINVAL, whatever it told.
+unfoldable pub answered : Shape → ℕ → Verb → Reply → List Entry → List Entry × Reply
+answered shape cpu (Lookup side key) told entries = (entries, read shape side cpu (entry_of key entries))
+answered shape cpu (Update side flags key value) told entries = put_in shape side cpu flags key value entries
+answered shape cpu (Delete key) told entries = took_out key entries
+answered shape cpu (Take key) told entries = taken_out key (read shape Sys cpu (entry_of key entries)) (entry_of key entries) entries
+answered shape cpu (Next key) told entries = (entries, told_next told entries)
+answered shape cpu (BatchRead remove count start flags) told entries = unless_flags flags entries (read_out remove count told entries)
+answered shape cpu (BatchUpdate flags pairs) told entries =
+    unless_flags flags entries (each_done (λ (pair : List ℕ × List ℕ). put_in shape Sys cpu 0 pair.0 pair.1) pairs 0 entries)
+answered shape cpu (BatchDelete flags keys) told entries = unless_flags flags entries (each_done took_out keys 0 entries)
+
+-- the answers to calls in their order, from entries on, and the entries after them, where the calls told these replies
+abbrev pub answers_from : Shape → List Entry → List Call → List Reply → List Reply
+answers_from shape entries [] told = []
+answers_from shape entries (call ∷ calls) [] = []
+answers_from shape entries (call ∷ calls) (reply ∷ told) =
+    (answered shape call.cpu call.verb reply entries).1 ∷ answers_from shape (answered shape call.cpu call.verb reply entries).0 calls told
+
+abbrev pub entries_after : Shape → List Entry → List Call → List Reply → List Entry
+entries_after shape entries [] told = entries
+entries_after shape entries (call ∷ calls) [] = entries
+entries_after shape entries (call ∷ calls) (reply ∷ told) = entries_after shape (answered shape call.cpu call.verb reply entries).0 calls told
+
+-- What walks tell is there.
+
+-- the key has an entry, and the value is the one that the system call reads of it, which is the same on each CPU (here CPU 0)
+abbrev pub IsThere : Shape → List Entry → List ℕ × List ℕ → Type 0
+IsThere shape entries pair = MatchOption (entry_of pair.0 entries) ⊥ (λ entry. pair.1 ≡ value_read shape Sys 0 entry.values)
+
+-- A walk may end here: there is no key at all, or the given one is there.
+abbrev pub WalkMayEnd : Option (List ℕ) → List Entry → Type 0
+WalkMayEnd None entries = entries ≡ []
+WalkMayEnd (Some key) entries = entry_of key entries ≡ None → entries ≡ []
+
+-- next key tells a key that has an entry, or ENOENT where a walk may end
+abbrev pub TellsKey : Option (List ℕ) → List Entry → Reply → Type 0
+TellsKey from entries Done = ⊥
+TellsKey from entries (Value key) = IsSome (entry_of key entries)
+TellsKey from entries (Refused errno) = (errno ≡ Enoent) × WalkMayEnd from entries
+TellsKey from entries (Batch stop taken next) = ⊥
+TellsKey from entries (Count stop done) = ⊥
+
+-- a batch read that starts at some bucket tells pairs that are there, or ENOENT where it starts past the last bucket
+abbrev pub TellsPairs : Shape → ℕ → List Entry → Reply → Type 0
+TellsPairs shape start entries Done = ⊥
+TellsPairs shape start entries (Value bytes) = ⊥
+TellsPairs shape start entries (Refused errno) = (errno ≡ Enoent) × (shape.buckets ≤ start)
+TellsPairs shape start entries (Batch stop taken next) = (start < shape.buckets) × AllByRecursion (IsThere shape entries) taken
+TellsPairs shape start entries (Count stop done) = ⊥
+
+-- Of a batch read whose flags aren't 0, or whose count is 0, `answered` says all.
+abbrev pub TellsThere : Shape → List Entry → Verb → Reply → Type 0
+TellsThere shape entries (Lookup side key) reply = ⊤
+TellsThere shape entries (Update side flags key value) reply = ⊤
+TellsThere shape entries (Delete key) reply = ⊤
+TellsThere shape entries (Take key) reply = ⊤
+TellsThere shape entries (Next key) reply = TellsKey key entries reply
+TellsThere shape entries (BatchRead remove count start flags) reply =
+    flags ≡ 0 → 0 < count → TellsPairs shape (unwrap_or start 0) entries reply
+TellsThere shape entries (BatchUpdate flags pairs) reply = ⊤
+TellsThere shape entries (BatchDelete flags keys) reply = ⊤

@@ -1,5 +1,5 @@
 -- How a run of the program ends: its status, what it writes, and what it keeps.
-use Rattle.std.specs.Prelude.{◌≡◌, ℕ, ◌≤◌, ◌⊎◌, Bool, true, false, List, ◌++◌, length, Option, Some, None, Result, Ok, Err, IsTrue, codes, decimal, nat_le, if◌then◌else◌, ⊤}
+use Rattle.std.specs.Prelude.{◌≡◌, ℕ, ◌≤◌, ◌⊎◌, false, List, ◌++◌, length, Option, Some, None, Result, Ok, Err, IsTrue, codes, decimal, nat_le, if◌then◌else◌, ⊤}
 use Rattle.map_run.specs.declared.record.Finish.{Finish}
 use Rattle.map_report.specs.declared.record.Options.{Options}
 use Rattle.map_run.specs.declared.words.Asked.{Asked}
@@ -23,7 +23,6 @@ use Rattle.map_run.specs.Reads.{Takes, TakesAll}
 use Rattle.map_run.specs.Laws.{SerialLaws}
 use Rattle.map_run.specs.Copies.{IsCopyOf}
 use Rattle.map_report.specs.Runs.{serial}
-use Rattle.map_run.specs.Served.{is_built}
 use Rattle.map_report.specs.Json.{json}
 use Rattle.map_report.specs.Summary.{summary}
 use Rattle.map_report.specs.Text.{report}
@@ -44,12 +43,6 @@ script_run Serial script = script
 script_run Race script = script
 script_run Gen script = generated_script script
 
--- The run of a script that was read is built. That of generated calls always is.
-abbrev pub is_built_in : Mode → Script → Bool
-is_built_in Serial script = is_built script
-is_built_in Race script = is_built script
-is_built_in Gen script = true
-
 -- how a run ends, before anything is written
 pub data Ending : Type 0 where
   BadWords : Ending
@@ -57,7 +50,6 @@ pub data Ending : Type 0 where
   TooLong : Ending
   Faulty : ℕ → Cause → Ending
   Refused : CreateRefusal → Ending
-  NotBuilt : Ending
   OutOfMemory : Ending
   Ran : Asked → Script → RunRecord → Ending
 
@@ -70,7 +62,6 @@ status_of ReadFault = 3
 status_of OutOfMemory = 5
 status_of (Refused why) = 6
 status_of TooLong = 7
-status_of NotBuilt = 8
 
 -- why a map can't be created
 abbrev pub limit_name : Bound → List ℕ
@@ -105,7 +96,6 @@ text_due ReadFault = codes "bpfmap: read\n"
 text_due OutOfMemory = codes "bpfmap: memory\n"
 text_due (Refused why) = codes "bpfmap: map refused: " ++ refusal_name why ++ codes "\n"
 text_due TooLong = codes "bpfmap: too long\n"
-text_due NotBuilt = codes "bpfmap: not built\n"
 
 -- what is kept of the run
 abbrev pub kept_of : Ending → Option RunRecord
@@ -135,12 +125,9 @@ RanAs Gen script kept = (kept ≡ serial script) × SerialLaws script
 -- Which endings an input has that was read to its end, where this is asked for.
 abbrev pub HasInput : Asked → List ℕ → Ending → Type 0
 HasInput asked input (Ran was_asked script kept) =
-    (was_asked ≡ asked) × (read_as (form_of asked.mode) input ≡ Ok script) × IsTrue (is_built_in asked.mode script)
-    × RanAs asked.mode (script_run asked.mode script) kept
+    (was_asked ≡ asked) × (read_as (form_of asked.mode) input ≡ Ok script) × RanAs asked.mode (script_run asked.mode script) kept
 HasInput asked input (Faulty line cause) = read_as (form_of asked.mode) input ≡ Err (Fault line cause)
 HasInput asked input (Refused why) = read_as (form_of asked.mode) input ≡ Err (Create why)
-HasInput asked input NotBuilt =
-    (script : Script) × (read_as (form_of asked.mode) input ≡ Ok script) × (is_built_in asked.mode script ≡ false)
 HasInput asked input OutOfMemory = ⊤
 HasInput asked input _ = ⊥
 
@@ -176,19 +163,18 @@ pub record Finishes (MayEnd : Ending → Type 0) (before after : Option Written)
   pub cause : MayEnd ending
   pub ends : Ends ending before after rose finish
 
--- the status of what the input of a mode is read as
-abbrev pub status_read : Mode → Result Script ScriptRefusal → ℕ
-status_read mode (Ok script) = if is_built_in mode script then 0 else 8
-status_read mode (Err (Fault line cause)) = 1
-status_read mode (Err (Create why)) = 6
-status_read mode (Err NoMemory) = 5
+-- The status of what an input is read as. Each script is run, so it ends with 0.
+abbrev pub status_read : Result Script ScriptRefusal → ℕ
+status_read (Ok script) = 0
+status_read (Err (Fault line cause)) = 1
+status_read (Err (Create why)) = 6
+status_read (Err NoMemory) = 5
 
 -- the status of words and an input, where memory is found and no count of faults rises
 abbrev pub status_due : List (List ℕ) → List ℕ → ℕ
 status_due words input =
-    let mode = mode_of words in
     if are_words words
-    then (if nat_le (length input) 16777216 then status_read mode (read_as (form_of mode) input) else 7)
+    then (if nat_le (length input) 16777216 then status_read (read_as (form_of (mode_of words)) input) else 7)
     else 2
 
 -- Each status has its cause: it is the one due, or a read failed, a write failed, or memory was not found.

@@ -2,11 +2,11 @@ pub mod ByLogs
 pub mod Copies
 pub mod Entries
 pub mod Finish
-pub mod Going
 pub mod Laws
 pub mod Memory
 pub mod Reads
 pub mod Served
+pub mod WalkLaws
 pub mod Words
 pub mod Work
 pub mod Workers

@@ -1,20 +1,19 @@
 //! The top call: from the words and the input to what is written.
 
-ghost use Rattle.std.specs.Prelude.{◌≡◌, ◌≤◌, ◌++◌, ℕ, List, Some, None, false, length, map, codes, decimal, IfOk, IfSome, OnOk, IsTrue, string_bytes};
+ghost use Rattle.std.specs.Prelude.{◌≡◌, ◌≤◌, ◌++◌, ℕ, List, Some, None, false, length, map, codes, decimal, IfOk, IfSome, OnOk, string_bytes};
 ghost use Rattle.map_run.specs.Copies.{IsCopyOf};
 ghost use Rattle.map_run.specs.declared.words.Asked.{Asked};
-ghost use Rattle.map_run.specs.Finish.{Ending, form_of, lines_of, out, RanAs, refusal_name, script_run, kept_of, status_of, text_due, Ends, Finishes, HasCause, HasInput, HasSource, is_built_in, IsStatus, status_due};
+ghost use Rattle.map_run.specs.Finish.{Ending, form_of, lines_of, out, RanAs, refusal_name, script_run, kept_of, status_of, text_due, Ends, Finishes, HasCause, HasInput, HasSource, IsStatus, status_due};
 ghost use Rattle.map_script.specs.CauseName.{cause_name};
 ghost use Rattle.map_script.specs.Reading.{IsReadAs, read_as};
 ghost use Rattle.map_run.specs.Reads.{Rose};
-ghost use Rattle.map_run.specs.Served.{is_built, IsScript};
+ghost use Rattle.map_run.specs.Served.{IsScript};
 ghost use Rattle.map_run.specs.Words.{are_words};
 
 use crate::delivery::deliver;
 use crate::race::run_race;
 use crate::reading::{ReadStop, read_all};
 use crate::serial::run_serial;
-use crate::served::is_built;
 use crate::words::{Asked, Mode, WordsStop, asked_of};
 use crate::{Finish, RunRecord, Sink, Source};
 use map_report::{json_of, summary_of, text_of};
@@ -60,7 +59,6 @@ fn run_calls_in<R: Threads + Wait + Sync, G: Gate>(
     gate: &G,
 ) -> Result<(RunRecord, Closed), NoMemory>
     requires script { IsScript script.now }
-    requires built { IsTrue (is_built script.now) }
     ensures ran { IfOk result (λ kept. RanAs mode script.now kept.0) }
     ensures closed { IfOk result (λ kept. IsCopyOf kept.0 kept.1) }
 {
@@ -110,7 +108,6 @@ fn run_calls<R: Threads + Wait + Sync, G: Gate>(
     gate: &G,
 ) -> Result<Run, NoMemory>
     requires script { IsScript script.now }
-    requires built { IsTrue (is_built script.now) }
     ensures ran { IfOk result (λ run. RanAs asked.mode script.now run.kept) }
     ensures closed { IfOk result (λ run. IsCopyOf run.kept run.closed) }
     ensures text { IfOk result (λ run. run.text.items ≡ out asked script.now run.kept) }
@@ -129,7 +126,7 @@ fn run_in<R: Threads + Wait + Sync, G: Gate>(
     gate: &G,
 ) -> Result<Run, NoMemory>
     requires read { IsReadAs (form_of asked.mode) script.now }
-    requires built { IsTrue (is_built_in asked.mode script.now) }
+    requires script { IsScript script.now }
     ensures ran { IfOk result (λ run. RanAs asked.mode (script_run asked.mode script.now) run.kept) }
     ensures closed { IfOk result (λ run. IsCopyOf run.kept run.closed) }
     ensures text { IfOk result (λ run. run.text.items ≡ out asked (script_run asked.mode script.now) run.kept) }
@@ -153,8 +150,8 @@ fn end_with_run<R: Threads + Wait + Sync, K: Sink, G: Gate>(
     sink: &mut K,
     gate: &G,
 ) -> Finish
+    requires short { length input.now ≤ 16777216 }
     requires read { read_as (form_of asked.mode) input.now ≡ Ok script.now }
-    requires built { IsTrue (is_built_in asked.mode script.now) }
     ensures { Finishes (HasInput asked input.now) (K.written sink.old) (K.written sink.new)
         (Rose (K.faults sink.old) (K.faults sink.new)) result }
 {
@@ -239,26 +236,6 @@ fn end_with_refusal<K: Sink>(input: &[u8], sink: &mut K, why: CreateRefusal) -> 
     end_with_line(sink, 6, refusal_line(why).as_bytes())
 }
 
-/// Ends a run whose input is a script.
-fn end_with_script<R: Threads + Wait + Sync, K: Sink, G: Gate>(
-    rt: &R,
-    alloc: Global,
-    asked: Asked,
-    input: &[u8],
-    script: &Script,
-    sink: &mut K,
-    gate: &G,
-) -> Finish
-    requires { read_as (form_of asked.mode) input.now ≡ Ok script.now }
-    ensures { Finishes (HasInput asked input.now) (K.written sink.old) (K.written sink.new)
-        (Rose (K.faults sink.old) (K.faults sink.new)) result }
-{
-    if !is_built_in(asked.mode, script) {
-        return end_with_line(sink, 8, b"bpfmap: not built\n");
-    }
-    end_with_run(rt, alloc, asked, input, script, sink, gate)
-}
-
 /// The form that the input of a mode has.
 fn form_of(mode: Mode) -> Form
     ensures { result ≡ form_of mode }
@@ -266,16 +243,6 @@ fn form_of(mode: Mode) -> Form
     match mode {
         Mode::Serial | Mode::Race => Form::Calls,
         Mode::Gen => Form::Generator,
-    }
-}
-
-/// Whether the run of a script in a mode is built.
-fn is_built_in(mode: Mode, script: &Script) -> bool
-    ensures { result ≡ is_built_in mode script.now }
-{
-    match mode {
-        Mode::Serial | Mode::Race => is_built(script),
-        Mode::Gen => true,
     }
 }
 
@@ -293,7 +260,7 @@ fn end_with_input<R: Threads + Wait + Sync, K: Sink, G: Gate>(
         (Rose (K.faults sink.old) (K.faults sink.new)) result }
 {
     match read_script(alloc, input, form_of(asked.mode)) {
-        Ok(script) => end_with_script(rt, alloc, asked, input, &script, sink, gate),
+        Ok(script) => end_with_run(rt, alloc, asked, input, &script, sink, gate),
         Err(ScriptRefusal::Fault { line, cause }) => end_with_fault(
             alloc, input, sink, line, cause,
         ),
@@ -348,12 +315,12 @@ fn end_with_source<R: Threads + Wait + Sync, S: Source, K: Sink, G: Gate>(
 ///
 /// The words are the program's name, which is not looked at, then the mode once, `serial`, `race` or `gen`, and each of
 /// `--history`, `--dump` and `--json` at most once, in any order. One `--` may stand among them, after which no option
-/// follows. A script whose run is built is run: in mode `serial` its calls one after another, in mode `race` the calls of
-/// each CPU in a thread of their own. In mode `gen` the script has a generator line, whose calls are run one after another,
-/// and the report has a summary in place of the replies. In all modes the gate is passed at each call's beginning and end,
-/// and wherever a lock is taken or given back, on the call's CPU. With `--history` the report says what happened under each
-/// lock, with `--dump` what the map holds at the end, and with `--json` it is a JSON object. The status says how it ended,
-/// and what was written is the report or one line:
+/// follows. Each script is run: in mode `serial` its calls one after another, in mode `race` the calls of each CPU in a thread
+/// of their own. In mode `gen` the script has a generator line, whose calls are run one after another, and the report has a
+/// summary in place of the replies. In all modes the gate is passed at each call's beginning and end, and wherever a lock is
+/// taken or given back, on the call's CPU. With `--history` the report says what happened under each lock, with `--dump` what
+/// the map holds at the end, and with `--json` it is a JSON object. The status says how it ended, and what was written is the
+/// report or one line:
 ///
 /// | status | comes | written |
 /// |---|---|---|
@@ -365,7 +332,6 @@ fn end_with_source<R: Threads + Wait + Sync, S: Source, K: Sink, G: Gate>(
 /// | 5 | memory was not found | `bpfmap: memory` |
 /// | 6 | exactly where the script's map can't be created | `bpfmap: map refused: WHY` |
 /// | 7 | exactly where 16,777,217 bytes were read | `bpfmap: too long` |
-/// | 8 | exactly where the input is a script whose run isn't built, in no mode but `serial` and `race` | `bpfmap: not built` |
 ///
 /// Status 4 replaces the one whose report or line could not be written, and status 5 may come in the place of any other. The
 /// record of the run is kept, with what its table left, exactly where its report was due: with status 0, and with 4 in the
@@ -384,7 +350,7 @@ pub fn bpfmap<R: Threads + Wait + Sync, S: Source, K: Sink, G: Gate>(
         (Rose (K.faults sink.old) (K.faults sink.new)) result }
 
     // Where the source tells its bytes, the status is the one that they have, unless a read or a write failed or
-    // memory was not found.
+    // memory was not found. So each script is run: with good words its status is 0, or 5, or a fault's.
     ensures status { IfSome (S.left source.old) (λ input. IsStatus (status_due (map string_bytes words.now) input)
         result.status (Rose (S.faults source.old) (S.faults source.new)) (Rose (K.faults sink.old) (K.faults sink.new))) }
 

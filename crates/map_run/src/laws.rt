@@ -2,11 +2,10 @@
 
 ghost use Rattle.map_report.specs.Record.{IsRecord};
 ghost use Rattle.map_report.specs.Runs.{serial};
-ghost use Rattle.map_run.specs.Served.{IsScript};
 ghost use Rattle.map_script.specs.declared.script.Script as scripts;
+ghost use Rattle.map_script.specs.WellFormed.{IsWellFormed};
 
-/// Every run in serial order of a script, of a map of any kind and with all calls, also those that no program runs yet, is a
-/// record of the script.
+/// Every run in serial order of a script, of a map of any kind and with all calls, is a record of the script.
 pub fn record_laws()
-    ensures { (script : scripts.Script) → IsScript script → IsRecord script (serial script) }
+    ensures { (script : scripts.Script) → IsWellFormed script → IsRecord script (serial script) }
 {}

@@ -1,6 +1,7 @@
 //! Runs scripts of calls on maps, and prints what they answered.
 #![tactic(auto)]
 
+mod batch_calls;
 mod delivery;
 mod finish;
 mod hold;
@@ -12,7 +13,6 @@ mod race;
 mod reading;
 mod record;
 mod serial;
-mod served;
 mod sink;
 mod source;
 mod words;
@@ -26,6 +26,5 @@ pub use memory::{MemSink, MemSource};
 pub use race::run_race;
 pub use record::Finish;
 pub use serial::run_serial;
-pub use served::is_built;
 pub use sink::Sink;
 pub use source::Source;

@@ -1,6 +1,6 @@
 //! One call of a run.
 
-ghost use Rattle.std.specs.Prelude.{◌≡◌, true, IfOk, length};
+ghost use Rattle.std.specs.Prelude.{◌≡◌, true, IfOk, IfSome, length};
 ghost use Rattle.map_types.specs.declared.call.Verb.TheVariants as verbs;
 ghost use Rattle.map_types.specs.Creation.{IsShape};
 ghost use Rattle.map_types.specs.ValueLen.{value_len_of};
@@ -11,8 +11,9 @@ ghost use Rattle.map_batch.specs.Calls.{table_of};
 ghost use Rattle.map_report.specs.Record.{MayAnswer};
 ghost use Rattle.map_run.specs.Served.{IsServedCall};
 
-use map_batch::{AnyMap, AnyRefusal};
-use map_types::{Absent, Call, Errno, Gate, List, NoMemory, Reply, Side, Verb, value_len};
+use crate::batch_calls::{batch_delete, batch_read, batch_update};
+use map_batch::{AnyMap, AnyRefusal, next_key};
+use map_types::{Absent, Bytes, Call, Errno, Gate, List, NoMemory, Reply, Side, Verb, value_len};
 use place_table::Pass;
 use std::alloc::Global;
 use std::sync::Wait;
@@ -56,11 +57,17 @@ pub(crate) fn run_call<R: Wait, G: Gate>(
         ),
         Verb::Delete { key } => delete(rt, map, pass, key.as_slice(), gate),
         Verb::Take { key } => take(rt, alloc, map, pass, key.as_slice(), gate),
-        // A script that is run has no such call.
-        Verb::Next { .. }
-        | Verb::BatchRead { .. }
-        | Verb::BatchUpdate { .. }
-        | Verb::BatchDelete { .. } => unreachable!(),
+        Verb::Next { key } => next(rt, alloc, map, pass, key, gate),
+        Verb::BatchRead {
+            remove,
+            count,
+            start,
+            flags,
+        } => batch_read(rt, alloc, map, pass, *remove, *count, *start, *flags, gate),
+        Verb::BatchUpdate { flags, pairs } => {
+            batch_update(rt, alloc, map, pass, *flags, pairs, gate)
+        }
+        Verb::BatchDelete { flags, keys } => batch_delete(rt, map, pass, *flags, keys, gate),
     }
 }
 
@@ -149,7 +156,48 @@ fn take<R: Wait, G: Gate>(
     Ok(value_reply(got, out))
 }
 
-/// The answer of a lookup or a take, which left this value where the key was there.
+/// Answers the key that follows this one in the order of a walk, or the first one.
+fn next<R: Wait, G: Gate>(
+    rt: &R,
+    alloc: Global,
+    map: &AnyMap,
+    pass: &mut Pass,
+    key: &Option<Bytes>,
+    gate: &G,
+) -> Result<Reply, NoMemory>
+    requires can { CanCall (table_of map.now) pass.old }
+    requires key { IfSome key.now (λ key. length key ≡ (table_of map.now).shape.key_size) }
+    ensures answers { IfOk result (λ reply. MayAnswer (table_of map.now).shape (verbs.Next key.now) reply) }
+    ensures called { IfOk result (λ reply. Called (table_of map.now) pass.old pass.new (verbs.Next key.now) reply) }
+{
+    let mut out = zeros(alloc, map.table().shape().key_size)?;
+    let got = next_into(rt, alloc, map, pass, key, out.as_mut_slice(), gate);
+    Ok(value_reply(got, out))
+}
+
+/// Copies to `out` the key that follows this one, or the first one.
+fn next_into<R: Wait, G: Gate>(
+    rt: &R,
+    alloc: Global,
+    map: &AnyMap,
+    pass: &mut Pass,
+    key: &Option<Bytes>,
+    out: &mut [u8],
+    gate: &G,
+) -> Result<(), Absent>
+    requires can { CanCall (table_of map.now) pass.old }
+    requires key { IfSome key.now (λ key. length key ≡ (table_of map.now).shape.key_size) }
+    requires out { length out.old ≡ (table_of map.now).shape.key_size }
+    ensures called { Called (table_of map.now) pass.old pass.new (verbs.Next key.now) (reply_of_value result out.new) }
+    ensures sized { length out.new ≡ length out.old }
+{
+    match key {
+        None => next_key(map, rt, alloc, pass, None, out, gate),
+        Some(key) => next_key(map, rt, alloc, pass, Some(key.as_slice()), out, gate),
+    }
+}
+
+/// The answer of a lookup, a take or a next key, which left this value or key where there was one.
 fn value_reply(got: Result<(), Absent>, value: Vec<u8>) -> Reply
     ensures { result ≡ reply_of_value got value.items }
 {

@@ -1,12 +1,12 @@
 //! A race: a worker for each CPU, all at once.
 
-ghost use Rattle.std.specs.Prelude.{◌≡◌, ◌≢◌, ◌≤◌, ◌<◌, ℕ, false, [], ◌∷◌, All, IsTrue, IfOk, OnOk, length, map, slice_index_or, vec_capacity};
+ghost use Rattle.std.specs.Prelude.{◌≡◌, ◌≢◌, ◌≤◌, ◌<◌, ℕ, false, [], ◌∷◌, All, IfOk, OnOk, length, map, slice_index_or, vec_capacity};
 ghost use Rattle.map_types.specs.declared.call.Call.{Call};
 ghost use Rattle.map_types.specs.Creation.{IsShape};
 ghost use Rattle.map_batch.specs.Calls.{table_of};
 ghost use Rattle.map_run.specs.declared.worker.Worker.{Worker};
 ghost use Rattle.map_run.specs.Copies.{IsCopyOf};
-ghost use Rattle.map_run.specs.Served.{is_built, IsScript, IsServed, IsServedCall};
+ghost use Rattle.map_run.specs.Served.{IsScript, IsServed, IsServedCall};
 ghost use Rattle.map_run.specs.Work.{HasWorked, HaveRaced, IsRaceRecord, count_of, race_left, replies_of, strand_of_cpu};
 ghost use Rattle.map_run.specs.Workers.{HasDone, HasSplit, HaveWorked, replies_by};
 ghost use Rattle.map_report.specs.Record.{has_cpu};
@@ -30,8 +30,8 @@ use std::thread::Threads;
 /// the script. What is kept are the replies, in the order of the script, what happened under each lock, a strand for each CPU,
 /// and what the map holds at the end; beside it stands what the closed table left. It fails only where memory does.
 ///
-/// The script is one as `read_script` and `generate` give them, and its run is built. A worker passes the gate at each call's
-/// beginning and end, and wherever it takes a lock or gives one back.
+/// The script is one as `read_script` and `generate` give them, whose batch writes have fewer than 2^32 entries each. A worker
+/// passes the gate at each call's beginning and end, and wherever it takes a lock or gives one back.
 pub fn run_race<R: Threads + Wait + Sync, G: Gate>(
     rt: &R,
     alloc: Global,
@@ -39,14 +39,13 @@ pub fn run_race<R: Threads + Wait + Sync, G: Gate>(
     gate: &G,
 ) -> Result<(RunRecord, Closed), NoMemory>
     requires script { IsScript script.now }
-    requires built { IsTrue (is_built script.now) }
     ensures record { IfOk result (λ kept. IsRaceRecord script.now kept.0) }
     ensures closed { IfOk result (λ kept. IsCopyOf kept.0 kept.1) }
 {
     race_script(rt, alloc, script, gate)
 }
 
-/// Runs the calls of a script whose run is built, and closes the map.
+/// Runs the calls of a script, and closes the map.
 fn race_script<R: Threads + Wait + Sync, G: Gate>(
     rt: &R,
     alloc: Global,

@@ -1,15 +1,15 @@
 //! A run in serial order.
 
-ghost use Rattle.std.specs.Prelude.{◌≡◌, ◌≤◌, false, [], All, IsTrue, IfOk, length};
+ghost use Rattle.std.specs.Prelude.{◌≡◌, ◌≤◌, false, [], All, IfOk, length};
 ghost use Rattle.std.specs.List.{range_with_len};
 ghost use Rattle.map_types.specs.Creation.{IsShape};
 ghost use Rattle.map_batch.specs.Calls.{table_of};
-ghost use Rattle.map_run.specs.Going.{HaveRun};
+ghost use Rattle.map_run.specs.ByLogs.{HaveRun};
 ghost use Rattle.map_run.specs.Laws.{SerialLaws};
 ghost use Rattle.map_run.specs.Copies.{IsCopyOf};
 ghost use Rattle.map_report.specs.Runs.{serial};
 ghost use Rattle.map_run.specs.Copies.{record_left, strand_left};
-ghost use Rattle.map_run.specs.Served.{is_built, IsScript, IsServed, IsServedCall};
+ghost use Rattle.map_run.specs.Served.{IsScript, IsServed, IsServedCall};
 
 use crate::RunRecord;
 use crate::one_call::run_call;
@@ -25,9 +25,10 @@ use std::sync::Wait;
 /// kept are the replies, what happened under each lock, and what the map holds at the end; beside it stands what the closed
 /// table left. It fails only where memory does.
 ///
-/// The script is one as `read_script` and `generate` give them, and its run is built. The record is the one by the logs of the
-/// locks, which serves maps of any kind (`serial`, map_report/specs/Runs.antt). Of a map that doesn't evict it is also the one
-/// on plain lists, by the rules of the kernel functions that map_report/specs/Serial.antt names: the laws say so.
+/// The script is one as `read_script` and `generate` give them, whose batch writes have fewer than 2^32 entries each. The record
+/// is the one by the logs of the locks, which serves maps of any kind (`serial`, map_report/specs/Runs.antt). Of a map that
+/// doesn't evict it is also the one on plain lists, by the rules of the kernel functions that map_report/specs/Serial.antt
+/// names: the laws say so.
 ///
 /// The gate is passed at each call's beginning and end, and wherever a lock is taken or given back, on the call's CPU.
 pub fn run_serial<R: Wait, G: Gate>(
@@ -37,7 +38,6 @@ pub fn run_serial<R: Wait, G: Gate>(
     gate: &G,
 ) -> Result<(RunRecord, Closed), NoMemory>
     requires script { IsScript script.now }
-    requires built { IsTrue (is_built script.now) }
     ensures record { IfOk result (λ kept. kept.0 ≡ serial script.now) }
     ensures laws { SerialLaws script.now }
     ensures closed { IfOk result (λ kept. IsCopyOf kept.0 kept.1) }
@@ -45,7 +45,7 @@ pub fn run_serial<R: Wait, G: Gate>(
     run_script(rt, alloc, script, gate)
 }
 
-/// Runs the calls of a script whose run is built, and closes the map.
+/// Runs the calls of a script, and closes the map.
 fn run_script<R: Wait, G: Gate>(
     rt: &R,
     alloc: Global,

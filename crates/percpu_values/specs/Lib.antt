@@ -1,3 +1,4 @@
 pub mod BodyList
+pub mod Cells
 pub mod Layout
 pub mod Lending

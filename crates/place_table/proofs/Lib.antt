@@ -1,3 +1,4 @@
+pub mod Crossing
 pub mod BucketBodies
 pub mod BucketTurns
 pub mod Came

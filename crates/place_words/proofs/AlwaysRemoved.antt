@@ -32,7 +32,7 @@ use Rattle.place_words.specs.Sets.{ListSet, has_row, own_scans, own_target, rota
 use Rattle.place_words.specs.Shrinking.{look_removed, try_removed, after_looks, forced_rows}
 use Rattle.place_words.specs.Takings.{look_probes, walk_probes, shrink_probes, probes_of, stored_hash, evicts, listed_rows, rows_brought, brings_home, set_of}
 use Rattle.place_words.specs.Turns.{Turn, ring, on_lock, on_bucket_of}
-use Rattle.place_words.proofs.EachTurn.{IsOfCall, TurnLaw, does_right, verb_passes}
+use Rattle.place_words.proofs.EachTurn.{IsOfCall, IsOfWalk, TurnLaw, does_right, verb_passes}
 
 abbrev Took : Try → Type 0
 Took probe = try_removed probe ≡ true
@@ -193,23 +193,33 @@ module _ (shape : Shape) (cpu number : ℕ) where
       by true = freed_fine e _
       by false = All-nil Took
 
-  bucket_fine : (part : BucketPart) → IsOfCall (λ side key value. Unit {0}) part → FindsNoneHeld (parts.Bucket part)
-  bucket_fine (Lookup side key got) is = All-nil Took
-  bucket_fine (Update side flags key value offer put) is = All-nil Took
-  bucket_fine (Delete key removed) is = All-nil Took
-  bucket_fine (Take key removed) is = All-nil Took
-  bucket_fine (Next key found) is = All-nil Took
-  bucket_fine (First key) is = All-nil Took
-  bucket_fine (Walk remove room result) is = All-nil Took
-  bucket_fine (Evict e probed) is = absurd is
+  call_fine : (key : List ℕ) (part : BucketPart) → IsOfCall (λ side key value. Unit {0}) key part → FindsNoneHeld (parts.Bucket part)
+  call_fine of (Lookup side key got) is = All-nil Took
+  call_fine of (Update side flags key value offer put) is = All-nil Took
+  call_fine of (Delete key removed) is = All-nil Took
+  call_fine of (Take key removed) is = All-nil Took
+  call_fine of (Next key found) is = All-nil Took
+  call_fine of (First key) is = All-nil Took
+  call_fine of (Walk remove room result) is = All-nil Took
+  call_fine of (Evict e probed) is = absurd is
+
+  walk_fine : (part : BucketPart) → IsOfWalk part → FindsNoneHeld (parts.Bucket part)
+  walk_fine (Lookup side key got) is = absurd is
+  walk_fine (Update side flags key value offer put) is = absurd is
+  walk_fine (Delete key removed) is = absurd is
+  walk_fine (Take key removed) is = absurd is
+  walk_fine (Next key found) is = absurd is
+  walk_fine (First key) is = All-nil Took
+  walk_fine (Walk remove room result) is = All-nil Took
+  walk_fine (Evict e probed) is = absurd is
 
   fine_law : TurnLaw shape cpu number (λ side key value. Unit {0}) (λ state. Unit {0}) (λ turns. All (λ (turn : Turn). FindsNoneHeld turn.part) turns) (Unit {0})
   fine_law = record {
     none = All-nil IsFine;
     both = λ xs ys first second. All-append IsFine xs ys first second;
     keeps = λ turns fine state kept. tt;
-    in_key = λ key part is. one_fine (on_bucket_of shape key part) (bucket_fine part is);
-    in_bucket = λ bucket within part is. one_fine (on_lock (Bucket bucket) (parts.Bucket part)) (bucket_fine part is);
+    in_key = λ key part is. one_fine (on_bucket_of shape key part) (call_fine key part is);
+    in_bucket = λ bucket within part is. one_fine (on_lock (Bucket bucket) (parts.Bucket part)) (walk_fine part is);
     pushes = λ plain e. one_fine _ (All-nil Took);
     looks = λ plain from there part. one_fine _ (All-nil Took);
     frees = λ lru state e. one_fine (freeing shape state e) (freeing_fine state e);

@@ -35,11 +35,11 @@ use Rattle.place_words.specs.Sets.{has_row}
 use Rattle.place_words.specs.Takings.{probes_of, stored_hash, evicts, listed_rows, rows_brought, set_of}
 use Rattle.place_words.specs.Turns.{Turn, ring, on_lock}
 use Rattle.place_words.proofs.DoneLaws.{lies_a_bucket}
-use Rattle.place_words.proofs.EachTurn.{IsOfCall, VerbPasses, TurnLaw, does_right}
+use Rattle.place_words.proofs.EachTurn.{IsOfCall, IsOfWalk, VerbPasses, TurnLaw, does_right}
 use Rattle.place_words.proofs.HistoryLemmas.{content_more}
 
 -- a turn that writes only what passes
-abbrev WritesIn : (Side → List ℕ → List ℕ → Type 0) → BucketPart → Type 0
+abbrev pub WritesIn : (Side → List ℕ → List ℕ → Type 0) → BucketPart → Type 0
 WritesIn Passes (Lookup side key got) = Unit {0}
 WritesIn Passes (Update side flags key value offer put) = Passes side key value
 WritesIn Passes (Delete key removed) = Unit {0}
@@ -49,14 +49,14 @@ WritesIn Passes (First key) = Unit {0}
 WritesIn Passes (Walk remove room result) = Unit {0}
 WritesIn Passes (Evict e probed) = Unit {0}
 
-abbrev Writes : (Side → List ℕ → List ℕ → Type 0) → Part → Type 0
+abbrev pub Writes : (Side → List ℕ → List ℕ → Type 0) → Part → Type 0
 Writes Passes (parts.Bucket part) = WritesIn Passes part
 Writes Passes (parts.Free part) = Unit {0}
 Writes Passes (parts.Local part) = Unit {0}
 Writes Passes (parts.Global part) = Unit {0}
 Writes Passes (parts.Own part) = Unit {0}
 
-abbrev AllWrite : (Side → List ℕ → List ℕ → Type 0) → List Turn → Type 0
+abbrev pub AllWrite : (Side → List ℕ → List ℕ → Type 0) → List Turn → Type 0
 AllWrite Passes [] = Unit {0}
 AllWrite Passes (turn ∷ turns) = Writes Passes turn.part × AllWrite Passes turns
 
@@ -65,15 +65,25 @@ module _ (shape : Shape) (Passes : Side → List ℕ → List ℕ → Type 0) wh
   write_both [] ys first second = second
   write_both (turn ∷ xs) ys first second = (first.0, write_both xs ys first.1 second)
 
-  of_call : (part : BucketPart) → IsOfCall Passes part → WritesIn Passes part
-  of_call (Lookup side key got) is = tt
-  of_call (Update side flags key value offer put) is = is
-  of_call (Delete key removed) is = tt
-  of_call (Take key removed) is = tt
-  of_call (Next key found) is = tt
-  of_call (First key) is = tt
-  of_call (Walk remove room result) is = tt
-  of_call (Evict e probed) is = absurd is
+  of_call : (of : List ℕ) (part : BucketPart) → IsOfCall Passes of part → WritesIn Passes part
+  of_call of (Lookup side key got) is = tt
+  of_call of (Update side flags key value offer put) is = is.1
+  of_call of (Delete key removed) is = tt
+  of_call of (Take key removed) is = tt
+  of_call of (Next key found) is = tt
+  of_call of (First key) is = tt
+  of_call of (Walk remove room result) is = tt
+  of_call of (Evict e probed) is = absurd is
+
+  of_walk : (part : BucketPart) → IsOfWalk part → WritesIn Passes part
+  of_walk (Lookup side key got) is = absurd is
+  of_walk (Update side flags key value offer put) is = absurd is
+  of_walk (Delete key removed) is = absurd is
+  of_walk (Take key removed) is = absurd is
+  of_walk (Next key found) is = absurd is
+  of_walk (First key) is = tt
+  of_walk (Walk remove room result) is = tt
+  of_walk (Evict e probed) is = absurd is
 
   -- taking and freeing write nothing
   evict_writes : (probe : Try) (key_hash : Option ℕ) → AllWrite Passes (option_to_list (option_map (evicts shape probe) key_hash))
@@ -120,7 +130,7 @@ module _ (shape : Shape) (Passes : Side → List ℕ → List ℕ → Type 0) wh
   unfolding taken_own
   own_writes cpu key_hash state = probed_writes state (CpuLru cpu) (parts.Own (own_turn key_hash state.bits (own_at shape state cpu))) tt
 
-  acquired_writes : (cpu number key_hash : ℕ) (state : State) → AllWrite Passes (acquired shape cpu number key_hash state).turns
+  pub acquired_writes : (cpu number key_hash : ℕ) (state : State) → AllWrite Passes (acquired shape cpu number key_hash state).turns
   unfolding acquired
   acquired_writes cpu number key_hash state = by shape.common
     where
@@ -132,7 +142,7 @@ module _ (shape : Shape) (Passes : Side → List ℕ → List ℕ → Type 0) wh
   freed_writes e None = tt
   freed_writes e (Some on) = tt
 
-  freeing_writes : (state : State) (e : ℕ) → Writes Passes (freeing shape state e).part
+  pub freeing_writes : (state : State) (e : ℕ) → Writes Passes (freeing shape state e).part
   unfolding freeing
   freeing_writes state e = by shape.common
     where
@@ -213,8 +223,8 @@ module _ (shape : Shape) (Passes : Side → List ℕ → List ℕ → Type 0) wh
       none = tt;
       both = write_both;
       keeps = λ turns pass state are. all_keep cpu number within turns pass state are;
-      in_key = λ key part is. (of_call part is, tt);
-      in_bucket = λ bucket below part is. (of_call part is, tt);
+      in_key = λ key part is. (of_call key part is, tt);
+      in_bucket = λ bucket below part is. (of_walk part is, tt);
       pushes = λ plain e. (tt, tt);
       looks = λ plain from there part. (tt, tt);
       frees = λ lru state e. (freeing_writes state e, tt);

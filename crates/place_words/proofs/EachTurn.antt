@@ -58,16 +58,27 @@ range_within from (suc n) x there =
 pub buckets_within : (shape : Shape) (from : ℕ) → AreWithin (λ bucket. bucket < shape.buckets) (buckets_from shape from)
 buckets_within shape from x there = let bounds = range_within from (shape.buckets - from) x there in omega (arith, bounds.0, bounds.1)
 
--- a part of a bucket that is no eviction, and writes only what passes
-abbrev pub IsOfCall : (Side → List ℕ → List ℕ → Type 0) → BucketPart → Type 0
-IsOfCall Passes (Lookup side key got) = Unit {0}
-IsOfCall Passes (Update side flags key value offer put) = Passes side key value
-IsOfCall Passes (Delete key removed) = Unit {0}
-IsOfCall Passes (Take key removed) = Unit {0}
-IsOfCall Passes (Next key found) = Unit {0}
-IsOfCall Passes (First key) = Unit {0}
-IsOfCall Passes (Walk remove room result) = Unit {0}
-IsOfCall Passes (Evict e probed) = ⊥
+-- a part of a key's bucket that is no eviction, and writes only this key and what passes
+abbrev pub IsOfCall : (Side → List ℕ → List ℕ → Type 0) → List ℕ → BucketPart → Type 0
+IsOfCall Passes of (Lookup side key got) = Unit {0}
+IsOfCall Passes of (Update side flags key value offer put) = (key ≡ of) × Passes side key value
+IsOfCall Passes of (Delete key removed) = Unit {0}
+IsOfCall Passes of (Take key removed) = Unit {0}
+IsOfCall Passes of (Next key found) = Unit {0}
+IsOfCall Passes of (First key) = Unit {0}
+IsOfCall Passes of (Walk remove room result) = Unit {0}
+IsOfCall Passes of (Evict e probed) = ⊥
+
+-- a part of a walk over buckets: next key's look at a bucket's head, or a batch's turn
+abbrev pub IsOfWalk : BucketPart → Type 0
+IsOfWalk (Lookup side key got) = ⊥
+IsOfWalk (Update side flags key value offer put) = ⊥
+IsOfWalk (Delete key removed) = ⊥
+IsOfWalk (Take key removed) = ⊥
+IsOfWalk (Next key found) = ⊥
+IsOfWalk (First key) = Unit {0}
+IsOfWalk (Walk remove room result) = Unit {0}
+IsOfWalk (Evict e probed) = ⊥
 
 -- a call that writes only what passes
 abbrev pub PassAll : (Side → List ℕ → List ℕ → Type 0) → List (List ℕ × List ℕ) → Type 0
@@ -116,8 +127,8 @@ pub record TurnLaw (shape : Shape) (cpu number : ℕ) (Passes : Side → List �
   pub none : Fits []
   pub both : (xs ys : List Turn) → Fits xs → Fits ys → Fits (xs ++ ys)
   pub keeps : (turns : List Turn) → Fits turns → (state : State) → Kept state → Kept (all_turned shape cpu number turns state)
-  pub in_key : (key : List ℕ) (part : BucketPart) → IsOfCall Passes part → Fits (on_bucket_of shape key part ∷ [])
-  pub in_bucket : (bucket : ℕ) → bucket < shape.buckets → (part : BucketPart) → IsOfCall Passes part → Fits (on_lock (Bucket bucket) (parts.Bucket part) ∷ [])
+  pub in_key : (key : List ℕ) (part : BucketPart) → IsOfCall Passes key part → Fits (on_bucket_of shape key part ∷ [])
+  pub in_bucket : (bucket : ℕ) → bucket < shape.buckets → (part : BucketPart) → IsOfWalk part → Fits (on_lock (Bucket bucket) (parts.Bucket part) ∷ [])
   pub pushes : is_lru shape.kind ≡ false → (e : ℕ) → Fits (on_freelist_of cpu (Pushed e) ∷ [])
   pub looks : is_lru shape.kind ≡ false → (from : ℕ) → 1 ≤ times from (ring cpu shape.cpus) → (part : FreePart) → Fits (on_freelist_of from part ∷ [])
   pub frees : is_lru shape.kind ≡ true → (state : State) (e : ℕ) → Fits (freeing shape state e ∷ [])
@@ -214,14 +225,14 @@ module _ {shape : Shape} {cpu number : ℕ} {Passes : Side → List ℕ → List
         (popped_fits state others (others_within (λ c. 1 ≤ times c (ring cpu shape.cpus)) from others within))
 
   puts_right : (side : Side) (flags : ℕ) (key value : List ℕ) → Passes side key value → (put : Put) → IsRight (puts_in shape side flags key value put)
-  puts_right side flags key value pass put = other_reply _ _ (law.in_key key (Update side flags key value None put) pass) (put_error put)
+  puts_right side flags key value pass put = other_reply _ _ (law.in_key key (Update side flags key value None put) (refl, pass)) (put_error put)
 
   offered_right : is_lru shape.kind ≡ true → (side : Side) (flags : ℕ) (key value : List ℕ) → Passes side key value → (state : State) (got : Option ℕ) → (got ≡ None → Lacks) → IsRight (offered shape cpu number side flags key value state got)
   offered_right lru side flags key value pass state None lacks = record { fits = law.none; lacks = λ is. lacks refl }
   offered_right lru side flags key value pass state (Some e) lacks =
       let put : Put = put_offered shape flags e (present_in shape state key) in
       other_reply _ _
-      (one_more (on_bucket_of shape key (Update side flags key value (Some e) put)) _ (law.in_key key (Update side flags key value (Some e) put) pass) (all_freed_fits lru (option_to_list (left_over e put)) _))
+      (one_more (on_bucket_of shape key (Update side flags key value (Some e) put)) _ (law.in_key key (Update side flags key value (Some e) put) (refl, pass)) (all_freed_fits lru (option_to_list (left_over e put)) _))
       (put_error put)
 
   evicting_right : is_lru shape.kind ≡ true → (side : Side) (flags : ℕ) (key value : List ℕ) → Passes side key value → (state : State) → Kept state → IsRight (evicting_does shape cpu number side flags key value state)

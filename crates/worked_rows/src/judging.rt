@@ -24,7 +24,7 @@ pub(crate) fn fault_of(
     if left.written != due {
         return Ok(Some(difference(alloc, left.written, due)?));
     }
-    let status = if row.waits { 8 } else { row.status };
+    let status = row.status;
     if left.status != status {
         let got = left.status;
         return Ok(Some(format!(in alloc; "the status is {got} and not {status}")?));
@@ -42,13 +42,9 @@ pub(crate) fn fault_of(
     }
 }
 
-/// What has to be written: the report, or as much of it as the sink takes. A row that waits has the line of what isn't built.
+/// What has to be written: the report, or as much of it as the sink takes.
 fn due_of<'b>(row: &'b Row, call: Option<u32>) -> &'b [u8] {
-    let whole: &[u8] = if row.waits {
-        b"bpfmap: not built\n"
-    } else {
-        row.report.as_slice()
-    };
+    let whole = row.report.as_slice();
     let mut count = whole.len().min(row.room as usize);
     if let (Some(failing), Some(call)) = (row.failing, call) {
         if failing.of_sink {

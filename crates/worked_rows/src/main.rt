@@ -34,7 +34,6 @@ fn tell<R: Threads + Wait + Sync + Print>(
     let name = row.name;
     tally.rows = tally.rows.saturating_add(1);
     match shows(rt, alloc, row)? {
-        Ok(runs) if row.waits => println!(rt; "{name}: waits, {runs}"),
         Ok(runs) => println!(rt; "{name}: ok, {runs}"),
         Err(why) => {
             tally.failed = tally.failed.saturating_add(1);

@@ -64,8 +64,6 @@ pub(crate) struct Row<'a> {
     pub(crate) turns: u32,
     /// Whether a hold has to run out of turns.
     pub(crate) missed: bool,
-    /// Whether the row waits for a run that isn't built yet, so that the program has to say so.
-    pub(crate) waits: bool,
     block: Block,
 }
 
@@ -84,7 +82,6 @@ impl<'a> Row<'a> {
             holds: Vec::new(alloc),
             turns: 100_000_000,
             missed: false,
-            waits: false,
             block: Block::Script,
         }
     }
@@ -124,7 +121,6 @@ impl<'a> Row<'a> {
                 let _ = self.input.pop();
             }
             "missed" => self.missed = true,
-            "waits" => self.waits = true,
             _ => return Err(RowStop::Unclear),
         }
         Ok(())

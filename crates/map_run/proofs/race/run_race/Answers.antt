@@ -5,7 +5,7 @@ pub race_script-requires-clause-shape : goal.race_script-requires-clause-shape
 race_script-requires-clause-shape g c κs within = (well_formed c.args.script.now c.requires.script).shape
 
 pub race_script-requires-clause-served : goal.race_script-requires-clause-served
-race_script-requires-clause-served g c κs within = IsServed-from_script c.args.script.now c.requires.script c.requires.built
+race_script-requires-clause-served g c κs within = IsServed-from_script c.args.script.now c.requires.script
 
 pub race_script-requires-clause-few : goal.race_script-requires-clause-few
 race_script-requires-clause-few g c κs within = (well_formed c.args.script.now c.requires.script).few

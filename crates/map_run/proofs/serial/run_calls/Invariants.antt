@@ -1,6 +1,6 @@
 use Rattle.std.proofs.Common.{◌≡◌, take}
 use Rattle.map_batch.specs.Calls.{table_of}
-use Rattle.map_run.specs.Going.{HaveRun}
+use Rattle.map_run.specs.ByLogs.{HaveRun}
 use Rattle.map_run.proofs.serial.run_calls.Given as goal
 
 -- the calls so far were run

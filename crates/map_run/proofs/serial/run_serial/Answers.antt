@@ -6,11 +6,10 @@ pub run_script-requires-clause-shape : goal.run_script-requires-clause-shape
 run_script-requires-clause-shape g c κs within = (well_formed c.args.script.now c.requires.script).shape
 
 pub run_script-requires-clause-served : goal.run_script-requires-clause-served
-run_script-requires-clause-served g c κs within = IsServed-from_script c.args.script.now c.requires.script c.requires.built
+run_script-requires-clause-served g c κs within = IsServed-from_script c.args.script.now c.requires.script
 
 pub run_script-requires-clause-few : goal.run_script-requires-clause-few
 run_script-requires-clause-few g c κs within = (well_formed c.args.script.now c.requires.script).few
 
 pub returns-clause-laws : goal.returns-clause-laws
-returns-clause-laws g c =
-    serial_laws c.args.script.now c.requires.script (IsServed-from_script c.args.script.now c.requires.script c.requires.built)
+returns-clause-laws g c = serial_laws c.args.script.now c.requires.script

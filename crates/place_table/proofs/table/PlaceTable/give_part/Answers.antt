@@ -13,7 +13,7 @@ pub give_lock-requires-clause-may : goal.give_lock-requires-clause-may
 give_lock-requires-clause-may c =
     let can = c.requires in
     let first = c.exchange-history.ensures in
-    let second = c.exchange.ensures in
+    let second = c.exchange-3.ensures in
     let recorded = c.record_turn-history.ensures in
     let view_is = ap (λ z. z.view) c.pass.view_is in
     let seat_is = ap (λ z. z.0) second.3 ∙ ap (λ z. z.0) first.3 in (
@@ -32,13 +32,13 @@ give_lock-requires-clause-may c =
 pub invariant_of-pass : goal.invariant_of-pass
 invariant_of-pass c =
     let first = c.exchange-history.ensures in
-    let second = c.exchange.ensures in
-    is_pass_given _ c.pass.inside.seat.me.1 _ _ _ _ _ c.exchange.new.seat.me _ c.pass.invariant (ap (λ z. z.0) second.3 ∙ ap (λ z. z.0) first.3) (ap (λ z. rest z.1) second.3 ∙ ap (λ z. rest z.1) first.3) c.give_lock.ensures.gave refl
+    let second = c.exchange-3.ensures in
+    is_pass_given _ c.pass.inside.seat.me.1 _ _ _ _ _ c.exchange-3.new.seat.me _ c.pass.invariant (ap (λ z. z.0) second.3 ∙ ap (λ z. z.0) first.3) (ap (λ z. rest z.1) second.3 ∙ ap (λ z. rest z.1) first.3) c.give_lock.ensures.gave refl
 
 pub returns : goal.returns
 returns c =
     let first = c.exchange-history.ensures in
-    let second = c.exchange.ensures in
+    let second = c.exchange-3.ensures in
     let recorded = c.record_turn-history.ensures in
     let seat_is = ap (λ z. z.0) second.3 ∙ ap (λ z. z.0) first.3 in
-    gave_of c.args.pass.now _ c.args.part _ _ c.exchange.new.seat.me c.give_lock.new.seat.me (seat_is ∙ ap (λ z. z.view) c.pass.view_is) (entry_given_is _ _ _ _ _ _ _ _ _ _ recorded (ap (λ z. z.1) second.3) ∙ ap (λ z. entry_of z c.args.part) c.pass.view_is) c.give_lock.ensures.gave (search rules)
+    gave_of c.args.pass.now _ c.args.part _ _ c.exchange-3.new.seat.me c.give_lock.new.seat.me (seat_is ∙ ap (λ z. z.view) c.pass.view_is) (entry_given_is _ _ _ _ _ _ _ _ _ _ recorded (ap (λ z. z.1) second.3) ∙ ap (λ z. entry_of z c.args.part) c.pass.view_is) c.give_lock.ensures.gave (search rules)

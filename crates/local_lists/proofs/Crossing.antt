@@ -1,0 +1,14 @@
+-- A local set may cross threads, as its rows and its bodies may.
+use denote.RattleType.{RattleType}
+use denote.Builtin.{u32}
+use denote.Param.Send.{IsSend, plain_send, param_send, view_send}
+use denote.Param.SendFields.{declared_send, as_row_send}
+use denote.Struct.Field.{row_field}
+use Rattle.row_list.specs.declared.rows.Rows.{Ghosts}
+use Rattle.percpu_values.specs.contracts.stack.BodyStack as BodyStack
+use Rattle.percpu_values.proofs.Crossing.{stack_send}
+use Rattle.local_lists.specs.contracts.set.LocalSet as LocalSet
+use Rattle.local_lists.specs.contracts.set.LocalSet.TheInside as InLocal
+
+pub local_send : (R : RattleType) (g : Ghosts R.Denot) → IsSend R → IsSend (LocalSet.the_row R g)
+local_send R g s = view_send (InLocal.the_row R g) _ _ _ _ (declared_send (InLocal.the_type R g) (as_row_send (row_field R) s, (as_row_send (row_field BodyStack.the_row) stack_send, (as_row_send (row_field u32) (plain_send _ _ _ _ _), tt))))
