@@ -75,35 +75,26 @@ pub fn take_got(alloc: Global, key: &[u8], element: u32, value: &[u8]) -> Option
     }))
 }
 
-/// What an update gives, copied before its turn so that the turn itself finds no memory.
-#[derive(Drop)]
-pub struct Given {
-    pub key: Bytes,
-    pub value: Bytes,
-}
-
-impl Given {
-    /// Copies of a key and a value.
-    pub fn of(alloc: Global, key: &[u8], value: &[u8]) -> Result<Given, NoMemory>
-        ensures { IfOk result (λ given. (given.key ≡ key.now) × (given.value ≡ value.now)) }
-    {
-        Ok(Given {
-            key: bytes_of(alloc, key)?,
-            value: bytes_of(alloc, value)?,
-        })
-    }
-
-    /// The entry of an update that was offered this element, if any, and did this.
-    pub fn updated(self, side: Side, flags: u32, offer: Option<u32>, put: Put) -> Part
-        ensures { result ≡ parts.Bucket (turns.Update side flags self.key self.value offer put) }
-    {
-        Part::Bucket(BucketPart::Update {
-            side,
-            flags,
-            key: self.key,
-            value: self.value,
-            offer,
-            put,
-        })
-    }
+/// The entry of an update that was offered this element, if any, and did this.
+pub fn updated(
+    alloc: Global,
+    side: Side,
+    flags: u32,
+    key: &[u8],
+    value: &[u8],
+    offer: Option<u32>,
+    put: Put,
+) -> Option<Part>
+    ensures { IfSome result (λ part. part ≡ parts.Bucket (turns.Update side flags key.now value.now offer put)) }
+{
+    let key = bytes_of(alloc, key).ok()?;
+    let value = bytes_of(alloc, value).ok()?;
+    Some(Part::Bucket(BucketPart::Update {
+        side,
+        flags,
+        key,
+        value,
+        offer,
+        put,
+    }))
 }

@@ -1,4 +1,5 @@
 -- An absent key: freelists were looked at, and what one of them gave lies in the bucket, or the map is full.
+use Rattle.std.specs.Prelude.{IfSome}
 use Rattle.std.proofs.Common.{◌≡◌, ℕ, false, List, [], ◌∷◌, ◌++◌, map, sym, refl, ap, ◌∙◌, subst, Option, Some, None}
 use Rattle.map_types.specs.declared.attr.Shape.{Shape}
 use Rattle.map_types.specs.declared.call.Verb.TheVariants as verbs
@@ -28,13 +29,12 @@ use Rattle.place_table.specs.Views.{is_in_hand_of, with_in_hand, without_in_hand
 use Rattle.place_table.proofs.Entries.{append_nil}
 use Rattle.place_table.proofs.Hands.{in_hand_more, hand_back}
 use Rattle.hash_ops.specs.Calls.{spare_element}
-use Rattle.bucket_entries.specs.declared.parts.Given.{Given}
 use Rattle.hash_ops.specs.Free.{CanReach, Popped, Reached}
 use Rattle.place_table.specs.InBucket.{InBucket}
-use Rattle.hash_ops.specs.Under.{HasItsSpares, AnsweredWhole, Gives}
+use Rattle.hash_ops.specs.Under.{HasItsSpares, AnsweredAt, Gives}
 use Rattle.place_table.proofs.BucketTurns.{IsTurnWith}
 use Rattle.place_table.proofs.BucketBodies.{rows_taken}
-use Rattle.hash_ops.proofs.Under.{Under, hold_with, none_noted, under_nothing, under_reached, under_attached, may_reach, can_attach, can_give, left_whole, answered_whole, update_trace}
+use Rattle.hash_ops.proofs.Under.{Under, hold_with, none_noted, under_nothing, under_reached, under_attached, may_reach, can_attach, can_give, left_at, answered_at, update_trace}
 
 -- looks leave the spare
 looked_spare : (spare : Option ℕ) (cpus : List ℕ) (rest : List Turn) → spare_after spare (found_empty cpus ++ rest) ≡ spare_after spare rest
@@ -65,13 +65,13 @@ module _ (t : TableView) (bucket : ℕ) (q r : PassView) (chain : BodyList) (b :
         can_give t bucket q r chain.bodies b b.hold.now popped.steps chain (Update side flags key value None puts.Full) (under_looked t bucket q chain.bodies b r popped.steps popped.reached)
         turn.turn turn.sized (rows_taken b) (ap (λ (l : Lists). l.free) b.now) (none_noted t.shape r.view (hold_with b.hold b.hold.now) (Update side flags key value None puts.Full) plain refl)
 
-    pub answered_full : (s : PassView) (given : Given) (found : Part) → HasItsSpares q → Gives t bucket side flags key value given → found ≡ parts.Bucket (Update side flags key value None puts.Full) → GaveBack t (Bucket bucket) r s (contents.Bucket chain) (Some found)
-        → AnsweredWhole t q s (verbs.Update side flags key value) (Refused E2big)
-    answered_full s given found has gives is gave =
+    pub answered_full : (s : PassView) (found : Option Part) → HasItsSpares q → Gives t bucket side flags key value → IfSome found (λ x. x ≡ parts.Bucket (Update side flags key value None puts.Full)) → GaveBack t (Bucket bucket) r s (contents.Bucket chain) found
+        → AnsweredAt t bucket q s (verbs.Update side flags key value) (Refused E2big)
+    answered_full s found has gives is gave =
         let part : Part = parts.Bucket (Update side flags key value None puts.Full) in
-        let l = left_whole t bucket q r s chain.bodies b b.hold.now popped.steps (contents.Bucket chain) part found (under_looked t bucket q chain.bodies b r popped.steps popped.reached) can_give_full is gave in
-        answered_whole t bucket q r s (verbs.Update side flags key value) (Refused E2big) popped.steps part (found_empty (ring q.cpu t.shape.cpus)) has l.0 l.1 popped.reached.spares (λ e c. ap (is_in_hand_of e c) popped.hand) popped.trace
-        (update_trace t bucket q.cpu (spare_element q) side flags key value given puts.Full (found_empty (ring q.cpu t.shape.cpus)) gives refl)
+        let l = left_at t bucket q r s chain.bodies b b.hold.now popped.steps (contents.Bucket chain) part found (under_looked t bucket q chain.bodies b r popped.steps popped.reached) can_give_full is gave in
+        answered_at t bucket q r s (verbs.Update side flags key value) (Refused E2big) popped.steps part (found_empty (ring q.cpu t.shape.cpus)) has l.0 l.1 popped.reached.spares (λ e c. ap (is_in_hand_of e c) popped.hand) popped.trace
+        (update_trace t bucket q.cpu (spare_element q) side flags key value puts.Full (found_empty (ring q.cpu t.shape.cpus)) gives refl)
         (sym (looked_spare (spare_element q) (ring q.cpu t.shape.cpus) (record { lock = Bucket bucket; part = part } ∷ [])))
 
 -- one gave this element
@@ -91,16 +91,16 @@ module _ (t : TableView) (bucket : ℕ) (q r : PassView) (bodies : List Stored) 
         (λ x. turn.counts x ∙ sym (ap (λ (l : Lists). times x (rows (with_row (Bucket bucket) e l))) b.now ∙ ap (λ (l : List ℕ). times x (e ∷ l)) (append_nil (numbers bodies)))) (ap (λ (l : Lists). l.free) b.now)
         (none_noted t.shape r2.view (hold_with b.hold (with_row (Bucket bucket) e b.hold.now)) (Update side flags key value None (puts.Added e)) plain refl)
 
-    pub answered_added : (s : PassView) (given : Given) (found : Part) → HasItsSpares q → Gives t bucket side flags key value given → found ≡ parts.Bucket (Update side flags key value None (puts.Added e)) → GaveBack t (Bucket bucket) r2 s (contents.Bucket back) (Some found)
-        → AnsweredWhole t q s (verbs.Update side flags key value) Done
-    answered_added s given found has gives is gave =
+    pub answered_added : (s : PassView) (found : Option Part) → HasItsSpares q → Gives t bucket side flags key value → IfSome found (λ x. x ≡ parts.Bucket (Update side flags key value None (puts.Added e))) → GaveBack t (Bucket bucket) r2 s (contents.Bucket back) found
+        → AnsweredAt t bucket q s (verbs.Update side flags key value) Done
+    answered_added s found has gives is gave =
         let part : Part = parts.Bucket (Update side flags key value None (puts.Added e)) in
-        let l = left_whole t bucket q r2 s bodies b (with_row (Bucket bucket) e b.hold.now) popped.steps (contents.Bucket back) part found under_added can_give_added is gave in
+        let l = left_at t bucket q r2 s bodies b (with_row (Bucket bucket) e b.hold.now) popped.steps (contents.Bucket back) part found under_added can_give_added is gave in
         let looks = map (turn_of t.shape) popped.steps in
         let pops : Pops t.shape q.cpu e looks = subst (λ (n : ℕ). Pops t.shape q.cpu n looks) e_is popped.trace in
         let hand : r2.view.hand ≡ without_in_hand was.element q.cpu (with_in_hand was.element q.cpu q.view.hand) =
         ap (λ (z : PassView). z.view.hand) attaches.1 ∙ (λ i. without_in_hand (sym e_is i) (popped.reached.goes.cpu i) (popped.hand i)) in
-        answered_whole t bucket q r2 s (verbs.Update side flags key value) Done popped.steps part looks has l.0 l.1 (ap (λ (z : PassView). z.spares) attaches.1 ∙ popped.reached.spares)
+        answered_at t bucket q r2 s (verbs.Update side flags key value) Done popped.steps part looks has l.0 l.1 (ap (λ (z : PassView). z.spares) attaches.1 ∙ popped.reached.spares)
         (λ x c. ap (is_in_hand_of x c) hand ∙ hand_back was.element q.cpu q.view.hand (popped.fresh.in_no_hand q.cpu b.begun) x c) refl
-        (update_trace t bucket q.cpu (spare_element q) side flags key value given (puts.Added e) looks gives pops)
+        (update_trace t bucket q.cpu (spare_element q) side flags key value (puts.Added e) looks gives pops)
         (sym (popped_spare (spare_element q) t.shape q.cpu e looks (record { lock = Bucket bucket; part = part }) pops))

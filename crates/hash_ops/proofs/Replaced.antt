@@ -1,6 +1,6 @@
 -- A present key of a map of kind HASH: the spare element takes its place, and its element becomes the spare.
-use Rattle.std.proofs.Common.{◌≡◌, ◌≢◌, ℕ, ◌<◌, cond, true, false, List, [], ◌∷◌, ◌++◌, map, sym, refl, ap, ◌∙◌, subst, Some, None}
-use Rattle.std.specs.Prelude.{suc}
+use Rattle.std.proofs.Common.{◌≡◌, ◌≢◌, ℕ, ◌<◌, cond, true, false, List, [], ◌∷◌, ◌++◌, map, sym, refl, ap, ◌∙◌, subst, Option, Some, None}
+use Rattle.std.specs.Prelude.{suc, IfSome}
 use Rattle.map_types.specs.declared.attr.Shape.{Shape}
 use Rattle.map_types.specs.declared.call.Verb.TheVariants as verbs
 use Rattle.map_types.specs.declared.kind.DomainId.TheVariants.{Bucket}
@@ -30,11 +30,10 @@ use Rattle.place_table.proofs.Worlds.{true_false, some_is}
 use Rattle.place_words.specs.Traces.{IsPlainTrace, spare_after}
 use Rattle.place_table.specs.Known.{turn_of}
 use Rattle.hash_ops.specs.Calls.{spare_element, element_of}
-use Rattle.bucket_entries.specs.declared.parts.Given.{Given}
 use Rattle.place_table.specs.InBucket.{InBucket}
-use Rattle.hash_ops.specs.Under.{HasItsSpares, AnsweredWhole, Gives}
+use Rattle.hash_ops.specs.Under.{HasItsSpares, AnsweredAt, Gives}
 use Rattle.place_table.proofs.BucketTurns.{IsTurnWith}
-use Rattle.hash_ops.proofs.Under.{Under, hold_with, none_noted, under_nothing, under_spared, under_attached, under_detached, can_give, left_whole, update_trace, not_in_hand}
+use Rattle.hash_ops.proofs.Under.{Under, hold_with, none_noted, under_nothing, under_spared, under_attached, under_detached, can_give, left_at, update_trace, not_in_hand}
 
 -- Hands, with the old element in the place of the new one
 
@@ -113,13 +112,13 @@ module _ (t : TableView) (bucket : ℕ) (q : PassView) (bodies : List Stored) (b
       can_give t bucket q r4 bodies b now_replaced [] back (Update side flags key value None (puts.Replaced new old)) u turn.turn turn.sized (λ x. turn.counts x ∙ counts_replaced x) (ap (λ (l : Lists). l.free) b.now)
       (none_noted t.shape r4.view (hold_with b.hold now_replaced) (Update side flags key value None (puts.Replaced new old)) plain refl)
 
-  pub answered_replaced : (r4 s : PassView) (back : BodyList) (side : Side) (flags : ℕ) (key value : List ℕ) (given : Given) (found : Part) (was now : Stored) → HasItsSpares q → Gives t bucket side flags key value given → (u : Under t b.hold b.below q r4 now_replaced []) → IsTurnWith t.shape q.cpu (Update side flags key value None (puts.Replaced new old)) bodies back.bodies (new ∷ without old (numbers bodies))
-      → found ≡ parts.Bucket (Update side flags key value None (puts.Replaced new old)) → GaveBack t (Bucket bucket) r4 s (contents.Bucket back) (Some found)
+  pub answered_replaced : (r4 s : PassView) (back : BodyList) (side : Side) (flags : ℕ) (key value : List ℕ) (found : Option Part) (was now : Stored) → HasItsSpares q → Gives t bucket side flags key value → (u : Under t b.hold b.below q r4 now_replaced []) → IsTurnWith t.shape q.cpu (Update side flags key value None (puts.Replaced new old)) bodies back.bodies (new ∷ without old (numbers bodies))
+      → IfSome found (λ x. x ≡ parts.Bucket (Update side flags key value None (puts.Replaced new old))) → GaveBack t (Bucket bucket) r4 s (contents.Bucket back) found
       → spare_of q.cpu q.spares ≡ Some was → was.element ≡ new → spare_of q.cpu r4.spares ≡ Some now → now.element ≡ old → SparesDiffer q.cpu q.spares r4.spares → r4.view.hand ≡ handed new old q.cpu q.view.hand
-      → AnsweredWhole t q s (verbs.Update side flags key value) Done
-  answered_replaced r4 s back side flags key value given found was now has gives u turn is gave kept_was was_is kept_now now_is others hand_is =
+      → AnsweredAt t bucket q s (verbs.Update side flags key value) Done
+  answered_replaced r4 s back side flags key value found was now has gives u turn is gave kept_was was_is kept_now now_is others hand_is =
       let part : Part = parts.Bucket (Update side flags key value None (puts.Replaced new old)) in
-      let x = left_whole t bucket q r4 s bodies b now_replaced [] (contents.Bucket back) part found u (can_replace r4 back side flags key value u turn) is gave in
+      let x = left_at t bucket q r4 s bodies b now_replaced [] (contents.Bucket back) part found u (can_replace r4 back side flags key value u turn) is gave in
       let l = x.0 in
       let told : map (turn_of t.shape) (l.told ∷ []) ≡ record { lock = Bucket bucket; part = part } ∷ [] = ap (λ x. x ∷ []) l.told_is in
       let hash = (has.spares_only new q.cpu b.begun new_in_hand).3 in (
@@ -138,7 +137,7 @@ module _ (t : TableView) (bucket : ℕ) (q : PassView) (bodies : List Stored) (b
           told = l.told ∷ [];
           told_are = (l.is_told, tt);
           trace = subst (λ ts. IsPlainTrace t.shape q.cpu (spare_element q) (verbs.Update side flags key value) ts Done) (sym told)
-              (update_trace t bucket q.cpu (spare_element q) side flags key value given (puts.Replaced new old) [] gives (refl, ap element_of kept_was ∙ ap Some was_is));
+              (update_trace t bucket q.cpu (spare_element q) side flags key value (puts.Replaced new old) [] gives (refl, ap element_of kept_was ∙ ap Some was_is));
           spare = (λ i. element_of (spare_of (l.goes.cpu i) (l.spares i))) ∙ (ap element_of kept_now ∙ (ap Some now_is ∙ ap (spare_after (spare_element q)) (sym told)));
         },
         x.1,

@@ -49,7 +49,7 @@ use Rattle.place_table.specs.declared.view.Turned.{Turned}
 use Rattle.place_table.specs.Contents.{told, Fits, IsSized}
 use Rattle.place_table.specs.Flushes.{flushes}
 use Rattle.place_table.specs.Known.{Learns, turn_of, turn_at, IsBy}
-use Rattle.place_table.specs.Passes.{PassView, TableView, IsInNoCall, SparesDiffer, CanAttach, Attached, CanMark, Detached, Takes, CanGive, GaveSome, GaveBack, MayGiveBack, Goes, spare_of, with_view, with_spares, entry_of}
+use Rattle.place_table.specs.Passes.{PassView, TableView, IsInNoCall, SparesDiffer, CanAttach, Attached, CanMark, Detached, Takes, CanGive, GaveBack, MayGiveBack, Goes, spare_of, with_view, with_spares, entry_of}
 use Rattle.place_table.specs.Plays.{IsApartFromHands}
 use Rattle.place_table.specs.Rules.{IsAboveAll}
 use Rattle.place_table.specs.TurnNotes.{NotesFit, WasRead, ProbeFits, CameToHand}
@@ -60,12 +60,11 @@ use Rattle.place_table.proofs.Worlds.{among_first, by_bool, some_is, none_some, 
 use Rattle.place_table.proofs.Hands.{now_at_is}
 use Rattle.place_table.proofs.BucketTurns.{IsTurnWith}
 use Rattle.place_table.specs.Calls.{bits_of_part, bits_of_turns}
-use Rattle.hash_ops.specs.Calls.{CanCall, Leaves, Called, CalledWhole, CouldBe, IsTold, AreTold, spare_element, element_of}
+use Rattle.hash_ops.specs.Calls.{CanCall, Leaves, Called, CouldBe, IsTold, AreTold, LosesAtMost, spare_element, element_of}
 use Rattle.hash_ops.specs.Free.{CanReach, Reached}
-use Rattle.bucket_entries.specs.declared.parts.Given.{Given}
 use Rattle.place_table.specs.InBucket.{InBucket}
 use Rattle.hash_ops.proofs.FreeTurns.{elsewhere}
-use Rattle.hash_ops.specs.Under.{HasItsSpares, Enters, Finished, Answered, AnsweredWhole, Gives}
+use Rattle.hash_ops.specs.Under.{HasItsSpares, Enters, Finished, Answered, AnsweredAt, Gives}
 use Rattle.place_table.proofs.Worlds.{true_false}
 use Rattle.place_table.proofs.FirstSlots.{not_common}
 use Rattle.place_table.proofs.Gives.{none_passed}
@@ -346,18 +345,12 @@ left t bucket q r s bodies b now inner back part (Some x) u can is gave =
     let recorded : Goes r s (given_turn r can.hold part ∷ []) [] = subst (λ (z : Hold × Part). Goes r s (given_turn r z.0 z.1 ∷ []) []) (λ i. (hold_is i, is i)) (goes_gave r s x gave) in
     left_by t bucket q r s bodies b now inner back part part [] gave.at gave.kept u can can recorded (gave.after_is ∙ (λ i. with_view r (given gave.at (hold_is i) (entry_of r (is i)) gave.kept r.view))) (inl refl)
 
--- a part was given
-pub left_whole : (t : TableView) (bucket : ℕ) (q r s : PassView) (bodies : List Stored) (b : InBucket t bucket q bodies) (now : Lists) (inner : List Turned) (back : Content) (part found : Part) → Under t b.hold b.below q r now inner
-    → CanGive t (Bucket bucket) r back part → found ≡ part → GaveBack t (Bucket bucket) r s back (Some found) → (l : Left t bucket q r s inner part) × (l.lost ≡ [])
+-- no other lock was given back without a part
+pub left_at : (t : TableView) (bucket : ℕ) (q r s : PassView) (bodies : List Stored) (b : InBucket t bucket q bodies) (now : Lists) (inner : List Turned) (back : Content) (part : Part) (found : Option Part) → Under t b.hold b.below q r now inner
+    → CanGive t (Bucket bucket) r back part → IfSome found (λ x. x ≡ part) → GaveBack t (Bucket bucket) r s back found → (l : Left t bucket q r s inner part) × LosesAtMost (lock_number t.shape (Bucket bucket)) l.lost
 unfolding left left_by
-left_whole t bucket q r s bodies b now inner back part found u can is gave = (left t bucket q r s bodies b now inner back part (Some found) u can is gave, refl)
-
--- no part was given: the turn that is lost
-pub left_forgotten : (t : TableView) (bucket : ℕ) (q s : PassView) (bodies : List Stored) (b : InBucket t bucket q bodies) (back : Content) (gave : GaveSome t (Bucket bucket) q s back)
-    → (l : Left t bucket q q s [] gave.part) × (l.last ≡ given_turn q gave.can.hold gave.part) × (l.lost ≡ gave.can.hold.lock ∷ [])
-unfolding left_by
-left_forgotten t bucket q s bodies b back gave =
-    (left_by t bucket q q s bodies b b.hold.now [] back gave.part gave.part (gave.can.hold.lock ∷ []) gave.at q.view.kept (under_nothing t bucket q bodies b) gave.can gave.can (goes_gave_some t (Bucket bucket) q s back gave) gave.after_is (inl refl), refl, refl)
+left_at t bucket q r s bodies b now inner back part None u can is gave = (left t bucket q r s bodies b now inner back part None u can is gave, inr (λ i. gave.can.lock_is i ∷ []))
+left_at t bucket q r s bodies b now inner back part (Some x) u can is gave = (left t bucket q r s bodies b now inner back part (Some x) u can is gave, inl refl)
 
 -- Answers
 
@@ -421,14 +414,14 @@ answered_same t bucket q r s verb reply inner part turns has l spares hand turns
       spare = (λ i. element_of (spare_of (l.goes.cpu i) (same_spares i))) ∙ (spare ∙ ap (spare_after (spare_element q)) (sym whole));
     }
 
--- and no record was lost
-pub answered_whole : (t : TableView) (bucket : ℕ) (q r s : PassView) (verb : Verb) (reply : Reply) (inner : List Turned) (part : Part) (turns : List Turn) → HasItsSpares q → (l : Left t bucket q r s inner part) → l.lost ≡ [] → r.spares ≡ q.spares
+-- and no record but the bucket's was lost
+pub answered_at : (t : TableView) (bucket : ℕ) (q r s : PassView) (verb : Verb) (reply : Reply) (inner : List Turned) (part : Part) (turns : List Turn) → HasItsSpares q → (l : Left t bucket q r s inner part) → LosesAtMost (lock_number t.shape (Bucket bucket)) l.lost → r.spares ≡ q.spares
     → ((e c : ℕ) → is_in_hand_of e c r.view.hand ≡ is_in_hand_of e c q.view.hand) → map (turn_of t.shape) inner ≡ turns
     → IsPlainTrace t.shape q.cpu (spare_element q) verb (turns ++ record { lock = Bucket bucket; part = part } ∷ []) reply
-    → spare_element q ≡ spare_after (spare_element q) (turns ++ record { lock = Bucket bucket; part = part } ∷ []) → AnsweredWhole t q s verb reply
+    → spare_element q ≡ spare_after (spare_element q) (turns ++ record { lock = Bucket bucket; part = part } ∷ []) → AnsweredAt t bucket q s verb reply
 unfolding answered_same
-answered_whole t bucket q r s verb reply inner part turns has l whole spares hand turns_are trace spare =
-    (answered_same t bucket q r s verb reply inner part turns has l spares hand turns_are trace spare, whole)
+answered_at t bucket q r s verb reply inner part turns has l loses spares hand turns_are trace spare =
+    (answered_same t bucket q r s verb reply inner part turns has l spares hand turns_are trace spare, loses)
 
 -- the turns of a pass without what came before them
 pub turns_alone : (shape : Shape) (steps : List Turned) → map (turn_of shape) steps ≡ turns_of (map (turn_at shape) steps)
@@ -477,9 +470,9 @@ module _ (t : TableView) (p q : PassView) (verb : Verb) (reply : Reply) (called 
   pub spare_made : spare_element q ≡ spare_left t.shape (spare_element p) (map (turn_at t.shape) called.steps)
   spare_made = subst (λ (steps : List Turned). spare_element q ≡ spare_left t.shape (spare_element p) (map (turn_at t.shape) steps)) told_made called.spare
 
-pub called_whole : (t : TableView) (bucket : ℕ) (p q s : PassView) (chain : BodyList) (verb : Verb) (reply : Reply) → Enters t bucket p q chain → p.view.held ≡ [] → AnsweredWhole t q s verb reply → CalledWhole t p s verb reply
+pub called_at : (t : TableView) (bucket : ℕ) (p q s : PassView) (chain : BodyList) (verb : Verb) (reply : Reply) → Enters t bucket p q chain → p.view.held ≡ [] → AnsweredAt t bucket q s verb reply → (called : Called t p s verb reply) × LosesAtMost (lock_number t.shape (Bucket bucket)) called.lost
 unfolding called_of
-called_whole t bucket p q s chain verb reply enters none_held answered = (called_of t bucket p q s chain verb reply enters none_held answered.0, answered.1)
+called_at t bucket p q s chain verb reply enters none_held answered = (called_of t bucket p q s chain verb reply enters none_held answered.0, answered.1)
 
 -- Turns that leave the bucket as it is
 
@@ -590,20 +583,21 @@ pub can_kept : (t : TableView) (bucket : ℕ) (q : PassView) (bodies : List Stor
 can_kept t bucket q bodies back part b turn fits =
     can_give t bucket q q bodies b b.hold.now [] back part (under_nothing t bucket q bodies b) turn.turn turn.sized (λ x. turn.counts x ∙ rows_taken b x) (ap (λ (l : Lists). l.free) b.now) fits
 
-pub answered_kept : (t : TableView) (bucket : ℕ) (q s : PassView) (bodies : List Stored) (back : BodyList) (verb : Verb) (reply : Reply) (part : BucketPart) (found : Part) → is_lru t.shape.kind ≡ false → (b : InBucket t bucket q bodies) → HasItsSpares q → IsTurnWith t.shape q.cpu part bodies back.bodies (numbers bodies) → bucket_probes part ≡ []
-    → found ≡ parts.Bucket part → GaveBack t (Bucket bucket) q s (contents.Bucket back) (Some found)
-    → IsPlainTrace t.shape q.cpu (spare_element q) verb (record { lock = Bucket bucket; part = parts.Bucket part } ∷ []) reply
-    → spare_element q ≡ spare_after (spare_element q) (record { lock = Bucket bucket; part = parts.Bucket part } ∷ []) → AnsweredWhole t q s verb reply
-answered_kept t bucket q s bodies back verb reply part found plain b has turn no_probes is gave trace spare =
-    let l = left_whole t bucket q q s bodies b b.hold.now [] (contents.Bucket back) (parts.Bucket part) found (under_nothing t bucket q bodies b) (can_kept t bucket q bodies back part b turn (none_noted t.shape q.view b.hold part plain no_probes)) is gave in
-    answered_whole t bucket q q s verb reply [] (parts.Bucket part) [] has l.0 l.1 refl (λ _ _. refl) refl trace spare
+pub may_kept : (t : TableView) (bucket : ℕ) (q : PassView) (bodies : List Stored) (back : BodyList) (part : BucketPart) (found : Option Part) (b : InBucket t bucket q bodies) → IsTurnWith t.shape q.cpu part bodies back.bodies (numbers bodies) → NotesFit t.shape q.view b.hold (parts.Bucket part) no_notes → IfSome found (λ x. x ≡ parts.Bucket part)
+    → MayGiveBack t (Bucket bucket) q (contents.Bucket back) found
+may_kept t bucket q bodies back part found b turn fits is =
+    may_give_back t (Bucket bucket) q (contents.Bucket back) (parts.Bucket part) found (can_kept t bucket q bodies back part b turn fits) is
 
--- the entry of an update, by what the caller gave
-pub update_entry : (t : TableView) (bucket : ℕ) (side : Side) (flags : ℕ) (key value : List ℕ) (given : Given) (put : Put) (found : Part) → Gives t bucket side flags key value given → found ≡ parts.Bucket (Update side flags given.key given.value None put) → found ≡ parts.Bucket (Update side flags key value None put)
-update_entry t bucket side flags key value given put found gives is = is ∙ (λ i. parts.Bucket (Update side flags (gives.key_copied i) (gives.value_copied i) None put))
+pub answered_kept : (t : TableView) (bucket : ℕ) (q s : PassView) (bodies : List Stored) (back : BodyList) (verb : Verb) (reply : Reply) (part : BucketPart) (found : Option Part) → is_lru t.shape.kind ≡ false → (b : InBucket t bucket q bodies) → HasItsSpares q → IsTurnWith t.shape q.cpu part bodies back.bodies (numbers bodies) → bucket_probes part ≡ []
+    → IfSome found (λ x. x ≡ parts.Bucket part) → GaveBack t (Bucket bucket) q s (contents.Bucket back) found
+    → IsPlainTrace t.shape q.cpu (spare_element q) verb (record { lock = Bucket bucket; part = parts.Bucket part } ∷ []) reply
+    → spare_element q ≡ spare_after (spare_element q) (record { lock = Bucket bucket; part = parts.Bucket part } ∷ []) → AnsweredAt t bucket q s verb reply
+answered_kept t bucket q s bodies back verb reply part found plain b has turn no_probes is gave trace spare =
+    let l = left_at t bucket q q s bodies b b.hold.now [] (contents.Bucket back) (parts.Bucket part) found (under_nothing t bucket q bodies b) (can_kept t bucket q bodies back part b turn (none_noted t.shape q.view b.hold part plain no_probes)) is gave in
+    answered_at t bucket q q s verb reply [] (parts.Bucket part) [] has l.0 l.1 refl (λ _ _. refl) refl trace spare
 
 -- the trace of an update
-pub update_trace : (t : TableView) (bucket cpu : ℕ) (spare : Option ℕ) (side : Side) (flags : ℕ) (key value : List ℕ) (given : Given) (put : Put) (looks : List Turn) → Gives t bucket side flags key value given → LooksFor t.shape cpu spare put looks
+pub update_trace : (t : TableView) (bucket cpu : ℕ) (spare : Option ℕ) (side : Side) (flags : ℕ) (key value : List ℕ) (put : Put) (looks : List Turn) → Gives t bucket side flags key value → LooksFor t.shape cpu spare put looks
     → IsPlainTrace t.shape cpu spare (verbs.Update side flags key value) (looks ++ record { lock = Bucket bucket; part = parts.Bucket (Update side flags key value None put) } ∷ []) (reply_of_put put)
-update_trace t bucket cpu spare side flags key value given put looks gives looked =
+update_trace t bucket cpu spare side flags key value put looks gives looked =
     inr (gives.flags_known, record { put = put; looks = looks; looks_are = looked; turns_are = ap (λ (l : List Turn). looks ++ l) (on_bucket t.shape bucket key (Update side flags key value None put) gives.bucket_is); reply_is = refl })

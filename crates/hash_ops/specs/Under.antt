@@ -1,5 +1,5 @@
 -- A call from where it holds the bucket of its key to its end.
-use Rattle.std.specs.Prelude.{◌≡◌, ℕ, ◌≤◌, true, false, List, [], ◌∷◌, length, map, All, Some, Result, Ok, Err}
+use Rattle.std.specs.Prelude.{◌≡◌, ℕ, ◌≤◌, true, false, List, [], length, map, All, Some, Result, Ok, Err}
 use Rattle.map_types.specs.declared.call.Verb.{Verb}
 use Rattle.map_types.specs.declared.kind.DomainId.TheVariants.{Bucket}
 use Rattle.map_types.specs.declared.kind.MapKind.TheVariants.{Hash}
@@ -11,16 +11,16 @@ use Rattle.map_types.specs.Kind.{is_lru}
 use Rattle.map_types.specs.Stored.{Stored}
 use Rattle.map_types.specs.ValueLen.{value_len_of}
 use Rattle.percpu_values.specs.BodyList.{BodyList}
+use Rattle.place_words.specs.Locks.{lock_number}
 use Rattle.place_words.specs.Traces.{bucket_of_key, IsPlainTrace, spare_after}
 use Rattle.place_table.specs.declared.content.Content.TheVariants as contents
 use Rattle.place_table.specs.declared.view.Turned.{Turned}
 use Rattle.place_table.specs.InBucket.{InBucket}
 use Rattle.place_table.specs.Known.{Learns}
-use Rattle.place_table.specs.Passes.{PassView, TableView, IsInNoCall, HasOnlyKept, SparesDiffer, Takes, GaveSome, Goes, spare_of}
+use Rattle.place_table.specs.Passes.{PassView, TableView, IsInNoCall, HasOnlyKept, SparesDiffer, Takes, Goes, spare_of}
 use Rattle.place_table.specs.Views.{is_among, is_in_hand_of, notes_below}
-use Rattle.hash_ops.specs.Calls.{turn_of, IsBy, spare_element, lost_turn, AreTold}
+use Rattle.hash_ops.specs.Calls.{turn_of, IsBy, spare_element, AreTold, LosesAtMost}
 use Rattle.hash_ops.specs.declared.map.PlainRefusal.{PlainRefusal}
-use Rattle.bucket_entries.specs.declared.parts.Given.{Given}
 use Rattle.hash_ops.specs.declared.map.PlainRefusal.TheVariants as refusals
 
 -- its CPUs have nothing in hand but the spares that it keeps, none of which is out, and no element's home is in a hand of theirs
@@ -58,33 +58,21 @@ pub record Answered (t : TableView) (q s : PassView) (verb : Verb) (reply : Repl
   pub trace : IsPlainTrace t.shape q.cpu (spare_element q) verb (map (turn_of t.shape) told) reply
   pub spare : spare_element s ≡ spare_after (spare_element q) (map (turn_of t.shape) told)
 
--- the same, and no lock was given back without a part
-abbrev pub AnsweredWhole : TableView → PassView → PassView → Verb → Reply → Type 0
-AnsweredWhole t q s verb reply = (answered : Answered t q s verb reply) × (answered.lost ≡ [])
-
--- The bucket was given back with the bodies that lay there, without an entry, so that the record of its turns is lost.
-pub record Forgot (t : TableView) (bucket : ℕ) (q s : PassView) (bodies : List Stored) : Type 0 where
-  pub back : BodyList
-  pub same : back.bodies ≡ bodies
-  pub gave : GaveSome t (Bucket bucket) q s (contents.Bucket back)
-  pub finished : Finished t q s (lost_turn q gave.can.hold gave.part ∷ []) (gave.can.hold.lock ∷ [])
-  pub spares_stay : s.spares ≡ q.spares
+-- the same, and no lock but the bucket's was given back without a part
+abbrev pub AnsweredAt : TableView → ℕ → PassView → PassView → Verb → Reply → Type 0
+AnsweredAt t bucket q s verb reply = (answered : Answered t q s verb reply) × LosesAtMost (lock_number t.shape (Bucket bucket)) answered.lost
 
 -- an update in its bucket
-abbrev pub UpdateEnds : TableView → ℕ → PassView → PassView → List Stored → Verb → Result (Unit {0}) PlainRefusal → Type 0
-UpdateEnds t bucket q s bodies verb (Ok done) = AnsweredWhole t q s verb Done
-UpdateEnds t bucket q s bodies verb (Err refusals.Einval) = ⊥
-UpdateEnds t bucket q s bodies verb (Err refusals.Enoent) = AnsweredWhole t q s verb (Refused errnos.Enoent)
-UpdateEnds t bucket q s bodies verb (Err refusals.Eexist) = AnsweredWhole t q s verb (Refused errnos.Eexist)
-UpdateEnds t bucket q s bodies verb (Err refusals.E2big) = AnsweredWhole t q s verb (Refused errnos.E2big)
-UpdateEnds t bucket q s bodies verb (Err refusals.NoMemory) = Forgot t bucket q s bodies
+abbrev pub UpdateEnds : TableView → ℕ → PassView → PassView → Verb → Result (Unit {0}) PlainRefusal → Type 0
+UpdateEnds t bucket q s verb (Ok done) = AnsweredAt t bucket q s verb Done
+UpdateEnds t bucket q s verb (Err refusals.Einval) = ⊥
+UpdateEnds t bucket q s verb (Err refusals.Enoent) = AnsweredAt t bucket q s verb (Refused errnos.Enoent)
+UpdateEnds t bucket q s verb (Err refusals.Eexist) = AnsweredAt t bucket q s verb (Refused errnos.Eexist)
+UpdateEnds t bucket q s verb (Err refusals.E2big) = AnsweredAt t bucket q s verb (Refused errnos.E2big)
 
--- What an update gives: a key of the bucket and a value of its side, flags that are known, and copies of key and value for its
--- entry.
-pub record Gives (t : TableView) (bucket : ℕ) (side : Side) (flags : ℕ) (key value : List ℕ) (given : Given) : Type 0 where
+-- what an update gives: a key of the bucket and a value of its side, and flags that are known
+pub record Gives (t : TableView) (bucket : ℕ) (side : Side) (flags : ℕ) (key value : List ℕ) : Type 0 where
   pub bucket_is : bucket ≡ bucket_of_key t.shape key
   pub key_sized : length key ≡ t.shape.key_size
   pub value_sized : length value ≡ value_len_of t.shape side
   pub flags_known : flags ≤ 2
-  pub key_copied : given.key ≡ key
-  pub value_copied : given.value ≡ value

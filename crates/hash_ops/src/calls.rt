@@ -7,10 +7,9 @@ ghost use Rattle.map_types.specs.ValueLen.{value_len_of};
 ghost use Rattle.hash_ops.specs.Calls.{CanCall, Called, MayRefuse, Updates, reply_of_value, reply_of_done};
 
 use crate::map::{PlainMap, PlainRefusal};
-use bucket_entries::{BPF_EXIST, Given};
+use bucket_entries::BPF_EXIST;
 use map_types::{Absent, Gate, Side};
 use place_table::Pass;
-use std::alloc::Global;
 use std::sync::Wait;
 
 impl PlainMap {
@@ -42,13 +41,12 @@ impl PlainMap {
     /// with `Einval` exactly where the flags are others, before anything is looked at; with `Eexist` or `Enoent` where the
     /// bucket's turn found the key there under BPF_NOEXIST, or not there under BPF_EXIST; with `E2big` where the key isn't
     /// there and each CPU's freelist, looked at from the CPU's own upwards, was found empty. After a refusal the bucket is as
-    /// its turn found it. `NoMemory` may come wherever a key or a value can't be copied, or the bucket has no room: then the
-    /// record of the bucket's turns is lost. The rules are those of `htab_map_update_elem`, `__htab_percpu_map_update_elem`
-    /// and `bpf_percpu_hash_update`.
+    /// its turn found it. It takes no memory that it needs: where none is found for the entry of the bucket's turn, the record
+    /// of that bucket's turns is lost, and the answer is the same. The rules are those of `htab_map_update_elem`,
+    /// `__htab_percpu_map_update_elem` and `bpf_percpu_hash_update`.
     pub fn update<R: Wait, G: Gate>(
         &self,
         rt: &R,
-        alloc: Global,
         pass: &mut Pass,
         side: Side,
         flags: u32,
@@ -66,15 +64,8 @@ impl PlainMap {
             return Err(PlainRefusal::Einval);
         }
         let bucket = self.bucket_of_key(key);
-        let given = Given::of(alloc, key, value);
         let chain = self.enter(rt, pass, bucket, gate);
-        let Ok(given) = given else {
-            self.forget(pass, bucket, chain, gate);
-            return Err(PlainRefusal::NoMemory);
-        };
-        self.update_in(
-            rt, alloc, pass, bucket, chain, side, flags, key, value, given, gate,
-        )
+        self.update_in(rt, pass, bucket, chain, side, flags, key, value, gate)
     }
 
     /// Takes a key out of the map. It is `Absent` (ENOENT) exactly where the bucket's turn found no such key. The element goes

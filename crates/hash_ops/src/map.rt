@@ -30,9 +30,6 @@ pub enum PlainRefusal {
     /// The key is absent, and each CPU's freelist was found empty.
     #[error("E2big")]
     E2big = 4,
-    /// Memory was not found.
-    #[error("NoMemory")]
-    NoMemory = 5,
 }
 
 /// A map of kind HASH or PERCPU_HASH, which may be shared by threads, each of which has a pass. Contracts see its table.

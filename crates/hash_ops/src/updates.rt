@@ -7,15 +7,14 @@ ghost use Rattle.map_types.specs.Kind.{is_percpu};
 ghost use Rattle.place_words.specs.Bodies.{present};
 ghost use Rattle.hash_ops.specs.Calls.{MayRefuse};
 ghost use Rattle.place_table.specs.InBucket.{InBucket, IsAt};
-ghost use Rattle.hash_ops.specs.Under.{HasItsSpares, Gives, AnsweredWhole, Forgot, UpdateEnds};
+ghost use Rattle.hash_ops.specs.Under.{HasItsSpares, Gives, AnsweredAt, UpdateEnds};
 
 use crate::map::{PlainMap, PlainRefusal};
 use bucket_chain::Chain;
-use bucket_entries::{BPF_EXIST, BPF_NOEXIST, Given, body_at, fill_body, write_value};
+use bucket_entries::{BPF_EXIST, BPF_NOEXIST, body_at, fill_body, updated, write_value};
 use map_types::{DomainId, Gate, Side};
 use place_table::{Content, Pass};
 use place_words::Put;
-use std::alloc::Global;
 use std::sync::Wait;
 
 impl PlainMap {
@@ -25,7 +24,6 @@ impl PlainMap {
     pub(crate) fn update_in<R: Wait, G: Gate>(
         &self,
         rt: &R,
-        alloc: Global,
         pass: &mut Pass,
         bucket: u32,
         chain: Chain,
@@ -33,26 +31,19 @@ impl PlainMap {
         flags: u32,
         key: &[u8],
         value: &[u8],
-        given: Given,
         gate: &G,
     ) -> Result<(), PlainRefusal>
         requires inside { InBucket self.now bucket pass.old chain.bodies }
         requires spares { HasItsSpares pass.old }
-        requires gives { Gives self.now bucket side flags key.now value.now given }
-        ensures ends { UpdateEnds self.now bucket pass.old pass.new chain.bodies (verbs.Update side flags key.now value.now) result }
+        requires gives { Gives self.now bucket side flags key.now value.now }
+        ensures ends { UpdateEnds self.now bucket pass.old pass.new (verbs.Update side flags key.now value.now) result }
         ensures refuses { IfErr result (MayRefuse flags) }
     {
         match chain.find(key) {
             Some(place) => {
-                self.update_present(
-                    pass, bucket, chain, place, side, flags, key, value, given, gate,
-                )
+                self.update_present(pass, bucket, chain, place, side, flags, key, value, gate)
             }
-            None => {
-                self.update_absent(
-                    rt, alloc, pass, bucket, chain, side, flags, key, value, given, gate,
-                )
-            }
+            None => { self.update_absent(rt, pass, bucket, chain, side, flags, key, value, gate) }
         }
     }
 
@@ -67,36 +58,31 @@ impl PlainMap {
         flags: u32,
         key: &[u8],
         value: &[u8],
-        given: Given,
         gate: &G,
     ) -> Result<(), PlainRefusal>
         requires inside { InBucket self.now bucket pass.old chain.bodies }
         requires spares { HasItsSpares pass.old }
-        requires gives { Gives self.now bucket side flags key.now value.now given }
+        requires gives { Gives self.now bucket side flags key.now value.now }
         requires at { IsAt key.now place chain.bodies }
-        ensures ends { UpdateEnds self.now bucket pass.old pass.new chain.bodies (verbs.Update side flags key.now value.now) result }
+        ensures ends { UpdateEnds self.now bucket pass.old pass.new (verbs.Update side flags key.now value.now) result }
         ensures refuses { IfErr result (MayRefuse flags) }
     {
         if flags == BPF_NOEXIST {
-            let part = given.updated(side, flags, None, Put::Exists);
+            let part = updated(self.alloc, side, flags, key, value, None, Put::Exists);
             self.table.give(
                 pass,
                 DomainId::Bucket(bucket),
                 Content::Bucket(chain),
-                Some(part),
+                part,
                 gate,
             );
             return Err(PlainRefusal::Eexist);
         }
         if self.table.shape().kind.is_percpu() {
-            self.write(
-                pass, bucket, chain, place, side, flags, key, value, given, gate,
-            );
+            self.write(pass, bucket, chain, place, side, flags, key, value, gate);
             return Ok(());
         }
-        self.replace(
-            pass, bucket, chain, place, side, flags, key, value, given, gate,
-        );
+        self.replace(pass, bucket, chain, place, side, flags, key, value, gate);
         Ok(())
     }
 
@@ -104,7 +90,6 @@ impl PlainMap {
     fn update_absent<R: Wait, G: Gate>(
         &self,
         rt: &R,
-        alloc: Global,
         pass: &mut Pass,
         bucket: u32,
         mut chain: Chain,
@@ -112,30 +97,25 @@ impl PlainMap {
         flags: u32,
         key: &[u8],
         value: &[u8],
-        given: Given,
         gate: &G,
     ) -> Result<(), PlainRefusal>
         requires inside { InBucket self.now bucket pass.old chain.bodies }
         requires spares { HasItsSpares pass.old }
-        requires gives { Gives self.now bucket side flags key.now value.now given }
+        requires gives { Gives self.now bucket side flags key.now value.now }
         requires absent { present key.now chain.bodies ≡ None }
-        ensures ends { UpdateEnds self.now bucket pass.old pass.new chain.bodies (verbs.Update side flags key.now value.now) result }
+        ensures ends { UpdateEnds self.now bucket pass.old pass.new (verbs.Update side flags key.now value.now) result }
         ensures refuses { IfErr result (MayRefuse flags) }
     {
         let lock = DomainId::Bucket(bucket);
         if flags == BPF_EXIST {
-            let part = given.updated(side, flags, None, Put::Absent);
+            let part = updated(self.alloc, side, flags, key, value, None, Put::Absent);
             self.table
-                .give(pass, lock, Content::Bucket(chain), Some(part), gate);
+                .give(pass, lock, Content::Bucket(chain), part, gate);
             return Err(PlainRefusal::Enoent);
         }
-        if chain.reserve_one(alloc).is_err() {
-            self.forget(pass, bucket, chain, gate);
-            return Err(PlainRefusal::NoMemory);
-        }
-        self.add(
-            rt, pass, bucket, chain, side, flags, key, value, given, gate,
-        )
+        // There is always room for one more.
+        let _ = chain.reserve_one(self.alloc);
+        self.add(rt, pass, bucket, chain, side, flags, key, value, gate)
     }
 
     /// Adds an absent key, where a freelist gives an element for it. The chain has room for one.
@@ -149,49 +129,41 @@ impl PlainMap {
         flags: u32,
         key: &[u8],
         value: &[u8],
-        given: Given,
         gate: &G,
     ) -> Result<(), PlainRefusal>
         requires inside { InBucket self.now bucket pass.old chain.bodies }
         requires spares { HasItsSpares pass.old }
-        requires gives { Gives self.now bucket side flags key.now value.now given }
+        requires gives { Gives self.now bucket side flags key.now value.now }
         requires absent { present key.now chain.bodies ≡ None }
         requires adds { flags ≢ 2 }
         requires room { 1 ≤ chain.spare }
-        ensures ends { UpdateEnds self.now bucket pass.old pass.new chain.bodies (verbs.Update side flags key.now value.now) result }
+        ensures ends { UpdateEnds self.now bucket pass.old pass.new (verbs.Update side flags key.now value.now) result }
         ensures refuses { IfErr result (MayRefuse flags) }
     {
         let lock = DomainId::Bucket(bucket);
         let cpu = self.table.cpu_of(pass);
         let Some(mut body) = self.pop(rt, pass, gate) else {
-            let part = given.updated(side, flags, None, Put::Full);
+            let part = updated(self.alloc, side, flags, key, value, None, Put::Full);
             self.table
-                .give(pass, lock, Content::Bucket(chain), Some(part), gate);
+                .give(pass, lock, Content::Bucket(chain), part, gate);
             return Err(PlainRefusal::E2big);
         };
         fill_body(self.table.shape(), side, cpu, &mut body, key, value);
         let element = body.body().element();
         self.table.attach(pass, element, bucket);
         chain.add_head(body);
-        let part = given.updated(side, flags, None, Put::Added(element));
-        self.table
-            .give(pass, lock, Content::Bucket(chain), Some(part), gate);
-        Ok(())
-    }
-
-    /// Gives a bucket back as it was taken, with no entry.
-    pub(crate) fn forget<G: Gate>(&self, pass: &mut Pass, bucket: u32, chain: Chain, gate: &G)
-        requires inside { InBucket self.now bucket pass.old chain.bodies }
-        requires spares { HasItsSpares pass.old }
-        ensures { Forgot self.now bucket pass.old pass.new chain.bodies }
-    {
-        self.table.give(
-            pass,
-            DomainId::Bucket(bucket),
-            Content::Bucket(chain),
+        let part = updated(
+            self.alloc,
+            side,
+            flags,
+            key,
+            value,
             None,
-            gate,
+            Put::Added(element),
         );
+        self.table
+            .give(pass, lock, Content::Bucket(chain), part, gate);
+        Ok(())
     }
 
     /// Writes the value of a present key in place.
@@ -205,26 +177,33 @@ impl PlainMap {
         flags: u32,
         key: &[u8],
         value: &[u8],
-        given: Given,
         gate: &G,
     )
         requires inside { InBucket self.now bucket pass.old chain.bodies }
         requires spares { HasItsSpares pass.old }
-        requires gives { Gives self.now bucket side flags key.now value.now given }
+        requires gives { Gives self.now bucket side flags key.now value.now }
         requires at { IsAt key.now place chain.bodies }
         requires percpu { IsTrue (is_percpu self.now.shape.kind) }
         requires replaces { flags ≢ 1 }
-        ensures { AnsweredWhole self.now pass.old pass.new (verbs.Update side flags key.now value.now) replies.Done }
+        ensures { AnsweredAt self.now bucket pass.old pass.new (verbs.Update side flags key.now value.now) replies.Done }
     {
         let cpu = self.table.cpu_of(pass);
         let element = body_at(&chain, place).element();
         write_value(self.table.shape(), side, cpu, &mut chain, place, key, value);
-        let part = given.updated(side, flags, None, Put::Written(element));
+        let part = updated(
+            self.alloc,
+            side,
+            flags,
+            key,
+            value,
+            None,
+            Put::Written(element),
+        );
         self.table.give(
             pass,
             DomainId::Bucket(bucket),
             Content::Bucket(chain),
-            Some(part),
+            part,
             gate,
         );
     }
@@ -240,16 +219,15 @@ impl PlainMap {
         flags: u32,
         key: &[u8],
         value: &[u8],
-        given: Given,
         gate: &G,
     )
         requires inside { InBucket self.now bucket pass.old chain.bodies }
         requires spares { HasItsSpares pass.old }
-        requires gives { Gives self.now bucket side flags key.now value.now given }
+        requires gives { Gives self.now bucket side flags key.now value.now }
         requires at { IsAt key.now place chain.bodies }
         requires single { is_percpu self.now.shape.kind ≡ false }
         requires replaces { flags ≢ 1 }
-        ensures { AnsweredWhole self.now pass.old pass.new (verbs.Update side flags key.now value.now) replies.Done }
+        ensures { AnsweredAt self.now bucket pass.old pass.new (verbs.Update side flags key.now value.now) replies.Done }
     {
         let cpu = self.table.cpu_of(pass);
         let Some(mut body) = self.table.spare(pass) else {
@@ -262,12 +240,20 @@ impl PlainMap {
         let old = spare.body().element();
         self.table.detach(pass, old, bucket);
         self.table.keep_spare(pass, spare);
-        let part = given.updated(side, flags, None, Put::Replaced { new, old });
+        let part = updated(
+            self.alloc,
+            side,
+            flags,
+            key,
+            value,
+            None,
+            Put::Replaced { new, old },
+        );
         self.table.give(
             pass,
             DomainId::Bucket(bucket),
             Content::Bucket(chain),
-            Some(part),
+            part,
             gate,
         );
     }

@@ -1,10 +1,9 @@
 -- Updates: from the turn of the key's bucket to what the call leaves.
-use Rattle.std.proofs.Common.{◌≡◌, ℕ, ◌<◌, ◌≤◌, Bool, cond, true, false, List, [], ◌∷◌, ◌++◌, map, inl, inr, ⊎_elim, sym, refl, ap, ◌∙◌, subst, arith, Option, Some, None}
+use Rattle.std.proofs.Common.{◌≡◌, ℕ, ◌<◌, ◌≤◌, Bool, cond, true, false, List, [], ◌∷◌, ◌++◌, map, inl, inr, sym, refl, ap, ◌∙◌, subst, arith, Option, Some, None}
 use Rattle.std.specs.Prelude.{IsTrue, IsFalse, MatchBool, option_map, Result, Ok, Err, ◌&&◌, ◌==◌}
 use Rattle.std.proofs.lemmas.List.{map-append}
 use Rattle.std.proofs.lemmas.List.Elements.{All-nil}
 use Rattle.key_hash.specs.Jhash.{hash}
-use Rattle.map_types.specs.declared.attr.Shape.{Shape}
 use Rattle.map_types.specs.declared.call.Verb.TheVariants as verbs
 use Rattle.map_types.specs.declared.kind.DomainId.TheVariants.{Bucket}
 use Rattle.map_types.specs.declared.kind.Side.{Side}
@@ -15,74 +14,37 @@ use Rattle.map_types.specs.Kind.{is_lru, is_percpu}
 use Rattle.map_types.specs.Stored.{Stored}
 use Rattle.percpu_values.specs.BodyList.{BodyList}
 use Rattle.place_words.specs.declared.bucket_part.BucketPart.{BucketPart}
-use Rattle.place_words.specs.declared.bucket_part.BucketPart.TheVariants.{First}
 use Rattle.place_words.specs.declared.bucket_part.Put.{Put}
 use Rattle.place_words.specs.declared.bucket_part.Put.TheVariants as puts
 use Rattle.place_words.specs.declared.history.Part.{Part}
 use Rattle.place_words.specs.declared.history.Part.TheVariants as parts
-use Rattle.place_words.specs.Buckets.{bucket_after}
 use Rattle.place_words.specs.Evicting.{FreesOne, left_over, IsOfferTrace, IsWriteTrace, IsEvictingUpdate}
-use Rattle.place_words.specs.Histories.{Content, in_bucket, on_freelist, in_locals, in_global, in_own, content, content_after, marks, clears}
-use Rattle.place_words.specs.Locks.{lock_number}
 use Rattle.place_words.specs.Turns.{Turn, TurnAt, bucket_of_key, on_lock, on_bucket_of}
-use Rattle.place_words.proofs.LockLemmas.{number_of_named}
 use Rattle.place_core.proofs.ElementLemmas.{by_test}
 use Rattle.place_table.specs.declared.view.InHand.{InHand}
 use Rattle.place_table.specs.declared.view.Turned.{Turned}
-use Rattle.place_table.specs.Calls.{CanCall, Called, CouldBe, spare_element, finds_moved_on}
+use Rattle.place_table.specs.Calls.{CanCall, Called, spare_element, finds_moved_on}
 use Rattle.place_table.specs.Contents.{IsSized}
 use Rattle.place_table.specs.Known.{BitTouch, Learns, turn_of, turn_at, IsBy}
 use Rattle.place_table.specs.Passes.{PassView, TableView}
-use Rattle.place_table.specs.Views.{is_among, is_in_hand_of, bucket_known, with_in_hand, without_in_hand}
+use Rattle.place_table.specs.Views.{is_in_hand_of, bucket_known, with_in_hand, without_in_hand}
 use Rattle.place_table.proofs.Entries.{append_nil}
 use Rattle.place_table.proofs.Going.{goes_nowhere, goes_of_table, goes_begun, learns_none}
 use Rattle.place_table.proofs.Hands.{in_hand_more, in_hand_more_else, in_hand_less, in_hand_less_else, hand_back}
 use Rattle.place_table.proofs.Worlds.{by_bool, true_false, some_is, none_some}
 use Rattle.lru_ops.specs.declared.map.LruRefusal.{LruRefusal}
 use Rattle.lru_ops.specs.declared.map.LruRefusal.TheVariants as refusals
-use Rattle.lru_ops.specs.Calls.{FoundNoMemory, FoundNoElement, Updates}
+use Rattle.lru_ops.specs.Calls.{FoundNoElement, Updates}
 use Rattle.lru_ops.specs.Lists.{Changed, Acquired, CanFree}
-use Rattle.lru_ops.specs.Offers.{IsOffered, Offers, PutsAlone, Forgot, OfferEnds, AloneEnds, CanFreeLeft, HasFreedLeft, CanOffer, IsOutOfHand, IsForgotten, HasOffered, HasForgotten, OfferAnswers, hand_after}
+use Rattle.lru_ops.specs.Offers.{IsOffered, Offers, PutsAlone, OfferEnds, AloneEnds, CanFreeLeft, HasFreedLeft, CanOffer, IsOutOfHand, HasOffered, OfferAnswers, hand_after}
 use Rattle.lru_ops.specs.Under.{CanEnter, Enters, GivenBack, IsOut}
-use Rattle.lru_ops.proofs.Ends.{among_before, changed_on, changed_given, in_no_hand, called_changed, leaves_changed, trace_here}
+use Rattle.lru_ops.proofs.Ends.{changed_on, changed_given, in_no_hand, called_changed, trace_here}
 
 -- Turns of the bucket of a key
 
 -- the turn is one of the bucket of the key
 turn_here : {t : TableView} {bucket : ℕ} {q s : PassView} {part : BucketPart} {hand : List InHand} (key : List ℕ) → bucket ≡ bucket_of_key t.shape key → (given : GivenBack t bucket q s (parts.Bucket part) hand) → turn_of t.shape given.told ≡ on_bucket_of t.shape key part
 turn_here {t} {bucket} {q} {s} {part} {hand} key here given = given.turn ∙ ap (λ (b : ℕ). on_lock (Bucket b) (parts.Bucket part)) here
-
--- what is said of the first key leaves what lies there
-first_stays : (shape : Shape) (cpu : ℕ) (first : Option (List ℕ)) (there : Content) → content_after shape cpu (parts.Bucket (First first)) there ≡ there
-unfolding bucket_after
-first_stays shape cpu first (in_bucket bodies) = refl
-first_stays shape cpu first (on_freelist stack) = refl
-first_stays shape cpu first (in_locals lists) = refl
-first_stays shape cpu first (in_global set) = refl
-first_stays shape cpu first (in_own set) = refl
-
--- and sets no bit
-first_marks : (shape : Shape) (first : Option (List ℕ)) → marks shape (parts.Bucket (First first)) ≡ []
-first_marks shape first = go (is_lru shape.kind) []
-  where
-    go : (b : Bool) (none : List ℕ) → cond b none none ≡ none
-    go true none = refl
-    go false none = refl
-
--- A bucket that was given back with no entry is as it was, and its record is lost.
-is_forgotten : {t : TableView} {bucket : ℕ} {q s : PassView} (key : List ℕ) (lost : List ℕ) → bucket ≡ bucket_of_key t.shape key → (f : Forgot t bucket q s) → ((n : ℕ) → is_among n f.gives.lost ≡ true → is_among n lost ≡ true) → IsForgotten t key lost f.gives.told
-is_forgotten {t} {bucket} {q} {s} key lost here f are =
-    let told = f.gives.told in
-    let turn_is : turn_of t.shape told ≡ on_bucket_of t.shape key (First f.first) = turn_here key here f.gives in
-    let step_lock : told.lock ≡ f.gives.step.lock = ⊎_elim (λ (same : told ≡ f.gives.step). ap (λ (z : Turned). z.lock) same) (λ (x : (is_among f.gives.step.lock f.gives.lost ≡ true) × CouldBe t.shape f.gives.step told). x.1.lock) f.gives.is_told in
-    record {
-      bucket_is = sym (number_of_named t.shape told.lock) ∙ ap (λ (z : Turn). lock_number t.shape z.lock) turn_is;
-      is_lost = are told.lock (ap (λ n. is_among n f.gives.lost) step_lock ∙ f.is_lost);
-      stays = subst (λ (part : Part). content_after t.shape told.entry.cpu part (content t.shape (Bucket (bucket_of_key t.shape key)) told.earlier) ≡ content t.shape (Bucket (bucket_of_key t.shape key)) told.earlier)
-          (sym (ap (λ (z : Turn). z.part) turn_is)) (first_stays t.shape told.entry.cpu f.first (content t.shape (Bucket (bucket_of_key t.shape key)) told.earlier));
-      no_marks = ap (λ (z : Turn). marks t.shape z.part) turn_is ∙ first_marks t.shape f.first;
-      no_clears = ap (λ (z : Turn). clears z.part) turn_is;
-    }
 
 -- Calls that take no element
 
@@ -92,32 +54,6 @@ module _ {t : TableView} {bucket : ℕ} {p q : PassView} {chain : BodyList} (can
 
   hand_kept : {s : PassView} {part : Part} → GivenBack t bucket q s part q.view.hand → (e c : ℕ) → is_in_hand_of e c s.view.hand ≡ is_in_hand_of e c p.view.hand
   hand_kept given e c = ap (is_in_hand_of e c) (given.hand_is ∙ ap (λ (z : PassView). z.view.hand) enters.took.after_is)
-
-  -- no memory for copies of key and value
-  pub lost_alone : {s : PassView} {key : List ℕ} (flags : ℕ) → bucket ≡ bucket_of_key t.shape key → Forgot t bucket q s → FoundNoMemory t flags key p s
-  lost_alone {s} {key} flags here f =
-      let changed = changed_given can.in_no_call.holds_nothing enters f.gives in
-      let forgotten = is_forgotten key f.gives.lost here f (λ n among. among) in
-      record {
-        steps = f.gives.step ∷ [];
-        told = f.gives.told ∷ [];
-        lost = f.gives.lost;
-        told_are = changed.told_are;
-        leaves = leaves_changed can lru changed (hand_kept f.gives);
-        got = None;
-        takes_none = λ only. refl;
-        taking = [];
-        at_bucket = f.gives.told;
-        freeing = [];
-        told_is = refl;
-        takes = refl;
-        frees = refl;
-        bucket_is = forgotten.bucket_is;
-        is_lost = forgotten.is_lost;
-        stays = forgotten.stays;
-        no_marks = forgotten.no_marks;
-        no_clears = forgotten.no_clears;
-      }
 
   -- a value for each CPU, and BPF_EXIST
   module _ (s : PassView) (side : Side) (key value : List ℕ) (here : bucket ≡ bucket_of_key t.shape key) (percpu : is_percpu t.shape.kind ≡ true) where
@@ -137,7 +73,6 @@ module _ {t : TableView} {bucket : ℕ} {p q : PassView} {chain : BodyList} (can
     updates_alone (Err refusals.Einval) ends = absurd ends
     updates_alone (Err refusals.Enoent) ends = wrote_alone (Refused errnos.Enoent) ends
     updates_alone (Err refusals.Eexist) ends = absurd ends
-    updates_alone (Err refusals.NoMemory) ends = absurd ends
     updates_alone (Err refusals.Enomem) ends = absurd ends
 
 -- Hands
@@ -266,27 +201,11 @@ module _ {t : TableView} {bucket : ℕ} {p q : PassView} {chain : BodyList} {key
           hand = hand_from r s (option_map (λ (one : Stored). one.element) left) o.put o.gives o.left_is f.hand;
         }
 
-    -- there was no room
-    forgotten_done : (s : PassView) → (left ≡ Some body) × Forgot t bucket q r → HasFreedLeft t left r s → HasForgotten t p s key body.element
-    forgotten_done s x freed =
-        let g = x.1 in
-        let f : LeftFreed t (Some body.element) r s = subst (λ (z : Option Stored). LeftFreed t (option_map (λ (one : Stored). one.element) z) r s) x.0 (left_freed left freed) in record {
-          steps = g.gives.step ∷ f.steps;
-          lost = g.gives.lost;
-          at_bucket = g.gives.told;
-          freeing = f.steps;
-          changed = changed_on (changed_given can.no_lock enters g.gives) f.changed;
-          forgotten = is_forgotten key g.gives.lost here g (λ n among. among);
-          frees = f.frees;
-          hand = hand_from r s (Some body.element) puts.Exists g.gives refl f.hand;
-        }
-
     pub can_free_ends : (answer : Result (Unit {0}) LruRefusal) → OfferEnds t bucket q r side flags key value body left answer → CanFreeLeft t left r
     can_free_ends (Ok done) ends = can_free_over ends
     can_free_ends (Err refusals.Einval) ends = absurd ends
     can_free_ends (Err refusals.Enoent) ends = can_free_over ends
     can_free_ends (Err refusals.Eexist) ends = can_free_over ends
-    can_free_ends (Err refusals.NoMemory) ends = subst (λ (z : Option Stored). CanFreeLeft t z r) (sym ends.0) (can_free_here ends.1.gives body can.taken.real can.taken.sized is_offered.in_hand)
     can_free_ends (Err refusals.Enomem) ends = absurd ends
 
     pub offer_answers : (s : PassView) (answer : Result (Unit {0}) LruRefusal) → OfferEnds t bucket q r side flags key value body left answer → HasFreedLeft t left r s → OfferAnswers t p s side flags key value body.element answer
@@ -294,7 +213,6 @@ module _ {t : TableView} {bucket : ℕ} {p q : PassView} {chain : BodyList} {key
     offer_answers s (Err refusals.Einval) ends freed = absurd ends
     offer_answers s (Err refusals.Enoent) ends freed = offered_done s ends freed
     offer_answers s (Err refusals.Eexist) ends freed = offered_done s ends freed
-    offer_answers s (Err refusals.NoMemory) ends freed = forgotten_done s ends freed
     offer_answers s (Err refusals.Enomem) ends freed = absurd ends
 
 -- A whole update
@@ -348,35 +266,11 @@ module _ {t : TableView} {p : PassView} (q : PassView) (side : Side) (flags : �
           offers = o.trace;
         }))
 
-    took_and_lost : (s : PassView) → HasForgotten t q s key body.element → FoundNoMemory t flags key p s
-    took_and_lost s f =
-        let changed = changed_on a.changed f.changed in record {
-          steps = a.steps ++ f.steps;
-          told = a.told ++ f.at_bucket ∷ f.freeing;
-          lost = f.lost ++ a.lost;
-          told_are = changed.told_are;
-          leaves = leaves_changed can lru changed (hand_out s f.hand);
-          got = Some body.element;
-          takes_none = λ only. true_false (sym only ∙ takes);
-          taking = a.told;
-          at_bucket = f.at_bucket;
-          freeing = f.freeing;
-          told_is = refl;
-          takes = a.trace;
-          frees = f.frees;
-          bucket_is = f.forgotten.bucket_is;
-          is_lost = among_before f.at_bucket.lock f.lost a.lost f.forgotten.is_lost;
-          stays = f.forgotten.stays;
-          no_marks = f.forgotten.no_marks;
-          no_clears = f.forgotten.no_clears;
-        }
-
     pub updates_offered : (s : PassView) (answer : Result (Unit {0}) LruRefusal) → OfferAnswers t q s side flags key value body.element answer → Updates t p s side flags key value answer
     updates_offered s (Ok done) answers = took_one s Done answers
     updates_offered s (Err refusals.Einval) answers = absurd answers
     updates_offered s (Err refusals.Enoent) answers = took_one s (Refused errnos.Enoent) answers
     updates_offered s (Err refusals.Eexist) answers = took_one s (Refused errnos.Eexist) answers
-    updates_offered s (Err refusals.NoMemory) answers = (known, took_and_lost s answers)
     updates_offered s (Err refusals.Enomem) answers = absurd answers
 
 by_either : (evicts : Bool) (P Q : Type 0) → P → Q → MatchBool evicts P Q

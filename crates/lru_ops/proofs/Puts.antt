@@ -1,8 +1,6 @@
 -- From what an update does in its key's bucket to what its turn leaves, for each that it may put.
 use Rattle.std.proofs.Common.{◌≡◌, ◌≢◌, ℕ, suc, ◌<◌, cond, true, false, List, [], ◌∷◌, sym, refl, ap, ◌∙◌, subst, arith, Option, Some, None}
-use Rattle.std.specs.Prelude.{IsTrue, slice_get, map, All}
-use Rattle.std.proofs.lemmas.List.{append_cancel_left, append_cancel_right}
-use Rattle.bucket_entries.specs.declared.parts.Given.{Given}
+use Rattle.std.specs.Prelude.{IsTrue, IfSome, slice_get, map, All}
 use Rattle.map_types.specs.declared.attr.Shape.{Shape}
 use Rattle.map_types.specs.declared.kind.DomainId.TheVariants.{Bucket}
 use Rattle.map_types.specs.declared.kind.Side.{Side}
@@ -12,12 +10,12 @@ use Rattle.map_types.specs.ElementLists.{times, without, IsIn}
 use Rattle.percpu_values.specs.BodyList.{BodyList}
 use Rattle.bucket_chain.specs.Turns.{IsTurn}
 use Rattle.place_words.specs.declared.bucket_part.BucketPart.{BucketPart}
-use Rattle.place_words.specs.declared.bucket_part.BucketPart.TheVariants.{Update, First}
+use Rattle.place_words.specs.declared.bucket_part.BucketPart.TheVariants.{Update}
 use Rattle.place_words.specs.declared.bucket_part.Put.{Put}
 use Rattle.place_words.specs.declared.bucket_part.Put.TheVariants as puts
 use Rattle.place_words.specs.declared.history.Part.{Part}
 use Rattle.place_words.specs.declared.history.Part.TheVariants as parts
-use Rattle.place_words.specs.Bodies.{numbers, first_key, present, without_key}
+use Rattle.place_words.specs.Bodies.{numbers, present, without_key}
 use Rattle.place_words.specs.Buckets.{AllowsInBucket, AllowsPut, bucket_after, bucket_after_put, bucket_marks, marks_of_put, new_stored, written_over}
 use Rattle.place_words.specs.Histories.{marks}
 use Rattle.place_words.specs.SerialOrder.{bucket_probes}
@@ -29,17 +27,15 @@ use Rattle.place_core.proofs.ElementLemmas.{by_test, times_cons_same, times_cons
 use Rattle.place_table.specs.declared.content.Content.TheVariants as contents
 use Rattle.place_table.specs.Contents.{IsSized}
 use Rattle.place_table.specs.InBucket.{InBucket, IsAt}
-use Rattle.place_table.specs.Passes.{PassView, TableView, CanMark, CanGive, CanGiveSome, GaveBack, GaveSome, Attached, Detached, Marked}
-use Rattle.place_table.specs.Views.{is_among, with_in_hand, without_in_hand}
+use Rattle.place_table.specs.Passes.{PassView, TableView, CanMark, CanGive, MayGiveBack, GaveBack, Attached, Detached, Marked}
+use Rattle.place_table.specs.Views.{with_in_hand, without_in_hand}
 use Rattle.place_table.proofs.BucketTurns.{IsTurnWith, unchanged_turn, added_turn, replaced_turn, written_turn}
 use Rattle.place_table.proofs.Entries.{append_nil}
-use Rattle.place_table.proofs.Going.{given_turn, same_head}
-use Rattle.place_table.proofs.Worlds.{among_first}
 use Rattle.place_table.proofs.BucketBodies.{rows_taken, sized_at}
-use Rattle.lru_ops.specs.Offers.{Gives, IsOffered, IsRefusal, PutsInPlace, Writes, Adds, Replaces, Forgot, update_part}
+use Rattle.lru_ops.specs.Offers.{IsOffered, IsRefusal, PutsInPlace, Writes, Adds, Replaces, update_part}
 use Rattle.lru_ops.specs.Under.{GivenBack}
 use Rattle.lru_ops.proofs.Turned.{free_taken, is_real, can_mark_at}
-use Rattle.lru_ops.proofs.Under.{Under, under_nothing, under_marked, under_attached, under_detached, can_mark, can_give, given_back}
+use Rattle.lru_ops.proofs.Under.{Under, under_nothing, under_marked, under_attached, under_detached, can_mark, can_give, may_give_back, given_back}
 
 -- an element that leaves where another came, whichever it is
 swapped : (new old x : ℕ) (all : List ℕ) → IsIn old all → times x (new ∷ without old all) ≡ times x (without old (new ∷ all))
@@ -90,37 +86,16 @@ module _ {t : TableView} {bucket : ℕ} {q : PassView} (chain : BodyList) (b : I
         go puts.Full refusal = absurd refusal
 
     module _ (allowed : AllowsPut t.shape flags key put chain.bodies) where
-      pub can_refuse : CanGive t (Bucket bucket) q (contents.Bucket chain) (update_part side flags key value offer put)
-      can_refuse = can_leave (Update side flags key value offer put) (refused_turn allowed) refused_sets refl
+      can_give_refused : CanGive t (Bucket bucket) q (contents.Bucket chain) (update_part side flags key value offer put)
+      can_give_refused = can_leave (Update side flags key value offer put) (refused_turn allowed) refused_sets refl
 
-      pub refused : (found : Part) (s : PassView) → found ≡ update_part side flags key value offer put → GaveBack t (Bucket bucket) q s (contents.Bucket chain) (Some found) → PutsInPlace t bucket q s side flags key value offer put
-      refused found s is gave =
-          given_back b (under_nothing b) chain (Update side flags key value offer put) (Some found) s lru (sets (Update side flags key value offer put) [] refused_sets) can_refuse is gave
+      module _ (found : Option Part) (is : IfSome found (λ x. x ≡ update_part side flags key value offer put)) where
+        pub can_refuse : MayGiveBack t (Bucket bucket) q (contents.Bucket chain) found
+        can_refuse = may_give_back b (under_nothing b) chain (Update side flags key value offer put) found can_give_refused is
 
-  -- with no entry: a look at the first key could have been made
-  abbrev first : Option (List ℕ)
-  first = first_key chain.bodies
-
-  looked_turn : IsTurn t.shape q.cpu (First first) chain.bodies chain.bodies
-  unfolding AllowsInBucket bucket_after
-  looked_turn = record { allowed = refl; left = refl }
-
-  can_look : CanGive t (Bucket bucket) q (contents.Bucket chain) (parts.Bucket (First first))
-  can_look = can_leave (First first) looked_turn refl refl
-
-  pub can_forget : CanGiveSome t (Bucket bucket) q (contents.Bucket chain)
-  can_forget = (parts.Bucket (First first), can_look)
-
-  pub forgot : (s : PassView) → GaveSome t (Bucket bucket) q s (contents.Bucket chain) → Forgot t bucket q s
-  forgot s gave =
-      let given = given_back b (under_nothing b) chain (First first) None s lru (sets (First first) [] refl) can_look tt gave in
-      let lost_is : given.lost ≡ gave.can.hold.lock ∷ [] = append_cancel_right given.lost (gave.can.hold.lock ∷ []) q.view.lost (sym given.goes.lost_is ∙ ap (λ (z : PassView). z.view.lost) gave.after_is) in
-      let step_is : given.step ≡ given_turn q gave.can.hold gave.part = same_head (append_cancel_left q.view.steps (given.step ∷ []) (given_turn q gave.can.hold gave.part ∷ []) (sym given.goes.steps ∙ ap (λ (z : PassView). z.view.steps) gave.after_is)) in
-      record {
-        first = first;
-        gives = given;
-        is_lost = (λ i. is_among (step_is i).lock (lost_is i)) ∙ among_first gave.can.hold.lock [];
-      }
+        pub refused : (s : PassView) → GaveBack t (Bucket bucket) q s (contents.Bucket chain) found → PutsInPlace t bucket q s side flags key value offer put
+        refused s gave =
+            given_back b (under_nothing b) chain (Update side flags key value offer put) found s lru (sets (Update side flags key value offer put) [] refused_sets) can_give_refused is gave
 
   -- Written in place
 
@@ -133,11 +108,15 @@ module _ {t : TableView} {bucket : ℕ} {q : PassView} (chain : BodyList) (b : I
     can_give_written =
         can_give b under_written back (Update side flags key value offer (puts.Written e)) (numbers chain.bodies) turn (rows_taken b) (free_taken b) refl (sets (Update side flags key value offer (puts.Written e)) (e ∷ []) refl)
 
-    written : (found : Part) (s : PassView) → found ≡ update_part side flags key value offer (puts.Written e) → GaveBack t (Bucket bucket) r s (contents.Bucket back) (Some found) → Writes t bucket q s side flags key value offer
-    written found s is gave = record {
-      written = e;
-      gives = given_back b under_written back (Update side flags key value offer (puts.Written e)) (Some found) s lru (sets (Update side flags key value offer (puts.Written e)) (e ∷ []) refl) can_give_written is gave;
-    }
+    written_back : (found : Option Part) → IfSome found (λ x. x ≡ update_part side flags key value offer (puts.Written e))
+        → MayGiveBack t (Bucket bucket) r (contents.Bucket back) found × ((s : PassView) → GaveBack t (Bucket bucket) r s (contents.Bucket back) found → Writes t bucket q s side flags key value offer)
+    written_back found is = (
+      may_give_back b under_written back (Update side flags key value offer (puts.Written e)) found can_give_written is,
+      λ s gave. record {
+        written = e;
+        gives = given_back b under_written back (Update side flags key value offer (puts.Written e)) found s lru (sets (Update side flags key value offer (puts.Written e)) (e ∷ []) refl) can_give_written is gave;
+      },
+    )
 
   -- The element that was taken
 
@@ -154,9 +133,12 @@ module _ {t : TableView} {bucket : ℕ} {q : PassView} (chain : BodyList) (b : I
             (λ x. sym (ap (λ (l : Lists). times x (rows (with_row (Bucket bucket) body.element l))) b.now ∙ ap (λ (l : List ℕ). times x (body.element ∷ l)) (append_nil (numbers chain.bodies))))
             (free_taken b) refl (sets (Update side flags key value (Some body.element) (puts.Added body.element)) [] refl)
 
-        added : (found : Part) (s : PassView) → found ≡ update_part side flags key value (Some body.element) (puts.Added body.element) → GaveBack t (Bucket bucket) r s (contents.Bucket back) (Some found) → Adds t bucket q s side flags key value body.element
-        added found s is gave =
-            given_back b under_added back (Update side flags key value (Some body.element) (puts.Added body.element)) (Some found) s lru (sets (Update side flags key value (Some body.element) (puts.Added body.element)) [] refl) can_give_added is gave
+        added_back : (found : Option Part) → IfSome found (λ x. x ≡ update_part side flags key value (Some body.element) (puts.Added body.element))
+            → MayGiveBack t (Bucket bucket) r (contents.Bucket back) found × ((s : PassView) → GaveBack t (Bucket bucket) r s (contents.Bucket back) found → Adds t bucket q s side flags key value body.element)
+        added_back found is = (
+          may_give_back b under_added back (Update side flags key value (Some body.element) (puts.Added body.element)) found can_give_added is,
+          λ s gave. given_back b under_added back (Update side flags key value (Some body.element) (puts.Added body.element)) found s lru (sets (Update side flags key value (Some body.element) (puts.Added body.element)) [] refl) can_give_added is gave,
+        )
 
       -- or replaced another
       can_mark_new : CanMark t body.element bucket r
@@ -190,17 +172,16 @@ module _ {t : TableView} {bucket : ℕ} {q : PassView} (chain : BodyList) (b : I
               ∙ sym (ap (λ (l : Lists). times x (rows (without_row old (with_row (Bucket bucket) body.element l)))) b.now ∙ ap (times x) (append_nil (without old (body.element ∷ numbers chain.bodies)))))
               (free_taken b) refl (sets put_there (body.element ∷ []) refl)
 
-          replaced : (found : Part) (s : PassView) → found ≡ parts.Bucket put_there → GaveBack t (Bucket bucket) r3 s (contents.Bucket back) (Some found)
-              → GivenBack t bucket q s (parts.Bucket put_there) (with_in_hand old q.cpu (without_in_hand body.element q.cpu q.view.hand))
-          replaced found s is gave = given_back b under_replaced back put_there (Some found) s lru (sets put_there (body.element ∷ []) refl) can_give_replaced is gave
+          module _ (found : Option Part) (is : IfSome found (λ x. x ≡ parts.Bucket put_there)) where
+            may_give_replaced : MayGiveBack t (Bucket bucket) r3 (contents.Bucket back) found
+            may_give_replaced = may_give_back b under_replaced back put_there found can_give_replaced is
+
+            replaced : (s : PassView) → GaveBack t (Bucket bucket) r3 s (contents.Bucket back) found → GivenBack t bucket q s (parts.Bucket put_there) (with_in_hand old q.cpu (without_in_hand body.element q.cpu q.view.hand))
+            replaced s gave = given_back b under_replaced back put_there found s lru (sets put_there (body.element ∷ []) refl) can_give_replaced is gave
 
   -- From the clauses of the calls that each makes
 
-  module _ (side : Side) (flags : ℕ) (key value : List ℕ) (given : Given) (gives : Gives t bucket side key value given) {shape : Shape} {cpu : ℕ} (shape_is : shape ≡ t.shape) (cpu_is : cpu ≡ q.cpu) where
-    -- the entry, by what the caller gave
-    entry_is : (offer : Option ℕ) (put : Put) {found : Part} → found ≡ update_part side flags given.key given.value offer put → found ≡ update_part side flags key value offer put
-    entry_is offer put is = is ∙ (λ i. update_part side flags (gives.key_copied i) (gives.value_copied i) offer put)
-
+  module _ (side : Side) (flags : ℕ) (key value : List ℕ) {shape : Shape} {cpu : ℕ} (shape_is : shape ≡ t.shape) (cpu_is : cpu ≡ q.cpu) where
     filled_is : (e : ℕ) {filled : Stored} → filled ≡ new_stored shape side cpu e key value → filled ≡ new_stored t.shape side q.cpu e key value
     filled_is e is = is ∙ (λ i. new_stored (shape_is i) side (cpu_is i) e key value)
 
@@ -216,13 +197,11 @@ module _ {t : TableView} {bucket : ℕ} {q : PassView} (chain : BodyList) (b : I
         turn_added : IsTurnWith t.shape q.cpu (Update side flags key value (Some body.element) (puts.Added body.element)) chain.bodies back.bodies (body.element ∷ numbers chain.bodies)
         turn_added = added_turn t.shape q.cpu chain.bodies back.bodies b.sized side flags key value (Some body.element) body.element filled absent adds (filled_is body.element filled_as) is_sized left
 
-        pub add_done : (found : Part) → found ≡ update_part side flags given.key given.value (Some e) (puts.Added e)
-            → CanGive t (Bucket bucket) r (contents.Bucket back) found × ((s : PassView) → GaveBack t (Bucket bucket) r s (contents.Bucket back) (Some found) → Adds t bucket q s side flags key value body.element)
+        pub add_done : (found : Option Part) → IfSome found (λ x. x ≡ update_part side flags key value (Some e) (puts.Added e))
+            → MayGiveBack t (Bucket bucket) r (contents.Bucket back) found × ((s : PassView) → GaveBack t (Bucket bucket) r s (contents.Bucket back) found → Adds t bucket q s side flags key value body.element)
         add_done found is =
-            let entry : found ≡ update_part side flags key value (Some body.element) (puts.Added body.element) = entry_is (Some e) (puts.Added e) is ∙ (λ i. update_part side flags key value (Some (e_is i)) (puts.Added (e_is i))) in (
-              subst (CanGive t (Bucket bucket) r (contents.Bucket back)) (sym entry) (can_give_added body offered r is_attached side flags key value back turn_added),
-              λ s gave. added body offered r is_attached side flags key value back turn_added found s entry gave,
-            )
+            added_back body offered r is_attached side flags key value back turn_added found
+            (subst (λ n. IfSome found (λ x. x ≡ update_part side flags key value (Some n) (puts.Added n))) e_is is)
 
       pub can_mark_filled : CanMark t e bucket r
       can_mark_filled = subst (λ n. CanMark t n bucket r) (sym e_is) (can_mark_new body offered r is_attached)
@@ -245,14 +224,14 @@ module _ {t : TableView} {bucket : ℕ} {q : PassView} (chain : BodyList) (b : I
           turn_replaced : IsTurnWith t.shape q.cpu (Update side flags key value (Some body.element) (puts.Replaced body.element old)) chain.bodies back.bodies (body.element ∷ without old (numbers chain.bodies))
           turn_replaced = replaced_turn t.shape q.cpu chain.bodies back.bodies b.sized side flags key value (Some body.element) body.element old filled was replaces single (filled_is body.element filled_as) is_sized holder left old_is
 
-          pub replace_done : (found : Part) → found ≡ update_part side flags given.key given.value (Some e) (puts.Replaced e old)
-              → CanGive t (Bucket bucket) r3 (contents.Bucket back) found × ((s : PassView) → GaveBack t (Bucket bucket) r3 s (contents.Bucket back) (Some found) → Replaces t bucket q s side flags key value body.element was)
+          pub replace_done : (found : Option Part) → IfSome found (λ x. x ≡ update_part side flags key value (Some e) (puts.Replaced e old))
+              → MayGiveBack t (Bucket bucket) r3 (contents.Bucket back) found × ((s : PassView) → GaveBack t (Bucket bucket) r3 s (contents.Bucket back) found → Replaces t bucket q s side flags key value body.element was)
           replace_done found is =
-              let entry : found ≡ update_part side flags key value (Some body.element) (puts.Replaced body.element old) = entry_is (Some e) (puts.Replaced e old) is ∙ (λ i. update_part side flags key value (Some (e_is i)) (puts.Replaced (e_is i) old)) in (
-                subst (CanGive t (Bucket bucket) r3 (contents.Bucket back)) (sym entry) (can_give_replaced body offered r is_attached r2 marked_is old real_there inside_there r3 detached side flags key value back turn_replaced),
+              let entry = subst (λ n. IfSome found (λ x. x ≡ update_part side flags key value (Some n) (puts.Replaced n old))) e_is is in (
+                may_give_replaced body offered r is_attached r2 marked_is old real_there inside_there r3 detached side flags key value back turn_replaced found entry,
                 λ s gave. record {
                   gives = subst (λ n. GivenBack t bucket q s (update_part side flags key value (Some body.element) (puts.Replaced body.element n)) (with_in_hand n q.cpu (without_in_hand body.element q.cpu q.view.hand))) old_is
-                      (replaced body offered r is_attached r2 marked_is old real_there inside_there r3 detached side flags key value back turn_replaced found s entry gave);
+                      (replaced body offered r is_attached r2 marked_is old real_there inside_there r3 detached side flags key value back turn_replaced found entry s gave);
                   is_out = (subst (λ n. n < t.shape.elements) old_is real_there, sized_at t.shape chain.bodies place was b.sized found_there);
                 },
               )
@@ -268,10 +247,6 @@ module _ {t : TableView} {bucket : ℕ} {q : PassView} (chain : BodyList) (b : I
             written_turn t.shape q.cpu chain.bodies back.bodies b.sized side flags key value offer e place body replaces percpu (at.body_is ∙ sym at.present_is) (sym found_there) e_is
             (wrote ∙ (λ i. map (written_over (shape_is i) side (cpu_is i) key value) chain.bodies)) (subst (λ (s : Shape). All (IsSized s) back.bodies) shape_is sized)
 
-        pub write_done : (found : Part) → found ≡ update_part side flags given.key given.value offer (puts.Written e)
-            → CanGive t (Bucket bucket) r (contents.Bucket back) found × ((s : PassView) → GaveBack t (Bucket bucket) r s (contents.Bucket back) (Some found) → Writes t bucket q s side flags key value offer)
-        write_done found is =
-            let entry : found ≡ update_part side flags key value offer (puts.Written e) = entry_is offer (puts.Written e) is in (
-              subst (CanGive t (Bucket bucket) r (contents.Bucket back)) (sym entry) (can_give_written e side flags key value offer r back marked turn_written),
-              λ s gave. written e side flags key value offer r back marked turn_written found s entry gave,
-            )
+        pub write_done : (found : Option Part) → IfSome found (λ x. x ≡ update_part side flags key value offer (puts.Written e))
+            → MayGiveBack t (Bucket bucket) r (contents.Bucket back) found × ((s : PassView) → GaveBack t (Bucket bucket) r s (contents.Bucket back) found → Writes t bucket q s side flags key value offer)
+        write_done found is = written_back e side flags key value offer r back marked turn_written found is

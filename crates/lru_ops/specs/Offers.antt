@@ -1,23 +1,19 @@
 -- An update's turn of its key's bucket: what it is given, what it puts there, and what is left over; and what it leaves once that is
 -- freed.
-use Rattle.std.specs.Prelude.{◌≡◌, ℕ, ◌<◌, true, false, List, [], ◌∷◌, length, map, option_map, Option, None, Some, Result, Ok, Err}
+use Rattle.std.specs.Prelude.{◌≡◌, ℕ, ◌<◌, true, false, List, [], length, map, option_map, Option, None, Some, Result, Ok, Err}
 use Rattle.key_hash.specs.Jhash.{hash}
-use Rattle.map_types.specs.declared.kind.DomainId.TheVariants.{Bucket}
 use Rattle.map_types.specs.declared.kind.Side.{Side}
 use Rattle.map_types.specs.declared.refusal.Errno.TheVariants as errnos
 use Rattle.map_types.specs.declared.reply.Reply.{Reply}
 use Rattle.map_types.specs.declared.reply.Reply.TheVariants.{Done, Refused}
 use Rattle.map_types.specs.Stored.{Stored}
 use Rattle.map_types.specs.ValueLen.{value_len_of}
-use Rattle.bucket_entries.specs.declared.parts.Given.{Given}
-use Rattle.place_words.specs.declared.bucket_part.BucketPart.TheVariants.{Update, First}
+use Rattle.place_words.specs.declared.bucket_part.BucketPart.TheVariants.{Update}
 use Rattle.place_words.specs.declared.bucket_part.Put.{Put}
 use Rattle.place_words.specs.declared.bucket_part.Put.TheVariants as puts
 use Rattle.place_words.specs.declared.history.Part.{Part}
 use Rattle.place_words.specs.declared.history.Part.TheVariants as parts
-use Rattle.place_words.specs.Evicting.{FreesOne, MayPut, MayPutAlone, left_over, OffersOne}
-use Rattle.place_words.specs.Histories.{content, content_after, marks, clears}
-use Rattle.place_words.specs.Locks.{lock_number}
+use Rattle.place_words.specs.Evicting.{MayPut, MayPutAlone, left_over, OffersOne}
 use Rattle.place_words.specs.PlainTraces.{reply_of_put}
 use Rattle.place_words.specs.Turns.{bucket_of_key}
 use Rattle.place_table.specs.declared.view.InHand.{InHand}
@@ -25,19 +21,17 @@ use Rattle.place_table.specs.declared.view.Turned.{Turned}
 use Rattle.place_table.specs.Contents.{IsSized}
 use Rattle.place_table.specs.Known.{turn_at}
 use Rattle.place_table.specs.Passes.{PassView, TableView, IsPassOf, HasBegun}
-use Rattle.place_table.specs.Views.{is_among, is_in_hand_of, bucket_known, with_in_hand, without_in_hand}
+use Rattle.place_table.specs.Views.{is_in_hand_of, bucket_known, with_in_hand, without_in_hand}
 use Rattle.lru_ops.specs.declared.map.LruRefusal.{LruRefusal}
 use Rattle.lru_ops.specs.declared.map.LruRefusal.TheVariants as refusals
 use Rattle.lru_ops.specs.Lists.{Changed, IsTakenFor, CanFree, Freed}
 use Rattle.lru_ops.specs.Under.{GivenBack, IsOut}
 
--- What an update gives: a key of the bucket and a value of its side, and copies of both for its entry.
-pub record Gives (t : TableView) (bucket : ℕ) (side : Side) (key value : List ℕ) (given : Given) : Type 0 where
+-- what an update gives: a key of the bucket and a value of its side
+pub record Gives (t : TableView) (bucket : ℕ) (side : Side) (key value : List ℕ) : Type 0 where
   pub bucket_is : bucket ≡ bucket_of_key t.shape key
   pub key_sized : length key ≡ t.shape.key_size
   pub value_sized : length value ≡ value_len_of t.shape side
-  pub key_copied : given.key ≡ key
-  pub value_copied : given.value ≡ value
 
 -- An element that was taken for a key of this bucket is in the CPU's hand.
 pub record IsOffered (t : TableView) (bucket : ℕ) (q : PassView) (body : Stored) : Type 0 where
@@ -103,20 +97,12 @@ pub record PutsAlone (t : TableView) (bucket : ℕ) (q s : PassView) (side : Sid
   pub gives : PutsInPlace t bucket q s side flags key value None put
   pub reply_is : reply ≡ reply_of_put put
 
--- The bucket was given back as it was taken, without an entry: the record of its turns is lost. A look at its first key could have
--- been its entry.
-pub record Forgot (t : TableView) (bucket : ℕ) (q s : PassView) : Type 0 where
-  pub first : Option (List ℕ)
-  pub gives : GivenBack t bucket q s (parts.Bucket (First first)) q.view.hand
-  pub is_lost : is_among gives.step.lock gives.lost ≡ true
-
 -- an update in its bucket that was offered the element of a body
 abbrev pub OfferEnds : TableView → ℕ → PassView → PassView → Side → ℕ → List ℕ → List ℕ → Stored → Option Stored → Result (Unit {0}) LruRefusal → Type 0
 OfferEnds t bucket q s side flags key value body left (Ok done) = Offers t bucket q s side flags key value body.element left Done
 OfferEnds t bucket q s side flags key value body left (Err refusals.Einval) = ⊥
 OfferEnds t bucket q s side flags key value body left (Err refusals.Enoent) = Offers t bucket q s side flags key value body.element left (Refused errnos.Enoent)
 OfferEnds t bucket q s side flags key value body left (Err refusals.Eexist) = Offers t bucket q s side flags key value body.element left (Refused errnos.Eexist)
-OfferEnds t bucket q s side flags key value body left (Err refusals.NoMemory) = (left ≡ Some body) × Forgot t bucket q s
 OfferEnds t bucket q s side flags key value body left (Err refusals.Enomem) = ⊥
 
 -- and one that was offered nothing
@@ -125,7 +111,6 @@ AloneEnds t bucket q s side flags key value (Ok done) = PutsAlone t bucket q s s
 AloneEnds t bucket q s side flags key value (Err refusals.Einval) = ⊥
 AloneEnds t bucket q s side flags key value (Err refusals.Enoent) = PutsAlone t bucket q s side flags key value (Refused errnos.Enoent)
 AloneEnds t bucket q s side flags key value (Err refusals.Eexist) = ⊥
-AloneEnds t bucket q s side flags key value (Err refusals.NoMemory) = ⊥
 AloneEnds t bucket q s side flags key value (Err refusals.Enomem) = ⊥
 
 -- what is left over can be freed, and was, where there is anything
@@ -151,14 +136,6 @@ pub record CanOffer (t : TableView) (key : List ℕ) (body : Stored) (p : PassVi
 abbrev pub IsOutOfHand : ℕ → PassView → PassView → Type 0
 IsOutOfHand e before after = (x cpu : ℕ) → is_in_hand_of x cpu after.view.hand ≡ is_in_hand_of x cpu (without_in_hand e before.cpu before.view.hand)
 
--- the bucket of a key was given back as it was, with its bits, and the record of its turns is lost
-pub record IsForgotten (t : TableView) (key : List ℕ) (lost : List ℕ) (at_bucket : Turned) : Type 0 where
-  pub bucket_is : at_bucket.lock ≡ lock_number t.shape (Bucket (bucket_of_key t.shape key))
-  pub is_lost : is_among at_bucket.lock lost ≡ true
-  pub stays : content_after t.shape at_bucket.entry.cpu at_bucket.entry.part (content t.shape (Bucket (bucket_of_key t.shape key)) at_bucket.earlier) ≡ content t.shape (Bucket (bucket_of_key t.shape key)) at_bucket.earlier
-  pub no_marks : marks t.shape at_bucket.entry.part ≡ []
-  pub no_clears : clears at_bucket.entry.part ≡ []
-
 -- An element was offered to its key's bucket, and what was left over is freed.
 pub record HasOffered (t : TableView) (before after : PassView) (side : Side) (flags : ℕ) (key value : List ℕ) (e : ℕ) (reply : Reply) : Type 0 where
   pub steps : List Turned
@@ -168,21 +145,9 @@ pub record HasOffered (t : TableView) (before after : PassView) (side : Side) (f
   pub trace : OffersOne t.shape side flags key value e (map (turn_at t.shape) told) reply
   pub hand : IsOutOfHand e before after
 
--- There was no room for it in the bucket, and it is freed.
-pub record HasForgotten (t : TableView) (before after : PassView) (key : List ℕ) (e : ℕ) : Type 0 where
-  pub steps : List Turned
-  pub lost : List ℕ
-  pub at_bucket : Turned
-  pub freeing : List Turned
-  pub changed : Changed t before after steps (at_bucket ∷ freeing) lost
-  pub forgotten : IsForgotten t key lost at_bucket
-  pub frees : FreesOne t.shape (Some e) (map (turn_at t.shape) freeing)
-  pub hand : IsOutOfHand e before after
-
 abbrev pub OfferAnswers : TableView → PassView → PassView → Side → ℕ → List ℕ → List ℕ → ℕ → Result (Unit {0}) LruRefusal → Type 0
 OfferAnswers t before after side flags key value e (Ok done) = HasOffered t before after side flags key value e Done
 OfferAnswers t before after side flags key value e (Err refusals.Einval) = ⊥
 OfferAnswers t before after side flags key value e (Err refusals.Enoent) = HasOffered t before after side flags key value e (Refused errnos.Enoent)
 OfferAnswers t before after side flags key value e (Err refusals.Eexist) = HasOffered t before after side flags key value e (Refused errnos.Eexist)
-OfferAnswers t before after side flags key value e (Err refusals.NoMemory) = HasForgotten t before after key e
 OfferAnswers t before after side flags key value e (Err refusals.Enomem) = ⊥

@@ -1,5 +1,5 @@
 -- A refill of a CPU's local free list, within a turn of its local lists: what it asks and what it leaves, and what that turn tells of it.
-use Rattle.std.specs.Prelude.{◌≡◌, ℕ, ◌+◌, true, false, IsTrue, List, [], ◌∷◌, ◌++◌, map, reverse, Option, ◌≢◌, IsFalse, All, IfSome}
+use Rattle.std.specs.Prelude.{◌≡◌, ℕ, true, false, IsTrue, List, [], ◌∷◌, ◌++◌, map, reverse, Option, ◌≢◌, IsFalse, All, IfSome}
 use Rattle.map_types.specs.ElementLists.{times}
 use Rattle.place_words.specs.declared.history.Part.TheVariants as parts
 use Rattle.place_words.specs.declared.list_part.GlobalPart.TheVariants as global

@@ -1,22 +1,21 @@
 //! The calls on a map.
 
-ghost use Rattle.std.specs.Prelude.{◌≡◌, ℕ, ◌≤◌, ◌==◌, ◌&&◌, IfErr, IsTrue, length};
+ghost use Rattle.std.specs.Prelude.{◌≡◌, ◌≤◌, ◌==◌, ◌&&◌, IfErr, IsTrue, length};
 ghost use Rattle.map_types.specs.declared.call.Verb.TheVariants as verbs;
 ghost use Rattle.map_types.specs.declared.kind.Side.TheVariants.{Sys};
 ghost use Rattle.map_types.specs.Kind.{is_lru, is_percpu};
 ghost use Rattle.map_types.specs.ValueLen.{value_len_of};
 ghost use Rattle.place_words.specs.Turns.{bucket_of_key};
 ghost use Rattle.place_table.specs.Calls.{CanCall, Called, reply_of_value, reply_of_done};
-ghost use Rattle.lru_ops.specs.Calls.{FoundNoMemory, MayRefuse, Updates};
+ghost use Rattle.lru_ops.specs.Calls.{MayRefuse, Updates};
 ghost use Rattle.lru_ops.specs.Offers.{Gives, CanFreeLeft, HasFreedLeft, CanOffer, OfferAnswers};
 
 use crate::map::{LruMap, LruRefusal};
 use crate::updates::Offered;
-use bucket_entries::{BPF_EXIST, Given};
+use bucket_entries::BPF_EXIST;
 use map_types::{Absent, Gate, Side};
 use percpu_values::BoxedBody;
 use place_table::Pass;
-use std::alloc::Global;
 use std::sync::Wait;
 
 impl LruMap {
@@ -51,13 +50,12 @@ impl LruMap {
     /// each free list that was looked at was empty, the CPU's own first, and each element that was probed was in the hand of
     /// another CPU. With one taken it is refused with `Eexist` or `Enoent` where the bucket's turn found the key there under
     /// BPF_NOEXIST, or not there under BPF_EXIST: so an update under BPF_EXIST may evict its own key. What isn't needed, or was
-    /// replaced, is freed. `NoMemory` may come wherever a key or a value can't be copied, or the bucket has no room: then the
-    /// bucket is as its turn found it, and the record of its turns is lost. The rules are those of `htab_lru_map_update_elem`
-    /// and `__htab_lru_percpu_map_update_elem`.
+    /// replaced, is freed. It takes no memory that it needs: where memory for the entry of the key's bucket isn't found, the
+    /// update is done and answers all the same, and the record of that bucket's turns is lost. The rules are those of
+    /// `htab_lru_map_update_elem` and `__htab_lru_percpu_map_update_elem`.
     pub fn update<R: Wait, G: Gate>(
         &self,
         rt: &R,
-        alloc: Global,
         pass: &mut Pass,
         side: Side,
         flags: u32,
@@ -74,16 +72,12 @@ impl LruMap {
         if flags > BPF_EXIST {
             return Err(LruRefusal::Einval);
         }
-        let Ok(given) = Given::of(alloc, key, value) else {
-            self.lose(rt, pass, key, gate);
-            return Err(LruRefusal::NoMemory);
-        };
         if self.only_writes(flags) {
-            return self.write_key(rt, pass, side, key, value, given, gate);
+            return self.write_key(rt, pass, side, key, value, gate);
         }
         let hash = self.hash_of_key(key);
         match self.acquire(rt, pass, hash, gate) {
-            Some(body) => self.offer(rt, alloc, pass, side, flags, key, value, given, body, gate),
+            Some(body) => self.offer(rt, pass, side, flags, key, value, body, gate),
             None => Err(LruRefusal::Enomem),
         }
     }
@@ -139,17 +133,6 @@ impl LruMap {
         }
     }
 
-    /// Takes a key's bucket and gives it back as it was, with no entry.
-    fn lose<R: Wait, G: Gate>(&self, rt: &R, pass: &mut Pass, key: &[u8], gate: &G)
-        requires can { CanCall self.now pass.old }
-        requires key { length key.now ≡ self.now.shape.key_size }
-        ensures { (flags : ℕ) → FoundNoMemory self.now flags key.now pass.old pass.new }
-    {
-        let bucket = self.bucket_of_key(key);
-        let chain = self.enter(rt, pass, bucket, gate);
-        self.forget(pass, bucket, chain, gate);
-    }
-
     /// Writes a present key in place, with no element taken for it.
     fn write_key<R: Wait, G: Gate>(
         &self,
@@ -158,36 +141,33 @@ impl LruMap {
         side: Side,
         key: &[u8],
         value: &[u8],
-        given: Given,
         gate: &G,
     ) -> Result<(), LruRefusal>
         requires can { CanCall self.now pass.old }
-        requires gives { Gives self.now (bucket_of_key self.now.shape key.now) side key.now value.now given }
+        requires gives { Gives self.now (bucket_of_key self.now.shape key.now) side key.now value.now }
         requires percpu { IsTrue (is_percpu self.now.shape.kind) }
         ensures updates { Updates self.now pass.old pass.new side 2 key.now value.now result }
         ensures refuses { IfErr result (MayRefuse self.now.shape.kind 2) }
     {
         let bucket = self.bucket_of_key(key);
         let chain = self.enter(rt, pass, bucket, gate);
-        self.write_present(pass, bucket, chain, side, key, value, given, gate)
+        self.write_present(pass, bucket, chain, side, key, value, gate)
     }
 
     /// Updates a key in its bucket with an element that was taken for it, and frees what is left over.
     fn offer<R: Wait, G: Gate>(
         &self,
         rt: &R,
-        alloc: Global,
         pass: &mut Pass,
         side: Side,
         flags: u32,
         key: &[u8],
         value: &[u8],
-        given: Given,
         body: BoxedBody,
         gate: &G,
     ) -> Result<(), LruRefusal>
         requires can { CanOffer self.now key.now body pass.old }
-        requires gives { Gives self.now (bucket_of_key self.now.shape key.now) side key.now value.now given }
+        requires gives { Gives self.now (bucket_of_key self.now.shape key.now) side key.now value.now }
         requires known { flags ≤ 2 }
         ensures answers { OfferAnswers self.now pass.old pass.new side flags key.now value.now body.element result }
         ensures refuses { IfErr result (MayRefuse self.now.shape.kind flags) }
@@ -195,7 +175,7 @@ impl LruMap {
         let bucket = self.bucket_of_key(key);
         let chain = self.enter(rt, pass, bucket, gate);
         let Offered { answer, left } = self.update_in(
-            alloc, pass, bucket, chain, side, flags, key, value, given, body, gate,
+            pass, bucket, chain, side, flags, key, value, body, gate,
         );
         self.free_left(rt, pass, left, gate);
         answer

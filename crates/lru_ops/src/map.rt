@@ -30,9 +30,6 @@ pub enum LruRefusal {
     /// The key is present, and the flags are BPF_NOEXIST.
     #[error("Eexist")]
     Eexist = 3,
-    /// Memory was not found.
-    #[error("NoMemory")]
-    NoMemory = 5,
     /// No element was found to take.
     #[error("Enomem")]
     Enomem = 6,

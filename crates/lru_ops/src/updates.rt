@@ -6,16 +6,15 @@ ghost use Rattle.place_words.specs.Bodies.{present};
 ghost use Rattle.place_words.specs.Buckets.{AllowsPut};
 ghost use Rattle.place_table.specs.InBucket.{InBucket, IsAt};
 ghost use Rattle.lru_ops.specs.Calls.{MayRefuse};
-ghost use Rattle.lru_ops.specs.Offers.{Gives, IsOffered, IsRefusal, PutsInPlace, Writes, OfferEnds, AloneEnds, Adds, Replaces, Forgot};
+ghost use Rattle.lru_ops.specs.Offers.{Gives, IsOffered, IsRefusal, PutsInPlace, Writes, OfferEnds, AloneEnds, Adds, Replaces};
 
 use crate::map::{LruMap, LruRefusal};
 use bucket_chain::Chain;
-use bucket_entries::{BPF_EXIST, BPF_NOEXIST, Given, body_at, fill_body, write_value};
+use bucket_entries::{BPF_EXIST, BPF_NOEXIST, body_at, fill_body, updated, write_value};
 use map_types::{DomainId, Gate, Side};
 use percpu_values::BoxedBody;
 use place_table::{Content, Pass};
 use place_words::Put;
-use std::alloc::Global;
 
 /// What an update that was offered an element left: its answer, and the body that has to be freed.
 pub(crate) struct Offered {
@@ -28,7 +27,6 @@ impl LruMap {
     /// `htab_lru_map_update_elem` and `__htab_lru_percpu_map_update_elem`. What isn't needed, or was replaced, is left over.
     pub(crate) fn update_in<G: Gate>(
         &self,
-        alloc: Global,
         pass: &mut Pass,
         bucket: u32,
         chain: Chain,
@@ -36,12 +34,11 @@ impl LruMap {
         flags: u32,
         key: &[u8],
         value: &[u8],
-        given: Given,
         body: BoxedBody,
         gate: &G,
     ) -> Offered
         requires inside { InBucket self.now bucket pass.old chain.bodies }
-        requires gives { Gives self.now bucket side key.now value.now given }
+        requires gives { Gives self.now bucket side key.now value.now }
         requires offered { IsOffered self.now bucket pass.old body }
         requires known { flags ≤ 2 }
         ensures ends { OfferEnds self.now bucket pass.old pass.new side flags key.now value.now body result.left result.answer }
@@ -49,11 +46,9 @@ impl LruMap {
     {
         match chain.find(key) {
             Some(place) => self.update_present(
-                pass, bucket, chain, place, side, flags, key, value, given, body, gate,
+                pass, bucket, chain, place, side, flags, key, value, body, gate,
             ),
-            None => self.update_absent(
-                alloc, pass, bucket, chain, side, flags, key, value, given, body, gate,
-            ),
+            None => self.update_absent(pass, bucket, chain, side, flags, key, value, body, gate),
         }
     }
 
@@ -68,12 +63,11 @@ impl LruMap {
         flags: u32,
         key: &[u8],
         value: &[u8],
-        given: Given,
         body: BoxedBody,
         gate: &G,
     ) -> Offered
         requires inside { InBucket self.now bucket pass.old chain.bodies }
-        requires gives { Gives self.now bucket side key.now value.now given }
+        requires gives { Gives self.now bucket side key.now value.now }
         requires offered { IsOffered self.now bucket pass.old body }
         requires at { IsAt key.now place chain.bodies }
         requires known { flags ≤ 2 }
@@ -88,7 +82,8 @@ impl LruMap {
                 chain,
                 side,
                 flags,
-                given,
+                key,
+                value,
                 offer,
                 Put::Exists,
                 gate,
@@ -101,7 +96,7 @@ impl LruMap {
         if self.table.shape().kind.is_percpu() {
             let offer = Some(body.body().element());
             self.write(
-                pass, bucket, chain, place, side, flags, key, value, given, offer, gate,
+                pass, bucket, chain, place, side, flags, key, value, offer, gate,
             );
             return Offered {
                 answer: Ok(()),
@@ -109,7 +104,7 @@ impl LruMap {
             };
         }
         let old = self.replace(
-            pass, bucket, chain, place, side, flags, key, value, given, body, gate,
+            pass, bucket, chain, place, side, flags, key, value, body, gate,
         );
         Offered {
             answer: Ok(()),
@@ -120,20 +115,18 @@ impl LruMap {
     /// An update of a key that is absent.
     fn update_absent<G: Gate>(
         &self,
-        alloc: Global,
         pass: &mut Pass,
         bucket: u32,
-        mut chain: Chain,
+        chain: Chain,
         side: Side,
         flags: u32,
         key: &[u8],
         value: &[u8],
-        given: Given,
         body: BoxedBody,
         gate: &G,
     ) -> Offered
         requires inside { InBucket self.now bucket pass.old chain.bodies }
-        requires gives { Gives self.now bucket side key.now value.now given }
+        requires gives { Gives self.now bucket side key.now value.now }
         requires offered { IsOffered self.now bucket pass.old body }
         requires absent { present key.now chain.bodies ≡ None }
         requires known { flags ≤ 2 }
@@ -148,7 +141,8 @@ impl LruMap {
                 chain,
                 side,
                 flags,
-                given,
+                key,
+                value,
                 offer,
                 Put::Absent,
                 gate,
@@ -158,16 +152,7 @@ impl LruMap {
                 left: Some(body),
             };
         }
-        if chain.reserve_one(alloc).is_err() {
-            self.forget(pass, bucket, chain, gate);
-            return Offered {
-                answer: Err(LruRefusal::NoMemory),
-                left: Some(body),
-            };
-        }
-        self.add(
-            pass, bucket, chain, side, flags, key, value, given, body, gate,
-        );
+        self.add(pass, bucket, chain, side, flags, key, value, body, gate);
         Offered {
             answer: Ok(()),
             left: None,
@@ -182,41 +167,28 @@ impl LruMap {
         chain: Chain,
         side: Side,
         flags: u32,
-        given: Given,
+        key: &[u8],
+        value: &[u8],
         offer: Option<u32>,
         put: Put,
         gate: &G,
     )
         requires inside { InBucket self.now bucket pass.old chain.bodies }
         requires refusal { IsRefusal put }
-        requires allowed { AllowsPut self.now.shape flags given.key put chain.bodies }
-        ensures { PutsInPlace self.now bucket pass.old pass.new side flags given.key given.value offer put }
+        requires allowed { AllowsPut self.now.shape flags key.now put chain.bodies }
+        ensures { PutsInPlace self.now bucket pass.old pass.new side flags key.now value.now offer put }
     {
-        let part = given.updated(side, flags, offer, put);
+        let part = updated(self.alloc, side, flags, key, value, offer, put);
         self.table.give(
             pass,
             DomainId::Bucket(bucket),
             Content::Bucket(chain),
-            Some(part),
+            part,
             gate,
         );
     }
 
-    /// Gives a bucket back as it was taken, with no entry.
-    pub(crate) fn forget<G: Gate>(&self, pass: &mut Pass, bucket: u32, chain: Chain, gate: &G)
-        requires inside { InBucket self.now bucket pass.old chain.bodies }
-        ensures { Forgot self.now bucket pass.old pass.new }
-    {
-        self.table.give(
-            pass,
-            DomainId::Bucket(bucket),
-            Content::Bucket(chain),
-            None,
-            gate,
-        );
-    }
-
-    /// Adds an absent key with the element that was taken for it. The chain has room for one.
+    /// Adds an absent key with the element that was taken for it.
     fn add<G: Gate>(
         &self,
         pass: &mut Pass,
@@ -226,29 +198,38 @@ impl LruMap {
         flags: u32,
         key: &[u8],
         value: &[u8],
-        given: Given,
         mut body: BoxedBody,
         gate: &G,
     )
         requires inside { InBucket self.now bucket pass.old chain.bodies }
-        requires gives { Gives self.now bucket side key.now value.now given }
+        requires gives { Gives self.now bucket side key.now value.now }
         requires offered { IsOffered self.now bucket pass.old body }
         requires absent { present key.now chain.bodies ≡ None }
         requires adds { flags ≢ 2 }
-        requires room { 1 ≤ chain.spare }
         ensures { Adds self.now bucket pass.old pass.new side flags key.now value.now body.element }
     {
         let cpu = self.table.cpu_of(pass);
         fill_body(self.table.shape(), side, cpu, &mut body, key, value);
         let element = body.body().element();
         self.table.attach(pass, element, bucket);
+        let Ok(()) = chain.reserve_one(self.alloc) else {
+            unreachable!()
+        };
         chain.add_head(body);
-        let part = given.updated(side, flags, Some(element), Put::Added(element));
+        let part = updated(
+            self.alloc,
+            side,
+            flags,
+            key,
+            value,
+            Some(element),
+            Put::Added(element),
+        );
         self.table.give(
             pass,
             DomainId::Bucket(bucket),
             Content::Bucket(chain),
-            Some(part),
+            part,
             gate,
         );
     }
@@ -264,12 +245,11 @@ impl LruMap {
         flags: u32,
         key: &[u8],
         value: &[u8],
-        given: Given,
         offer: Option<u32>,
         gate: &G,
     )
         requires inside { InBucket self.now bucket pass.old chain.bodies }
-        requires gives { Gives self.now bucket side key.now value.now given }
+        requires gives { Gives self.now bucket side key.now value.now }
         requires at { IsAt key.now place chain.bodies }
         requires percpu { IsTrue (is_percpu self.now.shape.kind) }
         requires replaces { flags ≢ 1 }
@@ -279,12 +259,20 @@ impl LruMap {
         let element = body_at(&chain, place).element();
         self.table.mark(pass, element, bucket);
         write_value(self.table.shape(), side, cpu, &mut chain, place, key, value);
-        let part = given.updated(side, flags, offer, Put::Written(element));
+        let part = updated(
+            self.alloc,
+            side,
+            flags,
+            key,
+            value,
+            offer,
+            Put::Written(element),
+        );
         self.table.give(
             pass,
             DomainId::Bucket(bucket),
             Content::Bucket(chain),
-            Some(part),
+            part,
             gate,
         );
     }
@@ -301,12 +289,11 @@ impl LruMap {
         flags: u32,
         key: &[u8],
         value: &[u8],
-        given: Given,
         mut body: BoxedBody,
         gate: &G,
     ) -> BoxedBody
         requires inside { InBucket self.now bucket pass.old chain.bodies }
-        requires gives { Gives self.now bucket side key.now value.now given }
+        requires gives { Gives self.now bucket side key.now value.now }
         requires offered { IsOffered self.now bucket pass.old body }
         requires at { IsAt key.now place chain.bodies }
         requires single { is_percpu self.now.shape.kind ≡ false }
@@ -321,12 +308,20 @@ impl LruMap {
         let replaced = chain.replace_head(place, body);
         let old = replaced.body().element();
         self.table.detach(pass, old, bucket);
-        let part = given.updated(side, flags, Some(new), Put::Replaced { new, old });
+        let part = updated(
+            self.alloc,
+            side,
+            flags,
+            key,
+            value,
+            Some(new),
+            Put::Replaced { new, old },
+        );
         self.table.give(
             pass,
             DomainId::Bucket(bucket),
             Content::Bucket(chain),
-            Some(part),
+            part,
             gate,
         );
         replaced
@@ -341,11 +336,10 @@ impl LruMap {
         side: Side,
         key: &[u8],
         value: &[u8],
-        given: Given,
         gate: &G,
     ) -> Result<(), LruRefusal>
         requires inside { InBucket self.now bucket pass.old chain.bodies }
-        requires gives { Gives self.now bucket side key.now value.now given }
+        requires gives { Gives self.now bucket side key.now value.now }
         requires percpu { IsTrue (is_percpu self.now.shape.kind) }
         ensures ends { AloneEnds self.now bucket pass.old pass.new side 2 key.now value.now result }
         ensures refuses { IfErr result (MayRefuse self.now.shape.kind 2) }
@@ -353,7 +347,7 @@ impl LruMap {
         match chain.find(key) {
             Some(place) => {
                 self.write(
-                    pass, bucket, chain, place, side, BPF_EXIST, key, value, given, None, gate,
+                    pass, bucket, chain, place, side, BPF_EXIST, key, value, None, gate,
                 );
                 Ok(())
             }
@@ -364,7 +358,8 @@ impl LruMap {
                     chain,
                     side,
                     BPF_EXIST,
-                    given,
+                    key,
+                    value,
                     None,
                     Put::Absent,
                     gate,

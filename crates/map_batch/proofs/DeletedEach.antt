@@ -21,16 +21,20 @@ use Rattle.map_batch.proofs.Joined.{called_wrote, called_nothing, batch_refused}
 abbrev pub delete_of : List ℕ → Verb
 delete_of key = Delete key
 
+-- which locks are lost isn't told
+abbrev pub no_lock : List ℕ → ℕ
+no_lock key = 0
+
 -- the keys so far were deleted
 abbrev pub DeletedSoFar : TableView → PassView → List (List ℕ) → PassView → ℕ → Type 0
-DeletedSoFar t p keys q n = SoFar delete_of ⊥ t p keys q n
+DeletedSoFar t p keys q n = SoFar delete_of no_lock ⊥ t p keys q n
 
 pub deleted_none : (t : TableView) (p : PassView) (keys : List (List ℕ)) → CanCall t p → DeletedSoFar t p keys p 0
 deleted_none t p keys can = so_far_none keys can
 
 module _ (t : TableView) (p : PassView) (keys : List (List ℕ)) where
-  as_deletes : (q : PassView) (entries : List (List ℕ)) (stop : Option Errno) (n : ℕ) → Ends delete_of ⊥ t p keys q entries (Count stop n) → Called t p q (BatchDelete 0 entries) (Count stop n)
-  as_deletes q entries stop n ends = (called_wrote (BatchDelete 0 entries) (Count stop n) ends.0 ends.0.trace).0
+  as_deletes : (q : PassView) (entries begun : List (List ℕ)) (stop : Option Errno) (n : ℕ) → Ends delete_of no_lock ⊥ t p keys q entries begun (Count stop n) → Called t p q (BatchDelete 0 entries) (Count stop n)
+  as_deletes q entries begun stop n ends = (called_wrote (BatchDelete 0 entries) (Count stop n) ends.0 ends.0.trace).0
 
   module _ (q r : PassView) (n i : ℕ) (key : List ℕ) (so_far : DeletedSoFar t p keys q n) (at : n ≡ i) (less : n < length keys) (is : key ≡ get_or keys i key) (bytes : List ℕ) (bytes_are : bytes ≡ key) where
     next : take (suc n) keys ≡ take n keys ++ key ∷ []
@@ -49,12 +53,12 @@ module _ (t : TableView) (p : PassView) (keys : List (List ℕ)) where
     deleted_stopped given =
         let called = of_key (Refused errnos.Enoent) given in (
           refl,
-          as_deletes r keys (Some errnos.Enoent) n (stopped keys so_far key next called (λ never. absurd never) called.trace errnos.Enoent refl),
+          as_deletes r keys (take (suc n) keys) (Some errnos.Enoent) n (stopped keys so_far key next called (λ never. absurd never) called.trace errnos.Enoent refl),
           (refl, less),
         )
 
   pub deleted_all : (q : PassView) (n : ℕ) → DeletedSoFar t p keys q n → n ≡ length keys → DeletesBatch t p q 0 keys (Ok record { done = n; stop = None })
-  deleted_all q n so_far all = (refl, as_deletes q keys None n (all_done keys so_far (take_all n keys (omega (arith, all)))), all)
+  deleted_all q n so_far all = (refl, as_deletes q keys (take n keys) None n (all_done keys so_far (take n keys) (take_all n keys (omega (arith, all))) refl), all)
 
   -- by flags that are 0
   pub deletes_by : (q : PassView) (flags : ℕ) (result : Result BatchCount WriteRefusal) → flags ≡ 0 → DeletesBatch t p q 0 keys result → DeletesBatch t p q flags keys result

@@ -2,6 +2,7 @@
 use Rattle.std.proofs.Common.{◌≡◌, ℕ, Bool, true, false, List, sym, subst}
 use Rattle.std.specs.Prelude.{IsTrue, IsFalse, MatchBool, Result, Ok, Err}
 use Rattle.map_types.specs.declared.kind.Side.{Side}
+use Rattle.map_types.specs.declared.refusal.Errno.{Errno}
 use Rattle.map_types.specs.Kind.{is_lru}
 use Rattle.place_table.specs.Passes.{PassView, TableView}
 use Rattle.place_table.proofs.Worlds.{true_false}
@@ -14,7 +15,6 @@ use Rattle.lru_ops.specs.Calls as lru_calls
 use Rattle.map_batch.specs.Calls.{table_of, IsOfItsSort, Updates, answer_of_plain, answer_of_lru}
 use Rattle.map_batch.specs.declared.any_map.AnyMap.{AnyMap}
 use Rattle.map_batch.specs.declared.any_map.AnyMap.TheVariants.{Plain, Lru}
-use Rattle.map_batch.specs.declared.any_map.AnyRefusal.{AnyRefusal}
 
 -- the sort that a map is of is the one that counts
 on_evicting : (b : Bool) (P Q : Type 0) → b ≡ true → P → MatchBool b P Q
@@ -32,18 +32,16 @@ module _ (t : TableView) (before after : PassView) (side : Side) (flags : ℕ) (
   plain_updates (Err plain.Enoent) is updates = on_plain (is_lru t.shape.kind) _ _ is updates
   plain_updates (Err plain.Eexist) is updates = on_plain (is_lru t.shape.kind) _ _ is updates
   plain_updates (Err plain.E2big) is updates = on_plain (is_lru t.shape.kind) _ _ is updates
-  plain_updates (Err plain.NoMemory) is updates = on_plain (is_lru t.shape.kind) _ _ is updates.1
 
   lru_updates : (answer : Result (Unit {0}) LruRefusal) → IsTrue (is_lru t.shape.kind) → lru_calls.Updates t before after side flags key value answer → Updates t before after side flags key value (answer_of_lru answer)
   lru_updates (Ok done) is updates = on_evicting (is_lru t.shape.kind) _ _ is updates
   lru_updates (Err lru.Einval) is updates = (updates.0, on_evicting (is_lru t.shape.kind) _ _ is updates.1)
   lru_updates (Err lru.Enoent) is updates = on_evicting (is_lru t.shape.kind) _ _ is updates
   lru_updates (Err lru.Eexist) is updates = on_evicting (is_lru t.shape.kind) _ _ is updates
-  lru_updates (Err lru.NoMemory) is updates = on_evicting (is_lru t.shape.kind) _ _ is updates.1
   lru_updates (Err lru.Enomem) is updates = on_evicting (is_lru t.shape.kind) _ _ is updates
 
   -- the same of a map of which it is known which sort it is
-  module _ (map : AnyMap) (sort : IsOfItsSort map) (result : Result (Unit {0}) AnyRefusal) where
+  module _ (map : AnyMap) (sort : IsOfItsSort map) (result : Result (Unit {0}) Errno) where
     pub of_plain : map ≡ Plain t → (answer : Result (Unit {0}) PlainRefusal) → plain_calls.Updates t before after side flags key value answer → result ≡ answer_of_plain answer → Updates (table_of map) before after side flags key value result
     of_plain is answer updates answered =
         subst (λ (m : AnyMap). Updates (table_of m) before after side flags key value result) (sym is)

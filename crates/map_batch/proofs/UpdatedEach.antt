@@ -1,6 +1,6 @@
 -- What a batch update answers, by its entries.
-use Rattle.std.proofs.Common.{◌≡◌, ◌≢◌, ℕ, zero, suc, ◌+◌, ◌<◌, Bool, true, false, List, [], ◌∷◌, ◌++◌, length, take, sym, refl, ◌∙◌, subst, arith, Option, None, Some}
-use Rattle.std.specs.Prelude.{IsFalse, MatchBool, Result, Ok, Err}
+use Rattle.std.proofs.Common.{◌≡◌, ◌≢◌, ℕ, zero, suc, ◌+◌, ◌<◌, Bool, true, false, List, [], ◌∷◌, ◌++◌, length, map, take, sym, refl, ◌∙◌, subst, inl, arith, Option, None, Some}
+use Rattle.std.specs.Prelude.{IsFalse, MatchBool, reverse, Result, Ok, Err}
 use Rattle.std.proofs.Math.Seq.{take-suc}
 use Rattle.std.proofs.lemmas.List.{take_all}
 use Rattle.map_types.specs.declared.call.Verb.{Verb}
@@ -16,25 +16,24 @@ use Rattle.map_types.specs.Pairs.{HaveSizes, pair_at}
 use Rattle.place_table.specs.Calls.{CanCall, Called, spare_element}
 use Rattle.place_table.specs.Passes.{PassView, TableView}
 use Rattle.place_table.proofs.Worlds.{true_false}
-use Rattle.map_batch.specs.declared.any_map.AnyRefusal.{AnyRefusal}
-use Rattle.map_batch.specs.declared.any_map.AnyRefusal.TheVariants as any
 use Rattle.map_batch.specs.declared.writes.BatchCount.{BatchCount}
 use Rattle.map_batch.specs.declared.writes.WriteRefusal.{WriteRefusal}
 use Rattle.map_batch.specs.declared.writes.WriteRefusal.TheVariants as writes
+use Rattle.hash_ops.specs.Calls.{LosesAtMost}
 use Rattle.map_batch.specs.Calls.{Updated, Updates, MayRefuse}
-use Rattle.map_batch.specs.Writes.{EndsAt, UpdatesBatch, ended_by}
+use Rattle.map_batch.specs.Writes.{AreSomeOf, BatchUpdated, UpdatesBatch, bucket_lock}
 use Rattle.map_batch.proofs.Entries.{SoFar, Ends, so_far_none, those_before, all_done, one_more, stopped}
 use Rattle.map_batch.proofs.Joined.{called_wrote, called_nothing, batch_refused}
 
--- On which sort of map no lock was given back without a part
+-- What is lost, told only of a map that doesn't evict
 
-whole_parts : (b : Bool) {C : Type 0} (lost : C → List ℕ) → MatchBool b C ((c : C) × (lost c ≡ [])) → (c : C) × (b ≡ false → lost c ≡ [])
-whole_parts true lost c = (c, λ is. absurd (true_false is))
-whole_parts false lost whole = (whole.0, λ _. whole.1)
+parts_of : (b : Bool) {C : Type 0} (Loses : C → Type 0) → MatchBool b C ((c : C) × Loses c) → (c : C) × (b ≡ false → Loses c)
+parts_of true Loses c = (c, λ is. absurd (true_false is))
+parts_of false Loses both = (both.0, λ _. both.1)
 
-whole_again : (b : Bool) {C : Type 0} (lost : C → List ℕ) (c : C) → (b ≡ false → lost c ≡ []) → MatchBool b C ((x : C) × (lost x ≡ []))
-whole_again true lost c whole = c
-whole_again false lost c whole = (c, whole refl)
+again : (b : Bool) {C : Type 0} (Loses : C → Type 0) (c : C) → (b ≡ false → Loses c) → MatchBool b C ((x : C) × Loses x)
+again true Loses c loses = c
+again false Loses c loses = (c, loses refl)
 
 evicting_only : (b : Bool) {F : Type 0} (C D : Type 0) → (F → C) → MatchBool b F ⊥ → MatchBool b C D
 evicting_only true C D to is = to is
@@ -44,12 +43,18 @@ plain_only : (b : Bool) (C D : Type 0) → MatchBool b ⊥ D → MatchBool b C D
 plain_only true C D is = absurd is
 plain_only false C D is = is
 
+-- nothing lost is no more than that
+nothing_lost : (b : Bool) {C : Type 0} (lost : C → List ℕ) (lock : ℕ) → MatchBool b C ((c : C) × (lost c ≡ [])) → MatchBool b C ((c : C) × LosesAtMost lock (lost c))
+nothing_lost true lost lock c = c
+nothing_lost false lost lock whole = (whole.0, inl whole.1)
+
 -- Updates
 
 module _ (t : TableView) (q r : PassView) (side : Side) (flags : ℕ) (key value : List ℕ) where
   -- an update that was refused did what its turns tell
-  refused_updated : (errno : Errno) → Updates t q r side flags key value (Err (any.Refused errno)) → Updated t q r (Update side flags key value) (Refused errno)
-  refused_updated errnos.Einval updates = updates.1
+  refused_updated : (errno : Errno) → Updates t q r side flags key value (Err errno) → Updated t q r side flags key value (Refused errno)
+  refused_updated errnos.Einval updates =
+      nothing_lost (is_lru t.shape.kind) (λ (c : Called t q r (Update side flags key value) (Refused errnos.Einval)). c.lost) (bucket_lock t.shape (key, value)) updates.1
   refused_updated errnos.Enoent updates = updates
   refused_updated errnos.Eexist updates = updates
   refused_updated errnos.E2big updates = plain_only (is_lru t.shape.kind) _ _ updates
@@ -61,7 +66,7 @@ update_of pair = Update Sys 0 pair.0 pair.1
 
 -- the pairs so far were updated
 abbrev pub UpdatedSoFar : TableView → PassView → List (List ℕ × List ℕ) → PassView → ℕ → Type 0
-UpdatedSoFar t p pairs q n = SoFar update_of (IsFalse (is_lru t.shape.kind)) t p pairs q n
+UpdatedSoFar t p pairs q n = SoFar update_of (bucket_lock t.shape) (IsFalse (is_lru t.shape.kind)) t p pairs q n
 
 pub updated_none : (t : TableView) (p : PassView) (pairs : List (List ℕ × List ℕ)) → CanCall t p → UpdatedSoFar t p pairs p 0
 updated_none t p pairs can = so_far_none pairs can
@@ -78,21 +83,23 @@ value_sized key_size value_size (pair ∷ pairs) (suc i) sizes less = value_size
 
 module _ (t : TableView) (p : PassView) (pairs : List (List ℕ × List ℕ)) where
   -- what is told of the entries, as a batch of them
-  as_batch : (q : PassView) (entries : List (List ℕ × List ℕ)) (stop : Option Errno) (n : ℕ) → Ends update_of (IsFalse (is_lru t.shape.kind)) t p pairs q entries (Count stop n)
-      → Updated t p q (BatchUpdate 0 entries) (Count stop n)
-  as_batch q entries stop n ends =
+  as_batch : (q : PassView) (entries begun : List (List ℕ × List ℕ)) (stop : Option Errno) (n : ℕ) → Ends update_of (bucket_lock t.shape) (IsFalse (is_lru t.shape.kind)) t p pairs q entries begun (Count stop n)
+      → BatchUpdated t p q 0 entries begun (Count stop n)
+  as_batch q entries begun stop n ends =
+      let locks : List ℕ = reverse (map (bucket_lock t.shape) begun) in
       let called = called_wrote (BatchUpdate 0 entries) (Count stop n) ends.0 ends.0.trace in
-      whole_again (is_lru t.shape.kind) (λ (c : Called t p q (BatchUpdate 0 entries) (Count stop n)). c.lost) called.0 (λ plain. called.1 ∙ ends.1 plain)
+      again (is_lru t.shape.kind) (λ (c : Called t p q (BatchUpdate 0 entries) (Count stop n)). AreSomeOf locks c.lost) called.0 (λ plain. subst (AreSomeOf locks) (sym called.1) (ends.1 plain))
 
   module _ (q r : PassView) (n : ℕ) (key value : List ℕ) (so_far : UpdatedSoFar t p pairs q n) (less : n < length pairs) (key_is : key ≡ (pair_at pairs n).0) (value_is : value ≡ (pair_at pairs n).1) where
     next : take (suc n) pairs ≡ take n pairs ++ pair_at pairs n ∷ []
     next = take-suc pairs n ([], []) less
 
-    of_pair : (result : Result (Unit {0}) AnyRefusal) → Updates t q r Sys 0 key value result → Updates t q r Sys 0 (pair_at pairs n).0 (pair_at pairs n).1 result
+    of_pair : (result : Result (Unit {0}) Errno) → Updates t q r Sys 0 key value result → Updates t q r Sys 0 (pair_at pairs n).0 (pair_at pairs n).1 result
     of_pair result = subst (λ (x : List ℕ × List ℕ). Updates t q r Sys 0 x.0 x.1 result) (λ i. (key_is i, value_is i))
 
-    updated_parts : {reply : Reply} → Updated t q r (update_of (pair_at pairs n)) reply → (c : Called t q r (update_of (pair_at pairs n)) reply) × (IsFalse (is_lru t.shape.kind) → c.lost ≡ [])
-    updated_parts {reply} = whole_parts (is_lru t.shape.kind) (λ (c : Called t q r (update_of (pair_at pairs n)) reply). c.lost)
+    updated_parts : {reply : Reply} → Updated t q r Sys 0 (pair_at pairs n).0 (pair_at pairs n).1 reply
+        → (c : Called t q r (update_of (pair_at pairs n)) reply) × (IsFalse (is_lru t.shape.kind) → LosesAtMost (bucket_lock t.shape (pair_at pairs n)) c.lost)
+    updated_parts {reply} = parts_of (is_lru t.shape.kind) (λ (c : Called t q r (update_of (pair_at pairs n)) reply). LosesAtMost (bucket_lock t.shape (pair_at pairs n)) c.lost)
 
     pub updated_more : (done : Unit {0}) → Updates t q r Sys 0 key value (Ok done) → UpdatedSoFar t p pairs r (n + 1)
     updated_more done updates =
@@ -100,32 +107,26 @@ module _ (t : TableView) (p : PassView) (pairs : List (List ℕ × List ℕ)) wh
         let more : suc n ≡ n + 1 = omega arith in
         subst (UpdatedSoFar t p pairs r) more (one_more pairs so_far (pair_at pairs n) next called.0 called.1 called.0.trace refl)
 
-    ends_at : (refusal : AnyRefusal) → Updates t q r Sys 0 key value (Err refusal) → MayRefuse t.shape.kind 0 refusal → EndsAt t p r pairs n refusal
-    ends_at refusal updates may = record {
-      within = less;
-      between = q;
-      entries = as_batch q (take n pairs) None n (those_before pairs so_far);
-      refused = of_pair (Err refusal) updates;
-      may = may;
-    }
-
-    updated_stopped : (errno : Errno) → Updates t q r Sys 0 key value (Err (any.Refused errno)) → MayRefuse t.shape.kind 0 (any.Refused errno)
-        → UpdatesBatch t p r 0 pairs (Ok record { done = n; stop = Some errno })
+    pub updated_stopped : (errno : Errno) → Updates t q r Sys 0 key value (Err errno) → MayRefuse t.shape.kind 0 errno → UpdatesBatch t p r 0 pairs (Ok record { done = n; stop = Some errno })
     updated_stopped errno updates may =
         let pair = pair_at pairs n in
-        let called = updated_parts (refused_updated t q r Sys 0 pair.0 pair.1 errno (of_pair (Err (any.Refused errno)) updates)) in (
+        let called = updated_parts (refused_updated t q r Sys 0 pair.0 pair.1 errno (of_pair (Err errno) updates)) in (
           refl,
-          as_batch r pairs (Some errno) n (stopped pairs so_far pair next called.0 called.1 called.0.trace errno refl),
-          ends_at (any.Refused errno) updates may,
+          as_batch r pairs (take (suc n) pairs) (Some errno) n (stopped pairs so_far pair next called.0 called.1 called.0.trace errno refl),
+          record {
+            within = less;
+            between = q;
+            entries = as_batch q (take n pairs) (take n pairs) None n (those_before pairs so_far);
+            refused = of_pair (Err errno) updates;
+            may = may;
+          },
         )
 
-    pub updated_ended : (refusal : AnyRefusal) → Updates t q r Sys 0 key value (Err refusal) → MayRefuse t.shape.kind 0 refusal → (result : Result BatchCount WriteRefusal) → result ≡ ended_by refusal n
-        → UpdatesBatch t p r 0 pairs result
-    updated_ended (any.Refused errno) updates may result is = subst (UpdatesBatch t p r 0 pairs) (sym is) (updated_stopped errno updates may)
-    updated_ended any.NoMemory updates may result is = subst (UpdatesBatch t p r 0 pairs) (sym is) (refl, n, ends_at any.NoMemory updates may)
-
   pub updated_all : (q : PassView) (n : ℕ) → UpdatedSoFar t p pairs q n → n ≡ length pairs → UpdatesBatch t p q 0 pairs (Ok record { done = n; stop = None })
-  updated_all q n so_far all = (refl, as_batch q pairs None n (all_done pairs so_far (take_all n pairs (omega (arith, all)))), all)
+  updated_all q n so_far all =
+      let whole = take_all n pairs (omega (arith, all)) in
+      let begun = whole ∙ sym (take_all (suc n) pairs (omega (arith, all))) in
+      (refl, as_batch q pairs (take (suc n) pairs) None n (all_done pairs so_far (take (suc n) pairs) whole begun), all)
 
   -- by flags that are 0
   pub updates_by : (q : PassView) (flags : ℕ) (result : Result BatchCount WriteRefusal) → flags ≡ 0 → UpdatesBatch t p q 0 pairs result → UpdatesBatch t p q flags pairs result
@@ -136,5 +137,5 @@ module _ (t : TableView) (p : PassView) (pairs : List (List ℕ × List ℕ)) wh
       let called = called_nothing (BatchUpdate flags pairs) (Refused errnos.Einval) can (batch_refused t.shape p.cpu (spare_element p) flags _ other) in (
         other,
         refl,
-        whole_again (is_lru t.shape.kind) (λ (c : Called t p p (BatchUpdate flags pairs) (Refused errnos.Einval)). c.lost) called.0 (λ _. called.1),
+        again (is_lru t.shape.kind) (λ (c : Called t p p (BatchUpdate flags pairs) (Refused errnos.Einval)). c.lost ≡ []) called.0 (λ _. called.1),
       )

@@ -1,14 +1,13 @@
 -- Maps of any kind as their tables, and what an update of one answers.
 use Rattle.std.specs.Prelude.{◌≡◌, ℕ, ◌<◌, ◌≤◌, IsTrue, IsFalse, List, MatchBool, Result, Ok, Err}
-use Rattle.map_types.specs.declared.call.Verb.{Verb}
 use Rattle.map_types.specs.declared.call.Verb.TheVariants.{Update}
 use Rattle.map_types.specs.declared.kind.MapKind.{MapKind}
 use Rattle.map_types.specs.declared.kind.Side.{Side}
+use Rattle.map_types.specs.declared.refusal.Errno.{Errno}
 use Rattle.map_types.specs.declared.refusal.Errno.TheVariants.{Enoent, E2big, Enomem, Eexist, Einval, Enospc}
 use Rattle.map_types.specs.declared.reply.Reply.{Reply}
 use Rattle.map_types.specs.declared.reply.Reply.TheVariants as replies
 use Rattle.map_types.specs.Kind.{is_lru}
-use Rattle.place_words.specs.Turns.{bucket_of_key}
 use Rattle.place_table.specs.Calls.{Called, CalledWhole}
 use Rattle.place_table.specs.Passes.{PassView, TableView}
 use Rattle.hash_ops.specs.declared.map.PlainRefusal.{PlainRefusal}
@@ -20,8 +19,6 @@ use Rattle.lru_ops.specs.Calls as lru_calls
 use Rattle.lru_ops.specs.Calls.{only_writes}
 use Rattle.map_batch.specs.declared.any_map.AnyMap.{AnyMap}
 use Rattle.map_batch.specs.declared.any_map.AnyMap.TheVariants.{Plain, Lru}
-use Rattle.map_batch.specs.declared.any_map.AnyRefusal.{AnyRefusal}
-use Rattle.map_batch.specs.declared.any_map.AnyRefusal.TheVariants.{Refused, NoMemory}
 
 -- the table of a map
 abbrev pub table_of : AnyMap → TableView
@@ -34,60 +31,62 @@ IsOfItsSort (Plain table) = IsFalse (is_lru table.shape.kind)
 IsOfItsSort (Lru table) = IsTrue (is_lru table.shape.kind)
 
 -- the answer of an update, as maps of each sort give it
-abbrev pub answer_of_plain : Result (Unit {0}) PlainRefusal → Result (Unit {0}) AnyRefusal
+abbrev pub answer_of_plain : Result (Unit {0}) PlainRefusal → Result (Unit {0}) Errno
 answer_of_plain (Ok done) = Ok done
-answer_of_plain (Err plain.Einval) = Err (Refused Einval)
-answer_of_plain (Err plain.Enoent) = Err (Refused Enoent)
-answer_of_plain (Err plain.Eexist) = Err (Refused Eexist)
-answer_of_plain (Err plain.E2big) = Err (Refused E2big)
-answer_of_plain (Err plain.NoMemory) = Err NoMemory
+answer_of_plain (Err plain.Einval) = Err Einval
+answer_of_plain (Err plain.Enoent) = Err Enoent
+answer_of_plain (Err plain.Eexist) = Err Eexist
+answer_of_plain (Err plain.E2big) = Err E2big
 
-abbrev pub answer_of_lru : Result (Unit {0}) LruRefusal → Result (Unit {0}) AnyRefusal
+abbrev pub answer_of_lru : Result (Unit {0}) LruRefusal → Result (Unit {0}) Errno
 answer_of_lru (Ok done) = Ok done
-answer_of_lru (Err lru.Einval) = Err (Refused Einval)
-answer_of_lru (Err lru.Enoent) = Err (Refused Enoent)
-answer_of_lru (Err lru.Eexist) = Err (Refused Eexist)
-answer_of_lru (Err lru.Enomem) = Err (Refused Enomem)
-answer_of_lru (Err lru.NoMemory) = Err NoMemory
+answer_of_lru (Err lru.Einval) = Err Einval
+answer_of_lru (Err lru.Enoent) = Err Enoent
+answer_of_lru (Err lru.Eexist) = Err Eexist
+answer_of_lru (Err lru.Enomem) = Err Enomem
 
--- An update did what its turns tell, and answered so. On a map that doesn't evict no lock was given back without a part.
-abbrev pub Updated : TableView → PassView → PassView → Verb → Reply → Type 0
-Updated t before after verb reply = MatchBool (is_lru t.shape.kind) (Called t before after verb reply) (CalledWhole t before after verb reply)
+-- An update did what its turns tell, and answered so. On a map that doesn't evict no lock but the key's bucket was given back without a
+-- part, and that one once at most.
+abbrev pub Updated : TableView → PassView → PassView → Side → ℕ → List ℕ → List ℕ → Reply → Type 0
+Updated t before after side flags key value reply =
+    MatchBool (is_lru t.shape.kind)
+    (Called t before after (Update side flags key value) reply)
+    (plain_calls.Updated t before after side flags key value reply)
+
+-- Flags that aren't known were refused before anything was looked at.
+abbrev pub RefusedFlags : TableView → PassView → PassView → Side → ℕ → List ℕ → List ℕ → Type 0
+RefusedFlags t before after side flags key value =
+    (after ≡ before)
+    × MatchBool (is_lru t.shape.kind)
+    (Called t before after (Update side flags key value) (replies.Refused Einval))
+    (CalledWhole t before after (Update side flags key value) (replies.Refused Einval))
 
 -- A map that doesn't evict was full. One that evicts never is.
-abbrev pub FoundFull : TableView → PassView → PassView → Verb → Type 0
-FoundFull t before after verb = MatchBool (is_lru t.shape.kind) ⊥ (CalledWhole t before after verb (replies.Refused E2big))
+abbrev pub FoundFull : TableView → PassView → PassView → Side → ℕ → List ℕ → List ℕ → Type 0
+FoundFull t before after side flags key value =
+    MatchBool (is_lru t.shape.kind) ⊥ (plain_calls.Updated t before after side flags key value (replies.Refused E2big))
 
 -- A map that evicts had no element to take, and its turns show why. On another map none is looked for.
 abbrev pub FoundNoElement : TableView → PassView → PassView → Side → ℕ → List ℕ → List ℕ → Type 0
 FoundNoElement t before after side flags key value = MatchBool (is_lru t.shape.kind) (lru_calls.FoundNoElement t side flags key value before after) ⊥
 
--- No memory was found: the record of the turns of the key's bucket is lost.
-abbrev pub FoundNoMemory : TableView → ℕ → List ℕ → PassView → PassView → Type 0
-FoundNoMemory t flags key before after =
-    MatchBool (is_lru t.shape.kind)
-    (lru_calls.FoundNoMemory t flags key before after)
-    (plain_calls.FoundNoMemory t (bucket_of_key t.shape key) before after)
-
 -- Under which flags an update of a map of this kind is refused so: EINVAL for flags that aren't known, EEXIST only under BPF_NOEXIST
--- (1), ENOENT only under BPF_EXIST (2), E2BIG only where a key may be added and the map doesn't evict, ENOMEM only on a map that evicts,
--- under any flags that are known under which an element is taken, and want of memory under any flags that are known.
-abbrev pub MayRefuse : MapKind → ℕ → AnyRefusal → Type 0
-MayRefuse kind flags (Refused Einval) = 2 < flags
-MayRefuse kind flags (Refused Enoent) = flags ≡ 2
-MayRefuse kind flags (Refused Eexist) = flags ≡ 1
-MayRefuse kind flags (Refused E2big) = (flags < 2) × IsFalse (is_lru kind)
-MayRefuse kind flags (Refused Enomem) = (flags ≤ 2) × IsTrue (is_lru kind) × IsFalse (only_writes kind flags)
-MayRefuse kind flags (Refused Enospc) = ⊥
-MayRefuse kind flags NoMemory = flags ≤ 2
+-- (1), ENOENT only under BPF_EXIST (2), E2BIG only where a key may be added and the map doesn't evict, and ENOMEM only on a map that
+-- evicts, under any flags that are known under which an element is taken.
+abbrev pub MayRefuse : MapKind → ℕ → Errno → Type 0
+MayRefuse kind flags Einval = 2 < flags
+MayRefuse kind flags Enoent = flags ≡ 2
+MayRefuse kind flags Eexist = flags ≡ 1
+MayRefuse kind flags E2big = (flags < 2) × IsFalse (is_lru kind)
+MayRefuse kind flags Enomem = (flags ≤ 2) × IsTrue (is_lru kind) × IsFalse (only_writes kind flags)
+MayRefuse kind flags Enospc = ⊥
 
--- What an update answers. Flags that aren't known are refused before anything is looked at.
-abbrev pub Updates : TableView → PassView → PassView → Side → ℕ → List ℕ → List ℕ → Result (Unit {0}) AnyRefusal → Type 0
-Updates t before after side flags key value (Ok done) = Updated t before after (Update side flags key value) replies.Done
-Updates t before after side flags key value (Err (Refused Einval)) = (after ≡ before) × Updated t before after (Update side flags key value) (replies.Refused Einval)
-Updates t before after side flags key value (Err (Refused Enoent)) = Updated t before after (Update side flags key value) (replies.Refused Enoent)
-Updates t before after side flags key value (Err (Refused Eexist)) = Updated t before after (Update side flags key value) (replies.Refused Eexist)
-Updates t before after side flags key value (Err (Refused E2big)) = FoundFull t before after (Update side flags key value)
-Updates t before after side flags key value (Err (Refused Enomem)) = FoundNoElement t before after side flags key value
-Updates t before after side flags key value (Err (Refused Enospc)) = ⊥
-Updates t before after side flags key value (Err NoMemory) = FoundNoMemory t flags key before after
+-- What an update answers. No answer tells of want of memory.
+abbrev pub Updates : TableView → PassView → PassView → Side → ℕ → List ℕ → List ℕ → Result (Unit {0}) Errno → Type 0
+Updates t before after side flags key value (Ok done) = Updated t before after side flags key value replies.Done
+Updates t before after side flags key value (Err Einval) = RefusedFlags t before after side flags key value
+Updates t before after side flags key value (Err Enoent) = Updated t before after side flags key value (replies.Refused Enoent)
+Updates t before after side flags key value (Err Eexist) = Updated t before after side flags key value (replies.Refused Eexist)
+Updates t before after side flags key value (Err E2big) = FoundFull t before after side flags key value
+Updates t before after side flags key value (Err Enomem) = FoundNoElement t before after side flags key value
+Updates t before after side flags key value (Err Enospc) = ⊥

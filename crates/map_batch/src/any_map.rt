@@ -26,15 +26,6 @@ pub enum AnyMap {
     Lru(LruMap),
 }
 
-/// Why an update is refused.
-#[derive(Clone, Copy, Debug, PartialEq, Eq)]
-pub enum AnyRefusal {
-    /// The call answers this error.
-    Refused(Errno),
-    /// Memory was not found.
-    NoMemory,
-}
-
 impl AnyMap {
     /// A new map, and its first pass, which has all CPUs and spares and is in no call. Memory for all elements is found
     /// here. The rule of `htab_map_alloc`, without the checks of the attributes.
@@ -103,20 +94,19 @@ impl AnyMap {
 
     /// Updates a key with a value of a side's length, by flags: BPF_ANY (0), BPF_NOEXIST (1) or BPF_EXIST (2). The trace says
     /// which error is answered; `Einval` comes before anything is looked at. `E2big` comes only of a map that doesn't evict, and
-    /// `Enomem` only of one that does, and shows why no element was found. Where no memory was found, the record of the turns of
-    /// the key's bucket is lost; with any other answer of a map that doesn't evict no lock was given back without a part. The
-    /// rules are those of `PlainMap::update` and `LruMap::update`.
+    /// `Enomem` only of one that does, and shows why no element was found. It takes no memory that it needs: where memory for the
+    /// entry of the key's bucket isn't found, the record of that bucket's turns is lost, and the answer is the same. A map that
+    /// doesn't evict gives back no other lock without a part. The rules are those of `PlainMap::update` and `LruMap::update`.
     pub fn update<R: Wait, G: Gate>(
         &self,
         rt: &R,
-        alloc: Global,
         pass: &mut Pass,
         side: Side,
         flags: u32,
         key: &[u8],
         value: &[u8],
         gate: &G,
-    ) -> Result<(), AnyRefusal>
+    ) -> Result<(), Errno>
         requires can { CanCall (table_of self.now) pass.old }
         requires key { length key.now ≡ (table_of self.now).shape.key_size }
         requires value { length value.now ≡ value_len_of (table_of self.now).shape side }
@@ -127,11 +117,9 @@ impl AnyMap {
         let _table = self.table();
         match self {
             AnyMap::Plain(map) => {
-                plain_answer(map.update(rt, alloc, pass, side, flags, key, value, gate))
+                plain_answer(map.update(rt, pass, side, flags, key, value, gate))
             }
-            AnyMap::Lru(map) => {
-                lru_answer(map.update(rt, alloc, pass, side, flags, key, value, gate))
-            }
+            AnyMap::Lru(map) => lru_answer(map.update(rt, pass, side, flags, key, value, gate)),
         }
     }
 
@@ -176,29 +164,27 @@ impl AnyMap {
 }
 
 /// The answer of an update of a map that doesn't evict.
-fn plain_answer(answer: Result<(), PlainRefusal>) -> Result<(), AnyRefusal>
+fn plain_answer(answer: Result<(), PlainRefusal>) -> Result<(), Errno>
     ensures { result ≡ answer_of_plain answer }
 {
     match answer {
         Ok(()) => Ok(()),
-        Err(PlainRefusal::Einval) => Err(AnyRefusal::Refused(Errno::Einval)),
-        Err(PlainRefusal::Enoent) => Err(AnyRefusal::Refused(Errno::Enoent)),
-        Err(PlainRefusal::Eexist) => Err(AnyRefusal::Refused(Errno::Eexist)),
-        Err(PlainRefusal::E2big) => Err(AnyRefusal::Refused(Errno::E2big)),
-        Err(PlainRefusal::NoMemory) => Err(AnyRefusal::NoMemory),
+        Err(PlainRefusal::Einval) => Err(Errno::Einval),
+        Err(PlainRefusal::Enoent) => Err(Errno::Enoent),
+        Err(PlainRefusal::Eexist) => Err(Errno::Eexist),
+        Err(PlainRefusal::E2big) => Err(Errno::E2big),
     }
 }
 
 /// The answer of an update of a map that evicts.
-fn lru_answer(answer: Result<(), LruRefusal>) -> Result<(), AnyRefusal>
+fn lru_answer(answer: Result<(), LruRefusal>) -> Result<(), Errno>
     ensures { result ≡ answer_of_lru answer }
 {
     match answer {
         Ok(()) => Ok(()),
-        Err(LruRefusal::Einval) => Err(AnyRefusal::Refused(Errno::Einval)),
-        Err(LruRefusal::Enoent) => Err(AnyRefusal::Refused(Errno::Enoent)),
-        Err(LruRefusal::Eexist) => Err(AnyRefusal::Refused(Errno::Eexist)),
-        Err(LruRefusal::Enomem) => Err(AnyRefusal::Refused(Errno::Enomem)),
-        Err(LruRefusal::NoMemory) => Err(AnyRefusal::NoMemory),
+        Err(LruRefusal::Einval) => Err(Errno::Einval),
+        Err(LruRefusal::Enoent) => Err(Errno::Enoent),
+        Err(LruRefusal::Eexist) => Err(Errno::Eexist),
+        Err(LruRefusal::Enomem) => Err(Errno::Enomem),
     }
 }

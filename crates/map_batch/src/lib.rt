@@ -5,7 +5,7 @@ mod any_map;
 mod walks;
 mod writes;
 
-pub use any_map::{AnyMap, AnyRefusal};
+pub use any_map::AnyMap;
 pub use bucket_walks::{BatchOut, BatchRefusal};
 pub use walks::{next_key, read_batch};
 pub use writes::{BatchCount, WriteRefusal, delete_batch, update_batch};

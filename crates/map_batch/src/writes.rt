@@ -6,12 +6,11 @@ ghost use Rattle.map_types.specs.declared.kind.Side.TheVariants.{Sys};
 ghost use Rattle.map_types.specs.ValueLen.{value_len_of};
 ghost use Rattle.place_table.specs.Calls.{CanCall};
 ghost use Rattle.map_batch.specs.Calls.{table_of};
-ghost use Rattle.map_batch.specs.Writes.{UpdatesBatch, DeletesBatch, ended_by};
+ghost use Rattle.map_batch.specs.Writes.{UpdatesBatch, DeletesBatch};
 
-use crate::any_map::{AnyMap, AnyRefusal};
+use crate::any_map::AnyMap;
 use map_types::{Absent, Bytes, Errno, Gate, List, Pairs, Side};
 use place_table::Pass;
-use std::alloc::Global;
 use std::sync::Wait;
 
 /// What a batch write did.
@@ -28,18 +27,15 @@ pub struct BatchCount {
 pub enum WriteRefusal {
     /// Flags that aren't 0.
     Einval,
-    /// Memory for an entry was not found. Those before it are done.
-    NoMemory,
 }
 
 /// Updates the keys of some pairs, fewer than 2^32, one after another, each by the system call with BPF_ANY, up to the first that is
 /// refused: with E2BIG on a map that doesn't evict, and with ENOMEM on one that does. Keys have key_size bytes, and values those that
-/// the system call writes. Flags that aren't 0 are `Einval`, before anything is looked at. Where memory for an entry isn't found it is
-/// `NoMemory`, and the entries before it are done. The rule of `generic_map_update_batch`.
+/// the system call writes. Flags that aren't 0 are `Einval`, before anything is looked at. It takes no memory that it needs. The rule
+/// of `generic_map_update_batch`.
 pub fn update_batch<R: Wait, G: Gate>(
     map: &AnyMap,
     rt: &R,
-    alloc: Global,
     pass: &mut Pass,
     flags: u32,
     pairs: &Pairs,
@@ -53,58 +49,39 @@ pub fn update_batch<R: Wait, G: Gate>(
     if flags != 0 {
         return Err(WriteRefusal::Einval);
     }
-    update_each(map, rt, alloc, pass, pairs, gate)
+    Ok(update_each(map, rt, pass, pairs, gate))
 }
 
 /// Updates the keys of some pairs up to the first that is refused.
 fn update_each<R: Wait, G: Gate>(
     map: &AnyMap,
     rt: &R,
-    alloc: Global,
     pass: &mut Pass,
     pairs: &Pairs,
     gate: &G,
-) -> Result<BatchCount, WriteRefusal>
+) -> BatchCount
     requires can { CanCall (table_of map.now) pass.old }
     requires sizes { HaveSizes (table_of map.now).shape.key_size (value_len_of (table_of map.now).shape Sys) pairs.now }
     requires few { length pairs.now < 2 ^ 32 }
-    ensures { UpdatesBatch (table_of map.now) pass.old pass.new 0 pairs.now result }
+    ensures { UpdatesBatch (table_of map.now) pass.old pass.new 0 pairs.now (Ok result) }
 {
     let mut done = 0;
     for i in 0..pairs.len() {
-        match map.update(
-            rt,
-            alloc,
-            pass,
-            Side::Sys,
-            0,
-            pairs.key(i),
-            pairs.value(i),
-            gate,
-        ) {
+        match map.update(rt, pass, Side::Sys, 0, pairs.key(i), pairs.value(i), gate) {
             Ok(()) => done += 1,
-            Err(refusal) => return ended_with(refusal, done),
+            Err(errno) => {
+                return BatchCount {
+                    done,
+                    stop: Some(errno),
+                };
+            }
         }
     }
-    Ok(BatchCount { done, stop: None })
-}
-
-/// What a batch update answers whose next entry was refused so, after so many that are done.
-fn ended_with(refusal: AnyRefusal, done: u32) -> Result<BatchCount, WriteRefusal>
-    ensures { result ≡ ended_by refusal done }
-{
-    match refusal {
-        AnyRefusal::Refused(errno) => Ok(BatchCount {
-            done,
-            stop: Some(errno),
-        }),
-        AnyRefusal::NoMemory => Err(WriteRefusal::NoMemory),
-    }
+    BatchCount { done, stop: None }
 }
 
 /// Deletes some keys, fewer than 2^32, of key_size bytes, one after another, up to the first that isn't there (ENOENT). Flags that
-/// aren't 0 are `Einval`, before anything is looked at. It takes no memory that it needs, so it is never `NoMemory`. The rule of
-/// `generic_map_delete_batch`.
+/// aren't 0 are `Einval`, before anything is looked at. It takes no memory that it needs. The rule of `generic_map_delete_batch`.
 pub fn delete_batch<R: Wait, G: Gate>(
     map: &AnyMap,
     rt: &R,

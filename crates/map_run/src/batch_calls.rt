@@ -46,7 +46,6 @@ pub(crate) fn batch_read<R: Wait, G: Gate>(
 /// Updates the keys of some pairs, up to the first that is refused.
 pub(crate) fn batch_update<R: Wait, G: Gate>(
     rt: &R,
-    alloc: Global,
     map: &AnyMap,
     pass: &mut Pass,
     flags: u32,
@@ -59,10 +58,9 @@ pub(crate) fn batch_update<R: Wait, G: Gate>(
     ensures answers { IfOk result (λ reply. MayAnswer (table_of map.now).shape (verbs.BatchUpdate flags pairs.now) reply) }
     ensures called { IfOk result (λ reply. Called (table_of map.now) pass.old pass.new (verbs.BatchUpdate flags pairs.now) reply) }
 {
-    match update_batch(map, rt, alloc, pass, flags, pairs, gate) {
+    match update_batch(map, rt, pass, flags, pairs, gate) {
         Ok(BatchCount { done, stop }) => Ok(Reply::Count { stop, done }),
         Err(WriteRefusal::Einval) => Ok(Reply::Refused(Errno::Einval)),
-        Err(WriteRefusal::NoMemory) => Err(NoMemory),
     }
 }
 
@@ -84,6 +82,5 @@ pub(crate) fn batch_delete<R: Wait, G: Gate>(
     match delete_batch(map, rt, pass, flags, keys, gate) {
         Ok(BatchCount { done, stop }) => Ok(Reply::Count { stop, done }),
         Err(WriteRefusal::Einval) => Ok(Reply::Refused(Errno::Einval)),
-        Err(WriteRefusal::NoMemory) => Err(NoMemory),
     }
 }

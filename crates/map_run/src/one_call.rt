@@ -12,7 +12,7 @@ ghost use Rattle.map_report.specs.Record.{MayAnswer};
 ghost use Rattle.map_run.specs.Served.{IsServedCall};
 
 use crate::batch_calls::{batch_delete, batch_read, batch_update};
-use map_batch::{AnyMap, AnyRefusal, next_key};
+use map_batch::{AnyMap, next_key};
 use map_types::{Absent, Bytes, Call, Errno, Gate, List, NoMemory, Reply, Side, Verb, value_len};
 use place_table::Pass;
 use std::alloc::Global;
@@ -46,7 +46,6 @@ pub(crate) fn run_call<R: Wait, G: Gate>(
             value,
         } => update(
             rt,
-            alloc,
             map,
             pass,
             *side,
@@ -64,9 +63,7 @@ pub(crate) fn run_call<R: Wait, G: Gate>(
             start,
             flags,
         } => batch_read(rt, alloc, map, pass, *remove, *count, *start, *flags, gate),
-        Verb::BatchUpdate { flags, pairs } => {
-            batch_update(rt, alloc, map, pass, *flags, pairs, gate)
-        }
+        Verb::BatchUpdate { flags, pairs } => { batch_update(rt, map, pass, *flags, pairs, gate) }
         Verb::BatchDelete { flags, keys } => batch_delete(rt, map, pass, *flags, keys, gate),
     }
 }
@@ -95,7 +92,6 @@ fn look_up<R: Wait, G: Gate>(
 /// Updates a key.
 fn update<R: Wait, G: Gate>(
     rt: &R,
-    alloc: Global,
     map: &AnyMap,
     pass: &mut Pass,
     side: Side,
@@ -110,10 +106,9 @@ fn update<R: Wait, G: Gate>(
     ensures answers { IfOk result (λ reply. MayAnswer (table_of map.now).shape (verbs.Update side flags key.now value.now) reply) }
     ensures called { IfOk result (λ reply. Called (table_of map.now) pass.old pass.new (verbs.Update side flags key.now value.now) reply) }
 {
-    match map.update(rt, alloc, pass, side, flags, key, value, gate) {
+    match map.update(rt, pass, side, flags, key, value, gate) {
         Ok(()) => Ok(Reply::Done),
-        Err(AnyRefusal::Refused(errno)) => Ok(Reply::Refused(errno)),
-        Err(AnyRefusal::NoMemory) => Err(NoMemory),
+        Err(errno) => Ok(Reply::Refused(errno)),
     }
 }
 

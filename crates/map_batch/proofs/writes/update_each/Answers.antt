@@ -3,7 +3,7 @@ use Rattle.map_types.specs.declared.kind.Side.TheVariants.{Sys}
 use Rattle.map_types.specs.Pairs.{pair_at}
 use Rattle.map_types.specs.ValueLen.{value_len_of}
 use Rattle.map_batch.specs.Calls.{table_of}
-use Rattle.map_batch.proofs.UpdatedEach.{updated_none, updated_more, updated_ended, updated_all, key_sized, value_sized}
+use Rattle.map_batch.proofs.UpdatedEach.{updated_none, updated_more, updated_stopped, updated_all, key_sized, value_sized}
 use Rattle.map_batch.proofs.writes.update_each.Goals as goal
 
 pub loop-i-init : goal.loop-i-init
@@ -26,9 +26,8 @@ returns-in-Err g c =
     let at : c.loop-i.i ≡ c.loop-i.done = sym c.loop-i.invariant.count in
     let key_is : c.key.result.now ≡ (pair_at c.args.pairs.now c.loop-i.done).0 = subst (λ (i : ℕ). c.key.result.now ≡ (pair_at c.args.pairs.now i).0) at c.key.ensures in
     let value_is : c.value.result.now ≡ (pair_at c.args.pairs.now c.loop-i.done).1 = subst (λ (i : ℕ). c.value.result.now ≡ (pair_at c.args.pairs.now i).1) at c.value.ensures in
-    updated_ended (table_of c.args.map.now) c.args.pass.now c.args.pairs.now c.loop-i.pass c.update.new.pass c.loop-i.done c.key.result.now c.value.result.now c.loop-i.invariant.so_far (omega arith)
-    key_is value_is c.in-Err.refusal
-    c.in-Err.ensures.updates c.in-Err.ensures.refuses c.ended_with.result c.ended_with.ensures
+    updated_stopped (table_of c.args.map.now) c.args.pass.now c.args.pairs.now c.loop-i.pass c.update.new.pass c.loop-i.done c.key.result.now c.value.result.now c.loop-i.invariant.so_far (omega arith)
+    key_is value_is c.in-Err.errno c.in-Err.ensures.updates c.in-Err.ensures.refuses
 
 pub loop-i-preserved : goal.loop-i-preserved
 loop-i-preserved g c =

@@ -5,17 +5,18 @@ use Rattle.map_types.specs.declared.kind.DomainId.TheVariants as locks
 use Rattle.map_types.specs.Shape.{HasBounds}
 use Rattle.map_types.specs.Stored.{Stored}
 use Rattle.bucket_chain.specs.Places.{place_of_key}
+use Rattle.place_words.specs.declared.bucket_part.BucketPart.TheVariants.{Update}
 use Rattle.place_words.specs.declared.bucket_part.Put.TheVariants as puts
-use Rattle.place_words.specs.declared.history.Part.{Part}
+use Rattle.place_words.specs.declared.history.Part.TheVariants as parts
 use Rattle.place_words.specs.Buckets.{new_stored}
 use Rattle.place_table.specs.Contents.{IsSized}
 use Rattle.place_table.specs.declared.content.Content.TheVariants as contents
-use Rattle.place_table.specs.Passes.{TableView, CanAttach, CanGive}
+use Rattle.place_table.specs.Passes.{TableView, CanAttach, MayGiveBack, GaveBack}
 use Rattle.hash_ops.specs.Free.{Popped}
 use Rattle.hash_ops.proofs.Added.{may_look, can_give_full, answered_full, can_attach_popped, can_give_added, answered_added}
 use Rattle.place_table.proofs.BucketTurns.{added_turn, full_turn}
 use Rattle.place_table.proofs.BucketBodies.{few_bodies, nowhere}
-use Rattle.hash_ops.proofs.Under.{is_plain_of, update_entry}
+use Rattle.hash_ops.proofs.Under.{is_plain_of, may_give_back}
 use Rattle.hash_ops.proofs.map.PlainMap.add.Goals as goal
 
 pub pop-requires-after_bounds : goal.pop-requires-after_bounds
@@ -31,9 +32,9 @@ give-requires-after_bounds g c κs within =
     let plain = is_plain_of _ _ c.self.view_is c.self.invariant in
     let popped : Popped t q c.pop.new.pass None = c.in_default.ensures in
     let turn = full_turn t.shape q.cpu bodies b.sized a.side a.flags a.key.now a.value.now None c.requires.absent c.requires.adds plain in
-    let part_is = update_entry t a.bucket a.side a.flags a.key.now a.value.now a.given puts.Full c.updated-part.result c.requires.gives c.updated-part.ensures in
-    subst (λ (z : TableView × Part). CanGive z.0 (locks.Bucket a.bucket) c.pop.new.pass (contents.Bucket a.chain) z.1) (λ i. (sym c.self.view_is i, sym part_is i))
-    (can_give_full t a.bucket q c.pop.new.pass a.chain b plain a.side a.flags a.key.now a.value.now popped turn)
+    subst (λ (z : TableView). MayGiveBack z (locks.Bucket a.bucket) c.pop.new.pass (contents.Bucket a.chain) c.updated-part.result) (sym c.self.view_is)
+    (may_give_back t (locks.Bucket a.bucket) c.pop.new.pass (contents.Bucket a.chain) (parts.Bucket (Update a.side a.flags a.key.now a.value.now None puts.Full)) c.updated-part.result
+    (can_give_full t a.bucket q c.pop.new.pass a.chain b plain a.side a.flags a.key.now a.value.now popped turn) c.updated-part.ensures)
 
 pub returns-in_default-clause-ends : goal.returns-in_default-clause-ends
 returns-in_default-clause-ends g c =
@@ -45,8 +46,8 @@ returns-in_default-clause-ends g c =
     let plain = is_plain_of _ _ c.self.view_is c.self.invariant in
     let popped : Popped t q c.pop.new.pass None = c.in_default.ensures in
     let turn = full_turn t.shape q.cpu bodies b.sized a.side a.flags a.key.now a.value.now None c.requires.absent c.requires.adds plain in
-    let part_is = update_entry t a.bucket a.side a.flags a.key.now a.value.now a.given puts.Full c.updated-part.result c.requires.gives c.updated-part.ensures in
-    answered_full t a.bucket q c.pop.new.pass a.chain b plain a.side a.flags a.key.now a.value.now popped turn c.give.new.pass a.given c.updated-part.result c.requires.spares c.requires.gives part_is c.give.ensures
+    answered_full t a.bucket q c.pop.new.pass a.chain b plain a.side a.flags a.key.now a.value.now popped turn c.give.new.pass c.updated-part.result c.requires.spares c.requires.gives c.updated-part.ensures
+    (subst (λ (z : TableView). GaveBack z (locks.Bucket a.bucket) c.pop.new.pass c.give.new.pass (contents.Bucket a.chain) c.updated-part.result) c.self.view_is c.give.ensures)
 
 pub fill_body-requires-clause-bounds : goal.fill_body-requires-clause-bounds
 fill_body-requires-clause-bounds g c = subst HasBounds (sym c.shape.ensures) (bounds_of_shape _ c.self.invariant.0)
@@ -92,9 +93,9 @@ give-requires-2-after_bounds g c κs within =
     let stored : filled ≡ new_stored t.shape a.side q.cpu e a.key.now a.value.now = c.fill_body.ensures.stored ∙ (λ i. new_stored (shape_is i) a.side (c.cpu_of-cpu.ensures.value i) (e_is i) a.key.now a.value.now) in
     let fits = subst (λ (s : Shape). IsSized s filled) shape_is c.fill_body.ensures.sized in
     let turn = added_turn t.shape q.cpu bodies back.bodies b.sized a.side a.flags a.key.now a.value.now None e filled c.requires.absent c.requires.adds stored fits c.add_head.ensures in
-    let part_is = update_entry t a.bucket a.side a.flags a.key.now a.value.now a.given (puts.Added e) c.updated-part-2.result c.requires.gives c.updated-part-2.ensures in
-    subst (λ (z : TableView × Part). CanGive z.0 (locks.Bucket a.bucket) c.attach.new.pass (contents.Bucket back) z.1) (λ i. (sym c.self.view_is i, sym part_is i))
-    (can_give_added t a.bucket q c.pop.new.pass bodies b plain was popped e e_is c.attach.new.pass c.attach.ensures back a.side a.flags a.key.now a.value.now turn)
+    subst (λ (z : TableView). MayGiveBack z (locks.Bucket a.bucket) c.attach.new.pass (contents.Bucket back) c.updated-part-2.result) (sym c.self.view_is)
+    (may_give_back t (locks.Bucket a.bucket) c.attach.new.pass (contents.Bucket back) (parts.Bucket (Update a.side a.flags a.key.now a.value.now None (puts.Added e))) c.updated-part-2.result
+    (can_give_added t a.bucket q c.pop.new.pass bodies b plain was popped e e_is c.attach.new.pass c.attach.ensures back a.side a.flags a.key.now a.value.now turn) c.updated-part-2.ensures)
 
 pub returns-clause-ends : goal.returns-clause-ends
 returns-clause-ends g c =
@@ -114,5 +115,5 @@ returns-clause-ends g c =
     let stored : filled ≡ new_stored t.shape a.side q.cpu e a.key.now a.value.now = c.fill_body.ensures.stored ∙ (λ i. new_stored (shape_is i) a.side (c.cpu_of-cpu.ensures.value i) (e_is i) a.key.now a.value.now) in
     let fits = subst (λ (s : Shape). IsSized s filled) shape_is c.fill_body.ensures.sized in
     let turn = added_turn t.shape q.cpu bodies back.bodies b.sized a.side a.flags a.key.now a.value.now None e filled c.requires.absent c.requires.adds stored fits c.add_head.ensures in
-    let part_is = update_entry t a.bucket a.side a.flags a.key.now a.value.now a.given (puts.Added e) c.updated-part-2.result c.requires.gives c.updated-part-2.ensures in
-    answered_added t a.bucket q c.pop.new.pass bodies b plain was popped e e_is c.attach.new.pass c.attach.ensures back a.side a.flags a.key.now a.value.now turn c.give-2.new.pass a.given c.updated-part-2.result c.requires.spares c.requires.gives part_is c.give-2.ensures
+    answered_added t a.bucket q c.pop.new.pass bodies b plain was popped e e_is c.attach.new.pass c.attach.ensures back a.side a.flags a.key.now a.value.now turn c.give-2.new.pass c.updated-part-2.result c.requires.spares c.requires.gives c.updated-part-2.ensures
+    (subst (λ (z : TableView). GaveBack z (locks.Bucket a.bucket) c.attach.new.pass c.give-2.new.pass (contents.Bucket back) c.updated-part-2.result) c.self.view_is c.give-2.ensures)

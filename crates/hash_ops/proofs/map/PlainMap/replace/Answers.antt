@@ -7,20 +7,21 @@ use Rattle.map_types.specs.declared.kind.MapKind.TheVariants.{Hash, PercpuHash, 
 use Rattle.map_types.specs.Kind.{is_lru, is_percpu}
 use Rattle.map_types.specs.Shape.{HasBounds}
 use Rattle.map_types.specs.Stored.{Stored}
+use Rattle.place_words.specs.declared.bucket_part.BucketPart.TheVariants.{Update}
 use Rattle.place_words.specs.declared.bucket_part.Put.TheVariants as puts
-use Rattle.place_words.specs.declared.history.Part.{Part}
+use Rattle.place_words.specs.declared.history.Part.TheVariants as parts
 use Rattle.map_types.specs.ElementLists.{IsIn}
 use Rattle.place_words.specs.Buckets.{new_stored}
 use Rattle.place_words.specs.Bodies.{numbers}
 use Rattle.place_core.specs.Steps.{with_row}
 use Rattle.place_table.specs.Contents.{IsSized}
 use Rattle.place_table.specs.declared.content.Content.TheVariants as contents
-use Rattle.place_table.specs.Passes.{PassView, TableView, CanGive, CanMark, CanKeepSpare, spare_of}
+use Rattle.place_table.specs.Passes.{PassView, TableView, MayGiveBack, GaveBack, CanMark, CanKeepSpare, spare_of}
 use Rattle.place_table.specs.Views.{is_among, is_in_hand_of, with_in_hand, without_in_hand}
 use Rattle.place_table.proofs.Hands.{in_hand_more}
 use Rattle.place_table.proofs.BucketTurns.{replaced_turn}
 use Rattle.place_table.proofs.BucketBodies.{sized_at}
-use Rattle.hash_ops.proofs.Under.{can_detach, body_inside, body_real, is_plain_of, update_entry}
+use Rattle.hash_ops.proofs.Under.{can_detach, body_inside, body_real, is_plain_of, may_give_back}
 use Rattle.hash_ops.proofs.Replaced.{under_new, under_replaced, old_there, can_replace, answered_replaced}
 use Rattle.hash_ops.proofs.map.PlainMap.replace.Goals as goal
 
@@ -116,9 +117,9 @@ give-requires-after_bounds g c κs within =
     let fits = subst (λ (s : Shape). IsSized s filled) shape_is c.fill_body.ensures.sized in
     let turn = replaced_turn t.shape q.cpu bodies back.bodies b.sized a.side a.flags a.key.now a.value.now None c.element-new.result c.element-old.result filled out c.requires.replaces c.requires.single stored fits c.replace_head-spare.ensures.holder c.replace_head-spare.ensures.of_key old_is in
     let u = under_replaced t a.bucket q bodies b plain c.element-new.result c.element-old.result new_in_hand old_inside c.spare.new.pass c.attach.new.pass c.detach.new.pass c.keep_spare.new.pass one two three four in
-    let part_is = update_entry t a.bucket a.side a.flags a.key.now a.value.now a.given (puts.Replaced c.element-new.result c.element-old.result) c.updated-part.result c.requires.gives c.updated-part.ensures in
-    subst (λ (z : TableView × Part). CanGive z.0 (locks.Bucket a.bucket) c.keep_spare.new.pass (contents.Bucket back) z.1) (λ i. (sym c.self.view_is i, sym part_is i))
-    (can_replace t a.bucket q bodies b plain c.element-new.result c.element-old.result new_in_hand old_inside c.keep_spare.new.pass back a.side a.flags a.key.now a.value.now u turn)
+    subst (λ (z : TableView). MayGiveBack z (locks.Bucket a.bucket) c.keep_spare.new.pass (contents.Bucket back) c.updated-part.result) (sym c.self.view_is)
+    (may_give_back t (locks.Bucket a.bucket) c.keep_spare.new.pass (contents.Bucket back) (parts.Bucket (Update a.side a.flags a.key.now a.value.now None (puts.Replaced c.element-new.result c.element-old.result))) c.updated-part.result
+    (can_replace t a.bucket q bodies b plain c.element-new.result c.element-old.result new_in_hand old_inside c.keep_spare.new.pass back a.side a.flags a.key.now a.value.now u turn) c.updated-part.ensures)
 
 pub returns : goal.returns
 returns g c =
@@ -147,13 +148,13 @@ returns g c =
     let fits = subst (λ (s : Shape). IsSized s filled) shape_is c.fill_body.ensures.sized in
     let turn = replaced_turn t.shape q.cpu bodies back.bodies b.sized a.side a.flags a.key.now a.value.now None c.element-new.result c.element-old.result filled out c.requires.replaces c.requires.single stored fits c.replace_head-spare.ensures.holder c.replace_head-spare.ensures.of_key old_is in
     let u = under_replaced t a.bucket q bodies b plain c.element-new.result c.element-old.result new_in_hand old_inside c.spare.new.pass c.attach.new.pass c.detach.new.pass c.keep_spare.new.pass one two three four in
-    let part_is = update_entry t a.bucket a.side a.flags a.key.now a.value.now a.given (puts.Replaced c.element-new.result c.element-old.result) c.updated-part.result c.requires.gives c.updated-part.ensures in
     let cpu_3 : c.detach.new.pass.cpu ≡ q.cpu = ap (λ (z : PassView). z.cpu) three.1 ∙ (ap (λ (z : PassView). z.cpu) two.1 ∙ ap (λ (z : PassView). z.cpu) one) in
     let cpu_1 : c.spare.new.pass.cpu ≡ q.cpu = ap (λ (z : PassView). z.cpu) one in
     let cpu_2 : c.attach.new.pass.cpu ≡ q.cpu = ap (λ (z : PassView). z.cpu) two.1 ∙ cpu_1 in
     let spares_3 : c.detach.new.pass.spares ≡ c.spare.new.pass.spares = ap (λ (z : PassView). z.spares) three.1 ∙ ap (λ (z : PassView). z.spares) two.1 in
     let hand_is = ap (λ (z : PassView). z.view.hand) four ∙ (ap (λ (z : PassView). z.view.hand) three.1
     ∙ (λ i. with_in_hand c.element-old.result (cpu_2 i) ((ap (λ (z : PassView). z.view.hand) two.1 ∙ (λ j. without_in_hand c.element-new.result (cpu_1 j) (ap (λ (z : PassView). z.view.hand) one j))) i))) in
-    answered_replaced t a.bucket q bodies b plain c.element-new.result c.element-old.result new_in_hand old_inside c.keep_spare.new.pass c.give.new.pass back a.side a.flags a.key.now a.value.now a.given c.updated-part.result was out c.requires.spares c.requires.gives u turn part_is c.give.ensures
+    answered_replaced t a.bucket q bodies b plain c.element-new.result c.element-old.result new_in_hand old_inside c.keep_spare.new.pass c.give.new.pass back a.side a.flags a.key.now a.value.now c.updated-part.result was out c.requires.spares c.requires.gives u turn c.updated-part.ensures
+    (subst (λ (z : TableView). GaveBack z (locks.Bucket a.bucket) c.keep_spare.new.pass c.give.new.pass (contents.Bucket back) c.updated-part.result) c.self.view_is c.give.ensures)
     kept_was was_is (ap (λ (n : ℕ). spare_of n c.keep_spare.new.pass.spares) (sym cpu_3) ∙ c.keep_spare.ensures.here) (sym old_is)
     (λ other ne. c.keep_spare.ensures.others other (λ is. ne (is ∙ cpu_3)) ∙ (ap (spare_of other) spares_3 ∙ c.spare.ensures.others other ne)) hand_is

@@ -1,15 +1,11 @@
 use Rattle.std.proofs.Common.{refl}
-use Rattle.hash_ops.proofs.Ends.{no_memory, updates_of, called_unknown}
+use Rattle.hash_ops.proofs.Ends.{updates_of, called_unknown}
 use Rattle.hash_ops.proofs.map.PlainMap.update.Goals as goal
 
 pub returns-then-flags-gt-BPF_EXIST-clause-updates : goal.returns-then-flags-gt-BPF_EXIST-clause-updates
 returns-then-flags-gt-BPF_EXIST-clause-updates g c =
     (refl, called_unknown c.args.self.now c.args.pass.now c.args.side c.args.flags c.args.key.now c.args.value.now c.requires.can c.if-flags-gt-BPF_EXIST.true)
 
-pub returns-in_default-clause-updates : goal.returns-in_default-clause-updates
-returns-in_default-clause-updates g c =
-    (c.if-flags-gt-BPF_EXIST.false, no_memory c.args.self.now c.bucket_of_key-bucket.result c.args.pass.now c.enter-chain.new.pass c.forget.new.pass c.enter-chain.result c.enter-chain.ensures c.requires.can c.args.key.now c.bucket_of_key-bucket.ensures.value c.forget.ensures)
-
 pub returns-clause-updates : goal.returns-clause-updates
 returns-clause-updates g c =
-    updates_of c.args.self.now c.bucket_of_key-bucket.result c.args.pass.now c.enter-chain.new.pass c.update_in.new.pass c.enter-chain.result c.enter-chain.ensures c.requires.can c.args.side c.args.flags c.args.key.now c.args.value.now c.update_in.result c.if-flags-gt-BPF_EXIST.false c.bucket_of_key-bucket.ensures.value c.update_in.ensures.ends
+    updates_of c.args.self.now c.bucket_of_key-bucket.result c.args.pass.now c.enter-chain.new.pass c.update_in.new.pass c.enter-chain.result c.enter-chain.ensures c.requires.can c.args.side c.args.flags c.args.key.now c.args.value.now c.update_in.result c.bucket_of_key-bucket.ensures.value c.update_in.ensures.ends

@@ -6,13 +6,12 @@ use Rattle.map_types.specs.declared.kind.DomainId.TheVariants as locks
 use Rattle.map_types.specs.Shape.{HasBounds}
 use Rattle.place_words.specs.declared.bucket_part.BucketPart.TheVariants.{Update}
 use Rattle.place_words.specs.declared.bucket_part.Put.TheVariants as puts
-use Rattle.place_words.specs.declared.history.Part.{Part}
 use Rattle.place_words.specs.Buckets.{written_over}
 use Rattle.place_table.specs.Contents.{IsSized}
 use Rattle.place_table.specs.declared.content.Content.TheVariants as contents
-use Rattle.place_table.specs.Passes.{TableView, CanGive}
+use Rattle.place_table.specs.Passes.{TableView, MayGiveBack, GaveBack}
 use Rattle.place_table.proofs.BucketTurns.{written_turn}
-use Rattle.hash_ops.proofs.Under.{none_noted, can_kept, answered_kept, is_plain_of, update_entry, update_trace}
+use Rattle.hash_ops.proofs.Under.{none_noted, may_kept, answered_kept, is_plain_of, update_trace}
 use Rattle.hash_ops.proofs.map.PlainMap.write.Goals as goal
 
 pub write_value-requires-clause-bounds : goal.write_value-requires-clause-bounds
@@ -31,9 +30,8 @@ give-requires-after_bounds g c κs within =
     let sized = subst (λ (s : Shape). All (IsSized s) new.bodies) shape_is c.write_value.ensures.sized in
     let turn = written_turn t.shape q.cpu a.chain.bodies new.bodies c.requires.inside.sized a.side a.flags a.key.now a.value.now None e a.place c.body_at.result.now c.requires.replaces c.requires.percpu
     (at.body_is ∙ sym at.present_is) (sym c.body_at.ensures) c.element-element.ensures wrote sized in
-    let part_is = update_entry t a.bucket a.side a.flags a.key.now a.value.now a.given (puts.Written e) c.updated-part.result c.requires.gives c.updated-part.ensures in
-    subst (λ (z : TableView × Part). CanGive z.0 (locks.Bucket a.bucket) q (contents.Bucket new) z.1) (λ i. (sym c.self.view_is i, sym part_is i))
-    (can_kept t a.bucket q a.chain.bodies new (Update a.side a.flags a.key.now a.value.now None (puts.Written e)) c.requires.inside turn (none_noted _ _ _ _ (is_plain_of _ _ c.self.view_is c.self.invariant) refl))
+    subst (λ (z : TableView). MayGiveBack z (locks.Bucket a.bucket) q (contents.Bucket new) c.updated-part.result) (sym c.self.view_is)
+    (may_kept t a.bucket q a.chain.bodies new (Update a.side a.flags a.key.now a.value.now None (puts.Written e)) c.updated-part.result c.requires.inside turn (none_noted _ _ _ _ (is_plain_of _ _ c.self.view_is c.self.invariant) refl) c.updated-part.ensures)
 
 pub returns : goal.returns
 returns g c =
@@ -48,6 +46,6 @@ returns g c =
     let sized = subst (λ (s : Shape). All (IsSized s) new.bodies) shape_is c.write_value.ensures.sized in
     let turn = written_turn t.shape q.cpu a.chain.bodies new.bodies c.requires.inside.sized a.side a.flags a.key.now a.value.now None e a.place c.body_at.result.now c.requires.replaces c.requires.percpu
     (at.body_is ∙ sym at.present_is) (sym c.body_at.ensures) c.element-element.ensures wrote sized in
-    let part_is = update_entry t a.bucket a.side a.flags a.key.now a.value.now a.given (puts.Written e) c.updated-part.result c.requires.gives c.updated-part.ensures in
     answered_kept t a.bucket q c.give.new.pass a.chain.bodies new _ _ (Update a.side a.flags a.key.now a.value.now None (puts.Written e)) c.updated-part.result (is_plain_of _ _ c.self.view_is c.self.invariant) c.requires.inside c.requires.spares turn refl
-    part_is c.give.ensures (update_trace t a.bucket q.cpu _ a.side a.flags a.key.now a.value.now a.given (puts.Written e) [] c.requires.gives refl) refl
+    c.updated-part.ensures (subst (λ (z : TableView). GaveBack z (locks.Bucket a.bucket) q c.give.new.pass (contents.Bucket new) c.updated-part.result) c.self.view_is c.give.ensures)
+    (update_trace t a.bucket q.cpu _ a.side a.flags a.key.now a.value.now (puts.Written e) [] c.requires.gives refl) refl

@@ -1,8 +1,7 @@
 use Rattle.std.proofs.Common.{sym, subst}
 use Rattle.map_types.specs.declared.kind.DomainId.TheVariants as locks
 use Rattle.place_table.specs.declared.content.Content.TheVariants as contents
-use Rattle.place_words.specs.declared.history.Part.{Part}
-use Rattle.place_table.specs.Passes.{TableView, CanGive}
+use Rattle.place_table.specs.Passes.{TableView, MayGiveBack, GaveBack}
 use Rattle.lru_ops.proofs.Puts.{can_refuse, refused}
 use Rattle.lru_ops.proofs.Turned.{lru_of}
 use Rattle.lru_ops.proofs.map.LruMap.refuse.Goals as goal
@@ -10,10 +9,11 @@ use Rattle.lru_ops.proofs.map.LruMap.refuse.Goals as goal
 pub give-requires-after_bounds : goal.give-requires-after_bounds
 give-requires-after_bounds g c κs within =
     let a = c.args in
-    subst (λ (z : TableView × Part). CanGive z.0 (locks.Bucket a.bucket) a.pass.now (contents.Bucket a.chain) z.1) (λ i. (sym c.self.view_is i, sym c.updated-part.ensures i))
-    (can_refuse a.chain c.requires.inside (lru_of _ _ c.self.view_is c.self.invariant.1) a.side a.flags a.given.key a.given.value a.offer a.put c.requires.refusal c.requires.allowed)
+    subst (λ (z : TableView). MayGiveBack z (locks.Bucket a.bucket) a.pass.now (contents.Bucket a.chain) c.updated-part.result) (sym c.self.view_is)
+    (can_refuse a.chain c.requires.inside (lru_of _ _ c.self.view_is c.self.invariant.1) a.side a.flags a.key.now a.value.now a.offer a.put c.requires.refusal c.requires.allowed c.updated-part.result c.updated-part.ensures)
 
 pub returns : goal.returns
 returns g c =
     let a = c.args in
-    refused a.chain c.requires.inside (lru_of _ _ c.self.view_is c.self.invariant.1) a.side a.flags a.given.key a.given.value a.offer a.put c.requires.refusal c.requires.allowed c.updated-part.result c.give.new.pass c.updated-part.ensures c.give.ensures
+    refused a.chain c.requires.inside (lru_of _ _ c.self.view_is c.self.invariant.1) a.side a.flags a.key.now a.value.now a.offer a.put c.requires.refusal c.requires.allowed c.updated-part.result c.updated-part.ensures c.give.new.pass
+    (subst (λ (z : TableView). GaveBack z (locks.Bucket a.bucket) a.pass.now c.give.new.pass (contents.Bucket a.chain) c.updated-part.result) c.self.view_is c.give.ensures)
