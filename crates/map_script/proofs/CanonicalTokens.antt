@@ -20,7 +20,8 @@ use Rattle.map_types.proofs.CreationLemmas.{bounds_of_shape}
 use Rattle.map_types.proofs.RoundLemmas.{rounded_up}
 use Rattle.map_script.specs.declared.script.Script.{Script}
 use Rattle.map_script.specs.Canonical.{canonical, spaced, line_text, label_and_number, unless_zero, map_tokens, verb_tokens, pair_tokens, call_text, body_text, lookup_name, update_name, batch_name}
-use Rattle.map_script.proofs.TokenLines.{is_token, AreTokens, AreLines, joined, text_of_lines}
+use Rattle.map_script.specs.Plain.{is_token, AreTokens, joined}
+use Rattle.map_script.proofs.TokenLines.{AreLines, text_of_lines}
 use Rattle.map_script.proofs.TokenValues.{is_token-decimal, is_token-flag_token, is_token-start_token, is_token-kind_name, is_token-encode_lower}
 use Rattle.map_script.proofs.CallScripts.{ArePairs, AreKeys, IsVerb, IsAttr, AreCalls, IsCallScript}
 

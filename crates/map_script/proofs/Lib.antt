@@ -15,3 +15,5 @@ pub mod RoundTrip
 pub mod SpecRoundTrip
 pub mod BlankLemmas
 pub mod LineLaws
+pub mod DigitLemmas
+pub mod FrontLemmas

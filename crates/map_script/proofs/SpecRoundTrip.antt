@@ -14,7 +14,8 @@ use Rattle.map_script.specs.Grammar.{is_spec, gen_line}
 use Rattle.map_script.specs.Lines.{lines_of, end_number}
 use Rattle.map_script.specs.Places.{instead}
 use Rattle.map_script.specs.Reading.{or_fault, or_create, body_of, map_of, version_of, read_as, script_of}
-use Rattle.map_script.proofs.TokenLines.{AreTokens, AreLines, text_of_lines, saying_from, lines_of-text_of_lines}
+use Rattle.map_script.specs.Plain.{AreTokens}
+use Rattle.map_script.proofs.TokenLines.{AreLines, text_of_lines, saying_from, lines_of-text_of_lines}
 use Rattle.map_script.proofs.TokenValues.{is_token-decimal}
 use Rattle.map_script.proofs.SpecScripts.{IsSpec, IsSpecScript}
 use Rattle.map_script.proofs.CanonicalTokens.{version_tokens, line_text-append, map_are_tokens}

@@ -9,23 +9,8 @@ use Rattle.std.proofs.lemmas.List.Sums.{AllPass-from_list_all, list_all-from_All
 use Rattle.map_script.specs.declared.refusal.Cause.{Cause}
 use Rattle.map_script.specs.declared.refusal.Cause.TheVariants.{Byte}
 use Rattle.map_script.specs.Canonical.{spaced}
+use Rattle.map_script.specs.Plain.{is_mark, is_token, AreTokens, joined}
 use Rattle.map_script.specs.Lines.{Line, is_blank, is_hash, is_line_feed, is_allowed, before_comment, tokens_of, said_by, numbered, is_nothing, lines_of}
-
--- a byte that may stand in a token: visible, and no `#`
-abbrev pub is_mark : ℕ → Bool
-is_mark byte = nat_le 33 byte && nat_le byte 126 && not (byte == 35)
-
-abbrev pub is_token : List ℕ → Bool
-is_token token = nat_le 1 (length token) && list_all is_mark token
-
-abbrev pub AreTokens : List (List ℕ) → Type 0
-AreTokens [] = Unit {0}
-AreTokens (token ∷ tokens) = (is_token token ≡ true) × AreTokens tokens
-
--- tokens with a space between each two
-abbrev pub joined : List (List ℕ) → List ℕ
-joined [] = []
-joined (token ∷ tokens) = token ++ spaced tokens
 
 -- ---- what a byte of a token is
 
@@ -39,14 +24,14 @@ mark_is_no_blank : (byte : ℕ) → is_mark byte ≡ true → is_blank byte ≡ 
 mark_is_no_blank byte h = let parts = mark_parts byte h in grind arith
 
 -- a byte of a line of tokens
-abbrev IsPiece : ℕ → Type 0
+abbrev pub IsPiece : ℕ → Type 0
 IsPiece byte = (byte ≡ 32) ⊎ (is_mark byte ≡ true)
 
 piece_bounds : (byte : ℕ) → IsPiece byte → (32 ≤ byte) × (byte ≤ 126) × (byte ≡ 35 → ⊥)
 piece_bounds byte (inl space) = (omega arith, omega arith, λ hash. omega arith)
 piece_bounds byte (inr mark) = let parts = mark_parts byte mark in (omega arith, parts.1, parts.2)
 
-piece_is_no_line_feed : (byte : ℕ) → IsPiece byte → is_line_feed byte ≡ false
+pub piece_is_no_line_feed : (byte : ℕ) → IsPiece byte → is_line_feed byte ≡ false
 piece_is_no_line_feed byte piece = let bounds = piece_bounds byte piece in ne_eqb byte 10 (λ same. omega arith)
 
 piece_is_no_hash : (byte : ℕ) → IsPiece byte → is_hash byte ≡ false
@@ -73,7 +58,7 @@ split_joined token (next ∷ tokens) h =
     slice_split_at is_blank token 32 (next ++ spaced tokens) (no_blanks token h.0) refl
     ∙ ap (λ (parts : List (List ℕ)). token ∷ parts) (split_joined next tokens h.1)
 
-some_length : (n : ℕ) → not (suc n == 0) ≡ true
+pub some_length : (n : ℕ) → not (suc n == 0) ≡ true
 some_length n = not_from_false (suc n == 0) (ne_eqb (suc n) 0 (λ same. omega arith))
 
 abbrev is_some_token : List ℕ → Bool
@@ -103,7 +88,7 @@ spaced_pieces (token ∷ tokens) h =
     All-cons IsPiece 32 (token ++ spaced tokens) (inl refl)
     (All-append IsPiece token (spaced tokens) (pieces_of token h.0) (spaced_pieces tokens h.1))
 
-joined_pieces : (tokens : List (List ℕ)) → AreTokens tokens → All IsPiece (joined tokens)
+pub joined_pieces : (tokens : List (List ℕ)) → AreTokens tokens → All IsPiece (joined tokens)
 joined_pieces [] h = All-nil IsPiece
 joined_pieces (token ∷ tokens) h =
     All-append IsPiece token (spaced tokens) (pieces_of token h.0) (spaced_pieces tokens h.1)
@@ -147,10 +132,10 @@ abbrev pub saying_from : ℕ → List (List (List ℕ)) → List Line
 saying_from number [] = []
 saying_from number (tokens ∷ lines) = saying number tokens ∷ saying_from (number + 1) lines
 
-abbrev says_something : Line → Bool
+abbrev pub says_something : Line → Bool
 says_something line = not (is_nothing line.says)
 
-abbrev line_saying : ℕ → Result (List (List ℕ)) Cause → Line
+abbrev pub line_saying : ℕ → Result (List (List ℕ)) Cause → Line
 line_saying number says = record { number = number; says = says }
 
 lines_from : (number : ℕ) (lines : List (List (List ℕ))) → AreLines lines → filter says_something (numbered number (slice_split is_line_feed (text_of_lines lines))) ≡ saying_from number lines

@@ -21,7 +21,7 @@ use Rattle.map_script.specs.Canonical.{kind_name, flag_token, start_token}
 use Rattle.map_script.specs.Grammar.{kind_of}
 use Rattle.map_script.specs.Places.{decoded, start_of, flag_of, bytes_in}
 use Rattle.map_script.specs.Tokens.{is_numeral, number_of}
-use Rattle.map_script.proofs.TokenLines.{is_mark, is_token}
+use Rattle.map_script.specs.Plain.{is_mark, is_token}
 
 -- a test that follows from another
 list_all_weaker : (p q : ℕ → Bool) → ((byte : ℕ) → p byte ≡ true → q byte ≡ true) → (bytes : List ℕ) → list_all p bytes ≡ true → list_all q bytes ≡ true
@@ -37,7 +37,7 @@ is_mark_between byte low high =
     (not_from_false (byte == 35) (ne_eqb byte 35 (λ same. omega arith)))
 
 -- a token from the test of its bytes
-is_token_from : (p : ℕ → Bool) → ((byte : ℕ) → p byte ≡ true → is_mark byte ≡ true) → (token : List ℕ) → 1 ≤ length token → list_all p token ≡ true → is_token token ≡ true
+pub is_token_from : (p : ℕ → Bool) → ((byte : ℕ) → p byte ≡ true → is_mark byte ≡ true) → (token : List ℕ) → 1 ≤ length token → list_all p token ≡ true → is_token token ≡ true
 is_token_from p marks token some all =
     and_from (nat_le 1 (length token)) (list_all is_mark token) (le-leb 1 (length token) some) (list_all_weaker p is_mark marks token all)
 
@@ -58,7 +58,7 @@ all_digits (c ∷ digits) h =
     let range = digit_from_value c h.0 in
     and_from (is_ascii_digit c) (list_all is_ascii_digit digits) (and_from (nat_le 48 c) (nat_le c 57) (le-leb 48 c range.0) (le-leb c 57 range.1)) (all_digits digits h.1)
 
-digit_is_mark : (c : ℕ) → is_ascii_digit c ≡ true → is_mark c ≡ true
+pub digit_is_mark : (c : ℕ) → is_ascii_digit c ≡ true → is_mark c ≡ true
 digit_is_mark c h =
     let parts = and_parts (nat_le 48 c) (nat_le c 57) h in
     let high : c ≤ 57 = leb-true c 57 parts.1 in
@@ -206,7 +206,7 @@ bytes_in-encode_lower size bytes h =
 hex_digit_range : (c : ℕ) → is_hex_digit c ≡ true → (48 ≤ c) × (c ≤ 126)
 hex_digit_range c h = grind arith
 
-hex_digit_is_mark : (c : ℕ) → is_hex_digit c ≡ true → is_mark c ≡ true
+pub hex_digit_is_mark : (c : ℕ) → is_hex_digit c ≡ true → is_mark c ≡ true
 hex_digit_is_mark c h = let range = hex_digit_range c h in is_mark_between c range.0 range.1
 
 pub is_token-encode_lower : (size : ℕ) (bytes : List ℕ) → 1 ≤ size → AreBytes size bytes → is_token (encode_lower bytes) ≡ true

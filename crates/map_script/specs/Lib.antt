@@ -9,3 +9,4 @@ pub mod Gives
 pub mod WellFormed
 pub mod CauseName
 pub mod SameLines
+pub mod Plain

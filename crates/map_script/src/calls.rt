@@ -4,6 +4,7 @@ ghost use Rattle.std.specs.Prelude.{◌≡◌, ◌≤◌};
 ghost use Rattle.map_types.specs.Creation.{IsShape};
 ghost use Rattle.map_script.specs.Gives.{Gives};
 ghost use Rattle.map_script.specs.Grammar.{call_line, reply_bytes};
+ghost use Rattle.map_script.specs.Plain.{IsNextCall};
 ghost use Rattle.map_script.specs.Reading.{of_line, call_within, calls_of, IsReading};
 
 use crate::fault::with_number;
@@ -16,10 +17,10 @@ use map_types::{Call, List, Shape, Side, Verb, value_len};
 use std::alloc::Global;
 
 /// How many calls a script may have.
-const MAX_CALLS: usize = 200_000;
+pub(crate) const MAX_CALLS: usize = 200_000;
 
 /// How many bytes the replies to a script's calls may have.
-const MAX_ROOM: u64 = 67_108_864;
+pub(crate) const MAX_ROOM: u64 = 67_108_864;
 
 /// Reads a call from each line that is left.
 pub(crate) fn calls_of(
@@ -32,13 +33,34 @@ pub(crate) fn calls_of(
 {
     let mut calls = Vec::new(alloc);
     let mut room: u64 = 0;
-    while let Some(line) = lines.next_line() {
-        let read = call_within(alloc, shape, calls.len(), room, &line);
-        let call = with_number(line.number(), read)?;
+    while let Some(call) = next_call(alloc, shape, calls.len(), room, lines)? {
         room += reply_bytes(shape, &call.verb);
         calls.push(call)?;
     }
     Ok(List::of(calls))
+}
+
+/// Reads the next call, behind so many calls, whose replies may have so many bytes, or finds that no line is left.
+fn next_call(
+    alloc: Global,
+    shape: &Shape,
+    count: usize,
+    room: u64,
+    lines: &mut Lines,
+) -> Result<Option<Call>, ScriptRefusal>
+    requires shape { IsShape shape.now }
+    requires room { room ≤ 67108864 }
+    ensures { IsNextCall shape.now count room lines.old.lines lines.new.lines result }
+{
+    if let Some(call) = lines.front_call(alloc, shape, count, room) {
+        return Ok(Some(call));
+    }
+    let Some(line) = lines.next_line() else {
+        return Ok(None);
+    };
+    let read = call_within(alloc, shape, count, room, &line);
+    let call = with_number(line.number(), read)?;
+    Ok(Some(call))
 }
 
 /// Reads a call behind so many calls, whose replies may have so many bytes.
@@ -76,7 +98,7 @@ fn call_line(alloc: Global, shape: &Shape, mut tokens: Tokens) -> Result<Call, L
 }
 
 /// How many bytes the reply to a call may have.
-fn reply_bytes(shape: &Shape, verb: &Verb) -> u64
+pub(crate) fn reply_bytes(shape: &Shape, verb: &Verb) -> u64
     requires { IsShape shape.now }
     ensures { result ≡ reply_bytes shape.now verb.now }
 {

@@ -3,6 +3,7 @@
 
 mod calls;
 mod fault;
+mod front;
 mod head;
 mod laws;
 mod line_error;

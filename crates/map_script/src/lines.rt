@@ -4,10 +4,16 @@ ghost use Rattle.std.specs.Prelude.{◌≡◌, ℕ, ◌+◌, ◌-◌, ◌<◌, �
 ghost use Rattle.std.specs.List.{list_all};
 ghost use Rattle.map_script.specs.Lines.{is_line_feed, is_blank, is_allowed, before_comment, said_by, is_nothing};
 ghost use Rattle.map_script.specs.Lines.{lines_from, end_from};
+ghost use Rattle.map_types.specs.Creation.{IsShape};
+ghost use Rattle.map_script.specs.Plain.{FirstIsCall};
 ghost use Rattle.map_script.specs.Unread.{unread_from};
 
+use crate::calls::{MAX_CALLS, MAX_ROOM, reply_bytes};
+use crate::front::call_at_front;
 use crate::refusal::Cause;
 use crate::tokens::Tokens;
+use map_types::{Call, Shape};
+use std::alloc::Global;
 use std::marker::Model;
 
 /// The lines of a text that are left. Those that say nothing don't count.
@@ -51,6 +57,32 @@ impl<'a> Lines<'a> {
         self.rest = rest;
         self.number = number;
         Some(line)
+    }
+
+    /// Reads a call that stands at the front in the form in which most are written, behind so many calls, whose replies may
+    /// have so many bytes. Where none is found nothing is read.
+    pub(crate) fn front_call(
+        &mut self,
+        alloc: Global,
+        shape: &Shape,
+        count: usize,
+        room: u64,
+    ) -> Option<Call>
+        requires shape { IsShape shape.now }
+        requires room { room ≤ 67108864 }
+        ensures call { MatchOption result (self.new ≡ self.old) (λ call. FirstIsCall shape.now count room self.old.lines call self.new.lines) }
+        ensures end { self.new.end ≡ self.old.end }
+    {
+        if count >= MAX_CALLS {
+            return None;
+        }
+        let (call, rest) = call_at_front(alloc, shape, self.rest)?;
+        if room + reply_bytes(shape, &call.verb) > MAX_ROOM {
+            return None;
+        }
+        self.rest = rest;
+        self.number += 1;
+        Some(call)
     }
 
     /// The number of a fault at the end.

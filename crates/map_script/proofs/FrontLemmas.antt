@@ -1,0 +1,176 @@
+-- Lines as most are written, read from the front of a text.
+use Rattle.std.proofs.Common.{◌≡◌, ℕ, ◌+◌, ◌*◌, ◌<◌, ◌≤◌, ◌==◌, true, false, nat_lt, nat_le, List, [], ◌∷◌, ◌++◌, length, take, drop, filter, Some, Result, Ok, count_by, refl, sym, ap, subst, ◌∙◌, append-nil, append_assoc, take-append-drop, arith}
+use Rattle.std.specs.Prelude.{codes, unwrap_or}
+use Rattle.std.specs.List.{slice_split, list_all}
+use Rattle.std.proofs.lemmas.Bool.{cond-true, eq-eqb, lt-ltb, le-leb}
+use Rattle.std.proofs.lemmas.List.{take_all, drop_all}
+use Rattle.std.proofs.lemmas.List.Elements.{All-weaker}
+use Rattle.std.proofs.lemmas.List.Splits.{slice_split_at, length-slice_split}
+use Rattle.std.proofs.lemmas.List.Sums.{list_all-from_AllPass}
+use Rattle.std.specs.Result.{result_ok}
+use Rattle.hex.specs.Hex.{decode_of, is_hex_digit}
+use Rattle.hex.specs.declared.error.FromHexError.{FromHexError}
+use Rattle.hex.proofs.HexLemmas.{decode_of-ok}
+use Rattle.map_types.specs.declared.attr.Shape.{Shape}
+use Rattle.map_types.specs.declared.call.Call.{Call}
+use Rattle.map_types.specs.ValueLen.{value_len_of}
+use Rattle.map_types.specs.declared.call.Verb.{Verb}
+use Rattle.map_types.specs.declared.call.Verb.TheVariants as verbs
+use Rattle.map_types.specs.declared.kind.Side.TheVariants.{Prog}
+use Rattle.map_script.specs.declared.refusal.Cause.{Cause}
+use Rattle.map_script.specs.Lines.{is_line_feed, numbered, lines_from}
+use Rattle.map_script.specs.Places.{Tokens}
+use Rattle.map_script.specs.Grammar.{call_line, call_on, verb_line, lookup_places, update_places, delete_places, reply_bytes}
+use Rattle.map_script.specs.Plain.{AreTokens, joined, BeginsWith, BeginsWithCpu, BeginsWithBytes, FirstIsCall}
+use Rattle.map_script.specs.Reading.{call_within}
+use Rattle.map_script.specs.Tokens.{number_of}
+use Rattle.map_script.proofs.TokenLines.{IsPiece, piece_is_no_line_feed, joined_pieces, said_by-joined, some_length, saying, says_something, line_saying}
+use Rattle.map_script.proofs.TokenValues.{is_token_from, hex_digit_is_mark}
+
+-- ---- bytes
+
+-- digits that decode are the bytes of a token
+pub decoded_token : (size : ℕ) (token found rest text : List ℕ) → 1 ≤ size → length token ≡ 2 * size → decode_of token ≡ Ok found → text ≡ token ++ rest → BeginsWithBytes size text found rest
+decoded_token size token found rest text some sized is starts =
+    let digits = list_all-from_AllPass is_hex_digit token (decode_of-ok token found is).1 in
+    record {
+      token = token;
+      starts = starts;
+      is = is_token_from is_hex_digit hex_digit_is_mark token (omega arith) digits;
+      reads =
+          cond-true (list_all is_hex_digit token) _ _ digits
+          ∙ cond-true (length token == 2 * size) _ _ (eq-eqb (length token) (2 * size) sized)
+          ∙ ap (λ (r : Result (List ℕ) FromHexError). Ok (unwrap_or (result_ok r) [])) is;
+    }
+
+-- what is written in a place of its length is all that is there
+pub taken_whole : (n : ℕ) (written before : List ℕ) → length written ≡ n → length before ≡ n → take n (written ++ drop (length written) before) ≡ written
+taken_whole n written before same long =
+    let nothing : drop (length written) before ≡ [] = drop_all (length written) before (omega arith) in
+    rw (nothing, append-nil) (take_all n written (omega arith))
+
+-- two parts of a text
+pub parts_joined : (n : ℕ) (text front back : List ℕ) → front ≡ take n text → back ≡ drop n text → text ≡ front ++ back
+parts_joined n text front back is_front is_back = rw (is_front, is_back) (sym (take-append-drop n text))
+
+-- ---- verbs
+
+-- one token behind others
+lone : (token rest : List ℕ) → token ++ 10 ∷ rest ≡ (token ++ []) ++ 10 ∷ rest
+lone token rest = ap (λ (front : List ℕ). front ++ 10 ∷ rest) (sym (append-nil token))
+
+pub lookup_begins : (shape : Shape) (text places key rest : List ℕ) → text ≡ codes "lookup " ++ places → BeginsWithBytes shape.key_size places key (10 ∷ rest)
+    → BeginsWith (verb_line shape) text (verbs.Lookup Prog key) rest
+unfolding verb_line lookup_places
+lookup_begins shape text places key rest behind found =
+    let token = found.token in
+    record {
+      tokens = codes "lookup" ∷ token ∷ [];
+      starts = behind ∙ ap (λ (more : List ℕ). codes "lookup " ++ more) (found.starts ∙ lone token rest);
+      are_tokens = (refl, (found.is, tt));
+      reads = rw found.reads refl;
+    }
+
+pub delete_begins : (shape : Shape) (text places key rest : List ℕ) → text ≡ codes "delete " ++ places → BeginsWithBytes shape.key_size places key (10 ∷ rest)
+    → BeginsWith (verb_line shape) text (verbs.Delete key) rest
+unfolding verb_line delete_places
+delete_begins shape text places key rest behind found =
+    let token = found.token in
+    record {
+      tokens = codes "delete" ∷ token ∷ [];
+      starts = behind ∙ ap (λ (more : List ℕ). codes "delete " ++ more) (found.starts ∙ lone token rest);
+      are_tokens = (refl, (found.is, tt));
+      reads = rw found.reads refl;
+    }
+
+pub update_begins : (shape : Shape) (text places key middle value rest : List ℕ) → text ≡ codes "update any " ++ places
+    → BeginsWithBytes shape.key_size places key (32 ∷ middle) → BeginsWithBytes (value_len_of shape Prog) middle value (10 ∷ rest)
+    → BeginsWith (verb_line shape) text (verbs.Update Prog 0 key value) rest
+unfolding verb_line update_places
+update_begins shape text places key middle value rest behind on to =
+    let first = on.token in
+    let second = to.token in
+    let whole : places ≡ (first ++ 32 ∷ (second ++ [])) ++ 10 ∷ rest =
+    on.starts ∙ ap (λ (more : List ℕ). first ++ 32 ∷ more) (to.starts ∙ lone second rest)
+    ∙ sym (append_assoc first (32 ∷ (second ++ [])) (10 ∷ rest)) in
+    record {
+      tokens = codes "update" ∷ codes "any" ∷ first ∷ second ∷ [];
+      starts = behind ∙ ap (λ (more : List ℕ). codes "update any " ++ more) whole;
+      are_tokens = (refl, (refl, (on.is, (to.is, tt))));
+      reads = rw (on.reads, to.reads) refl;
+    }
+
+-- ---- a call
+
+called : (shape : Shape) (token : List ℕ) (places : Tokens) (cpu : ℕ) (verb : Verb) → number_of token ≡ Some cpu → cpu < shape.cpus → verb_line shape places ≡ Ok verb
+    → call_line shape (token ∷ places) ≡ Ok (call_on cpu verb)
+unfolding call_line
+called shape token places cpu verb number below reads =
+    let test : nat_lt cpu shape.cpus ≡ true = lt-ltb cpu shape.cpus below in
+    rw (number, test, reads) refl
+
+no_verb : (shape : Shape) (verb : Verb) → verb_line shape [] ≡ Ok verb → ⊥
+unfolding verb_line
+no_verb shape verb is = cc
+
+pub call_begins : (shape : Shape) (text places rest : List ℕ) (cpu : ℕ) (verb : Verb) → BeginsWithCpu shape.cpus text cpu places → BeginsWith (verb_line shape) places verb rest
+    → BeginsWith (call_line shape) text (call_on cpu verb) rest
+call_begins shape text places rest cpu verb on does = go does.tokens does.starts does.are_tokens does.reads
+  where
+    go : (tokens : Tokens) → places ≡ joined tokens ++ 10 ∷ rest → AreTokens tokens → verb_line shape tokens ≡ Ok verb → BeginsWith (call_line shape) text (call_on cpu verb) rest
+    go [] starts are reads = absurd (no_verb shape verb reads)
+    go (name ∷ others) starts are reads = record {
+      tokens = on.token ∷ name ∷ others;
+      starts = on.starts ∙ ap (λ (more : List ℕ). on.token ++ 32 ∷ more) starts ∙ sym (append_assoc on.token (32 ∷ joined (name ∷ others)) (10 ∷ rest));
+      are_tokens = (on.is, are);
+      reads = called shape on.token (name ∷ others) cpu verb on.reads on.below reads;
+    }
+
+-- ---- lines
+
+-- the first line of a text, and the lines behind it
+pub front_line : (number : ℕ) (tokens : Tokens) (rest : List ℕ) → AreTokens tokens → (tokens ≡ [] → ⊥)
+    → lines_from number (joined tokens ++ 10 ∷ rest) ≡ saying number tokens ∷ lines_from (number + 1) rest
+front_line number [] rest are some = absurd (some refl)
+front_line number (token ∷ tokens) rest are some =
+    let line = joined (token ∷ tokens) in
+    let kept = lines_from (number + 1) rest in
+    let free = All-weaker IsPiece (λ byte. is_line_feed byte ≡ false) piece_is_no_line_feed line (joined_pieces (token ∷ tokens) are) in
+    ap (λ (parts : List (List ℕ)). filter says_something (numbered number parts)) (slice_split_at is_line_feed line 10 rest free refl)
+    ∙ ap (λ (says : Result (List (List ℕ)) Cause). filter says_something (line_saying number says ∷ numbered (number + 1) (slice_split is_line_feed rest))) (said_by-joined token tokens are)
+    ∙ cond-true (says_something (saying number (token ∷ tokens))) (saying number (token ∷ tokens) ∷ kept) kept (some_length (length tokens))
+
+-- a line feed fewer is left
+pub front_feed : (tokens : Tokens) (rest : List ℕ) → AreTokens tokens → count_by is_line_feed (joined tokens ++ 10 ∷ rest) ≡ count_by is_line_feed rest + 1
+front_feed tokens rest are =
+    let line = joined tokens in
+    let free = All-weaker IsPiece (λ byte. is_line_feed byte ≡ false) piece_is_no_line_feed line (joined_pieces tokens are) in
+    let cut = ap (λ (parts : List (List ℕ)). length parts) (slice_split_at is_line_feed line 10 rest free refl) in
+    omega (arith, cut, length-slice_split is_line_feed (line ++ 10 ∷ rest), length-slice_split is_line_feed rest)
+
+no_call : (shape : Shape) (call : Call) → call_line shape [] ≡ Ok call → ⊥
+unfolding call_line
+no_call shape call is = cc
+
+-- a call at the front of a text is the first of its lines
+pub first_call : (shape : Shape) (count room number : ℕ) (text rest : List ℕ) (call : Call) → BeginsWith (call_line shape) text call rest
+    → count < 200000 → room + reply_bytes shape call.verb ≤ 67108864
+    → FirstIsCall shape count room (lines_from number text) call (lines_from (number + 1) rest)
+first_call shape count room number text rest call begins few fits =
+    let some : begins.tokens ≡ [] → ⊥ = λ nothing. no_call shape call (subst (λ (tokens : Tokens). call_line shape tokens ≡ Ok call) nothing begins.reads) in
+    record {
+      line = saying number begins.tokens;
+      first = ap (lines_from number) begins.starts ∙ front_line number begins.tokens rest begins.are_tokens some;
+      reads = within shape count room begins.tokens call begins.reads few fits;
+    }
+  where
+    within : (shape : Shape) (count room : ℕ) (tokens : Tokens) (call : Call) → call_line shape tokens ≡ Ok call → count < 200000 → room + reply_bytes shape call.verb ≤ 67108864
+        → call_within shape count room tokens ≡ Ok call
+    within shape count room tokens call reads few fits =
+        let first : nat_lt count 200000 ≡ true = lt-ltb count 200000 few in
+        let second : nat_le (room + reply_bytes shape call.verb) 67108864 ≡ true = le-leb (room + reply_bytes shape call.verb) 67108864 fits in
+        rw (reads, first, second) refl
+
+-- and a line feed fewer is left behind it
+pub first_feed : (shape : Shape) (text rest : List ℕ) (call : Call) → BeginsWith (call_line shape) text call rest → count_by is_line_feed text ≡ count_by is_line_feed rest + 1
+first_feed shape text rest call begins = ap (count_by is_line_feed) begins.starts ∙ front_feed begins.tokens rest begins.are_tokens

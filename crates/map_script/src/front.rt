@@ -1,0 +1,248 @@
+//! Call lines as most are written, each read from the front of a text: one space between tokens, no comment, and the
+//! verbs that scripts have most of. What is found here is what the line says. Where nothing is found the line has to be
+//! read by its tokens.
+
+ghost use Rattle.std.specs.Prelude.{◌≡◌, ◌*◌, ◌≤◌, ◌∷◌, ◌++◌, length, Ok, ⊤, MatchOption, IsTrue, codes};
+ghost use Rattle.hex.specs.Hex.{decode_of, hex_digit_value};
+ghost use Rattle.map_types.specs.Creation.{IsShape};
+ghost use Rattle.map_script.specs.Grammar.{call_line, verb_line};
+ghost use Rattle.map_script.specs.Plain.{BeginsWith, BeginsWithCpu, BeginsWithBytes};
+
+use map_types::{Bytes, Call, List, Shape, Side, Verb, value_len};
+use std::alloc::Global;
+
+/// Reads a call, and gives the text behind its line.
+pub(crate) fn call_at_front<'a>(
+    alloc: Global,
+    shape: &Shape,
+    text: &'a [u8],
+) -> Option<(Call, &'a [u8])>
+    requires { IsShape shape.now }
+    ensures { MatchOption result ⊤ (λ found. BeginsWith (call_line shape.now) text.now found.0 found.1.now) }
+{
+    let (cpu, places) = cpu_at_front(shape.cpus, text)?;
+    let (verb, rest) = verb_at_front(alloc, shape, places)?;
+    Some((Call { cpu, verb }, rest))
+}
+
+/// Reads a CPU of one digit, and a space.
+fn cpu_at_front(cpus: u32, text: &[u8]) -> Option<(u32, &[u8])>
+    ensures { MatchOption result ⊤ (λ found. BeginsWithCpu cpus text.now found.0 found.1.now) }
+{
+    match text {
+        [digit, b' ', rest @ ..] if digit.is_ascii_digit() => {
+            let cpu = u32::from(*digit - b'0');
+            if cpu < cpus { Some((cpu, rest)) } else { None }
+        }
+        _ => None,
+    }
+}
+
+/// Reads what a call does.
+fn verb_at_front<'a>(alloc: Global, shape: &Shape, text: &'a [u8]) -> Option<(Verb, &'a [u8])>
+    requires { IsShape shape.now }
+    ensures { MatchOption result ⊤ (λ found. BeginsWith (verb_line shape.now) text.now found.0 found.1.now) }
+{
+    if let Some(places) = behind_lookup(text) {
+        lookup_at_front(alloc, shape, text, places)
+    } else if let Some(places) = behind_update(text) {
+        update_at_front(alloc, shape, text, places)
+    } else if let Some(places) = behind_delete(text) {
+        delete_at_front(alloc, shape, text, places)
+    } else {
+        None
+    }
+}
+
+/// What stands behind `lookup`.
+fn behind_lookup(text: &[u8]) -> Option<&[u8]>
+    ensures { MatchOption result ⊤ (λ rest. text.now ≡ codes "lookup " ++ rest.now) }
+{
+    match text {
+        [b'l', b'o', b'o', b'k', b'u', b'p', b' ', rest @ ..] => Some(rest),
+        _ => None,
+    }
+}
+
+/// What stands behind `update any`.
+fn behind_update(text: &[u8]) -> Option<&[u8]>
+    ensures { MatchOption result ⊤ (λ rest. text.now ≡ codes "update any " ++ rest.now) }
+{
+    match text {
+        [
+            b'u',
+            b'p',
+            b'd',
+            b'a',
+            b't',
+            b'e',
+            b' ',
+            b'a',
+            b'n',
+            b'y',
+            b' ',
+            rest @ ..,
+        ] => Some(rest),
+        _ => None,
+    }
+}
+
+/// What stands behind `delete`.
+fn behind_delete(text: &[u8]) -> Option<&[u8]>
+    ensures { MatchOption result ⊤ (λ rest. text.now ≡ codes "delete " ++ rest.now) }
+{
+    match text {
+        [b'd', b'e', b'l', b'e', b't', b'e', b' ', rest @ ..] => Some(rest),
+        _ => None,
+    }
+}
+
+/// Reads the key of a lookup.
+fn lookup_at_front<'a>(
+    alloc: Global,
+    shape: &Shape,
+    text: &'a [u8],
+    places: &'a [u8],
+) -> Option<(Verb, &'a [u8])>
+    requires { text.now ≡ codes "lookup " ++ places.now }
+    ensures { MatchOption result ⊤ (λ found. BeginsWith (verb_line shape.now) text.now found.0 found.1.now) }
+{
+    let (key, rest) = bytes_before(b'\n', alloc, shape.key_size, places)?;
+    Some((
+        Verb::Lookup {
+            side: Side::Prog,
+            key,
+        },
+        rest,
+    ))
+}
+
+/// Reads the key and the value of an update.
+fn update_at_front<'a>(
+    alloc: Global,
+    shape: &Shape,
+    text: &'a [u8],
+    places: &'a [u8],
+) -> Option<(Verb, &'a [u8])>
+    requires shape { IsShape shape.now }
+    requires text { text.now ≡ codes "update any " ++ places.now }
+    ensures { MatchOption result ⊤ (λ found. BeginsWith (verb_line shape.now) text.now found.0 found.1.now) }
+{
+    let (key, behind) = bytes_before(b' ', alloc, shape.key_size, places)?;
+    let (value, rest) = bytes_before(b'\n', alloc, value_len(shape, Side::Prog), behind)?;
+    Some((
+        Verb::Update {
+            side: Side::Prog,
+            flags: 0,
+            key,
+            value,
+        },
+        rest,
+    ))
+}
+
+/// Reads the key of a delete.
+fn delete_at_front<'a>(
+    alloc: Global,
+    shape: &Shape,
+    text: &'a [u8],
+    places: &'a [u8],
+) -> Option<(Verb, &'a [u8])>
+    requires { text.now ≡ codes "delete " ++ places.now }
+    ensures { MatchOption result ⊤ (λ found. BeginsWith (verb_line shape.now) text.now found.0 found.1.now) }
+{
+    let (key, rest) = bytes_before(b'\n', alloc, shape.key_size, places)?;
+    Some((Verb::Delete { key }, rest))
+}
+
+/// Reads bytes of a size, and this byte behind them.
+fn bytes_before<'a>(end: u8, alloc: Global, size: u32, text: &'a [u8]) -> Option<(Bytes, &'a [u8])>
+    ensures { MatchOption result ⊤ (λ found. BeginsWithBytes size text.now found.0 (end ∷ found.1.now)) }
+{
+    let (bytes, behind) = bytes_at_front(alloc, size, text)?;
+    match behind {
+        [byte, rest @ ..] if *byte == end => Some((bytes, rest)),
+        _ => None,
+    }
+}
+
+/// Reads bytes of a size. Those of the sizes that most keys and values have are decoded many digits at a time.
+fn bytes_at_front(alloc: Global, size: u32, text: &[u8]) -> Option<(Bytes, &[u8])>
+    ensures { MatchOption result ⊤ (λ found. BeginsWithBytes size text.now found.0 found.1.now) }
+{
+    if size == 16 {
+        return sized_at_front::<16, 32>(alloc, text);
+    }
+    if size == 8 {
+        return sized_at_front::<8, 16>(alloc, text);
+    }
+    if size == 4 {
+        return sized_at_front::<4, 8>(alloc, text);
+    }
+    any_at_front(alloc, size, text)
+}
+
+/// Reads so many bytes, of twice as many digits.
+fn sized_at_front<const BYTES: usize, const DIGITS: usize>(
+    alloc: Global,
+    text: &[u8],
+) -> Option<(Bytes, &[u8])>
+    requires twice { DIGITS ≡ 2 * BYTES }
+    requires some { (1 ≤ BYTES) × (BYTES ≤ 1024) }
+    ensures { MatchOption result ⊤ (λ found. BeginsWithBytes BYTES text.now found.0 found.1.now) }
+{
+    let (digits, rest) = text.split_first_chunk::<DIGITS>()?;
+    let mut bytes = [0; BYTES];
+    if !decode_digits(digits, &mut bytes) {
+        return None;
+    }
+    Some((List::of(bytes.as_slice().to_vec(alloc).ok()?), rest))
+}
+
+/// Reads bytes of any size but 0.
+fn any_at_front(alloc: Global, size: u32, text: &[u8]) -> Option<(Bytes, &[u8])>
+    ensures { MatchOption result ⊤ (λ found. BeginsWithBytes size text.now found.0 found.1.now) }
+{
+    if size == 0 {
+        return None;
+    }
+    let (digits, rest) = text.split_at_checked(2 * size as usize)?;
+    let mut bytes = vec![in alloc; 0u8; size as usize].ok()?;
+    if !decode_digits(digits, bytes.as_mut_slice()) {
+        return None;
+    }
+    Some((List::of(bytes), rest))
+}
+
+/// Decodes twice as many digits as there is room for bytes. Where one is no digit it answers false, and the bytes mean
+/// nothing. It judges all digits in one pass with no branch, so that a processor takes many at a time.
+#[inline(always)]
+fn decode_digits(digits: &[u8], bytes: &mut [u8]) -> bool
+    requires { length digits.now ≡ 2 * length bytes.old }
+    ensures { IsTrue result → decode_of digits.now ≡ Ok bytes.new }
+{
+    let mut worst: u8 = 0;
+    for i in 0..bytes.len() {
+        let high = digit_value(digits[2 * i]);
+        let low = digit_value(digits[2 * i + 1]);
+        worst = worst.max(high).max(low);
+        bytes[i] = high.wrapping_mul(16).wrapping_add(low);
+    }
+    worst < 16
+}
+
+/// The value of a hexadecimal digit of either case, and 255 of any other byte.
+#[inline(always)]
+fn digit_value(byte: u8) -> u8
+    ensures { MatchOption (hex_digit_value byte) (result ≡ 255) (λ value. result ≡ value) }
+{
+    let decimal = byte.wrapping_sub(b'0');
+    let letter = byte.wrapping_sub(b'A').min(byte.wrapping_sub(b'a'));
+    if decimal < 10 {
+        decimal
+    } else if letter < 6 {
+        letter + 10
+    } else {
+        255
+    }
+}
