@@ -5,7 +5,7 @@ ghost use Rattle.std.specs.Prelude.{◌≡◌, IfOk, IfSome, Some, None};
 ghost use Rattle.place_words.specs.declared.bucket_part.BucketPart.TheVariants as turns;
 ghost use Rattle.place_words.specs.declared.history.Part.TheVariants as parts;
 
-use map_types::{Bytes, List, NoMemory, Side};
+use map_types::{Bytes, NoMemory, Side};
 use place_words::{BucketPart, Part, Put};
 use std::alloc::Global;
 
@@ -19,7 +19,7 @@ pub const BPF_EXIST: u32 = 2;
 fn bytes_of(alloc: Global, bytes: &[u8]) -> Result<Bytes, NoMemory>
     ensures { IfOk result (λ copy. copy ≡ bytes.now) }
 {
-    Ok(List::of(Vec::from_slice(alloc, bytes)?))
+    Bytes::from_slice(alloc, bytes)
 }
 
 /// The entry of a lookup that found no element.

@@ -21,7 +21,7 @@ use Rattle.place_table.specs.declared.view.Turned.{Turned}
 use Rattle.place_table.specs.Calls.{CanCall, Called, spare_element, element_of}
 use Rattle.place_table.specs.Known.{Learns, turn_of, turn_at}
 use Rattle.place_table.specs.Passes.{PassView, TableView, spare_of}
-use Rattle.place_table.proofs.Gives.{stays_idle}
+use Rattle.place_table.proofs.TakeToGive.{stays_idle}
 use Rattle.place_table.proofs.Worlds.{by_bool}
 use Rattle.bucket_walks.specs.Looks.{CanWalk, Looked, LooksInto, WalksOn}
 use Rattle.bucket_walks.specs.declared.read.BatchOut.{BatchOut}
@@ -30,7 +30,7 @@ use Rattle.bucket_walks.specs.declared.read.BatchRefusal.{BatchRefusal}
 use Rattle.bucket_walks.specs.declared.read.BatchRefusal.TheVariants as refusals
 use Rattle.bucket_walks.specs.declared.read.Planned.{Planned}
 use Rattle.bucket_walks.specs.Plans.{Plans}
-use Rattle.bucket_walks.specs.Reads.{Answers, IsToRead, ReadsOn, stop_of}
+use Rattle.bucket_walks.specs.BatchReads.{Answers, IsToRead, ReadsOn, stop_of}
 use Rattle.bucket_walks.proofs.Told.{turns_alone, looked_nowhere, looks_no_bits, looks_keep_spare, looks_move_none, looked_on}
 use Rattle.bucket_walks.proofs.Past.{walk_on}
 

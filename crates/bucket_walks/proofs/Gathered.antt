@@ -17,7 +17,7 @@ use Rattle.bucket_walks.specs.contracts.room.ReadRoom.{the_view}
 use Rattle.bucket_walks.specs.declared.room.ReadRoom.TheInside.{Inside}
 use Rattle.place_words.specs.Buckets.{as_read}
 use Rattle.place_words.specs.Walks.{pair_of}
-use Rattle.bucket_walks.specs.Reads.{PairsSoFar, IsOfMap, with_pairs, all_read}
+use Rattle.bucket_walks.specs.BatchReads.{PairsSoFar, IsOfMap, with_pairs, all_read}
 
 -- The buffers, and what they are seen as
 

@@ -41,7 +41,7 @@ use Rattle.lru_ops.proofs.Turned.{MayGive, may_give, gives, unchanged}
 use Rattle.lru_ops.proofs.Under.{Under, under_nothing, under_detached, can_mark}
 use Rattle.bucket_walks.specs.Looks.{Enters}
 use Rattle.bucket_walks.specs.LruTakes.{TakesInto, with_all_in_hand}
-use Rattle.bucket_walks.specs.Reads.{PairsSoFar, IsGathered, walked_by, all_read}
+use Rattle.bucket_walks.specs.BatchReads.{PairsSoFar, IsGathered, walked_by, all_read}
 
 -- The head of a bucket, which is taken out, and a bucket without one
 

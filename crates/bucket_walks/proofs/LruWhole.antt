@@ -33,7 +33,7 @@ use Rattle.bucket_walks.specs.declared.read.BatchOut.TheVariants as outs
 use Rattle.bucket_walks.specs.declared.read.Planned.{Planned}
 use Rattle.bucket_walks.specs.LruTakes.{CanTakeOut, CanFreeAll, FreedAll, HaveSameInHand, TakesInto, TakesIn, TakesOn, takes_bucket, without_all_in_hand}
 use Rattle.bucket_walks.specs.Plans.{Plans}
-use Rattle.bucket_walks.specs.Reads.{Answers, PairsSoFar, BeginsAt, IsOfMap, IsGathered, IsToRead, stop_of}
+use Rattle.bucket_walks.specs.BatchReads.{Answers, PairsSoFar, BeginsAt, IsOfMap, IsGathered, IsToRead, stop_of}
 use Rattle.bucket_walks.proofs.Ends.{can_walk, walks_read}
 use Rattle.bucket_walks.proofs.Past.{range_before, before_none, before_more, before_here, before_all}
 use Rattle.bucket_walks.proofs.LruFreed.{changed_nothing, in_hand_all, all_back}

@@ -35,7 +35,7 @@ use Rattle.bucket_walks.specs.declared.read.Planned.{Planned}
 use Rattle.bucket_walks.specs.Looks.{CanWalk, CanEnter}
 use Rattle.bucket_walks.specs.PlainTakes.{TakesInto, TakesOn, Took}
 use Rattle.bucket_walks.specs.Plans.{Plans}
-use Rattle.bucket_walks.specs.Reads.{Answers, PairsSoFar, BeginsAt, IsOfMap, IsGathered, IsToRead, stop_of, with_pairs}
+use Rattle.bucket_walks.specs.BatchReads.{Answers, PairsSoFar, BeginsAt, IsOfMap, IsGathered, IsToRead, stop_of, with_pairs}
 use Rattle.bucket_walks.proofs.Ends.{walks_read}
 use Rattle.bucket_walks.proofs.Past.{range_before, before_none, before_more, before_here, before_all}
 use Rattle.bucket_walks.proofs.Told.{told_on}

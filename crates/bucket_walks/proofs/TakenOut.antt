@@ -37,7 +37,7 @@ use Rattle.place_table.proofs.Worlds.{by_bool}
 use Rattle.hash_ops.proofs.Under.{Under, Left, hold_with, none_noted, under_nothing, can_give, left, may_give_back, told_more}
 use Rattle.bucket_walks.specs.Looks.{Enters}
 use Rattle.bucket_walks.specs.PlainTakes.{IsPushed, PushesAll, TakesInto}
-use Rattle.bucket_walks.specs.Reads.{PairsSoFar, IsGathered, all_read, walked_by}
+use Rattle.bucket_walks.specs.BatchReads.{PairsSoFar, IsGathered, all_read, walked_by}
 use Rattle.bucket_walks.proofs.Emptied.{Emptied, emptied_all, pushes_of}
 use Rattle.bucket_walks.proofs.Told.{turns_alone}
 

@@ -25,17 +25,17 @@ use Rattle.place_table.specs.declared.view.Notes.{Notes}
 use Rattle.place_table.specs.declared.view.Turned.{Turned}
 use Rattle.place_core.specs.declared.step.Lists.{Lists}
 use Rattle.place_table.specs.Calls.{CouldBe, IsTold}
-use Rattle.place_table.specs.Contents.{told, Fits}
+use Rattle.place_table.specs.Contents.{content_told, FitsLock}
 use Rattle.place_table.specs.Flushes.{flushes}
 use Rattle.place_table.specs.InBucket.{InBucket}
 use Rattle.place_table.specs.Known.{IsBy, Learns}
-use Rattle.place_table.specs.Passes.{PassView, TableView, Takes, CanGive, GaveBack, MayGiveBack, Goes, with_view, entry_of}
+use Rattle.place_table.specs.Passes.{PassView, TableView, TookLock, CanGive, GaveBack, MayGiveBack, Goes, with_view, entry_of}
 use Rattle.place_table.specs.Plays.{IsApartFromHands}
 use Rattle.place_table.specs.TurnNotes.{NotesFit, WasRead, ProbeFits, CameToHand}
 use Rattle.place_table.specs.Views.{known_log, holding, given, with_lost, no_notes, notes_below, holds_below}
 use Rattle.place_table.proofs.BucketBodies.{rows_taken}
 use Rattle.place_table.proofs.Entries.{append_nil}
-use Rattle.place_table.proofs.Gives.{none_passed}
+use Rattle.place_table.proofs.TakeToGive.{none_passed}
 use Rattle.place_table.proofs.Going.{goes_on, goes_took, goes_gave, goes_gave_some, goes_of_table, goes_begun, given_turn, same_head, learns_after, learns_took, learns_gave}
 use Rattle.place_table.proofs.StoredHashes.{none_stored}
 use Rattle.place_table.proofs.TurnClears.{same_clears}
@@ -48,7 +48,7 @@ use Rattle.bucket_walks.proofs.Told.{marks_none, probes_none}
 bucket_there : (shape : Shape) (bucket : ℕ) → bucket < shape.buckets → IsTrue (is_lock shape (Bucket bucket))
 bucket_there shape bucket there = lt-ltb bucket shape.buckets there
 
-pub enters : {t : TableView} {bucket : ℕ} {p q : PassView} {chain : BodyList} → CanEnter t bucket p → Takes t (Bucket bucket) p q (contents.Bucket chain) → Enters t bucket p q chain
+pub enters : {t : TableView} {bucket : ℕ} {p q : PassView} {chain : BodyList} → CanEnter t bucket p → TookLock t (Bucket bucket) p q (contents.Bucket chain) → Enters t bucket p q chain
 enters {t} {bucket} {p} {q} {chain} enter took =
     let can = enter.can in
     let goes = goes_took t (Bucket bucket) p q (contents.Bucket chain) took in
@@ -119,7 +119,7 @@ module _ {t : TableView} {bucket : ℕ} {q : PassView} (chain : BodyList) (b : I
         may_put = record {
           cpu = b.begun;
           told_is = ap in_bucket turn.left ∙ ap (content_after t.shape q.cpu (parts.Bucket part)) found;
-          fits = subst (λ (d : DomainId). Fits t.shape d (contents.Bucket chain)) (sym named) b.sized;
+          fits = subst (λ (d : DomainId). FitsLock t.shape d (contents.Bucket chain)) (sym named) b.sized;
           allowed = subst (Allows t.shape q.cpu (parts.Bucket part)) found turn.allowed;
           same_free = λ e. ap (times e) (sym (ap (λ (l : Lists). l.free) b.now));
           same_rows = λ e. ap (times e) (append_nil (numbers chain.bodies)) ∙ rows_taken b e;
@@ -146,10 +146,10 @@ module _ {t : TableView} {bucket : ℕ} {q : PassView} (chain : BodyList) (b : I
         allowed = subst (λ (h : Hold). Allows t.shape q.cpu (parts.Bucket part) (content t.shape (lock_named t.shape h.lock) h.log)) same can_give.may_put.allowed;
         same_marks = sym can_give.notes_fit.marks_are ∙ (ap (λ (n : Notes). n.marks) notes ∙ other.notes_fit.marks_are);
         same_clears = same_clears t.shape q.view q.view can_give.hold other.hold (parts.Bucket part) stands other.notes (subst (NotesFit t.shape q.view can_give.hold (parts.Bucket part)) notes can_give.notes_fit) other.notes_fit;
-        leaves = sym (subst (λ (h : Hold). told (lock_named t.shape h.lock) (contents.Bucket chain) ≡ content_after t.shape q.cpu (parts.Bucket part) (content t.shape (lock_named t.shape h.lock) h.log)) same can_give.may_put.told_is) ∙ other.may_put.told_is;
+        leaves = sym (subst (λ (h : Hold). content_told (lock_named t.shape h.lock) (contents.Bucket chain) ≡ content_after t.shape q.cpu (parts.Bucket part) (content t.shape (lock_named t.shape h.lock) h.log)) same can_give.may_put.told_is) ∙ other.may_put.told_is;
       }
 
-  module _ {p s : PassView} (none_held : p.view.held ≡ []) (took : Takes t (Bucket bucket) p q (contents.Bucket chain)) where
+  module _ {p s : PassView} (none_held : p.view.held ≡ []) (took : TookLock t (Bucket bucket) p q (contents.Bucket chain)) where
     looks_by : (stands : Part) (lost : List ℕ) (at : ℕ) (kept : List StrandStep) (can : CanGive t (Bucket bucket) q (contents.Bucket chain) stands) → Goes q s (given_turn q can.hold stands ∷ []) lost
         → s ≡ with_view q (with_lost (lost ++ q.view.lost) (given at can.hold (entry_of q stands) kept q.view)) → IsTold t.shape lost (given_turn q can.hold stands) (given_turn q can_give.hold (parts.Bucket part)) → LooksInto t bucket p s part
     looks_by stands lost at kept can goes s_is is_told =

@@ -26,7 +26,7 @@ use Rattle.place_table.specs.Passes.{PassView, TableView}
 use Rattle.place_table.proofs.Entries.{append_nil}
 use Rattle.place_table.proofs.Worlds.{by_bool, true_false}
 use Rattle.bucket_walks.specs.Looks.{Looked, LooksInto, CanWalk, CanEnter}
-use Rattle.bucket_walks.specs.Reads.{PairsSoFar, BeginsAt, IsOfMap, IsGathered, ReadsInto, ReadsOn, stop_of, walked_by, with_pairs, all_read}
+use Rattle.bucket_walks.specs.BatchReads.{PairsSoFar, BeginsAt, IsOfMap, IsGathered, ReadsInto, ReadsOn, stop_of, walked_by, with_pairs, all_read}
 use Rattle.bucket_walks.proofs.Past.{range_before, before_none, before_more, before_here, before_all, walk_on}
 use Rattle.bucket_walks.proofs.Told.{looked_nowhere, looked_on}
 

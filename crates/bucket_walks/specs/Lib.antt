@@ -2,4 +2,4 @@ pub mod LruTakes
 pub mod Looks
 pub mod PlainTakes
 pub mod Plans
-pub mod Reads
+pub mod BatchReads

@@ -18,7 +18,7 @@ use Rattle.place_table.specs.declared.view.Turned.{Turned}
 use Rattle.place_table.specs.Calls.{AreTold}
 use Rattle.place_table.specs.InBucket.{InBucket}
 use Rattle.place_table.specs.Known.{Learns, turn_of, IsBy}
-use Rattle.place_table.specs.Passes.{PassView, TableView, IsPassOf, HasBegun, Takes, Went}
+use Rattle.place_table.specs.Passes.{PassView, TableView, IsPassOf, HasBegun, TookLock, Went}
 use Rattle.bucket_walks.specs.declared.parts.After.{After}
 use Rattle.bucket_walks.specs.declared.parts.After.TheVariants as afters
 
@@ -36,7 +36,7 @@ pub record CanEnter (t : TableView) (bucket : ℕ) (p : PassView) : Type 0 where
 -- the bucket was taken
 pub record Enters (t : TableView) (bucket : ℕ) (p q : PassView) (chain : BodyList) : Type 0 where
   pub no_lock : p.view.held ≡ []
-  pub took : Takes t (Bucket bucket) p q (contents.Bucket chain)
+  pub took : TookLock t (Bucket bucket) p q (contents.Bucket chain)
   pub inside : InBucket t bucket q chain.bodies
 
 -- a key of so many bytes

@@ -19,7 +19,7 @@ use Rattle.place_table.specs.Views.{is_in_hand_of, with_in_hand, without_in_hand
 use Rattle.lru_ops.specs.Lists.{Changed}
 use Rattle.lru_ops.specs.Under.{IsOut}
 use Rattle.bucket_walks.specs.Looks.{CanWalk}
-use Rattle.bucket_walks.specs.Reads.{PairsSoFar, IsGathered, stop_of}
+use Rattle.bucket_walks.specs.BatchReads.{PairsSoFar, IsGathered, stop_of}
 
 -- a pass whose CPU has nothing in hand, and that holds no lock and carries nothing, goes over the buckets
 pub record CanTakeOut (t : TableView) (p : PassView) : Type 0 where

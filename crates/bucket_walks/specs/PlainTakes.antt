@@ -16,7 +16,7 @@ use Rattle.place_table.specs.Known.{Learns, turn_of, turn_at, IsBy}
 use Rattle.place_table.specs.Passes.{PassView, TableView, CanMark, Detached, Made}
 use Rattle.place_table.specs.Views.{is_in_hand_of}
 use Rattle.hash_ops.specs.Free.{CanPush, Pushed}
-use Rattle.bucket_walks.specs.Reads.{PairsSoFar, IsGathered, stop_of}
+use Rattle.bucket_walks.specs.BatchReads.{PairsSoFar, IsGathered, stop_of}
 
 -- Bodies
 

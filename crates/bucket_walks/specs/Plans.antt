@@ -4,7 +4,7 @@ use Rattle.map_types.specs.declared.attr.Shape.{Shape}
 use Rattle.bucket_walks.specs.declared.read.BatchRefusal.{BatchRefusal}
 use Rattle.bucket_walks.specs.declared.read.BatchRefusal.TheVariants as refusals
 use Rattle.bucket_walks.specs.declared.read.Planned.{Planned}
-use Rattle.bucket_walks.specs.Reads.{BeginsAt, IsToRead}
+use Rattle.bucket_walks.specs.BatchReads.{BeginsAt, IsToRead}
 
 -- it starts there, with room for so many pairs, and at most for as many as the map has elements
 pub record IsPlanned (shape : Shape) (count : ℕ) (start : Option ℕ) (planned : Planned) : Type 0 where

@@ -11,7 +11,7 @@ ghost use Rattle.place_words.specs.declared.bucket_part.BucketPart.TheVariants a
 ghost use Rattle.place_words.specs.declared.history.Part.TheVariants as parts;
 ghost use Rattle.bucket_entries.specs.Sized.{IsSized};
 ghost use Rattle.bucket_walks.specs.Looks.{key_where, found_after};
-ghost use Rattle.bucket_walks.specs.Reads.{all_read, walked_by};
+ghost use Rattle.bucket_walks.specs.BatchReads.{all_read, walked_by};
 
 use bucket_chain::Chain;
 use bucket_entries::{body_at, read_value};
@@ -35,7 +35,7 @@ pub(crate) enum After {
 fn bytes_of(alloc: Global, bytes: &[u8]) -> Result<Bytes, NoMemory>
     ensures { IfOk result (λ copy. copy ≡ bytes.now) }
 {
-    Ok(List::of(Vec::from_slice(alloc, bytes)?))
+    Bytes::from_slice(alloc, bytes)
 }
 
 /// The entry of a look at the head of a bucket, which has this key where there is one.
@@ -157,7 +157,7 @@ fn value_of(alloc: Global, shape: &Shape, cpu: u32, body: &Body) -> Result<Bytes
 {
     let mut value = vec![in alloc; 0; value_len(shape, Side::Sys) as usize]?;
     read_value(shape, Side::Sys, cpu, body, &mut value);
-    Ok(List::of(value))
+    Ok(Bytes::of(value))
 }
 
 /// A list of one value.

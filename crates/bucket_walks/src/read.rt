@@ -8,7 +8,7 @@ ghost use Rattle.place_table.specs.Calls.{CanCall};
 ghost use Rattle.bucket_walks.specs.Looks.{CanWalk};
 ghost use Rattle.bucket_walks.specs.declared.read.BatchOut.TheVariants as outs;
 ghost use Rattle.bucket_walks.specs.Plans.{Plans};
-ghost use Rattle.bucket_walks.specs.Reads.{Answers, BeginsAt, Comes, ReadsOn, stop_of};
+ghost use Rattle.bucket_walks.specs.BatchReads.{Answers, BeginsAt, Comes, ReadsOn, stop_of};
 
 use crate::room::ReadRoom;
 use crate::whole::read_in;

@@ -6,7 +6,7 @@ ghost use Rattle.map_types.specs.Shape.{HasBounds};
 ghost use Rattle.map_types.specs.Sides.{value_read};
 ghost use Rattle.map_types.specs.ValueLen.{value_len_of};
 ghost use Rattle.bucket_entries.specs.Sized.{IsSized};
-ghost use Rattle.bucket_walks.specs.Reads.{IsOfMap};
+ghost use Rattle.bucket_walks.specs.BatchReads.{IsOfMap};
 
 use bucket_entries::read_value;
 use map_types::{NoMemory, Pairs, Shape, Side};
@@ -30,7 +30,7 @@ pub(crate) struct ReadRoom {
 impl Model for ReadRoom {
     ghost use Rattle.std.specs.Prelude.{◌≡◌, ◌*◌, ◌≤◌, length, vec_capacity};
     ghost use Rattle.map_types.specs.Pairs.{pairs_of};
-    ghost use Rattle.bucket_walks.specs.Reads.{PairsSoFar};
+    ghost use Rattle.bucket_walks.specs.BatchReads.{PairsSoFar};
 
     ghost Value = { PairsSoFar };
 

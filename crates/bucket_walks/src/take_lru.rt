@@ -8,7 +8,7 @@ ghost use Rattle.map_types.specs.Shape.{HasBounds};
 ghost use Rattle.place_table.specs.Calls.{CanCall};
 ghost use Rattle.bucket_walks.specs.Looks.{CanEnter};
 ghost use Rattle.bucket_walks.specs.LruTakes.{CanTakeOut, CanFreeAll, FreedAll, TakesInto, TakesIn, TakesOn};
-ghost use Rattle.bucket_walks.specs.Reads.{Answers, BeginsAt, Comes, IsOfMap};
+ghost use Rattle.bucket_walks.specs.BatchReads.{Answers, BeginsAt, Comes, IsOfMap};
 
 use crate::buckets::enter;
 use crate::parts::walk_part;

@@ -7,7 +7,7 @@ ghost use Rattle.place_table.specs.Calls.{CanCall};
 ghost use Rattle.place_table.specs.InBucket.{InBucket};
 ghost use Rattle.bucket_walks.specs.Looks.{CanWalk, CanEnter};
 ghost use Rattle.bucket_walks.specs.PlainTakes.{CanPushOut, IsPushed, PushesOut, TakesInto, TakesOn};
-ghost use Rattle.bucket_walks.specs.Reads.{Answers, BeginsAt, Comes, IsOfMap};
+ghost use Rattle.bucket_walks.specs.BatchReads.{Answers, BeginsAt, Comes, IsOfMap};
 
 use crate::buckets::enter;
 use crate::parts::walk_part;

@@ -6,7 +6,7 @@ ghost use Rattle.map_types.specs.Shape.{HasBounds};
 ghost use Rattle.place_words.specs.Walks.{pair_of};
 ghost use Rattle.bucket_entries.specs.Sized.{IsSized};
 ghost use Rattle.bucket_walks.specs.Looks.{CanEnter};
-ghost use Rattle.bucket_walks.specs.Reads.{IsOfMap, IsGathered, ReadsInto, all_read, walked_by, with_pairs};
+ghost use Rattle.bucket_walks.specs.BatchReads.{IsOfMap, IsGathered, ReadsInto, all_read, walked_by, with_pairs};
 
 use crate::buckets::enter;
 use crate::parts::walk_part;

@@ -31,7 +31,7 @@ use Rattle.place_table.proofs.Hands.{in_hand_more, hand_back}
 use Rattle.hash_ops.specs.Calls.{spare_element}
 use Rattle.hash_ops.specs.Free.{CanReach, Popped, Reached}
 use Rattle.place_table.specs.InBucket.{InBucket}
-use Rattle.hash_ops.specs.Under.{HasItsSpares, AnsweredAt, Gives}
+use Rattle.hash_ops.specs.Under.{HasItsSpares, AnsweredAt, AreUpdateArguments}
 use Rattle.place_table.proofs.BucketTurns.{IsTurnWith}
 use Rattle.place_table.proofs.BucketBodies.{rows_taken}
 use Rattle.hash_ops.proofs.Under.{Under, hold_with, none_noted, under_nothing, under_reached, under_attached, may_reach, can_attach, can_give, left_at, answered_at, update_trace}
@@ -65,7 +65,7 @@ module _ (t : TableView) (bucket : ℕ) (q r : PassView) (chain : BodyList) (b :
         can_give t bucket q r chain.bodies b b.hold.now popped.steps chain (Update side flags key value None puts.Full) (under_looked t bucket q chain.bodies b r popped.steps popped.reached)
         turn.turn turn.sized (rows_taken b) (ap (λ (l : Lists). l.free) b.now) (none_noted t.shape r.view (hold_with b.hold b.hold.now) (Update side flags key value None puts.Full) plain refl)
 
-    pub answered_full : (s : PassView) (found : Option Part) → HasItsSpares q → Gives t bucket side flags key value → IfSome found (λ x. x ≡ parts.Bucket (Update side flags key value None puts.Full)) → GaveBack t (Bucket bucket) r s (contents.Bucket chain) found
+    pub answered_full : (s : PassView) (found : Option Part) → HasItsSpares q → AreUpdateArguments t bucket side flags key value → IfSome found (λ x. x ≡ parts.Bucket (Update side flags key value None puts.Full)) → GaveBack t (Bucket bucket) r s (contents.Bucket chain) found
         → AnsweredAt t bucket q s (verbs.Update side flags key value) (Refused E2big)
     answered_full s found has gives is gave =
         let part : Part = parts.Bucket (Update side flags key value None puts.Full) in
@@ -91,7 +91,7 @@ module _ (t : TableView) (bucket : ℕ) (q r : PassView) (bodies : List Stored) 
         (λ x. turn.counts x ∙ sym (ap (λ (l : Lists). times x (rows (with_row (Bucket bucket) e l))) b.now ∙ ap (λ (l : List ℕ). times x (e ∷ l)) (append_nil (numbers bodies)))) (ap (λ (l : Lists). l.free) b.now)
         (none_noted t.shape r2.view (hold_with b.hold (with_row (Bucket bucket) e b.hold.now)) (Update side flags key value None (puts.Added e)) plain refl)
 
-    pub answered_added : (s : PassView) (found : Option Part) → HasItsSpares q → Gives t bucket side flags key value → IfSome found (λ x. x ≡ parts.Bucket (Update side flags key value None (puts.Added e))) → GaveBack t (Bucket bucket) r2 s (contents.Bucket back) found
+    pub answered_added : (s : PassView) (found : Option Part) → HasItsSpares q → AreUpdateArguments t bucket side flags key value → IfSome found (λ x. x ≡ parts.Bucket (Update side flags key value None (puts.Added e))) → GaveBack t (Bucket bucket) r2 s (contents.Bucket back) found
         → AnsweredAt t bucket q s (verbs.Update side flags key value) Done
     answered_added s found has gives is gave =
         let part : Part = parts.Bucket (Update side flags key value None (puts.Added e)) in

@@ -25,11 +25,11 @@ use Rattle.place_table.specs.declared.view.Notes.{Notes}
 use Rattle.place_table.specs.declared.view.Turned.{Turned}
 use Rattle.place_table.specs.Flushes.{flushes}
 use Rattle.place_table.specs.Known.{Learns}
-use Rattle.place_table.specs.Passes.{PassView, TableView, IsPassOf, CanTake, Takes, CanGive, Gave, Goes}
+use Rattle.place_table.specs.Passes.{PassView, TableView, IsPassOf, CanTake, TookLock, CanGive, Gave, Goes}
 use Rattle.place_table.specs.Rules.{IsAboveAll}
 use Rattle.place_table.specs.TurnNotes.{NotesFit, WasRead, ProbeFits, CameToHand, clears_among}
 use Rattle.place_table.specs.Views.{no_notes, hold_at}
-use Rattle.place_table.proofs.Gives.{taken_of_table, none_passed}
+use Rattle.place_table.proofs.TakeToGive.{taken_of_table, none_passed}
 use Rattle.place_table.proofs.Going.{same_head, AreElsewhere, given_turn, goes_on, goes_nowhere, goes_of_table, goes_begun, learns_on, learns_none}
 use Rattle.place_table.proofs.Leaves.{passes_below}
 use Rattle.place_table.proofs.Worlds.{hold_at_first}
@@ -55,13 +55,13 @@ abbrev pub with_top : Stored → FreelistView → FreelistView
 with_top body f = record { bodies = body ∷ f.bodies; room = f.room }
 
 -- the free list under the lock, as it was taken
-pub free_is : (t : TableView) (cpu : ℕ) (p q : PassView) (f : FreelistView) (took : Takes t (Freelist cpu) p q (contents.Freelist f)) → took.hold.now.free ≡ numbers f.bodies
+pub free_is : (t : TableView) (cpu : ℕ) (p q : PassView) (f : FreelistView) (took : TookLock t (Freelist cpu) p q (contents.Freelist f)) → took.hold.now.free ≡ numbers f.bodies
 free_is t cpu p q f took = ap (λ (l : Lists). l.free) took.now
 
-pub number_is : (t : TableView) (cpu : ℕ) (p q : PassView) (here : Content) (took : Takes t (Freelist cpu) p q here) → IsPassOf t p → took.hold.lock ≡ lock_number q.view.shape (Freelist cpu)
+pub number_is : (t : TableView) (cpu : ℕ) (p q : PassView) (here : Content) (took : TookLock t (Freelist cpu) p q here) → IsPassOf t p → took.hold.lock ≡ lock_number q.view.shape (Freelist cpu)
 number_is t cpu p q here took of_table = took.lock_is ∙ ap (λ (shape : Shape). lock_number shape (Freelist cpu)) (sym (taken_of_table t (Freelist cpu) p q here took of_table).1)
 
-pub hold_is : (t : TableView) (cpu : ℕ) (p q : PassView) (here : Content) (took : Takes t (Freelist cpu) p q here) → hold_at (lock_number t.shape (Freelist cpu)) q.view.held ≡ Some took.hold
+pub hold_is : (t : TableView) (cpu : ℕ) (p q : PassView) (here : Content) (took : TookLock t (Freelist cpu) p q here) → hold_at (lock_number t.shape (Freelist cpu)) q.view.held ≡ Some took.hold
 hold_is t cpu p q here took =
     ap (λ (z : PassView). hold_at (lock_number t.shape (Freelist cpu)) z.view.held) took.after_is
     ∙ (ap (λ (k : ℕ). hold_at k (took.hold ∷ p.view.held)) (sym took.lock_is) ∙ hold_at_first took.hold p.view.held)
@@ -94,7 +94,7 @@ abbrev IsOnFreelist : Shape → Turned → Type 0
 IsOnFreelist shape step = (c : ℕ) × (c < shape.cpus) × (step.lock ≡ lock_number shape (Freelist c))
 
 -- the turn of a freelist, with what changes in hand, leaves a pass that has reached it
-pub reached_once : (t : TableView) (cpu : ℕ) (p q r s : PassView) (here back : Content) (part : Part) (now : Lists) (notes : Notes) (took : Takes t (Freelist cpu) p q here) → IsQuiet notes → cpu < t.shape.cpus → Goes q r [] [] → r.spares ≡ q.spares → r.view.bits ≡ q.view.bits → r.view.carried ≡ q.view.carried → Learns t.shape q.view r.view [] []
+pub reached_once : (t : TableView) (cpu : ℕ) (p q r s : PassView) (here back : Content) (part : Part) (now : Lists) (notes : Notes) (took : TookLock t (Freelist cpu) p q here) → IsQuiet notes → cpu < t.shape.cpus → Goes q r [] [] → r.spares ≡ q.spares → r.view.bits ≡ q.view.bits → r.view.carried ≡ q.view.carried → Learns t.shape q.view r.view [] []
     → IsUnder p r took.hold now notes → CanGive t (Freelist cpu) r back part → (gave : Gave r s part) → Reached t p s (given_turn r gave.hold part ∷ [])
 reached_once t cpu p q r s here back part now notes took quiet within goes spares bits carried learns under can gave =
     let made = turn_made t (Freelist cpu) p q r s here [] [] part now notes took goes under (λ below. none_passed t (Freelist cpu) r back part below (λ is. cc) can (ap (λ (z : Notes). z.owners) (same_head (sym can.notes_are ∙ under.notes_are)) ∙ quiet.owners)) gave in
@@ -113,7 +113,7 @@ reached_once t cpu p q r s here back part now notes took quiet within goes spare
     }
 
 -- and the turn is one of this freelist
-pub turn_is : (t : TableView) (cpu : ℕ) (p q r s : PassView) (here : Content) (part : FreePart) (now : Lists) (notes : Notes) (took : Takes t (Freelist cpu) p q here) → IsTrue (is_lock t.shape (Freelist cpu)) → IsUnder p r took.hold now notes → (gave : Gave r s (parts.Free part))
+pub turn_is : (t : TableView) (cpu : ℕ) (p q r s : PassView) (here : Content) (part : FreePart) (now : Lists) (notes : Notes) (took : TookLock t (Freelist cpu) p q here) → IsTrue (is_lock t.shape (Freelist cpu)) → IsUnder p r took.hold now notes → (gave : Gave r s (parts.Free part))
     → turn_of t.shape (given_turn r gave.hold (parts.Free part)) ≡ on_freelist_of cpu part
 turn_is t cpu p q r s here part now notes took is_there under gave =
     let lock_is : gave.hold.lock ≡ lock_number t.shape (Freelist cpu) = ap (λ (h : Hold). h.lock) (given_hold p r s took.hold now notes (parts.Free part) gave under) ∙ took.lock_is in

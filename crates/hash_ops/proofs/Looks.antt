@@ -20,9 +20,9 @@ use Rattle.place_core.proofs.ElementLemmas.{by_test, times_cons_same}
 use Rattle.place_table.specs.declared.content.Content.TheVariants as contents
 use Rattle.place_table.specs.declared.view.Notes.{Notes}
 use Rattle.place_table.specs.Contents.{IsSized}
-use Rattle.place_table.specs.Passes.{PassView, TableView, IsPassOf, HasBegun, Takes, CanClaim, Claimed, CanGive, Gave, Goes, with_view}
+use Rattle.place_table.specs.Passes.{PassView, TableView, IsPassOf, HasBegun, TookLock, CanClaim, Claimed, CanGive, Gave, Goes, with_view}
 use Rattle.place_table.specs.Views.{no_notes, is_in_hand_of, now_under, claimed, moved, with_came, with_in_hand}
-use Rattle.place_table.proofs.Gives.{unchanged, taken_of_table, taken_begun}
+use Rattle.place_table.proofs.TakeToGive.{unchanged, taken_of_table, taken_begun}
 use Rattle.place_table.proofs.Going.{given_turn, goes_moved, goes_nowhere, goes_of_table, goes_begun, learns_moved, learns_none}
 use Rattle.place_table.proofs.Hands.{with_lists}
 use Rattle.place_table.proofs.Worlds.{by_bool}
@@ -57,7 +57,7 @@ notes_popped e = record { came = e ∷ []; marks = []; asked = []; owners = []; 
 quiet_popped : (e : ℕ) → IsQuiet (notes_popped e)
 quiet_popped e = record { marks = refl; asked = refl; owners = refl; off = refl }
 
-module _ {t : TableView} {cpu : ℕ} {p q : PassView} {body : Stored} {f : FreelistView} (took : Takes t (Freelist cpu) p q (contents.Freelist (with_top body f))) where
+module _ {t : TableView} {cpu : ℕ} {p q : PassView} {body : Stored} {f : FreelistView} (took : TookLock t (Freelist cpu) p q (contents.Freelist (with_top body f))) where
   top_there : 0 < times body.element took.hold.now.free
   top_there =
       subst (λ (l : List ℕ). 0 < times body.element l) (sym (free_is t cpu p q (with_top body f) took))
@@ -147,7 +147,7 @@ module _ {t : TableView} {cpu : ℕ} {p q : PassView} {body : Stored} {f : Freel
       }
 
 -- an empty freelist changes nothing
-module _ {t : TableView} {cpu : ℕ} {p q : PassView} {f : FreelistView} (took : Takes t (Freelist cpu) p q (contents.Freelist f)) where
+module _ {t : TableView} {cpu : ℕ} {p q : PassView} {f : FreelistView} (took : TookLock t (Freelist cpu) p q (contents.Freelist f)) where
   can_give_empty : CanReach t p → IsTrue (is_lock t.shape (Freelist cpu)) → f.bodies ≡ [] → CanGive t (Freelist cpu) q (contents.Freelist f) (parts.Free turns.FoundEmpty)
   can_give_empty can is_there empty =
       let here = contents.Freelist f in
@@ -170,13 +170,13 @@ module _ {t : TableView} {cpu : ℕ} {p q : PassView} {f : FreelistView} (took :
 
 -- either way: what may be given back after a look, and what it leaves
 
-pub can_claim_looked : (t : TableView) (cpu : ℕ) (p q : PassView) (old new : FreelistView) (body : Stored) → Takes t (Freelist cpu) p q (contents.Freelist old) → CanReach t p → is_lru t.shape.kind ≡ false → cpu < t.shape.cpus
+pub can_claim_looked : (t : TableView) (cpu : ℕ) (p q : PassView) (old new : FreelistView) (body : Stored) → TookLock t (Freelist cpu) p q (contents.Freelist old) → CanReach t p → is_lru t.shape.kind ≡ false → cpu < t.shape.cpus
     → LookedInto old new (Some body) → CanClaim t body.element (Freelist cpu) q
 can_claim_looked t cpu p q old new body took can plain within into =
-    let topped : Takes t (Freelist cpu) p q (contents.Freelist (with_top body new)) = subst (λ (f : FreelistView). Takes t (Freelist cpu) p q (contents.Freelist f)) into took in
+    let topped : TookLock t (Freelist cpu) p q (contents.Freelist (with_top body new)) = subst (λ (f : FreelistView). TookLock t (Freelist cpu) p q (contents.Freelist f)) into took in
     can_claim topped can.of_table can.begun (freelist_there t.shape cpu plain within)
 
-pub can_give_looked : (t : TableView) (cpu : ℕ) (p q r : PassView) (old new : FreelistView) (found : Option Stored) (part : Part) → Takes t (Freelist cpu) p q (contents.Freelist old) → CanReach t p → is_lru t.shape.kind ≡ false → cpu < t.shape.cpus
+pub can_give_looked : (t : TableView) (cpu : ℕ) (p q r : PassView) (old new : FreelistView) (found : Option Stored) (part : Part) → TookLock t (Freelist cpu) p q (contents.Freelist old) → CanReach t p → is_lru t.shape.kind ≡ false → cpu < t.shape.cpus
     → LookedInto old new found → LookedUnder cpu q r found part → CanGive t (Freelist cpu) r (contents.Freelist new) part
 can_give_looked t cpu p q r old new None part took can plain within into under =
     let given : CanGive t (Freelist cpu) q (contents.Freelist old) (parts.Free turns.FoundEmpty) = can_give_empty took can (freelist_there t.shape cpu plain within) into.0 in
@@ -184,13 +184,13 @@ can_give_looked t cpu p q r old new None part took can plain within into under =
     (subst (λ (z : PassView). CanGive t (Freelist cpu) z (contents.Freelist new) (parts.Free turns.FoundEmpty)) (sym under.0)
     (subst (λ (f : FreelistView). CanGive t (Freelist cpu) q (contents.Freelist f) (parts.Free turns.FoundEmpty)) (sym into.1) given))
 can_give_looked t cpu p q r old new (Some body) part took can plain within into under =
-    let topped : Takes t (Freelist cpu) p q (contents.Freelist (with_top body new)) = subst (λ (f : FreelistView). Takes t (Freelist cpu) p q (contents.Freelist f)) into took in
+    let topped : TookLock t (Freelist cpu) p q (contents.Freelist (with_top body new)) = subst (λ (f : FreelistView). TookLock t (Freelist cpu) p q (contents.Freelist f)) into took in
     subst (λ (x : Part). CanGive t (Freelist cpu) r (contents.Freelist new) x) (sym under.1) (can_give_popped topped r can (freelist_there t.shape cpu plain within) under.0)
 
-pub looked_once : (t : TableView) (cpu : ℕ) (p q r s : PassView) (old new : FreelistView) (found : Option Stored) (part : Part) → Takes t (Freelist cpu) p q (contents.Freelist old) → CanReach t p → is_lru t.shape.kind ≡ false → cpu < t.shape.cpus
+pub looked_once : (t : TableView) (cpu : ℕ) (p q r s : PassView) (old new : FreelistView) (found : Option Stored) (part : Part) → TookLock t (Freelist cpu) p q (contents.Freelist old) → CanReach t p → is_lru t.shape.kind ≡ false → cpu < t.shape.cpus
     → LookedInto old new found → LookedUnder cpu q r found part → Gave r s part → PoppedAmong t (cpu ∷ []) p s found
 looked_once t cpu p q r s old new None part took can plain within into under gave =
     empty_once took s can plain within into.0 (subst (λ (z : PassView). Gave z s (parts.Free turns.FoundEmpty)) under.0 (subst (Gave r s) under.1 gave))
 looked_once t cpu p q r s old new (Some body) part took can plain within into under gave =
-    let topped : Takes t (Freelist cpu) p q (contents.Freelist (with_top body new)) = subst (λ (f : FreelistView). Takes t (Freelist cpu) p q (contents.Freelist f)) into took in
+    let topped : TookLock t (Freelist cpu) p q (contents.Freelist (with_top body new)) = subst (λ (f : FreelistView). TookLock t (Freelist cpu) p q (contents.Freelist f)) into took in
     popped_once topped r s can plain within under.0 (subst (Gave r s) under.1 gave)

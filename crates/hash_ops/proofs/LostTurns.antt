@@ -29,7 +29,7 @@ use Rattle.place_table.proofs.Going.{given_turn, same_head}
 use Rattle.place_table.proofs.Worlds.{none_some}
 use Rattle.hash_ops.specs.Calls.{IsTold, AreTold}
 use Rattle.place_table.specs.InBucket.{InBucket}
-use Rattle.hash_ops.specs.Under.{Answered, Finished}
+use Rattle.hash_ops.specs.Under.{Answered, LeftBucket}
 use Rattle.hash_ops.proofs.AfterJoin.{told_allowed, told_cpu, one_told}
 use Rattle.hash_ops.proofs.Under.{bucket_there}
 
@@ -44,7 +44,7 @@ module _ (t : TableView) (bucket : ℕ) (q s : PassView) (chain : BodyList) (b :
   abbrev made : Turned
   made = given_turn q gave.can.hold gave.part
 
-  one_made : (steps : List Turned) (lost : List ℕ) → Finished t q s steps lost → steps ≡ made ∷ []
+  one_made : (steps : List Turned) (lost : List ℕ) → LeftBucket t q s steps lost → steps ≡ made ∷ []
   one_made steps lost f = append_cancel_left q.view.steps steps (made ∷ []) (sym f.goes.steps ∙ ap (λ (z : PassView). z.view.steps) gave.after_is)
 
   -- and what lay there at it
@@ -55,7 +55,7 @@ module _ (t : TableView) (bucket : ℕ) (q s : PassView) (chain : BodyList) (b :
       (λ i. content t.shape (lock_named t.shape (same i).lock) (same i).log) ∙ (ap (λ (d : DomainId). content t.shape d b.hold.log) named ∙ sym b.content_is)
 
   -- a part that tells of it is one that was allowed on what lay there
-  told_there : (steps : List Turned) (lost : List ℕ) (step x : Turned) → Finished t q s steps lost → steps ≡ step ∷ [] → IsTold t.shape lost step x → Allows t.shape q.cpu x.entry.part (in_bucket chain.bodies)
+  told_there : (steps : List Turned) (lost : List ℕ) (step x : Turned) → LeftBucket t q s steps lost → steps ≡ step ∷ [] → IsTold t.shape lost step x → Allows t.shape q.cpu x.entry.part (in_bucket chain.bodies)
   told_there steps lost step x f one is =
       let step_is : step ≡ made = same_head (sym one ∙ one_made steps lost f) in
       let allowed = told_allowed t.shape lost step x is (subst (AreAllowedAt t.shape) one f.learns.allowed).0 in

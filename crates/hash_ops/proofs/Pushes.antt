@@ -20,9 +20,9 @@ use Rattle.place_core.specs.Steps.{with_free, without_row}
 use Rattle.place_core.proofs.ElementLemmas.{by_test}
 use Rattle.place_table.specs.declared.content.Content.TheVariants as contents
 use Rattle.place_table.specs.Contents.{IsSized}
-use Rattle.place_table.specs.Passes.{PassView, TableView, Takes, Settled, CanGive, Gave, Goes, with_view}
+use Rattle.place_table.specs.Passes.{PassView, TableView, TookLock, Settled, CanGive, Gave, Goes, with_view}
 use Rattle.place_table.specs.Views.{no_notes, now_under, moved, without_in_hand}
-use Rattle.place_table.proofs.Gives.{taken_of_table, taken_begun}
+use Rattle.place_table.proofs.TakeToGive.{taken_of_table, taken_begun}
 use Rattle.place_table.proofs.Hands.{with_lists}
 use Rattle.place_table.proofs.Going.{given_turn, goes_moved, goes_of_table, goes_begun, learns_moved}
 use Rattle.hash_ops.specs.Free.{CanPush, Pushed}
@@ -38,7 +38,7 @@ room_for n e xs real absent once below =
     (λ x. by_test e x (λ b. cond b (suc (times x xs)) (times x xs) ≤ 1) (λ is. let gone : times x xs ≡ 0 = subst (λ (z : ℕ). times z xs ≡ 0) is absent in omega arith) (λ _. once x))
     (λ x. by_test e x (λ b. 0 < cond b (suc (times x xs)) (times x xs) → x < n) (λ is _. subst (λ (z : ℕ). z < n) is real) (λ _ there. below x there))
 
-module _ {t : TableView} {cpu : ℕ} {p q : PassView} {f : FreelistView} {body : Stored} (took : Takes t (Freelist cpu) p q (contents.Freelist f)) (can : CanPush t body p) where
+module _ {t : TableView} {cpu : ℕ} {p q : PassView} {f : FreelistView} {body : Stored} (took : TookLock t (Freelist cpu) p q (contents.Freelist f)) (can : CanPush t body p) where
   pub push_room : length f.bodies < f.room
   push_room =
       let free = free_is t cpu p q f took in

@@ -31,7 +31,7 @@ use Rattle.place_words.specs.Traces.{IsPlainTrace, spare_after}
 use Rattle.place_table.specs.Known.{turn_of}
 use Rattle.hash_ops.specs.Calls.{spare_element, element_of}
 use Rattle.place_table.specs.InBucket.{InBucket}
-use Rattle.hash_ops.specs.Under.{HasItsSpares, AnsweredAt, Gives}
+use Rattle.hash_ops.specs.Under.{HasItsSpares, AnsweredAt, AreUpdateArguments}
 use Rattle.place_table.proofs.BucketTurns.{IsTurnWith}
 use Rattle.hash_ops.proofs.Under.{Under, hold_with, none_noted, under_nothing, under_spared, under_attached, under_detached, can_give, left_at, update_trace, not_in_hand}
 
@@ -112,7 +112,7 @@ module _ (t : TableView) (bucket : ℕ) (q : PassView) (bodies : List Stored) (b
       can_give t bucket q r4 bodies b now_replaced [] back (Update side flags key value None (puts.Replaced new old)) u turn.turn turn.sized (λ x. turn.counts x ∙ counts_replaced x) (ap (λ (l : Lists). l.free) b.now)
       (none_noted t.shape r4.view (hold_with b.hold now_replaced) (Update side flags key value None (puts.Replaced new old)) plain refl)
 
-  pub answered_replaced : (r4 s : PassView) (back : BodyList) (side : Side) (flags : ℕ) (key value : List ℕ) (found : Option Part) (was now : Stored) → HasItsSpares q → Gives t bucket side flags key value → (u : Under t b.hold b.below q r4 now_replaced []) → IsTurnWith t.shape q.cpu (Update side flags key value None (puts.Replaced new old)) bodies back.bodies (new ∷ without old (numbers bodies))
+  pub answered_replaced : (r4 s : PassView) (back : BodyList) (side : Side) (flags : ℕ) (key value : List ℕ) (found : Option Part) (was now : Stored) → HasItsSpares q → AreUpdateArguments t bucket side flags key value → (u : Under t b.hold b.below q r4 now_replaced []) → IsTurnWith t.shape q.cpu (Update side flags key value None (puts.Replaced new old)) bodies back.bodies (new ∷ without old (numbers bodies))
       → IfSome found (λ x. x ≡ parts.Bucket (Update side flags key value None (puts.Replaced new old))) → GaveBack t (Bucket bucket) r4 s (contents.Bucket back) found
       → spare_of q.cpu q.spares ≡ Some was → was.element ≡ new → spare_of q.cpu r4.spares ≡ Some now → now.element ≡ old → SparesDiffer q.cpu q.spares r4.spares → r4.view.hand ≡ handed new old q.cpu q.view.hand
       → AnsweredAt t bucket q s (verbs.Update side flags key value) Done

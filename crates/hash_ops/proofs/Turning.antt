@@ -15,9 +15,9 @@ use Rattle.place_table.specs.declared.view.Hold.{Hold}
 use Rattle.place_table.specs.declared.view.InHand.{InHand}
 use Rattle.place_table.specs.declared.view.Notes.{Notes}
 use Rattle.place_table.specs.declared.view.Turned.{Turned}
-use Rattle.place_table.specs.Contents.{told, lists_of, Fits}
+use Rattle.place_table.specs.Contents.{content_told, lists_of, FitsLock}
 use Rattle.place_table.specs.Known.{Learns}
-use Rattle.place_table.specs.Passes.{PassView, TableView, IsPassOf, HasBegun, Takes, CanGive, Gave, Goes, Made, with_view, entry_of}
+use Rattle.place_table.specs.Passes.{PassView, TableView, IsPassOf, HasBegun, TookLock, CanGive, Gave, Goes, Made, with_view, entry_of}
 use Rattle.place_table.specs.TurnNotes.{NotesFit}
 use Rattle.place_table.specs.Views.{no_notes, now_at, with_now, moved, learned, holds_below, notes_below, passed_on}
 use Rattle.place_table.proofs.Entries.{append_nil}
@@ -31,7 +31,7 @@ pub record IsUnder (p r : PassView) (hold : Hold) (now : Lists) (notes : Notes) 
   pub held : r.view.held ≡ with_lists now hold ∷ p.view.held
   pub notes_are : r.view.notes ≡ notes ∷ p.view.notes
 
-pub under_taken : (t : TableView) (lock : DomainId) (p q : PassView) (here : Content) (took : Takes t lock p q here) → IsUnder p q took.hold took.hold.now no_notes
+pub under_taken : (t : TableView) (lock : DomainId) (p q : PassView) (here : Content) (took : TookLock t lock p q here) → IsUnder p q took.hold took.hold.now no_notes
 under_taken t lock p q here took = record {
   held = ap (λ (z : PassView). z.view.held) took.after_is;
   notes_are = ap (λ (z : PassView). z.view.notes) took.after_is;
@@ -52,12 +52,12 @@ under_moved p q r hold now later notes then at k hand noted word left under is n
 
 -- A bucket or a freelist that was taken may be given back as something else: by a part that leads there, with the elements that
 -- lie there now.
-pub can_give : (t : TableView) (lock : DomainId) (p q r : PassView) (here back : Content) (part : Part) (now : Lists) (notes : Notes) (took : Takes t lock p q here) → HasNoHashes lock → IsUnder p r took.hold now notes
-    → IsPassOf t r → HasBegun r → IsTrue (is_lock t.shape lock) → Fits t.shape lock back → Allows t.shape r.cpu part (told lock here) → told lock back ≡ content_after t.shape r.cpu part (told lock here)
-    → ((e : ℕ) → times e (lists_of (told lock back)).free ≡ times e now.free) → ((e : ℕ) → times e (rows (lists_of (told lock back))) ≡ times e (rows now)) → NotesFit t.shape r.view (with_lists now took.hold) part notes → CanGive t lock r back part
+pub can_give : (t : TableView) (lock : DomainId) (p q r : PassView) (here back : Content) (part : Part) (now : Lists) (notes : Notes) (took : TookLock t lock p q here) → HasNoHashes lock → IsUnder p r took.hold now notes
+    → IsPassOf t r → HasBegun r → IsTrue (is_lock t.shape lock) → FitsLock t.shape lock back → Allows t.shape r.cpu part (content_told lock here) → content_told lock back ≡ content_after t.shape r.cpu part (content_told lock here)
+    → ((e : ℕ) → times e (lists_of (content_told lock back)).free ≡ times e now.free) → ((e : ℕ) → times e (rows (lists_of (content_told lock back))) ≡ times e (rows now)) → NotesFit t.shape r.view (with_lists now took.hold) part notes → CanGive t lock r back part
 can_give t lock p q r here back part now notes took no_hashes under of_table begun there fits allowed leads same_free same_rows notes_fit =
     let named : lock_named t.shape took.hold.lock ≡ lock = ap (lock_named t.shape) took.lock_is ∙ named_by_number t.shape lock there in
-    let told_there : told lock here ≡ content t.shape (lock_named t.shape took.hold.lock) took.hold.log = took.told_is ∙ ap (λ (d : DomainId). content t.shape d took.hold.log) (sym named) in record {
+    let told_there : content_told lock here ≡ content t.shape (lock_named t.shape took.hold.lock) took.hold.log = took.told_is ∙ ap (λ (d : DomainId). content t.shape d took.hold.log) (sym named) in record {
       of_table = of_table;
       begun = begun;
       hold = with_lists now took.hold;
@@ -70,12 +70,12 @@ can_give t lock p q r here back part now notes took no_hashes under of_table beg
       lock_is = took.lock_is;
       may_put = record {
         cpu = begun;
-        told_is = ap (λ (d : DomainId). told d back) named ∙ (leads ∙ ap (content_after t.shape r.cpu part) told_there);
-        fits = subst (λ (d : DomainId). Fits t.shape d back) (sym named) fits;
+        told_is = ap (λ (d : DomainId). content_told d back) named ∙ (leads ∙ ap (content_after t.shape r.cpu part) told_there);
+        fits = subst (λ (d : DomainId). FitsLock t.shape d back) (sym named) fits;
         allowed = subst (Allows t.shape r.cpu part) told_there allowed;
-        same_free = λ e. ap (λ (d : DomainId). times e (lists_of (told d back)).free) named ∙ same_free e;
-        same_rows = λ e. ap (λ (d : DomainId). times e (rows (lists_of (told d back)))) named ∙ same_rows e;
-        rows_kept = λ _ j e h n other _ _ _ is. absurd (none_stored t.shape lock back e n no_hashes fits (ap (λ (d : DomainId). stored_in (told d back) e) (sym named) ∙ is));
+        same_free = λ e. ap (λ (d : DomainId). times e (lists_of (content_told d back)).free) named ∙ same_free e;
+        same_rows = λ e. ap (λ (d : DomainId). times e (rows (lists_of (content_told d back)))) named ∙ same_rows e;
+        rows_kept = λ _ j e h n other _ _ _ is. absurd (none_stored t.shape lock back e n no_hashes fits (ap (λ (d : DomainId). stored_in (content_told d back) e) (sym named) ∙ is));
         gone = λ _ c e h _ was _. absurd (none_stored t.shape lock here e h no_hashes took.fits (ap (λ z. stored_in z e) told_there ∙ was));
       };
       notes_fit = notes_fit;
@@ -86,7 +86,7 @@ pub given_hold : (p r s : PassView) (hold : Hold) (now : Lists) (notes : Notes) 
 given_hold p r s hold now notes part gave under = same_head (sym gave.innermost ∙ under.held)
 
 -- from the take to the give, with these turns between them
-pub turn_made : (t : TableView) (lock : DomainId) (p q r s : PassView) (here : Content) (inner : List Turned) (lost : List ℕ) (part : Part) (now : Lists) (notes : Notes) (took : Takes t lock p q here) → Goes q r inner lost
+pub turn_made : (t : TableView) (lock : DomainId) (p q r s : PassView) (here : Content) (inner : List Turned) (lost : List ℕ) (part : Part) (now : Lists) (notes : Notes) (took : TookLock t lock p q here) → Goes q r inner lost
     → IsUnder p r took.hold now notes → ((below : List Notes) → passed_on part below ≡ below) → (gave : Gave r s part) → Made p s (inner ++ given_turn r gave.hold part ∷ []) lost
 turn_made t lock p q r s here inner lost part now notes took goes under passes gave = record {
   goes = goes_on p r s inner (given_turn r gave.hold part ∷ []) lost [] (subst (Goes p r inner) (append_nil lost) (goes_on p q r [] inner [] lost (goes_took t lock p q here took) goes)) (goes_gave r s part gave);
@@ -94,7 +94,7 @@ turn_made t lock p q r s here inner lost part now notes took goes under passes g
   notes = ap (λ (z : PassView). z.view.notes) gave.after_is ∙ (passes (notes_below r.view.notes) ∙ ap notes_below under.notes_are);
 }
 
-pub turn_learns : (t : TableView) (lock : DomainId) (p q r s : PassView) (here back : Content) (inner : List Turned) (part : Part) (now : Lists) (notes : Notes) (took : Takes t lock p q here) → IsUnder p r took.hold now notes
+pub turn_learns : (t : TableView) (lock : DomainId) (p q r s : PassView) (here back : Content) (inner : List Turned) (part : Part) (now : Lists) (notes : Notes) (took : TookLock t lock p q here) → IsUnder p r took.hold now notes
     → CanGive t lock r back part → AreElsewhere (lock_number t.shape lock) inner → Learns t.shape q.view r.view inner [] → (gave : Gave r s part) → Learns t.shape p.view s.view (inner ++ given_turn r gave.hold part ∷ []) []
 turn_learns t lock p q r s here back inner part now notes took under can apart learns gave =
     let taken : can.hold ≡ with_lists now took.hold = same_head (sym can.innermost ∙ under.held) in

@@ -46,10 +46,10 @@ use Rattle.place_table.specs.declared.view.InHand.{InHand}
 use Rattle.place_table.specs.declared.view.HashIn.{HashIn}
 use Rattle.place_table.specs.declared.view.Notes.{Notes}
 use Rattle.place_table.specs.declared.view.Turned.{Turned}
-use Rattle.place_table.specs.Contents.{told, Fits, IsSized}
+use Rattle.place_table.specs.Contents.{content_told, FitsLock, IsSized}
 use Rattle.place_table.specs.Flushes.{flushes}
 use Rattle.place_table.specs.Known.{Learns, turn_of, turn_at, IsBy}
-use Rattle.place_table.specs.Passes.{PassView, TableView, IsInNoCall, SparesDiffer, CanAttach, Attached, CanMark, Detached, Takes, CanGive, GaveBack, MayGiveBack, Goes, spare_of, with_view, with_spares, entry_of}
+use Rattle.place_table.specs.Passes.{PassView, TableView, IsInNoCall, SparesDiffer, CanAttach, Attached, CanMark, Detached, TookLock, CanGive, GaveBack, MayGiveBack, Goes, spare_of, with_view, with_spares, entry_of}
 use Rattle.place_table.specs.Plays.{IsApartFromHands}
 use Rattle.place_table.specs.Rules.{IsAboveAll}
 use Rattle.place_table.specs.TurnNotes.{NotesFit, WasRead, ProbeFits, CameToHand}
@@ -64,10 +64,10 @@ use Rattle.hash_ops.specs.Calls.{CanCall, Leaves, Called, CouldBe, IsTold, AreTo
 use Rattle.hash_ops.specs.Free.{CanReach, Reached}
 use Rattle.place_table.specs.InBucket.{InBucket}
 use Rattle.hash_ops.proofs.FreeTurns.{elsewhere}
-use Rattle.hash_ops.specs.Under.{HasItsSpares, Enters, Finished, Answered, AnsweredAt, Gives}
+use Rattle.hash_ops.specs.Under.{HasItsSpares, Enters, LeftBucket, Answered, AnsweredAt, AreUpdateArguments}
 use Rattle.place_table.proofs.Worlds.{true_false}
 use Rattle.place_table.proofs.FirstSlots.{not_common}
-use Rattle.place_table.proofs.Gives.{none_passed}
+use Rattle.place_table.proofs.TakeToGive.{none_passed}
 use Rattle.place_table.proofs.StoredHashes.{none_stored}
 use Rattle.place_table.proofs.TurnClears.{same_clears}
 use Rattle.place_table.specs.Words.{owner_word}
@@ -79,7 +79,7 @@ use Rattle.place_table.proofs.BucketBodies.{rows_taken}
 pub bucket_there : (shape : Shape) (bucket : ℕ) → bucket < shape.buckets → IsTrue (is_lock shape (Bucket bucket))
 bucket_there shape bucket there = lt-ltb bucket shape.buckets there
 
-pub enters : (t : TableView) (bucket : ℕ) (p q : PassView) (chain : BodyList) → is_lru t.shape.kind ≡ false → t.shape.common ≡ false → CanCall t p → bucket < t.shape.buckets → p.cpu < t.shape.cpus → Takes t (Bucket bucket) p q (contents.Bucket chain) → Enters t bucket p q chain
+pub enters : (t : TableView) (bucket : ℕ) (p q : PassView) (chain : BodyList) → is_lru t.shape.kind ≡ false → t.shape.common ≡ false → CanCall t p → bucket < t.shape.buckets → p.cpu < t.shape.cpus → TookLock t (Bucket bucket) p q (contents.Bucket chain) → Enters t bucket p q chain
 enters t bucket p q chain plain none_shared can there few took =
     let is = bucket_there t.shape bucket there in
     let goes = goes_took t (Bucket bucket) p q (contents.Bucket chain) took in
@@ -236,7 +236,7 @@ can_give t bucket q r bodies b now inner back part u turn sized counted no_free 
       may_put = record {
         cpu = begun;
         told_is = ap in_bucket turn.left ∙ (ap (λ (c : ℕ). content_after t.shape c (parts.Bucket part) (in_bucket bodies)) (sym u.goes.cpu) ∙ ap (content_after t.shape r.cpu (parts.Bucket part)) found);
-        fits = subst (λ (d : DomainId). Fits t.shape d (contents.Bucket back)) (sym named) sized;
+        fits = subst (λ (d : DomainId). FitsLock t.shape d (contents.Bucket back)) (sym named) sized;
         allowed = subst (Allows t.shape r.cpu (parts.Bucket part)) found (subst (λ (c : ℕ). Allows t.shape c (parts.Bucket part) (in_bucket bodies)) (sym u.goes.cpu) turn.allowed);
         same_free = λ e. ap (times e) (sym no_free);
         same_rows = λ e. ap (times e) (append_nil (numbers back.bodies)) ∙ counted e;
@@ -284,7 +284,7 @@ could_be t lock r back part stands can other =
       allowed = subst (λ (h : Hold). Allows t.shape r.cpu part (content t.shape (lock_named t.shape h.lock) h.log)) same can.may_put.allowed;
       same_marks = sym can.notes_fit.marks_are ∙ (ap (λ (n : Notes). n.marks) notes ∙ other.notes_fit.marks_are);
       same_clears = same_clears t.shape r.view r.view can.hold other.hold part stands other.notes (subst (NotesFit t.shape r.view can.hold part) notes can.notes_fit) other.notes_fit;
-      leaves = sym (subst (λ (h : Hold). told (lock_named t.shape h.lock) back ≡ content_after t.shape r.cpu part (content t.shape (lock_named t.shape h.lock) h.log)) same can.may_put.told_is) ∙ other.may_put.told_is;
+      leaves = sym (subst (λ (h : Hold). content_told (lock_named t.shape h.lock) back ≡ content_after t.shape r.cpu part (content t.shape (lock_named t.shape h.lock) h.log)) same can.may_put.told_is) ∙ other.may_put.told_is;
     }
 
 -- what was made is told as itself, where other locks are lost too
@@ -369,7 +369,7 @@ idle_same q s has held cpus shape spares carried hand = record {
 }
 
 -- what is left from where the call began
-pub leaves_of : (t : TableView) (bucket : ℕ) (p q s : PassView) (chain : BodyList) (steps : List Turned) (lost : List ℕ) → Takes t (Bucket bucket) p q (contents.Bucket chain) → p.view.held ≡ [] → Finished t q s steps lost → Leaves t p s steps lost []
+pub leaves_of : (t : TableView) (bucket : ℕ) (p q s : PassView) (chain : BodyList) (steps : List Turned) (lost : List ℕ) → TookLock t (Bucket bucket) p q (contents.Bucket chain) → p.view.held ≡ [] → LeftBucket t q s steps lost → Leaves t p s steps lost []
 leaves_of t bucket p q s chain steps lost took none_held f =
     let first = goes_took t (Bucket bucket) p q (contents.Bucket chain) took in
     record {
@@ -597,7 +597,7 @@ answered_kept t bucket q s bodies back verb reply part found plain b has turn no
     answered_at t bucket q q s verb reply [] (parts.Bucket part) [] has l.0 l.1 refl (λ _ _. refl) refl trace spare
 
 -- the trace of an update
-pub update_trace : (t : TableView) (bucket cpu : ℕ) (spare : Option ℕ) (side : Side) (flags : ℕ) (key value : List ℕ) (put : Put) (looks : List Turn) → Gives t bucket side flags key value → LooksFor t.shape cpu spare put looks
+pub update_trace : (t : TableView) (bucket cpu : ℕ) (spare : Option ℕ) (side : Side) (flags : ℕ) (key value : List ℕ) (put : Put) (looks : List Turn) → AreUpdateArguments t bucket side flags key value → LooksFor t.shape cpu spare put looks
     → IsPlainTrace t.shape cpu spare (verbs.Update side flags key value) (looks ++ record { lock = Bucket bucket; part = parts.Bucket (Update side flags key value None put) } ∷ []) (reply_of_put put)
 update_trace t bucket cpu spare side flags key value put looks gives looked =
     inr (gives.flags_known, record { put = put; looks = looks; looks_are = looked; turns_are = ap (λ (l : List Turn). looks ++ l) (on_bucket t.shape bucket key (Update side flags key value None put) gives.bucket_is); reply_is = refl })

@@ -17,7 +17,7 @@ use Rattle.place_table.specs.declared.content.Content.TheVariants as contents
 use Rattle.place_table.specs.declared.view.Turned.{Turned}
 use Rattle.place_table.specs.InBucket.{InBucket}
 use Rattle.place_table.specs.Known.{Learns}
-use Rattle.place_table.specs.Passes.{PassView, TableView, IsInNoCall, HasOnlyKept, SparesDiffer, Takes, Goes, spare_of}
+use Rattle.place_table.specs.Passes.{PassView, TableView, IsInNoCall, HasOnlyKept, SparesDiffer, TookLock, Goes, spare_of}
 use Rattle.place_table.specs.Views.{is_among, is_in_hand_of, notes_below}
 use Rattle.hash_ops.specs.Calls.{turn_of, IsBy, spare_element, AreTold, LosesAtMost}
 use Rattle.hash_ops.specs.declared.map.PlainRefusal.{PlainRefusal}
@@ -34,12 +34,12 @@ pub record HasItsSpares (q : PassView) : Type 0 where
 pub record Enters (t : TableView) (bucket : ℕ) (p q : PassView) (chain : BodyList) : Type 0 where
   pub plain : is_lru t.shape.kind ≡ false
   pub none_shared : t.shape.common ≡ false
-  pub took : Takes t (Bucket bucket) p q (contents.Bucket chain)
+  pub took : TookLock t (Bucket bucket) p q (contents.Bucket chain)
   pub inside : InBucket t bucket q chain.bodies
   pub spares : HasItsSpares q
 
 -- The bucket was given back after these turns: the pass is in no call, and what else it knows is as before.
-pub record Finished (t : TableView) (q s : PassView) (steps : List Turned) (lost : List ℕ) : Type 0 where
+pub record LeftBucket (t : TableView) (q s : PassView) (steps : List Turned) (lost : List ℕ) : Type 0 where
   pub goes : Goes q s steps lost
   pub notes : s.view.notes ≡ notes_below q.view.notes
   pub bits : s.view.bits ≡ q.view.bits
@@ -52,7 +52,7 @@ pub record Finished (t : TableView) (q s : PassView) (steps : List Turned) (lost
 pub record Answered (t : TableView) (q s : PassView) (verb : Verb) (reply : Reply) : Type 0 where
   pub steps : List Turned
   pub lost : List ℕ
-  pub finished : Finished t q s steps lost
+  pub finished : LeftBucket t q s steps lost
   pub told : List Turned
   pub told_are : AreTold t.shape lost steps told
   pub trace : IsPlainTrace t.shape q.cpu (spare_element q) verb (map (turn_of t.shape) told) reply
@@ -71,7 +71,7 @@ UpdateEnds t bucket q s verb (Err refusals.Eexist) = AnsweredAt t bucket q s ver
 UpdateEnds t bucket q s verb (Err refusals.E2big) = AnsweredAt t bucket q s verb (Refused errnos.E2big)
 
 -- what an update gives: a key of the bucket and a value of its side, and flags that are known
-pub record Gives (t : TableView) (bucket : ℕ) (side : Side) (flags : ℕ) (key value : List ℕ) : Type 0 where
+pub record AreUpdateArguments (t : TableView) (bucket : ℕ) (side : Side) (flags : ℕ) (key value : List ℕ) : Type 0 where
   pub bucket_is : bucket ≡ bucket_of_key t.shape key
   pub key_sized : length key ≡ t.shape.key_size
   pub value_sized : length value ≡ value_len_of t.shape side

@@ -7,7 +7,7 @@ ghost use Rattle.map_types.specs.Kind.{is_percpu};
 ghost use Rattle.place_words.specs.Bodies.{present};
 ghost use Rattle.hash_ops.specs.Calls.{MayRefuse};
 ghost use Rattle.place_table.specs.InBucket.{InBucket, IsAt};
-ghost use Rattle.hash_ops.specs.Under.{HasItsSpares, Gives, AnsweredAt, UpdateEnds};
+ghost use Rattle.hash_ops.specs.Under.{HasItsSpares, AreUpdateArguments, AnsweredAt, UpdateEnds};
 
 use crate::map::{PlainMap, PlainRefusal};
 use bucket_chain::Chain;
@@ -35,7 +35,7 @@ impl PlainMap {
     ) -> Result<(), PlainRefusal>
         requires inside { InBucket self.now bucket pass.old chain.bodies }
         requires spares { HasItsSpares pass.old }
-        requires gives { Gives self.now bucket side flags key.now value.now }
+        requires gives { AreUpdateArguments self.now bucket side flags key.now value.now }
         ensures ends { UpdateEnds self.now bucket pass.old pass.new (verbs.Update side flags key.now value.now) result }
         ensures refuses { IfErr result (MayRefuse flags) }
     {
@@ -62,7 +62,7 @@ impl PlainMap {
     ) -> Result<(), PlainRefusal>
         requires inside { InBucket self.now bucket pass.old chain.bodies }
         requires spares { HasItsSpares pass.old }
-        requires gives { Gives self.now bucket side flags key.now value.now }
+        requires gives { AreUpdateArguments self.now bucket side flags key.now value.now }
         requires at { IsAt key.now place chain.bodies }
         ensures ends { UpdateEnds self.now bucket pass.old pass.new (verbs.Update side flags key.now value.now) result }
         ensures refuses { IfErr result (MayRefuse flags) }
@@ -101,7 +101,7 @@ impl PlainMap {
     ) -> Result<(), PlainRefusal>
         requires inside { InBucket self.now bucket pass.old chain.bodies }
         requires spares { HasItsSpares pass.old }
-        requires gives { Gives self.now bucket side flags key.now value.now }
+        requires gives { AreUpdateArguments self.now bucket side flags key.now value.now }
         requires absent { present key.now chain.bodies ≡ None }
         ensures ends { UpdateEnds self.now bucket pass.old pass.new (verbs.Update side flags key.now value.now) result }
         ensures refuses { IfErr result (MayRefuse flags) }
@@ -133,7 +133,7 @@ impl PlainMap {
     ) -> Result<(), PlainRefusal>
         requires inside { InBucket self.now bucket pass.old chain.bodies }
         requires spares { HasItsSpares pass.old }
-        requires gives { Gives self.now bucket side flags key.now value.now }
+        requires gives { AreUpdateArguments self.now bucket side flags key.now value.now }
         requires absent { present key.now chain.bodies ≡ None }
         requires adds { flags ≢ 2 }
         requires room { 1 ≤ chain.spare }
@@ -181,7 +181,7 @@ impl PlainMap {
     )
         requires inside { InBucket self.now bucket pass.old chain.bodies }
         requires spares { HasItsSpares pass.old }
-        requires gives { Gives self.now bucket side flags key.now value.now }
+        requires gives { AreUpdateArguments self.now bucket side flags key.now value.now }
         requires at { IsAt key.now place chain.bodies }
         requires percpu { IsTrue (is_percpu self.now.shape.kind) }
         requires replaces { flags ≢ 1 }
@@ -223,7 +223,7 @@ impl PlainMap {
     )
         requires inside { InBucket self.now bucket pass.old chain.bodies }
         requires spares { HasItsSpares pass.old }
-        requires gives { Gives self.now bucket side flags key.now value.now }
+        requires gives { AreUpdateArguments self.now bucket side flags key.now value.now }
         requires at { IsAt key.now place chain.bodies }
         requires single { is_percpu self.now.shape.kind ≡ false }
         requires replaces { flags ≢ 1 }

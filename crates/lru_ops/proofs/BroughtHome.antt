@@ -39,7 +39,7 @@ use Rattle.place_table.specs.Calls.{clears_bit}
 use Rattle.place_table.specs.Flushes.{flushes}
 use Rattle.place_table.specs.Known.{Learns}
 use Rattle.place_table.specs.declared.content.Content.{Content as Slot}
-use Rattle.place_table.specs.Passes.{PassView, TableView, CanClear, CanGive, CanRehome, Cleared, Gave, Goes, Rehomed, Takes, with_view}
+use Rattle.place_table.specs.Passes.{PassView, TableView, CanClear, CanGive, CanRehome, Cleared, Gave, Goes, Rehomed, TookLock, with_view}
 use Rattle.place_table.specs.Plays.{HoldsLock, IsKnownHome}
 use Rattle.place_table.specs.StoredHashes.{stored_in}
 use Rattle.place_table.specs.TurnNotes.{WasRead, ProbeFits, CameToHand}
@@ -306,7 +306,7 @@ module _ {t : TableView} {e : ℕ} {lists : LocalView} {p q : PassView} (can : C
 
 -- The whole turn, from the clauses of its calls
 module _ {t now : TableView} {e cpu : ℕ} {p q : PassView} {here : Slot} {lists : LocalView} (is : t ≡ now) (is_shape : IsShape t.shape) (evicts : IsTrue (is_lru t.shape.kind)) (can : CanBringHome now e p)
-    (mine : cpu ≡ p.cpu) (few : cpu < t.shape.cpus) (here_is : here ≡ contents.Local lists) (took : Takes t (Local cpu) p q here) where
+    (mine : cpu ≡ p.cpu) (few : cpu < t.shape.cpus) (here_is : here ≡ contents.Local lists) (took : TookLock t (Local cpu) p q here) where
   abbrev may : CanBringHome t e p
   may = subst (λ (z : TableView). CanBringHome z e p) (sym is) can
 
@@ -318,7 +318,7 @@ module _ {t now : TableView} {e cpu : ℕ} {p q : PassView} {here : Slot} {lists
     of_table = may.of_table;
     begun = may.begun;
     alone = may.no_lock;
-    took = subst (λ (z : ℕ × Slot). Takes t (Local z.0) p q z.1) (λ i. (mine i, here_is i)) took;
+    took = subst (λ (z : ℕ × Slot). TookLock t (Local z.0) p q z.1) (λ i. (mine i, here_is i)) took;
   }
 
   pub may_come : CanRehome t e (homes.In (Local cpu)) q

@@ -41,9 +41,9 @@ use Rattle.place_table.specs.declared.view.InHand.{InHand}
 use Rattle.place_table.specs.declared.view.Notes.{Notes}
 use Rattle.place_table.specs.declared.view.Turned.{Turned}
 use Rattle.place_table.specs.declared.view.WordStep.{WordStep}
-use Rattle.place_table.specs.Contents.{lists_of, Fits, IsSized}
+use Rattle.place_table.specs.Contents.{lists_of, FitsLock, IsSized}
 use Rattle.place_table.specs.Known.{Learns}
-use Rattle.place_table.specs.Passes.{PassView, TableView, CanTake, CanMark, Takes, CanGive, Gave, Goes, with_view, entry_of}
+use Rattle.place_table.specs.Passes.{PassView, TableView, CanTake, CanMark, TookLock, CanGive, Gave, Goes, with_view, entry_of}
 use Rattle.place_table.specs.Plays.{OwnerFits, IsListedHere}
 use Rattle.place_table.specs.Rules.{IsAboveAll, is_hand_of}
 use Rattle.place_table.specs.Flushes.{flushes}
@@ -144,7 +144,7 @@ can_take_bucket t bucket e p can =
     }
 
 -- no row under a bucket that was taken has a hash: the hash of the others is that of all
-hashed_inside : (t : TableView) (bucket e hash : ℕ) (p q : PassView) (chain : BodyList) → bucket < t.shape.buckets → HasOnlyHash t.shape p.view e hash → Takes t (Bucket bucket) p q (contents.Bucket chain) → HasOnlyHash t.shape q.view e hash
+hashed_inside : (t : TableView) (bucket e hash : ℕ) (p q : PassView) (chain : BodyList) → bucket < t.shape.buckets → HasOnlyHash t.shape p.view e hash → TookLock t (Bucket bucket) p q (contents.Bucket chain) → HasOnlyHash t.shape q.view e hash
 hashed_inside t bucket e hash p q chain there hashed took k h hold held stored =
     let named : lock_named t.shape took.hold.lock ≡ Bucket bucket = ap (lock_named t.shape) took.lock_is ∙ named_by_number t.shape (Bucket bucket) (bucket_there t.shape bucket there) in
     by_test took.hold.lock k (λ b. cond b (Some took.hold) (hold_at k p.view.held) ≡ Some hold → h ≡ hash)
@@ -154,7 +154,7 @@ hashed_inside t bucket e hash p q chain there hashed took k h hold held stored =
     (λ _ found. hashed k h hold found stored)
     (ap (λ (z : PassView). hold_at k z.view.held) (sym took.after_is) ∙ held)
 
-pub inside : (t : TableView) (bucket e : ℕ) (p q : PassView) (chain : BodyList) → CanProbe t bucket e p → Takes t (Bucket bucket) p q (contents.Bucket chain) → Inside t bucket e q chain.bodies
+pub inside : (t : TableView) (bucket e : ℕ) (p q : PassView) (chain : BodyList) → CanProbe t bucket e p → TookLock t (Bucket bucket) p q (contents.Bucket chain) → Inside t bucket e q chain.bodies
 inside t bucket e p q chain can took =
     let h = can.holds in
     let m = can.may in
@@ -362,7 +362,7 @@ module _ {t : TableView} {bucket e : ℕ} {q : PassView} {bodies : List Stored} 
         may_put = record {
           cpu = begun;
           told_is = ap in_bucket turn.left ∙ (ap (λ (c : ℕ). content_after t.shape c part (in_bucket bodies)) (sym w.goes.cpu) ∙ ap (content_after t.shape r.cpu part) found);
-          fits = subst (λ (d : DomainId). Fits t.shape d (contents.Bucket back)) (sym named) sized;
+          fits = subst (λ (d : DomainId). FitsLock t.shape d (contents.Bucket back)) (sym named) sized;
           allowed = subst (Allows t.shape r.cpu part) found (subst (λ (c : ℕ). Allows t.shape c part (in_bucket bodies)) (sym w.goes.cpu) turn.allowed);
           same_free = λ x. ap (times x) (sym no_free);
           same_rows = λ x. ap (times x) (append_nil (numbers back.bodies)) ∙ counted x;
@@ -444,7 +444,7 @@ module _ {t : TableView} {bucket e : ℕ} {q : PassView} {bodies : List Stored} 
       (can_give_held at holder owner back none same hand few other) gave
 
 -- from before the take
-pub evicted : (t : TableView) (bucket e : ℕ) (p q s : PassView) (chain : BodyList) (seen : Seen) → Takes t (Bucket bucket) p q (contents.Bucket chain) → EndedWith t bucket e q s seen → EvictedWith t bucket e p s seen
+pub evicted : (t : TableView) (bucket e : ℕ) (p q s : PassView) (chain : BodyList) (seen : Seen) → TookLock t (Bucket bucket) p q (contents.Bucket chain) → EndedWith t bucket e q s seen → EvictedWith t bucket e p s seen
 evicted t bucket e p q s chain seen took ended =
     let first = goes_took t (Bucket bucket) p q (contents.Bucket chain) took in
     record {

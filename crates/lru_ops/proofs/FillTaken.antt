@@ -21,7 +21,7 @@ use Rattle.place_table.specs.declared.view.Hold.{Hold}
 use Rattle.place_table.specs.declared.view.Notes.{Notes}
 use Rattle.place_table.specs.declared.view.View.{View}
 use Rattle.place_table.specs.Contents.{set_told}
-use Rattle.place_table.specs.Passes.{PassView, TableView, CanTake, Goes, Takes}
+use Rattle.place_table.specs.Passes.{PassView, TableView, CanTake, Goes, TookLock}
 use Rattle.place_table.specs.Rules.{IsAboveAll}
 use Rattle.place_table.specs.StoredHashes.{stored_in}
 use Rattle.place_table.specs.TurnNotes.{HasOnlyHash}
@@ -68,7 +68,7 @@ stored_global : (set : SetView) (e : ℕ) → stored_in (in_global (set_told set
 unfolding stored_in
 stored_global set e = refl
 
-module _ {t : TableView} {lists : LocalView} {p q : PassView} {set : SetView} (can : CanRefill t lists p) (took : Takes t Global p q (contents.Set set)) where
+module _ {t : TableView} {lists : LocalView} {p q : PassView} {set : SetView} (can : CanRefill t lists p) (took : TookLock t Global p q (contents.Set set)) where
   to_q : Goes p q [] []
   to_q = goes_took t Global p q (contents.Set set) took
 

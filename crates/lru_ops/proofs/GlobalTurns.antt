@@ -40,10 +40,10 @@ use Rattle.place_table.specs.declared.view.Hold.{Hold}
 use Rattle.place_table.specs.declared.view.Notes.{Notes}
 use Rattle.place_table.specs.declared.view.Turned.{Turned}
 use Rattle.place_table.specs.Calls.{CouldBe, IsTold, bits_of_part, bits_of_turns, clears_found, finds_moved_on}
-use Rattle.place_table.specs.Contents.{Fits, set_told, set_under, lists_of}
+use Rattle.place_table.specs.Contents.{FitsLock, set_told, set_under, lists_of}
 use Rattle.place_table.specs.Flushes.{flushes}
 use Rattle.place_table.specs.Known.{BitTouch, IsBy, Learns, turn_at}
-use Rattle.place_table.specs.Passes.{PassView, TableView, IsPassOf, Takes, CanGive, Gave, GaveBack, MayGiveBack, Goes}
+use Rattle.place_table.specs.Passes.{PassView, TableView, IsPassOf, TookLock, CanGive, Gave, GaveBack, MayGiveBack, Goes}
 use Rattle.place_table.specs.StoredHashes.{stored_in}
 use Rattle.place_table.specs.TurnNotes.{AreCleared, CameToHand, ProbeFits, TellsFlush, WasRead, clears_among, clears_noted}
 use Rattle.place_table.specs.Views.{is_among, known_log, holds_below, notes_below, passed_on, no_notes}
@@ -100,7 +100,7 @@ global_tells_none shape cpu part there lists is allowed e holder same =
     absurd here
 
 -- The global lists were taken.
-module _ {t : TableView} {lists : LocalView} {p q : PassView} {set : SetView} (r : CanRefill t lists p) (took : Takes t Global p q (contents.Set set)) where
+module _ {t : TableView} {lists : LocalView} {p q : PassView} {set : SetView} (r : CanRefill t lists p) (took : TookLock t Global p q (contents.Set set)) where
   to_q : Goes p q [] []
   to_q = goes_took t Global p q (contents.Set set) took
 
@@ -173,7 +173,7 @@ module _ {t : TableView} {lists : LocalView} {p q : PassView} {set : SetView} (r
           may_put = record {
             cpu = begun;
             told_is = out_there ∙ (ap in_global (sym y.left) ∙ ap (content_after t.shape s.cpu part) found_here);
-            fits = subst (λ (d : DomainId). Fits t.shape d (contents.Set out)) (sym named) y.fits;
+            fits = subst (λ (d : DomainId). FitsLock t.shape d (contents.Set out)) (sym named) y.fits;
             allowed = subst (Allows t.shape s.cpu part) found_here y.allowed;
             same_free = λ x. ap (λ (c : Content). times x (lists_of c).free) out_there ∙ ap (times x) (sym y.same_free);
             same_rows = λ x. ap (λ (c : Content). times x (rows (lists_of c))) out_there ∙ (times_append x (elements_of out.active) (elements_of out.inactive) ∙ sym (y.same_rows x));
@@ -392,7 +392,7 @@ some_lack zero = refl
 some_lack (suc n) = lt-ltb 0 (suc n) (omega arith)
 
 -- The whole turn, from the clauses of its calls. No note was made before it.
-module _ {t : TableView} {lists : LocalView} {p q : PassView} {set : SetView} (r : CanRefill t lists p) (took : Takes t Global p q (contents.Set set))
+module _ {t : TableView} {lists : LocalView} {p q : PassView} {set : SetView} (r : CanRefill t lists p) (took : TookLock t Global p q (contents.Set set))
     {out : SetView} {lists_out : LocalView} {flushing flushing_after : Noted Flush} {turning turning_after : RotateNotes} {moving moving_after : Noted ℕ} {shrinking shrinking_after : ShrinkNotes} {s : PassView} {target : ℕ}
     (y : FilledUp t set out lists lists_out flushing flushing_after turning turning_after moving moving_after shrinking shrinking_after q s target)
     (no_flush : flushing ≡ noted.Kept []) (no_turning : turning ≡ record { active = noted.Kept []; inactive = noted.Kept [] }) (no_moving : moving ≡ noted.Kept []) (no_shrinking : shrinking ≡ record { looks = noted.Kept []; forced = noted.Kept [] })

@@ -38,10 +38,10 @@ use Rattle.place_table.specs.declared.view.Hold.{Hold}
 use Rattle.place_table.specs.declared.view.Notes.{Notes}
 use Rattle.place_table.specs.declared.view.Turned.{Turned}
 use Rattle.place_table.specs.Calls.{AreTold, CouldBe, IsTold, reads_bit, clears_bit, found_moved_on, finds_moved_on, bits_of_part, bits_of_turns}
-use Rattle.place_table.specs.Contents.{FitsLocal, Fits}
+use Rattle.place_table.specs.Contents.{FitsLocal, FitsLock}
 use Rattle.place_table.specs.Flushes.{flushes}
 use Rattle.place_table.specs.Known.{BitTouch, Learns, turn_at, IsBy}
-use Rattle.place_table.specs.Passes.{PassView, TableView, IsPassOf, HasBegun, CanTake, Takes, CanGive, MayGiveBack, Goes}
+use Rattle.place_table.specs.Passes.{PassView, TableView, IsPassOf, HasBegun, CanTake, TookLock, CanGive, MayGiveBack, Goes}
 use Rattle.place_table.specs.Rules.{IsAboveAll}
 use Rattle.place_table.specs.StoredHashes.{stored_in}
 use Rattle.place_table.specs.TurnNotes.{NotesFit, clears_noted}
@@ -80,7 +80,7 @@ pub record OnLocal (t : TableView) (c : ℕ) (lists : LocalView) (p q : PassView
   pub of_table : IsPassOf t p
   pub begun : HasBegun p
   pub alone : p.view.held ≡ []
-  pub took : Takes t (Local c) p q (contents.Local lists)
+  pub took : TookLock t (Local c) p q (contents.Local lists)
 
 -- Before they are given back: what the pass made since, as this part tells it. The turns inside are of other locks.
 pub record ReadyAround (t : TableView) (part : LocalPart) (lists out : LocalView) (hold : Hold) (q s : PassView) : Type 0 where
@@ -221,7 +221,7 @@ module _ {t : TableView} {c : ℕ} {lists : LocalView} {p q : PassView} (b : OnL
           may_put = record {
             cpu = begun;
             told_is = ap in_locals (sym y.left) ∙ ap (content_after t.shape s.cpu entry_part) found_local;
-            fits = subst (λ (d : DomainId). Fits t.shape d (contents.Local out)) (sym named_local) y.fits;
+            fits = subst (λ (d : DomainId). FitsLock t.shape d (contents.Local out)) (sym named_local) y.fits;
             allowed = subst (Allows t.shape s.cpu entry_part) found_local y.allowed;
             same_free = y.same_free;
             same_rows = λ x. ap (times x) (append_nil (elements_of out.pending)) ∙ y.same_rows x;

@@ -43,10 +43,10 @@ use Rattle.place_table.specs.declared.view.Turned.{Turned}
 use Rattle.place_table.specs.declared.view.View.{View}
 use Rattle.place_table.specs.declared.view.WordStep.{WordStep}
 use Rattle.place_table.specs.Calls.{CanCall, CouldBe, IsTold, AreTold, sets_bit, clears_found, clears_bit, bits_of_part, bits_of_turns}
-use Rattle.place_table.specs.Contents.{set_told, set_under, lists_of, Fits}
+use Rattle.place_table.specs.Contents.{set_told, set_under, lists_of, FitsLock}
 use Rattle.place_table.specs.Flushes.{flushes}
 use Rattle.place_table.specs.Known.{BitTouch, Learns, turn_of, turn_at, IsBy}
-use Rattle.place_table.specs.Passes.{PassView, TableView, Takes, CanGive, Gave, GaveSome, GaveBack, MayGiveBack, Goes, entry_of}
+use Rattle.place_table.specs.Passes.{PassView, TableView, TookLock, CanGive, Gave, GaveSome, GaveBack, MayGiveBack, Goes, entry_of}
 use Rattle.place_table.specs.StoredHashes.{stored_in}
 use Rattle.place_table.specs.TurnNotes.{WasRead, AreCleared, CameToHand, clears_noted}
 use Rattle.place_table.proofs.Came.{came_among}
@@ -84,7 +84,7 @@ none_in_hand t p can evicts e cpu among = go (is_in_hand_of e cpu p.view.hand) r
     go false is = refl
     go true is = true_false (sym evicts ∙ ap is_lru (ap (λ (s : Shape). s.kind) (sym can.of_table.1) ∙ (can.in_no_call.spares_only e cpu among is).3))
 
-pub can_work : (t : TableView) (p q : PassView) (set : SetView) → IsShape t.shape → IsTrue (is_lru t.shape.kind) → IsTrue (is_lock t.shape (CpuLru p.cpu)) → CanCall t p → Takes t (CpuLru p.cpu) p q (contents.Set set) → CanWork t set q
+pub can_work : (t : TableView) (p q : PassView) (set : SetView) → IsShape t.shape → IsTrue (is_lru t.shape.kind) → IsTrue (is_lock t.shape (CpuLru p.cpu)) → CanCall t p → TookLock t (CpuLru p.cpu) p q (contents.Set set) → CanWork t set q
 can_work t p q set is_shape evicts there can took =
     let goes = goes_took t (CpuLru p.cpu) p q (contents.Set set) took in
     let view : q.view ≡ holding took.at took.hold p.view = ap (λ (z : PassView). z.view) took.after_is in
@@ -266,7 +266,7 @@ gave_some_as t lock s u here gave = record {
 
 module _ {t : TableView} {p q s : PassView} {set out : SetView} {hash : ℕ} {turning turning_after : RotateNotes} {shrinking shrinking_after : ShrinkNotes} {shrunk : Bool} {got : Option ℕ}
     (is_shape : IsShape t.shape) (evicts : IsTrue (is_lru t.shape.kind)) (apart : t.shape.common ≡ false) (there : IsTrue (is_lock t.shape (CpuLru p.cpu)))
-    (begins : CanCall t p) (took : Takes t (CpuLru p.cpu) p q (contents.Set set)) (y : Ready t hash turning turning_after shrinking shrinking_after shrunk set out q s got) where
+    (begins : CanCall t p) (took : TookLock t (CpuLru p.cpu) p q (contents.Set set)) (y : Ready t hash turning turning_after shrinking shrinking_after shrunk set out q s got) where
   abbrev lock : DomainId
   lock = CpuLru p.cpu
 
@@ -320,7 +320,7 @@ module _ {t : TableView} {p q s : PassView} {set out : SetView} {hash : ℕ} {tu
         may_put = record {
           cpu = begun;
           told_is = out_there ∙ (ap in_own (sym y.left) ∙ ap (content_after t.shape s.cpu part) found_here);
-          fits = subst (λ (d : DomainId). Fits t.shape d (contents.Set out)) (sym named) y.fits;
+          fits = subst (λ (d : DomainId). FitsLock t.shape d (contents.Set out)) (sym named) y.fits;
           allowed = subst (Allows t.shape s.cpu part) found_here y.allowed;
           same_free = λ x. ap (λ (c : Content). times x (lists_of c).free) out_there ∙ ap (times x) y.same_free;
           same_rows = λ x. ap (λ (c : Content). times x (rows (lists_of c))) out_there ∙ y.same_rows x;
@@ -502,7 +502,7 @@ module _ {t : TableView} {p q s : PassView} {set out : SetView} {hash : ℕ} {tu
 
 module _ {t : TableView} {p q s u : PassView} {set out : SetView} {hash : ℕ} {turning turning_after : RotateNotes} {shrinking shrinking_after : ShrinkNotes} {shrunk : Bool} (found : Option Stored) (worked : SetView) (r : PassView)
     (is_shape : IsShape t.shape) (evicts : IsTrue (is_lru t.shape.kind)) (apart : t.shape.common ≡ false) (there : IsTrue (is_lock t.shape (CpuLru p.cpu)))
-    (begins : CanCall t p) (took : Takes t (CpuLru p.cpu) p q (contents.Set set)) (y : Ready t hash turning turning_after shrinking shrinking_after shrunk set out q s (option_map (λ (body : Stored). body.element) found)) (gives : GivesOut t hash worked out r s found) where
+    (begins : CanCall t p) (took : TookLock t (CpuLru p.cpu) p q (contents.Set set)) (y : Ready t hash turning turning_after shrinking shrinking_after shrunk set out q s (option_map (λ (body : Stored). body.element) found)) (gives : GivesOut t hash worked out r s found) where
   acquired_by : (actual : Part) (can : CanGive t (CpuLru p.cpu) s (contents.Set out) actual) {lost : List ℕ} (g : GaveAs t s u can.hold actual lost) → (actual ≡ part is_shape evicts apart there begins took y) ⊎ (is_among can.hold.lock lost ≡ true) → Acquired t hash p u found
   acquired_by actual can {lost} g told_as = record {
     steps = y.turns ++ given_turn s can.hold actual ∷ [];
@@ -547,7 +547,7 @@ as_noted t hash turning_after shrinking_after shrunk set out q s got (Some x) y 
 
 -- The whole turn, from what the pass was before it.
 module _ {t : TableView} {p q r : PassView} {set worked : SetView} {turning_after : RotateNotes} {shrinking_after : ShrinkNotes} {shrunk : Bool} (hash : ℕ) (out : SetView) (s : PassView) (found : Option Stored)
-    (is_shape : IsShape t.shape) (evicts : IsTrue (is_lru t.shape.kind)) (apart : t.shape.common ≡ false) (few : p.cpu < t.shape.cpus) (begins : CanCall t p) (took : Takes t (CpuLru p.cpu) p q (contents.Set set))
+    (is_shape : IsShape t.shape) (evicts : IsTrue (is_lru t.shape.kind)) (apart : t.shape.common ≡ false) (few : p.cpu < t.shape.cpus) (begins : CanCall t p) (took : TookLock t (CpuLru p.cpu) p q (contents.Set set))
     (w : Worked t set worked (record { active = noted.Kept []; inactive = noted.Kept [] }) turning_after (record { looks = noted.Kept []; forced = noted.Kept [] }) shrinking_after shrunk q r) (gives : GivesOut t hash worked out r s found)
     (given_part : Option Part) (told_part : IfSome given_part (IsOwnTurn hash turning_after shrunk shrinking_after (option_map (λ (body : Stored). body.element) found))) where
   abbrev own_there : IsTrue (is_lock t.shape (CpuLru p.cpu))

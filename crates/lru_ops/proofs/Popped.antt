@@ -27,7 +27,7 @@ use Rattle.place_table.specs.declared.view.Notes.{Notes}
 use Rattle.place_table.specs.declared.view.Turned.{Turned}
 use Rattle.place_table.specs.Flushes.{flushes}
 use Rattle.place_table.specs.Known.{turn_at}
-use Rattle.place_table.specs.Passes.{PassView, TableView, CanGive, Gave, Takes}
+use Rattle.place_table.specs.Passes.{PassView, TableView, CanGive, Gave, TookLock}
 use Rattle.place_table.specs.TurnNotes.{WasRead, ProbeFits, CameToHand}
 use Rattle.place_table.specs.Views.{is_in_hand_of, is_among, no_notes, notes_below, bucket_known, with_in_hand}
 use Rattle.place_table.proofs.Came.{came_among}
@@ -163,7 +163,7 @@ module _ {t : TableView} {lists : LocalView} {p q : PassView} (b : OnLocal t p.c
 
 -- From the clauses of the calls
 module _ {t now : TableView} {cpu : ℕ} {p q : PassView} {here : Slot} {lists : LocalView} (is : t ≡ now) (is_shape : IsShape t.shape) (evicts : IsTrue (is_lru t.shape.kind)) (can : CanTakeShared now p)
-    (mine : cpu ≡ p.cpu) (few : cpu < t.shape.cpus) (here_is : here ≡ contents.Local lists) (took : Takes t (Local cpu) p q here) where
+    (mine : cpu ≡ p.cpu) (few : cpu < t.shape.cpus) (here_is : here ≡ contents.Local lists) (took : TookLock t (Local cpu) p q here) where
   abbrev may : CanTakeShared t p
   may = subst (λ (z : TableView). CanTakeShared z p) (sym is) can
 
@@ -175,7 +175,7 @@ module _ {t now : TableView} {cpu : ℕ} {p q : PassView} {here : Slot} {lists :
     of_table = may.can.of_table;
     begun = may.can.begun;
     alone = may.can.in_no_call.holds_nothing;
-    took = subst (λ (z : ℕ × Slot). Takes t (Local z.0) p q z.1) (λ i. (mine i, here_is i)) took;
+    took = subst (λ (z : ℕ × Slot). TookLock t (Local z.0) p q z.1) (λ i. (mine i, here_is i)) took;
   }
 
   pub may_make_pending : CanMakePending t lists q

@@ -42,10 +42,10 @@ use Rattle.place_table.specs.declared.view.Hold.{Hold}
 use Rattle.place_table.specs.declared.view.Notes.{Notes}
 use Rattle.place_table.specs.declared.view.Turned.{Turned}
 use Rattle.place_table.specs.Calls.{clears_bit, bits_of_part, finds_moved_on}
-use Rattle.place_table.specs.Contents.{told, set_told, set_under, lists_of, lists_of_set, Fits, FitsSet, IsSized}
+use Rattle.place_table.specs.Contents.{content_told, set_told, set_under, lists_of, lists_of_set, FitsLock, FitsSet, IsSized}
 use Rattle.place_table.specs.Flushes.{flushes}
 use Rattle.place_table.specs.Known.{BitTouch, Learns, KnowsAll, SeesBit, turn_of, turn_at, IsBy}
-use Rattle.place_table.specs.Passes.{PassView, TableView, Takes, CanGive, CanSettle, Gave, Goes, Cleared, Settled, entry_of}
+use Rattle.place_table.specs.Passes.{PassView, TableView, TookLock, CanGive, CanSettle, Gave, Goes, Cleared, Settled, entry_of}
 use Rattle.place_table.specs.StoredHashes.{stored_in}
 use Rattle.place_table.specs.TurnNotes.{NotesFit, WasRead, AreCleared, FlushedFit, clears_noted, given_out_by, ProbeFits, CameToHand}
 use Rattle.place_table.specs.Views.{hold_at, is_in_hand_of, now_under, without_in_hand, with_clear, bits_with, bit_seen, touching, no_notes, notes_below, holds_below, with_now, learned, passed_on}
@@ -181,13 +181,13 @@ pub record Underway (t : TableView) (hold : Hold) (p s : PassView) (now : Lists)
 -- What may be given back under a lock by a part, from what lay there at the take, where these lists lie there now: nothing that was
 -- listed is gone, and no row has a new hash.
 pub record Leads (t : TableView) (lock : DomainId) (cpu : ℕ) (here back : Content) (now : Lists) (part : Part) : Type 0 where
-  pub told_is : told lock back ≡ content_after t.shape cpu part (told lock here)
-  pub fits : Fits t.shape lock back
-  pub allowed : Allows t.shape cpu part (told lock here)
-  pub same_free : (x : ℕ) → times x (lists_of (told lock back)).free ≡ times x now.free
-  pub same_rows : (x : ℕ) → times x (rows (lists_of (told lock back))) ≡ times x (rows now)
-  pub none_gone : (x : ℕ) → IsIn x (rows (lists_of (told lock here))) → IsIn x (all_of now)
-  pub same_hashes : (x n : ℕ) → stored_in (told lock back) x ≡ Some n → stored_in (told lock here) x ≡ Some n
+  pub told_is : content_told lock back ≡ content_after t.shape cpu part (content_told lock here)
+  pub fits : FitsLock t.shape lock back
+  pub allowed : Allows t.shape cpu part (content_told lock here)
+  pub same_free : (x : ℕ) → times x (lists_of (content_told lock back)).free ≡ times x now.free
+  pub same_rows : (x : ℕ) → times x (rows (lists_of (content_told lock back))) ≡ times x (rows now)
+  pub none_gone : (x : ℕ) → IsIn x (rows (lists_of (content_told lock here))) → IsIn x (all_of now)
+  pub same_hashes : (x n : ℕ) → stored_in (content_told lock back) x ≡ Some n → stored_in (content_told lock here) x ≡ Some n
 
 -- The lock was given back by this part: one turn was made, after those that the lock had at the take.
 pub record TurnMade (t : TableView) (lock : DomainId) (hold : Hold) (part : Part) (p s z : PassView) : Type 0 where
@@ -211,11 +211,11 @@ fits_with shape v hold part notes marks_are clears_are no_reads flushed none_off
 }
 
 -- From the take of a lock by a pass that frees an element
-module _ {t : TableView} {lock : DomainId} {p q : PassView} {body : Stored} {here : Content} (is_there : IsTrue (is_lock t.shape lock)) (can : CanFree t body p) (took : Takes t lock p q here) where
+module _ {t : TableView} {lock : DomainId} {p q : PassView} {body : Stored} {here : Content} (is_there : IsTrue (is_lock t.shape lock)) (can : CanFree t body p) (took : TookLock t lock p q here) where
   named : lock_named t.shape took.hold.lock ≡ lock
   named = ap (lock_named t.shape) took.lock_is ∙ named_by_number t.shape lock is_there
 
-  found : told lock here ≡ content t.shape (lock_named t.shape took.hold.lock) took.hold.log
+  found : content_told lock here ≡ content t.shape (lock_named t.shape took.hold.lock) took.hold.log
   found = took.told_is ∙ ap (λ (d : DomainId). content t.shape d took.hold.log) (sym named)
 
   goes_there : Goes p q [] []
@@ -314,22 +314,22 @@ module _ {t : TableView} {lock : DomainId} {p q : PassView} {body : Stored} {her
           lock_is = took.lock_is;
           may_put = record {
             cpu = begun;
-            told_is = ap (λ (d : DomainId). told d back) named ∙ (leads.told_is ∙ ap (content_after t.shape s.cpu part) found);
-            fits = subst (λ (d : DomainId). Fits t.shape d back) (sym named) leads.fits;
+            told_is = ap (λ (d : DomainId). content_told d back) named ∙ (leads.told_is ∙ ap (content_after t.shape s.cpu part) found);
+            fits = subst (λ (d : DomainId). FitsLock t.shape d back) (sym named) leads.fits;
             allowed = subst (Allows t.shape s.cpu part) found leads.allowed;
-            same_free = λ x. ap (λ (d : DomainId). times x (lists_of (told d back)).free) named ∙ leads.same_free x;
-            same_rows = λ x. ap (λ (d : DomainId). times x (rows (lists_of (told d back)))) named ∙ leads.same_rows x;
+            same_free = λ x. ap (λ (d : DomainId). times x (lists_of (content_told d back)).free) named ∙ leads.same_free x;
+            same_rows = λ x. ap (λ (d : DomainId). times x (rows (lists_of (content_told d back)))) named ∙ leads.same_rows x;
             rows_kept = λ _ j x h n other held _ was is_now.
-                some_is (sym (ap (λ (z : histories.Content). stored_in z x) (was_there j other held) ∙ was) ∙ leads.same_hashes x n (ap (λ (d : DomainId). stored_in (told d back) x) (sym named) ∙ is_now));
+                some_is (sym (ap (λ (z : histories.Content). stored_in z x) (was_there j other held) ∙ was) ∙ leads.same_hashes x n (ap (λ (d : DomainId). stored_in (content_told d back) x) (sym named) ∙ is_now));
             gone = λ _ on x h is_local was none.
-                let inside = leads.none_gone x (stored_listed (told lock here) x h (ap (λ (z : histories.Content). stored_in z x) found ∙ was)) in absurd (omega (arith, none, inside));
+                let inside = leads.none_gone x (stored_listed (content_told lock here) x h (ap (λ (z : histories.Content). stored_in z x) found ∙ was)) in absurd (omega (arith, none, inside));
           };
           notes_fit = noted;
         }
       where
-        was_there : (j : ℕ) (other : Hold) → hold_at j s.view.held ≡ Some other → told lock here ≡ content t.shape (lock_named t.shape j) other.log
+        was_there : (j : ℕ) (other : Hold) → hold_at j s.view.held ≡ Some other → content_told lock here ≡ content t.shape (lock_named t.shape j) other.log
         was_there j other held =
-            by_test took.hold.lock j (λ b. cond b (Some (hold_with took.hold now)) None ≡ Some other → told lock here ≡ content t.shape (lock_named t.shape j) other.log)
+            by_test took.hold.lock j (λ b. cond b (Some (hold_with took.hold now)) None ≡ Some other → content_told lock here ≡ content t.shape (lock_named t.shape j) other.log)
             (λ same here_is. found ∙ (λ i. content t.shape (lock_named t.shape (same i)) ((some_is here_is i).log)))
             (λ _ none. absurd (none_some none))
             (sym (ap (hold_at j) u.held) ∙ held)
@@ -378,7 +378,7 @@ pub record IsPush (shape : Shape) (e : ℕ) (part : Part) : Type 0 where
   pub finds_it : IsFalse (finds_moved_on part)
 
 -- the turn of a push, from the take of its lock
-module _ {t : TableView} {lock : DomainId} {p q r s : PassView} {body : Stored} {here : Content} {bit : Bool} {part : Part} (push : IsPush t.shape body.element part) (is_there : IsTrue (is_lock t.shape lock)) (can : CanFree t body p) (took : Takes t lock p q here) (clear : Cleared body.element q r bit) (settle : Settled lock body.element r s) where
+module _ {t : TableView} {lock : DomainId} {p q r s : PassView} {body : Stored} {here : Content} {bit : Bool} {part : Part} (push : IsPush t.shape body.element part) (is_there : IsTrue (is_lock t.shape lock)) (can : CanFree t body p) (took : TookLock t lock p q here) (clear : Cleared body.element q r bit) (settle : Settled lock body.element r s) where
   abbrev now_pushed : Lists
   now_pushed = steps.with_free body.element (steps.without_row body.element took.hold.now)
 
@@ -423,11 +423,11 @@ pub record OnSet (shape : Shape) (lock : DomainId) (e : ℕ) (part : Part) : Typ
   pub after : (cpu : ℕ) (set : ListSet) → content_after shape cpu part (set_under lock set) ≡ set_under lock (pushed_free e set)
   pub allows : (cpu : ℕ) (set : ListSet) → IsTrue (is_listed e set.lists) → Allows shape cpu part (set_under lock set)
   pub hashes : (x : ℕ) (set : ListSet) → stored_in (set_under lock set) x ≡ hash_of (row_of x (set.lists.active ++ set.lists.inactive))
-  pub fits : (set : SetView) → Fits shape lock (contents.Set set) → FitsSet shape set
-  pub fit : (set : SetView) → FitsSet shape set → Fits shape lock (contents.Set set)
+  pub fits : (set : SetView) → FitsLock shape lock (contents.Set set) → FitsSet shape set
+  pub fit : (set : SetView) → FitsSet shape set → FitsLock shape lock (contents.Set set)
 
 -- a list set in which the element of a body is listed
-module _ {t : TableView} {lock : DomainId} {p q : PassView} {body : Stored} {set : SetView} {part : Part} (on : OnSet t.shape lock body.element part) (can : CanFree t body p) (took : Takes t lock p q (contents.Set set)) where
+module _ {t : TableView} {lock : DomainId} {p q : PassView} {body : Stored} {set : SetView} {part : Part} (on : OnSet t.shape lock body.element part) (can : CanFree t body p) (took : TookLock t lock p q (contents.Set set)) where
   fitting : FitsSet t.shape set
   fitting = on.fits set took.fits
 
@@ -447,8 +447,8 @@ module _ {t : TableView} {lock : DomainId} {p q : PassView} {body : Stored} {set
       → Leads t lock cpu (contents.Set set) (contents.Set back) (steps.with_free body.element (steps.without_row body.element took.hold.now)) part
   set_leads cpu back listed is whole =
       let e : ℕ = body.element in
-      let leads : told lock (contents.Set back) ≡ set_under lock (pushed_free e (set_told set)) = ap (λ (x : SetView). told lock (contents.Set x)) is in
-      let then : lists_of (told lock (contents.Set back)) ≡ lists_of_set (pushed_free e (set_told set)) = ap lists_of leads ∙ on.lists (pushed_free e (set_told set)) in record {
+      let leads : content_told lock (contents.Set back) ≡ set_under lock (pushed_free e (set_told set)) = ap (λ (x : SetView). content_told lock (contents.Set x)) is in
+      let then : lists_of (content_told lock (contents.Set back)) ≡ lists_of_set (pushed_free e (set_told set)) = ap lists_of leads ∙ on.lists (pushed_free e (set_told set)) in record {
         told_is = leads ∙ sym (on.after cpu (set_told set));
         fits = on.fit back pushed_fits;
         allowed = on.allows cpu (set_told set) is_listed_there;
@@ -494,7 +494,7 @@ pub record Pushing (t : TableView) (lock : DomainId) (part : ℕ → Part) (p q 
   pub on : OnSet t.shape lock body.element (part body.element)
   pub is_there : IsTrue (is_lock t.shape lock)
   pub can : CanFree t body p
-  pub took : Takes t lock p q (contents.Set set)
+  pub took : TookLock t lock p q (contents.Set set)
   pub listed : IsIn body.element (rows took.hold.now)
   pub clear : Cleared body.element q r bit
   pub settle : Settled lock body.element r s
@@ -542,7 +542,7 @@ on_own_set shape c e = record {
 }
 
 pub pushing : (t now : TableView) (p q r s : PassView) (body : Stored) (set : SetView) (c e : ℕ) (bit : Bool) → t ≡ now → IsTrue (is_lru t.shape.kind) → now.shape.common ≡ false → CanFree now body p → e ≡ body.element → c ≡ set_of now.shape e → c < now.shape.cpus
-    → Takes t (CpuLru c) p q (contents.Set set) → Cleared e q r bit → Settled (CpuLru c) e r s → Pushing t (CpuLru c) own_push p q r s body set bit
+    → TookLock t (CpuLru c) p q (contents.Set set) → Cleared e q r bit → Settled (CpuLru c) e r s → Pushing t (CpuLru c) own_push p q r s body set bit
 pushing t now p q r s body set c e bit is lru own_lists can e_is c_is few took clear settle =
     let may : CanFree t body p = subst (λ (z : TableView). CanFree z body p) (sym is) can in
     let apart : t.shape.common ≡ false = subst (λ (z : TableView). z.shape.common ≡ false) (sym is) own_lists in

@@ -36,7 +36,7 @@ use Rattle.place_table.specs.declared.view.Turned.{Turned}
 use Rattle.place_table.specs.Calls.{CanCall, bits_of_turns, clears_bit}
 use Rattle.place_table.specs.Flushes.{is_visited}
 use Rattle.place_table.specs.Known.{Learns, turn_at}
-use Rattle.place_table.specs.Passes.{PassView, TableView, CanGive, Gave, GaveBack, Goes, MayGiveBack, Takes}
+use Rattle.place_table.specs.Passes.{PassView, TableView, CanGive, Gave, GaveBack, Goes, MayGiveBack, TookLock}
 use Rattle.place_table.specs.TurnNotes.{WasRead, ProbeFits, CameToHand, clears_among}
 use Rattle.place_table.specs.Views.{is_among, is_in_hand_of, notes_below, bucket_known, with_in_hand}
 use Rattle.place_table.proofs.Came.{came_among}
@@ -442,7 +442,7 @@ module _ {t : TableView} {lists : LocalView} {p q : PassView} (b : OnLocal t p.c
 
 -- From the clauses of the calls
 module _ {t now : TableView} {cpu : ℕ} {p q again : PassView} {here : Slot} {lists left : LocalView} (is : t ≡ now) (is_shape : IsShape t.shape) (evicts : IsTrue (is_lru t.shape.kind)) (can : CanTakeShared now p)
-    (mine : cpu ≡ p.cpu) (few : cpu < t.shape.cpus) (here_is : here ≡ contents.Local lists) (took : Takes t (Local cpu) p q here) (none : (lists.free.bodies ≡ []) × (left ≡ lists) × (again ≡ q)) where
+    (mine : cpu ≡ p.cpu) (few : cpu < t.shape.cpus) (here_is : here ≡ contents.Local lists) (took : TookLock t (Local cpu) p q here) (none : (lists.free.bodies ≡ []) × (left ≡ lists) × (again ≡ q)) where
   abbrev may : CanTakeShared t p
   may = subst (λ (z : TableView). CanTakeShared z p) (sym is) can
 

@@ -45,9 +45,9 @@ use Rattle.place_table.specs.declared.view.HomeIn.{HomeIn}
 use Rattle.place_table.specs.declared.view.InHand.{InHand}
 use Rattle.place_table.specs.declared.view.Turned.{Turned}
 use Rattle.place_table.specs.Calls.{finds_moved_on}
-use Rattle.place_table.specs.Contents.{told, lists_of, FitsLocal, IsSized}
+use Rattle.place_table.specs.Contents.{content_told, lists_of, FitsLocal, IsSized}
 use Rattle.place_table.specs.Known.{BitTouch, Learns, KnowsAll, turn_at, IsBy}
-use Rattle.place_table.specs.Passes.{PassView, TableView, Takes, CanSettle, CanGive, Gave, Cleared, Settled, SawHome, with_view}
+use Rattle.place_table.specs.Passes.{PassView, TableView, TookLock, CanSettle, CanGive, Gave, Cleared, Settled, SawHome, with_view}
 use Rattle.place_table.specs.Plays.{MayBeHome}
 use Rattle.place_table.specs.StoredHashes.{stored_in}
 use Rattle.place_table.specs.Views.{hold_at, is_in_hand_of, home_known, with_reading, home_then, readings_then, without_in_hand, with_home_read, home_read, touching, no_notes}
@@ -134,7 +134,7 @@ module _ {t : TableView} {p q : PassView} {body : Stored} {home : Home} (x : Rea
   lies_under lock is =
       let there : IsTrue (is_lock t.shape lock) = (subst (MayBeHome t.shape) is may_be).0 in
       subst (λ (z : PassView). LiesUnder t lock body.element z) (sym x.saw.after_is)
-      (λ logs knows. x.saw.fits.lies x.lru lock (logs (lock_number t.shape lock)) is (ap (hold_at (lock_number t.shape lock)) x.can.no_lock)
+      (λ logs knows. x.saw.fits.under_home x.lru lock (logs (lock_number t.shape lock)) is (ap (hold_at (lock_number t.shape lock)) x.can.no_lock)
       (knows.each (lock_number t.shape lock) (number_within t.shape lock there) (subst (λ (d : DomainId). IsTrue (is_lock t.shape d)) (sym (named_by_number t.shape lock there)) there)))
 
   -- and nothing else was done
@@ -190,13 +190,13 @@ on_global_lists shape e = record {
 }
 
 -- the element is listed there at the take
-listed_there : {t : TableView} {p q : PassView} {body : Stored} {set : SetView} → CanPushAt t Global body p → (took : Takes t Global p q (contents.Set set)) → IsIn body.element (rows took.hold.now)
+listed_there : {t : TableView} {p q : PassView} {body : Stored} {set : SetView} → CanPushAt t Global body p → (took : TookLock t Global p q (contents.Set set)) → IsIn body.element (rows took.hold.now)
 listed_there {t} {p} {q} {body} {set} can took =
     took.at_home body.element p.cpu took.within
     (ap (λ (z : PassView). home_known body.element p.cpu z.view.readings) took.after_is ∙ known_then body.element p.cpu p.view.shape took.hold p.view.readings (homes.In Global) can.read)
 
 pub pushing_global : (t now : TableView) (p q r s : PassView) (body : Stored) (set : SetView) (e : ℕ) (bit : Bool) → t ≡ now → IsTrue (is_lru t.shape.kind) → CanPushAt now Global body p → e ≡ body.element
-    → Takes t Global p q (contents.Set set) → Cleared e q r bit → Settled Global e r s → Pushing t Global global_push p q r s body set bit
+    → TookLock t Global p q (contents.Set set) → Cleared e q r bit → Settled Global e r s → Pushing t Global global_push p q r s body set bit
 pushing_global t now p q r s body set e bit is lru can e_is took clear settle =
     let may : CanPushAt t Global body p = subst (λ (z : TableView). CanPushAt z Global body p) (sym is) can in record {
       lru = lru;
@@ -211,7 +211,7 @@ pushing_global t now p q r s body set e bit is lru can e_is took clear settle =
     }
 
 -- where its bit was cleared it may settle
-pub can_settle_global : (t now : TableView) (p q r : PassView) (body : Stored) (set : SetView) (e : ℕ) (bit : Bool) → t ≡ now → CanPushAt now Global body p → e ≡ body.element → Takes t Global p q (contents.Set set) → Cleared e q r bit → CanSettle t e Global r
+pub can_settle_global : (t now : TableView) (p q r : PassView) (body : Stored) (set : SetView) (e : ℕ) (bit : Bool) → t ≡ now → CanPushAt now Global body p → e ≡ body.element → TookLock t Global p q (contents.Set set) → Cleared e q r bit → CanSettle t e Global r
 can_settle_global t now p q r body set e bit is can e_is took clear =
     let may : CanPushAt t Global body p = subst (λ (z : TableView). CanPushAt z Global body p) (sym is) can in
     subst (λ (x : ℕ). CanSettle t x Global r) (sym e_is) (can_settle_listed may.there may.can took (subst (λ (x : ℕ). Cleared x q r bit) e_is clear) refl (listed_there may took))
@@ -241,7 +241,7 @@ no_row e (row ∷ rows) none =
 abbrev pub given_lists : Stored → LocalView → LocalView
 given_lists body lists = with_free (pushed body (without_pending body.element lists).free) (without_pending body.element lists)
 
-module _ {t : TableView} {c : ℕ} {p q : PassView} {body : Stored} {lists : LocalView} (can : CanFree t body p) (took : Takes t (Local c) p q (contents.Local lists)) where
+module _ {t : TableView} {c : ℕ} {p q : PassView} {body : Stored} {lists : LocalView} (can : CanFree t body p) (took : TookLock t (Local c) p q (contents.Local lists)) where
   abbrev e : ℕ
   e = body.element
 
@@ -266,7 +266,7 @@ module _ {t : TableView} {c : ℕ} {p q : PassView} {body : Stored} {lists : Loc
       → Leads t (Local c) cpu (contents.Local lists) (contents.Local back) (steps.with_free e (steps.without_row e took.hold.now)) (local_push true e)
   unfolding local_after stored_in
   local_leads cpu back pending is whole =
-      let leads : told (Local c) (contents.Local back) ≡ in_locals (local_told (given_lists body lists)) = ap (λ (x : LocalView). told (Local c) (contents.Local x)) is in record {
+      let leads : content_told (Local c) (contents.Local back) ≡ in_locals (local_told (given_lists body lists)) = ap (λ (x : LocalView). content_told (Local c) (contents.Local x)) is in record {
         told_is = leads;
         fits = pushed_fits;
         allowed = has_row_in e lists.pending pending;
@@ -396,13 +396,13 @@ was_not_pending e pending found answer present answer_is is =
 pub record PushingLocal (t : TableView) (c : ℕ) (p q r s : PassView) (body : Stored) (lists : LocalView) (bit : Bool) : Type 0 where
   pub lru : IsTrue (is_lru t.shape.kind)
   pub can : CanPushAt t (Local c) body p
-  pub took : Takes t (Local c) p q (contents.Local lists)
+  pub took : TookLock t (Local c) p q (contents.Local lists)
   pub pending : IsIn body.element (elements_of lists.pending)
   pub clear : Cleared body.element q r bit
   pub settle : Settled (Local c) body.element r s
 
 pub pushing_local : (t now : TableView) (p q r s : PassView) (body : Stored) (lists : LocalView) (c e : ℕ) (bit : Bool) → t ≡ now → IsTrue (is_lru t.shape.kind) → CanPushAt now (Local c) body p → e ≡ body.element
-    → Takes t (Local c) p q (contents.Local lists) → IsIn e (elements_of lists.pending) → Cleared e q r bit → Settled (Local c) e r s → PushingLocal t c p q r s body lists bit
+    → TookLock t (Local c) p q (contents.Local lists) → IsIn e (elements_of lists.pending) → Cleared e q r bit → Settled (Local c) e r s → PushingLocal t c p q r s body lists bit
 pushing_local t now p q r s body lists c e bit is lru can e_is took pending clear settle = record {
   lru = lru;
   can = subst (λ (z : TableView). CanPushAt z (Local c) body p) (sym is) can;
@@ -432,11 +432,11 @@ pub record Missing (t : TableView) (c : ℕ) (p q : PassView) (body : Stored) (l
   pub lru : IsTrue (is_lru t.shape.kind)
   pub can : CanPushAt t (Local c) body p
   pub lies : LiesUnder t (Local c) body.element p
-  pub took : Takes t (Local c) p q (contents.Local lists)
+  pub took : TookLock t (Local c) p q (contents.Local lists)
   pub none : times body.element (elements_of lists.pending) ≡ 0
 
 pub missing : (t now : TableView) (p q : PassView) (body : Stored) (lists : LocalView) (c e : ℕ) → t ≡ now → IsTrue (is_lru t.shape.kind) → CanPushAt now (Local c) body p → LiesUnder now (Local c) body.element p → e ≡ body.element
-    → Takes t (Local c) p q (contents.Local lists) → times e (elements_of lists.pending) ≡ 0 → Missing t c p q body lists
+    → TookLock t (Local c) p q (contents.Local lists) → times e (elements_of lists.pending) ≡ 0 → Missing t c p q body lists
 missing t now p q body lists c e is lru can lies e_is took none = record {
   lru = lru;
   can = subst (λ (z : TableView). CanPushAt z (Local c) body p) (sym is) can;

@@ -31,7 +31,7 @@ use Rattle.place_table.specs.declared.view.Hold.{Hold}
 use Rattle.place_table.specs.declared.view.Notes.{Notes}
 use Rattle.place_table.specs.Contents.{IsSized}
 use Rattle.place_table.specs.Flushes.{flushes}
-use Rattle.place_table.specs.Passes.{PassView, TableView, CanClaim, CanGive, CanRehome, Claimed, Gave, Goes, Rehomed, Takes, with_view}
+use Rattle.place_table.specs.Passes.{PassView, TableView, CanClaim, CanGive, CanRehome, Claimed, Gave, Goes, Rehomed, TookLock, with_view}
 use Rattle.place_table.specs.Plays.{HoldsLock}
 use Rattle.place_table.specs.TurnNotes.{WasRead, ProbeFits, CameToHand}
 use Rattle.place_table.specs.Views.{is_in_hand_of, hold_at, no_notes, notes_below, now_at, now_under, with_came, with_in_hand, with_now, rehomed as rehomed_view}
@@ -273,7 +273,7 @@ module _ {t : TableView} {from : ℕ} {lists : LocalView} {p q : PassView} {body
 
 -- The whole turn, from the clauses of its calls
 module _ {t now : TableView} {from : ℕ} {p q : PassView} {here : Slot} {lists : LocalView} (is : t ≡ now) (is_shape : IsShape t.shape) (evicts : IsTrue (is_lru t.shape.kind)) (can : CanSteal now p) (there : from < now.shape.cpus)
-    (here_is : here ≡ contents.Local lists) (took : Takes t (Local from) p q here) where
+    (here_is : here ≡ contents.Local lists) (took : TookLock t (Local from) p q here) where
   abbrev pub may_steal : CanSteal t p
   may_steal = subst (λ (z : TableView). CanSteal z p) (sym is) can
 
@@ -285,7 +285,7 @@ module _ {t now : TableView} {from : ℕ} {p q : PassView} {here : Slot} {lists 
     of_table = may_steal.of_table;
     begun = may_steal.begun;
     alone = may_steal.no_lock;
-    took = subst (Takes t (Local from) p q) here_is took;
+    took = subst (TookLock t (Local from) p q) here_is took;
   }
 
   module _ {left : LocalView} {body : Stored} {e cpu : ℕ} {m : PassView} (top : Some body ≡ slice_get lists.free.bodies 0) (left_is : left ≡ with_free (popped lists.free) lists) (whole : IsLocal left) (e_is : e ≡ body.element) (mine : cpu ≡ p.cpu)

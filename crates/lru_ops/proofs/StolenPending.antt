@@ -39,7 +39,7 @@ use Rattle.place_table.specs.Calls.{reads_bit}
 use Rattle.place_table.specs.Contents.{FitsLocal, IsSized}
 use Rattle.place_table.specs.Flushes.{flushes}
 use Rattle.place_table.specs.Known.{BitTouch, Learns}
-use Rattle.place_table.specs.Passes.{PassView, TableView, CanGive, Gave, GaveBack, MayGiveBack, Takes}
+use Rattle.place_table.specs.Passes.{PassView, TableView, CanGive, Gave, GaveBack, MayGiveBack, TookLock}
 use Rattle.place_table.specs.TurnNotes.{WasRead, ProbeFits, CameToHand, clears_among}
 use Rattle.place_table.specs.Views.{is_among, is_in_hand_of, no_notes, notes_below, with_in_hand}
 use Rattle.place_table.proofs.Entries.{append_nil}
@@ -363,7 +363,7 @@ none_popped lists none = by lists.free.bodies none
     by (body ∷ bodies) none = absurd (none_some none)
 
 module _ {t now : TableView} {from : ℕ} {p q : PassView} {here : Slot} {lists left : LocalView} (is : t ≡ now) (is_shape : IsShape t.shape) (evicts : IsTrue (is_lru t.shape.kind)) (can : CanSteal now p) (there : from < now.shape.cpus)
-    (here_is : here ≡ contents.Local lists) (took : Takes t (Local from) p q here) (none : None ≡ slice_get lists.free.bodies 0) (left_is : left ≡ with_free (popped lists.free) lists) where
+    (here_is : here ≡ contents.Local lists) (took : TookLock t (Local from) p q here) (none : None ≡ slice_get lists.free.bodies 0) (left_is : left ≡ with_free (popped lists.free) lists) where
   same_lists : left ≡ lists
   same_lists = left_is ∙ none_popped lists none
 

@@ -36,10 +36,10 @@ use Rattle.place_table.specs.declared.view.Notes.{Notes}
 use Rattle.place_table.specs.declared.view.OwnerSeen.{OwnerSeen}
 use Rattle.place_table.specs.declared.view.Turned.{Turned}
 use Rattle.place_table.specs.Calls.{CouldBe, IsTold, sets_bit, bits_of_part, bits_of_turns}
-use Rattle.place_table.specs.Contents.{told, Fits}
+use Rattle.place_table.specs.Contents.{content_told, FitsLock}
 use Rattle.place_table.specs.InBucket.{InBucket}
 use Rattle.place_table.specs.Known.{Learns, BitTouch}
-use Rattle.place_table.specs.Passes.{PassView, TableView, CanTake, CanAttach, CanMark, Takes, CanGive, GaveBack, MayGiveBack, Goes, Marked, Attached, Detached, with_view, entry_of}
+use Rattle.place_table.specs.Passes.{PassView, TableView, CanTake, CanAttach, CanMark, TookLock, CanGive, GaveBack, MayGiveBack, Goes, Marked, Attached, Detached, with_view, entry_of}
 use Rattle.place_table.specs.Plays.{IsApartFromHands}
 use Rattle.place_table.specs.Rules.{IsAboveAll}
 use Rattle.place_table.specs.StoredHashes.{stored_in}
@@ -67,7 +67,7 @@ can_take_bucket t bucket p can = record {
   above = subst (IsAboveAll t.shape (rank_of (Bucket bucket))) (sym can.no_lock) tt;
 }
 
-pub enters : (t : TableView) (bucket : ℕ) (p q : PassView) (chain : BodyList) → IsTrue (is_lru t.shape.kind) → CanEnter t bucket p → p.cpu < t.shape.cpus → Takes t (Bucket bucket) p q (contents.Bucket chain) → Enters t bucket p q chain
+pub enters : (t : TableView) (bucket : ℕ) (p q : PassView) (chain : BodyList) → IsTrue (is_lru t.shape.kind) → CanEnter t bucket p → p.cpu < t.shape.cpus → TookLock t (Bucket bucket) p q (contents.Bucket chain) → Enters t bucket p q chain
 enters t bucket p q chain lru can few took =
     let goes = goes_took t (Bucket bucket) p q (contents.Bucket chain) took in
     let view : q.view ≡ holding took.at took.hold p.view = ap (λ (z : PassView). z.view) took.after_is in
@@ -275,7 +275,7 @@ module _ {t : TableView} {bucket : ℕ} {q r : PassView} {bodies : List Stored} 
         may_put = record {
           cpu = begun;
           told_is = ap in_bucket turn.turn.left ∙ (ap (λ (c : ℕ). content_after t.shape c (parts.Bucket part) (in_bucket bodies)) (sym u.goes.cpu) ∙ ap (content_after t.shape r.cpu (parts.Bucket part)) found);
-          fits = subst (λ (d : DomainId). Fits t.shape d (contents.Bucket back)) (sym named) turn.sized;
+          fits = subst (λ (d : DomainId). FitsLock t.shape d (contents.Bucket back)) (sym named) turn.sized;
           allowed = subst (Allows t.shape r.cpu (parts.Bucket part)) found (subst (λ (c : ℕ). Allows t.shape c (parts.Bucket part) (in_bucket bodies)) (sym u.goes.cpu) turn.turn.allowed);
           same_free = λ e. ap (times e) (sym no_free);
           same_rows = λ e. ap (times e) (append_nil (numbers back.bodies)) ∙ (turn.counts e ∙ counted e);
@@ -348,7 +348,7 @@ module _ {t : TableView} {bucket : ℕ} {q r : PassView} {bodies : List Stored} 
         allowed = subst (λ (h : Hold). Allows t.shape r.cpu (parts.Bucket part) (content t.shape (lock_named t.shape h.lock) h.log)) same can.may_put.allowed;
         same_marks = sym can.notes_fit.marks_are ∙ (ap (λ (n : Notes). n.marks) notes ∙ other.notes_fit.marks_are);
         same_clears = λ e. sym (ap (λ (p : Part). times e (clears p)) stands_is.1);
-        leaves = sym (subst (λ (h : Hold). told (lock_named t.shape h.lock) back ≡ content_after t.shape r.cpu (parts.Bucket part) (content t.shape (lock_named t.shape h.lock) h.log)) same can.may_put.told_is) ∙ other.may_put.told_is;
+        leaves = sym (subst (λ (h : Hold). content_told (lock_named t.shape h.lock) back ≡ content_after t.shape r.cpu (parts.Bucket part) (content t.shape (lock_named t.shape h.lock) h.log)) same can.may_put.told_is) ∙ other.may_put.told_is;
       }
 
   -- whether memory for the entry was found or not

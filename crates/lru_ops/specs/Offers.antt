@@ -28,7 +28,7 @@ use Rattle.lru_ops.specs.Lists.{Changed, IsTakenFor, CanFree, Freed}
 use Rattle.lru_ops.specs.Under.{GivenBack, IsOut}
 
 -- what an update gives: a key of the bucket and a value of its side
-pub record Gives (t : TableView) (bucket : ℕ) (side : Side) (key value : List ℕ) : Type 0 where
+pub record AreUpdateArguments (t : TableView) (bucket : ℕ) (side : Side) (key value : List ℕ) : Type 0 where
   pub bucket_is : bucket ≡ bucket_of_key t.shape key
   pub key_sized : length key ≡ t.shape.key_size
   pub value_sized : length value ≡ value_len_of t.shape side

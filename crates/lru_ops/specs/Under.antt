@@ -19,7 +19,7 @@ use Rattle.place_table.specs.Calls.{IsTold, bits_of_turns}
 use Rattle.place_table.specs.Contents.{IsSized}
 use Rattle.place_table.specs.InBucket.{InBucket}
 use Rattle.place_table.specs.Known.{Learns, turn_of, IsBy}
-use Rattle.place_table.specs.Passes.{PassView, TableView, IsPassOf, HasBegun, Takes, Goes, Marked}
+use Rattle.place_table.specs.Passes.{PassView, TableView, IsPassOf, HasBegun, TookLock, Goes, Marked}
 use Rattle.place_table.specs.Views.{with_in_hand, notes_below}
 
 -- a bucket of the map is taken by a pass that holds no lock
@@ -32,7 +32,7 @@ pub record CanEnter (t : TableView) (bucket : ℕ) (p : PassView) : Type 0 where
 -- the bucket was taken, of a map that evicts, whatever is in hand
 pub record Enters (t : TableView) (bucket : ℕ) (p q : PassView) (chain : BodyList) : Type 0 where
   pub evicts : IsTrue (is_lru t.shape.kind)
-  pub took : Takes t (Bucket bucket) p q (contents.Bucket chain)
+  pub took : TookLock t (Bucket bucket) p q (contents.Bucket chain)
   pub inside : InBucket t bucket q chain.bodies
 
 -- The bucket, the one lock that was held, was given back. This turn, the one since it was taken, is told as one with this part; this

@@ -8,7 +8,7 @@ ghost use Rattle.map_types.specs.ValueLen.{value_len_of};
 ghost use Rattle.place_words.specs.Turns.{bucket_of_key};
 ghost use Rattle.place_table.specs.Calls.{CanCall, Called, reply_of_value, reply_of_done};
 ghost use Rattle.lru_ops.specs.Calls.{MayRefuse, Updates};
-ghost use Rattle.lru_ops.specs.Offers.{Gives, CanFreeLeft, HasFreedLeft, CanOffer, OfferAnswers};
+ghost use Rattle.lru_ops.specs.Offers.{AreUpdateArguments, CanFreeLeft, HasFreedLeft, CanOffer, OfferAnswers};
 
 use crate::map::{LruMap, LruRefusal};
 use crate::updates::Offered;
@@ -144,7 +144,7 @@ impl LruMap {
         gate: &G,
     ) -> Result<(), LruRefusal>
         requires can { CanCall self.now pass.old }
-        requires gives { Gives self.now (bucket_of_key self.now.shape key.now) side key.now value.now }
+        requires gives { AreUpdateArguments self.now (bucket_of_key self.now.shape key.now) side key.now value.now }
         requires percpu { IsTrue (is_percpu self.now.shape.kind) }
         ensures updates { Updates self.now pass.old pass.new side 2 key.now value.now result }
         ensures refuses { IfErr result (MayRefuse self.now.shape.kind 2) }
@@ -167,7 +167,7 @@ impl LruMap {
         gate: &G,
     ) -> Result<(), LruRefusal>
         requires can { CanOffer self.now key.now body pass.old }
-        requires gives { Gives self.now (bucket_of_key self.now.shape key.now) side key.now value.now }
+        requires gives { AreUpdateArguments self.now (bucket_of_key self.now.shape key.now) side key.now value.now }
         requires known { flags ≤ 2 }
         ensures answers { OfferAnswers self.now pass.old pass.new side flags key.now value.now body.element result }
         ensures refuses { IfErr result (MayRefuse self.now.shape.kind flags) }

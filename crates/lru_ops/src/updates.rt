@@ -6,7 +6,7 @@ ghost use Rattle.place_words.specs.Bodies.{present};
 ghost use Rattle.place_words.specs.Buckets.{AllowsPut};
 ghost use Rattle.place_table.specs.InBucket.{InBucket, IsAt};
 ghost use Rattle.lru_ops.specs.Calls.{MayRefuse};
-ghost use Rattle.lru_ops.specs.Offers.{Gives, IsOffered, IsRefusal, PutsInPlace, Writes, OfferEnds, AloneEnds, Adds, Replaces};
+ghost use Rattle.lru_ops.specs.Offers.{AreUpdateArguments, IsOffered, IsRefusal, PutsInPlace, Writes, OfferEnds, AloneEnds, Adds, Replaces};
 
 use crate::map::{LruMap, LruRefusal};
 use bucket_chain::Chain;
@@ -38,7 +38,7 @@ impl LruMap {
         gate: &G,
     ) -> Offered
         requires inside { InBucket self.now bucket pass.old chain.bodies }
-        requires gives { Gives self.now bucket side key.now value.now }
+        requires gives { AreUpdateArguments self.now bucket side key.now value.now }
         requires offered { IsOffered self.now bucket pass.old body }
         requires known { flags ≤ 2 }
         ensures ends { OfferEnds self.now bucket pass.old pass.new side flags key.now value.now body result.left result.answer }
@@ -67,7 +67,7 @@ impl LruMap {
         gate: &G,
     ) -> Offered
         requires inside { InBucket self.now bucket pass.old chain.bodies }
-        requires gives { Gives self.now bucket side key.now value.now }
+        requires gives { AreUpdateArguments self.now bucket side key.now value.now }
         requires offered { IsOffered self.now bucket pass.old body }
         requires at { IsAt key.now place chain.bodies }
         requires known { flags ≤ 2 }
@@ -126,7 +126,7 @@ impl LruMap {
         gate: &G,
     ) -> Offered
         requires inside { InBucket self.now bucket pass.old chain.bodies }
-        requires gives { Gives self.now bucket side key.now value.now }
+        requires gives { AreUpdateArguments self.now bucket side key.now value.now }
         requires offered { IsOffered self.now bucket pass.old body }
         requires absent { present key.now chain.bodies ≡ None }
         requires known { flags ≤ 2 }
@@ -202,7 +202,7 @@ impl LruMap {
         gate: &G,
     )
         requires inside { InBucket self.now bucket pass.old chain.bodies }
-        requires gives { Gives self.now bucket side key.now value.now }
+        requires gives { AreUpdateArguments self.now bucket side key.now value.now }
         requires offered { IsOffered self.now bucket pass.old body }
         requires absent { present key.now chain.bodies ≡ None }
         requires adds { flags ≢ 2 }
@@ -249,7 +249,7 @@ impl LruMap {
         gate: &G,
     )
         requires inside { InBucket self.now bucket pass.old chain.bodies }
-        requires gives { Gives self.now bucket side key.now value.now }
+        requires gives { AreUpdateArguments self.now bucket side key.now value.now }
         requires at { IsAt key.now place chain.bodies }
         requires percpu { IsTrue (is_percpu self.now.shape.kind) }
         requires replaces { flags ≢ 1 }
@@ -293,7 +293,7 @@ impl LruMap {
         gate: &G,
     ) -> BoxedBody
         requires inside { InBucket self.now bucket pass.old chain.bodies }
-        requires gives { Gives self.now bucket side key.now value.now }
+        requires gives { AreUpdateArguments self.now bucket side key.now value.now }
         requires offered { IsOffered self.now bucket pass.old body }
         requires at { IsAt key.now place chain.bodies }
         requires single { is_percpu self.now.shape.kind ≡ false }
@@ -339,7 +339,7 @@ impl LruMap {
         gate: &G,
     ) -> Result<(), LruRefusal>
         requires inside { InBucket self.now bucket pass.old chain.bodies }
-        requires gives { Gives self.now bucket side key.now value.now }
+        requires gives { AreUpdateArguments self.now bucket side key.now value.now }
         requires percpu { IsTrue (is_percpu self.now.shape.kind) }
         ensures ends { AloneEnds self.now bucket pass.old pass.new side 2 key.now value.now result }
         ensures refuses { IfErr result (MayRefuse self.now.shape.kind 2) }

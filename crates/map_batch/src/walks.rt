@@ -3,7 +3,7 @@
 ghost use Rattle.std.specs.Prelude.{◌≡◌, IfErr, IfSome, length, option_map};
 ghost use Rattle.map_types.specs.declared.call.Verb.TheVariants as verbs;
 ghost use Rattle.place_table.specs.Calls.{CanCall, Called, reply_of_value};
-ghost use Rattle.bucket_walks.specs.Reads.{Answers, Comes};
+ghost use Rattle.bucket_walks.specs.BatchReads.{Answers, Comes};
 ghost use Rattle.map_batch.specs.Calls.{table_of};
 
 use crate::any_map::AnyMap;

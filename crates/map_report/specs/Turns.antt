@@ -42,12 +42,12 @@ use Rattle.map_report.specs.Freelists.{stack_at, first_not_empty}
 use Rattle.map_report.specs.Serial.{bucket_at, in_bucket_at, pair_read, if_emptied, after_update, after_delete, after_call}
 
 -- what lies under each lock of a map that doesn't evict, which has no lists but buckets and freelists
-abbrev pub lies : Finals → DomainId → Content
-lies lists (Local cpu) = in_locals (new_locals cpu)
-lies lists Global = in_global (new_set [])
-lies lists (CpuLru cpu) = in_own (new_set [])
-lies lists (Bucket bucket) = in_bucket (slice_index_or lists.buckets bucket [])
-lies lists (Freelist cpu) = on_freelist (stack_at lists.freelists cpu)
+abbrev pub content_under : Finals → DomainId → Content
+content_under lists (Local cpu) = in_locals (new_locals cpu)
+content_under lists Global = in_global (new_set [])
+content_under lists (CpuLru cpu) = in_own (new_set [])
+content_under lists (Bucket bucket) = in_bucket (slice_index_or lists.buckets bucket [])
+content_under lists (Freelist cpu) = on_freelist (stack_at lists.freelists cpu)
 
 -- the spare that a CPU has
 abbrev pub spare_at : Finals → ℕ → Option ℕ

@@ -1,18 +1,18 @@
 -- Reads and writes one after another.
 use Rattle.std.proofs.Common.{◌≡◌, ℕ, ◌+◌, ◌<◌, List, [], ◌∷◌, ◌++◌, length, take, drop, Option, Some, None, sym, ap, ◌∙◌, arith, append_assoc, subst}
 use Rattle.std.proofs.Math.Seq.{take-add}
-use Rattle.map_run.specs.Reads.{Takes, TakesAll, EndsWhereNoneIsLeft}
+use Rattle.map_run.specs.SourceReads.{TakesFront, TakesAll, EndsWhereNoneIsLeft}
 use Rattle.map_run.specs.Writes.{Written, Adds}
 
 -- what is taken by two reads, one after the other
-pub Takes-append : (first middle last : Option (List ℕ)) (a b : List ℕ) → Takes first middle a → Takes middle last b → Takes first last (a ++ b)
-Takes-append None middle last a b p q = tt
-Takes-append (Some x) None last a b p q = absurd p
-Takes-append (Some x) (Some y) None a b p q = absurd q
-Takes-append (Some x) (Some y) (Some z) a b p q = p ∙ ap (λ r. a ++ r) q ∙ sym (append_assoc a b z)
+pub TakesFront-append : (first middle last : Option (List ℕ)) (a b : List ℕ) → TakesFront first middle a → TakesFront middle last b → TakesFront first last (a ++ b)
+TakesFront-append None middle last a b p q = tt
+TakesFront-append (Some x) None last a b p q = absurd p
+TakesFront-append (Some x) (Some y) None a b p q = absurd q
+TakesFront-append (Some x) (Some y) (Some z) a b p q = p ∙ ap (λ r. a ++ r) q ∙ sym (append_assoc a b z)
 
 -- a read of nothing where there is room comes when all was taken
-pub TakesAll-at_end : (first middle last : Option (List ℕ)) (a b : List ℕ) (room n : ℕ) → Takes first middle a → Takes middle last b → 0 < room → EndsWhereNoneIsLeft middle room n → length b ≡ n → n ≡ 0 → TakesAll first last (a ++ b)
+pub TakesAll-at_end : (first middle last : Option (List ℕ)) (a b : List ℕ) (room n : ℕ) → TakesFront first middle a → TakesFront middle last b → 0 < room → EndsWhereNoneIsLeft middle room n → length b ≡ n → n ≡ 0 → TakesAll first last (a ++ b)
 TakesAll-at_end None middle last a b room n p q lt end len none = tt
 TakesAll-at_end (Some x) None last a b room n p q lt end len none = absurd p
 TakesAll-at_end (Some x) (Some y) None a b room n p q lt end len none = absurd q

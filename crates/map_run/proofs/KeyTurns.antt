@@ -36,7 +36,7 @@ use Rattle.map_report.specs.Freelists.{stack_at, first_not_empty, popped_at, pop
 use Rattle.map_report.specs.Serial.{has_spares, bucket_at, value_or_absent, new_stored, replaced, written, added, updated, deleted, after_call}
 use Rattle.place_words.proofs.DoneLaws.{IsKeyVerb}
 use Rattle.map_report.specs.Soundness.{IsSound}
-use Rattle.map_report.specs.Turns.{lies, spare_at, pop_turns, got_of, put_popped, update_turns, call_turns}
+use Rattle.map_report.specs.Turns.{content_under, spare_at, pop_turns, got_of, put_popped, update_turns, call_turns}
 use Rattle.map_run.proofs.EachOnceRun.{bucket_within, spares_unless_percpu}
 use Rattle.map_run.proofs.RingTurns.{lists_popped, pop_traced, none_traced, pop_allowed, pop_leaves, pop_spare}
 use Rattle.map_run.proofs.TurnSteps.{after_more, allowed_more, spare_more, bucket_leaves, bucket_stays, freelist_leaves}
@@ -98,8 +98,8 @@ module _ (shape : Shape) (side : Side) (cpu : ℕ) (key value : List ℕ) where
 -- these turns do what a call does, which leaves these lists and gives this answer
 record Does (shape : Shape) (cpu : ℕ) (verb : Verb) (lists : Finals) (turns : List Turn) (after : Finals × Reply) : Type 0 where
   trace : IsPlainTrace shape cpu (spare_at lists cpu) verb turns after.1
-  allowed : AreAllowed shape cpu (lies lists) turns
-  leaves : after_turns shape cpu (lies lists) turns ≡ lies after.0
+  allowed : AreAllowed shape cpu (content_under lists) turns
+  leaves : after_turns shape cpu (content_under lists) turns ≡ content_under after.0
   spare : spare_after (spare_at lists cpu) turns ≡ spare_at after.0 cpu
   other_spares : (other : ℕ) → other ≢ cpu → spare_at after.0 other ≡ spare_at lists other
 
@@ -107,18 +107,18 @@ module _ (shape : Shape) (cpu : ℕ) (lists : Finals) where
   -- the last turn is that of the key's bucket
   last_does : (verb : Verb) (after : Finals × Reply) (looks : List Turn) (middle : Finals) (key : List ℕ) (part : BucketPart)
       → IsPlainTrace shape cpu (spare_at lists cpu) verb (looks ++ on_bucket_of shape key part ∷ []) after.1
-      → AreAllowed shape cpu (lies lists) looks
-      → after_turns shape cpu (lies lists) looks ≡ lies middle
+      → AreAllowed shape cpu (content_under lists) looks
+      → after_turns shape cpu (content_under lists) looks ≡ content_under middle
       → AllowsInBucket shape cpu part (bucket_at shape middle key)
-      → after_turn shape cpu (lies middle) (on_bucket_of shape key part) ≡ lies after.0
+      → after_turn shape cpu (content_under middle) (on_bucket_of shape key part) ≡ content_under after.0
       → spare_after_part (spare_after (spare_at lists cpu) looks) (parts.Bucket part) ≡ spare_at after.0 cpu
       → ((other : ℕ) → other ≢ cpu → spare_at after.0 other ≡ spare_at lists other)
       → Does shape cpu verb lists (looks ++ on_bucket_of shape key part ∷ []) after
   last_does verb after looks middle key part trace looks_allowed looked allowed left spare others = record {
     trace = trace;
-    allowed = allowed_more shape cpu (lies lists) looks (on_bucket_of shape key part ∷ []) looks_allowed
+    allowed = allowed_more shape cpu (content_under lists) looks (on_bucket_of shape key part ∷ []) looks_allowed
         (subst (λ contents. AreAllowed shape cpu contents (on_bucket_of shape key part ∷ [])) (sym looked) (allowed, tt));
-    leaves = after_more shape cpu (lies lists) looks (on_bucket_of shape key part ∷ []) ∙ ap (λ contents. after_turn shape cpu contents (on_bucket_of shape key part)) looked ∙ left;
+    leaves = after_more shape cpu (content_under lists) looks (on_bucket_of shape key part ∷ []) ∙ ap (λ contents. after_turn shape cpu contents (on_bucket_of shape key part)) looked ∙ left;
     spare = spare_more (spare_at lists cpu) looks (on_bucket_of shape key part ∷ []) ∙ spare;
     other_spares = others;
   }
@@ -315,9 +315,9 @@ module _ (shape : Shape) (cpu : ℕ) (lists : Finals) (built : is_lru shape.kind
 -- it has then. The other CPUs keep their spares.
 pub record DoesTurns (shape : Shape) (cpu : ℕ) (verb : Verb) (lists : Finals) : Type 0 where
   pub trace : IsPlainTrace shape cpu (spare_at lists cpu) verb (call_turns shape cpu verb lists) (after_call shape cpu verb lists).1
-  pub allowed : AreAllowed shape cpu (lies lists) (call_turns shape cpu verb lists)
+  pub allowed : AreAllowed shape cpu (content_under lists) (call_turns shape cpu verb lists)
   pub leaves : (lock : DomainId) → IsTrue (is_lock shape lock)
-      → after_turns shape cpu (lies lists) (call_turns shape cpu verb lists) lock ≡ lies (after_call shape cpu verb lists).0 lock
+      → after_turns shape cpu (content_under lists) (call_turns shape cpu verb lists) lock ≡ content_under (after_call shape cpu verb lists).0 lock
   pub spare : spare_after (spare_at lists cpu) (call_turns shape cpu verb lists) ≡ spare_at (after_call shape cpu verb lists).0 cpu
   pub other_spares : (other : ℕ) → other ≢ cpu → spare_at (after_call shape cpu verb lists).0 other ≡ spare_at lists other
 

@@ -19,7 +19,7 @@ use Rattle.place_words.specs.Traces.{Turn, on_freelist_of, after_turn, after_tur
 use Rattle.place_words.specs.Turns.{on_lock}
 use Rattle.map_report.specs.Freelists.{stack_at, pushed}
 use Rattle.map_report.specs.Serial.{in_bucket_at, all_pushed}
-use Rattle.map_report.specs.Turns.{lies, spare_at}
+use Rattle.map_report.specs.Turns.{content_under, spare_at}
 use Rattle.map_run.proofs.TurnLocks.{OnLock, OnLocks, all_append}
 use Rattle.map_run.proofs.TurnSteps.{after_more, spare_more, with_content, after_is, after_same, lies_bucket, freelist_leaves}
 
@@ -27,7 +27,7 @@ use Rattle.map_run.proofs.TurnSteps.{after_more, spare_more, with_content, after
 -- they leave the CPU the spare that it has then. The other CPUs keep theirs.
 pub record Leads (shape : Shape) (cpu : ℕ) (turns : List Turn) (lists after : Finals) : Type 0 where
   pub on_locks : OnLocks shape turns
-  pub leaves : (lock : DomainId) → IsTrue (is_lock shape lock) → after_turns shape cpu (lies lists) turns lock ≡ lies after lock
+  pub leaves : (lock : DomainId) → IsTrue (is_lock shape lock) → after_turns shape cpu (content_under lists) turns lock ≡ content_under after lock
   pub spare : spare_after (spare_at lists cpu) turns ≡ spare_at after cpu
   pub other_spares : (other : ℕ) → other ≢ cpu → spare_at after other ≡ spare_at lists other
 
@@ -46,14 +46,14 @@ module _ (shape : Shape) (cpu : ℕ) where
   leads_both first second lists middle after one two = record {
     on_locks = all_append (OnLock shape) first second one.on_locks two.on_locks;
     leaves = λ lock real.
-        ap (λ (contents : DomainId → Content). contents lock) (after_more shape cpu (lies lists) first second)
-        ∙ after_alike second (after_turns shape cpu (lies lists) first) (lies middle) lock (one.leaves lock real) ∙ two.leaves lock real;
+        ap (λ (contents : DomainId → Content). contents lock) (after_more shape cpu (content_under lists) first second)
+        ∙ after_alike second (after_turns shape cpu (content_under lists) first) (content_under middle) lock (one.leaves lock real) ∙ two.leaves lock real;
     spare = spare_more (spare_at lists cpu) first second ∙ ap (λ (s : Option ℕ). spare_after s second) one.spare ∙ two.spare;
     other_spares = λ other apart. two.other_spares other apart ∙ one.other_spares other apart;
   }
 
   -- a turn that leaves the spares
-  pub leads_one : (turn : Turn) (lists after : Finals) → OnLock shape turn → after_turn shape cpu (lies lists) turn ≡ lies after → spare_after_part (spare_at lists cpu) turn.part ≡ spare_at lists cpu
+  pub leads_one : (turn : Turn) (lists after : Finals) → OnLock shape turn → after_turn shape cpu (content_under lists) turn ≡ content_under after → spare_after_part (spare_at lists cpu) turn.part ≡ spare_at lists cpu
       → after.spares ≡ lists.spares → Leads shape cpu (turn ∷ []) lists after
   leads_one turn lists after real leaves stays same = record {
     on_locks = (real, tt);
@@ -68,7 +68,7 @@ module _ (shape : Shape) (cpu : ℕ) where
       → Leads shape cpu (on_lock (Bucket bucket) (parts.Bucket part) ∷ []) lists (record lists { buckets = set lists.buckets bucket new })
   bucket_leads bucket part lists new below within leaves stays =
       leads_one (on_lock (Bucket bucket) (parts.Bucket part)) lists (record lists { buckets = set lists.buckets bucket new }) (lt-ltb bucket shape.buckets below)
-      (after_is shape cpu (lies lists) (on_lock (Bucket bucket) (parts.Bucket part)) ∙ ap (λ (b : List Stored). with_content (lies lists) (Bucket bucket) (in_bucket b)) leaves
+      (after_is shape cpu (content_under lists) (on_lock (Bucket bucket) (parts.Bucket part)) ∙ ap (λ (b : List Stored). with_content (content_under lists) (Bucket bucket) (in_bucket b)) leaves
       ∙ lies_bucket lists bucket new within)
       stays refl
 
@@ -78,7 +78,7 @@ module _ (shape : Shape) (cpu : ℕ) where
       → Leads shape cpu (on_lock (Bucket bucket) (parts.Bucket part) ∷ []) lists lists
   look_leads bucket part lists below leaves stays =
       leads_one (on_lock (Bucket bucket) (parts.Bucket part)) lists lists (lt-ltb bucket shape.buckets below)
-      (after_same shape cpu (lies lists) (on_lock (Bucket bucket) (parts.Bucket part)) (ap in_bucket leaves)) stays refl
+      (after_same shape cpu (content_under lists) (on_lock (Bucket bucket) (parts.Bucket part)) (ap in_bucket leaves)) stays refl
 
   -- Elements that are pushed one after another
   module _ (plain : is_lru shape.kind ≡ false) (few : cpu < shape.cpus) where

@@ -29,7 +29,7 @@ use Rattle.place_table.proofs.FirstSlots.{no_local, not_common}
 use Rattle.map_report.specs.Freelists.{stack_at, ring, first_not_empty, popped_at, popped, spares_popped}
 use Rattle.map_report.specs.Freelists as lists
 use Rattle.map_report.specs.Serial.{has_spares, opening}
-use Rattle.map_report.specs.Turns.{lies}
+use Rattle.map_report.specs.Turns.{content_under}
 use Rattle.map_run.proofs.EachOnceOpening.{opening_stacks_permute}
 use Rattle.map_run.proofs.StackLemmas.{has_top, with_spare, spares_next, spares_end}
 
@@ -310,7 +310,7 @@ pub no_set : (shape : Shape) (cpu : ℕ) → is_lru shape.kind ≡ false → is_
 no_set shape cpu plain = ap (λ (b : Bool). (b && not shape.common) && nat_lt cpu shape.cpus) plain
 
 -- the same lies under each lock at first
-pub opening_lies : (shape : Shape) → HasBounds shape → is_lru shape.kind ≡ false → (lock : DomainId) → IsTrue (is_lock shape lock) → lies (opening shape) lock ≡ opening_content shape lock
+pub opening_lies : (shape : Shape) → HasBounds shape → is_lru shape.kind ≡ false → (lock : DomainId) → IsTrue (is_lock shape lock) → content_under (opening shape) lock ≡ opening_content shape lock
 unfolding opening opening_free
 opening_lies shape bounds built (Local cpu) there = let gone = no_local shape cpu (not_common shape bounds built) in absurd cc
 opening_lies shape bounds built Global there = let gone = not_common shape bounds built in absurd cc

@@ -25,7 +25,7 @@ use Rattle.place_words.specs.Locks.{is_lock, lock_named, lock_number, first_free
 use Rattle.place_words.specs.Openings.{is_free}
 use Rattle.place_words.proofs.LockLemmas.{named_by_number, number_of_named, number_within}
 use Rattle.place_core.specs.declared.step.Lists.{Lists}
-use Rattle.place_core.specs.Places.{Place, lies, carried, lies_at, is_in_bucket, MayLie, MayLieUnder, MayOwn}
+use Rattle.place_core.specs.Places.{ElementPlace, under_lock, carried, lies_at, is_in_bucket, MayLie, MayLieUnder, MayOwn}
 use Rattle.place_core.specs.Totals.{sum_below}
 use Rattle.place_core.proofs.ElementLemmas.{times_append}
 use Rattle.place_core.proofs.TotalLemmas.{sum_same, sum_zero, sum_hit, bucket_list}
@@ -94,11 +94,11 @@ module _ (shape : Shape) (bounds : HasBounds shape) (built : is_lru shape.kind �
       sum_same shape.cpus (λ c. one (eqb k (lock_number shape (Freelist c)))) (λ c. one (eqb cpu c)) (λ c below. ap (λ n. one (eqb n (lock_number shape (Freelist c)))) number ∙ ap one (shifted (first_freelist shape) cpu c))
       ∙ sum_hit shape.cpus cpu real
 
-  free_once : (e : ℕ) (o : Owner) (place : Place) → MayLie shape e o place → sum_below shape.cpus (λ c. one (lies_at (lock_number shape (Freelist c)) place)) ≡ 1
-  free_once e o (lies k) may = under_one e k (lock_named shape k) refl may
+  free_once : (e : ℕ) (o : Owner) (place : ElementPlace) → MayLie shape e o place → sum_below shape.cpus (λ c. one (lies_at (lock_number shape (Freelist c)) place)) ≡ 1
+  free_once e o (under_lock k) may = under_one e k (lock_named shape k) refl may
   free_once e o (carried cpu) may = shares_none may.0
 
-  in_one_place : (e : ℕ) (o : Owner) (place : Place) → MayOwn shape o → MayLie shape e o place
+  in_one_place : (e : ℕ) (o : Owner) (place : ElementPlace) → MayOwn shape o → MayLie shape e o place
       → sum_below shape.buckets (λ b. one (is_in_bucket b o)) + sum_below shape.cpus (λ c. one (is_free o && lies_at (lock_number shape (Freelist c)) place)) + sum_below shape.cpus (λ c. one (is_hand_of c o)) ≡ 1
   in_one_place e owners.Free place own may =
       let buckets = sum_zero shape.buckets in
@@ -122,7 +122,7 @@ module _ (shape : Shape) (p : PassView) (closed : ClosedView) (ends : IsClosed s
   lists_there lock real =
       let k : ℕ = lock_number shape lock in
       let named = named_by_number shape lock real in
-      ends.lies k (number_within shape lock real) (ap (is_lock shape) named ∙ real) ∙ ap (λ (d : DomainId). lists_of (content shape d (ends.log k))) named
+      ends.lists_are k (number_within shape lock real) (ap (is_lock shape) named ∙ real) ∙ ap (λ (d : DomainId). lists_of (content shape d (ends.log k))) named
 
   pub in_bucket_lists : (e : ℕ) → times e (in_buckets closed.finals) ≡ sum_below shape.buckets (λ b. one (ltb e shape.elements && is_in_bucket b (ends.core.owner e)))
   in_bucket_lists e =

@@ -24,7 +24,7 @@ use Rattle.place_words.proofs.LockLemmas.{named_by_number, number_of_named, same
 use Rattle.place_words.proofs.RestCounts.{free_on}
 use Rattle.place_words.proofs.Settled.{elements_on}
 use Rattle.place_core.specs.declared.step.Lists.{Lists}
-use Rattle.place_core.specs.Places.{Place, lies, carried, lies_at, is_in_bucket, has_row, MayLie, MayLieUnder, MayOwn}
+use Rattle.place_core.specs.Places.{ElementPlace, under_lock, carried, lies_at, is_in_bucket, has_row, MayLie, MayLieUnder, MayOwn}
 use Rattle.place_core.specs.State.{rows}
 use Rattle.place_core.specs.Totals.{sum_below}
 use Rattle.place_core.proofs.ElementLemmas.{times_append}
@@ -190,13 +190,13 @@ module _ (shape : Shape) (p : PassView) (closed : ClosedView) (ends : IsClosed s
     listed_all = sum_over (elements_on e) (lies_in shape at_end) (list_locks shape)
 
     -- the lock where it lies: no CPU carries it
-    home : (place : Place) → ends.placed.place e ≡ place → MayOwn shape owner → MayLie shape e owner place → (k : ℕ) × (ends.placed.place e ≡ lies k) × MayLieUnder shape e (lock_named shape k)
-    home (lies k) is own may = (k, is, may)
+    home : (place : ElementPlace) → ends.placed.place e ≡ place → MayOwn shape owner → MayLie shape e owner place → (k : ℕ) × (ends.placed.place e ≡ under_lock k) × MayLieUnder shape e (lock_named shape k)
+    home (under_lock k) is own may = (k, is, may)
     home (carried cpu) is own may =
         let within : cpu < shape.cpus = subst (MayOwn shape) may.1 own in
         absurd (both_ways (is_hand_of cpu owner) (empty_handed e cpu within) (ap (is_hand_of cpu) may.1 ∙ eq-eqb cpu cpu refl))
 
-    here_is : (k : ℕ) → ends.placed.place e ≡ lies k → (lock : DomainId) → IsListLock shape lock → here e lock ≡ is_same_lock (lock_named shape k) lock
+    here_is : (k : ℕ) → ends.placed.place e ≡ under_lock k → (lock : DomainId) → IsListLock shape lock → here e lock ≡ is_same_lock (lock_named shape k) lock
     here_is k is lock list = ap (lies_at (lock_number shape lock)) is ∙ lies_by shape k lock (there lock list)
 
     -- a sum over the locks of what is there of it

@@ -16,7 +16,7 @@ use Rattle.place_words.specs.Histories.{Content, in_bucket, on_freelist, in_loca
 use Rattle.place_words.specs.Traces.{Pops, ring, on_freelist_of, found_empty, after_turn, after_turns, AreAllowed, spare_after}
 use Rattle.place_words.proofs.Splits.{find_passes, find_splits}
 use Rattle.map_report.specs.Freelists.{stack_at, first_not_empty, popped_at}
-use Rattle.map_report.specs.Turns.{lies, pop_turns}
+use Rattle.map_report.specs.Turns.{content_under, pop_turns}
 use Rattle.map_run.proofs.EachOnceSteps.{some_there, none_there, stack_within}
 use Rattle.map_run.proofs.TurnSteps.{after_more, allowed_more, spare_more, after_same, freelist_leaves}
 
@@ -73,11 +73,11 @@ spare_empty spare (owner ∷ owners) = spare_empty spare owners
 abbrev has_top : List (List ℕ) → ℕ → Bool
 has_top stacks cpu = not (eqb (length (stack_at stacks cpu)) 0)
 
-empty_allowed : (shape : Shape) (cpu : ℕ) (lists : Finals) (owners : List ℕ) → Fail (has_top lists.freelists) owners → AreAllowed shape cpu (lies lists) (found_empty owners)
+empty_allowed : (shape : Shape) (cpu : ℕ) (lists : Finals) (owners : List ℕ) → Fail (has_top lists.freelists) owners → AreAllowed shape cpu (content_under lists) (found_empty owners)
 empty_allowed shape cpu lists [] fail = tt
 empty_allowed shape cpu lists (owner ∷ owners) fail = (
   nil_from_length (stack_at lists.freelists owner) (none_there (length (stack_at lists.freelists owner)) fail.0),
-  subst (λ contents. AreAllowed shape cpu contents (found_empty owners)) (sym (empty_stays shape cpu (lies lists) owner)) (empty_allowed shape cpu lists owners fail.1),
+  subst (λ contents. AreAllowed shape cpu contents (found_empty owners)) (sym (empty_stays shape cpu (content_under lists) owner)) (empty_allowed shape cpu lists owners fail.1),
 )
 
 -- Pops
@@ -116,26 +116,26 @@ module _ (shape : Shape) (cpu : ℕ) (lists : Finals) where
       some_there (length (stack_at lists.freelists giver)) (find_passes (has_top lists.freelists) (ring cpu (length lists.freelists)) giver found)
 
   -- each of its turns may be made
-  pub pop_allowed : (found : Option ℕ) → first_not_empty cpu lists.freelists ≡ found → AreAllowed shape cpu (lies lists) (pop_turns cpu lists.freelists found)
+  pub pop_allowed : (found : Option ℕ) → first_not_empty cpu lists.freelists ≡ found → AreAllowed shape cpu (content_under lists) (pop_turns cpu lists.freelists found)
   pop_allowed None is = empty_allowed shape cpu lists (ring cpu (length lists.freelists)) (all_fail (has_top lists.freelists) (ring cpu (length lists.freelists)) is)
   pop_allowed (Some giver) is =
       let passed : List ℕ = before_first (has_top lists.freelists) (ring cpu (length lists.freelists)) in
       let top : ℕ = get_or (stack_at lists.freelists giver) 0 0 in
-      allowed_more shape cpu (lies lists) (found_empty passed) (on_freelist_of giver (Popped top) ∷ [])
+      allowed_more shape cpu (content_under lists) (found_empty passed) (on_freelist_of giver (Popped top) ∷ [])
       (empty_allowed shape cpu lists passed (fail_before (has_top lists.freelists) (ring cpu (length lists.freelists))))
-      (subst (λ contents. AreAllowed shape cpu contents (on_freelist_of giver (Popped top) ∷ [])) (sym (after_empty shape cpu (lies lists) passed))
+      (subst (λ contents. AreAllowed shape cpu contents (on_freelist_of giver (Popped top) ∷ [])) (sym (after_empty shape cpu (content_under lists) passed))
       (head_is (stack_at lists.freelists giver) (giver_full giver is), tt))
 
   -- they leave the freelists as a pop does
   pub pop_leaves : (found : Option ℕ) → first_not_empty cpu lists.freelists ≡ found
-      → after_turns shape cpu (lies lists) (pop_turns cpu lists.freelists found) ≡ lies (lists_popped lists found)
-  pop_leaves None is = after_empty shape cpu (lies lists) (ring cpu (length lists.freelists))
+      → after_turns shape cpu (content_under lists) (pop_turns cpu lists.freelists found) ≡ content_under (lists_popped lists found)
+  pop_leaves None is = after_empty shape cpu (content_under lists) (ring cpu (length lists.freelists))
   pop_leaves (Some giver) is =
       let passed : List ℕ = before_first (has_top lists.freelists) (ring cpu (length lists.freelists)) in
       let stack : List ℕ = stack_at lists.freelists giver in
       let last = on_freelist_of giver (Popped (get_or stack 0 0)) in
-      after_more shape cpu (lies lists) (found_empty passed) (last ∷ [])
-      ∙ ap (λ contents. after_turn shape cpu contents last) (after_empty shape cpu (lies lists) passed)
+      after_more shape cpu (content_under lists) (found_empty passed) (last ∷ [])
+      ∙ ap (λ contents. after_turn shape cpu contents last) (after_empty shape cpu (content_under lists) passed)
       ∙ freelist_leaves shape cpu lists giver (Popped (get_or stack 0 0)) (drop 1 stack) (stack_within lists.freelists giver (giver_full giver is)) (rest_is stack)
 
   -- and the spare as it is

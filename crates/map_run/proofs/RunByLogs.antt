@@ -30,7 +30,7 @@ use Rattle.place_table.specs.Known.{turn_at}
 use Rattle.place_table.specs.Passes.{PassView, TableView, begun, spare_of, IsFirstPass, IsKeptOf}
 use Rattle.place_table.specs.Rules.{turns_on}
 use Rattle.place_table.specs.Views.{is_among, known_log, bit_seen, numbers_below, no_turns, no_bits, has_all, all_strands, current_strand, place_of, kept_step}
-use Rattle.place_table.proofs.Gives.{first_has}
+use Rattle.place_table.proofs.TakeToGive.{first_has}
 use Rattle.place_table.proofs.Going.{goes_of_table, kept_on}
 use Rattle.place_table.proofs.Opens.{among}
 use Rattle.place_table.proofs.Worlds.{all_here}

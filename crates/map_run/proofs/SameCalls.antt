@@ -25,7 +25,7 @@ use Rattle.place_core.proofs.ElementLemmas.{by_test, put_here}
 use Rattle.map_report.specs.Runs.{steps_of_turns}
 use Rattle.map_report.specs.Serial.{after_call, has_spares}
 use Rattle.map_report.specs.Soundness.{IsSound}
-use Rattle.map_report.specs.Turns.{Happened, happened, lies, spare_at, call_turns, entries_on, steps_from}
+use Rattle.map_report.specs.Turns.{Happened, happened, content_under, spare_at, call_turns, entries_on, steps_from}
 use Rattle.map_run.proofs.HistoryTurns.{entries_append, replayed_append, call_replayed}
 use Rattle.map_run.proofs.KeyTurns.{DoesTurns, does_turns}
 use Rattle.map_run.proofs.Leads.{Leads, leads_both}
@@ -35,7 +35,7 @@ use Rattle.map_run.proofs.TurnLocks.{OnLocks, trace_real}
 -- What is known by logs is what the lists tell, after these turns.
 pub record Follows (shape : Shape) (lists : Finals) (before : List Happened) (state : State) : Type 0 where
   pub logs : (lock : DomainId) → IsTrue (is_lock shape lock) → state.logs lock ≡ entries_on lock before
-  pub contents : (lock : DomainId) → IsTrue (is_lock shape lock) → lies_in shape state lock ≡ lies lists lock
+  pub contents : (lock : DomainId) → IsTrue (is_lock shape lock) → lies_in shape state lock ≡ content_under lists lock
   pub spares : (cpu : ℕ) → state.spares cpu ≡ spare_at lists cpu
 
 -- Turns that are allowed on some contents are so on others that are the same under the map's locks.
@@ -105,8 +105,8 @@ module _ (shape : Shape) (bounds : HasBounds shape) (built : is_lru shape.kind �
       let done = key_done shape cpu number state plain spare verb key in
       let trace = subst (λ (s : Option ℕ). IsPlainTrace shape cpu s verb (key_does shape cpu number state verb).turns (key_does shape cpu number state verb).reply) own done.trace in
       let real = trace_real shape bounds built cpu (spare_at lists cpu) verb (key_does shape cpu number state verb).turns (key_does shape cpu number state verb).reply within trace in
-      let allowed = transfer shape cpu (lies_in shape state) (lies lists) follows.contents (key_does shape cpu number state verb).turns real done.allowed in
-      let same = one_trace shape cpu (spare_at lists cpu) verb (lies lists) (key_does shape cpu number state verb).turns (call_turns shape cpu verb lists) (key_does shape cpu number state verb).reply (after_call shape cpu verb lists).1 plain trace allowed made.trace made.allowed in
+      let allowed = transfer shape cpu (lies_in shape state) (content_under lists) follows.contents (key_does shape cpu number state verb).turns real done.allowed in
+      let same = one_trace shape cpu (spare_at lists cpu) verb (content_under lists) (key_does shape cpu number state verb).turns (call_turns shape cpu verb lists) (key_does shape cpu number state verb).reply (after_call shape cpu verb lists).1 plain trace allowed made.trace made.allowed in
       record {
         turns_are = same.0;
         reply_is = same.1;
@@ -180,7 +180,7 @@ module _ (shape : Shape) (bounds : HasBounds shape) (built : is_lru shape.kind �
             ap (content shape lock) (logs lock real ∙ entries_append lock before mine)
             ∙ replayed_append shape (opening_content shape lock) (entries_on lock before) (entries_on lock mine)
             ∙ ap (λ (c : Content). replayed shape c (entries_on lock mine)) (ap (content shape lock) (sym (follows.logs lock real)) ∙ follows.contents lock real)
-            ∙ call_replayed shape cpu number lock (lies lists) turns ∙ leads.leaves lock real;
+            ∙ call_replayed shape cpu number lock (content_under lists) turns ∙ leads.leaves lock real;
         spares = λ c.
             by_test c cpu (λ b. (all_turned shape cpu number turns state).spares c ≡ spare_at after c)
             (λ same. ap (all_turned shape cpu number turns state).spares same ∙ own_spare cpu number turns state ∙ ap (λ (s : Option ℕ). spare_after s turns) (follows.spares cpu) ∙ leads.spare ∙ ap (spare_at after) (sym same))

@@ -23,7 +23,7 @@ use Rattle.place_words.specs.declared.bucket_part.Put.TheVariants as puts
 use Rattle.place_words.specs.declared.free_part.FreePart.TheVariants.{Popped, FoundEmpty}
 use Rattle.place_words.specs.declared.history.Part.TheVariants as parts
 use Rattle.place_words.specs.Bodies.{present}
-use Rattle.place_words.specs.Buckets.{AllowsPut, AllowsInBucket, Reads}
+use Rattle.place_words.specs.Buckets.{AllowsPut, AllowsInBucket, ReadsValue}
 use Rattle.place_words.specs.Histories.{Content, in_bucket, on_freelist, in_locals, in_global, in_own, Allows}
 use Rattle.place_words.specs.Traces.{Turn, bucket_of_key, ring, on_bucket_of, on_freelist_of, found_empty, Pops, pushes, reply_of_got, IsLookupTrace, LooksFor, reply_of_put, IsPutTrace, IsUpdateTrace, reply_of_gone, IsDeleteTrace, element_gone, IsTakeTrace, IsPlainTrace, after_turns, AreAllowed}
 use Rattle.place_words.proofs.Splits.{there}
@@ -56,7 +56,7 @@ allowed_there shape cpu part (in_own set) allowed = absurd allowed
 abbrev got_of : Shape → Side → ℕ → Option Stored → Option (ℕ × List ℕ)
 got_of shape side cpu found = option_map (λ (body : Stored). (body.element, value_read shape side cpu body.values)) found
 
-read_is : (shape : Shape) (side : Side) (cpu : ℕ) (key : List ℕ) (bodies : List Stored) (got : ℕ × List ℕ) → Reads shape side cpu key bodies got
+read_is : (shape : Shape) (side : Side) (cpu : ℕ) (key : List ℕ) (bodies : List Stored) (got : ℕ × List ℕ) → ReadsValue shape side cpu key bodies got
     → Some got ≡ got_of shape side cpu (present key bodies)
 read_is shape side cpu key bodies got reads =
     let body = there (present key bodies) _ reads in

@@ -20,7 +20,7 @@ use Rattle.map_types.proofs.RowLemmas.{by_test}
 use Rattle.map_report.specs.Buckets.{bucket_of_key}
 use Rattle.map_report.specs.Freelists.{stack_at}
 use Rattle.map_report.specs.Serial.{bucket_at, with_bucket}
-use Rattle.map_report.specs.Turns.{lies}
+use Rattle.map_report.specs.Turns.{content_under}
 
 -- Turns and then others
 
@@ -68,10 +68,10 @@ after_same shape cpu contents turn stays =
 -- Lists of which one is another
 
 pub lies_bucket : (lists : Finals) (number : ℕ) (new : List Stored) → number < length lists.buckets
-    → with_content (lies lists) (Bucket number) (in_bucket new) ≡ lies (record lists { buckets = set lists.buckets number new })
+    → with_content (content_under lists) (Bucket number) (in_bucket new) ≡ content_under (record lists { buckets = set lists.buckets number new })
 lies_bucket lists number new within = fun_ext at_lock
   where
-    at_lock : (lock : DomainId) → with_content (lies lists) (Bucket number) (in_bucket new) lock ≡ lies (record lists { buckets = set lists.buckets number new }) lock
+    at_lock : (lock : DomainId) → with_content (content_under lists) (Bucket number) (in_bucket new) lock ≡ content_under (record lists { buckets = set lists.buckets number new }) lock
     at_lock (Local cpu) = refl
     at_lock Global = refl
     at_lock (CpuLru cpu) = refl
@@ -82,10 +82,10 @@ lies_bucket lists number new within = fun_ext at_lock
     at_lock (Freelist cpu) = refl
 
 pub lies_freelist : (lists : Finals) (number : ℕ) (new : List ℕ) → number < length lists.freelists
-    → with_content (lies lists) (Freelist number) (on_freelist new) ≡ lies (record lists { freelists = set lists.freelists number new })
+    → with_content (content_under lists) (Freelist number) (on_freelist new) ≡ content_under (record lists { freelists = set lists.freelists number new })
 lies_freelist lists number new within = fun_ext at_lock
   where
-    at_lock : (lock : DomainId) → with_content (lies lists) (Freelist number) (on_freelist new) lock ≡ lies (record lists { freelists = set lists.freelists number new }) lock
+    at_lock : (lock : DomainId) → with_content (content_under lists) (Freelist number) (on_freelist new) lock ≡ content_under (record lists { freelists = set lists.freelists number new }) lock
     at_lock (Local cpu) = refl
     at_lock Global = refl
     at_lock (CpuLru cpu) = refl
@@ -99,19 +99,19 @@ lies_freelist lists number new within = fun_ext at_lock
 
 -- a turn of a key's bucket that leaves this there
 pub bucket_leaves : (shape : Shape) (cpu : ℕ) (lists : Finals) (key : List ℕ) (part : BucketPart) (new : List Stored) → bucket_of_key shape key < length lists.buckets
-    → bucket_after shape cpu part (bucket_at shape lists key) ≡ new → after_turn shape cpu (lies lists) (on_bucket_of shape key part) ≡ lies (with_bucket shape lists key new)
+    → bucket_after shape cpu part (bucket_at shape lists key) ≡ new → after_turn shape cpu (content_under lists) (on_bucket_of shape key part) ≡ content_under (with_bucket shape lists key new)
 bucket_leaves shape cpu lists key part new within leaves =
-    after_is shape cpu (lies lists) (on_bucket_of shape key part) ∙ ap (λ b. with_content (lies lists) (Bucket (bucket_of_key shape key)) (in_bucket b)) leaves
+    after_is shape cpu (content_under lists) (on_bucket_of shape key part) ∙ ap (λ b. with_content (content_under lists) (Bucket (bucket_of_key shape key)) (in_bucket b)) leaves
     ∙ lies_bucket lists (bucket_of_key shape key) new within
 
 -- one that changes nothing
 pub bucket_stays : (shape : Shape) (cpu : ℕ) (lists : Finals) (key : List ℕ) (part : BucketPart)
-    → bucket_after shape cpu part (bucket_at shape lists key) ≡ bucket_at shape lists key → after_turn shape cpu (lies lists) (on_bucket_of shape key part) ≡ lies lists
-bucket_stays shape cpu lists key part stays = after_same shape cpu (lies lists) (on_bucket_of shape key part) (ap in_bucket stays)
+    → bucket_after shape cpu part (bucket_at shape lists key) ≡ bucket_at shape lists key → after_turn shape cpu (content_under lists) (on_bucket_of shape key part) ≡ content_under lists
+bucket_stays shape cpu lists key part stays = after_same shape cpu (content_under lists) (on_bucket_of shape key part) (ap in_bucket stays)
 
 -- a turn of a CPU's freelist that leaves this there
 pub freelist_leaves : (shape : Shape) (cpu : ℕ) (lists : Finals) (owner : ℕ) (part : FreePart) (new : List ℕ) → owner < length lists.freelists
-    → freelist_after part (stack_at lists.freelists owner) ≡ new → after_turn shape cpu (lies lists) (on_freelist_of owner part) ≡ lies (record lists { freelists = set lists.freelists owner new })
+    → freelist_after part (stack_at lists.freelists owner) ≡ new → after_turn shape cpu (content_under lists) (on_freelist_of owner part) ≡ content_under (record lists { freelists = set lists.freelists owner new })
 freelist_leaves shape cpu lists owner part new within leaves =
-    after_is shape cpu (lies lists) (on_freelist_of owner part) ∙ ap (λ s. with_content (lies lists) (Freelist owner) (on_freelist s)) leaves
+    after_is shape cpu (content_under lists) (on_freelist_of owner part) ∙ ap (λ s. with_content (content_under lists) (Freelist owner) (on_freelist s)) leaves
     ∙ lies_freelist lists owner new within

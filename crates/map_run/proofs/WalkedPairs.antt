@@ -38,7 +38,7 @@ stopped_other (pair ∷ taken) = refl
 -- One batch
 
 -- How a batch ends that reads so many buckets from one on: it takes the first of them, all or up to one for which there is no room.
-record Reads (shape : Shape) (lie : ℕ → List Stored) (limit bucket count : ℕ) (taken : Pairs) (reply : Reply) : Type 0 where
+record EndsBatch (shape : Shape) (lie : ℕ → List Stored) (limit bucket count : ℕ) (taken : Pairs) (reply : Reply) : Type 0 where
   many : ℕ
   within : many ≤ count
   next : ℕ
@@ -66,7 +66,7 @@ module _ (shape : Shape) (lie : ℕ → List Stored) (cpu number limit : ℕ) wh
   walk_reply state bucket buckets taken result =
       (after_walk bucket taken result (λ now. walks shape cpu number false limit (all_turned shape cpu number (bucket_turns shape cpu number state bucket (limit - length taken) result) state) buckets now)).reply
 
-  one_over : (state : State) (bucket count : ℕ) (taken : Pairs) (n : ℕ) → limit - length taken < length (lie bucket) → Reads shape lie limit bucket (suc count) taken (walk_reply state bucket (range_with_len (bucket + 1) count) taken (Over n))
+  one_over : (state : State) (bucket count : ℕ) (taken : Pairs) (n : ℕ) → limit - length taken < length (lie bucket) → EndsBatch shape lie limit bucket (suc count) taken (walk_reply state bucket (range_with_len (bucket + 1) count) taken (Over n))
   one_over state bucket count taken n over = record {
     many = 0;
     within = omega arith;
@@ -80,8 +80,8 @@ module _ (shape : Shape) (lie : ℕ → List Stored) (cpu number limit : ℕ) wh
   }
 
   one_taken : (state : State) (bucket count : ℕ) (taken : Pairs) (bodies : List Stored) → bodies ≡ lie bucket
-      → Reads shape lie limit (bucket + 1) count (taken ++ map pair_of (map (as_read shape cpu) bodies)) (walk_reply state bucket (range_with_len (bucket + 1) count) taken (Taken (map (as_read shape cpu) bodies)))
-      → Reads shape lie limit bucket (suc count) taken (walk_reply state bucket (range_with_len (bucket + 1) count) taken (Taken (map (as_read shape cpu) bodies)))
+      → EndsBatch shape lie limit (bucket + 1) count (taken ++ map pair_of (map (as_read shape cpu) bodies)) (walk_reply state bucket (range_with_len (bucket + 1) count) taken (Taken (map (as_read shape cpu) bodies)))
+      → EndsBatch shape lie limit bucket (suc count) taken (walk_reply state bucket (range_with_len (bucket + 1) count) taken (Taken (map (as_read shape cpu) bodies)))
   one_taken state bucket count taken bodies is rest = record {
     many = suc rest.many;
     within = omega (arith, rest.within);
@@ -94,7 +94,7 @@ module _ (shape : Shape) (lie : ℕ → List Stored) (cpu number limit : ℕ) wh
     ends = ⊎_elim (λ whole. inl (whole.0, ap suc whole.1)) (λ part. inr (part.0, omega (arith, part.1), part.2)) rest.ends;
   }
 
-  walks_read : (count bucket : ℕ) (taken : Pairs) (state : State) → HoldsNow state → bucket + count ≡ shape.buckets → Reads shape lie limit bucket count taken (walks shape cpu number false limit state (range_with_len bucket count) taken).reply
+  walks_read : (count bucket : ℕ) (taken : Pairs) (state : State) → HoldsNow state → bucket + count ≡ shape.buckets → EndsBatch shape lie limit bucket count taken (walks shape cpu number false limit state (range_with_len bucket count) taken).reply
   walks_read zero bucket taken state holds end = record {
     many = 0;
     within = omega arith;
@@ -112,7 +112,7 @@ module _ (shape : Shape) (lie : ℕ → List Stored) (cpu number limit : ℕ) wh
       let below : bucket < shape.buckets = omega (arith, end) in
       let is : bodies ≡ lie bucket = holds bucket below in
       let buckets : List ℕ = range_with_len (bucket + 1) count in
-      elim (nat_lt room (length bodies)) as (λ b. nat_lt room (length bodies) ≡ b → Reads shape lie limit bucket (suc count) taken (walk_reply state bucket buckets taken (cond b (Over (length bodies)) (Taken (map (as_read shape cpu) bodies))))) [
+      elim (nat_lt room (length bodies)) as (λ b. nat_lt room (length bodies) ≡ b → EndsBatch shape lie limit bucket (suc count) taken (walk_reply state bucket buckets taken (cond b (Over (length bodies)) (Taken (map (as_read shape cpu) bodies))))) [
         | true ↦ λ test. one_over state bucket count taken (length bodies) (subst (λ (l : List Stored). limit - length taken < length l) is (ltb-true room (length bodies) test))
         | false ↦ λ test.
             let result : Walked = Taken (map (as_read shape cpu) bodies) in
@@ -124,7 +124,7 @@ module _ (shape : Shape) (lie : ℕ → List Stored) (cpu number limit : ℕ) wh
 -- A batch from a start on: none, one that starts past the last bucket, or one that reads.
 abbrev Answers : Shape → (ℕ → List Stored) → ℕ → ℕ → Reply → Type 0
 Answers shape lie count from reply =
-    ((reply ≡ Done) × (count ≡ 0)) ⊎ (((reply ≡ Refused Enoent) × (shape.buckets ≤ from)) ⊎ ((from < shape.buckets) × Reads shape lie (min count shape.elements) from (shape.buckets - from) [] reply))
+    ((reply ≡ Done) × (count ≡ 0)) ⊎ (((reply ≡ Refused Enoent) × (shape.buckets ≤ from)) ⊎ ((from < shape.buckets) × EndsBatch shape lie (min count shape.elements) from (shape.buckets - from) [] reply))
 
 batch_answer : (shape : Shape) (lie : ℕ → List Stored) (moment : Moment) → Holds shape lie moment → (count : ℕ) (start : Option ℕ) → Answers shape lie count (unwrap_or start 0) (answer_at shape moment (BatchRead false count start 0))
 unfolding does read_does
@@ -166,7 +166,7 @@ module _ (shape : Shape) (lie : ℕ → List Stored) where
       ∙ ap pairs_in (range-append from many left ∙ ap (range_with_len from) count)
 
   -- what a batch that reads gives with those behind it
-  batch_pairs : (limit from : ℕ) (reply : Reply) (later : Option Pairs) (all : Pairs) → from < shape.buckets → (reads : Reads shape lie limit from (shape.buckets - from) [] reply)
+  batch_pairs : (limit from : ℕ) (reply : Reply) (later : Option Pairs) (all : Pairs) → from < shape.buckets → (reads : EndsBatch shape lie limit from (shape.buckets - from) [] reply)
       → ((rest : Pairs) → later ≡ Some rest → rest ≡ pairs_in (buckets_from shape reads.next))
       → read_more reply later ≡ Some all → all ≡ pairs_in (buckets_from shape from)
   batch_pairs limit from reply later all below reads others is =
@@ -216,7 +216,7 @@ module _ (shape : Shape) (lie : ℕ → List Stored) where
 
   -- what a batch gains: a bucket at least, where it has room for the one that it starts at
   batch_ends : (limit from gained left : ℕ) (reply : Reply) (later : Option Pairs) → from < shape.buckets → (gained ≡ 0) ⊎ ((gained ≤ 1) × (length (lie from) ≤ limit)) → shape.buckets - from ≤ gained + left
-      → (reads : Reads shape lie limit from (shape.buckets - from) [] reply) → (reads.next < shape.buckets → shape.buckets - reads.next ≤ left → IsSome later) → IsSome (read_more reply later)
+      → (reads : EndsBatch shape lie limit from (shape.buckets - from) [] reply) → (reads.next < shape.buckets → shape.buckets - reads.next ≤ left → IsSome later) → IsSome (read_more reply later)
   batch_ends limit from gained left reply later below room few reads others =
       subst (λ (r : Reply). IsSome (read_more r later)) (sym reads.reply_is)
       (⊎_elim

@@ -149,7 +149,7 @@ abbrev mode_by : (Mode → Bool) → Mode
 mode_by stood = mode_chosen (stood Race) (stood Gen)
 
 -- what the rows at the end say of these flags and of the modes whose words stood
-pub record Reads (p : ValueParser) (rows : List Row) (flags : Flag → Bool) (stood : Mode → Bool) : Type 0 where
+pub record ReadsWords (p : ValueParser) (rows : List Row) (flags : Flag → Bool) (stood : Mode → Bool) : Type 0 where
   pub flag_is : (f : Flag) → one_of (flag_name f) rows ≡ Some (bool_text (flags f))
   pub mode_is : first_of (codes "mode") rows ≡ Some (mode_word (mode_by stood))
 
@@ -162,7 +162,7 @@ modes_by stood words k = stood k || stands (mode_word k) words
 -- no kind comes exactly where the words pass, and then each option and the mode is read
 abbrev pub Meets : ValueParser → List Row → Stage → (Flag → Bool) → Bool → List Text → Type 0
 Meets p rows stage seen behind words = (none (rest_fault p (walk_at rows stage behind) words) ≡ passes (has_mode stage) seen behind words)
-    × (passes (has_mode stage) seen behind words ≡ true → Reads p (rows_left p (walk_at rows stage behind) words) (flags_by seen words) (modes_by (was_met stage) words))
+    × (passes (has_mode stage) seen behind words ≡ true → ReadsWords p (rows_left p (walk_at rows stage behind) words) (flags_by seen words) (modes_by (was_met stage) words))
 
 or_shift : (a b c : Bool) → ((a || b) || c) ≡ (b || (a || c))
 or_shift true true c = refl
@@ -170,7 +170,7 @@ or_shift true false c = refl
 or_shift false b c = refl
 
 same_reads : {p : ValueParser} {rows now : List Row} {flags read : Flag → Bool} {stood stands_now : Mode → Bool} → rows ≡ now → ((f : Flag) → flags f ≡ read f)
-    → ((k : Mode) → stood k ≡ stands_now k) → Reads p now flags stood → Reads p rows read stands_now
+    → ((k : Mode) → stood k ≡ stands_now k) → ReadsWords p now flags stood → ReadsWords p rows read stands_now
 same_reads same flags_same modes_same h = record {
   flag_is = λ f. ap (one_of (flag_name f)) same ∙ h.flag_is f ∙ ap (λ b. Some (bool_text b)) (flags_same f);
   mode_is = ap (first_of (codes "mode")) same ∙ h.mode_is ∙ ap₂ (λ (race gen : Bool). Some (mode_word (mode_chosen race gen))) (modes_same Race) (modes_same Gen);
@@ -265,7 +265,7 @@ module _ (p : ValueParser) (accepted : (text : Text) → accepts false p text �
   good Race = accepted (codes "race")
   good Gen = accepted (codes "gen")
 
-  read_last : {rows : List Row} {seen : Flag → Bool} {m : Mode} → AreRows p rows seen (Some m) → Reads p (fold with_default rows (rules p)) (flags_by seen []) (modes_by (is_word_of m) [])
+  read_last : {rows : List Row} {seen : Flag → Bool} {m : Mode} → AreRows p rows seen (Some m) → ReadsWords p (fold with_default rows (rules p)) (flags_by seen []) (modes_by (is_word_of m) [])
   read_last {rows} {seen} {m} are = record {
     flag_is = λ f. flag_read are f ∙ ap (λ b. Some (bool_text b)) (sym (or-false (seen f)));
     mode_is = mode_read are ∙ ap (λ k. Some (mode_word k)) (named m);

@@ -16,7 +16,7 @@ use Rattle.place_table.specs.declared.view.View.{View}
 use Rattle.place_table.specs.Known.{turn_at}
 use Rattle.place_table.specs.Passes.{PassView, TableView, spare_of, begun, IsFirstPass, IsKeptOf, Split}
 use Rattle.place_table.specs.Views.{is_among, all_strands, without_cpu}
-use Rattle.place_table.proofs.Gives.{first_has}
+use Rattle.place_table.proofs.TakeToGive.{first_has}
 use Rattle.place_table.proofs.Going.{goes_of_table, kept_on}
 use Rattle.hash_ops.specs.Calls.{Called, element_of}
 use Rattle.map_report.specs.Record.{MayAnswer}

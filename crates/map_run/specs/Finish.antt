@@ -19,7 +19,7 @@ use Rattle.map_script.specs.declared.script.Form.TheVariants.{Calls, Generator}
 use Rattle.map_script.specs.Reading.{read_as}
 use Rattle.map_script.specs.CauseName.{cause_name}
 use Rattle.place_table.specs.Closing.{ClosedView}
-use Rattle.map_run.specs.Reads.{Takes, TakesAll}
+use Rattle.map_run.specs.SourceReads.{TakesFront, TakesAll}
 use Rattle.map_run.specs.Laws.{SerialLaws}
 use Rattle.map_run.specs.Copies.{IsCopyOf}
 use Rattle.map_report.specs.Runs.{serial}
@@ -136,7 +136,7 @@ HasInput asked input _ = ⊥
 abbrev pub HasSource : Asked → Option (List ℕ) → Option (List ℕ) → Type 0 → Ending → Type 0
 HasSource asked before after rose BadWords = ⊥
 HasSource asked before after rose ReadFault = rose
-HasSource asked before after rose TooLong = (bytes : List ℕ) × Takes before after bytes × (length bytes ≡ 16777217)
+HasSource asked before after rose TooLong = (bytes : List ℕ) × TakesFront before after bytes × (length bytes ≡ 16777217)
 HasSource asked before after rose OutOfMemory = ⊤
 HasSource asked before after rose ending = (input : List ℕ) × IsInput before after input × HasInput asked input ending
 

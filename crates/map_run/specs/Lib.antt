@@ -4,7 +4,7 @@ pub mod Entries
 pub mod Finish
 pub mod Laws
 pub mod Memory
-pub mod Reads
+pub mod SourceReads
 pub mod Served
 pub mod WalkLaws
 pub mod Words

@@ -1,7 +1,7 @@
 //! Writes a text whole.
 
 ghost use Rattle.std.specs.Prelude.{◌≤◌, OnOk, OnErr};
-ghost use Rattle.map_run.specs.Reads.{Rose};
+ghost use Rattle.map_run.specs.SourceReads.{Rose};
 ghost use Rattle.map_run.specs.Writes.{AddsWhole, AddsPrefix};
 
 use crate::Sink;

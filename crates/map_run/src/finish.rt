@@ -6,7 +6,7 @@ ghost use Rattle.map_run.specs.declared.words.Asked.{Asked};
 ghost use Rattle.map_run.specs.Finish.{Ending, form_of, lines_of, out, RanAs, refusal_name, script_run, kept_of, status_of, text_due, Ends, Finishes, HasCause, HasInput, HasSource, IsStatus, status_due};
 ghost use Rattle.map_script.specs.CauseName.{cause_name};
 ghost use Rattle.map_script.specs.Reading.{IsReadAs, read_as};
-ghost use Rattle.map_run.specs.Reads.{Rose};
+ghost use Rattle.map_run.specs.SourceReads.{Rose};
 ghost use Rattle.map_run.specs.Served.{IsScript};
 ghost use Rattle.map_run.specs.Words.{are_words};
 

@@ -13,7 +13,7 @@ ghost use Rattle.map_run.specs.Served.{IsServedCall};
 
 use crate::batch_calls::{batch_delete, batch_read, batch_update};
 use map_batch::{AnyMap, next_key};
-use map_types::{Absent, Bytes, Call, Errno, Gate, List, NoMemory, Reply, Side, Verb, value_len};
+use map_types::{Absent, Bytes, Call, Errno, Gate, NoMemory, Reply, Side, Verb, value_len};
 use place_table::Pass;
 use std::alloc::Global;
 use std::sync::Wait;
@@ -197,7 +197,7 @@ fn value_reply(got: Result<(), Absent>, value: Vec<u8>) -> Reply
     ensures { result ≡ reply_of_value got value.items }
 {
     match got {
-        Ok(()) => Reply::Value(List::of(value)),
+        Ok(()) => Reply::Value(Bytes::of(value)),
         Err(Absent) => Reply::Refused(Errno::Enoent),
     }
 }

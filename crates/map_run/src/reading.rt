@@ -1,7 +1,7 @@
 //! Reads a source to its end.
 
 ghost use Rattle.std.specs.Prelude.{◌≡◌, ◌≤◌, ◌<◌, ◌++◌, List, ℕ, length, vec_len, IfOk, IsErrOf};
-ghost use Rattle.map_run.specs.Reads.{Rose, Takes, TakesAll, EndsWhereNoneIsLeft};
+ghost use Rattle.map_run.specs.SourceReads.{Rose, TakesFront, TakesAll, EndsWhereNoneIsLeft};
 
 use crate::Source;
 use std::alloc::{AllocError, Global};
@@ -30,7 +30,7 @@ pub(crate) fn read_all<S: Source>(alloc: Global, source: &mut S) -> Result<Vec<u
         × (length bytes.items ≤ 16777216)) }
     ensures failed { IsErrOf result ReadStop.Failed → Rose (S.faults source.old) (S.faults source.new) }
     ensures too_long { IsErrOf result ReadStop.TooLong → (bytes : List ℕ)
-        × Takes (S.left source.old) (S.left source.new) bytes × (length bytes ≡ 16777217) }
+        × TakesFront (S.left source.old) (S.left source.new) bytes × (length bytes ≡ 16777217) }
     ensures never_falls { S.faults source.old ≤ S.faults source.new }
 {
     let mut block = zeros(alloc, BLOCK_BYTES).map_err(|_| ReadStop::NoMemory)?;
@@ -60,7 +60,7 @@ fn read_more<S: Source>(
     bytes: &mut Vec<u8>,
 ) -> Result<usize, ReadStop>
     ensures fits { IfOk result (λ n. n ≤ length buffer.old) }
-    ensures appended { IfOk result (λ n. (taken : List ℕ) × Takes (S.left source.old) (S.left source.new) taken
+    ensures appended { IfOk result (λ n. (taken : List ℕ) × TakesFront (S.left source.old) (S.left source.new) taken
         × (length taken ≡ n) × (bytes.new.items ≡ bytes.old.items ++ taken)) }
     ensures end { IfOk result (λ n. EndsWhereNoneIsLeft (S.left source.old) (length buffer.old) n) }
     ensures failed { IsErrOf result ReadStop.Failed → Rose (S.faults source.old) (S.faults source.new) }

@@ -1,7 +1,7 @@
 //! Where a report goes.
 
 ghost use Rattle.std.specs.Prelude.{◌≤◌, ◌<◌, List, ℕ, Option, length, take, IfOk, OnOk, OnErr};
-ghost use Rattle.map_run.specs.Reads.{Rose};
+ghost use Rattle.map_run.specs.SourceReads.{Rose};
 ghost use Rattle.map_run.specs.Writes.{Written, Adds, Flushes, KeepsBytes};
 
 use map_types::Failed;

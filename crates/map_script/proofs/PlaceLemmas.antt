@@ -34,8 +34,8 @@ token_found (found ∷ others) rest first is =
     cc
 
 -- what a comparison with a text told of a word
-pub told : (word : List ℕ) {text other : List ℕ} {was answer : Bool} → was ≡ bytes_eq word other → other ≡ text → was ≡ answer → bytes_eq word text ≡ answer
-told word is same was_so = sym (is ∙ ap (bytes_eq word) same) ∙ was_so
+pub comparison_told : (word : List ℕ) {text other : List ℕ} {was answer : Bool} → was ≡ bytes_eq word other → other ≡ text → was ≡ answer → bytes_eq word text ≡ answer
+comparison_told word is same was_so = sym (is ∙ ap (bytes_eq word) same) ∙ was_so
 
 -- digits, two for each of so many bytes
 decoded_has : (size : ℕ) (word : List ℕ) → list_all is_hex_digit word ≡ true → length word ≡ 2 * size → length (decoded word) ≡ size

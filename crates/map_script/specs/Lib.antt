@@ -5,7 +5,7 @@ pub mod Grammar
 pub mod Reading
 pub mod Canonical
 pub mod Unread
-pub mod Gives
+pub mod Parsed
 pub mod WellFormed
 pub mod CauseName
 pub mod SameLines

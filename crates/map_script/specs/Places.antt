@@ -22,12 +22,12 @@ decoded digits = unwrap_or (result_ok (decode_of digits)) []
 abbrev pub Tokens : Type 0
 Tokens = List (List ℕ)
 
--- a place of this type
-abbrev pub Place : Type 0 → Type 0
-Place A = Tokens → Result (A × Tokens) Cause
+-- a parser of one place of a line: what it reads from the front of the tokens, and the tokens after it, or what is wrong
+abbrev pub Parser : Type 0 → Type 0
+Parser A = Tokens → Result (A × Tokens) Cause
 
 -- any token
-abbrev pub token : Place (List ℕ)
+abbrev pub token : Parser (List ℕ)
 token [] = Err Missing
 token (first ∷ rest) = Ok (first, rest)
 
@@ -37,18 +37,18 @@ at_end value [] = Ok value
 at_end value (first ∷ rest) = Err Extra
 
 -- the value of a token that has one, else what is wrong
-abbrev pub valued : {A : Type 0} → Cause → (List ℕ → Option A) → Place A
+abbrev pub valued : {A : Type 0} → Cause → (List ℕ → Option A) → Parser A
 valued cause value tokens = do
   first ← token tokens
   found ← ok_or (value first.0) cause
   Ok (found, first.1)
 
 -- N
-abbrev pub number : Place ℕ
+abbrev pub number : Parser ℕ
 number tokens = valued Number number_of tokens
 
 -- CPU: a number below that of the map's CPUs
-abbrev pub cpu : ℕ → Place ℕ
+abbrev pub cpu : ℕ → Parser ℕ
 cpu cpus tokens = do
   found ← number tokens
   if nat_lt found.0 cpus then Ok found else Err Cpu
@@ -57,7 +57,7 @@ cpu cpus tokens = do
 abbrev pub start_of : List ℕ → Option (Option ℕ)
 start_of word = if bytes_eq word (codes "-") then Some None else option_map Some (number_of word)
 
-abbrev pub start : Place (Option ℕ)
+abbrev pub start : Parser (Option ℕ)
 start tokens = valued Number start_of tokens
 
 -- FLAG: BPF_ANY, BPF_NOEXIST and BPF_EXIST by name, or a number
@@ -68,7 +68,7 @@ flag_of word =
     else if bytes_eq word (codes "exist") then Some 2
     else number_of word
 
-abbrev pub flag : Place ℕ
+abbrev pub flag : Parser ℕ
 flag tokens = valued Flag flag_of tokens
 
 -- KEY and VALUE: hexadecimal digits of either case, two for each byte of the place's size
@@ -76,19 +76,19 @@ abbrev pub bytes_in : ℕ → List ℕ → Result (List ℕ) Cause
 bytes_in size word =
     if list_all is_hex_digit word then (if length word == 2 * size then Ok (decoded word) else Err Length) else Err Digits
 
-abbrev pub bytes : ℕ → Place (List ℕ)
+abbrev pub bytes : ℕ → Parser (List ℕ)
 bytes size tokens = do
   first ← token tokens
   found ← bytes_in size first.0
   Ok (found, first.1)
 
 -- this word, where nothing else may stand
-abbrev pub word : Cause → List ℕ → Place (Unit {0})
+abbrev pub word : Cause → List ℕ → Parser (Unit {0})
 word cause text tokens = valued cause (λ first. if bytes_eq first text then Some tt else None) tokens
 
 -- A word and a number. Where another word stands the line has one cause for all that may be wrong (`instead`), so that
 -- the cause here never shows.
-abbrev pub labelled : List ℕ → Place ℕ
+abbrev pub labelled : List ℕ → Parser ℕ
 labelled label tokens = do
   found ← word Missing label tokens
   number found.1
@@ -99,12 +99,12 @@ is_next label [] = false
 is_next label (first ∷ rest) = bytes_eq first label
 
 -- a word and a number, or neither of them, which stands for 0
-abbrev pub if_labelled : List ℕ → Place ℕ
+abbrev pub if_labelled : List ℕ → Parser ℕ
 if_labelled label [] = Ok (0, [])
 if_labelled label (first ∷ rest) = if bytes_eq first label then number rest else Ok (0, first ∷ rest)
 
 -- a number, or the end, which stands for 0
-abbrev pub number_or_end : Place ℕ
+abbrev pub number_or_end : Parser ℕ
 number_or_end [] = Ok (0, [])
 number_or_end (first ∷ rest) = number (first ∷ rest)
 

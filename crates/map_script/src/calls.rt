@@ -2,7 +2,7 @@
 
 ghost use Rattle.std.specs.Prelude.{◌≡◌, ◌≤◌};
 ghost use Rattle.map_types.specs.Creation.{IsShape};
-ghost use Rattle.map_script.specs.Gives.{Gives};
+ghost use Rattle.map_script.specs.Parsed.{IsParsedAs};
 ghost use Rattle.map_script.specs.Grammar.{call_line, reply_bytes};
 ghost use Rattle.map_script.specs.Plain.{IsNextCall};
 ghost use Rattle.map_script.specs.Reading.{of_line, call_within, calls_of, IsReading};
@@ -73,7 +73,7 @@ fn call_within(
 ) -> Result<Call, LineError>
     requires shape { IsShape shape.now }
     requires room { room ≤ 67108864 }
-    ensures { Gives (λ call. call) result (of_line line.now (call_within shape.now count room)) }
+    ensures { IsParsedAs (λ call. call) result (of_line line.now (call_within shape.now count room)) }
 {
     let tokens = line.tokens()?;
     let call = call_line(alloc, shape, tokens)?;
@@ -90,7 +90,7 @@ fn call_within(
 #[tactic(auto, unfolding(crate::specs::Grammar::call_line))]
 fn call_line(alloc: Global, shape: &Shape, mut tokens: Tokens) -> Result<Call, LineError>
     requires { IsShape shape.now }
-    ensures { Gives (λ call. call) result (call_line shape.now tokens.entry) }
+    ensures { IsParsedAs (λ call. call) result (call_line shape.now tokens.entry) }
 {
     let cpu = tokens.cpu(shape.cpus)?;
     let verb = verb_line(alloc, shape, tokens)?;

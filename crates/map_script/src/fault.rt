@@ -2,7 +2,7 @@
 
 ghost use Rattle.std.specs.Prelude.{◌≡◌};
 ghost use Rattle.map_script.specs.declared.refusal.ScriptRefusal.TheVariants as refusals;
-ghost use Rattle.map_script.specs.Gives.{with_number};
+ghost use Rattle.map_script.specs.Parsed.{with_number};
 ghost use Rattle.map_script.specs.Reading.{or_fault};
 
 use crate::line_error::LineError;

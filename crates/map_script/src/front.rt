@@ -8,7 +8,7 @@ ghost use Rattle.map_types.specs.Creation.{IsShape};
 ghost use Rattle.map_script.specs.Grammar.{call_line, verb_line};
 ghost use Rattle.map_script.specs.Plain.{BeginsWith, BeginsWithCpu, BeginsWithBytes};
 
-use map_types::{Bytes, Call, List, Shape, Side, Verb, value_len};
+use map_types::{Bytes, Call, Shape, Side, Verb, value_len};
 use std::alloc::Global;
 
 /// Reads a call, and gives the text behind its line.
@@ -196,7 +196,8 @@ fn sized_at_front<const BYTES: usize, const DIGITS: usize>(
     if !decode_digits(digits, &mut bytes) {
         return None;
     }
-    Some((List::of(bytes.as_slice().to_vec(alloc).ok()?), rest))
+    let copy = Bytes::from_slice(alloc, bytes.as_slice()).ok()?;
+    Some((copy, rest))
 }
 
 /// Reads bytes of any size but 0.
@@ -211,7 +212,7 @@ fn any_at_front(alloc: Global, size: u32, text: &[u8]) -> Option<(Bytes, &[u8])>
     if !decode_digits(digits, bytes.as_mut_slice()) {
         return None;
     }
-    Some((List::of(bytes), rest))
+    Some((Bytes::of(bytes), rest))
 }
 
 /// Decodes twice as many digits as there is room for bytes. Where one is no digit it answers false, and the bytes mean

@@ -5,14 +5,14 @@ ghost use Rattle.std.specs.Char.{is_ascii_digit};
 ghost use Rattle.std.specs.List.{list_all};
 ghost use Rattle.std.specs.Str.Parse.{digits_value};
 ghost use Rattle.hex.specs.Hex.{is_hex_digit};
-ghost use Rattle.map_script.specs.Gives.{Reads, Gives};
+ghost use Rattle.map_script.specs.Parsed.{IsParsedWithRest, IsParsedAs};
 ghost use Rattle.map_script.specs.Places.{token, at_end, number, cpu, start_of, start, flag_of, flag, bytes_in, bytes, word, labelled, if_labelled, number_or_end};
 ghost use Rattle.map_script.specs.Tokens.{number_of};
 
 use crate::line_error::LineError;
 use crate::refusal::Cause;
 use crate::tokens::Tokens;
-use map_types::{Bytes, List};
+use map_types::Bytes;
 use std::alloc::Global;
 
 /// A number has 1 to 10 digits.
@@ -41,7 +41,7 @@ impl<'a> Tokens<'a> {
 
     /// Reads this word, or there is this cause.
     pub(crate) fn word(&mut self, cause: Cause, text: &[u8]) -> Result<(), Cause>
-        ensures { Reads result self.new (word cause text.now self.old) }
+        ensures { IsParsedWithRest result self.new (word cause text.now self.old) }
     {
         if self.token()? == text {
             Ok(())
@@ -52,14 +52,14 @@ impl<'a> Tokens<'a> {
 
     /// Reads `N`.
     pub(crate) fn number(&mut self) -> Result<u32, Cause>
-        ensures { Reads result self.new (number self.old) }
+        ensures { IsParsedWithRest result self.new (number self.old) }
     {
         number_of(self.token()?).ok_or(Cause::Number)
     }
 
     /// Reads `CPU`, of so many CPUs.
     pub(crate) fn cpu(&mut self, cpus: u32) -> Result<u32, Cause>
-        ensures { Reads result self.new (cpu cpus self.old) }
+        ensures { IsParsedWithRest result self.new (cpu cpus self.old) }
     {
         let found = self.number()?;
         if found < cpus {
@@ -71,21 +71,21 @@ impl<'a> Tokens<'a> {
 
     /// Reads `START`.
     pub(crate) fn start(&mut self) -> Result<Option<u32>, Cause>
-        ensures { Reads result self.new (start self.old) }
+        ensures { IsParsedWithRest result self.new (start self.old) }
     {
         start_of(self.token()?).ok_or(Cause::Number)
     }
 
     /// Reads `FLAG`.
     pub(crate) fn flag(&mut self) -> Result<u32, Cause>
-        ensures { Reads result self.new (flag self.old) }
+        ensures { IsParsedWithRest result self.new (flag self.old) }
     {
         flag_of(self.token()?).ok_or(Cause::Flag)
     }
 
     /// Reads `KEY` or `VALUE`, of so many bytes.
     pub(crate) fn bytes(&mut self, alloc: Global, size: u32) -> Result<Bytes, LineError>
-        ensures { Gives (λ found. (found, self.new)) result (bytes size self.old) }
+        ensures { IsParsedAs (λ found. (found, self.new)) result (bytes size self.old) }
     {
         let digits = self.token()?;
         bytes_in(alloc, size, digits)
@@ -93,7 +93,7 @@ impl<'a> Tokens<'a> {
 
     /// Reads this word and `N`.
     pub(crate) fn labelled(&mut self, label: &[u8]) -> Result<u32, Cause>
-        ensures { Reads result self.new (labelled label.now self.old) }
+        ensures { IsParsedWithRest result self.new (labelled label.now self.old) }
     {
         self.word(Cause::Missing, label)?;
         self.number()
@@ -101,7 +101,7 @@ impl<'a> Tokens<'a> {
 
     /// Reads this word and `N`, or neither of them, which stands for 0.
     pub(crate) fn if_labelled(&mut self, label: &[u8]) -> Result<u32, Cause>
-        ensures { Reads result self.new (if_labelled label.now self.old) }
+        ensures { IsParsedWithRest result self.new (if_labelled label.now self.old) }
     {
         if self.takes(label) {
             self.number()
@@ -112,7 +112,7 @@ impl<'a> Tokens<'a> {
 
     /// Reads `N`, or the end, which stands for 0.
     pub(crate) fn number_or_end(&mut self) -> Result<u32, Cause>
-        ensures { Reads result self.new (number_or_end self.old) }
+        ensures { IsParsedWithRest result self.new (number_or_end self.old) }
     {
         if self.is_empty() {
             Ok(0)
@@ -175,7 +175,7 @@ fn flag_of(word: &[u8]) -> Option<u32>
 
 /// The bytes that a token writes, so many.
 pub(crate) fn bytes_in(alloc: Global, size: u32, word: &[u8]) -> Result<Bytes, LineError>
-    ensures { Gives (λ found. found) result (bytes_in size word.now) }
+    ensures { IsParsedAs (λ found. found) result (bytes_in size word.now) }
 {
     if !is_all_hex(word) {
         return Err(LineError::Fault(Cause::Digits));
@@ -185,7 +185,7 @@ pub(crate) fn bytes_in(alloc: Global, size: u32, word: &[u8]) -> Result<Bytes, L
     }
     // These digits can be decoded, so only memory may be missing.
     match hex::decode(alloc, word) {
-        Ok(bytes) => Ok(List::of(bytes)),
+        Ok(bytes) => Ok(Bytes::of(bytes)),
         Err(_) => Err(LineError::NoMemory),
     }
 }

@@ -2,7 +2,7 @@
 
 ghost use Rattle.std.specs.Prelude.{◌≡◌};
 ghost use Rattle.map_types.specs.Creation.{IsShape};
-ghost use Rattle.map_script.specs.Gives.{Gives};
+ghost use Rattle.map_script.specs.Parsed.{IsParsedAs};
 ghost use Rattle.map_script.specs.Grammar.{lookup_places, update_places, delete_places, take_places, next_places, batch_read_places, pairs_to_end, keys_to_end, batch_update_places, batch_delete_places, verb_line};
 
 use crate::line_error::LineError;
@@ -15,7 +15,7 @@ use std::alloc::Global;
 #[tactic(auto, unfolding(crate::specs::Grammar::verb_line))]
 pub(crate) fn verb_line(alloc: Global, shape: &Shape, mut tokens: Tokens) -> Result<Verb, LineError>
     requires { IsShape shape.now }
-    ensures { Gives (λ verb. verb) result (verb_line shape.now tokens.entry) }
+    ensures { IsParsedAs (λ verb. verb) result (verb_line shape.now tokens.entry) }
 {
     let name = tokens.token()?;
     if name == b"lookup".as_slice() {
@@ -53,7 +53,7 @@ fn lookup_places(
     side: Side,
     mut places: Tokens,
 ) -> Result<Verb, LineError>
-    ensures { Gives (λ verb. verb) result (lookup_places shape.now side places.entry) }
+    ensures { IsParsedAs (λ verb. verb) result (lookup_places shape.now side places.entry) }
 {
     let key = places.bytes(alloc, shape.key_size)?;
     Ok(places.at_end(Verb::Lookup { side, key })?)
@@ -68,7 +68,7 @@ fn update_places(
     mut places: Tokens,
 ) -> Result<Verb, LineError>
     requires { IsShape shape.now }
-    ensures { Gives (λ verb. verb) result (update_places shape.now side places.entry) }
+    ensures { IsParsedAs (λ verb. verb) result (update_places shape.now side places.entry) }
 {
     let flags = places.flag()?;
     let key = places.bytes(alloc, shape.key_size)?;
@@ -84,7 +84,7 @@ fn update_places(
 /// Reads `KEY`, of a delete.
 #[tactic(auto, unfolding(crate::specs::Grammar::delete_places))]
 fn delete_places(alloc: Global, shape: &Shape, mut places: Tokens) -> Result<Verb, LineError>
-    ensures { Gives (λ verb. verb) result (delete_places shape.now places.entry) }
+    ensures { IsParsedAs (λ verb. verb) result (delete_places shape.now places.entry) }
 {
     let key = places.bytes(alloc, shape.key_size)?;
     Ok(places.at_end(Verb::Delete { key })?)
@@ -93,7 +93,7 @@ fn delete_places(alloc: Global, shape: &Shape, mut places: Tokens) -> Result<Ver
 /// Reads `KEY`, of a lookup that deletes.
 #[tactic(auto, unfolding(crate::specs::Grammar::take_places))]
 fn take_places(alloc: Global, shape: &Shape, mut places: Tokens) -> Result<Verb, LineError>
-    ensures { Gives (λ verb. verb) result (take_places shape.now places.entry) }
+    ensures { IsParsedAs (λ verb. verb) result (take_places shape.now places.entry) }
 {
     let key = places.bytes(alloc, shape.key_size)?;
     Ok(places.at_end(Verb::Take { key })?)
@@ -102,7 +102,7 @@ fn take_places(alloc: Global, shape: &Shape, mut places: Tokens) -> Result<Verb,
 /// Reads `KEY` or nothing, of a step to the next key.
 #[tactic(auto, unfolding(crate::specs::Grammar::next_places))]
 fn next_places(alloc: Global, shape: &Shape, mut places: Tokens) -> Result<Verb, LineError>
-    ensures { Gives (λ verb. verb) result (next_places shape.now places.entry) }
+    ensures { IsParsedAs (λ verb. verb) result (next_places shape.now places.entry) }
 {
     if places.is_empty() {
         return Ok(Verb::Next { key: None });
@@ -114,7 +114,7 @@ fn next_places(alloc: Global, shape: &Shape, mut places: Tokens) -> Result<Verb,
 /// Reads `COUNT START`, and `FLAGS` or not, of a batch that is read.
 #[tactic(auto, unfolding(crate::specs::Grammar::batch_read_places))]
 fn batch_read_places(remove: bool, mut places: Tokens) -> Result<Verb, LineError>
-    ensures { Gives (λ verb. verb) result (batch_read_places remove places.entry) }
+    ensures { IsParsedAs (λ verb. verb) result (batch_read_places remove places.entry) }
 {
     let count = places.number()?;
     let start = places.start()?;
@@ -131,7 +131,7 @@ fn batch_read_places(remove: bool, mut places: Tokens) -> Result<Verb, LineError
 #[tactic(auto, unfolding(crate::specs::Grammar::batch_update_places))]
 fn batch_update_places(alloc: Global, shape: &Shape, mut places: Tokens) -> Result<Verb, LineError>
     requires { IsShape shape.now }
-    ensures { Gives (λ verb. verb) result (batch_update_places shape.now places.entry) }
+    ensures { IsParsedAs (λ verb. verb) result (batch_update_places shape.now places.entry) }
 {
     let flags = places.number()?;
     let pairs = pairs_to_end(alloc, shape, places)?;
@@ -141,7 +141,7 @@ fn batch_update_places(alloc: Global, shape: &Shape, mut places: Tokens) -> Resu
 /// Reads any number of `KEY VALUE`, to the end.
 fn pairs_to_end(alloc: Global, shape: &Shape, mut places: Tokens) -> Result<Pairs, LineError>
     requires { IsShape shape.now }
-    ensures { Gives (λ pairs. pairs) result (pairs_to_end shape.now places.entry) }
+    ensures { IsParsedAs (λ pairs. pairs) result (pairs_to_end shape.now places.entry) }
 {
     let value_size = value_len(shape, Side::Sys);
     let mut keys = Vec::new(alloc);
@@ -166,7 +166,7 @@ fn pairs_to_end(alloc: Global, shape: &Shape, mut places: Tokens) -> Result<Pair
 /// Reads `FLAGS` and keys, of a batch that is deleted.
 #[tactic(auto, unfolding(crate::specs::Grammar::batch_delete_places))]
 fn batch_delete_places(alloc: Global, shape: &Shape, mut places: Tokens) -> Result<Verb, LineError>
-    ensures { Gives (λ verb. verb) result (batch_delete_places shape.now places.entry) }
+    ensures { IsParsedAs (λ verb. verb) result (batch_delete_places shape.now places.entry) }
 {
     let flags = places.number()?;
     let keys = keys_to_end(alloc, shape, places)?;
@@ -175,7 +175,7 @@ fn batch_delete_places(alloc: Global, shape: &Shape, mut places: Tokens) -> Resu
 
 /// Reads any number of `KEY`, to the end.
 fn keys_to_end(alloc: Global, shape: &Shape, mut places: Tokens) -> Result<List<Bytes>, LineError>
-    ensures { Gives (λ keys. keys) result (keys_to_end shape.now places.entry) }
+    ensures { IsParsedAs (λ keys. keys) result (keys_to_end shape.now places.entry) }
 {
     let mut keys = Vec::new(alloc);
     while !places.is_empty() {

@@ -3,6 +3,7 @@
 #![tactic(auto)]
 
 mod attr;
+mod bytes;
 mod call;
 mod check;
 mod gate;
@@ -15,11 +16,12 @@ mod row;
 mod values;
 
 pub use attr::{CreateAttr, Shape};
+pub use bytes::Bytes;
 pub use call::{Call, Verb};
 pub use check::{BPF_F_NO_COMMON_LRU, BPF_F_NO_PREALLOC, BPF_F_ZERO_SEED, check_attr};
 pub use gate::{Gate, NoGate, Point};
 pub use kind::{DomainId, MapKind, Side};
-pub use list::{Bytes, List, Numbers};
+pub use list::{List, Numbers};
 pub use pairs::Pairs;
 pub use refusal::{Absent, CreateRefusal, Errno, Failed, Limit, NoMemory};
 pub use reply::Reply;

@@ -1,9 +1,7 @@
 //! Lists that contracts see as lists.
 
-ghost use Rattle.std.specs.Prelude.{◌≡◌, ◌==◌, length, IfOk};
+ghost use Rattle.std.specs.Prelude.{◌≡◌, ◌==◌, length};
 
-use crate::NoMemory;
-use std::alloc::Global;
 use std::marker::Model;
 
 /// A list that contracts see as its elements. It is made from a `Vec` and gives it back, and neither takes memory.
@@ -11,9 +9,6 @@ use std::marker::Model;
 pub struct List<T> {
     items: Vec<T>,
 }
-
-/// Bytes, as of a key or a value.
-pub type Bytes = List<u8>;
 
 /// Numbers, as of elements.
 pub type Numbers = List<u32>;
@@ -61,16 +56,5 @@ impl<T> List<T> {
         ensures { result ≡ (length self.now == 0) }
     {
         self.items.is_empty()
-    }
-}
-
-impl List<u8> {
-    /// A list of the same bytes.
-    pub fn copy(&self, alloc: Global) -> Result<List<u8>, NoMemory>
-        ensures { IfOk result (λ copy. copy ≡ self.now) }
-    {
-        Ok(List {
-            items: self.as_slice().to_vec(alloc)?,
-        })
     }
 }

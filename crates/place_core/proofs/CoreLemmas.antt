@@ -101,18 +101,18 @@ pub rows_once : (core : CoreView) (e k : ℕ) → IsCore core → times e (rows 
 rows_once core e k is = subst (λ n. n ≤ 1) (sym (is.placed.placed.rows k e)) (at_most_one _)
 
 -- what is read of a core: the lists under a lock
-pub record Reads (core : CoreView) (lock : DomainId) (at : ℕ) (under : Lists) : Type 0 where
+pub record ReadsLists (core : CoreView) (lock : DomainId) (at : ℕ) (under : Lists) : Type 0 where
   pub at_is : at ≡ lock_number core.shape lock
   pub within : at < length core.lists
   pub under_is : (state_of core).lists (lock_number core.shape lock) ≡ under
 
-pub reads : (core : CoreView) (lock : DomainId) (cpu at : ℕ) (under : Lists) → IsCore core → Holds core.shape (state_of core) cpu lock → at ≡ lock_number core.shape lock → under ≡ get_or core.lists at under → Reads core lock at under
+pub reads : (core : CoreView) (lock : DomainId) (cpu at : ℕ) (under : Lists) → IsCore core → Holds core.shape (state_of core) cpu lock → at ≡ lock_number core.shape lock → under ≡ get_or core.lists at under → ReadsLists core lock at under
 reads core lock cpu at under is holds at_is found =
     let there = lock_within core lock cpu is holds in
     let within : at < length core.lists = omega arith in
     record { at_is = at_is; within = within; under_is = ap (λ (k : ℕ). get_or core.lists k no_lists) (sym at_is) ∙ at_any core.lists at under no_lists within found }
 
-pub did_claim : (core : CoreView) (cpu e : ℕ) (lock : DomainId) (at : ℕ) (under left now : Lists) → IsCore core → Holds core.shape (state_of core) cpu lock → Reads core lock at under → IsHead e under.free → left ≡ without_free e under → now ≡ with_row lock e left
+pub did_claim : (core : CoreView) (cpu e : ℕ) (lock : DomainId) (at : ℕ) (under left now : Lists) → IsCore core → Holds core.shape (state_of core) cpu lock → ReadsLists core lock at under → IsHead e under.free → left ≡ without_free e under → now ≡ with_row lock e left
     → Does core (Claim cpu e lock) record { shape = core.shape; held = core.held; lists = set core.lists at now; owners = set core.owners e (owners.Hand cpu); homes = core.homes; bits = core.bits }
 did_claim core cpu e lock at under left now is holds r head left_is now_is =
     let first = subst (λ (l : Lists). IsHead e l.free) (sym r.under_is) head in
@@ -121,43 +121,43 @@ did_claim core cpu e lock at under left now is holds r head left_is now_is =
     did_owner core (Claim cpu e lock) e (owners.Hand cpu) lock at now is r.at_is r.within real can
     (ap (λ (l : Lists). with_owner core.shape (state_of core) e (owners.Hand cpu) lock (with_row lock e (without_free e l))) r.under_is ∙ ap (with_owner core.shape (state_of core) e (owners.Hand cpu) lock) (ap (with_row lock e) (sym left_is) ∙ sym now_is))
 
-pub did_settle : (core : CoreView) (cpu e : ℕ) (lock : DomainId) (at : ℕ) (under left now : Lists) → IsCore core → Holds core.shape (state_of core) cpu lock → Reads core lock at under → is_bucket lock ≡ false → e < core.shape.elements → (state_of core).owner e ≡ owners.Hand cpu → (IsTrue (is_lru core.shape.kind) → IsIn e (rows under)) → left ≡ without_row e under → now ≡ with_free e left
+pub did_settle : (core : CoreView) (cpu e : ℕ) (lock : DomainId) (at : ℕ) (under left now : Lists) → IsCore core → Holds core.shape (state_of core) cpu lock → ReadsLists core lock at under → is_bucket lock ≡ false → e < core.shape.elements → (state_of core).owner e ≡ owners.Hand cpu → (IsTrue (is_lru core.shape.kind) → IsIn e (rows under)) → left ≡ without_row e under → now ≡ with_free e left
     → Does core (Settle cpu e lock) record { shape = core.shape; held = core.held; lists = set core.lists at now; owners = set core.owners e owners.Free; homes = core.homes; bits = core.bits }
 did_settle core cpu e lock at under left now is holds r no_bucket real in_hand listed left_is now_is =
     did_owner core (Settle cpu e lock) e owners.Free lock at now is r.at_is r.within real
     record { holds = holds; has_free_list = no_bucket; real = real; in_hand = in_hand; listed = λ lru. subst (λ (l : Lists). IsIn e (rows l)) (sym r.under_is) (listed lru) }
     (ap (λ (l : Lists). with_owner core.shape (state_of core) e owners.Free lock (with_free e (without_row e l))) r.under_is ∙ ap (with_owner core.shape (state_of core) e owners.Free lock) (ap (with_free e) (sym left_is) ∙ sym now_is))
 
-pub did_attach : (core : CoreView) (cpu e bucket : ℕ) (at : ℕ) (under now : Lists) → IsCore core → Holds core.shape (state_of core) cpu (Bucket bucket) → Reads core (Bucket bucket) at under → e < core.shape.elements → (state_of core).owner e ≡ owners.Hand cpu → (IsTrue (is_lru core.shape.kind) → IsLockHome ((state_of core).home e)) → now ≡ with_row (Bucket bucket) e under
+pub did_attach : (core : CoreView) (cpu e bucket : ℕ) (at : ℕ) (under now : Lists) → IsCore core → Holds core.shape (state_of core) cpu (Bucket bucket) → ReadsLists core (Bucket bucket) at under → e < core.shape.elements → (state_of core).owner e ≡ owners.Hand cpu → (IsTrue (is_lru core.shape.kind) → IsLockHome ((state_of core).home e)) → now ≡ with_row (Bucket bucket) e under
     → Does core (Attach cpu e bucket) record { shape = core.shape; held = core.held; lists = set core.lists at now; owners = set core.owners e (owners.Bucket bucket); homes = core.homes; bits = core.bits }
 did_attach core cpu e bucket at under now is holds r real in_hand home now_is =
     did_owner core (Attach cpu e bucket) e (owners.Bucket bucket) (Bucket bucket) at now is r.at_is r.within real
     record { holds = holds; real = real; in_hand = in_hand; not_carried = home }
     (ap (λ (l : Lists). with_owner core.shape (state_of core) e (owners.Bucket bucket) (Bucket bucket) (with_row (Bucket bucket) e l)) r.under_is ∙ ap (with_owner core.shape (state_of core) e (owners.Bucket bucket) (Bucket bucket)) (sym now_is))
 
-in_held_bucket : (core : CoreView) (cpu e bucket : ℕ) (at : ℕ) (under : Lists) → IsCore core → Holds core.shape (state_of core) cpu (Bucket bucket) → Reads core (Bucket bucket) at under → IsIn e under.first → IsInHeldBucket core.shape (state_of core) cpu e bucket
+in_held_bucket : (core : CoreView) (cpu e bucket : ℕ) (at : ℕ) (under : Lists) → IsCore core → Holds core.shape (state_of core) cpu (Bucket bucket) → ReadsLists core (Bucket bucket) at under → IsIn e under.first → IsInHeldBucket core.shape (state_of core) cpu e bucket
 in_held_bucket core cpu e bucket at under is holds r inside =
     let there = subst (λ (l : Lists). IsIn e l.first) (sym r.under_is) inside in
     record { holds = holds; real = row_is_real core e (lock_number core.shape (Bucket bucket)) is there; inside = there }
 
-pub did_detach : (core : CoreView) (cpu e bucket : ℕ) (at : ℕ) (under now : Lists) → IsCore core → Holds core.shape (state_of core) cpu (Bucket bucket) → Reads core (Bucket bucket) at under → IsIn e under.first → now ≡ without_row e under
+pub did_detach : (core : CoreView) (cpu e bucket : ℕ) (at : ℕ) (under now : Lists) → IsCore core → Holds core.shape (state_of core) cpu (Bucket bucket) → ReadsLists core (Bucket bucket) at under → IsIn e under.first → now ≡ without_row e under
     → Does core (Detach cpu e bucket) record { shape = core.shape; held = core.held; lists = set core.lists at now; owners = set core.owners e (owners.Hand cpu); homes = core.homes; bits = core.bits }
 did_detach core cpu e bucket at under now is holds r inside now_is =
     let can = in_held_bucket core cpu e bucket at under is holds r inside in
     did_owner core (Detach cpu e bucket) e (owners.Hand cpu) (Bucket bucket) at now is r.at_is r.within can.real can
     (ap (λ (l : Lists). with_owner core.shape (state_of core) e (owners.Hand cpu) (Bucket bucket) (without_row e l)) r.under_is ∙ ap (with_owner core.shape (state_of core) e (owners.Hand cpu) (Bucket bucket)) (sym now_is))
 
-pub did_mark : (core : CoreView) (cpu e bucket : ℕ) (at : ℕ) (under : Lists) → IsCore core → Holds core.shape (state_of core) cpu (Bucket bucket) → Reads core (Bucket bucket) at under → IsIn e under.first
+pub did_mark : (core : CoreView) (cpu e bucket : ℕ) (at : ℕ) (under : Lists) → IsCore core → Holds core.shape (state_of core) cpu (Bucket bucket) → ReadsLists core (Bucket bucket) at under → IsIn e under.first
     → Does core (Mark cpu e bucket) record { shape = core.shape; held = core.held; lists = core.lists; owners = core.owners; homes = core.homes; bits = set core.bits e true }
 did_mark core cpu e bucket at under is holds r inside =
     let can = in_held_bucket core cpu e bucket at under is holds r inside in
     did_bit core (Mark cpu e bucket) e true is can.real can refl
 
 -- that an element which stands under a lock that is read is there
-pub read_free_real : (core : CoreView) (e : ℕ) (lock : DomainId) (at : ℕ) (under : Lists) → IsCore core → Reads core lock at under → IsHead e under.free → e < length core.owners
+pub read_free_real : (core : CoreView) (e : ℕ) (lock : DomainId) (at : ℕ) (under : Lists) → IsCore core → ReadsLists core lock at under → IsHead e under.free → e < length core.owners
 read_free_real core e lock at under is r head =
     let real = free_is_real core e (lock_number core.shape lock) is (head_is_in e _ (subst (λ (l : Lists). IsHead e l.free) (sym r.under_is) head)) in omega (arith, is.owners)
 
-pub read_row_real : (core : CoreView) (e : ℕ) (lock : DomainId) (at : ℕ) (under : Lists) → IsCore core → Reads core lock at under → IsIn e under.first → e < core.shape.elements
+pub read_row_real : (core : CoreView) (e : ℕ) (lock : DomainId) (at : ℕ) (under : Lists) → IsCore core → ReadsLists core lock at under → IsIn e under.first → e < core.shape.elements
 read_row_real core e lock at under is r inside =
     row_is_real core e (lock_number core.shape lock) is (subst (λ (l : Lists). IsIn e l.first) (sym r.under_is) inside)

@@ -10,7 +10,7 @@ use Rattle.place_core.specs.declared.step.Lists.{Lists}
 use Rattle.map_types.specs.ElementLists.{put, one, times}
 use Rattle.place_words.specs.Openings.{is_free}
 use Rattle.place_core.specs.State.{rows, HasOnlyItsLists, HasCursorInside}
-use Rattle.place_core.specs.Places.{Place, lies_at, has_row, EachOnce, FreePlaced, RowsPlaced, MayOwn, MayLie, HomesTold, ListsFit, CursorsInside, PlacedAt}
+use Rattle.place_core.specs.Places.{ElementPlace, lies_at, has_row, EachOnce, FreePlaced, RowsPlaced, MayOwn, MayLie, HomesTold, ListsFit, CursorsInside, PlacedAt}
 use Rattle.place_core.proofs.ElementLemmas.{at_put, put_here, put_else}
 
 -- what stands at a list, for an element
@@ -31,7 +31,7 @@ each_once_moved elements list list' stands stands' e real once others stay here 
     (cases_eq x e)
 
 -- What a change of the lists under the lock k to `now`, by the element e alone, asks of the new owner and place of e.
-pub record MovesAt (shape : Shape) (lists : ℕ → Lists) (owner : ℕ → Owner) (place : ℕ → Place) (k e : ℕ) (now : Lists) (o : Owner) (p : Place) : Type 0 where
+pub record MovesAt (shape : Shape) (lists : ℕ → Lists) (owner : ℕ → Owner) (place : ℕ → ElementPlace) (k e : ℕ) (now : Lists) (o : Owner) (p : ElementPlace) : Type 0 where
   pub others_free : (x : ℕ) → x ≢ e → times x now.free ≡ times x (lists k).free
   pub others_rows : (x : ℕ) → x ≢ e → times x (rows now) ≡ times x (rows (lists k))
   pub free_here : times e now.free ≡ one (is_free o && lies_at k p)
@@ -50,7 +50,7 @@ differs_put f e x = record { here = put_here f e x; else_same = put_else f e x }
 pub differs_not : {A : Type 0} (f : ℕ → A) (e : ℕ) → DiffersAt f f e (f e)
 differs_not f e = record { here = refl; else_same = λ _ _. refl }
 
-module _ (shape : Shape) (lists : ℕ → Lists) (owner owner' : ℕ → Owner) (place place' : ℕ → Place) (k e : ℕ) (now : Lists) (o : Owner) (p : Place) where
+module _ (shape : Shape) (lists : ℕ → Lists) (owner owner' : ℕ → Owner) (place place' : ℕ → ElementPlace) (k e : ℕ) (now : Lists) (o : Owner) (p : ElementPlace) where
   pub free_moved : e < shape.elements → MovesAt shape lists owner place k e now o p → DiffersAt owner owner' e o → DiffersAt place place' e p → FreePlaced shape lists owner place → FreePlaced shape (put lists k now) owner' place'
   free_moved real moves owners places placed =
       each_once_moved shape.elements (λ j. (lists j).free) (λ j. (put lists k now j).free) (λ j x. is_free (owner x) && lies_at j (place x)) (λ j x. is_free (owner' x) && lies_at j (place' x)) e real placed
@@ -94,7 +94,7 @@ pub cursors_put : (lists : ℕ → Lists) (k : ℕ) (now : Lists) → HasCursorI
 cursors_put lists k now here inside j = at_put lists k now (λ i l. HasCursorInside l) j here (λ _. inside j)
 
 -- The whole: under the lock k lies `now`, and e has the owner o and the place p.
-pub placed_moved : (shape : Shape) (lists : ℕ → Lists) (owner owner' : ℕ → Owner) (home home' : ℕ → Home) (place place' : ℕ → Place) (k e : ℕ) (now : Lists) (o : Owner) (p : Place)
+pub placed_moved : (shape : Shape) (lists : ℕ → Lists) (owner owner' : ℕ → Owner) (home home' : ℕ → Home) (place place' : ℕ → ElementPlace) (k e : ℕ) (now : Lists) (o : Owner) (p : ElementPlace)
     → e < shape.elements → PlacedAt shape lists owner home place → MovesAt shape lists owner place k e now o p
     → DiffersAt owner owner' e o → DiffersAt place place' e p → HomesTold shape home' place'
     → MayOwn shape o → MayLie shape e o p → HasOnlyItsLists (lock_named shape k) now → HasCursorInside now
@@ -104,8 +104,8 @@ placed_moved shape lists owner owner' home home' place place' k e now o p real p
   rows = rows_moved shape lists owner owner' place place' k e now o p real moves owners places placed.rows;
   owners = all_but_one shape.elements owner owner' e o (λ _ x. MayOwn shape x) owners (λ _. may_own) placed.owners;
   places = λ j r. ⊎_elim
-      (λ (is : j ≡ e). subst (λ (i : ℕ). MayLie shape i (owner' i) (place' i)) (sym is) (subst (λ (x : Owner × Place). MayLie shape e x.0 x.1) (λ i. (sym owners.here i, sym places.here i)) may_lie))
-      (λ (other : j ≡ e → ⊥). subst (λ (x : Owner × Place). MayLie shape j x.0 x.1) (λ i. (sym (owners.else_same j other) i, sym (places.else_same j other) i)) (placed.places j r))
+      (λ (is : j ≡ e). subst (λ (i : ℕ). MayLie shape i (owner' i) (place' i)) (sym is) (subst (λ (x : Owner × ElementPlace). MayLie shape e x.0 x.1) (λ i. (sym owners.here i, sym places.here i)) may_lie))
+      (λ (other : j ≡ e → ⊥). subst (λ (x : Owner × ElementPlace). MayLie shape j x.0 x.1) (λ i. (sym (owners.else_same j other) i, sym (places.else_same j other) i)) (placed.places j r))
       (cases_eq j e);
   homes = told;
   fit = fit_put shape lists k now fit placed.fit;

@@ -18,7 +18,7 @@ use Rattle.place_core.specs.Steps.{Holds, CanTake, CanRehome, CanClear, IsHeldHo
 use Rattle.place_core.specs.CoreView.{CoreView, holder_in, AreHolds, state_of, IsCore}
 use Rattle.place_core.specs.Answers.{Does}
 use Rattle.place_core.proofs.ElementLemmas.{by_test, at_put}
-use Rattle.place_core.proofs.CoreLemmas.{put_set, Reads, at_any, did_bit, free_once, rows_once}
+use Rattle.place_core.proofs.CoreLemmas.{put_set, ReadsLists, at_any, did_bit, free_once, rows_once}
 
 holder_new : (k cpu : ℕ) (held : List (ℕ × ℕ)) → holder_in k held ≡ None → holder_in k (held ++ (k, cpu) ∷ []) ≡ Some cpu
 holder_new k cpu [] none = ap (λ b. cond {A = Option ℕ} b (Some cpu) None) (eq-eqb k k refl)
@@ -119,7 +119,7 @@ did_take core cpu number lock held is few is_one number_is nobody below held_is 
 pub no_take : (core : CoreView) (cpu : ℕ) (lock : DomainId) → IsCore core → list_all (is_below core.shape cpu (rank_of lock)) core.held ≡ false → CanTake core.shape (state_of core) cpu lock → ⊥
 no_take core cpu lock is some can = not_all_below core.shape cpu (rank_of lock) core.held core.held is.held some can.above
 
-pub did_give : (core : CoreView) (cpu number : ℕ) (lock : DomainId) (under lists now : Lists) (held : List (ℕ × ℕ)) → IsCore core → Holds core.shape (state_of core) cpu lock → Reads core lock number under → HasOnlyItsLists lock lists → HasCursorInside lists
+pub did_give : (core : CoreView) (cpu number : ℕ) (lock : DomainId) (under lists now : Lists) (held : List (ℕ × ℕ)) → IsCore core → Holds core.shape (state_of core) cpu lock → ReadsLists core lock number under → HasOnlyItsLists lock lists → HasCursorInside lists
     → ((e : ℕ) → times e lists.free ≡ times e under.free) → ((e : ℕ) → times e (rows lists) ≡ times e (rows under)) → now ≡ lists → held ≡ filter (λ hold. not (eqb hold.0 number)) core.held
     → Does core (Give cpu lock lists) record { shape = core.shape; held = held; lists = set core.lists number now; owners = core.owners; homes = core.homes; bits = core.bits }
 did_give core cpu number lock under lists now held is holds r own cursor same_free same_rows now_is held_is =

@@ -17,7 +17,7 @@ use Rattle.place_core.specs.declared.step.Lists.{Lists}
 use Rattle.map_types.specs.ElementLists.{put, one, times}
 use Rattle.place_words.specs.Openings.{is_free}
 use Rattle.place_core.specs.State.{State, rows, is_bucket, HasOnlyItsLists, HasCursorInside}
-use Rattle.place_core.specs.Places.{Place, lies, carried, lies_at, has_row, home_of_place, MayLie, MayLieUnder, FreePlaced, RowsPlaced, ListsFit, CursorsInside, HomesTold, PlacedAt, Placed}
+use Rattle.place_core.specs.Places.{ElementPlace, under_lock, carried, lies_at, has_row, home_of_place, MayLie, MayLieUnder, FreePlaced, RowsPlaced, ListsFit, CursorsInside, HomesTold, PlacedAt, Placed}
 use Rattle.place_core.specs.Steps.{left_by, joined_by, after_leaving, MayLeave, MayEnter, CanRehome, rehomed}
 use Rattle.place_core.proofs.ElementLemmas.{at_put, put_here, put_else, times_cons_same, times_cons_other, times_without_same, times_without_other}
 use Rattle.place_core.proofs.FrameLemmas.{counted, MovesAt, DiffersAt, differs_put, differs_not, all_but_one, free_moved, rows_moved, fit_put, cursors_put}
@@ -25,16 +25,16 @@ use Rattle.place_core.proofs.RowLemmas.{lies_here, lies_elsewhere, rows_with_row
 use Rattle.place_core.proofs.OwnerSteps.{no_bucket_under}
 
 -- What is right of lists, owners and places while an element is on its way.
-pub record Counted (shape : Shape) (lists : ℕ → Lists) (owner : ℕ → Owner) (place : ℕ → Place) : Type 0 where
+pub record Counted (shape : Shape) (lists : ℕ → Lists) (owner : ℕ → Owner) (place : ℕ → ElementPlace) : Type 0 where
   pub free : FreePlaced shape lists owner place
   pub rows : RowsPlaced shape lists owner place
   pub fit : ListsFit shape lists
   pub cursors : CursorsInside lists
 
-free_count : (shape : Shape) (lists : ℕ → Lists) (owner : ℕ → Owner) (place : ℕ → Place) (j e : ℕ) → e < shape.elements → FreePlaced shape lists owner place → times e (lists j).free ≡ one (is_free (owner e) && lies_at j (place e))
+free_count : (shape : Shape) (lists : ℕ → Lists) (owner : ℕ → Owner) (place : ℕ → ElementPlace) (j e : ℕ) → e < shape.elements → FreePlaced shape lists owner place → times e (lists j).free ≡ one (is_free (owner e) && lies_at j (place e))
 free_count shape lists owner place j e real free = free j e ∙ counted shape.elements e _ real
 
-row_count : (shape : Shape) (lists : ℕ → Lists) (owner : ℕ → Owner) (place : ℕ → Place) (j e : ℕ) → e < shape.elements → RowsPlaced shape lists owner place → times e (rows (lists j)) ≡ one (has_row (is_lru shape.kind) (lock_named shape j) (owner e) (lies_at j (place e)))
+row_count : (shape : Shape) (lists : ℕ → Lists) (owner : ℕ → Owner) (place : ℕ → ElementPlace) (j e : ℕ) → e < shape.elements → RowsPlaced shape lists owner place → times e (rows (lists j)) ≡ one (has_row (is_lru shape.kind) (lock_named shape j) (owner e) (lies_at j (place e)))
 row_count shape lists owner place j e real rows = rows j e ∙ counted shape.elements e _ real
 
 one_at_most : (b : Bool) → one b ≤ 1
@@ -83,7 +83,7 @@ others_joined_rows lock (owners.Bucket bucket) x e l other = rows_with_row_other
 others_joined_rows lock (owners.Hand cpu) x e l other = rows_with_row_other lock x e l other
 
 -- an element that leaves stands in none of the lock's lists
-left_free : (o : Owner) (e k : ℕ) (p : Place) (l : Lists) → times e l.free ≡ one (is_free o && lies_at k p) → times e (left_by o e l).free ≡ 0
+left_free : (o : Owner) (e k : ℕ) (p : ElementPlace) (l : Lists) → times e l.free ≡ one (is_free o && lies_at k p) → times e (left_by o e l).free ≡ 0
 left_free owners.Free e k p l was = let few = one_at_most (lies_at k p) in let less = times_without_same e l.free in omega arith
 left_free (owners.Bucket bucket) e k p l was = was
 left_free (owners.Hand cpu) e k p l was = was
@@ -94,7 +94,7 @@ left_rows lru lock (owners.Bucket bucket) here e l was = let few = one_at_most (
 left_rows lru lock (owners.Hand cpu) here e l was = let few = one_at_most (has_row lru lock (owners.Hand cpu) here) in rows_without_row_same e l (omega arith)
 
 -- and one that comes stands in one of them
-joined_free : (lock : DomainId) (o : Owner) (e k : ℕ) (l : Lists) → times e l.free ≡ 0 → times e (joined_by lock o e l).free ≡ one (is_free o && lies_at k (lies k))
+joined_free : (lock : DomainId) (o : Owner) (e k : ℕ) (l : Lists) → times e l.free ≡ 0 → times e (joined_by lock o e l).free ≡ one (is_free o && lies_at k (under_lock k))
 joined_free lock owners.Free e k l none = times_cons_same e l.free ∙ (ap suc none ∙ ap one (sym (lies_here k)))
 joined_free lock (owners.Bucket bucket) e k l none = ap (times e) (free_with_row lock e l) ∙ none
 joined_free lock (owners.Hand cpu) e k l none = ap (times e) (free_with_row lock e l) ∙ none
@@ -106,9 +106,9 @@ joined_rows lru lock (owners.Bucket bucket) e l no_bucket listing none =
 joined_rows lru lock (owners.Hand cpu) e l no_bucket listing none =
     rows_with_row_same lock e l no_bucket ∙ (ap (λ (n : ℕ). n + one (is_listing lock)) none ∙ (omega arith ∙ ap one (sym (row_of_lying lru lock (owners.Hand cpu) no_bucket refl listing))))
 
-module _ (shape : Shape) (lists : ℕ → Lists) (owner : ℕ → Owner) (place : ℕ → Place) (bounds : HasBounds shape) (e : ℕ) (real : e < shape.elements) (at_first : Counted shape lists owner place) where
+module _ (shape : Shape) (lists : ℕ → Lists) (owner : ℕ → Owner) (place : ℕ → ElementPlace) (bounds : HasBounds shape) (e : ℕ) (real : e < shape.elements) (at_first : Counted shape lists owner place) where
   -- It leaves the lists of the lock under which it lies.
-  pub leaves : (lock : DomainId) (cpu : ℕ) → IsTrue (is_lock shape lock) → is_bucket lock ≡ false → place e ≡ lies (lock_number shape lock)
+  pub leaves : (lock : DomainId) (cpu : ℕ) → IsTrue (is_lock shape lock) → is_bucket lock ≡ false → place e ≡ under_lock (lock_number shape lock)
       → Counted shape (put lists (lock_number shape lock) (left_by (owner e) e (lists (lock_number shape lock)))) owner (put place e (carried cpu))
   leaves lock cpu is no_bucket lay =
       let named = named_by_number shape lock is in
@@ -128,13 +128,13 @@ module _ (shape : Shape) (lists : ℕ → Lists) (owner : ℕ → Owner) (place 
       }
 
   -- It comes, from a hand that carries it, to the lists of a lock.
-  pub joins : (lock : DomainId) (cpu : ℕ) (place' : ℕ → Place) → IsTrue (is_lock shape lock) → is_bucket lock ≡ false → place e ≡ carried cpu → DiffersAt place place' e (lies (lock_number shape lock))
+  pub joins : (lock : DomainId) (cpu : ℕ) (place' : ℕ → ElementPlace) → IsTrue (is_lock shape lock) → is_bucket lock ≡ false → place e ≡ carried cpu → DiffersAt place place' e (under_lock (lock_number shape lock))
       → Counted shape (put lists (lock_number shape lock) (joined_by lock (owner e) e (lists (lock_number shape lock)))) owner place'
   joins lock cpu place' is no_bucket away differs =
       let named = named_by_number shape lock is in
-      let no_free : times e (lists (lock_number shape lock)).free ≡ 0 = free_count shape lists owner place (lock_number shape lock) e real at_first.free ∙ ap one (ap (λ (p : Place). is_free (owner e) && lies_at (lock_number shape lock) p) away ∙ and_right (is_free (owner e)) false refl) in
+      let no_free : times e (lists (lock_number shape lock)).free ≡ 0 = free_count shape lists owner place (lock_number shape lock) e real at_first.free ∙ ap one (ap (λ (p : ElementPlace). is_free (owner e) && lies_at (lock_number shape lock) p) away ∙ and_right (is_free (owner e)) false refl) in
       let no_row : times e (rows (lists (lock_number shape lock))) ≡ 0 = row_count shape lists owner place (lock_number shape lock) e real at_first.rows ∙ ap one ((λ i. has_row (is_lru shape.kind) (named i) (owner e) (lies_at (lock_number shape lock) (away i))) ∙ no_row_away (is_lru shape.kind) lock (owner e) no_bucket) in
-      let moves : MovesAt shape lists owner place (lock_number shape lock) e (joined_by lock (owner e) e (lists (lock_number shape lock))) (owner e) (lies (lock_number shape lock)) = record {
+      let moves : MovesAt shape lists owner place (lock_number shape lock) e (joined_by lock (owner e) e (lists (lock_number shape lock))) (owner e) (under_lock (lock_number shape lock)) = record {
         others_free = λ x other. others_joined_free lock (owner e) x e (lists (lock_number shape lock)) other;
         others_rows = λ x other. others_joined_rows lock (owner e) x e (lists (lock_number shape lock)) other;
         free_here = joined_free lock (owner e) e (lock_number shape lock) (lists (lock_number shape lock)) no_free;
@@ -143,22 +143,22 @@ module _ (shape : Shape) (lists : ℕ → Lists) (owner : ℕ → Owner) (place 
         row_else = λ j apart. ap (has_row (is_lru shape.kind) (lock_named shape j) (owner e)) (lies_elsewhere j (lock_number shape lock) apart ∙ sym (ap (lies_at j) away));
       } in
       record {
-        free = free_moved shape lists owner owner place place' (lock_number shape lock) e _ (owner e) (lies (lock_number shape lock)) real moves (differs_not owner e) differs at_first.free;
-        rows = rows_moved shape lists owner owner place place' (lock_number shape lock) e _ (owner e) (lies (lock_number shape lock)) real moves (differs_not owner e) differs at_first.rows;
+        free = free_moved shape lists owner owner place place' (lock_number shape lock) e _ (owner e) (under_lock (lock_number shape lock)) real moves (differs_not owner e) differs at_first.free;
+        rows = rows_moved shape lists owner owner place place' (lock_number shape lock) e _ (owner e) (under_lock (lock_number shape lock)) real moves (differs_not owner e) differs at_first.rows;
         fit = fit_put shape lists (lock_number shape lock) _ (subst (λ (d : DomainId). HasOnlyItsLists d (joined_by lock (owner e) e (lists (lock_number shape lock)))) (sym named) (fit_joined lock (owner e) e _ no_bucket (subst (λ (d : DomainId). HasOnlyItsLists d (lists (lock_number shape lock))) named (at_first.fit (lock_number shape lock))))) at_first.fit;
         cursors = cursors_put lists (lock_number shape lock) _ (cursor_joined lock (owner e) e _ (at_first.cursors (lock_number shape lock))) at_first.cursors;
       }
 
 -- places that are alike
-counted_along : (shape : Shape) (lists : ℕ → Lists) (owner : ℕ → Owner) (place place' : ℕ → Place) → ((x : ℕ) → place' x ≡ place x) → Counted shape lists owner place → Counted shape lists owner place'
+counted_along : (shape : Shape) (lists : ℕ → Lists) (owner : ℕ → Owner) (place place' : ℕ → ElementPlace) → ((x : ℕ) → place' x ≡ place x) → Counted shape lists owner place → Counted shape lists owner place'
 counted_along shape lists owner place place' same at_first = record {
-  free = λ k x. at_first.free k x ∙ ap (λ (p : Place). one (ltb x shape.elements && (is_free (owner x) && lies_at k p))) (sym (same x));
-  rows = λ k x. at_first.rows k x ∙ ap (λ (p : Place). one (ltb x shape.elements && has_row (is_lru shape.kind) (lock_named shape k) (owner x) (lies_at k p))) (sym (same x));
+  free = λ k x. at_first.free k x ∙ ap (λ (p : ElementPlace). one (ltb x shape.elements && (is_free (owner x) && lies_at k p))) (sym (same x));
+  rows = λ k x. at_first.rows k x ∙ ap (λ (p : ElementPlace). one (ltb x shape.elements && has_row (is_lru shape.kind) (lock_named shape k) (owner x) (lies_at k p))) (sym (same x));
   fit = at_first.fit;
   cursors = at_first.cursors;
 }
 
-module _ (shape : Shape) (s : State) (place : ℕ → Place) (bounds : HasBounds shape) (placed : PlacedAt shape s.lists s.owner s.home place) where
+module _ (shape : Shape) (s : State) (place : ℕ → ElementPlace) (bounds : HasBounds shape) (placed : PlacedAt shape s.lists s.owner s.home place) where
   module _ (cpu e : ℕ) (to : Home) (can : CanRehome shape s cpu e to) where
     evicts : is_lru shape.kind ≡ true
     evicts = bounds.common_evicts can.common
@@ -167,16 +167,16 @@ module _ (shape : Shape) (s : State) (place : ℕ → Place) (bounds : HasBounds
     counted_now = record { free = placed.free; rows = placed.rows; fit = placed.fit; cursors = placed.cursors }
 
     -- the place by the home
-    home_lies : (lock : DomainId) (p : Place) → homes.In lock ≡ home_of_place shape p → MayLie shape e (s.owner e) p → IsTrue (is_lock shape lock) → (p ≡ lies (lock_number shape lock)) × (is_bucket lock ≡ false)
-    home_lies lock (lies j) told may is =
+    home_lies : (lock : DomainId) (p : ElementPlace) → homes.In lock ≡ home_of_place shape p → MayLie shape e (s.owner e) p → IsTrue (is_lock shape lock) → (p ≡ under_lock (lock_number shape lock)) × (is_bucket lock ≡ false)
+    home_lies lock (under_lock j) told may is =
         let at_j : homes.In lock ≡ homes.In (lock_named shape j) = told ∙ ap (λ b. cond b (homes.In (lock_named shape j)) homes.Unlisted) evicts in
         let same : lock ≡ lock_named shape j = cc in
-        (ap lies (sym (ap (lock_number shape) same ∙ number_of_named shape j)), no_bucket_under shape e lock (subst (MayLieUnder shape e) (sym same) may))
+        (ap under_lock (sym (ap (lock_number shape) same ∙ number_of_named shape j)), no_bucket_under shape e lock (subst (MayLieUnder shape e) (sym same) may))
     home_lies lock (carried c) told may is =
         let clash : homes.In lock ≡ homes.Hand c = told ∙ ap (λ b. cond b (homes.Hand c) homes.Unlisted) evicts in absurd cc
 
-    home_carried : (c : ℕ) (p : Place) → homes.Hand c ≡ home_of_place shape p → p ≡ carried c
-    home_carried c (lies j) told =
+    home_carried : (c : ℕ) (p : ElementPlace) → homes.Hand c ≡ home_of_place shape p → p ≡ carried c
+    home_carried c (under_lock j) told =
         let clash : homes.Hand c ≡ homes.In (lock_named shape j) = told ∙ ap (λ b. cond b (homes.In (lock_named shape j)) homes.Unlisted) evicts in absurd cc
     home_carried c (carried d) told =
         let same : homes.Hand c ≡ homes.Hand d = told ∙ ap (λ b. cond b (homes.Hand d) homes.Unlisted) evicts in ap carried (sym cc)
@@ -194,7 +194,7 @@ module _ (shape : Shape) (s : State) (place : ℕ → Place) (bounds : HasBounds
         same : (x : ℕ) → put place e (carried cpu) x ≡ place x
         same x = at_put place e (carried cpu) (λ j p. p ≡ place j) x (sym (home_carried c (place e) told ∙ ap carried may)) (λ _. refl)
 
-    told_both : (p : Place) (home : Home) → home ≡ home_of_place shape p → HomesTold shape (put s.home e home) (put place e p)
+    told_both : (p : ElementPlace) (home : Home) → home ≡ home_of_place shape p → HomesTold shape (put s.home e home) (put place e p)
     told_both p home told j r =
         ⊎_elim
         (λ (is : j ≡ e). ap (put s.home e home) is ∙ (put_here s.home e home ∙ (told ∙ sym (ap (home_of_place shape) (ap (put place e p) is ∙ put_here place e p)))))
@@ -208,17 +208,17 @@ module _ (shape : Shape) (s : State) (place : ℕ → Place) (bounds : HasBounds
     come_to lock is no_bucket may =
         let k = lock_number shape lock in
         let named = named_by_number shape lock is in
-        let differs : DiffersAt (put place e (carried cpu)) (put place e (lies k)) e (lies k) =
-        record { here = put_here place e (lies k); else_same = λ j other. put_else place e (lies k) j other ∙ sym (put_else place e (carried cpu) j other) } in
-        let now = joins shape (after_leaving shape (s.home e) (s.owner e) e s.lists) s.owner (put place e (carried cpu)) bounds e can.real on_the_way lock cpu (put place e (lies k)) is no_bucket (put_here place e (carried cpu)) differs in
+        let differs : DiffersAt (put place e (carried cpu)) (put place e (under_lock k)) e (under_lock k) =
+        record { here = put_here place e (under_lock k); else_same = λ j other. put_else place e (under_lock k) j other ∙ sym (put_else place e (carried cpu) j other) } in
+        let now = joins shape (after_leaving shape (s.home e) (s.owner e) e s.lists) s.owner (put place e (carried cpu)) bounds e can.real on_the_way lock cpu (put place e (under_lock k)) is no_bucket (put_here place e (carried cpu)) differs in
         record {
-          place = put place e (lies k);
+          place = put place e (under_lock k);
           placed = record {
             free = now.free;
             rows = now.rows;
             owners = placed.owners;
-            places = all_but_one shape.elements place (put place e (lies k)) e (lies k) (λ j p. MayLie shape j (s.owner j) p) (differs_put place e (lies k)) (λ _. subst (MayLieUnder shape e) (sym named) may) placed.places;
-            homes = told_both (lies k) (homes.In lock) (sym (ap (λ b. cond b (homes.In (lock_named shape k)) homes.Unlisted) evicts ∙ ap homes.In named));
+            places = all_but_one shape.elements place (put place e (under_lock k)) e (under_lock k) (λ j p. MayLie shape j (s.owner j) p) (differs_put place e (under_lock k)) (λ _. subst (MayLieUnder shape e) (sym named) may) placed.places;
+            homes = told_both (under_lock k) (homes.In lock) (sym (ap (λ b. cond b (homes.In (lock_named shape k)) homes.Unlisted) evicts ∙ ap homes.In named));
             fit = now.fit;
             cursors = now.cursors;
           };

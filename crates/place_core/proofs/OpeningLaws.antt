@@ -19,7 +19,7 @@ use Rattle.place_words.proofs.LockLemmas.{named_by_number, number_of_named}
 use Rattle.map_types.specs.ElementLists.{one, times}
 use Rattle.place_words.specs.Openings.{is_free}
 use Rattle.place_core.specs.State.{HasOnlyItsLists}
-use Rattle.place_core.specs.Places.{Place, lies, lies_at, has_row, home_of_place, MayOwn, MayLie, MayLieUnder, Placed}
+use Rattle.place_core.specs.Places.{ElementPlace, under_lock, lies_at, has_row, home_of_place, MayOwn, MayLie, MayLieUnder, Placed}
 use Rattle.place_core.specs.Ranks.{Ranked}
 use Rattle.place_words.specs.Openings.{opening_stack, opening_spares, spare_owner, opening_owner, opening_pushed, opening_free}
 use Rattle.place_core.specs.Opening.{opening_home, opening, opening_lists}
@@ -185,11 +185,11 @@ module _ (shape : Shape) (bounds : HasBounds shape) where
   pushed_past e past (Freelist cpu) is = in_none shape bounds e cpu past (ltb-true cpu shape.cpus (and_parts _ (ltb cpu shape.cpus) is).1)
 
   -- where an element lies at first; past the last one it doesn't matter
-  place_of : (e : ℕ) → (e < shape.elements) ⊎ (shape.elements ≤ e) → Place
-  place_of e (inl real) = lies (lock_number shape (first_lock shape (its_cpu shape bounds e real)))
-  place_of e (inr past) = lies 0
+  place_of : (e : ℕ) → (e < shape.elements) ⊎ (shape.elements ≤ e) → ElementPlace
+  place_of e (inl real) = under_lock (lock_number shape (first_lock shape (its_cpu shape bounds e real)))
+  place_of e (inr past) = under_lock 0
 
-  opening_place : ℕ → Place
+  opening_place : ℕ → ElementPlace
   opening_place e = place_of e (cases_lt e shape.elements)
 
   -- what stands in the opening free list of a lock
@@ -197,15 +197,15 @@ module _ (shape : Shape) (bounds : HasBounds shape) where
   unfolding opening_free place_of
   free_counts k e (inr past) =
       ⊎_elim
-      (λ (is : is_lock shape (lock_named shape k) ≡ true). ap (λ b. times e (cond b (filter (λ x. is_free (opening_owner shape shape.kind x)) (opening_pushed shape (lock_named shape k))) [])) is ∙ (times_filter (λ x. is_free (opening_owner shape shape.kind x)) e (opening_pushed shape (lock_named shape k)) ∙ (either_none (is_free (opening_owner shape shape.kind e)) (pushed_past e past (lock_named shape k) is) ∙ sym (ap (λ b. one (b && (is_free (opening_owner shape shape.kind e) && lies_at k (lies 0)))) (le-ltb e shape.elements past)))))
-      (λ (is_not : is_lock shape (lock_named shape k) ≡ false). ap (λ b. times e (cond b (filter (λ x. is_free (opening_owner shape shape.kind x)) (opening_pushed shape (lock_named shape k))) [])) is_not ∙ sym (ap (λ b. one (b && (is_free (opening_owner shape shape.kind e) && lies_at k (lies 0)))) (le-ltb e shape.elements past)))
+      (λ (is : is_lock shape (lock_named shape k) ≡ true). ap (λ b. times e (cond b (filter (λ x. is_free (opening_owner shape shape.kind x)) (opening_pushed shape (lock_named shape k))) [])) is ∙ (times_filter (λ x. is_free (opening_owner shape shape.kind x)) e (opening_pushed shape (lock_named shape k)) ∙ (either_none (is_free (opening_owner shape shape.kind e)) (pushed_past e past (lock_named shape k) is) ∙ sym (ap (λ b. one (b && (is_free (opening_owner shape shape.kind e) && lies_at k (under_lock 0)))) (le-ltb e shape.elements past)))))
+      (λ (is_not : is_lock shape (lock_named shape k) ≡ false). ap (λ b. times e (cond b (filter (λ x. is_free (opening_owner shape shape.kind x)) (opening_pushed shape (lock_named shape k))) [])) is_not ∙ sym (ap (λ b. one (b && (is_free (opening_owner shape shape.kind e) && lies_at k (under_lock 0)))) (le-ltb e shape.elements past)))
       (cases_Bool (is_lock shape (lock_named shape k)))
     where
       either_none : {n : ℕ} (b : Bool) → n ≡ 0 → cond b n 0 ≡ 0
       either_none true none = none
       either_none false none = refl
   free_counts k e (inl real) =
-      ap (λ (n : ℕ). n) (go (cases_Bool (is_lock shape (lock_named shape k)))) ∙ sym (ap (λ b. one (b && (is_free (opening_owner shape shape.kind e) && lies_at k (lies (lock_number shape (first_lock shape (its_cpu shape bounds e real))))))) (lt-ltb e shape.elements real))
+      ap (λ (n : ℕ). n) (go (cases_Bool (is_lock shape (lock_named shape k)))) ∙ sym (ap (λ b. one (b && (is_free (opening_owner shape shape.kind e) && lies_at k (under_lock (lock_number shape (first_lock shape (its_cpu shape bounds e real))))))) (lt-ltb e shape.elements real))
     where
       lock : DomainId
       lock = first_lock shape (its_cpu shape bounds e real)
@@ -236,7 +236,7 @@ module _ (shape : Shape) (bounds : HasBounds shape) where
       let same : shape.elements ≡ shape.capacity = bounds.spares_of_others (λ hash. let plain : is_lru shape.kind ≡ false = ap is_lru hash in cc) in
       ap (λ (n : ℕ). n % shape.cpus) same ∙ bounds.equal_shares lru apart
 
-  told_lru : (lock : DomainId) → is_lock shape lock ≡ true → is_lru shape.kind ≡ true → home_of_place shape (lies (lock_number shape lock)) ≡ homes.In lock
+  told_lru : (lock : DomainId) → is_lock shape lock ≡ true → is_lru shape.kind ≡ true → home_of_place shape (under_lock (lock_number shape lock)) ≡ homes.In lock
   told_lru lock is lru = ap (λ b. cond b (homes.In (lock_named shape (lock_number shape lock))) homes.Unlisted) lru ∙ ap homes.In (named_by_number shape lock is)
 
   home_counts : (e : ℕ) → e < shape.elements → (either : (e < shape.elements) ⊎ (shape.elements ≤ e)) → opening_home shape e ≡ home_of_place shape (place_of e either)
@@ -246,7 +246,7 @@ module _ (shape : Shape) (bounds : HasBounds shape) where
       let cpu : ℕ = its_cpu shape bounds e inside in
       let lock = first_lock shape (its_cpu shape bounds e inside) in
       let is = first_is_lock (its_cpu shape bounds e inside) (its_cpu_is shape bounds e inside) in
-      by_kind shape bounds (opening_home shape e ≡ home_of_place shape (lies (lock_number shape (first_lock shape (its_cpu shape bounds e inside)))))
+      by_kind shape bounds (opening_home shape e ≡ home_of_place shape (under_lock (lock_number shape (first_lock shape (its_cpu shape bounds e inside)))))
       (λ common lru. ap (λ b. cond b (homes.In Global) (cond (is_lru shape.kind) (homes.In (CpuLru (e / (shape.elements / shape.cpus)))) homes.Unlisted)) common ∙ sym (told_lru lock is lru ∙ ap homes.In (first_common shape (its_cpu shape bounds e inside) common)))
       (λ apart lru. ap (λ b. cond b (homes.In Global) (cond (is_lru shape.kind) (homes.In (CpuLru (e / (shape.elements / shape.cpus)))) homes.Unlisted)) apart ∙ (ap (λ b. cond b (homes.In (CpuLru (e / (shape.elements / shape.cpus)))) homes.Unlisted) lru ∙ sym (told_lru lock is lru ∙ (ap homes.In (first_set shape (its_cpu shape bounds e inside) apart lru) ∙ ap homes.In (ap CpuLru (its_quotient shape bounds e inside (even_shares apart lru)))))))
       (λ apart plain. ap (λ b. cond b (homes.In Global) (cond (is_lru shape.kind) (homes.In (CpuLru (e / (shape.elements / shape.cpus)))) homes.Unlisted)) apart ∙ (ap (λ b. cond b (homes.In (CpuLru (e / (shape.elements / shape.cpus)))) homes.Unlisted) plain ∙ sym (ap (λ b. cond b (homes.In (lock_named shape (lock_number shape lock))) homes.Unlisted) plain)))

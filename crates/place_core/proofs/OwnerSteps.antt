@@ -15,7 +15,7 @@ use Rattle.place_words.proofs.LockLemmas.{named_by_number, one_number}
 use Rattle.map_types.specs.ElementLists.{put, one, times}
 use Rattle.place_words.specs.Openings.{is_free}
 use Rattle.place_core.specs.State.{State, rows, is_bucket, HasOnlyItsLists}
-use Rattle.place_core.specs.Places.{Place, lies, carried, lies_at, is_in_bucket, has_row, home_of_place, MayLie, MayLieUnder, PlacedAt, Placed}
+use Rattle.place_core.specs.Places.{ElementPlace, under_lock, carried, lies_at, is_in_bucket, has_row, home_of_place, MayLie, MayLieUnder, PlacedAt, Placed}
 use Rattle.place_core.specs.Steps.{lists_under, with_free, without_free, with_row, without_row, CanClaim, claimed, CanSettle, settled, IsLockHome, CanAttach, attached, IsInHeldBucket, detached}
 use Rattle.place_core.proofs.ElementLemmas.{times_cons_same, times_cons_other, times_append, times_without_same, times_without_other}
 use Rattle.place_core.proofs.FrameLemmas.{counted, MovesAt, differs_put, differs_not, all_but_one, placed_moved}
@@ -29,7 +29,7 @@ no_bucket_under shape e (CpuLru cpu) may = refl
 no_bucket_under shape e (Bucket bucket) may = absurd may
 no_bucket_under shape e (Freelist cpu) may = refl
 
-module _ (shape : Shape) (s : State) (place : ℕ → Place) (bounds : HasBounds shape) (placed : PlacedAt shape s.lists s.owner s.home place) where
+module _ (shape : Shape) (s : State) (place : ℕ → ElementPlace) (bounds : HasBounds shape) (placed : PlacedAt shape s.lists s.owner s.home place) where
   -- an element in hand is on no free list, and in no bucket
   not_free_count : (k e : ℕ) → e < shape.elements → is_free (s.owner e) ≡ false → times e (s.lists k).free ≡ 0
   not_free_count k e real taken = placed.free k e ∙ (counted shape.elements e _ real ∙ ap (λ (f : Bool). one (f && lies_at k (place e))) taken)
@@ -49,7 +49,7 @@ module _ (shape : Shape) (s : State) (place : ℕ → Place) (bounds : HasBounds
     was_free : s.owner e ≡ owners.Free
     was_free = free_is _ (and_parts (is_free (s.owner e)) (lies_at (lock_number shape lock) (place e)) there.stands).0
 
-    lay : place e ≡ lies (lock_number shape lock)
+    lay : place e ≡ under_lock (lock_number shape lock)
     lay = lies_is _ _ (and_parts (is_free (s.owner e)) (lies_at (lock_number shape lock) (place e)) there.stands).1
 
     under : MayLieUnder shape e (lock_named shape (lock_number shape lock))
@@ -58,7 +58,7 @@ module _ (shape : Shape) (s : State) (place : ℕ → Place) (bounds : HasBounds
     no_bucket : is_bucket lock ≡ false
     no_bucket = no_bucket_under shape e lock (subst (MayLieUnder shape e) named under)
 
-    pub claim_moves : MovesAt shape s.lists s.owner place (lock_number shape lock) e (with_row lock e (without_free e (lists_under shape s lock))) (owners.Hand cpu) (lies (lock_number shape lock))
+    pub claim_moves : MovesAt shape s.lists s.owner place (lock_number shape lock) e (with_row lock e (without_free e (lists_under shape s lock))) (owners.Hand cpu) (under_lock (lock_number shape lock))
     claim_moves =
         let l = lists_under shape s lock in
         let m = without_free e l in
@@ -69,11 +69,11 @@ module _ (shape : Shape) (s : State) (place : ℕ → Place) (bounds : HasBounds
           others_rows = λ x other. rows_with_row_other lock x e m other;
           free_here = ap (times e) (free_with_row lock e m) ∙ (times_without_same e l.free ∙ ap (λ (n : ℕ). n - 1) once);
           row_here = rows_with_row_same lock e m no_bucket ∙ (ap (λ (n : ℕ). n + one (is_listing lock)) none ∙ (omega arith ∙ ap one (sym (row_now (lock_number shape lock)))));
-          free_else = λ j apart. sym (ap (λ (p : Place). is_free (s.owner e) && lies_at j p) lay ∙ and_right (is_free (s.owner e)) _ (lies_elsewhere j (lock_number shape lock) apart));
+          free_else = λ j apart. sym (ap (λ (p : ElementPlace). is_free (s.owner e) && lies_at j p) lay ∙ and_right (is_free (s.owner e)) _ (lies_elsewhere j (lock_number shape lock) apart));
           row_else = λ j apart. ap (has_row (is_lru shape.kind) (lock_named shape j) (owners.Hand cpu)) (lies_elsewhere j (lock_number shape lock) apart) ∙ (no_row_hand_away _ _ cpu ∙ sym (ap (λ (o : Owner). has_row (is_lru shape.kind) (lock_named shape j) o (lies_at j (place e))) was_free ∙ no_row_free _ _ _));
         }
       where
-        row_now : (j : ℕ) → has_row (is_lru shape.kind) (lock_named shape (lock_number shape lock)) (owners.Hand cpu) (lies_at (lock_number shape lock) (lies (lock_number shape lock))) ≡ is_listing lock
+        row_now : (j : ℕ) → has_row (is_lru shape.kind) (lock_named shape (lock_number shape lock)) (owners.Hand cpu) (lies_at (lock_number shape lock) (under_lock (lock_number shape lock))) ≡ is_listing lock
         row_now j = (λ i. has_row (is_lru shape.kind) (named i) (owners.Hand cpu) (lies_here (lock_number shape lock) i)) ∙ row_of_lying _ lock (owners.Hand cpu) no_bucket refl (lock_listing shape lock bounds can.holds.is_lock no_bucket)
 
     pub claim_keeps : Placed shape (claimed shape s cpu e lock)
@@ -82,7 +82,7 @@ module _ (shape : Shape) (s : State) (place : ℕ → Place) (bounds : HasBounds
         let fit : HasOnlyItsLists lock l = subst (λ (d : DomainId). HasOnlyItsLists d l) named (placed.fit (lock_number shape lock)) in
         record {
           place = place;
-          placed = placed_moved shape s.lists s.owner _ s.home s.home place place (lock_number shape lock) e _ (owners.Hand cpu) (lies (lock_number shape lock)) there.real placed claim_moves
+          placed = placed_moved shape s.lists s.owner _ s.home s.home place place (lock_number shape lock) e _ (owners.Hand cpu) (under_lock (lock_number shape lock)) there.real placed claim_moves
               (differs_put s.owner e (owners.Hand cpu)) record { here = lay; else_same = λ _ _. refl } placed.homes can.holds.is_cpu under
               (subst (λ (d : DomainId). HasOnlyItsLists d (with_row lock e (without_free e l))) (sym named) (fit_with_row lock e _ (fit_without_free lock e l fit)))
               (cursor_with_row lock e (without_free e l) (placed.cursors (lock_number shape lock)));
@@ -98,7 +98,7 @@ module _ (shape : Shape) (s : State) (place : ℕ → Place) (bounds : HasBounds
     hand_is_taken = ap is_free can.in_hand
 
     -- on a map that evicts, the element lies under the lock
-    listed_lies : is_lru shape.kind ≡ true → place e ≡ lies (lock_number shape lock)
+    listed_lies : is_lru shape.kind ≡ true → place e ≡ under_lock (lock_number shape lock)
     listed_lies lru =
         let row = stands_where shape.elements e _ _ (placed.rows (lock_number shape lock) e) (can.listed lru) in
         lies_is _ _ (row_lies _ lock (s.owner e) _ can.has_free_list (subst (λ (d : DomainId). has_row (is_lru shape.kind) d (s.owner e) (lies_at (lock_number shape lock) (place e)) ≡ true) settle_named row.stands))
@@ -118,7 +118,7 @@ module _ (shape : Shape) (s : State) (place : ℕ → Place) (bounds : HasBounds
         (λ (plain : is_lru shape.kind ≡ false). (λ i. has_row (plain i) (lock_named shape j) (can.in_hand i) (lies_at j (place e))) ∙ no_row_hand_plain _ cpu _)
         (cases_Bool (is_lru shape.kind))
 
-    pub settle_moves : MovesAt shape s.lists s.owner place (lock_number shape lock) e (with_free e (without_row e (lists_under shape s lock))) owners.Free (lies (lock_number shape lock))
+    pub settle_moves : MovesAt shape s.lists s.owner place (lock_number shape lock) e (with_free e (without_row e (lists_under shape s lock))) owners.Free (under_lock (lock_number shape lock))
     settle_moves =
         let l = lists_under shape s lock in
         record {
@@ -145,18 +145,18 @@ module _ (shape : Shape) (s : State) (place : ℕ → Place) (bounds : HasBounds
         (λ (plain : is_lru shape.kind ≡ false). subst (MayLieUnder shape e) (sym settle_named) (plain_under lock plain can.has_free_list can.holds.is_lock))
         (cases_Bool (is_lru shape.kind))
       where
-        lying : (o : Owner) (p : Place) → p ≡ lies (lock_number shape lock) → MayLie shape e o p → MayLieUnder shape e (lock_named shape (lock_number shape lock))
+        lying : (o : Owner) (p : ElementPlace) → p ≡ under_lock (lock_number shape lock) → MayLie shape e o p → MayLieUnder shape e (lock_named shape (lock_number shape lock))
         lying o p is may = subst (MayLie shape e o) is may
 
-    told_plain : (p : Place) → is_lru shape.kind ≡ false → home_of_place shape p ≡ homes.Unlisted
-    told_plain (lies j) plain = ap (λ lru. cond lru (homes.In (lock_named shape j)) homes.Unlisted) plain
+    told_plain : (p : ElementPlace) → is_lru shape.kind ≡ false → home_of_place shape p ≡ homes.Unlisted
+    told_plain (under_lock j) plain = ap (λ lru. cond lru (homes.In (lock_named shape j)) homes.Unlisted) plain
     told_plain (carried c) plain = ap (λ lru. cond lru (homes.Hand c) homes.Unlisted) plain
 
-    settle_told : s.home e ≡ home_of_place shape (lies (lock_number shape lock))
+    settle_told : s.home e ≡ home_of_place shape (under_lock (lock_number shape lock))
     settle_told =
         ⊎_elim
         (λ (lru : is_lru shape.kind ≡ true). placed.homes e can.real ∙ ap (home_of_place shape) (listed_lies lru))
-        (λ (plain : is_lru shape.kind ≡ false). placed.homes e can.real ∙ (told_plain (place e) plain ∙ sym (told_plain (lies (lock_number shape lock)) plain)))
+        (λ (plain : is_lru shape.kind ≡ false). placed.homes e can.real ∙ (told_plain (place e) plain ∙ sym (told_plain (under_lock (lock_number shape lock)) plain)))
         (cases_Bool (is_lru shape.kind))
 
     pub settle_keeps : Placed shape (settled shape s e lock)
@@ -164,10 +164,10 @@ module _ (shape : Shape) (s : State) (place : ℕ → Place) (bounds : HasBounds
         let l = lists_under shape s lock in
         let fit : HasOnlyItsLists lock l = subst (λ (d : DomainId). HasOnlyItsLists d l) settle_named (placed.fit (lock_number shape lock)) in
         record {
-          place = put place e (lies (lock_number shape lock));
-          placed = placed_moved shape s.lists s.owner _ s.home s.home place (put place e (lies (lock_number shape lock))) (lock_number shape lock) e _ owners.Free (lies (lock_number shape lock)) can.real placed settle_moves
-              (differs_put s.owner e owners.Free) (differs_put place e (lies (lock_number shape lock)))
-              (all_but_one shape.elements place (put place e (lies (lock_number shape lock))) e (lies (lock_number shape lock)) (λ j p. s.home j ≡ home_of_place shape p) (differs_put place e (lies (lock_number shape lock))) (λ _. settle_told) placed.homes)
+          place = put place e (under_lock (lock_number shape lock));
+          placed = placed_moved shape s.lists s.owner _ s.home s.home place (put place e (under_lock (lock_number shape lock))) (lock_number shape lock) e _ owners.Free (under_lock (lock_number shape lock)) can.real placed settle_moves
+              (differs_put s.owner e owners.Free) (differs_put place e (under_lock (lock_number shape lock)))
+              (all_but_one shape.elements place (put place e (under_lock (lock_number shape lock))) e (under_lock (lock_number shape lock)) (λ j p. s.home j ≡ home_of_place shape p) (differs_put place e (under_lock (lock_number shape lock))) (λ _. settle_told) placed.homes)
               tt settle_under
               (subst (λ (d : DomainId). HasOnlyItsLists d (with_free e (without_row e l))) (sym settle_named) (fit_with_free lock e _ can.has_free_list (fit_without_row lock e l fit)))
               (cursor_without_row e l (placed.cursors (lock_number shape lock)));
@@ -198,8 +198,8 @@ module _ (shape : Shape) (s : State) (place : ℕ → Place) (bounds : HasBounds
         }
 
     -- it isn't carried
-    attach_lies : (p : Place) → (is_lru shape.kind ≡ true → IsLockHome (home_of_place shape p)) → MayLie shape e (s.owner e) p → MayLie shape e (owners.Bucket bucket) p
-    attach_lies (lies j) home may = may
+    attach_lies : (p : ElementPlace) → (is_lru shape.kind ≡ true → IsLockHome (home_of_place shape p)) → MayLie shape e (s.owner e) p → MayLie shape e (owners.Bucket bucket) p
+    attach_lies (under_lock j) home may = may
     attach_lies (carried c) home may =
         let lru = bounds.common_evicts may.0 in
         absurd (subst IsLockHome (ap (λ b. cond b (homes.Hand c) homes.Unlisted) lru) (home lru))
@@ -247,8 +247,8 @@ module _ (shape : Shape) (s : State) (place : ℕ → Place) (bounds : HasBounds
           row_else = λ j apart. sym (ap (λ (o : Owner). has_row (is_lru shape.kind) (lock_named shape j) o (lies_at j (place e))) was_inside ∙ same_row _ (lock_named shape j) (owners.Bucket bucket) (owners.Hand cpu) _ refl (elsewhere_alike cpu bucket can.holds.is_lock j apart));
         }
 
-    detach_lies : (p : Place) → MayLie shape e (s.owner e) p → MayLie shape e (owners.Hand cpu) p
-    detach_lies (lies j) may = may
+    detach_lies : (p : ElementPlace) → MayLie shape e (s.owner e) p → MayLie shape e (owners.Hand cpu) p
+    detach_lies (under_lock j) may = may
     detach_lies (carried c) may = let clash : owners.Bucket bucket ≡ owners.Hand c = sym was_inside ∙ may.1 in absurd cc
 
     pub detach_keeps : Placed shape (detached shape s cpu e bucket)

@@ -14,7 +14,7 @@ use Rattle.place_core.specs.declared.step.Lists.{Lists}
 use Rattle.map_types.specs.ElementLists.{one, times, IsIn, IsHead, without, neighbour}
 use Rattle.place_words.specs.Openings.{is_free}
 use Rattle.place_core.specs.State.{rows, is_bucket, HasOnlyItsLists, HasCursorInside}
-use Rattle.place_core.specs.Places.{Place, lies, carried, lies_at, is_in_bucket, has_row}
+use Rattle.place_core.specs.Places.{ElementPlace, under_lock, carried, lies_at, is_in_bucket, has_row}
 use Rattle.place_core.specs.Steps.{with_free, without_free, with_row, without_row, cursor_without}
 use Rattle.place_core.proofs.ElementLemmas.{by_test, times_cons_same, times_cons_other, times_append, times_without_same, times_without_other, before_stays}
 
@@ -33,14 +33,14 @@ stands_where elements e n t is some =
     let both = and_parts (ltb e elements) t (one_tells (ltb e elements && t) n is some) in
     record { real = ltb-true e elements both.0; stands = both.1 }
 
-pub lies_is : (k : ℕ) (p : Place) → lies_at k p ≡ true → p ≡ lies k
-lies_is k (lies j) is = ap lies (eqb-true j k is)
+pub lies_is : (k : ℕ) (p : ElementPlace) → lies_at k p ≡ true → p ≡ under_lock k
+lies_is k (under_lock j) is = ap under_lock (eqb-true j k is)
 lies_is k (carried cpu) is = absurd cc
 
-pub lies_here : (k : ℕ) → lies_at k (lies k) ≡ true
+pub lies_here : (k : ℕ) → lies_at k (under_lock k) ≡ true
 lies_here k = eq-eqb k k refl
 
-pub lies_elsewhere : (j k : ℕ) → j ≢ k → lies_at j (lies k) ≡ false
+pub lies_elsewhere : (j k : ℕ) → j ≢ k → lies_at j (under_lock k) ≡ false
 lies_elsewhere j k apart = ne_eqb k j (λ is. apart (sym is))
 
 pub free_is : (o : Owner) → is_free o ≡ true → o ≡ owners.Free

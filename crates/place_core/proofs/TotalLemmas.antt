@@ -13,7 +13,7 @@ use Rattle.place_words.proofs.LockLemmas.{named_by_number, number_of_named, numb
 use Rattle.map_types.specs.ElementLists.{one, times}
 use Rattle.place_words.specs.Openings.{is_free}
 use Rattle.place_core.specs.State.{State, rows, HasOnlyItsLists}
-use Rattle.place_core.specs.Places.{Place, lies, carried, lies_at, is_in_bucket, has_row, MayOwn, MayLie, MayLieUnder, Placed}
+use Rattle.place_core.specs.Places.{ElementPlace, under_lock, carried, lies_at, is_in_bucket, has_row, MayOwn, MayLie, MayLieUnder, Placed}
 use Rattle.place_core.specs.Totals.{sum_below, is_in_hand, free_total, bucket_total, hand_total}
 use Rattle.place_core.proofs.ElementLemmas.{by_test, times_cons_same}
 use Rattle.place_core.proofs.FrameLemmas.{counted}
@@ -105,8 +105,8 @@ lock_under shape e (Bucket bucket) may = absurd may
 lock_under shape e (Freelist cpu) may = may
 
 -- one of the locks has a free element
-free_once : (shape : Shape) (e : ℕ) (o : Owner) (p : Place) → MayLie shape e o p → sum_below (lock_count shape) (λ k. one (is_free o && lies_at k p)) ≡ one (is_free o)
-free_once shape e owners.Free (lies j) may =
+free_once : (shape : Shape) (e : ℕ) (o : Owner) (p : ElementPlace) → MayLie shape e o p → sum_below (lock_count shape) (λ k. one (is_free o && lies_at k p)) ≡ one (is_free o)
+free_once shape e owners.Free (under_lock j) may =
     let within = number_within shape (lock_named shape j) (lock_under shape e _ may) in
     let same = number_of_named shape j in
     sum_hit (lock_count shape) j (omega arith)

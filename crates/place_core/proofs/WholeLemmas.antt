@@ -15,7 +15,7 @@ use Rattle.place_words.proofs.LockLemmas.{named_by_number, number_of_named}
 use Rattle.map_types.specs.ElementLists.{IsIn, one, times}
 use Rattle.place_words.specs.Openings.{is_free}
 use Rattle.place_core.specs.State.{State, rows, is_bucket}
-use Rattle.place_core.specs.Places.{Place, lies, carried, lies_at, home_of_place, is_in_bucket, has_row, MayOwn, MayLie, MayLieUnder, Placed}
+use Rattle.place_core.specs.Places.{ElementPlace, under_lock, carried, lies_at, home_of_place, is_in_bucket, has_row, MayOwn, MayLie, MayLieUnder, Placed}
 use Rattle.place_core.specs.Wholeness.{StandsOnce, OnceWhere, all_of, EachInOnePlace}
 use Rattle.place_core.specs.Steps.{lists_under}
 use Rattle.place_core.proofs.ElementLemmas.{times_append}
@@ -53,34 +53,34 @@ either_in m n some = ⊎_elim (λ (is : m ≡ 0). inr (omega arith)) (λ (other 
 
 -- Homes
 
-abbrev home_told : Shape → Place → Home
-home_told shape (lies k) = homes.In (lock_named shape k)
+abbrev home_told : Shape → ElementPlace → Home
+home_told shape (under_lock k) = homes.In (lock_named shape k)
 home_told shape (carried cpu) = homes.Hand cpu
 
-home_lru : (shape : Shape) (p : Place) → is_lru shape.kind ≡ true → home_of_place shape p ≡ home_told shape p
-home_lru shape (lies k) lru = rw lru refl
+home_lru : (shape : Shape) (p : ElementPlace) → is_lru shape.kind ≡ true → home_of_place shape p ≡ home_told shape p
+home_lru shape (under_lock k) lru = rw lru refl
 home_lru shape (carried cpu) lru = rw lru refl
 
-home_plain : (shape : Shape) (p : Place) → is_lru shape.kind ≡ false → home_of_place shape p ≡ homes.Unlisted
-home_plain shape (lies k) plain = rw plain refl
+home_plain : (shape : Shape) (p : ElementPlace) → is_lru shape.kind ≡ false → home_of_place shape p ≡ homes.Unlisted
+home_plain shape (under_lock k) plain = rw plain refl
 home_plain shape (carried cpu) plain = rw plain refl
 
-is_told : (shape : Shape) (p : Place) → home_told shape p ≢ homes.Unlisted
-is_told shape (lies k) is = absurd cc
+is_told : (shape : Shape) (p : ElementPlace) → home_told shape p ≢ homes.Unlisted
+is_told shape (under_lock k) is = absurd cc
 is_told shape (carried cpu) is = absurd cc
 
-lies_by_home : (shape : Shape) (p : Place) (lock : DomainId) → home_told shape p ≡ homes.In lock → p ≡ lies (lock_number shape lock)
-lies_by_home shape (lies j) lock is =
+lies_by_home : (shape : Shape) (p : ElementPlace) (lock : DomainId) → home_told shape p ≡ homes.In lock → p ≡ under_lock (lock_number shape lock)
+lies_by_home shape (under_lock j) lock is =
     let same : lock_named shape j ≡ lock = cc in
-    ap lies (sym (number_of_named shape j) ∙ ap (lock_number shape) same)
+    ap under_lock (sym (number_of_named shape j) ∙ ap (lock_number shape) same)
 lies_by_home shape (carried cpu) lock is = absurd cc
 
-carried_by_home : (shape : Shape) (p : Place) (cpu : ℕ) → home_told shape p ≡ homes.Hand cpu → p ≡ carried cpu
-carried_by_home shape (lies j) cpu is = absurd cc
+carried_by_home : (shape : Shape) (p : ElementPlace) (cpu : ℕ) → home_told shape p ≡ homes.Hand cpu → p ≡ carried cpu
+carried_by_home shape (under_lock j) cpu is = absurd cc
 carried_by_home shape (carried c) cpu is = let same : c ≡ cpu = cc in ap carried same
 
-lies_where_free : (shape : Shape) (e : ℕ) (o : Owner) (p : Place) → MayLie shape e o p → o ≡ owners.Free → (k : ℕ) × (p ≡ lies k)
-lies_where_free shape e o (lies k) may free = (k, refl)
+lies_where_free : (shape : Shape) (e : ℕ) (o : Owner) (p : ElementPlace) → MayLie shape e o p → o ≡ owners.Free → (k : ℕ) × (p ≡ under_lock k)
+lies_where_free shape e o (under_lock k) may free = (k, refl)
 lies_where_free shape e o (carried cpu) may free = let hand : owners.Free ≡ owners.Hand cpu = sym free ∙ may.1 in absurd cc
 
 lock_there : (shape : Shape) (e : ℕ) (lock : DomainId) → MayLieUnder shape e lock → IsTrue (is_lock shape lock) × (is_bucket lock ≡ false)
@@ -99,8 +99,8 @@ own_lock shape e (Bucket bucket) may lru own = absurd may
 own_lock shape e (Freelist cpu) may lru own =
     let none : false ≡ true = sym (ap not lru) ∙ (and_parts (not (is_lru shape.kind)) (ltb cpu shape.cpus) may).0 in absurd cc
 
-own_home : (shape : Shape) (e : ℕ) (o : Owner) (p : Place) → MayLie shape e o p → is_lru shape.kind ≡ true → shape.common ≡ false → home_told shape p ≡ homes.In (CpuLru (e / (shape.elements / shape.cpus)))
-own_home shape e o (lies k) may lru own = ap homes.In (own_lock shape e (lock_named shape k) may lru own)
+own_home : (shape : Shape) (e : ℕ) (o : Owner) (p : ElementPlace) → MayLie shape e o p → is_lru shape.kind ≡ true → shape.common ≡ false → home_told shape p ≡ homes.In (CpuLru (e / (shape.elements / shape.cpus)))
+own_home shape e o (under_lock k) may lru own = ap homes.In (own_lock shape e (lock_named shape k) may lru own)
 own_home shape e o (carried cpu) may lru own = let common : true ≡ false = sym may.0 ∙ own in absurd cc
 
 module _ (shape : Shape) (s : State) (p : Placed shape s) where
@@ -110,9 +110,9 @@ module _ (shape : Shape) (s : State) (p : Placed shape s) where
   row_stands : (e k : ℕ) → IsIn e (rows (s.lists k)) → Stands shape.elements e (has_row (is_lru shape.kind) (lock_named shape k) (s.owner e) (lies_at k (p.place e)))
   row_stands e k inside = stands_where shape.elements e _ _ (p.placed.rows k e) inside
 
-  under_lock : (e k : ℕ) → e < shape.elements → lies_at k (p.place e) ≡ true → IsTrue (is_lock shape (lock_named shape k)) × (is_bucket (lock_named shape k) ≡ false)
-  under_lock e k real here =
-      lock_there shape e (lock_named shape k) (subst (λ (q : Place). MayLie shape e (s.owner e) q) (lies_is k (p.place e) here) (p.placed.places e real))
+  lock_is_real : (e k : ℕ) → e < shape.elements → lies_at k (p.place e) ≡ true → IsTrue (is_lock shape (lock_named shape k)) × (is_bucket (lock_named shape k) ≡ false)
+  lock_is_real e k real here =
+      lock_there shape e (lock_named shape k) (subst (λ (q : ElementPlace). MayLie shape e (s.owner e) q) (lies_is k (p.place e) here) (p.placed.places e real))
 
   whole : (e k : ℕ) → times e (all_of (s.lists k)) ≡ one (ltb e shape.elements && (is_free (s.owner e) && lies_at k (p.place e))) + one (ltb e shape.elements && has_row (is_lru shape.kind) (lock_named shape k) (s.owner e) (lies_at k (p.place e)))
   whole e k =
@@ -136,13 +136,13 @@ module _ (shape : Shape) (s : State) (p : Placed shape s) where
       let there : at.0 < shape.buckets = subst (λ (o : Owner). MayOwn shape o) at.2 (p.placed.owners e row.real) in
       (row.real, ap (is_lock shape) at.1 ∙ lt-ltb at.0 shape.buckets there))
       (λ (list : is_bucket (lock_named shape k) ≡ false).
-      (row.real, (under_lock e k row.real (row_lies (is_lru shape.kind) (lock_named shape k) (s.owner e) (lies_at k (p.place e)) list row.stands)).0))
+      (row.real, (lock_is_real e k row.real (row_lies (is_lru shape.kind) (lock_named shape k) (s.owner e) (lies_at k (p.place e)) list row.stands)).0))
       (cases_Bool (is_bucket (lock_named shape k)))
 
   inside_free : (e k : ℕ) → IsIn e (s.lists k).free → (e < shape.elements) × IsTrue (is_lock shape (lock_named shape k))
   inside_free e k is =
       let stands = free_stands e k is in
-      (stands.real, (under_lock e k stands.real (and_parts (is_free (s.owner e)) (lies_at k (p.place e)) stands.stands).1).0)
+      (stands.real, (lock_is_real e k stands.real (and_parts (is_free (s.owner e)) (lies_at k (p.place e)) stands.stands).1).0)
 
   inside : (e k : ℕ) → IsIn e (all_of (s.lists k)) → (e < shape.elements) × IsTrue (is_lock shape (lock_named shape k))
   inside e k is =
@@ -157,8 +157,8 @@ module _ (shape : Shape) (s : State) (p : Placed shape s) where
       let at = lies_where_free shape e (s.owner e) (p.place e) (p.placed.places e real) free in
       record {
         lock = at.0;
-        once = free_at e real free at.0 ∙ (ap (λ (q : Place). one (lies_at at.0 q)) at.1 ∙ ap one (lies_here at.0));
-        nowhere_else = λ k apart. free_at e real free k ∙ (ap (λ (q : Place). one (lies_at k q)) at.1 ∙ ap one (lies_elsewhere k at.0 apart));
+        once = free_at e real free at.0 ∙ (ap (λ (q : ElementPlace). one (lies_at at.0 q)) at.1 ∙ ap one (lies_here at.0));
+        nowhere_else = λ k apart. free_at e real free k ∙ (ap (λ (q : ElementPlace). one (lies_at k q)) at.1 ∙ ap one (lies_elsewhere k at.0 apart));
       }
 
   free_not_listed : (e k : ℕ) → s.owner e ≡ owners.Free → times e (rows (s.lists k)) ≡ 0
@@ -197,7 +197,7 @@ module _ (shape : Shape) (s : State) (p : Placed shape s) where
   home_once lru e lock real there list =
       let k = lock_number shape lock in
       let is = at_lock e lock lru real there list in (
-        λ home. is ∙ (ap (λ (q : Place). one (lies_at k q)) (lies_by_home shape (p.place e) lock (sym (told_is e lru real) ∙ home)) ∙ ap one (lies_here k)),
+        λ home. is ∙ (ap (λ (q : ElementPlace). one (lies_at k q)) (lies_by_home shape (p.place e) lock (sym (told_is e lru real) ∙ home)) ∙ ap one (lies_here k)),
         λ other. is ∙ ⊎_elim
             (λ (here : lies_at k (p.place e) ≡ true). absurd (other (told_is e lru real ∙ (ap (home_told shape) (lies_is k (p.place e) here) ∙ ap homes.In (named_by_number shape lock there)))))
             (λ (away : lies_at k (p.place e) ≡ false). ap one away)
@@ -213,7 +213,7 @@ module _ (shape : Shape) (s : State) (p : Placed shape s) where
       let k = lock_number shape lock in
       let same_home : homes.In (lock_named shape k) ≡ homes.In lock = sym (ap (home_told shape) at) ∙ told in
       let same : lock_named shape k ≡ lock = cc in
-      let there = under_lock e k real (ap (lies_at k) at ∙ lies_here k) in
+      let there = lock_is_real e k real (ap (lies_at k) at ∙ lies_here k) in
       (sym (ap (is_lock shape) same) ∙ there.0, sym (ap is_bucket same) ∙ there.1))
       (λ (plain : is_lru shape.kind ≡ false). let none : homes.Unlisted ≡ homes.In lock = sym (untold e plain real) ∙ home in absurd cc)
       (cases_Bool (is_lru shape.kind))
@@ -228,9 +228,9 @@ module _ (shape : Shape) (s : State) (p : Placed shape s) where
   carried_off : (e cpu : ℕ) → e < shape.elements → s.home e ≡ homes.Hand cpu → (s.owner e ≡ owners.Hand cpu) × ((k : ℕ) → times e (all_of (s.lists k)) ≡ 0)
   carried_off e cpu real home =
       let at = carried_at e cpu real home in
-      let may : MayLie shape e (s.owner e) (carried cpu) = subst (λ (q : Place). MayLie shape e (s.owner e) q) at (p.placed.places e real) in
-      let count : ℕ → Owner → Place → ℕ = λ k o q. one (ltb e shape.elements && (is_free o && lies_at k q)) + one (ltb e shape.elements && has_row (is_lru shape.kind) (lock_named shape k) o (lies_at k q)) in
-      (may.1, λ k. whole e k ∙ (ap (λ (o : Owner). count k o (p.place e)) may.1 ∙ (ap (λ (q : Place). count k (owners.Hand cpu) q) at ∙ none_carried (ltb e shape.elements) (is_lru shape.kind) (lock_named shape k) cpu)))
+      let may : MayLie shape e (s.owner e) (carried cpu) = subst (λ (q : ElementPlace). MayLie shape e (s.owner e) q) at (p.placed.places e real) in
+      let count : ℕ → Owner → ElementPlace → ℕ = λ k o q. one (ltb e shape.elements && (is_free o && lies_at k q)) + one (ltb e shape.elements && has_row (is_lru shape.kind) (lock_named shape k) o (lies_at k q)) in
+      (may.1, λ k. whole e k ∙ (ap (λ (o : Owner). count k o (p.place e)) may.1 ∙ (ap (λ (q : ElementPlace). count k (owners.Hand cpu) q) at ∙ none_carried (ltb e shape.elements) (is_lru shape.kind) (lock_named shape k) cpu)))
 
   pub each_in_one_place : EachInOnePlace shape s
   each_in_one_place = record {

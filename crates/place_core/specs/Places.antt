@@ -16,17 +16,17 @@ use Rattle.place_core.specs.State.{State, rows, HasOnlyItsLists, HasCursorInside
 
 -- Where an element lies: under the lock of this number, on whose lists it is or was last, or in the hand of a CPU that
 -- carries it from one lock's lists to another's.
-pub data Place : Type 0 where
-  lies : ℕ → Place
-  carried : ℕ → Place
+pub data ElementPlace : Type 0 where
+  under_lock : ℕ → ElementPlace
+  carried : ℕ → ElementPlace
 
-abbrev pub lies_at : ℕ → Place → Bool
-lies_at k (lies j) = j == k
+abbrev pub lies_at : ℕ → ElementPlace → Bool
+lies_at k (under_lock j) = j == k
 lies_at k (carried cpu) = false
 
 -- The home that is told of a place: on a map that evicts the lock or the hand, on others none.
-abbrev pub home_of_place : Shape → Place → Home
-home_of_place shape (lies k) = if is_lru shape.kind then homes.In (lock_named shape k) else homes.Unlisted
+abbrev pub home_of_place : Shape → ElementPlace → Home
+home_of_place shape (under_lock k) = if is_lru shape.kind then homes.In (lock_named shape k) else homes.Unlisted
 home_of_place shape (carried cpu) = if is_lru shape.kind then homes.Hand cpu else homes.Unlisted
 
 abbrev pub is_in_bucket : ℕ → Owner → Bool
@@ -48,13 +48,13 @@ abbrev pub EachOnce : ℕ → (ℕ → List ℕ) → (ℕ → ℕ → Bool) → 
 EachOnce elements list stands = (k e : ℕ) → times e (list k) ≡ one (nat_lt e elements && stands k e)
 
 -- An element is free exactly where it stands in one lock's free list, once, and in no other free list.
-abbrev pub FreePlaced : Shape → (ℕ → Lists) → (ℕ → Owner) → (ℕ → Place) → Type 0
+abbrev pub FreePlaced : Shape → (ℕ → Lists) → (ℕ → Owner) → (ℕ → ElementPlace) → Type 0
 FreePlaced shape lists owner place =
     EachOnce shape.elements (λ k. (lists k).free) (λ k e. is_free (owner e) && lies_at k (place e))
 
 -- Its owner is a bucket exactly where it is in that bucket, once, and in no other. On a map that evicts it is listed
 -- exactly where it is neither free nor carried, once, under the lock where it lies.
-abbrev pub RowsPlaced : Shape → (ℕ → Lists) → (ℕ → Owner) → (ℕ → Place) → Type 0
+abbrev pub RowsPlaced : Shape → (ℕ → Lists) → (ℕ → Owner) → (ℕ → ElementPlace) → Type 0
 RowsPlaced shape lists owner place =
     EachOnce shape.elements (λ k. rows (lists k)) (λ k e. has_row (is_lru shape.kind) (lock_named shape k) (owner e) (lies_at k (place e)))
 
@@ -76,14 +76,14 @@ MayLieUnder shape e (Bucket bucket) = ⊥
 MayLieUnder shape e (Freelist cpu) = IsTrue (is_lock shape (Freelist cpu))
 
 -- Only a CPU that has an element in hand carries it, on a map whose CPUs share its lists.
-abbrev pub MayLie : Shape → ℕ → Owner → Place → Type 0
-MayLie shape e owner (lies k) = MayLieUnder shape e (lock_named shape k)
+abbrev pub MayLie : Shape → ℕ → Owner → ElementPlace → Type 0
+MayLie shape e owner (under_lock k) = MayLieUnder shape e (lock_named shape k)
 MayLie shape e owner (carried cpu) = IsTrue shape.common × (owner ≡ owners.Hand cpu)
 
-abbrev pub PlacesRight : Shape → (ℕ → Owner) → (ℕ → Place) → Type 0
+abbrev pub PlacesRight : Shape → (ℕ → Owner) → (ℕ → ElementPlace) → Type 0
 PlacesRight shape owner place = (e : ℕ) → e < shape.elements → MayLie shape e (owner e) (place e)
 
-abbrev pub HomesTold : Shape → (ℕ → Home) → (ℕ → Place) → Type 0
+abbrev pub HomesTold : Shape → (ℕ → Home) → (ℕ → ElementPlace) → Type 0
 HomesTold shape home place = (e : ℕ) → e < shape.elements → home e ≡ home_of_place shape (place e)
 
 abbrev pub ListsFit : Shape → (ℕ → Lists) → Type 0
@@ -92,7 +92,7 @@ ListsFit shape lists = (k : ℕ) → HasOnlyItsLists (lock_named shape k) (lists
 abbrev pub CursorsInside : (ℕ → Lists) → Type 0
 CursorsInside lists = (k : ℕ) → HasCursorInside (lists k)
 
-pub record PlacedAt (shape : Shape) (lists : ℕ → Lists) (owner : ℕ → Owner) (home : ℕ → Home) (place : ℕ → Place) : Type 0 where
+pub record PlacedAt (shape : Shape) (lists : ℕ → Lists) (owner : ℕ → Owner) (home : ℕ → Home) (place : ℕ → ElementPlace) : Type 0 where
   pub free : FreePlaced shape lists owner place
   pub rows : RowsPlaced shape lists owner place
   pub owners : OwnersExist shape owner
@@ -103,5 +103,5 @@ pub record PlacedAt (shape : Shape) (lists : ℕ → Lists) (owner : ℕ → Own
 
 -- each element has a place, and the lists, owners and homes are right by it
 pub record Placed (shape : Shape) (s : State) : Type 0 where
-  pub place : ℕ → Place
+  pub place : ℕ → ElementPlace
   pub placed : PlacedAt shape s.lists s.owner s.home place

@@ -24,9 +24,9 @@ use Rattle.place_table.specs.declared.content.Content.{Content}
 use Rattle.place_table.specs.declared.content.Content.TheVariants as lying
 use Rattle.place_table.specs.declared.view.View.{View}
 use Rattle.place_table.specs.declared.view.Ended.{Ended}
-use Rattle.place_table.specs.Contents.{told, lists_of, Fits, IsSized}
+use Rattle.place_table.specs.Contents.{content_told, lists_of, FitsLock, IsSized}
 use Rattle.place_table.specs.Views.{is_among, hold_at, is_in_hand_of, known_log, bit_seen, current_strand, all_strands}
-use Rattle.place_table.specs.Rules.{World, Rule, Knows, entries, hold_of, is_hand_of, turns_on, turns_of, indexes, StandIn, ArePast, HaveNoSteps, touches_of, IsOfStrand, AreReads}
+use Rattle.place_table.specs.Rules.{World, Rule, PassKnows, entries, hold_of, is_hand_of, turns_on, turns_of, indexes, StandIn, ArePast, HaveNoSteps, touches_of, IsOfStrand, AreReads}
 use Rattle.place_table.specs.Passes.{PassView, HasCpusOf, HandsReal}
 use Rattle.place_table.specs.Closing.{ClosedView, AreSlots, has_lock, strands_told, state_left, AreTurnsOf, IsClosed, AreTouchesOf, AreWordsOf}
 use Rattle.place_table.specs.Leaving.{WasLeft}
@@ -49,7 +49,7 @@ pub record AtEnd (shape : Shape) (v : View) (words : List ℕ) (slots : List Beh
   pub legal : (k : ℕ) → IsLegal shape (lock_named shape k) (log k)
   pub nobody : (k : ℕ) → core.holder k ≡ None
   pub placed : Placed shape core
-  pub lies : (k : ℕ) → k < lock_count shape → IsTrue (has_lock shape k) → core.lists k ≡ lists_of (content shape (lock_named shape k) (log k))
+  pub lists_are : (k : ℕ) → k < lock_count shape → IsTrue (has_lock shape k) → core.lists k ≡ lists_of (content shape (lock_named shape k) (log k))
   pub hands : (e c : ℕ) → c < shape.cpus → is_hand_of c (core.owner e) ≡ is_in_hand_of e c v.hand
   pub known : (k : ℕ) (turns : List Entry) → known_log k v.known ≡ Some turns → log k ≡ turns
   pub bits : (e : ℕ) (bit : Bool) → bit_seen e v.bits ≡ Some bit → core.bit e ≡ bit
@@ -84,10 +84,10 @@ module _ (shape : Shape) (s : State Behind View) (r : Rule shape s) (pass : ℕ)
       go (Some c) e =
           let w = r.world in let kn = r.knows pass v at_pass in
           let mine = has_mine shape w pass v c kn (all c (r.ranked.within c k e)) in
-          absurd (none_some (sym (ap (hold_at k) no_lock) ∙ (kn.held k ∙ (ap (λ (z : Option ℕ). hold_of pass w.whose k z (w.log k) (w.core.lists k) (w.lost k)) e ∙ hold_of_mine w.whose pass k c (w.log k) (w.core.lists k) (w.lost k) mine))))
+          absurd (none_some (sym (ap (hold_at k) no_lock) ∙ (kn.held k ∙ (ap (λ (z : Option ℕ). hold_of pass w.pass_of_cpu k z (w.log k) (w.core.lists k) (w.lost k)) e ∙ hold_of_mine w.pass_of_cpu pass k c (w.log k) (w.core.lists k) (w.lost k) mine))))
 
   -- a pass that is another has no CPU, and its strands have no turn
-  other_pass : (j : ℕ) (u : View) → j ≢ pass → Knows shape r.world j u → u.cpus ≡ []
+  other_pass : (j : ℕ) (u : View) → j ≢ pass → PassKnows shape r.world j u → u.cpus ≡ []
   other_pass j u other ku = no_members u.cpus (λ c. alone c (is_among c u.cpus) refl)
     where
       alone : (c : ℕ) (b : Bool) → is_among c u.cpus ≡ b → b ≡ false
@@ -97,10 +97,10 @@ module _ (shape : Shape) (s : State Behind View) (r : Rule shape s) (pass : ℕ)
           let b = has_mine shape r.world pass v c (r.knows pass v at_pass) (all c (ku.within c e)) in
           absurd (other (sym a ∙ b))
 
-  no_turn : (t k : ℕ) → r.world.keeper t ≢ pass → r.world.keeper t < length s.views → is_among t (r.world.current (r.world.keeper t) ∷ r.world.past (r.world.keeper t)) ≡ true → turns_of t 0 (r.world.log k) ≡ []
+  no_turn : (t k : ℕ) → r.world.pass_of_strand t ≢ pass → r.world.pass_of_strand t < length s.views → is_among t (r.world.current (r.world.pass_of_strand t) ∷ r.world.past (r.world.pass_of_strand t)) ≡ true → turns_of t 0 (r.world.log k) ≡ []
   no_turn t k other below among =
       let w = r.world in
-      let j : ℕ = w.keeper t in
+      let j : ℕ = w.pass_of_strand t in
       let at = seat_at s.views j below in let u : View = at.0 in let ku = r.knows j u at.1 in
       let idle = ku.idle (other_pass j u other ku) in
       by_test (w.current j) t (λ b. cond b true (is_among t (w.past j)) ≡ true → turns_of t 0 (w.log k) ≡ [])
@@ -114,7 +114,7 @@ module _ (shape : Shape) (s : State Behind View) (r : Rule shape s) (pass : ℕ)
       let t : ℕ = tag_at (w.log k) place in
       let there = item_there (entries (w.log k)) place less in
       let tagged = tagged_at w (length s.views) (w.log k) place there.0 (r.tagged k) there.1 in
-      by_test (w.keeper t) pass (λ _. is_among t (done w pass) ≡ true)
+      by_test (w.pass_of_strand t) pass (λ _. is_among t (done w pass) ≡ true)
       (λ mine. among_done w pass t (subst (λ (z : ℕ). is_among t (w.current z ∷ w.past z) ≡ true) mine tagged.listed))
       (λ other. absurd (has_turn (w.log k) 0 place less (no_turn t k other tagged.seated tagged.listed)))
 
@@ -131,10 +131,10 @@ module _ (shape : Shape) (s : State Behind View) (r : Rule shape s) (pass : ℕ)
   only_reads : (t : ℕ) → IsOfStrand r.world (length s.views) t → is_among t (done r.world pass) ≡ false → AreReads (touches_of t r.world.touches)
   only_reads t of not_mine =
       let w = r.world in
-      by_test (w.keeper t) pass (λ _. AreReads (touches_of t w.touches))
+      by_test (w.pass_of_strand t) pass (λ _. AreReads (touches_of t w.touches))
       (λ mine. true_false (sym (among_done w pass t (subst (λ (z : ℕ). is_among t (w.current z ∷ w.past z) ≡ true) mine of.listed)) ∙ not_mine))
       (λ other.
-      let j : ℕ = w.keeper t in
+      let j : ℕ = w.pass_of_strand t in
       let at = seat_at s.views j of.seated in let u : View = at.0 in let ku = r.knows j u at.1 in
       let idle = ku.idle (other_pass j u other ku) in
       by_test (w.current j) t (λ b. cond b true (is_among t (w.past j)) ≡ true → AreReads (touches_of t w.touches))
@@ -154,7 +154,7 @@ module _ (shape : Shape) (s : State Behind View) (r : Rule shape s) (pass : ℕ)
         legal = r.legal;
         nobody = nobody;
         placed = r.placed;
-        lies = λ k below there. (free_home shape k (w.core.holder k) (entries (w.log k)) (w.core.lists k) (w.lost k) (get_elem? s.homes k) (nobody k) (r.homes k below there)).1;
+        lists_are = λ k below there. (free_home shape k (w.core.holder k) (entries (w.log k)) (w.core.lists k) (w.lost k) (get_elem? s.homes k) (nobody k) (r.homes k below there)).1;
         hands = λ e c less. own_hand shape w pass v e c kn (all c less);
         known = kn.known;
         bits = kn.bits;
@@ -186,7 +186,7 @@ neither true y e = true_false e
 neither false y e = (refl, e)
 
 -- the bodies of a bucket have the sizes of the map
-told_sized : (shape : Shape) (bucket : ℕ) (here : Content) → Fits shape (named.Bucket bucket) here → All (IsSized shape) (unwrap_or (bucket_in (told (named.Bucket bucket) here)) [])
+told_sized : (shape : Shape) (bucket : ℕ) (here : Content) → FitsLock shape (named.Bucket bucket) here → All (IsSized shape) (unwrap_or (bucket_in (content_told (named.Bucket bucket) here)) [])
 told_sized shape bucket (lying.Bucket chain) fits = fits
 told_sized shape bucket (lying.Freelist freelist) fits = absurd fits
 told_sized shape bucket (lying.Local lists) fits = absurd fits
@@ -201,8 +201,8 @@ bodies_sized shape v words slots e bit spares bucket less =
     let same : lock_named shape k ≡ lock = named_by_number shape lock there in
     let at = e.slots_are.each k (number_within shape lock there) (passes_named lock k same there) in
     subst (λ (c : histories.Content). All (IsSized shape) (unwrap_or (bucket_in c) []))
-    (subst (λ (l : DomainId). told l at.2.here ≡ content shape l (e.log k)) same at.2.told_is)
-    (told_sized shape bucket at.2.here (subst (λ (l : DomainId). Fits shape l at.2.here) same at.2.fits))
+    (subst (λ (l : DomainId). content_told l at.2.here ≡ content shape l (e.log k)) same at.2.told_is)
+    (told_sized shape bucket at.2.here (subst (λ (l : DomainId). FitsLock shape l at.2.here) same at.2.fits))
   where
     passes_named : (lock : DomainId) (k : ℕ) → lock_named shape k ≡ lock → is_lock shape lock ≡ true → has_lock shape k ≡ true
     passes_named lock k same there = ap (is_lock shape) same ∙ there
@@ -216,7 +216,7 @@ module _ (shape : Shape) (p : PassView) (words : List ℕ) (slots : List Behind)
     legal = e.legal;
     nobody = e.nobody;
     placed = e.placed;
-    lies = e.lies;
+    lists_are = e.lists_are;
     hands = e.hands;
     in_hand = λ x c has. let real = hands x c has in (real.0, mine c real.1);
     sized = λ bucket less. subst (All (IsSized shape)) (sym (bucket_left was.left bucket less)) (bodies_sized shape p.view words slots e e.core.bit p.spares bucket less);

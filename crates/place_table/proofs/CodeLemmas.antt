@@ -14,7 +14,7 @@ use Rattle.place_words.specs.declared.home.Home.{Home}
 use Rattle.place_words.specs.declared.home.Home.TheVariants as homes
 use Rattle.place_words.specs.Codes.{owner_code, home_code, HasOwnerCode, HasHomeCode}
 use Rattle.place_words.specs.Locks.{lock_named}
-use Rattle.place_core.specs.Places.{Place, lies, carried, home_of_place, MayOwn, MayLie, MayLieUnder}
+use Rattle.place_core.specs.Places.{ElementPlace, under_lock, carried, home_of_place, MayOwn, MayLie, MayLieUnder}
 use Rattle.place_table.proofs.Worlds.{true_false}
 
 -- two owners with one code are one
@@ -62,6 +62,6 @@ carried_has_code shape owner cpu true bounds own is =
     let less : cpu < shape.cpus = subst (MayOwn shape) is own in
     omega arith
 
-pub has_home_code : (shape : Shape) (e : ℕ) (owner : Owner) (place : Place) → HasBounds shape → MayOwn shape owner → MayLie shape e owner place → HasHomeCode (home_of_place shape place)
-has_home_code shape e owner (lies k) bounds own may = lies_has_code shape e (is_lru shape.kind) (lock_named shape k) bounds refl may
+pub has_home_code : (shape : Shape) (e : ℕ) (owner : Owner) (place : ElementPlace) → HasBounds shape → MayOwn shape owner → MayLie shape e owner place → HasHomeCode (home_of_place shape place)
+has_home_code shape e owner (under_lock k) bounds own may = lies_has_code shape e (is_lru shape.kind) (lock_named shape k) bounds refl may
 has_home_code shape e owner (carried cpu) bounds own may = carried_has_code shape owner cpu (is_lru shape.kind) bounds own may.1

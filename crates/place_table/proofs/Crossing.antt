@@ -36,8 +36,8 @@ use Rattle.place_table.specs.contracts.table.PlaceTable.TheInside as InTable
 use Rattle.place_table.specs.contracts.content.Content as Content
 use Rattle.place_table.specs.contracts.content.Behind as Behind
 use Rattle.place_table.specs.contracts.view.View as View
-use Rattle.place_table.specs.contracts.strands.Finished as Finished
-use Rattle.place_table.proofs.strands.Finished.TheSendSync as finished
+use Rattle.place_table.specs.contracts.strands.FinishedStrand as FinishedStrand
+use Rattle.place_table.proofs.strands.FinishedStrand.TheSendSync as finished
 use Rattle.place_table.specs.contracts.pass.Pass as Pass
 use Rattle.place_table.specs.contracts.pass.Pass.TheInside as InPass
 
@@ -71,7 +71,7 @@ pass_send = view_send InPass.the_row _ _ _ _ (recorded_send (InPass.the_field).r
         (
           Vec-send StrandStep.the_row strand.the_send,
           (
-            option_send (Vec.the_row Finished.the_row Global.the_row ghosts) (Vec-send Finished.the_row finished.the_send),
+            option_send (Vec.the_row FinishedStrand.the_row Global.the_row ghosts) (Vec-send FinishedStrand.the_row finished.the_send),
             (array_send _ 16 (whole_send BoxedBody.the_row boxed_send), tt),
           ),
         ),

@@ -12,7 +12,7 @@ use Rattle.map_types.specs.Stored.{Stored}
 use Rattle.place_words.specs.declared.history.StrandStep.{StrandStep}
 use Rattle.place_words.specs.Openings.{opening_spares}
 use Rattle.place_table.specs.declared.content.Behind.{Behind}
-use Rattle.place_table.specs.declared.strands.Finished.{Finished}
+use Rattle.place_table.specs.declared.strands.FinishedStrand.{FinishedStrand}
 use Rattle.place_table.specs.declared.view.View.{View}
 use Rattle.place_table.specs.declared.view.InHand.{InHand}
 use Rattle.place_table.specs.Contents.{IsSized}
@@ -98,7 +98,7 @@ first_mine shape bounds e cpu in_hand = go shape.kind refl in_hand
     go LruHash hash is = true_false (sym is)
     go LruPercpuHash hash is = true_false (sym is)
 
-pub first_is_pass : (shape : Shape) → HasBounds shape → (v : View) (slots : List (ℕ × Behind)) (strand : List StrandStep) (spares : List (Option Stored)) (flags : List Bool) (ended : Vec Finished Global) → v ≡ first_view shape → slots ≡ [] → strand ≡ [] → AreBodiesOf shape (first_spares shape.kind shape) spares
+pub first_is_pass : (shape : Shape) → HasBounds shape → (v : View) (slots : List (ℕ × Behind)) (strand : List StrandStep) (spares : List (Option Stored)) (flags : List Bool) (ended : Vec FinishedStrand Global) → v ≡ first_view shape → slots ≡ [] → strand ≡ [] → AreBodiesOf shape (first_spares shape.kind shape) spares
     → flags ≡ flags_of (numbers_below shape.cpus) → ended.items ≡ [] → IsPass v slots strand spares flags (Some ended)
 first_is_pass shape bounds v slots strand spares flags ended is none no_steps are all_cpus none_ended =
     subst (λ (w : View). IsPass w slots strand spares flags (Some ended)) (sym is)

@@ -21,7 +21,7 @@ use Rattle.place_table.specs.declared.view.BitSeen.{BitSeen}
 use Rattle.place_table.specs.declared.view.Turned.{Turned}
 use Rattle.place_table.specs.Known.{AreAllowedAt, log_then, log_after_all, GoOn, bit_then, bit_after_all, BitTouch, SeesBit, SeeOn, Learns, KnowsAll, FollowOn, log_after, logs_after}
 use Rattle.place_table.specs.Plays.{IsKnownBit}
-use Rattle.place_table.specs.Passes.{PassView, TableView, IsPassOf, HasBegun, Takes, CanGive, Gave, GaveSome, IsKeptOf, Goes, Made, with_view, with_spares, entry_of}
+use Rattle.place_table.specs.Passes.{PassView, TableView, IsPassOf, HasBegun, TookLock, CanGive, Gave, GaveSome, IsKeptOf, Goes, Made, with_view, with_spares, entry_of}
 use Rattle.place_table.specs.Views.{has_all, has_all_below, known_log, bit_seen, bits_with, marked, cleared, bit_read, learned, moved, noted, turned, place_of, kept_step, holding, is_among, with_hashes}
 use Rattle.place_table.proofs.Entries.{append_nil}
 use Rattle.place_table.specs.declared.view.WordStep.{WordStep}
@@ -71,7 +71,7 @@ goes_nowhere p = record {
   lost_is = refl;
 }
 
-pub goes_took : (t : TableView) (lock : DomainId) (p q : PassView) (here : Content) → Takes t lock p q here → Goes p q [] []
+pub goes_took : (t : TableView) (lock : DomainId) (p q : PassView) (here : Content) → TookLock t lock p q here → Goes p q [] []
 goes_took t lock p q here took =
     subst (λ (z : PassView). Goes p z [] []) (sym took.after_is) record {
       table = refl;
@@ -326,12 +326,12 @@ learns_given t lock q r back inner part w can legal told apart knows known bits 
     (learns_gave t lock r back part w can legal (λ has log is. told log (sym ((knows.logs (sym knows.all ∙ has) k).known_is ∙ log_elsewhere k inner (known_log k q.view.known) apart) ∙ is)) known bits cpus same)
 
 -- a take tells nothing of turns
-pub learns_took : (t : TableView) (lock : DomainId) (p q : PassView) (here : Content) → Takes t lock p q here → Learns t.shape p.view q.view [] []
+pub learns_took : (t : TableView) (lock : DomainId) (p q : PassView) (here : Content) → TookLock t lock p q here → Learns t.shape p.view q.view [] []
 learns_took t lock p q here took =
     subst (λ (z : PassView). Learns t.shape p.view z.view [] []) (sym took.after_is) (learns_nothing t.shape p.view (holding took.at took.hold p.view) refl refl refl refl)
 
 -- the same from its take
-pub learns_turn : (t : TableView) (lock : DomainId) (p q r : PassView) (here back : Content) (inner : List Turned) (part : Part) (w : View) → Takes t lock p q here → (can : CanGive t lock r back part)
+pub learns_turn : (t : TableView) (lock : DomainId) (p q r : PassView) (here back : Content) (inner : List Turned) (part : Part) (w : View) → TookLock t lock p q here → (can : CanGive t lock r back part)
     → IsLegal t.shape lock can.hold.log → ((log : List Entry) → known_log (lock_number t.shape lock) p.view.known ≡ Some log → can.hold.log ≡ log) → AreElsewhere (lock_number t.shape lock) inner → Learns t.shape q.view r.view inner []
     → w.known ≡ learned can.hold (entry_of r part) r.view → w.bits ≡ r.view.bits → w.cpus ≡ r.view.cpus → w.shape ≡ r.view.shape → Learns t.shape p.view w (inner ++ given_turn r can.hold part ∷ []) []
 learns_turn t lock p q r here back inner part w took can legal told apart knows known bits cpus same =

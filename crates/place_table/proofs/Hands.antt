@@ -15,7 +15,7 @@ use Rattle.place_core.proofs.ElementLemmas.{by_test}
 use Rattle.place_table.specs.declared.content.Behind.{Behind}
 use Rattle.place_table.specs.declared.view.Hold.{Hold}
 use Rattle.place_table.specs.declared.view.InHand.{InHand}
-use Rattle.place_table.specs.declared.strands.Finished.{Finished}
+use Rattle.place_table.specs.declared.strands.FinishedStrand.{FinishedStrand}
 use Rattle.place_table.specs.declared.view.Notes.{Notes}
 use Rattle.place_table.specs.declared.view.View.{View}
 use Rattle.place_table.specs.Passes.{Carries, HandsReal, IsPass}
@@ -131,66 +131,66 @@ hand_back e cpu hand none x c =
 module _ {A : Type 0} (is_of : ℕ → A → Bool) where
   -- these are the elements in the hands of a pass
   abbrev pub AreInHands : ℕ → ℕ → (ℕ → ℕ) → (ℕ → A) → List InHand → Type 0
-  AreInHands cpus pass whose f hand = (x c : ℕ) → c < cpus → is_in_hand_of x c hand ≡ (is_of c (f x) && eqb (whose c) pass)
+  AreInHands cpus pass pass_of_cpu f hand = (x c : ℕ) → c < cpus → is_in_hand_of x c hand ≡ (is_of c (f x) && eqb (pass_of_cpu c) pass)
 
-  module _ (cpus pass e cpu : ℕ) (whose : ℕ → ℕ) (f g : ℕ → A) (hand : List InHand) (others : (x : ℕ) → x ≢ e → g x ≡ f x) (are : AreInHands cpus pass whose f hand) where
+  module _ (cpus pass e cpu : ℕ) (pass_of_cpu : ℕ → ℕ) (f g : ℕ → A) (hand : List InHand) (others : (x : ℕ) → x ≢ e → g x ≡ f x) (are : AreInHands cpus pass pass_of_cpu f hand) where
     -- an element comes to a hand
-    pub comes_to_hand : whose cpu ≡ pass → ((c : ℕ) → is_of c (f e) ≡ false) → ((c : ℕ) → is_of c (g e) ≡ eqb cpu c) → AreInHands cpus pass whose g (with_in_hand e cpu hand)
+    pub comes_to_hand : pass_of_cpu cpu ≡ pass → ((c : ℕ) → is_of c (f e) ≡ false) → ((c : ℕ) → is_of c (g e) ≡ eqb cpu c) → AreInHands cpus pass pass_of_cpu g (with_in_hand e cpu hand)
     comes_to_hand mine was is x c less =
-        by_test x e (λ _. is_in_hand_of x c (with_in_hand e cpu hand) ≡ (is_of c (g x) && eqb (whose c) pass))
-        (λ same. subst (λ (y : ℕ). is_in_hand_of y c (with_in_hand e cpu hand) ≡ (is_of c (g y) && eqb (whose c) pass)) (sym same)
-        (by_test cpu c (λ b. is_in_hand_of e c (with_in_hand e cpu hand) ≡ (b && eqb (whose c) pass))
+        by_test x e (λ _. is_in_hand_of x c (with_in_hand e cpu hand) ≡ (is_of c (g x) && eqb (pass_of_cpu c) pass))
+        (λ same. subst (λ (y : ℕ). is_in_hand_of y c (with_in_hand e cpu hand) ≡ (is_of c (g y) && eqb (pass_of_cpu c) pass)) (sym same)
+        (by_test cpu c (λ b. is_in_hand_of e c (with_in_hand e cpu hand) ≡ (b && eqb (pass_of_cpu c) pass))
         (λ here. ap (λ (d : ℕ). is_in_hand_of e d (with_in_hand e cpu hand)) (sym here)
-        ∙ (in_hand_more e cpu hand ∙ by_test (whose c) pass (λ b. true ≡ b) (λ _. refl) (λ other. absurd (other (ap whose (sym here) ∙ mine)))))
-        (λ else_where. in_hand_more_else e c e cpu hand (λ _ there. else_where (sym there)) ∙ (are e c less ∙ ap (λ b. b && eqb (whose c) pass) (was c)))
-        ∙ sym (ap (λ b. b && eqb (whose c) pass) (is c))))
-        (λ other. in_hand_more_else x c e cpu hand (λ same _. other same) ∙ (are x c less ∙ ap (λ y. is_of c y && eqb (whose c) pass) (sym (others x other))))
+        ∙ (in_hand_more e cpu hand ∙ by_test (pass_of_cpu c) pass (λ b. true ≡ b) (λ _. refl) (λ other. absurd (other (ap pass_of_cpu (sym here) ∙ mine)))))
+        (λ else_where. in_hand_more_else e c e cpu hand (λ _ there. else_where (sym there)) ∙ (are e c less ∙ ap (λ b. b && eqb (pass_of_cpu c) pass) (was c)))
+        ∙ sym (ap (λ b. b && eqb (pass_of_cpu c) pass) (is c))))
+        (λ other. in_hand_more_else x c e cpu hand (λ same _. other same) ∙ (are x c less ∙ ap (λ y. is_of c y && eqb (pass_of_cpu c) pass) (sym (others x other))))
 
     -- it leaves a hand
-    pub leaves_hand : ((c : ℕ) → is_of c (f e) ≡ eqb cpu c) → ((c : ℕ) → is_of c (g e) ≡ false) → AreInHands cpus pass whose g (without_in_hand e cpu hand)
+    pub leaves_hand : ((c : ℕ) → is_of c (f e) ≡ eqb cpu c) → ((c : ℕ) → is_of c (g e) ≡ false) → AreInHands cpus pass pass_of_cpu g (without_in_hand e cpu hand)
     leaves_hand was is x c less =
-        by_test x e (λ _. is_in_hand_of x c (without_in_hand e cpu hand) ≡ (is_of c (g x) && eqb (whose c) pass))
-        (λ same. subst (λ (y : ℕ). is_in_hand_of y c (without_in_hand e cpu hand) ≡ (is_of c (g y) && eqb (whose c) pass)) (sym same)
+        by_test x e (λ _. is_in_hand_of x c (without_in_hand e cpu hand) ≡ (is_of c (g x) && eqb (pass_of_cpu c) pass))
+        (λ same. subst (λ (y : ℕ). is_in_hand_of y c (without_in_hand e cpu hand) ≡ (is_of c (g y) && eqb (pass_of_cpu c) pass)) (sym same)
         (by_test cpu c (λ b. is_of c (f e) ≡ b → is_in_hand_of e c (without_in_hand e cpu hand) ≡ false)
         (λ here _. ap (λ (d : ℕ). is_in_hand_of e d (without_in_hand e cpu hand)) (sym here) ∙ in_hand_less e cpu hand)
-        (λ else_where none_there. in_hand_less_else e c e cpu hand (λ _ there. else_where (sym there)) ∙ (are e c less ∙ ap (λ b. b && eqb (whose c) pass) none_there))
+        (λ else_where none_there. in_hand_less_else e c e cpu hand (λ _ there. else_where (sym there)) ∙ (are e c less ∙ ap (λ b. b && eqb (pass_of_cpu c) pass) none_there))
         (was c)
-        ∙ sym (ap (λ b. b && eqb (whose c) pass) (is c))))
-        (λ other. in_hand_less_else x c e cpu hand (λ same _. other same) ∙ (are x c less ∙ ap (λ y. is_of c y && eqb (whose c) pass) (sym (others x other))))
+        ∙ sym (ap (λ b. b && eqb (pass_of_cpu c) pass) (is c))))
+        (λ other. in_hand_less_else x c e cpu hand (λ same _. other same) ∙ (are x c less ∙ ap (λ y. is_of c y && eqb (pass_of_cpu c) pass) (sym (others x other))))
 
     -- it is in no hand, before and after
-    pub stays_in_hand : ((c : ℕ) → is_of c (f e) ≡ false) → ((c : ℕ) → is_of c (g e) ≡ false) → AreInHands cpus pass whose g hand
+    pub stays_in_hand : ((c : ℕ) → is_of c (f e) ≡ false) → ((c : ℕ) → is_of c (g e) ≡ false) → AreInHands cpus pass pass_of_cpu g hand
     stays_in_hand was is x c less =
-        are x c less ∙ ap (λ b. b && eqb (whose c) pass)
+        are x c less ∙ ap (λ b. b && eqb (pass_of_cpu c) pass)
         (by_test x e (λ _. is_of c (f x) ≡ is_of c (g x)) (λ same. ap (λ (y : ℕ). is_of c (f y)) same ∙ (was c ∙ sym (ap (λ (y : ℕ). is_of c (g y)) same ∙ is c))) (λ other. ap (is_of c) (sym (others x other))))
 
 -- an owner or a home that is no hand, or the hand of a CPU of the pass
 abbrev pub IsOwnerOfPass : (ℕ → ℕ) → ℕ → Owner → Type 0
-IsOwnerOfPass whose pass owners.Free = Unit {0}
-IsOwnerOfPass whose pass (owners.Bucket bucket) = Unit {0}
-IsOwnerOfPass whose pass (owners.Hand c) = whose c ≡ pass
+IsOwnerOfPass pass_of_cpu pass owners.Free = Unit {0}
+IsOwnerOfPass pass_of_cpu pass (owners.Bucket bucket) = Unit {0}
+IsOwnerOfPass pass_of_cpu pass (owners.Hand c) = pass_of_cpu c ≡ pass
 
 abbrev pub IsHomeOfPass : (ℕ → ℕ) → ℕ → Home → Type 0
-IsHomeOfPass whose pass homes.Unlisted = Unit {0}
-IsHomeOfPass whose pass (homes.In lock) = Unit {0}
-IsHomeOfPass whose pass (homes.Hand c) = whose c ≡ pass
+IsHomeOfPass pass_of_cpu pass homes.Unlisted = Unit {0}
+IsHomeOfPass pass_of_cpu pass (homes.In lock) = Unit {0}
+IsHomeOfPass pass_of_cpu pass (homes.Hand c) = pass_of_cpu c ≡ pass
 
 -- it is no hand of another pass
-not_their_cpu : (whose : ℕ → ℕ) (pass j c d : ℕ) → whose d ≡ pass → j ≢ pass → (eqb d c && eqb (whose c) j) ≡ false
-not_their_cpu whose pass j c d ours other =
-    by_test d c (λ b. (b && eqb (whose c) j) ≡ false)
-    (λ same. by_test (whose c) j (λ b. b ≡ false) (λ theirs. absurd (other (sym theirs ∙ (ap whose (sym same) ∙ ours)))) (λ _. refl))
+not_their_cpu : (pass_of_cpu : ℕ → ℕ) (pass j c d : ℕ) → pass_of_cpu d ≡ pass → j ≢ pass → (eqb d c && eqb (pass_of_cpu c) j) ≡ false
+not_their_cpu pass_of_cpu pass j c d ours other =
+    by_test d c (λ b. (b && eqb (pass_of_cpu c) j) ≡ false)
+    (λ same. by_test (pass_of_cpu c) j (λ b. b ≡ false) (λ theirs. absurd (other (sym theirs ∙ (ap pass_of_cpu (sym same) ∙ ours)))) (λ _. refl))
     (λ _. refl)
 
-pub not_their_owner : (whose : ℕ → ℕ) (pass j c : ℕ) (owner : Owner) → IsOwnerOfPass whose pass owner → j ≢ pass → (is_hand_of c owner && eqb (whose c) j) ≡ false
-not_their_owner whose pass j c owners.Free ours other = refl
-not_their_owner whose pass j c (owners.Bucket bucket) ours other = refl
-not_their_owner whose pass j c (owners.Hand d) ours other = not_their_cpu whose pass j c d ours other
+pub not_their_owner : (pass_of_cpu : ℕ → ℕ) (pass j c : ℕ) (owner : Owner) → IsOwnerOfPass pass_of_cpu pass owner → j ≢ pass → (is_hand_of c owner && eqb (pass_of_cpu c) j) ≡ false
+not_their_owner pass_of_cpu pass j c owners.Free ours other = refl
+not_their_owner pass_of_cpu pass j c (owners.Bucket bucket) ours other = refl
+not_their_owner pass_of_cpu pass j c (owners.Hand d) ours other = not_their_cpu pass_of_cpu pass j c d ours other
 
-pub not_their_home : (whose : ℕ → ℕ) (pass j c : ℕ) (home : Home) → IsHomeOfPass whose pass home → j ≢ pass → (is_home_of c home && eqb (whose c) j) ≡ false
-not_their_home whose pass j c homes.Unlisted ours other = refl
-not_their_home whose pass j c (homes.In lock) ours other = refl
-not_their_home whose pass j c (homes.Hand d) ours other = not_their_cpu whose pass j c d ours other
+pub not_their_home : (pass_of_cpu : ℕ → ℕ) (pass j c : ℕ) (home : Home) → IsHomeOfPass pass_of_cpu pass home → j ≢ pass → (is_home_of c home && eqb (pass_of_cpu c) j) ≡ false
+not_their_home pass_of_cpu pass j c homes.Unlisted ours other = refl
+not_their_home pass_of_cpu pass j c (homes.In lock) ours other = refl
+not_their_home pass_of_cpu pass j c (homes.Hand d) ours other = not_their_cpu pass_of_cpu pass j c d ours other
 
 -- what is in hand is the map's and in these CPUs' hands, also with one of the map's elements more, or with one less
 pub real_with : (shape : Shape) (cpus : List ℕ) (e cpu : ℕ) (hand : List InHand) → HandsReal shape cpus hand → e < shape.elements → is_among cpu cpus ≡ true → HandsReal shape cpus (with_in_hand e cpu hand)
@@ -218,7 +218,7 @@ pub real_without : (shape : Shape) (cpus : List ℕ) (e cpu : ℕ) (hand : List 
 real_without shape cpus e cpu hand all x c in_hand = all x c (was_in_hand e cpu x c hand in_hand)
 
 -- a pass whose elements have moved
-pub is_pass_moved : {flags : List Bool} {ended : Option (Vec Finished Global)} (v : View) (slots : List (ℕ × Behind)) (strand : List StrandStep) (spares : List (Option Stored)) (held : List Hold) (hand carried : List InHand) (readings : List HomeIn) (notes : List Notes) (touched : List WordStep) (hashes : List HashIn) (after : Seated) → IsPass v slots strand spares flags ended
+pub is_pass_moved : {flags : List Bool} {ended : Option (Vec FinishedStrand Global)} (v : View) (slots : List (ℕ × Behind)) (strand : List StrandStep) (spares : List (Option Stored)) (held : List Hold) (hand carried : List InHand) (readings : List HomeIn) (notes : List Notes) (touched : List WordStep) (hashes : List HashIn) (after : Seated) → IsPass v slots strand spares flags ended
     → Carries held slots → HandsReal v.shape v.cpus hand → after ≡ (record (with_places held hand carried readings notes touched v) { hashes = hashes }, slots) → IsPass after.0 after.1 strand spares flags ended
 is_pass_moved {flags} {ended} v slots strand spares held hand carried readings notes touched hashes after pass carries real after_is =
     subst (λ (z : Seated). IsPass z.0 z.1 strand spares flags ended) (sym after_is) record {

@@ -15,7 +15,7 @@ use Rattle.place_words.specs.Openings.{is_free}
 use Rattle.place_words.proofs.LockLemmas.{number_of_named}
 use Rattle.place_core.specs.declared.step.Lists.{Lists}
 use Rattle.place_core.specs.State.{is_bucket}
-use Rattle.place_core.specs.Places.{PlacedAt, Place, lies, carried, home_of_place, MayLieUnder, MayLie}
+use Rattle.place_core.specs.Places.{PlacedAt, ElementPlace, under_lock, carried, home_of_place, MayLieUnder, MayLie}
 use Rattle.place_core.proofs.ElementLemmas.{by_test, put_else}
 use Rattle.place_table.specs.declared.view.View.{View}
 use Rattle.place_table.specs.declared.view.Hold.{Hold}
@@ -23,7 +23,7 @@ use Rattle.place_table.specs.declared.view.InHand.{InHand}
 use Rattle.place_table.specs.declared.view.HashIn.{HashIn}
 use Rattle.place_table.specs.declared.view.Notes.{Notes}
 use Rattle.place_table.specs.Views.{is_among, is_in_hand_of, kept_hashes, came_at, no_notes, with_now}
-use Rattle.place_table.specs.Rules.{World, Tagged, Knows, HashesRight, IsFresh, HasRow, IsBrought, IsHashed, HasHash, HasCome}
+use Rattle.place_table.specs.Rules.{World, Tagged, PassKnows, HashesRight, IsFresh, HasRow, IsBrought, IsHashed, HasHash, HasCome}
 use Rattle.place_table.proofs.Came.{came_other, came_now}
 use Rattle.place_table.proofs.Readings.{listed_at_home}
 use Rattle.place_table.proofs.StoredHashes.{kept_there}
@@ -32,9 +32,9 @@ use Rattle.place_table.proofs.Worlds.{none_some, hashed_stands}
 same_home : (a b : DomainId) → homes.In a ≡ homes.In b → a ≡ b
 same_home a b is = cc
 
-module _ (shape : Shape) (lists : ℕ → Lists) (owner : ℕ → Owner) (home : ℕ → Home) (place : ℕ → Place) (p : PlacedAt shape lists owner home place) (lru : is_lru shape.kind ≡ true) (e : ℕ) (lock : DomainId) (real : e < shape.elements) (at : home e ≡ homes.In lock) where
+module _ (shape : Shape) (lists : ℕ → Lists) (owner : ℕ → Owner) (home : ℕ → Home) (place : ℕ → ElementPlace) (p : PlacedAt shape lists owner home place) (lru : is_lru shape.kind ≡ true) (e : ℕ) (lock : DomainId) (real : e < shape.elements) (at : home e ≡ homes.In lock) where
   -- an element whose home is this lock lies there
-  pub lies_home : (k : ℕ) → place e ≡ lies k → k ≡ lock_number shape lock
+  pub lies_home : (k : ℕ) → place e ≡ under_lock k → k ≡ lock_number shape lock
   lies_home k is =
       let named : lock_named shape k ≡ lock = same_home (lock_named shape k) lock (sym (ap (home_of_place shape) is ∙ ap (λ (b : Bool). cond b (homes.In (lock_named shape k)) homes.Unlisted) lru) ∙ (sym (p.homes e real) ∙ at)) in
       sym (number_of_named shape k) ∙ ap (lock_number shape) named
@@ -53,11 +53,11 @@ module _ (shape : Shape) (lists : ℕ → Lists) (owner : ℕ → Owner) (home :
       none (Bucket x) may = absurd may
       none (Freelist x) may = refl
 
-      go : (x : Place) → place e ≡ x → IsFalse (is_bucket (lock_named shape (lock_number shape lock)))
-      go (lies k) is = subst (λ (z : ℕ). IsFalse (is_bucket (lock_named shape z))) (lies_home k is) (none (lock_named shape k) (subst (MayLie shape e (owner e)) is (p.places e real)))
+      go : (x : ElementPlace) → place e ≡ x → IsFalse (is_bucket (lock_named shape (lock_number shape lock)))
+      go (under_lock k) is = subst (λ (z : ℕ). IsFalse (is_bucket (lock_named shape z))) (lies_home k is) (none (lock_named shape k) (subst (MayLie shape e (owner e)) is (p.places e real)))
       go (carried c) is = absurd (no_hand c (sym (p.homes e real ∙ (ap (home_of_place shape) is ∙ ap (λ (b : Bool). cond b (homes.Hand c) homes.Unlisted) lru)) ∙ at))
 
-module _ (shape : Shape) (holder : ℕ → Option ℕ) (lists : ℕ → Lists) (owner : ℕ → Owner) (home : ℕ → Home) (place : ℕ → Place) (p : PlacedAt shape lists owner home place) (log : ℕ → List Tagged) (hash : ℕ → ℕ) (right : HashesRight shape holder lists owner log hash) (lru : is_lru shape.kind ≡ true) (e : ℕ) (lock : DomainId) (real : e < shape.elements) (at : home e ≡ homes.In lock) (not_free : is_free (owner e) ≡ false) where
+module _ (shape : Shape) (holder : ℕ → Option ℕ) (lists : ℕ → Lists) (owner : ℕ → Owner) (home : ℕ → Home) (place : ℕ → ElementPlace) (p : PlacedAt shape lists owner home place) (log : ℕ → List Tagged) (hash : ℕ → ℕ) (right : HashesRight shape holder lists owner log hash) (lru : is_lru shape.kind ≡ true) (e : ℕ) (lock : DomainId) (real : e < shape.elements) (at : home e ≡ homes.In lock) (not_free : is_free (owner e) ≡ false) where
   -- an element of a bucket has a row under its lock, or is brought there
   pub row_of_bucket : (b : ℕ) → owner e ≡ owners.Bucket b → HasRow shape log hash (lock_number shape lock) e ⊎ IsBrought shape holder log hash (lock_number shape lock) e
   row_of_bucket b was =
@@ -97,7 +97,7 @@ module _ (shape : Shape) (holder : ℕ → Option ℕ) (lists : ℕ → Lists) (
       Now = IsHashed shape (put holder k (Some cpu)) log hash hashes (came_at m (h ∷ held) (no_notes ∷ notes)) m e c
 
 -- an element that was in a hand is still there, where other lists lie under a lock and more has come
-pub hashed_kept : (shape : Shape) (w : World) (pass : ℕ) (v : View) → Knows shape w pass v → (k : ℕ) (now : Lists) (hand : List InHand) (notes : List Notes)
+pub hashed_kept : (shape : Shape) (w : World) (pass : ℕ) (v : View) → PassKnows shape w pass v → (k : ℕ) (now : Lists) (hand : List InHand) (notes : List Notes)
     → ((m x : ℕ) → is_among x (came_at m v.held v.notes) ≡ true → is_among x (came_at m v.held notes) ≡ true)
     → IsTrue (is_lru shape.kind) → (e c : ℕ) (lock : DomainId) → e < shape.elements → c < shape.cpus → is_in_hand_of e c v.hand ≡ true → is_in_hand_of e c hand ≡ true → w.core.home e ≡ homes.In lock
     → IsHashed shape w.core.holder w.log w.hash (kept_hashes hand v.hashes) (came_at (lock_number shape lock) (with_now k now v.held) notes) (lock_number shape lock) e c

@@ -25,7 +25,7 @@ use Rattle.place_words.proofs.LockLemmas.{named_by_number, number_within}
 use Rattle.place_core.specs.declared.step.Lists.{Lists}
 use Rattle.place_core.specs.declared.step.Step.TheVariants.{Rehome, Clear, Glance}
 use Rattle.place_core.specs.State.{rows, is_bucket}
-use Rattle.place_core.specs.Places.{Place, lies, carried, lies_at, has_row, home_of_place, MayOwn, MayLie}
+use Rattle.place_core.specs.Places.{ElementPlace, under_lock, carried, lies_at, has_row, home_of_place, MayOwn, MayLie}
 use Rattle.place_core.specs.Steps.{Holds, left_by, joined_by, MayLeave, MayEnter, IsFreeOrInHand, CanRehome, after_leaving, after_joining, CanClear, IsHeldHome}
 use Rattle.place_core.specs.Steps as steps
 use Rattle.place_core.specs.Wholeness.{all_of, EachInOnePlace}
@@ -42,7 +42,7 @@ use Rattle.place_table.specs.Contents.{lists_of}
 use Rattle.place_table.specs.Laws.{StepsAs, goes_by}
 use Rattle.place_table.specs.Views.{is_among, hold_at, is_in_hand_of, known_log, now_at, with_now, with_places, held_without, held_with, carried_without, carried_with, with_come_home, with_left_home, came_at, without_readings, kept_hashes, noted, with_clear, with_home_read, with_reading, bits_with, touching}
 use Rattle.place_table.specs.Views as views
-use Rattle.place_table.specs.Rules.{World, Rule, Knows, entries, AtHome, Ascends, is_home_of, StillHome, IsHashed, HasCome, hold, hold_of}
+use Rattle.place_table.specs.Rules.{World, Rule, PassKnows, entries, AtHome, Ascends, is_home_of, StillHome, IsHashed, HasCome, hold, hold_of}
 use Rattle.place_table.specs.Words.{owner_word, home_word, bit_word}
 use Rattle.place_table.specs.Passes.{PassView, TableView, Carries, IsPassOf, HasBegun, with_view, Rehomed}
 use Rattle.place_table.specs.Plays.{Seated, HoldsLock, IsKnownHome, IsKnownFree, MayBeHome, MayGoHome, OwnerFits, HomeFits, Rehomes, Clears, MayClear, SeesHome}
@@ -65,26 +65,26 @@ use Rattle.place_table.proofs.CodeLemmas.{has_home_code, lies_has_code, one_home
 abbrev IsInReach : Shape → World → ℕ → Home → Type 0
 IsInReach shape w pass homes.Unlisted = Unit {0}
 IsInReach shape w pass (homes.In lock) = IsHeldByPass w pass (lock_number shape lock)
-IsInReach shape w pass (homes.Hand c) = w.whose c ≡ pass
+IsInReach shape w pass (homes.Hand c) = w.pass_of_cpu c ≡ pass
 
-holds_in_reach : (shape : Shape) (w : World) (pass cpu : ℕ) (lock : DomainId) → w.whose cpu ≡ pass → Holds shape w.core cpu lock → IsHeldByPass w pass (lock_number shape lock)
+holds_in_reach : (shape : Shape) (w : World) (pass cpu : ℕ) (lock : DomainId) → w.pass_of_cpu cpu ≡ pass → Holds shape w.core cpu lock → IsHeldByPass w pass (lock_number shape lock)
 holds_in_reach shape w pass cpu lock mine holds = record { cpu = cpu; holder_is = holds.held; mine = mine }
 
-leaves_in_reach : (shape : Shape) (w : World) (pass cpu : ℕ) (home : Home) → w.whose cpu ≡ pass → MayLeave shape w.core cpu home → IsInReach shape w pass home
+leaves_in_reach : (shape : Shape) (w : World) (pass cpu : ℕ) (home : Home) → w.pass_of_cpu cpu ≡ pass → MayLeave shape w.core cpu home → IsInReach shape w pass home
 leaves_in_reach shape w pass cpu homes.Unlisted mine may = absurd may
 leaves_in_reach shape w pass cpu (homes.In lock) mine may = holds_in_reach shape w pass cpu lock mine may
-leaves_in_reach shape w pass cpu (homes.Hand c) mine may = ap w.whose may ∙ mine
+leaves_in_reach shape w pass cpu (homes.Hand c) mine may = ap w.pass_of_cpu may ∙ mine
 
-enters_in_reach : (shape : Shape) (w : World) (pass cpu : ℕ) (owner : Owner) (home : Home) → w.whose cpu ≡ pass → MayEnter shape w.core cpu owner home → IsInReach shape w pass home
+enters_in_reach : (shape : Shape) (w : World) (pass cpu : ℕ) (owner : Owner) (home : Home) → w.pass_of_cpu cpu ≡ pass → MayEnter shape w.core cpu owner home → IsInReach shape w pass home
 enters_in_reach shape w pass cpu owner homes.Unlisted mine may = absurd may
 enters_in_reach shape w pass cpu owner (homes.In (Local c)) mine may = holds_in_reach shape w pass cpu (Local c) mine may.0
 enters_in_reach shape w pass cpu owner (homes.In Global) mine may = holds_in_reach shape w pass cpu Global mine may
 enters_in_reach shape w pass cpu owner (homes.In (CpuLru c)) mine may = absurd may
 enters_in_reach shape w pass cpu owner (homes.In (Bucket bucket)) mine may = absurd may
 enters_in_reach shape w pass cpu owner (homes.In (Freelist c)) mine may = absurd may
-enters_in_reach shape w pass cpu owner (homes.Hand c) mine may = ap w.whose may.0 ∙ mine
+enters_in_reach shape w pass cpu owner (homes.Hand c) mine may = ap w.pass_of_cpu may.0 ∙ mine
 
-reach_of_pass : (shape : Shape) (w : World) (pass : ℕ) (home : Home) → IsInReach shape w pass home → IsHomeOfPass w.whose pass home
+reach_of_pass : (shape : Shape) (w : World) (pass : ℕ) (home : Home) → IsInReach shape w pass home → IsHomeOfPass w.pass_of_cpu pass home
 reach_of_pass shape w pass homes.Unlisted reach = tt
 reach_of_pass shape w pass (homes.In lock) reach = tt
 reach_of_pass shape w pass (homes.Hand c) reach = reach
@@ -132,16 +132,16 @@ ascends_joined shape (homes.Hand c) owner e held ascends = ascends
 
 -- Elements that are carried
 
-module _ (cpus pass e : ℕ) (whose : ℕ → ℕ) (f g : ℕ → Home) (carried : List InHand) (others : (x : ℕ) → x ≢ e → g x ≡ f x) (are : AreInHands is_home_of cpus pass whose f carried) where
-  carried_left : (home : Home) → f e ≡ home → g e ≡ homes.Unlisted → AreInHands is_home_of cpus pass whose g (carried_without home e carried)
-  carried_left homes.Unlisted was is = stays_in_hand is_home_of cpus pass e 0 whose f g carried others are (λ c. ap (is_home_of c) was) (λ c. ap (is_home_of c) is)
-  carried_left (homes.In lock) was is = stays_in_hand is_home_of cpus pass e 0 whose f g carried others are (λ c. ap (is_home_of c) was) (λ c. ap (is_home_of c) is)
-  carried_left (homes.Hand cpu) was is = leaves_hand is_home_of cpus pass e cpu whose f g carried others are (λ c. ap (is_home_of c) was) (λ c. ap (is_home_of c) is)
+module _ (cpus pass e : ℕ) (pass_of_cpu : ℕ → ℕ) (f g : ℕ → Home) (carried : List InHand) (others : (x : ℕ) → x ≢ e → g x ≡ f x) (are : AreInHands is_home_of cpus pass pass_of_cpu f carried) where
+  carried_left : (home : Home) → f e ≡ home → g e ≡ homes.Unlisted → AreInHands is_home_of cpus pass pass_of_cpu g (carried_without home e carried)
+  carried_left homes.Unlisted was is = stays_in_hand is_home_of cpus pass e 0 pass_of_cpu f g carried others are (λ c. ap (is_home_of c) was) (λ c. ap (is_home_of c) is)
+  carried_left (homes.In lock) was is = stays_in_hand is_home_of cpus pass e 0 pass_of_cpu f g carried others are (λ c. ap (is_home_of c) was) (λ c. ap (is_home_of c) is)
+  carried_left (homes.Hand cpu) was is = leaves_hand is_home_of cpus pass e cpu pass_of_cpu f g carried others are (λ c. ap (is_home_of c) was) (λ c. ap (is_home_of c) is)
 
-  carried_joined : (home : Home) → IsHomeOfPass whose pass home → f e ≡ homes.Unlisted → g e ≡ home → AreInHands is_home_of cpus pass whose g (carried_with home e carried)
-  carried_joined homes.Unlisted ours was is = stays_in_hand is_home_of cpus pass e 0 whose f g carried others are (λ c. ap (is_home_of c) was) (λ c. ap (is_home_of c) is)
-  carried_joined (homes.In lock) ours was is = stays_in_hand is_home_of cpus pass e 0 whose f g carried others are (λ c. ap (is_home_of c) was) (λ c. ap (is_home_of c) is)
-  carried_joined (homes.Hand cpu) ours was is = comes_to_hand is_home_of cpus pass e cpu whose f g carried others are ours (λ c. ap (is_home_of c) was) (λ c. ap (is_home_of c) is)
+  carried_joined : (home : Home) → IsHomeOfPass pass_of_cpu pass home → f e ≡ homes.Unlisted → g e ≡ home → AreInHands is_home_of cpus pass pass_of_cpu g (carried_with home e carried)
+  carried_joined homes.Unlisted ours was is = stays_in_hand is_home_of cpus pass e 0 pass_of_cpu f g carried others are (λ c. ap (is_home_of c) was) (λ c. ap (is_home_of c) is)
+  carried_joined (homes.In lock) ours was is = stays_in_hand is_home_of cpus pass e 0 pass_of_cpu f g carried others are (λ c. ap (is_home_of c) was) (λ c. ap (is_home_of c) is)
+  carried_joined (homes.Hand cpu) ours was is = comes_to_hand is_home_of cpus pass e cpu pass_of_cpu f g carried others are ours (λ c. ap (is_home_of c) was) (λ c. ap (is_home_of c) is)
 
 -- what is noted once an element has gone from one home to another
 abbrev notes_then : Shape → Home → Home → ℕ → View → List Notes
@@ -159,7 +159,7 @@ module _ (shape : Shape) (s : State Behind View) (r : Rule shape s) (pass : ℕ)
   holds_known lock holds = subst (λ (n : ℕ). Holds shape r.world.core n lock) holds.cpu_is (holds_there shape s r pass v at_pass lock holds.hold holds.held holds.there)
 
   -- an element on the lists of a lock lies there
-  lies_there : (lock : DomainId) → IsTrue (is_lock shape lock) → IsFalse (is_bucket lock) → IsIn e (all_of (r.world.core.lists (lock_number shape lock))) → r.placed.place e ≡ lies (lock_number shape lock)
+  lies_there : (lock : DomainId) → IsTrue (is_lock shape lock) → IsFalse (is_bucket lock) → IsIn e (all_of (r.world.core.lists (lock_number shape lock))) → r.placed.place e ≡ under_lock (lock_number shape lock)
   lies_there lock is no_bucket inside =
       let k : ℕ = lock_number shape lock in
       let w = r.world in let p = r.placed.placed in
@@ -251,8 +251,8 @@ module _ (shape : Shape) (s : State Behind View) (r : Rule shape s) (pass : ℕ)
       evicts : IsTrue (is_lru shape.kind)
       evicts = (bounds_of_shape shape r.is_shape).common_evicts can.common
 
-      carrier : (x : ℕ) → r.world.core.home e ≡ homes.Hand x → (place : Place) → r.placed.place e ≡ place → x ≡ d
-      carrier x is (lies k) at_place = absurd (no_lock (lock_named shape k) x (sym (r.placed.placed.homes e real ∙ (ap (home_of_place shape) at_place ∙ ap (λ (b : Bool). cond b (homes.In (lock_named shape k)) homes.Unlisted) evicts)) ∙ is))
+      carrier : (x : ℕ) → r.world.core.home e ≡ homes.Hand x → (place : ElementPlace) → r.placed.place e ≡ place → x ≡ d
+      carrier x is (under_lock k) at_place = absurd (no_lock (lock_named shape k) x (sym (r.placed.placed.homes e real ∙ (ap (home_of_place shape) at_place ∙ ap (λ (b : Bool). cond b (homes.In (lock_named shape k)) homes.Unlisted) evicts)) ∙ is))
       carrier x is (carried y) at_place =
           let its : y ≡ x = same_hand y x (sym (r.placed.placed.homes e real ∙ (ap (home_of_place shape) at_place ∙ ap (λ (b : Bool). cond b (homes.Hand y) homes.Unlisted) evicts)) ∙ is) in
           let may : MayLie shape e (r.world.core.owner e) (carried y) = subst (MayLie shape e (r.world.core.owner e)) at_place (r.placed.placed.places e real) in
@@ -322,7 +322,7 @@ module _ (shape : Shape) (s : State Behind View) (r : Rule shape s) (pass : ℕ)
       (λ same.
       let holds = entered to can.to_there lock at in
       let mine = has_mine shape w pass v c kn has in
-      let found : hold_at k v.held ≡ Some (hold k c (w.log k) (w.core.lists k) (w.lost k)) = kn.held k ∙ (ap (λ (z : Option ℕ). hold_of pass w.whose k z (w.log k) (w.core.lists k) (w.lost k)) holds.held ∙ hold_of_mine w.whose pass k c (w.log k) (w.core.lists k) (w.lost k) mine) in
+      let found : hold_at k v.held ≡ Some (hold k c (w.log k) (w.core.lists k) (w.lost k)) = kn.held k ∙ (ap (λ (z : Option ℕ). hold_of pass w.pass_of_cpu k z (w.log k) (w.core.lists k) (w.lost k)) holds.held ∙ hold_of_mine w.pass_of_cpu pass k c (w.log k) (w.core.lists k) (w.lost k) mine) in
       let come : HasCome w.core.holder came k e d = record {
         held = holds.held ∙ ap Some (sym same);
         inside = ap (is_among e) (came_then to k)
@@ -366,13 +366,13 @@ module _ (shape : Shape) (s : State Behind View) (r : Rule shape s) (pass : ℕ)
             (λ (by_pass : IsHeldByPass w pass k). inr by_pass)
             (under_joined shape w pass owner e away to joined k);
         owners = λ _. inl refl;
-        homes = λ x. at_put w.core.home e to (λ j h. (h ≡ w.core.home j) ⊎ (IsHomeOfPass w.whose pass (w.core.home j) × IsHomeOfPass w.whose pass h)) x
+        homes = λ x. at_put w.core.home e to (λ j h. (h ≡ w.core.home j) ⊎ (IsHomeOfPass w.pass_of_cpu pass (w.core.home j) × IsHomeOfPass w.pass_of_cpu pass h)) x
             (inr (reach_of_pass shape w pass from left, reach_of_pass shape w pass to joined)) (λ _. inl refl);
         are_held = held_joined shape w pass owner e away to (held_without shape from owner e v.held) joined (held_left shape w pass owner e w.core.lists from v.held left kn.held);
         ascends = ascends_joined shape to owner e (held_without shape from owner e v.held) (ascends_left shape from owner e v.held kn.ascends);
         in_hands = kn.hands;
-        are_carried = carried_joined shape.cpus pass e w.whose on_the_way (put w.core.home e to) (carried_without from e v.carried) (λ x other. put_else w.core.home e to x other ∙ sym (put_else w.core.home e homes.Unlisted x other))
-            (carried_left shape.cpus pass e w.whose w.core.home on_the_way v.carried (λ x other. put_else w.core.home e homes.Unlisted x other) kn.carried from refl (put_here w.core.home e homes.Unlisted))
+        are_carried = carried_joined shape.cpus pass e w.pass_of_cpu on_the_way (put w.core.home e to) (carried_without from e v.carried) (λ x other. put_else w.core.home e to x other ∙ sym (put_else w.core.home e homes.Unlisted x other))
+            (carried_left shape.cpus pass e w.pass_of_cpu w.core.home on_the_way v.carried (λ x other. put_else w.core.home e homes.Unlisted x other) kn.carried from refl (put_here w.core.home e homes.Unlisted))
             to (reach_of_pass shape w pass to joined) (put_here w.core.home e homes.Unlisted) (put_here w.core.home e to);
         placed = step_keeps_places shape w.core (Rehome c e to) bounds can r.placed;
         ranked = step_keeps_ranks shape w.core (Rehome c e to) can r.ranked;
@@ -390,14 +390,14 @@ module _ (shape : Shape) (s : State Behind View) (r : Rule shape s) (pass : ℕ)
         );
         at_home = λ x d its x_real in_hand theirs at. by_test x e (λ _. (w.core.home x ≡ homes.In its) ⊎ IsAway shape w.core.holder w.core.holder (w.core.home x) d its)
             (λ same. inr (subst (λ (y : ℕ). IsAway shape w.core.holder w.core.holder (w.core.home y) d its) (sym same)
-            (goes_away to can d its (ap w.core.owner (sym same) ∙ in_hand) (λ is. theirs (ap w.whose is ∙ mine)) (sym (put_here w.core.home e to) ∙ (ap (put w.core.home e to) (sym same) ∙ at)))))
+            (goes_away to can d its (ap w.core.owner (sym same) ∙ in_hand) (λ is. theirs (ap w.pass_of_cpu is ∙ mine)) (sym (put_here w.core.home e to) ∙ (ap (put w.core.home e to) (sym same) ∙ at)))))
             (λ other. inl (sym (put_else w.core.home e to x other) ∙ at));
         are_read = λ x d read within found.
             let k = without_home x d read e v.readings found in let was = kn.readings x d read within k.1 in
             record { real = was.real; in_hand = was.in_hand; still = subst (λ (z : Home). StillHome shape w.core.holder w.log x z read) (sym (put_else w.core.home e to x k.0)) was.still };
         still = λ x d read in_hand theirs still. by_test x e (λ _. StillHome shape w.core.holder w.log x (put w.core.home e to x) read)
             (λ same. subst (λ (z : ℕ). StillHome shape w.core.holder w.log z (put w.core.home e to z) read) (sym same) (subst (λ (z : Home). StillHome shape w.core.holder w.log e z read) (sym (put_here w.core.home e to))
-            (still_flushed shape w.core r.placed w.log w.hash r.hashes (bounds.common_evicts can.common) c e to can d read (ap w.core.owner (sym same) ∙ in_hand) (λ is. theirs (ap w.whose is ∙ mine)) (subst (λ (z : ℕ). StillHome shape w.core.holder w.log z (w.core.home z) read) same still))))
+            (still_flushed shape w.core r.placed w.log w.hash r.hashes (bounds.common_evicts can.common) c e to can d read (ap w.core.owner (sym same) ∙ in_hand) (λ is. theirs (ap w.pass_of_cpu is ∙ mine)) (subst (λ (z : ℕ). StillHome shape w.core.holder w.log z (w.core.home z) read) same still))))
             (λ other. subst (λ (z : Home). StillHome shape w.core.holder w.log x z read) (sym (put_else w.core.home e to x other)) still);
       }
 
@@ -509,7 +509,7 @@ module _ (shape : Shape) (s : State Behind View) (r : Rule shape s) (pass : ℕ)
   in_no_hand cpu holder has in_hand not_carried is =
       let w = r.world in let kn = r.knows pass v at_pass in
       let same : holder ≡ cpu = same_owner holder cpu (sym (whole.carried e holder real is).0 ∙ in_hand_is shape w pass v e cpu kn has in_hand) in
-      true_false (sym (kn.carried e cpu (kn.within cpu has) ∙ both_hold (is_home_of cpu (w.core.home e)) (eqb (w.whose cpu) pass) (ap (is_home_of cpu) is ∙ eq-eqb holder cpu same) (eq-eqb (w.whose cpu) pass (has_mine shape w pass v cpu kn has))) ∙ not_carried)
+      true_false (sym (kn.carried e cpu (kn.within cpu has) ∙ both_hold (is_home_of cpu (w.core.home e)) (eqb (w.pass_of_cpu cpu) pass) (ap (is_home_of cpu) is ∙ eq-eqb holder cpu same) (eq-eqb (w.pass_of_cpu cpu) pass (has_mine shape w pass v cpu kn has))) ∙ not_carried)
     where
       same_owner : (a b : ℕ) → owners.Hand a ≡ owners.Hand b → a ≡ b
       same_owner a b is = cc
@@ -527,14 +527,14 @@ module _ (shape : Shape) (s : State Behind View) (r : Rule shape s) (pass : ℕ)
       w : World
       w = r.world
 
-      kn : Knows shape w pass v
+      kn : PassKnows shape w pass v
       kn = r.knows pass v at_pass
 
       go : ((c : ℕ) → c < shape.cpus → is_among c v.cpus ≡ true) → (holder : Option ℕ) → w.core.holder k ≡ holder → w.core.holder k ≡ None
       go all None is = is
       go all (Some c) is =
           let mine = has_mine shape w pass v c kn (all c (r.ranked.within c k is)) in
-          absurd (none_some (sym none ∙ (kn.held k ∙ (ap (λ (z : Option ℕ). hold_of pass w.whose k z (w.log k) (w.core.lists k) (w.lost k)) is ∙ hold_of_mine w.whose pass k c (w.log k) (w.core.lists k) (w.lost k) mine))))
+          absurd (none_some (sym none ∙ (kn.held k ∙ (ap (λ (z : Option ℕ). hold_of pass w.pass_of_cpu k z (w.log k) (w.core.lists k) (w.lost k)) is ∙ hold_of_mine w.pass_of_cpu pass k c (w.log k) (w.core.lists k) (w.lost k) mine))))
 
   -- and then it lies there, on the lists to which the turns of the lock lead
   lies_at_home : is_lru shape.kind ≡ true → (lock : DomainId) (log : List Entry) → r.world.core.home e ≡ homes.In lock → hold_at (lock_number shape lock) v.held ≡ None → known_log (lock_number shape lock) v.known ≡ Some log → IsIn e (all_of (lists_of (content shape lock log)))
@@ -555,7 +555,7 @@ module _ (shape : Shape) (s : State Behind View) (r : Rule shape s) (pass : ℕ)
     known = λ lru cpu known mine at_home. home_known shape s r pass v at_pass cpu e mine real known lru at_home;
     is_there = λ lru. may_be_home lru (w.core.home e) refl;
     of_hand = λ cpu holder has in_hand not_carried. in_no_hand cpu holder has in_hand not_carried;
-    lies = λ lru lock log is none known. lies_at_home lru lock log is none known;
+    under_home = λ lru lock log is none known. lies_at_home lru lock log is none known;
   }
 
 pub sees_home_step : (shape : Shape) (slots pass : ℕ) (me : Seated) (e : ℕ) → e < shape.elements → StepsAs shape slots pass me (home_word shape e) (λ n. n) (goes_by shape (Glance 0 e)) (SeesHome e me)

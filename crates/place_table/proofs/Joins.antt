@@ -17,11 +17,11 @@ use Rattle.place_table.specs.declared.view.Hold.{Hold}
 use Rattle.place_table.specs.declared.view.Notes.{Notes}
 use Rattle.place_words.specs.Locks.{lock_number}
 use Rattle.place_table.specs.Views.{is_among, hold_at, is_in_hand_of, hash_known, came_at, current_strand, all_strands, joined, spent, home_known}
-use Rattle.place_table.specs.Rules.{Tagged, World, hold, hold_of, is_hand_of, is_home_of, IsStrand, ArePast, IsLostLock, IsHashed, HasHash, HasCome, HasRow, IsBrought, Knows, Rule}
+use Rattle.place_table.specs.Rules.{Tagged, World, hold, hold_of, is_hand_of, is_home_of, IsStrand, ArePast, IsLostLock, IsHashed, HasHash, HasCome, HasRow, IsBrought, PassKnows, Rule}
 use Rattle.place_table.proofs.Worlds.{true_false, by_bool, none_some, lock_still_lost}
 use Rattle.place_table.proofs.Locks.{there}
 use Rattle.place_table.proofs.Splits.{and_false}
-use Rattle.place_table.proofs.StrandMoves.{among_append, among_later, no_turns_yet, no_touches_yet, of_strands_move, SameTurns, GoesTo, StaysListed, strand_moves, past_moves, tagged_moves, past_keeper, not_theirs, past_append, done, past_done, among_done, fresh_done, no_steps_append, not_one}
+use Rattle.place_table.proofs.StrandMoves.{among_append, among_later, no_turns_yet, no_touches_yet, of_strands_move, SameTurns, GoesTo, StaysListed, strand_moves, past_moves, tagged_moves, past_pass_of_strand, not_theirs, past_append, done, past_done, among_done, fresh_done, no_steps_append, not_one}
 use Rattle.place_table.proofs.Readings.{append_home, or_there}
 
 -- what is known, and what is in hand, in one of two lists
@@ -99,9 +99,9 @@ module _ (shape : Shape) (id other : ℕ) (v u : View) (apart : other ≢ id) (n
     core = w.core;
     log = w.log;
     lost = w.lost;
-    whose = λ c. fold_in (w.whose c);
-    keeper = put (put (λ t. fold_in (w.keeper t)) w.next id) (suc w.next) other;
-    team = put (put w.team w.next (v.cpus ++ u.cpus)) (suc w.next) [];
+    pass_of_cpu = λ c. fold_in (w.pass_of_cpu c);
+    pass_of_strand = put (put (λ t. fold_in (w.pass_of_strand t)) w.next id) (suc w.next) other;
+    cpus_of_strand = put (put w.cpus_of_strand w.next (v.cpus ++ u.cpus)) (suc w.next) [];
     current = put (put w.current id w.next) other (suc w.next);
     past = put (put w.past id (done w id ++ done w other)) other [];
     next = suc (suc w.next);
@@ -145,40 +145,40 @@ module _ (shape : Shape) (id other : ℕ) (v u : View) (apart : other ≢ id) (n
   unfolding fold_in
   fold_below x n a b = by_test x other (λ t. cond t id x < n) (λ _. a) (λ _. b)
 
-  old_team : (w : World) (t : ℕ) → t < w.next → (merged w).team t ≡ w.team t
+  old_cpus_of_strand : (w : World) (t : ℕ) → t < w.next → (merged w).cpus_of_strand t ≡ w.cpus_of_strand t
   unfolding merged
-  old_team w t old = put_else _ (suc w.next) [] t (λ e. omega arith) ∙ put_else w.team w.next _ t (λ e. omega arith)
+  old_cpus_of_strand w t old = put_else _ (suc w.next) [] t (λ e. omega arith) ∙ put_else w.cpus_of_strand w.next _ t (λ e. omega arith)
 
-  old_keeper : (w : World) (t : ℕ) → t < w.next → (merged w).keeper t ≡ fold_in (w.keeper t)
+  old_pass_of_strand : (w : World) (t : ℕ) → t < w.next → (merged w).pass_of_strand t ≡ fold_in (w.pass_of_strand t)
   unfolding merged
-  old_keeper w t old = put_else _ (suc w.next) other t (λ e. omega arith) ∙ put_else _ w.next id t (λ e. omega arith)
+  old_pass_of_strand w t old = put_else _ (suc w.next) other t (λ e. omega arith) ∙ put_else _ w.next id t (λ e. omega arith)
 
-  kept_still : (w : World) (j t : ℕ) → j ≢ other → t < w.next → w.keeper t ≡ j → GoesTo w (merged w) j t
-  kept_still w j t not_other old e = (old_keeper w t old ∙ fold_same (w.keeper t) j e not_other, old_team w t old)
+  kept_still : (w : World) (j t : ℕ) → j ≢ other → t < w.next → w.pass_of_strand t ≡ j → GoesTo w (merged w) j t
+  kept_still w j t not_other old e = (old_pass_of_strand w t old ∙ fold_same (w.pass_of_strand t) j e not_other, old_cpus_of_strand w t old)
 
-  kept_over : (w : World) (t : ℕ) → t < w.next → w.keeper t ≡ other → GoesTo w (merged w) id t
-  kept_over w t old e = (old_keeper w t old ∙ fold_here (w.keeper t) e, old_team w t old)
+  kept_over : (w : World) (t : ℕ) → t < w.next → w.pass_of_strand t ≡ other → GoesTo w (merged w) id t
+  kept_over w t old e = (old_pass_of_strand w t old ∙ fold_here (w.pass_of_strand t) e, old_cpus_of_strand w t old)
 
-  hold_both : (w : World) (k : ℕ) (holder : Option ℕ) (log : List Tagged) (lists : Lists) (lost : Bool) → hold_of id w.whose k holder log lists lost ≡ None → hold_of other w.whose k holder log lists lost ≡ None → hold_of id (λ c. fold_in (w.whose c)) k holder log lists lost ≡ None
+  hold_both : (w : World) (k : ℕ) (holder : Option ℕ) (log : List Tagged) (lists : Lists) (lost : Bool) → hold_of id w.pass_of_cpu k holder log lists lost ≡ None → hold_of other w.pass_of_cpu k holder log lists lost ≡ None → hold_of id (λ c. fold_in (w.pass_of_cpu c)) k holder log lists lost ≡ None
   hold_both w k None log lists lost a b = refl
-  hold_both w k (Some d) log lists lost a b = ap (λ t. cond t (Some (hold k d log lists lost)) None) (fold_id (w.whose d)) ∙ go (eqb (w.whose d) id) (eqb (w.whose d) other) a b
+  hold_both w k (Some d) log lists lost a b = ap (λ t. cond t (Some (hold k d log lists lost)) None) (fold_id (w.pass_of_cpu d)) ∙ go (eqb (w.pass_of_cpu d) id) (eqb (w.pass_of_cpu d) other) a b
     where
       go : (p q : Bool) → cond p (Some (hold k d log lists lost)) None ≡ None → cond q (Some (hold k d log lists lost)) None ≡ None → cond (cond p true q) (Some (hold k d log lists lost)) None ≡ None
       go true q a b = a
       go false q a b = b
 
-  hold_spent : (w : World) (k : ℕ) (holder : Option ℕ) (log : List Tagged) (lists : Lists) (lost : Bool) → hold_of other (λ c. fold_in (w.whose c)) k holder log lists lost ≡ None
+  hold_spent : (w : World) (k : ℕ) (holder : Option ℕ) (log : List Tagged) (lists : Lists) (lost : Bool) → hold_of other (λ c. fold_in (w.pass_of_cpu c)) k holder log lists lost ≡ None
   hold_spent w k None log lists lost = refl
-  hold_spent w k (Some d) log lists lost = ap (λ t. cond t (Some (hold k d log lists lost)) None) (fold_other (w.whose d))
+  hold_spent w k (Some d) log lists lost = ap (λ t. cond t (Some (hold k d log lists lost)) None) (fold_other (w.pass_of_cpu d))
 
-  hold_else : (w : World) (j k : ℕ) (holder : Option ℕ) (log : List Tagged) (lists : Lists) (lost : Bool) → j ≢ id → j ≢ other → hold_of j (λ c. fold_in (w.whose c)) k holder log lists lost ≡ hold_of j w.whose k holder log lists lost
+  hold_else : (w : World) (j k : ℕ) (holder : Option ℕ) (log : List Tagged) (lists : Lists) (lost : Bool) → j ≢ id → j ≢ other → hold_of j (λ c. fold_in (w.pass_of_cpu c)) k holder log lists lost ≡ hold_of j w.pass_of_cpu k holder log lists lost
   hold_else w j k None log lists lost not_id not_other = refl
-  hold_else w j k (Some d) log lists lost not_id not_other = ap (λ t. cond t (Some (hold k d log lists lost)) None) (fold_else (w.whose d) j not_id not_other)
+  hold_else w j k (Some d) log lists lost not_id not_other = ap (λ t. cond t (Some (hold k d log lists lost)) None) (fold_else (w.pass_of_cpu d) j not_id not_other)
 
   -- what two passes have in hand, by owners or by homes
-  hand_both : (w : World) (e d : ℕ) (mine : Bool) (xs ys : List InHand) → is_in_hand_of e d xs ≡ (mine && eqb (w.whose d) id) → is_in_hand_of e d ys ≡ (mine && eqb (w.whose d) other) → is_in_hand_of e d (xs ++ ys) ≡ (mine && eqb (fold_in (w.whose d)) id)
+  hand_both : (w : World) (e d : ℕ) (mine : Bool) (xs ys : List InHand) → is_in_hand_of e d xs ≡ (mine && eqb (w.pass_of_cpu d) id) → is_in_hand_of e d ys ≡ (mine && eqb (w.pass_of_cpu d) other) → is_in_hand_of e d (xs ++ ys) ≡ (mine && eqb (fold_in (w.pass_of_cpu d)) id)
   hand_both w e d mine xs ys first second =
-      hand_append e d xs ys ∙ ((λ i. cond (first i) true (second i)) ∙ (both_or mine (eqb (w.whose d) id) (eqb (w.whose d) other) ∙ ap (λ t. mine && t) (sym (fold_id (w.whose d)))))
+      hand_append e d xs ys ∙ ((λ i. cond (first i) true (second i)) ∙ (both_or mine (eqb (w.pass_of_cpu d) id) (eqb (w.pass_of_cpu d) other) ∙ ap (λ t. mine && t) (sym (fold_id (w.pass_of_cpu d)))))
 
   among_first_done : (w : World) (t : ℕ) → is_among t (w.current id ∷ w.past id) ≡ true → is_among t (done w id ++ done w other) ≡ true
   among_first_done w t among = among_append t (done w id) (done w other) ∙ ap (λ c. cond c true (is_among t (done w other))) (among_done w id t among)
@@ -213,13 +213,13 @@ module _ (shape : Shape) (id other : ℕ) (v u : View) (apart : other ≢ id) (n
   same_turns w = record { log = λ _. refl; lost = λ _. refl; next = omega arith; touches = refl }
 
   -- the pass with the CPUs of both
-  both_know : (s : State Behind View) (r : Rule shape s) → get_elem? s.views id ≡ some v → get_elem? s.views other ≡ some u → Knows shape (merged r.world) id (joined v u)
+  both_know : (s : State Behind View) (r : Rule shape s) → get_elem? s.views id ≡ some v → get_elem? s.views other ≡ some u → PassKnows shape (merged r.world) id (joined v u)
   unfolding merged
   both_know s r at_id at_other =
       let w : World = r.world in let w' : World = merged w in let kn = r.knows id v at_id in let ku = r.knows other u at_other in
       let first = past_done shape w id v kn.strand kn.past kn.apart in let second = past_done shape w other u ku.strand ku.past ku.apart in record {
         shape_is = kn.shape_is;
-        cpus = λ d less. among_append d v.cpus u.cpus ∙ ((λ i. cond (kn.cpus d less i) true (ku.cpus d less i)) ∙ sym (fold_id (w.whose d)));
+        cpus = λ d less. among_append d v.cpus u.cpus ∙ ((λ i. cond (kn.cpus d less i) true (ku.cpus d less i)) ∙ sym (fold_id (w.pass_of_cpu d)));
         within = λ d among. in_either (is_among d v.cpus) (is_among d u.cpus) (d < shape.cpus) (kn.within d) (ku.within d) (sym (among_append d v.cpus u.cpus) ∙ among);
         held = λ k. sym (hold_both w k (w.core.holder k) (w.log k) (w.core.lists k) (w.lost k) (sym (kn.held k) ∙ ap (hold_at k) no_lock) (sym (ku.held k) ∙ ap (hold_at k) nor_lock));
         ascends = tt;
@@ -245,9 +245,9 @@ module _ (shape : Shape) (id other : ℕ) (v u : View) (apart : other ≢ id) (n
         only = inl (refl, refl);
         losses = λ k among. lock_still_lost shape w w' k (λ found. found) (in_either (is_among k v.lost) (is_among k u.lost) (IsLostLock shape w k) (kn.losses k) (ku.losses k) (sym (among_append k v.lost u.lost) ∙ among));
         strand = subst (λ (z : ℕ). IsStrand shape w' id z (v.cpus ++ u.cpus) [] [] []) (sym (new_current w)) record {
-          keeper = put_else (put (λ t. fold_in (w.keeper t)) w.next id) (suc w.next) other w.next (λ e. omega arith) ∙ put_here (λ t. fold_in (w.keeper t)) w.next id;
+          pass_of_strand = put_else (put (λ t. fold_in (w.pass_of_strand t)) w.next id) (suc w.next) other w.next (λ e. omega arith) ∙ put_here (λ t. fold_in (w.pass_of_strand t)) w.next id;
           numbered = omega arith;
-          team = put_else (put w.team w.next (v.cpus ++ u.cpus)) (suc w.next) [] w.next (λ e. omega arith) ∙ put_here w.team w.next (v.cpus ++ u.cpus);
+          cpus_of_strand = put_else (put w.cpus_of_strand w.next (v.cpus ++ u.cpus)) (suc w.next) [] w.next (λ e. omega arith) ∙ put_here w.cpus_of_strand w.next (v.cpus ++ u.cpus);
           steps_are = λ k. sym (no_turns_yet w (length s.views) w.next 0 (w.log k) (omega arith) (r.tagged k));
           stand = tt;
           kept_are = λ k below is found. refl;
@@ -257,7 +257,7 @@ module _ (shape : Shape) (id other : ℕ) (v u : View) (apart : other ≢ id) (n
             (past_append shape w' id (done w id) (done w other) (all_strands v) (all_strands u)
             (past_moves shape w w' id id (done w id) (all_strands v) (same_turns w) (λ t old e. kept_still w id t (λ f. apart (sym f)) old e) first)
             (past_moves shape w w' other id (done w other) (all_strands u) (same_turns w) (λ t old e. kept_over w t old e) second)
-            (λ t among. not_theirs shape w id other t (done w other) (all_strands u) second (past_keeper shape w id t (done w id) (all_strands v) first among) (λ f. apart (sym f))));
+            (λ t among. not_theirs shape w id other t (done w other) (all_strands u) second (past_pass_of_strand shape w id t (done w id) (all_strands v) first among) (λ f. apart (sym f))));
         apart = ap (λ z. is_among z (w'.past id)) (new_current w) ∙ (ap (is_among w.next) (new_past w) ∙ (among_append w.next (done w id) (done w other)
             ∙ (ap (λ b. cond b true (is_among w.next (done w other))) (fresh_done shape w id w.next v kn.strand kn.past (omega arith)) ∙ fresh_done shape w other w.next u ku.strand ku.past (omega arith))));
         idle = λ e. let none = append_empty v.cpus u.cpus e in let a = kn.idle none.0 in let b = ku.idle none.1 in
@@ -265,18 +265,18 @@ module _ (shape : Shape) (id other : ℕ) (v u : View) (apart : other ≢ id) (n
       }
 
   -- what is left of the other
-  spent_knows : (s : State Behind View) (r : Rule shape s) → get_elem? s.views other ≡ some u → Knows shape (merged r.world) other (spent u.shape)
+  spent_knows : (s : State Behind View) (r : Rule shape s) → get_elem? s.views other ≡ some u → PassKnows shape (merged r.world) other (spent u.shape)
   unfolding merged
   spent_knows s r at_other =
       let w : World = r.world in let w' : World = merged w in let ku = r.knows other u at_other in record {
         shape_is = ku.shape_is;
-        cpus = λ d less. sym (fold_other (w.whose d));
+        cpus = λ d less. sym (fold_other (w.pass_of_cpu d));
         within = λ d among. true_false (sym among);
         held = λ k. sym (hold_spent w k (w.core.holder k) (w.log k) (w.core.lists k) (w.lost k));
         ascends = tt;
         noted = tt;
-        hands = λ e d less. sym (ap (λ t. is_hand_of d (w.core.owner e) && t) (fold_other (w.whose d)) ∙ and_false (is_hand_of d (w.core.owner e)));
-        carried = λ e d less. sym (ap (λ t. is_home_of d (w.core.home e) && t) (fold_other (w.whose d)) ∙ and_false (is_home_of d (w.core.home e)));
+        hands = λ e d less. sym (ap (λ t. is_hand_of d (w.core.owner e) && t) (fold_other (w.pass_of_cpu d)) ∙ and_false (is_hand_of d (w.core.owner e)));
+        carried = λ e d less. sym (ap (λ t. is_home_of d (w.core.home e) && t) (fold_other (w.pass_of_cpu d)) ∙ and_false (is_home_of d (w.core.home e)));
         hashes = λ e d noted within found. absurd (none_some found);
         hashed = λ lru e d lock real within in_hand at. true_false (sym in_hand);
         readings = λ e d read within found. absurd (none_some found);
@@ -285,9 +285,9 @@ module _ (shape : Shape) (id other : ℕ) (v u : View) (apart : other ≢ id) (n
         only = inl (refl, refl);
         losses = λ k among. true_false (sym among);
         strand = subst (λ (z : ℕ). IsStrand shape w' other z [] [] [] []) (sym (put_here (put w.current id w.next) other (suc w.next))) record {
-          keeper = put_here (put (λ t. fold_in (w.keeper t)) w.next id) (suc w.next) other;
+          pass_of_strand = put_here (put (λ t. fold_in (w.pass_of_strand t)) w.next id) (suc w.next) other;
           numbered = omega arith;
-          team = put_here (put w.team w.next (v.cpus ++ u.cpus)) (suc w.next) [];
+          cpus_of_strand = put_here (put w.cpus_of_strand w.next (v.cpus ++ u.cpus)) (suc w.next) [];
           steps_are = λ k. sym (no_turns_yet w (length s.views) (suc w.next) 0 (w.log k) (omega arith) (r.tagged k));
           stand = tt;
           kept_are = λ k below is found. refl;
@@ -299,18 +299,18 @@ module _ (shape : Shape) (id other : ℕ) (v u : View) (apart : other ≢ id) (n
       }
 
   -- any other pass
-  beside : (s : State Behind View) (r : Rule shape s) (j : ℕ) (x : View) → get_elem? s.views j ≡ some x → j ≢ id → j ≢ other → Knows shape (merged r.world) j x
+  beside : (s : State Behind View) (r : Rule shape s) (j : ℕ) (x : View) → get_elem? s.views j ≡ some x → j ≢ id → j ≢ other → PassKnows shape (merged r.world) j x
   unfolding merged
   beside s r j x at_j not_id not_other =
       let w : World = r.world in let w' : World = merged w in let kx = r.knows j x at_j in record {
         shape_is = kx.shape_is;
-        cpus = λ d less. kx.cpus d less ∙ sym (fold_else (w.whose d) j not_id not_other);
+        cpus = λ d less. kx.cpus d less ∙ sym (fold_else (w.pass_of_cpu d) j not_id not_other);
         within = kx.within;
         held = λ k. kx.held k ∙ sym (hold_else w j k (w.core.holder k) (w.log k) (w.core.lists k) (w.lost k) not_id not_other);
         ascends = kx.ascends;
         noted = kx.noted;
-        hands = λ e d less. kx.hands e d less ∙ ap (λ b. is_hand_of d (w.core.owner e) && b) (sym (fold_else (w.whose d) j not_id not_other));
-        carried = λ e d less. kx.carried e d less ∙ ap (λ b. is_home_of d (w.core.home e) && b) (sym (fold_else (w.whose d) j not_id not_other));
+        hands = λ e d less. kx.hands e d less ∙ ap (λ b. is_hand_of d (w.core.owner e) && b) (sym (fold_else (w.pass_of_cpu d) j not_id not_other));
+        carried = λ e d less. kx.carried e d less ∙ ap (λ b. is_home_of d (w.core.home e) && b) (sym (fold_else (w.pass_of_cpu d) j not_id not_other));
         hashes = λ e d noted within found. kx.hashes e d noted within found;
         hashed = kx.hashed;
         readings = kx.readings;
@@ -327,33 +327,33 @@ module _ (shape : Shape) (id other : ℕ) (v u : View) (apart : other ≢ id) (n
       }
 
   -- the strand of a turn
-  listed_on : (w : World) (n t : ℕ) → id < n → w.keeper t < n → t < w.next → is_among t (w.current (w.keeper t) ∷ w.past (w.keeper t)) ≡ true → StaysListed w (merged w) n t
+  listed_on : (w : World) (n t : ℕ) → id < n → w.pass_of_strand t < n → t < w.next → is_among t (w.current (w.pass_of_strand t) ∷ w.past (w.pass_of_strand t)) ≡ true → StaysListed w (merged w) n t
   unfolding merged
   listed_on w n t here below old among =
       let w' : World = merged w in
-      by_test (w.keeper t) other (λ _. StaysListed w (merged w) n t)
+      by_test (w.pass_of_strand t) other (λ _. StaysListed w (merged w) n t)
       (λ own. let to = kept_over w t old own in (
-        (let g : w'.keeper t ≡ id = to.0 in omega arith),
+        (let g : w'.pass_of_strand t ≡ id = to.0 in omega arith),
         omega arith,
         to.1,
         subst (λ (z : ℕ). is_among t (w'.current z ∷ w'.past z) ≡ true) (sym to.0)
             (among_later t (w'.current id) (w'.past id) (ap (is_among t) (new_past w) ∙ among_last_done w t (subst (λ (z : ℕ). is_among t (w.current z ∷ w.past z) ≡ true) own among))),
       ))
-      (λ not_other. by_test (w.keeper t) id (λ _. StaysListed w (merged w) n t)
+      (λ not_other. by_test (w.pass_of_strand t) id (λ _. StaysListed w (merged w) n t)
       (λ own. let to = kept_still w id t (λ f. apart (sym f)) old own in (
-        (let g : w'.keeper t ≡ id = to.0 in omega arith),
+        (let g : w'.pass_of_strand t ≡ id = to.0 in omega arith),
         omega arith,
         to.1,
         subst (λ (z : ℕ). is_among t (w'.current z ∷ w'.past z) ≡ true) (sym to.0)
             (among_later t (w'.current id) (w'.past id) (ap (is_among t) (new_past w) ∙ among_first_done w t (subst (λ (z : ℕ). is_among t (w.current z ∷ w.past z) ≡ true) own among))),
       ))
-      (λ not_id. let to = kept_still w (w.keeper t) t not_other old refl in (
-        (let g : w'.keeper t ≡ w.keeper t = to.0 in omega arith),
+      (λ not_id. let to = kept_still w (w.pass_of_strand t) t not_other old refl in (
+        (let g : w'.pass_of_strand t ≡ w.pass_of_strand t = to.0 in omega arith),
         omega arith,
         to.1,
         subst (λ (z : ℕ). is_among t (w'.current z ∷ w'.past z) ≡ true) (sym to.0)
-            (ap (λ (z : ℕ). is_among t (z ∷ w'.past (w.keeper t))) (else_current w (w.keeper t) not_id not_other)
-            ∙ (ap (λ z. is_among t (w.current (w.keeper t) ∷ z)) (else_past w (w.keeper t) not_id not_other) ∙ among)),
+            (ap (λ (z : ℕ). is_among t (z ∷ w'.past (w.pass_of_strand t))) (else_current w (w.pass_of_strand t) not_id not_other)
+            ∙ (ap (λ z. is_among t (w.current (w.pass_of_strand t) ∷ z)) (else_past w (w.pass_of_strand t) not_id not_other) ∙ among)),
       )))
 
   pub joins : Joins (Rule shape) id v other u (joined v u) (spent u.shape)
@@ -376,7 +376,7 @@ module _ (shape : Shape) (id other : ℕ) (v u : View) (apart : other ≢ id) (n
         hashes = r.hashes;
         legal = r.legal;
         homes = r.homes;
-        seated = λ d less. subst (λ (z : ℕ). fold_in (w.whose d) < z) (sym long) (fold_below (w.whose d) (length s.views) here (r.seated d less));
+        seated = λ d less. subst (λ (z : ℕ). fold_in (w.pass_of_cpu d) < z) (sym long) (fold_below (w.pass_of_cpu d) (length s.views) here (r.seated d less));
         tagged = λ k. tagged_moves w w' (length s.views) (length (set (set s.views id both) other gone)) (w.log k)
             (λ t below old among. subst (λ (z : ℕ). StaysListed w w' z t) (sym long) (listed_on w (length s.views) t here below old among)) (r.tagged k);
         in_time = r.in_time;
@@ -385,9 +385,9 @@ module _ (shape : Shape) (id other : ℕ) (v u : View) (apart : other ≢ id) (n
         of_strands = of_strands_move w w' (length s.views) (length (set (set s.views id both) other gone)) w.touches
             (λ t below old among. subst (λ (z : ℕ). StaysListed w w' z t) (sym long) (listed_on w (length s.views) t here below old among)) r.of_strands;
         knows = λ j x f. ⊎_elim
-            (λ t. subst (λ (z : ℕ × View). Knows shape w' z.0 z.1) (λ i. (sym t.0 i, t.1 i)) (spent_knows s r at_other))
+            (λ t. subst (λ (z : ℕ × View). PassKnows shape w' z.0 z.1) (λ i. (sym t.0 i, t.1 i)) (spent_knows s r at_other))
             (λ g. ⊎_elim
-            (λ t. subst (λ (z : ℕ × View). Knows shape w' z.0 z.1) (λ i. (sym t.0 i, t.1 i)) (both_know s r at_id at_other))
+            (λ t. subst (λ (z : ℕ × View). PassKnows shape w' z.0 z.1) (λ i. (sym t.0 i, t.1 i)) (both_know s r at_id at_other))
             (λ t. beside s r j x t.1 t.0 g.0)
             (at_set s.views id j both x g.1))
             (at_set (set s.views id both) other j gone x f);

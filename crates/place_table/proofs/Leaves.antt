@@ -34,7 +34,7 @@ use Rattle.place_core.proofs.ElementLemmas.{by_test}
 use Rattle.place_table.specs.declared.content.Behind.{Behind}
 use Rattle.place_table.specs.declared.content.Content.{Content}
 use Rattle.place_table.specs.declared.content.Content.TheVariants as lying
-use Rattle.place_table.specs.Contents.{told, Fits}
+use Rattle.place_table.specs.Contents.{content_told, FitsLock}
 use Rattle.place_table.specs.Closing.{AreSlots, has_lock, all_locks, history_of, state_left}
 use Rattle.place_table.proofs.Worlds.{by_bool}
 use Rattle.place_table.specs.Leaving.{Logs, bodies_in, numbers_in, set_in, locals_in, freelists_in, sets_in, all_locals_in, spares_in, HasSizedBodies, IsHistory, HaveHistories, AreContents, AreKept}
@@ -202,38 +202,38 @@ passes_below k n less = grind (arith, nat_tests)
 
 -- what lies under a lock of the map
 at_lock : (shape : Shape) (log : Logs) (contents : List (Option Content)) (lock : DomainId) → is_lock shape lock ≡ true → AreContents shape log contents
-    → (here : Content) × (get_or contents (lock_number shape lock) None ≡ Some here) × (told lock here ≡ content shape lock (log (lock_number shape lock))) × Fits shape lock here
+    → (here : Content) × (get_or contents (lock_number shape lock) None ≡ Some here) × (content_told lock here ≡ content shape lock (log (lock_number shape lock))) × FitsLock shape lock here
 at_lock shape log contents lock there lies =
     let k : ℕ = lock_number shape lock in
     let same : lock_named shape k ≡ lock = named_by_number shape lock there in
     let at = lies k (number_within shape lock there) (ap (is_lock shape) same ∙ there) in
-    (at.0, at.1, subst (λ (l : DomainId). told l at.0 ≡ content shape l (log k)) same at.2, subst (λ (l : DomainId). Fits shape l at.0) same at.3)
+    (at.0, at.1, subst (λ (l : DomainId). content_told l at.0 ≡ content shape l (log k)) same at.2, subst (λ (l : DomainId). FitsLock shape l at.0) same at.3)
 
-bucket_told : (shape : Shape) (bucket : ℕ) (here : Content) → Fits shape (named.Bucket bucket) here → bodies_in (Some here) ≡ unwrap_or (bucket_in (told (named.Bucket bucket) here)) []
+bucket_told : (shape : Shape) (bucket : ℕ) (here : Content) → FitsLock shape (named.Bucket bucket) here → bodies_in (Some here) ≡ unwrap_or (bucket_in (content_told (named.Bucket bucket) here)) []
 bucket_told shape bucket (lying.Bucket chain) fits = refl
 bucket_told shape bucket (lying.Freelist freelist) fits = absurd fits
 bucket_told shape bucket (lying.Local lists) fits = absurd fits
 bucket_told shape bucket (lying.Set set) fits = absurd fits
 
-freelist_told : (shape : Shape) (cpu : ℕ) (here : Content) → Fits shape (named.Freelist cpu) here → numbers_in (Some here) ≡ unwrap_or (freelist_in (told (named.Freelist cpu) here)) []
+freelist_told : (shape : Shape) (cpu : ℕ) (here : Content) → FitsLock shape (named.Freelist cpu) here → numbers_in (Some here) ≡ unwrap_or (freelist_in (content_told (named.Freelist cpu) here)) []
 freelist_told shape cpu (lying.Bucket chain) fits = absurd fits
 freelist_told shape cpu (lying.Freelist freelist) fits = refl
 freelist_told shape cpu (lying.Local lists) fits = absurd fits
 freelist_told shape cpu (lying.Set set) fits = absurd fits
 
-own_is_told : (shape : Shape) (cpu : ℕ) (here : Content) → Fits shape (named.CpuLru cpu) here → set_in (Some here) ≡ final_set (unwrap_or (own_in (told (named.CpuLru cpu) here)) (new_set []))
+own_is_told : (shape : Shape) (cpu : ℕ) (here : Content) → FitsLock shape (named.CpuLru cpu) here → set_in (Some here) ≡ final_set (unwrap_or (own_in (content_told (named.CpuLru cpu) here)) (new_set []))
 own_is_told shape cpu (lying.Bucket chain) fits = absurd fits
 own_is_told shape cpu (lying.Freelist freelist) fits = absurd fits
 own_is_told shape cpu (lying.Local lists) fits = absurd fits
 own_is_told shape cpu (lying.Set set) fits = refl
 
-shared_is_told : (shape : Shape) (here : Content) → Fits shape named.Global here → set_in (Some here) ≡ final_set (unwrap_or (global_in (told named.Global here)) (new_set []))
+shared_is_told : (shape : Shape) (here : Content) → FitsLock shape named.Global here → set_in (Some here) ≡ final_set (unwrap_or (global_in (content_told named.Global here)) (new_set []))
 shared_is_told shape (lying.Bucket chain) fits = absurd fits
 shared_is_told shape (lying.Freelist freelist) fits = absurd fits
 shared_is_told shape (lying.Local lists) fits = absurd fits
 shared_is_told shape (lying.Set set) fits = refl
 
-local_is_told : (shape : Shape) (cpu : ℕ) (here : Content) → Fits shape (named.Local cpu) here → locals_in (Some here) ≡ final_local (unwrap_or (histories.locals_in (told (named.Local cpu) here)) (new_locals cpu))
+local_is_told : (shape : Shape) (cpu : ℕ) (here : Content) → FitsLock shape (named.Local cpu) here → locals_in (Some here) ≡ final_local (unwrap_or (histories.locals_in (content_told (named.Local cpu) here)) (new_locals cpu))
 local_is_told shape cpu (lying.Bucket chain) fits = absurd fits
 local_is_told shape cpu (lying.Freelist freelist) fits = absurd fits
 local_is_told shape cpu (lying.Local lists) fits = refl
@@ -382,7 +382,7 @@ module _ (shape : Shape) (log : Logs) (bit : ℕ → Bool) (spares : List (Optio
       let all_locals = locals_told finals.locals locals in
       λ i. record { buckets = all_buckets i; freelists = all_freelists i; spares = spares_are i; sets = all_sets i; locals = all_locals i; marked = marked i }
 
-bucket_sized : (shape : Shape) (bucket : ℕ) (here : Content) → Fits shape (named.Bucket bucket) here → HasSizedBodies shape (Some here)
+bucket_sized : (shape : Shape) (bucket : ℕ) (here : Content) → FitsLock shape (named.Bucket bucket) here → HasSizedBodies shape (Some here)
 bucket_sized shape bucket (lying.Bucket chain) fits = fits
 bucket_sized shape bucket (lying.Freelist freelist) fits = absurd fits
 bucket_sized shape bucket (lying.Local lists) fits = absurd fits

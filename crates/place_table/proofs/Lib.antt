@@ -12,7 +12,7 @@ pub mod FirstSpares
 pub mod FirstWords
 pub mod Flags
 pub mod FlushedLast
-pub mod Gives
+pub mod TakeToGive
 pub mod Going
 pub mod Hands
 pub mod HashSteps

@@ -43,14 +43,14 @@ use Rattle.place_table.specs.declared.content.Content.TheVariants as contents
 use Rattle.place_table.specs.declared.view.View.{View}
 use Rattle.place_table.specs.declared.view.Hold.{Hold}
 use Rattle.place_table.specs.declared.view.Notes.{Notes}
-use Rattle.place_table.specs.Contents.{told, lists_of, Fits}
+use Rattle.place_table.specs.Contents.{content_told, lists_of, FitsLock}
 use Rattle.place_table.specs.Laws.{StepsAs, goes_if, goes_by}
 use Rattle.place_table.specs.declared.view.Turned.{Turned}
 use Rattle.place_table.specs.Views as views
 use Rattle.place_table.specs.Views.{is_among, hold_at, known_log, holding, has_all, is_in_hand_of, home_then, passed_on, notes_below}
-use Rattle.place_table.specs.Rules.{World, Rule, Knows, givers, strands_of, AtHome, Reads, Tagged, entries, hold, hold_of, IsAboveAll, Ascends, turns_on, turns_of, indexes, logs_of, AreTagged, IsFresh, HashesRight, AreOfStrands, StillHome, HasRow, IsBrought, IsHashed, HasCome, is_hand_of, LeadTo, AreNoted}
+use Rattle.place_table.specs.Rules.{World, Rule, PassKnows, givers, strands_of, AtHome, IsSlotAfter, Tagged, entries, hold, hold_of, IsAboveAll, Ascends, turns_on, turns_of, indexes, logs_of, AreTagged, IsFresh, HashesRight, AreOfStrands, StillHome, HasRow, IsBrought, IsHashed, HasCome, is_hand_of, LeadTo, AreNoted}
 use Rattle.place_table.specs.Words.{lock_code, owner_word, home_word, bit_word, opening_words}
-use Rattle.place_table.specs.Plays.{Seated, Tries, AreElements, IsApartFromHands, MayPut, MayGive, IsRecorded, IsKeptOrLost, Gives, GivesSome, entry_by}
+use Rattle.place_table.specs.Plays.{Seated, Tries, AreElements, IsApartFromHands, MayPut, MayGive, IsRecorded, IsKeptOrLost, GivesBack, GivesSome, entry_by}
 use Rattle.place_table.specs.TurnNotes.{NotesFit}
 use Rattle.place_table.specs.StoredHashes.{stored_in}
 use Rattle.place_table.proofs.StoredHashes.{renewed, hashes_gave, hash_stays, hashed_gave, IsGiven, IsOlder, given_known, given_kept, given_new, in_all, lies_on, lies_on_one}
@@ -106,7 +106,7 @@ same_rule shape s r words views e f = record {
   hashes = r.hashes;
   legal = r.legal;
   homes = r.homes;
-  seated = λ c less. subst (λ (l : List View). r.world.whose c < length l) (sym f) (r.seated c less);
+  seated = λ c less. subst (λ (l : List View). r.world.pass_of_cpu c < length l) (sym f) (r.seated c less);
   tagged = λ k. subst (λ (l : List View). AreTagged r.world (length l) (r.world.log k)) (sym f) (r.tagged k);
   lead = λ i below. subst (λ (l : List ℕ). LeadTo i (get_or (opening_words shape) i 0) r.world.touches (get_or l i 0)) (sym e) (r.lead i below);
   in_time = r.in_time;
@@ -117,7 +117,7 @@ same_rule shape s r words views e f = record {
 
 -- what lies under a lock that nobody holds
 pub free_home : (shape : Shape) (k : ℕ) (holder : Option ℕ) (log : List Entry) (lists : Lists) (lost : Bool) (x : maybe.Option (maybe.Option Behind)) → holder ≡ None → AtHome shape k holder log lists lost x
-    → ((b : Behind) × (x ≡ some (some b)) × Reads shape k log lost b) × (lists ≡ lists_of (content shape (lock_named shape k) log))
+    → ((b : Behind) × (x ≡ some (some b)) × IsSlotAfter shape k log lost b) × (lists ≡ lists_of (content shape (lock_named shape k) log))
 free_home shape k holder log lists lost x e p = subst (λ (z : Option ℕ). AtHome shape k z log lists lost x) e p
 
 code_of_none : (holder : Option ℕ) → lock_code holder ≡ 0 → holder ≡ None
@@ -180,15 +180,15 @@ module _ (shape : Shape) (slots pass : ℕ) (me : Seated) (lock : DomainId) (c :
         is_lock = is;
         nobody = free;
         above = λ j holds. above_each shape (rank_of lock) me.0.held j (hold j c (r.world.log j) (r.world.core.lists j) (r.world.lost j)) above
-            (kn.held j ∙ (ap (λ (z : Option ℕ). hold_of pass r.world.whose j z (r.world.log j) (r.world.core.lists j) (r.world.lost j)) holds
-            ∙ hold_of_mine r.world.whose pass j c (r.world.log j) (r.world.core.lists j) (r.world.lost j) mine));
+            (kn.held j ∙ (ap (λ (z : Option ℕ). hold_of pass r.world.pass_of_cpu j z (r.world.log j) (r.world.core.lists j) (r.world.lost j)) holds
+            ∙ hold_of_mine r.world.pass_of_cpu pass j c (r.world.log j) (r.world.core.lists j) (r.world.lost j) mine));
       }
 
   took_step : World → WordStep
   took_step w = record { at = made w; word = lock_number shape lock; seen = Some 0; left = 1 + c }
 
   took_world : World → World
-  took_world w = record { core = taken shape w.core c lock; log = w.log; lost = w.lost; whose = w.whose; keeper = w.keeper; team = w.team; current = w.current; past = w.past; next = w.next; hash = w.hash; touches = touches_with w pass (took_step w) }
+  took_world w = record { core = taken shape w.core c lock; log = w.log; lost = w.lost; pass_of_cpu = w.pass_of_cpu; pass_of_strand = w.pass_of_strand; cpus_of_strand = w.cpus_of_strand; current = w.current; past = w.past; next = w.next; hash = w.hash; touches = touches_with w pass (took_step w) }
 
   took_hold : World → Hold
   took_hold w = hold (lock_number shape lock) c (w.log (lock_number shape lock)) (w.core.lists (lock_number shape lock)) (w.lost (lock_number shape lock))
@@ -207,7 +207,7 @@ module _ (shape : Shape) (slots pass : ℕ) (me : Seated) (lock : DomainId) (c :
       let x : WordStep = took_step w in
       let can = can_take s r at_pass free in
       let bounds = bounds_of_shape shape r.is_shape in
-      let same : SameStrands w w' = record { keeper = λ _. refl; team = λ _. refl; next = refl; current = λ _. refl; past = λ _. refl; whose = λ _. refl; still = λ _ z. z } in (
+      let same : SameStrands w w' = record { pass_of_strand = λ _. refl; cpus_of_strand = λ _. refl; next = refl; current = λ _. refl; past = λ _. refl; pass_of_cpu = λ _. refl; still = λ _ z. z } in (
         record {
           world = w';
           is_shape = r.is_shape;
@@ -236,19 +236,19 @@ module _ (shape : Shape) (slots pass : ℕ) (me : Seated) (lock : DomainId) (c :
           homes = λ m below there_is. at_put w.core.holder k (Some c) (λ i x. i < lock_count shape → IsTrue (is_lock shape (lock_named shape i)) → AtHome shape i x (entries (w.log i)) (w.core.lists i) (w.lost i) (get_elem? (set s.homes k none) i)) m
               (λ _ _. set_here s.homes k none (omega (arith, r.slots, real)))
               (λ ne below there_is. subst (λ z. AtHome shape m (w.core.holder m) (entries (w.log m)) (w.core.lists m) (w.lost m) z) (sym (set_else s.homes k m none ne)) (r.homes m below there_is)) below there_is;
-          seated = λ x less. subst (λ (z : ℕ). w.whose x < z) (sym (length-set s.views pass nv)) (r.seated x less);
+          seated = λ x less. subst (λ (z : ℕ). w.pass_of_cpu x < z) (sym (length-set s.views pass nv)) (r.seated x less);
           tagged = λ m. tagged_stays w w' (length s.views) (length (set s.views pass nv)) (w.log m) (sym (length-set s.views pass nv)) same (r.tagged m);
           in_time = time_more w.touches (w.current pass, x) r.in_time refl;
           gave_back = λ m below. givers_other m w.touches (w.current pass, x) (λ _ zero_left. absurd (omega (arith, zero_left))) ∙ r.gave_back m below;
           lead = lead_with shape s r (w.current pass) x (omega (arith, r.words, real)) (sym (r.lock_words k real ∙ ap lock_code free));
           of_strands = of_strands_with shape w pass v kn x w' (length s.views) (length (set s.views pass nv)) (there s.views pass v at_pass) (sym (length-set s.views pass nv)) same r.of_strands;
           knows = λ j u f. ⊎_elim
-              (λ t. subst (λ (z : ℕ × View). Knows shape w' z.0 z.1) (λ i. (sym t.0 i, t.1 i)) record {
+              (λ t. subst (λ (z : ℕ × View). PassKnows shape w' z.0 z.1) (λ i. (sym t.0 i, t.1 i)) record {
                 shape_is = kn.shape_is;
                 cpus = kn.cpus;
                 within = kn.within;
-                held = λ m. at_put w.core.holder k (Some c) (λ i x. hold_at i (h ∷ v.held) ≡ hold_of pass w.whose i x (w.log i) (w.core.lists i) (w.lost i)) m
-                    (hold_at_first h v.held ∙ sym (hold_of_mine w.whose pass k c (w.log k) (w.core.lists k) (w.lost k) mine))
+                held = λ m. at_put w.core.holder k (Some c) (λ i x. hold_at i (h ∷ v.held) ≡ hold_of pass w.pass_of_cpu i x (w.log i) (w.core.lists i) (w.lost i)) m
+                    (hold_at_first h v.held ∙ sym (hold_of_mine w.pass_of_cpu pass k c (w.log k) (w.core.lists k) (w.lost k) mine))
                     (λ ne. hold_at_other m h v.held ne ∙ kn.held m);
                 ascends = (subst (λ (d : DomainId). IsAboveAll shape (rank_of d) v.held) (sym (named_by_number shape lock is)) above, kn.ascends);
                 hands = kn.hands;
@@ -280,8 +280,8 @@ module _ (shape : Shape) (slots pass : ℕ) (me : Seated) (lock : DomainId) (c :
                 idle = λ empty. true_false (sym cpu ∙ ap (is_among c) empty);
               })
               (λ t. let ku = r.knows j u t.1 in others shape w w' j u same ku
-              (λ m. at_put w.core.holder k (Some c) (λ i x. hold_of j w.whose i x (w.log i) (w.core.lists i) (w.lost i) ≡ hold_of j w.whose i (w.core.holder i) (w.log i) (w.core.lists i) (w.lost i)) m
-              (hold_of_other w.whose pass j k (Some c) (w.log k) (w.core.lists k) (w.lost k) mine t.0 ∙ ap (λ (z : Option ℕ). hold_of j w.whose k z (w.log k) (w.core.lists k) (w.lost k)) (sym free))
+              (λ m. at_put w.core.holder k (Some c) (λ i x. hold_of j w.pass_of_cpu i x (w.log i) (w.core.lists i) (w.lost i) ≡ hold_of j w.pass_of_cpu i (w.core.holder i) (w.log i) (w.core.lists i) (w.lost i)) m
+              (hold_of_other w.pass_of_cpu pass j k (Some c) (w.log k) (w.core.lists k) (w.lost k) mine t.0 ∙ ap (λ (z : Option ℕ). hold_of j w.pass_of_cpu k z (w.log k) (w.core.lists k) (w.lost k)) (sym free))
               (λ _. refl))
               (λ _ _ _. refl)
               (λ _ _ _. refl)
@@ -324,7 +324,7 @@ module _ (shape : Shape) (slots pass : ℕ) (me : Seated) (lock : DomainId) (c :
             cpu_is = omega arith;
             at = made w;
             after_is = refl;
-            reads = subst (λ z. Reads z k (entries (w.log k)) (w.lost k) home.0.0) (sym kn.shape_is) home.0.2;
+            reads = subst (λ z. IsSlotAfter z k (entries (w.log k)) (w.lost k) home.0.0) (sym kn.shape_is) home.0.2;
             now = home.1 ∙ ap (λ z. lists_of (content z (lock_named z k) (entries (w.log k)))) (sym kn.shape_is);
             elements = subst (λ z. AreElements z (w.core.lists k)) (sym kn.shape_is) (elements_there shape s r k);
             apart = subst (λ z. IsApartFromHands me.0 (lock_named z k) (w.core.lists k)) (sym kn.shape_is) (apart_there shape s r pass me.0 at_pass k);
@@ -344,7 +344,7 @@ module _ (shape : Shape) (slots pass : ℕ) (me : Seated) (lock : DomainId) (c :
                 subst (λ (z : Shape). flushed_last z (lock_named z k) x (entries (w.log k)) ≡ true) (sym kn.shape_is)
                 (flushed_off shape w.core.holder w.core.lists w.core.owner w.core.home r.placed.place r.placed.placed w.log k x f was.real (ap is_free owner_is) (ap (λ (z : Shape). lock_named z k) (sym kn.shape_is) ∙ named) free none was.still);
             alone = λ lru no_bucket j x other found nor_other inside.
-                let at = hold_of_is w.whose pass j (w.core.holder j) (w.log j) (w.core.lists j) (w.lost j) other (sym (kn.held j) ∙ found) in
+                let at = hold_of_is w.pass_of_cpu pass j (w.core.holder j) (w.log j) (w.core.lists j) (w.lost j) other (sym (kn.held j) ∙ found) in
                 ap (λ (z : Hold). times x (all_of z.now)) at.hold_is
                 ∙ lies_on_one shape w.core.lists w.core.owner w.core.home r.placed.place r.placed.placed k j x (λ same. none_some (sym free ∙ (ap w.core.holder (sym same) ∙ at.holder_is)))
                 (subst (λ (z : Shape). IsFalse (is_bucket (lock_named z k))) kn.shape_is no_bucket) (subst (λ (z : Shape). IsFalse (is_bucket (lock_named z j))) kn.shape_is nor_other) inside;
@@ -376,7 +376,7 @@ tries_at shape slots pass me k c code cpu is above code_is =
 -- Lists as given back
 
 -- what lies under a lock of one kind has only the lists of that kind, and its cursor in its place
-fits_lists : (shape : Shape) (lock : DomainId) (here : Content) → Fits shape lock here → HasOnlyItsLists lock (lists_of (told lock here))
+fits_lists : (shape : Shape) (lock : DomainId) (here : Content) → FitsLock shape lock here → HasOnlyItsLists lock (lists_of (content_told lock here))
 fits_lists shape (Bucket b) (contents.Bucket chain) fits = (refl, refl)
 fits_lists shape (Bucket b) (contents.Freelist freelist) fits = absurd fits
 fits_lists shape (Bucket b) (contents.Local lists) fits = absurd fits
@@ -398,7 +398,7 @@ fits_lists shape (CpuLru c) (contents.Freelist freelist) fits = absurd fits
 fits_lists shape (CpuLru c) (contents.Local lists) fits = absurd fits
 fits_lists shape (CpuLru c) (contents.Set set) fits = tt
 
-fits_cursor : (shape : Shape) (lock : DomainId) (here : Content) → Fits shape lock here → HasCursorInside (lists_of (told lock here))
+fits_cursor : (shape : Shape) (lock : DomainId) (here : Content) → FitsLock shape lock here → HasCursorInside (lists_of (content_told lock here))
 fits_cursor shape lock (contents.Bucket chain) fits = tt
 fits_cursor shape lock (contents.Freelist freelist) fits = tt
 fits_cursor shape lock (contents.Local lists) fits = tt
@@ -432,7 +432,7 @@ module _ (shape : Shape) (slots pass : ℕ) (v : View) (b : Behind) (cs : List (
     (e : Entry) (kept : List StrandStep) (may : MayGive shape v h e kept b) where
   -- what is put back, as histories tell it
   abbrev back : histories.Content
-  back = told (lock_named shape (lock_number shape lock)) may.here
+  back = content_told (lock_named shape (lock_number shape lock)) may.here
 
   gave_step : World → WordStep
   gave_step w = record { at = made w; word = h.lock; seen = None; left = 0 }
@@ -442,9 +442,9 @@ module _ (shape : Shape) (slots pass : ℕ) (v : View) (b : Behind) (cs : List (
     core = given shape w.core lock (lists_of back);
     log = put w.log (lock_number shape lock) (w.log (lock_number shape lock) ++ (w.current pass, e) ∷ []);
     lost = put w.lost (lock_number shape lock) (lost_of b.history);
-    whose = w.whose;
-    keeper = w.keeper;
-    team = w.team;
+    pass_of_cpu = w.pass_of_cpu;
+    pass_of_strand = w.pass_of_strand;
+    cpus_of_strand = w.cpus_of_strand;
     current = w.current;
     past = w.past;
     next = w.next;
@@ -453,17 +453,17 @@ module _ (shape : Shape) (slots pass : ℕ) (v : View) (b : Behind) (cs : List (
   }
 
   -- the hold, as the world has it
-  found_hold : (w : World) → Knows shape w pass v → HoldIs w.whose pass (lock_number shape lock) (w.core.holder (lock_number shape lock)) (w.log (lock_number shape lock)) (w.core.lists (lock_number shape lock)) (w.lost (lock_number shape lock)) h
+  found_hold : (w : World) → PassKnows shape w pass v → HoldIs w.pass_of_cpu pass (lock_number shape lock) (w.core.holder (lock_number shape lock)) (w.log (lock_number shape lock)) (w.core.lists (lock_number shape lock)) (w.lost (lock_number shape lock)) h
   found_hold w kn =
       let k : ℕ = lock_number shape lock in
-      hold_of_is w.whose pass k (w.core.holder k) (w.log k) (w.core.lists k) (w.lost k) h
+      hold_of_is w.pass_of_cpu pass k (w.core.holder k) (w.log k) (w.core.lists k) (w.lost k) h
       (sym (kn.held k) ∙ (ap (hold_at k) is_held ∙ subst (λ (z : ℕ). hold_at z (h ∷ below) ≡ Some h) at_lock (hold_at_first h below)))
 
   -- what is put back, told of the world
-  put_back_there : (w : World) (kn : Knows shape w pass v) → MayPut shape v (hold (lock_number shape lock) h.cpu (w.log (lock_number shape lock)) (w.core.lists (lock_number shape lock)) (w.lost (lock_number shape lock))) e may.here
+  put_back_there : (w : World) (kn : PassKnows shape w pass v) → MayPut shape v (hold (lock_number shape lock) h.cpu (w.log (lock_number shape lock)) (w.core.lists (lock_number shape lock)) (w.lost (lock_number shape lock))) e may.here
   put_back_there w kn = subst (λ (z : Hold). MayPut shape v z e may.here) (found_hold w kn).hold_is may.may_put
 
-  recorded_there : (w : World) (kn : Knows shape w pass v) → IsRecorded shape v (hold (lock_number shape lock) h.cpu (w.log (lock_number shape lock)) (w.core.lists (lock_number shape lock)) (w.lost (lock_number shape lock))) e kept b
+  recorded_there : (w : World) (kn : PassKnows shape w pass v) → IsRecorded shape v (hold (lock_number shape lock) h.cpu (w.log (lock_number shape lock)) (w.core.lists (lock_number shape lock)) (w.lost (lock_number shape lock))) e kept b
   recorded_there w kn = subst (λ (z : Hold). IsRecorded shape v z e kept b) (found_hold w kn).hold_is may.records
 
   can_give : (s : State Behind View) (r : Rule shape s) → get_elem? s.views pass ≡ some v → CanGive shape r.world.core h.cpu lock (lists_of back)
@@ -528,7 +528,7 @@ module _ (shape : Shape) (slots pass : ℕ) (v : View) (b : Behind) (cs : List (
       let w = r.world in let kn = r.knows pass v at_pass in
       let came : List ℕ = views.came_last v.notes in
       let here : histories.Content = content_after v.shape e.cpu e.part (content v.shape (lock_named v.shape h.lock) h.log) in
-      let same : here ≡ back = ap (λ z. content_after z e.cpu e.part (content z (lock_named z h.lock) h.log)) kn.shape_is ∙ (sym may.may_put.told_is ∙ ap (λ (z : ℕ). told (lock_named shape z) may.here) at_lock) in
+      let same : here ≡ back = ap (λ z. content_after z e.cpu e.part (content z (lock_named z h.lock) h.log)) kn.shape_is ∙ (sym may.may_put.told_is ∙ ap (λ (z : ℕ). content_told (lock_named shape z) may.here) at_lock) in
       by_bool (is_lru shape.kind) (λ t. is_lru shape.kind ≡ t → views.hash_known x c (cond t (views.hashes_given h.cpu v.shape.buckets here came v.hand v.hashes) v.hashes) ≡ Some noted → (is_in_hand_of x c v.hand ≡ true) × (bucket_number (renewed t (stored_in back x) (w.hash x)) shape.buckets ≡ noted.bucket))
       (λ lru _ f. ⊎_elim
       (λ (given : IsGiven here v.shape.buckets x c noted v.hand). (
@@ -551,7 +551,7 @@ module _ (shape : Shape) (slots pass : ℕ) (v : View) (b : Behind) (cs : List (
   gave_rule : (s : State Behind View) (r : Rule shape s) → get_elem? s.views pass ≡ some v
       → (known_lost : List ℕ) → ((m : ℕ) → is_among m known_lost ≡ true → (is_among m v.lost ≡ true) ⊎ ((m ≡ lock_number shape lock) × (lost_of b.history ≡ true)))
       → (after : Rule shape record { words = set s.words (lock_number shape lock) 0; homes = set s.homes (lock_number shape lock) (some b); views = set s.views pass (views.with_lost known_lost (views.given (made r.world) h e kept v)) })
-      × goes_by shape (Give h.cpu lock (lists_of (told lock may.here))) 0 r.world.core after.world.core
+      × goes_by shape (Give h.cpu lock (lists_of (content_told lock may.here))) 0 r.world.core after.world.core
   unfolding gave_step gave_world fresh
   gave_rule s r at_pass known_lost is_lost =
       let k : ℕ = lock_number shape lock in
@@ -574,8 +574,8 @@ module _ (shape : Shape) (slots pass : ℕ) (v : View) (b : Behind) (cs : List (
       let last : WordStep = gave_step w in
       let new_turn : Turned = views.turned h.lock h.log e in
       let grown : (m : ℕ) → Grows (entries (w.log m)) (entries (put w.log k l' m)) = λ m. at_put w.log k l' (λ i l. Grows (entries (w.log i)) (entries l)) m (e ∷ [], es_is) (λ _. ([], sym (append_nil _))) in
-      let same : SameStrands w w' = record { keeper = λ _. refl; team = λ _. refl; next = refl; current = λ _. refl; past = λ _. refl; whose = λ _. refl; still = λ steps z. stand_more (logs_of w) (logs_of w') steps grown z } in
-      let mine_lock : IsMineOrFree w.whose pass (w.core.holder k) = subst (IsMineOrFree w.whose pass) (sym at.holder_is) at.mine in
+      let same : SameStrands w w' = record { pass_of_strand = λ _. refl; cpus_of_strand = λ _. refl; next = refl; current = λ _. refl; past = λ _. refl; pass_of_cpu = λ _. refl; still = λ steps z. stand_more (logs_of w) (logs_of w') steps grown z } in
+      let mine_lock : IsMineOrFree w.pass_of_cpu pass (w.core.holder k) = subst (IsMineOrFree w.pass_of_cpu pass) (sym at.holder_is) at.mine in
       let losses : (m : ℕ) → put w.lost k lo' m ≡ false → w.lost m ≡ false = λ m. at_put w.lost k lo' (λ i lo. lo ≡ false → w.lost i ≡ false) m
       (λ lo. either_record b.history _ _ _ rec (λ lost _. true_false (sym lost ∙ lo)) (λ x _ p. p.0)) (λ _ lo. lo) in
       let on_here : turns_on k (v.steps ++ new_turn ∷ []) ≡ turns_on k v.steps ++ (length h.log, e) ∷ [] = turns_on_same k h.log e v.steps new_turn (ap (λ (z : ℕ). views.turned z h.log e) at_lock) in
@@ -586,10 +586,10 @@ module _ (shape : Shape) (slots pass : ℕ) (v : View) (b : Behind) (cs : List (
       let ranks : Ascends shape (h ∷ below) = subst (Ascends shape) is_held kn.ascends in
       let none_there : hold_at k below ≡ None = none_below shape k below (subst (λ (z : ℕ). IsAboveAll shape (rank_of (lock_named shape z)) below) at_lock ranks.0) in
       let innermost : (m : ℕ) → m ≢ k → w.core.holder m ≡ Some h.cpu → rank_of (lock_named shape m) < rank_of (lock_named shape k) = λ m ne holds.
-      let there_is : hold_at m below ≡ Some (hold m h.cpu (w.log m) (w.core.lists m) (w.lost m)) = sym (hold_at_other m h below (λ y. ne (y ∙ at_lock))) ∙ (sym (ap (hold_at m) is_held) ∙ (kn.held m ∙ (ap (λ (z : Option ℕ). hold_of pass w.whose m z (w.log m) (w.core.lists m) (w.lost m)) holds ∙ hold_of_mine w.whose pass m h.cpu (w.log m) (w.core.lists m) (w.lost m) at.mine))) in
+      let there_is : hold_at m below ≡ Some (hold m h.cpu (w.log m) (w.core.lists m) (w.lost m)) = sym (hold_at_other m h below (λ y. ne (y ∙ at_lock))) ∙ (sym (ap (hold_at m) is_held) ∙ (kn.held m ∙ (ap (λ (z : Option ℕ). hold_of pass w.pass_of_cpu m z (w.log m) (w.core.lists m) (w.lost m)) holds ∙ hold_of_mine w.pass_of_cpu pass m h.cpu (w.log m) (w.core.lists m) (w.lost m) at.mine))) in
       above_each shape (rank_of (lock_named shape k)) below m (hold m h.cpu (w.log m) (w.core.lists m) (w.lost m)) (subst (λ (z : ℕ). IsAboveAll shape (rank_of (lock_named shape z)) below) at_lock ranks.0) there_is in
       let rows_stay : IsTrue (is_lru shape.kind) → (j x n m : ℕ) → fresh x ≡ false → w.core.holder j ≡ Some h.cpu → stored_in (content shape (lock_named shape j) (entries (w.log j))) x ≡ Some n → stored_in back x ≡ Some m → n ≡ m = λ lru j x n m other holds.
-      m0.rows_kept lru j x n m (hold j h.cpu (w.log j) (w.core.lists j) (w.lost j)) (kn.held j ∙ (ap (λ (z : Option ℕ). hold_of pass w.whose j z (w.log j) (w.core.lists j) (w.lost j)) holds ∙ hold_of_mine w.whose pass j h.cpu (w.log j) (w.core.lists j) (w.lost j) at.mine)) other in
+      m0.rows_kept lru j x n m (hold j h.cpu (w.log j) (w.core.lists j) (w.lost j)) (kn.held j ∙ (ap (λ (z : Option ℕ). hold_of pass w.pass_of_cpu j z (w.log j) (w.core.lists j) (w.lost j)) holds ∙ hold_of_mine w.pass_of_cpu pass j h.cpu (w.log j) (w.core.lists j) (w.lost j) at.mine)) other in
       let gone_there : IsTrue (is_lru shape.kind) → (c x n : ℕ) → lock_named shape k ≡ Local c → stored_in (content shape (lock_named shape k) es) x ≡ Some n → times x (all_of (w.core.lists k)) ≡ 0 → (w.core.home x ≡ homes.Hand h.cpu) ⊎ (flushes x e.part ≡ true) = λ lru c x n named was none. ⊎_elim
       (λ (off : is_in_hand_of x h.cpu v.carried ≡ true). inl (home_is_hand h.cpu (w.core.home x) (both_true _ _ (sym (kn.carried x h.cpu (r.ranked.within h.cpu k at.holder_is)) ∙ off)).0))
       (λ (by_it : flushes x e.part ≡ true). inr by_it)
@@ -634,14 +634,14 @@ module _ (shape : Shape) (slots pass : ℕ) (v : View) (b : Behind) (cs : List (
                 sym (ap lists_of content_is),
               ))
               (λ ne within there_is. subst (λ z. AtHome shape m (w.core.holder m) (entries (w.log m)) (w.core.lists m) (w.lost m) z) (sym (set_else s.homes k m (some b) ne)) (r.homes m within there_is)) within there_is;
-          seated = λ x less. subst (λ (z : ℕ). w.whose x < z) (sym (length-set s.views pass nv)) (r.seated x less);
+          seated = λ x less. subst (λ (z : ℕ). w.pass_of_cpu x < z) (sym (length-set s.views pass nv)) (r.seated x less);
           tagged = λ m. tagged_stays w w' (length s.views) (length (set s.views pass nv)) (put w.log k l' m) (sym (length-set s.views pass nv)) same
               (at_put w.log k l' (λ i l. AreTagged w (length s.views) l) m
               (tagged_more w (length s.views) (w.log k) (w.current pass, e) (r.tagged k) record {
-                seated = subst (λ (z : ℕ). z < length s.views) (sym kn.strand.keeper) (there s.views pass v at_pass);
+                seated = subst (λ (z : ℕ). z < length s.views) (sym kn.strand.pass_of_strand) (there s.views pass v at_pass);
                 numbered = kn.strand.numbered;
-                has_cpu = ap (is_among e.cpu) kn.strand.team ∙ m0.cpu;
-                listed = subst (λ (z : ℕ). is_among (w.current pass) (w.current z ∷ w.past z) ≡ true) (sym kn.strand.keeper) (among_first (w.current pass) (w.past pass));
+                has_cpu = ap (is_among e.cpu) kn.strand.cpus_of_strand ∙ m0.cpu;
+                listed = subst (λ (z : ℕ). is_among (w.current pass) (w.current z ∷ w.past z) ≡ true) (sym kn.strand.pass_of_strand) (among_first (w.current pass) (w.past pass));
               })
               (λ _. r.tagged m));
           in_time = time_more w.touches (w.current pass, last) r.in_time refl;
@@ -652,11 +652,11 @@ module _ (shape : Shape) (slots pass : ℕ) (v : View) (b : Behind) (cs : List (
               (lead_with shape s r (w.current pass) record { at = made w; word = k; seen = None; left = 0 } (omega (arith, r.words, real)) tt m within);
           of_strands = of_strands_with shape w pass v kn last w' (length s.views) (length (set s.views pass nv)) (there s.views pass v at_pass) (sym (length-set s.views pass nv)) same r.of_strands;
           knows = λ j u f. ⊎_elim
-              (λ t. subst (λ (z : ℕ × View). Knows shape w' z.0 z.1) (λ i. (sym t.0 i, t.1 i)) record {
+              (λ t. subst (λ (z : ℕ × View). PassKnows shape w' z.0 z.1) (λ i. (sym t.0 i, t.1 i)) record {
                 shape_is = kn.shape_is;
                 cpus = kn.cpus;
                 within = kn.within;
-                held = λ m. ap (hold_at m) (ap views.holds_below is_held) ∙ at_put4 w.core.holder w.log w.core.lists w.lost k None l' n' lo' (λ i ho l n lo. hold_at i below ≡ hold_of pass w.whose i ho l n lo) m
+                held = λ m. ap (hold_at m) (ap views.holds_below is_held) ∙ at_put4 w.core.holder w.log w.core.lists w.lost k None l' n' lo' (λ i ho l n lo. hold_at i below ≡ hold_of pass w.pass_of_cpu i ho l n lo) m
                     none_there
                     (λ ne. sym (ap (hold_at m) is_held ∙ hold_at_other m h below (λ y. ne (y ∙ at_lock))) ∙ kn.held m);
                 ascends = subst (Ascends shape) (sym (ap views.holds_below is_held)) ranks.1;
@@ -667,7 +667,7 @@ module _ (shape : Shape) (slots pass : ℕ) (v : View) (b : Behind) (cs : List (
                     let m : ℕ = lock_number shape at in
                     let owner_is : w.core.owner x ≡ owners.Hand d = hand_is d (w.core.owner x) (both_true _ _ (sym (kn.hands x d within) ∙ in_hand)).0 in
                     let here : histories.Content = content_after v.shape e.cpu e.part (content v.shape (lock_named v.shape h.lock) h.log) in
-                    let here_is : here ≡ back = ap (λ z. content_after z e.cpu e.part (content z (lock_named z h.lock) h.log)) kn.shape_is ∙ (sym may.may_put.told_is ∙ ap (λ (z : ℕ). told (lock_named shape z) may.here) at_lock) in
+                    let here_is : here ≡ back = ap (λ z. content_after z e.cpu e.part (content z (lock_named z h.lock) h.log)) kn.shape_is ∙ (sym may.may_put.told_is ∙ ap (λ (z : ℕ). content_told (lock_named shape z) may.here) at_lock) in
                     let came : List ℕ = views.came_last v.notes in
                     let hashes' : List HashIn = views.hashes_given h.cpu v.shape.buckets here came v.hand v.hashes in
                     let came' : List ℕ = views.came_at m (views.holds_below v.held) (passed_on e.part (notes_below v.notes)) in
@@ -703,9 +703,9 @@ module _ (shape : Shape) (slots pass : ℕ) (v : View) (b : Behind) (cs : List (
                 noted = subst (λ (l : List Hold). AreNoted shape (v.touched ++ last ∷ []) l (passed_on e.part (notes_below v.notes))) (sym (ap views.holds_below is_held))
                     (noted_gave shape v v.touched last h below v.notes e.part refl ranks.0 (subst (λ (l : List Hold). AreNoted shape v.touched l v.notes) is_held kn.noted) may.noted);
                 strand = record {
-                  keeper = kn.strand.keeper;
+                  pass_of_strand = kn.strand.pass_of_strand;
                   numbered = kn.strand.numbered;
-                  team = kn.strand.team;
+                  cpus_of_strand = kn.strand.cpus_of_strand;
                   steps_are = λ m. at_put w.log k l' (λ i l. turns_on i (v.steps ++ new_turn ∷ []) ≡ turns_of (w.current pass) 0 l) m
                       (on_here ∙ (ap (λ z. z ++ (length h.log, e) ∷ []) (kn.strand.steps_are k)
                       ∙ (ap (λ (n : ℕ). turns_of (w.current pass) 0 (w.log k) ++ (n, e) ∷ []) counted ∙ sym (turns_of_same (w.current pass) 0 (w.log k) e))))
@@ -730,19 +730,19 @@ module _ (shape : Shape) (slots pass : ℕ) (v : View) (b : Behind) (cs : List (
               })
               (λ t. let ku = r.knows j u t.1 in let no_more = knows_none shape w pass j u h.cpu ku (r.ranked.within h.cpu k at.holder_is) at.mine t.0 in
               others shape w w' j u same ku
-              (λ m. at_put4 w.core.holder w.log w.core.lists w.lost k None l' n' lo' (λ i ho l n lo. hold_of j w.whose i ho l n lo ≡ hold_of j w.whose i (w.core.holder i) (w.log i) (w.core.lists i) (w.lost i)) m
-              (sym (hold_of_other w.whose pass j k (w.core.holder k) (w.log k) (w.core.lists k) (w.lost k) mine_lock t.0))
+              (λ m. at_put4 w.core.holder w.log w.core.lists w.lost k None l' n' lo' (λ i ho l n lo. hold_of j w.pass_of_cpu i ho l n lo ≡ hold_of j w.pass_of_cpu i (w.core.holder i) (w.log i) (w.core.lists i) (w.lost i)) m
+              (sym (hold_of_other w.pass_of_cpu pass j k (w.core.holder k) (w.log k) (w.core.lists k) (w.lost k) mine_lock t.0))
               (λ _. refl))
               (λ _ _ _. refl)
               (λ _ _ _. refl)
               (λ tag m own. at_put w.log k l' (λ i l. turns_of tag 0 l ≡ turns_of tag 0 (w.log i)) m
-              (turns_of_other tag (w.current pass) 0 (w.log k) e (λ is_same. t.0 (sym own ∙ (ap w.keeper (sym is_same) ∙ kn.strand.keeper)))) (λ _. refl))
+              (turns_of_other tag (w.current pass) 0 (w.log k) e (λ is_same. t.0 (sym own ∙ (ap w.pass_of_strand (sym is_same) ∙ kn.strand.pass_of_strand)))) (λ _. refl))
               losses
               (λ m log f. absurd (none_some (sym (ap (known_log m) no_more.0) ∙ f)))
               ku.bits
               (λ x d in_hand theirs. by_bool (is_lru shape.kind) (λ t. is_lru shape.kind ≡ t → renewed t (stored_in back x) (w.hash x) ≡ w.hash x)
               (λ lru _. hash_there lru x (by_bool (fresh x) (λ t. t ≡ false)
-              (λ yes. absurd (t.0 (sym theirs ∙ (ap w.whose (same_hands d h.cpu (sym in_hand ∙ fresh_there s r at_pass x yes)) ∙ at.mine)))) (λ _. refl)))
+              (λ yes. absurd (t.0 (sym theirs ∙ (ap w.pass_of_cpu (same_hands d h.cpu (sym in_hand ∙ fresh_there s r at_pass x yes)) ∙ at.mine)))) (λ _. refl)))
               (λ _ _. refl) refl)
               (λ _ _ _ _ _ _ at. inl at)
               (λ tag own. other_same shape w pass v kn last j tag t.0 own)
@@ -750,12 +750,12 @@ module _ (shape : Shape) (slots pass : ℕ) (v : View) (b : Behind) (cs : List (
               (at_set s.views pass j nv u f);
         },
         record {
-          enabled = subst (λ (d : DomainId). CanGive shape w.core h.cpu lock (lists_of (told d may.here))) (named_by_number shape lock is) can;
-          changed = ap (λ (d : DomainId). given shape w.core lock (lists_of (told d may.here))) (named_by_number shape lock is);
+          enabled = subst (λ (d : DomainId). CanGive shape w.core h.cpu lock (lists_of (content_told d may.here))) (named_by_number shape lock is) can;
+          changed = ap (λ (d : DomainId). given shape w.core lock (lists_of (content_told d may.here))) (named_by_number shape lock is);
         },
       )
 
-  pub gives_back : StepsAs shape slots pass (v, (lock_number shape lock, b) ∷ cs) (lock_number shape lock) (λ _. 0) (goes_by shape (Give h.cpu lock (lists_of (told lock may.here)))) (λ _. Gives e kept (v, (lock_number shape lock, b) ∷ cs))
+  pub gives_back : StepsAs shape slots pass (v, (lock_number shape lock, b) ∷ cs) (lock_number shape lock) (λ _. 0) (goes_by shape (Give h.cpu lock (lists_of (content_told lock may.here)))) (λ _. GivesBack e kept (v, (lock_number shape lock, b) ∷ cs))
   gives_back s r wide at_pass _ = (
     views.given (made r.world) h e kept v,
     gives,
@@ -766,11 +766,11 @@ module _ (shape : Shape) (slots pass : ℕ) (v : View) (b : Behind) (cs : List (
 
 -- the same, at the seat and the number that a caller has
 pub gives_at : (shape : Shape) (slots pass : ℕ) (me : Seated) (b : Behind) (cs : List (ℕ × Behind)) (h : Hold) (below : List Hold) (k : ℕ) (e : Entry) (kept : List StrandStep) → me.1 ≡ (k, b) ∷ cs → me.0.held ≡ h ∷ below → h.lock ≡ k → IsTrue (is_lock shape (lock_named shape k))
-    → MayGive shape me.0 h e kept b → Allows (Rule shape) slots pass me k (λ _. 0) (λ _. Gives e kept me)
+    → MayGive shape me.0 h e kept b → Allows (Rule shape) slots pass me k (λ _. 0) (λ _. GivesBack e kept me)
 gives_at shape slots pass me b cs h below k e kept slots_are held at_lock is may =
     let num = number_of_named shape k in
-    subst (λ (z : ℕ × List (ℕ × Behind)). Allows (Rule shape) slots pass (me.0, z.1) z.0 (λ _. 0) (λ _. Gives e kept (me.0, z.1))) (λ i. (num i, (ap (λ (y : ℕ). (y, b) ∷ cs) num ∙ sym slots_are) i))
-    (allows_of shape slots pass (me.0, (lock_number shape (lock_named shape k), b) ∷ cs) (lock_number shape (lock_named shape k)) (λ _. 0) (goes_by shape (Give h.cpu (lock_named shape k) (lists_of (told (lock_named shape k) may.here)))) (λ _. Gives e kept (me.0, (lock_number shape (lock_named shape k), b) ∷ cs))
+    subst (λ (z : ℕ × List (ℕ × Behind)). Allows (Rule shape) slots pass (me.0, z.1) z.0 (λ _. 0) (λ _. GivesBack e kept (me.0, z.1))) (λ i. (num i, (ap (λ (y : ℕ). (y, b) ∷ cs) num ∙ sym slots_are) i))
+    (allows_of shape slots pass (me.0, (lock_number shape (lock_named shape k), b) ∷ cs) (lock_number shape (lock_named shape k)) (λ _. 0) (goes_by shape (Give h.cpu (lock_named shape k) (lists_of (content_told (lock_named shape k) may.here)))) (λ _. GivesBack e kept (me.0, (lock_number shape (lock_named shape k), b) ∷ cs))
     (gives_back shape slots pass me.0 b cs (lock_named shape k) h below held is (at_lock ∙ sym num) e kept may))
 
 -- where the strand has no step more, no history is there

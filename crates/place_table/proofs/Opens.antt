@@ -34,7 +34,7 @@ use Rattle.place_table.specs.declared.view.View.{View}
 use Rattle.place_table.specs.Contents.{lists_of}
 use Rattle.place_table.proofs.Worlds.{none_some, true_false}
 use Rattle.place_table.specs.Views.{is_among, is_in_hand_of, first_hand, known_log, bit_seen, numbers_below, no_turns, no_bits, first_view}
-use Rattle.place_table.specs.Rules.{World, Rule, Knows, Reads, AtHome, Tagged, HashesRight, is_hand_of, is_home_of}
+use Rattle.place_table.specs.Rules.{World, Rule, PassKnows, IsSlotAfter, AtHome, Tagged, HashesRight, is_hand_of, is_home_of}
 use Rattle.place_table.specs.Words.{bit_word}
 use Rattle.place_table.specs.Opening.{IsFirstContent, IsFirstSlot, AreFirstSlots}
 use Rattle.place_table.specs.Words.{opening_words}
@@ -74,11 +74,11 @@ bit_first e (suc n) bit is =
 
 -- What lies under the locks
 
-reads_first : (shape : Shape) (k : ℕ) (behind : Behind) → IsFirstSlot shape k behind → is_lock shape (lock_named shape k) ≡ true → Reads shape k [] false behind
+reads_first : (shape : Shape) (k : ℕ) (behind : Behind) → IsFirstSlot shape k behind → is_lock shape (lock_named shape k) ≡ true → IsSlotAfter shape k [] false behind
 unfolding replayed
 reads_first shape k behind slot there = go behind.content refl slot.content
   where
-    go : (found : Option Content) → behind.content ≡ found → IsFirstContent shape (lock_named shape k) found → Reads shape k [] false behind
+    go : (found : Option Content) → behind.content ≡ found → IsFirstContent shape (lock_named shape k) found → IsSlotAfter shape k [] false behind
     go None is none = absurd cc
     go (Some here) is first = record { here = here; content_is = is; told_is = first.0; fits = first.1; kept = slot.kept }
 
@@ -147,9 +147,9 @@ first_world shape = record {
   core = opening shape;
   log = λ k. [];
   lost = λ k. false;
-  whose = λ c. 0;
-  keeper = λ strand. 0;
-  team = λ strand. numbers_below shape.cpus;
+  pass_of_cpu = λ c. 0;
+  pass_of_strand = λ strand. 0;
+  cpus_of_strand = λ strand. numbers_below shape.cpus;
   current = λ pass. 0;
   past = λ pass. [];
   next = 1;
@@ -168,7 +168,7 @@ none_in_hand shape PercpuHash e c lru = true_false (sym lru)
 none_in_hand shape LruHash e c lru = refl
 none_in_hand shape LruPercpuHash e c lru = refl
 
-first_knows : (shape : Shape) → HasBounds shape → Knows shape (first_world shape) 0 (first_view shape)
+first_knows : (shape : Shape) → HasBounds shape → PassKnows shape (first_world shape) 0 (first_view shape)
 unfolding opening
 first_knows shape bounds = record {
   shape_is = refl;
@@ -186,7 +186,7 @@ first_knows shape bounds = record {
   bits = λ e bit is. bit_first e shape.elements bit is;
   only = inr (λ c few. among c shape.cpus few);
   losses = λ k among. absurd cc;
-  strand = record { keeper = refl; numbered = omega arith; team = refl; steps_are = λ k. refl; stand = tt; kept_are = λ k within there kept. refl; touched_are = refl };
+  strand = record { pass_of_strand = refl; numbered = omega arith; cpus_of_strand = refl; steps_are = λ k. refl; stand = tt; kept_are = λ k within there kept. refl; touched_are = refl };
   past = tt;
   apart = refl;
   idle = λ _. ((refl, tt), tt);
@@ -219,8 +219,8 @@ opens_at shape slots is_one are =
       knows = λ pass v at. first_seat bounds pass v at;
     }
   where
-    first_seat : HasBounds shape → (pass : ℕ) (v : View) → get_elem? (first_view shape ∷ []) pass ≡ some v → Knows shape (first_world shape) pass v
-    first_seat bounds zero v at = subst (Knows shape (first_world shape) 0) (some-injective (first_view shape) v at) (first_knows shape bounds)
+    first_seat : HasBounds shape → (pass : ℕ) (v : View) → get_elem? (first_view shape ∷ []) pass ≡ some v → PassKnows shape (first_world shape) pass v
+    first_seat bounds zero v at = subst (PassKnows shape (first_world shape) 0) (some-injective (first_view shape) v at) (first_knows shape bounds)
     first_seat bounds (suc pass) v at = absurd (some-ne-none v (sym at))
 
 pub opens : (shape : Shape) (words : List ℕ) (slots : List Behind) → IsShape shape → words ≡ opening_words shape → AreFirstSlots shape (lock_count shape) slots → Rule shape (table.opening words slots (first_view shape))

@@ -22,7 +22,7 @@ use Rattle.place_core.specs.declared.step.Lists.{Lists}
 use Rattle.place_core.specs.declared.step.Step.{Step}
 use Rattle.place_core.specs.declared.step.Step.TheVariants.{Claim, Settle, Attach, Detach}
 use Rattle.place_core.specs.State.{rows, is_bucket}
-use Rattle.place_core.specs.Places.{Placed, Place, lies, carried, lies_at, home_of_place, MayLie}
+use Rattle.place_core.specs.Places.{Placed, ElementPlace, under_lock, carried, lies_at, home_of_place, MayLie}
 use Rattle.place_core.specs.Ranks.{Ranked}
 use Rattle.place_core.specs.Steps.{lists_under, with_free, without_free, with_row, without_row, with_owner, CanClaim, CanSettle, CanAttach, IsLockHome, IsInHeldBucket, IsEnabled, after, CoreStep}
 use Rattle.place_core.proofs.ElementLemmas.{at_put, put_here, put_else, by_test}
@@ -39,7 +39,7 @@ use Rattle.key_hash.specs.Bucket.{bucket_number}
 use Rattle.place_table.specs.Laws.{StepsAs, goes_by}
 use Rattle.place_table.specs.Views as views
 use Rattle.place_table.specs.Views.{is_among, hold_at, is_in_hand_of, now_at, now_under, with_now, with_came, with_in_hand, without_in_hand, moved, kept_readings, kept_hashes, hash_known, came_at}
-use Rattle.place_table.specs.Rules.{Rule, World, Knows, AreNoted, is_hand_of, is_home_of, IsHashOf, IsHashed, HasCome, HasRow, IsBrought}
+use Rattle.place_table.specs.Rules.{Rule, World, PassKnows, AreNoted, is_hand_of, is_home_of, IsHashOf, IsHashed, HasCome, HasRow, IsBrought}
 use Rattle.place_table.specs.Words.{owner_word, home_word}
 use Rattle.place_table.specs.Plays.{Seated, Claims, Settles, Attaches, Detaches}
 use Rattle.place_table.proofs.Hands.{ascends_now, AreInHands, comes_to_hand, leaves_hand, was_in_hand, IsOwnerOfPass}
@@ -60,8 +60,8 @@ use Rattle.place_table.proofs.NotesDone.{noted_came, noted_now}
 use Rattle.place_table.proofs.StepLog.{made}
 
 module _ (shape : Shape) (s : State Behind View) (r : Rule shape s) (pass : ℕ) (v : View) (at_pass : get_elem? s.views pass ≡ some v) (lock : DomainId) (h : Hold) (found : hold_at (lock_number shape lock) v.held ≡ Some h)
-    (e : ℕ) (owner : Owner) (hand : List InHand) (notes : List Notes) (hashes : List HashIn) (cs : List (ℕ × Behind)) (real : e < shape.elements) (was : IsOwnerOfPass r.world.whose pass (r.world.core.owner e)) (is : IsOwnerOfPass r.world.whose pass owner)
-    (in_hands : AreInHands is_hand_of shape.cpus pass r.world.whose (put r.world.core.owner e owner) hand) (are_noted : AreNoted shape v.touched v.held notes) where
+    (e : ℕ) (owner : Owner) (hand : List InHand) (notes : List Notes) (hashes : List HashIn) (cs : List (ℕ × Behind)) (real : e < shape.elements) (was : IsOwnerOfPass r.world.pass_of_cpu pass (r.world.core.owner e)) (is : IsOwnerOfPass r.world.pass_of_cpu pass owner)
+    (in_hands : AreInHands is_hand_of shape.cpus pass r.world.pass_of_cpu (put r.world.core.owner e owner) hand) (are_noted : AreNoted shape v.touched v.held notes) where
   -- the element has this owner from now on, and under the lock lies this
   owner_rule : (now : Lists) → AreHashes shape r.world r.world.core.home hand hashes (with_now (lock_number shape lock) now v.held) notes → (IsTrue (is_lru shape.kind) → HashesRight shape r.world.core.holder (put r.world.core.lists (lock_number shape lock) now) (put r.world.core.owner e owner) r.world.log r.world.hash) → Placed shape (with_owner shape r.world.core e owner lock now) → Ranked shape (with_owner shape r.world.core e owner lock now)
       → (after : Rule shape (stepped s (owner_word shape e) (owner_code owner) pass cs (record (moved (made r.world) (lock_number shape lock) now hand notes (owner_word shape e) (owner_code owner) v) { hashes = hashes }) keeps)) × (after.world.core ≡ with_owner shape r.world.core e owner lock now)
@@ -70,7 +70,7 @@ module _ (shape : Shape) (s : State Behind View) (r : Rule shape s) (pass : ℕ)
       let w = r.world in let kn = r.knows pass v at_pass in
       let by_pass = by_pass_there shape s r pass v at_pass k h found in
       let at = held_there shape s r pass v at_pass k h found in
-      let held_by : is_among h.cpu v.cpus ≡ true = kn.cpus h.cpu (r.ranked.within h.cpu k at.holder_is) ∙ by_test (w.whose h.cpu) pass (λ t. t ≡ true) (λ _. refl) (λ n. absurd (n at.mine)) in
+      let held_by : is_among h.cpu v.cpus ≡ true = kn.cpus h.cpu (r.ranked.within h.cpu k at.holder_is) ∙ by_test (w.pass_of_cpu h.cpu) pass (λ t. t ≡ true) (λ _. refl) (λ n. absurd (n at.mine)) in
       place_rule shape s r pass v at_pass (put w.core.lists k now) (put w.core.owner e owner) w.core.home i code h.cpu held_by (with_now k now v.held) hand v.carried (kept_readings hand v.readings) notes hashes cs (omega arith) (omega arith)
       (λ x below. at_put w.core.owner e owner (λ j o. j < shape.elements → get_or (set s.words i code) (owner_word shape j) 0 ≡ owner_code o) x
       (λ _. get_or-set_same s.words i code 0 (omega (arith, r.words)))
@@ -79,7 +79,7 @@ module _ (shape : Shape) (s : State Behind View) (r : Rule shape s) (pass : ℕ)
       (noted_now shape v.touched k now v.held notes are_noted)
       record {
         under = λ m. at_put w.core.lists k now (λ j l. (l ≡ w.core.lists j) ⊎ IsHeldByPass w pass j) m (inr by_pass) (λ _. inl refl);
-        owners = λ x. at_put w.core.owner e owner (λ j o. (o ≡ w.core.owner j) ⊎ (IsOwnerOfPass w.whose pass (w.core.owner j) × IsOwnerOfPass w.whose pass o)) x (inr (was, is)) (λ _. inl refl);
+        owners = λ x. at_put w.core.owner e owner (λ j o. (o ≡ w.core.owner j) ⊎ (IsOwnerOfPass w.pass_of_cpu pass (w.core.owner j) × IsOwnerOfPass w.pass_of_cpu pass o)) x (inr (was, is)) (λ _. inl refl);
         homes = λ _. inl refl;
         are_held = held_moved w pass k w.core.lists v.held now kn.held by_pass;
         ascends = ascends_now shape k now v.held kn.ascends;
@@ -131,8 +131,8 @@ claims_step shape slots pass me e lock hold real is found head s r wide at_pass 
     let can : CanClaim shape w.core hold.cpu e lock = record { holds = holds_there shape s r pass v at_pass lock hold found is; real = real; head = first } in
     let stands = stands_where shape.elements e _ _ (r.placed.placed.free k e) (head_is_in e _ first) in
     let was : w.core.owner e ≡ owners.Free = free_is (w.core.owner e) (and_parts (is_free (w.core.owner e)) (lies_at k (r.placed.place e)) stands.stands).0 in
-    owner_step shape s r pass v at_pass lock hold found e (owners.Hand hold.cpu) (with_in_hand e hold.cpu v.hand) (with_came (lock_number v.shape lock) e v.held v.notes) (kept_hashes (with_in_hand e hold.cpu v.hand) v.hashes) me.1 real (subst (IsOwnerOfPass w.whose pass) (sym was) tt) at.mine
-    (comes_to_hand is_hand_of shape.cpus pass e hold.cpu w.whose w.core.owner (put w.core.owner e (owners.Hand hold.cpu)) v.hand (λ x. put_else w.core.owner e (owners.Hand hold.cpu) x) kn.hands
+    owner_step shape s r pass v at_pass lock hold found e (owners.Hand hold.cpu) (with_in_hand e hold.cpu v.hand) (with_came (lock_number v.shape lock) e v.held v.notes) (kept_hashes (with_in_hand e hold.cpu v.hand) v.hashes) me.1 real (subst (IsOwnerOfPass w.pass_of_cpu pass) (sym was) tt) at.mine
+    (comes_to_hand is_hand_of shape.cpus pass e hold.cpu w.pass_of_cpu w.core.owner (put w.core.owner e (owners.Hand hold.cpu)) v.hand (λ x. put_else w.core.owner e (owners.Hand hold.cpu) x) kn.hands
     at.mine (λ c. ap (is_hand_of c) was) (λ c. ap (is_hand_of c) (put_here w.core.owner e (owners.Hand hold.cpu)))) (noted_came shape v.touched (lock_number v.shape lock) e v.held v.notes kn.noted)
     (Claim hold.cpu e lock) (λ l. with_row lock e (without_free e l))
     (λ now. (
@@ -164,7 +164,7 @@ claims shape slots pass me e c i code lock hold view i_is code_is cpu_is view_is
 -- Settle
 
 -- an element leaves a hand
-hashes_left : (shape : Shape) (w : World) (pass : ℕ) (v : View) → Knows shape w pass v → (k e cpu : ℕ) (now : Lists) → AreHashes shape w w.core.home (without_in_hand e cpu v.hand) (kept_hashes (without_in_hand e cpu v.hand) v.hashes) (with_now k now v.held) v.notes
+hashes_left : (shape : Shape) (w : World) (pass : ℕ) (v : View) → PassKnows shape w pass v → (k e cpu : ℕ) (now : Lists) → AreHashes shape w w.core.home (without_in_hand e cpu v.hand) (kept_hashes (without_in_hand e cpu v.hand) v.hashes) (with_now k now v.held) v.notes
 hashes_left shape w pass v kn k e cpu now = (
   hashes_kept shape w pass v kn (without_in_hand e cpu v.hand),
   λ lru x d its x_real within in_hand at_home. hashed_kept shape w pass v kn k now (without_in_hand e cpu v.hand) v.notes (λ m y inside. inside) lru x d its x_real within (was_in_hand e cpu x d v.hand in_hand) in_hand at_home,
@@ -184,8 +184,8 @@ settles_step shape slots pass me e lock hold real is found has_free_list has in_
       in_hand = was;
       listed = λ lru. subst (λ (z : Lists). IsIn e (rows z)) (now_there shape s r pass v at_pass (lock_number shape lock) hold found) (listed lru);
     } in
-    owner_step shape s r pass v at_pass lock hold found e owners.Free (without_in_hand e hold.cpu v.hand) v.notes (kept_hashes (without_in_hand e hold.cpu v.hand) v.hashes) me.1 real (subst (IsOwnerOfPass w.whose pass) (sym was) at.mine) tt
-    (leaves_hand is_hand_of shape.cpus pass e hold.cpu w.whose w.core.owner (put w.core.owner e owners.Free) v.hand (λ x. put_else w.core.owner e owners.Free x) kn.hands
+    owner_step shape s r pass v at_pass lock hold found e owners.Free (without_in_hand e hold.cpu v.hand) v.notes (kept_hashes (without_in_hand e hold.cpu v.hand) v.hashes) me.1 real (subst (IsOwnerOfPass w.pass_of_cpu pass) (sym was) at.mine) tt
+    (leaves_hand is_hand_of shape.cpus pass e hold.cpu w.pass_of_cpu w.core.owner (put w.core.owner e owners.Free) v.hand (λ x. put_else w.core.owner e owners.Free x) kn.hands
     (λ c. ap (is_hand_of c) was) (λ c. ap (is_hand_of c) (put_here w.core.owner e owners.Free))) kn.noted
     (Settle hold.cpu e lock) (λ l. with_free e (without_row e l)) (hashes_left shape w pass v kn (lock_number shape lock) e hold.cpu) can refl
     (λ lru. hashes_settled shape w.core.holder w.core.lists w.core.owner w.core.home r.placed.place r.placed.placed w.log w.hash (r.hashes lru) lock (lock_number shape lock) e hold.cpu at.holder_is (subst (λ (d : DomainId). IsFalse (is_bucket d)) (sym (named_by_number shape lock is)) has_free_list) (can.listed lru) ((elements_there shape s r (lock_number shape lock)).rows_once e))
@@ -209,15 +209,15 @@ lock_home : (shape : Shape) (s : State Behind View) (r : Rule shape s) (pass : �
     → IsTrue (is_lru shape.kind) → is_in_hand_of e c v.carried ≡ false → IsLockHome (r.world.core.home e)
 lock_home shape s r pass v at_pass e c real has was lru free_hand = go (r.placed.place e) refl
   where
-    go : (place : Place) → r.placed.place e ≡ place → IsLockHome (r.world.core.home e)
-    go (lies k) is =
+    go : (place : ElementPlace) → r.placed.place e ≡ place → IsLockHome (r.world.core.home e)
+    go (under_lock k) is =
         subst IsLockHome (sym (r.placed.placed.homes e real ∙ (ap (home_of_place shape) is ∙ ap (λ (b : Bool). cond b (homes.In (lock_named shape k)) homes.Unlisted) lru))) tt
     go (carried x) is =
         let w = r.world in let kn = r.knows pass v at_pass in
         let may : MayLie shape e (w.core.owner e) (carried x) = subst (MayLie shape e (w.core.owner e)) is (r.placed.placed.places e real) in
         let home_is : w.core.home e ≡ homes.Hand c = r.placed.placed.homes e real ∙ (ap (home_of_place shape) is ∙ (ap (λ (b : Bool). cond b (homes.Hand x) homes.Unlisted) lru ∙ ap homes.Hand (same_hand x c (sym may.1 ∙ was)))) in
         let it_is : is_home_of c (w.core.home e) ≡ true = ap (is_home_of c) home_is ∙ by_test c c (λ t. t ≡ true) (λ _. refl) (λ n. absurd (n refl)) in
-        let ours : eqb (w.whose c) pass ≡ true = sym (kn.cpus c (kn.within c has)) ∙ has in
+        let ours : eqb (w.pass_of_cpu c) pass ≡ true = sym (kn.cpus c (kn.within c has)) ∙ has in
         true_false (sym (kn.carried e c (kn.within c has) ∙ (λ i. it_is i && ours i)) ∙ free_hand)
 
 pub attaches_step : (shape : Shape) (slots pass : ℕ) (me : Seated) (e bucket : ℕ) (hold : Hold) → e < shape.elements → bucket < shape.buckets → hold_at (lock_number shape (Bucket bucket)) me.0.held ≡ Some hold
@@ -233,14 +233,14 @@ attaches_step shape slots pass me e bucket hold real there found has in_hand not
     let was : w.core.owner e ≡ owners.Hand hold.cpu = in_hand_is shape w pass v e hold.cpu kn has in_hand in
     let can : CanAttach shape w.core hold.cpu e bucket =
     record { holds = holds_there shape s r pass v at_pass lock hold found is; real = real; in_hand = was; not_carried = λ lru. lock_home shape s r pass v at_pass e hold.cpu real has was lru (not_carried lru) } in
-    owner_step shape s r pass v at_pass lock hold found e (owners.Bucket bucket) (without_in_hand e hold.cpu v.hand) v.notes (kept_hashes (without_in_hand e hold.cpu v.hand) v.hashes) me.1 real (subst (IsOwnerOfPass w.whose pass) (sym was) at.mine) tt
-    (leaves_hand is_hand_of shape.cpus pass e hold.cpu w.whose w.core.owner (put w.core.owner e (owners.Bucket bucket)) v.hand (λ x. put_else w.core.owner e (owners.Bucket bucket) x) kn.hands
+    owner_step shape s r pass v at_pass lock hold found e (owners.Bucket bucket) (without_in_hand e hold.cpu v.hand) v.notes (kept_hashes (without_in_hand e hold.cpu v.hand) v.hashes) me.1 real (subst (IsOwnerOfPass w.pass_of_cpu pass) (sym was) at.mine) tt
+    (leaves_hand is_hand_of shape.cpus pass e hold.cpu w.pass_of_cpu w.core.owner (put w.core.owner e (owners.Bucket bucket)) v.hand (λ x. put_else w.core.owner e (owners.Bucket bucket) x) kn.hands
     (λ c. ap (is_hand_of c) was) (λ c. ap (is_hand_of c) (put_here w.core.owner e (owners.Bucket bucket)))) kn.noted
     (Attach hold.cpu e bucket) (λ l. with_row lock e l) (hashes_left shape w pass v kn (lock_number shape lock) e hold.cpu) can refl
     (λ lru. hashes_attached shape w.core.holder w.core.lists w.core.owner w.core.home r.placed.place r.placed.placed w.log w.hash (r.hashes lru) lock (lock_number shape lock) e hold.cpu at.holder_is
     (ap is_bucket (named_by_number shape lock is)) bucket (let known = bucket_noted e hold.cpu bucket v.hashes (hashed lru).0 in (kn.hashes e hold.cpu known.0 (kn.within hold.cpu has) known.1).bucket_is ∙ known.2) was
     (λ m nb held.
-    let only : m ≡ lock_number shape lock = (hashed lru).1 m _ (kn.held m ∙ (ap (λ (z : Option ℕ). hold_of pass w.whose m z (w.log m) (w.core.lists m) (w.lost m)) held ∙ hold_of_mine w.whose pass m hold.cpu (w.log m) (w.core.lists m) (w.lost m) at.mine)) in
+    let only : m ≡ lock_number shape lock = (hashed lru).1 m _ (kn.held m ∙ (ap (λ (z : Option ℕ). hold_of pass w.pass_of_cpu m z (w.log m) (w.core.lists m) (w.lost m)) held ∙ hold_of_mine w.pass_of_cpu pass m hold.cpu (w.log m) (w.core.lists m) (w.lost m) at.mine)) in
     true_false (sym (ap is_bucket (ap (lock_named shape) only ∙ named_by_number shape lock is)) ∙ nb)))
 
 pub attaches : (shape : Shape) (slots pass : ℕ) (me : Seated) (e bucket c i code : ℕ) (hold : Hold) (view : ℕ → View) → i ≡ owner_word shape e → code ≡ 32 + bucket → hold.cpu ≡ c → ((at : ℕ) → view at ≡ views.attached at bucket e c me.0)
@@ -267,8 +267,8 @@ detaches_step shape slots pass me e bucket hold there found inside s r wide at_p
     let hand : List InHand = with_in_hand e hold.cpu v.hand in
     let new : HashIn = record { element = e; cpu = hold.cpu; bucket = bucket; given = false } in
     let kept : List HashIn = kept_hashes hand v.hashes in
-    owner_step shape s r pass v at_pass lock hold found e (owners.Hand hold.cpu) (with_in_hand e hold.cpu v.hand) v.notes (cond (is_lru v.shape.kind) (new ∷ kept_hashes (with_in_hand e hold.cpu v.hand) v.hashes) (kept_hashes (with_in_hand e hold.cpu v.hand) v.hashes)) me.1 can.real (subst (IsOwnerOfPass w.whose pass) (sym was) tt) at.mine
-    (comes_to_hand is_hand_of shape.cpus pass e hold.cpu w.whose w.core.owner (put w.core.owner e (owners.Hand hold.cpu)) v.hand (λ x. put_else w.core.owner e (owners.Hand hold.cpu) x) kn.hands
+    owner_step shape s r pass v at_pass lock hold found e (owners.Hand hold.cpu) (with_in_hand e hold.cpu v.hand) v.notes (cond (is_lru v.shape.kind) (new ∷ kept_hashes (with_in_hand e hold.cpu v.hand) v.hashes) (kept_hashes (with_in_hand e hold.cpu v.hand) v.hashes)) me.1 can.real (subst (IsOwnerOfPass w.pass_of_cpu pass) (sym was) tt) at.mine
+    (comes_to_hand is_hand_of shape.cpus pass e hold.cpu w.pass_of_cpu w.core.owner (put w.core.owner e (owners.Hand hold.cpu)) v.hand (λ x. put_else w.core.owner e (owners.Hand hold.cpu) x) kn.hands
     at.mine (λ c. ap (is_hand_of c) was) (λ c. ap (is_hand_of c) (put_here w.core.owner e (owners.Hand hold.cpu)))) kn.noted
     (Detach hold.cpu e bucket) (λ l. without_row e l)
     (λ now. by_bool (is_lru shape.kind) (λ t. is_lru shape.kind ≡ t → AreHashes shape w w.core.home hand (cond (is_lru v.shape.kind) (new ∷ kept) kept) (with_now (lock_number shape lock) now v.held) v.notes)

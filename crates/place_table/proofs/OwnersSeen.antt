@@ -57,20 +57,20 @@ owner_fits shape s r pass v e at_pass real =
       in_held_bucket = λ bucket hold there found.
           let k : ℕ = lock_number shape (Bucket bucket) in
           let is : IsTrue (is_lock shape (Bucket bucket)) = ltb_is bucket shape.buckets there in
-          let at = hold_of_is w.whose pass k (w.core.holder k) (w.log k) (w.core.lists k) (w.lost k) hold (sym (kn.held k) ∙ found) in
+          let at = hold_of_is w.pass_of_cpu pass k (w.core.holder k) (w.log k) (w.core.lists k) (w.lost k) hold (sym (kn.held k) ∙ found) in
           row_in_bucket shape (lock_named shape k) bucket e (times e (rows hold.now)) (w.core.owner e) _ (named_by_number shape (Bucket bucket) is) real
           (ap (λ (z : Hold). times e (rows z.now)) at.hold_is ∙ r.placed.placed.rows k e);
       on_held_free_list = λ k hold found inside.
-          let at = hold_of_is w.whose pass k (w.core.holder k) (w.log k) (w.core.lists k) (w.lost k) hold (sym (kn.held k) ∙ found) in
+          let at = hold_of_is w.pass_of_cpu pass k (w.core.holder k) (w.log k) (w.core.lists k) (w.lost k) hold (sym (kn.held k) ∙ found) in
           free_is e (times e hold.now.free) (w.core.owner e) _ _ (ap (λ (z : Hold). times e z.now.free) at.hold_is ∙ r.placed.placed.free k e) inside;
       listed = λ free k hold found.
-          let at = hold_of_is w.whose pass k (w.core.holder k) (w.log k) (w.core.lists k) (w.lost k) hold (sym (kn.held k) ∙ found) in
+          let at = hold_of_is w.pass_of_cpu pass k (w.core.holder k) (w.log k) (w.core.lists k) (w.lost k) hold (sym (kn.held k) ∙ found) in
           ap (λ (z : Hold). times e (rows z.now)) at.hold_is
           ∙ (r.placed.placed.rows k e ∙ (ap (λ (o : Owner). one (ltb e shape.elements && has_row (is_lru shape.kind) (lock_named shape k) o (lies_at k (r.placed.place e)))) free
           ∙ (ap (λ (b : Bool). one (ltb e shape.elements && b)) (no_row_free (is_lru shape.kind) (lock_named shape k) (lies_at k (r.placed.place e))) ∙ ap one (and_right (ltb e shape.elements) false refl))));
       in_own_hand = λ c has. own_hand shape w pass v e c kn has;
       of_hash = λ lru hash bucket here only in_bucket.
-          let at = hold_of_is w.whose pass here.lock (w.core.holder here.lock) (w.log here.lock) (w.core.lists here.lock) (w.lost here.lock) here.hold (sym (kn.held here.lock) ∙ here.held) in
+          let at = hold_of_is w.pass_of_cpu pass here.lock (w.core.holder here.lock) (w.log here.lock) (w.core.lists here.lock) (w.lost here.lock) here.hold (sym (kn.held here.lock) ∙ here.held) in
           let right = r.hashes lru in
           sym (right.in_bucket e bucket in_bucket) ∙ ap (λ (h : ℕ). bucket_number h shape.buckets)
           (⊎_elim
@@ -81,7 +81,7 @@ owner_fits shape s r pass v e at_pass real =
           let cpu_is : brought.cpu ≡ here.hold.cpu = some_is (sym brought.held ∙ at.holder_is) in
           let from : ℕ = brought.from in
           let holds : hold_at from v.held ≡ Some (hold from here.hold.cpu (w.log from) (w.core.lists from) (w.lost from)) =
-          kn.held from ∙ (ap (λ (z : Option ℕ). hold_of pass w.whose from z (w.log from) (w.core.lists from) (w.lost from)) (brought.holds ∙ ap Some cpu_is) ∙ hold_of_mine w.whose pass from here.hold.cpu (w.log from) (w.core.lists from) (w.lost from) at.mine) in
+          kn.held from ∙ (ap (λ (z : Option ℕ). hold_of pass w.pass_of_cpu from z (w.log from) (w.core.lists from) (w.lost from)) (brought.holds ∙ ap Some cpu_is) ∙ hold_of_mine w.pass_of_cpu pass from here.hold.cpu (w.log from) (w.core.lists from) (w.lost from) at.mine) in
           only from (w.hash e) (hold from here.hold.cpu (w.log from) (w.core.lists from) (w.lost from)) holds brought.row.stored))
           (right.have here.lock e here.no_bucket (subst (λ (z : Hold). IsIn e (rows z.now)) at.hold_is here.listed)));
     }

@@ -12,7 +12,7 @@ use Rattle.map_types.proofs.CreationLemmas.{bounds_of_shape}
 use Rattle.place_words.specs.declared.history.StrandStep.{StrandStep}
 use Rattle.place_core.proofs.ElementLemmas.{by_test}
 use Rattle.place_table.specs.declared.content.Behind.{Behind}
-use Rattle.place_table.specs.declared.strands.Finished.{Finished}
+use Rattle.place_table.specs.declared.strands.FinishedStrand.{FinishedStrand}
 use Rattle.place_table.specs.declared.view.View.{View}
 use Rattle.place_table.specs.declared.view.Hold.{Hold}
 use Rattle.place_table.specs.Contents.{IsSized}
@@ -41,12 +41,12 @@ pub all_within : (v : View) → All (HasCpusOf v.shape) v.ended → HasCpusOf v.
 all_within v ended current =
     All-append (HasCpusOf v.shape) v.ended (current_strand v ∷ []) ended (All-cons (HasCpusOf v.shape) (current_strand v) [] current (All-nil (HasCpusOf v.shape)))
 
-module _ {v : View} {slots : List (ℕ × Behind)} {strand : List StrandStep} {spares : List (Option Stored)} {flags : List Bool} {ended : Option (Vec Finished Global)} (cpu : ℕ) (pass : IsPass v slots strand spares flags ended) where
+module _ {v : View} {slots : List (ℕ × Behind)} {strand : List StrandStep} {spares : List (Option Stored)} {flags : List Bool} {ended : Option (Vec FinishedStrand Global)} (cpu : ℕ) (pass : IsPass v slots strand spares flags ended) where
   -- what stays, once a CPU is split off
-  pub is_pass_left : (now : List (Option Stored)) (steps : List StrandStep) (left : List Bool) (kept : Option (Vec Finished Global)) (none : Vec Finished Global) (after : Seated) → v.held ≡ [] → after ≡ (split_from cpu v, slots) → steps ≡ [] → left ≡ flags_of (without_cpu cpu v.cpus) → kept ≡ Some none → none.items ≡ []
+  pub is_pass_left : (now : List (Option Stored)) (steps : List StrandStep) (left : List Bool) (kept : Option (Vec FinishedStrand Global)) (none : Vec FinishedStrand Global) (after : Seated) → v.held ≡ [] → after ≡ (split_from cpu v, slots) → steps ≡ [] → left ≡ flags_of (without_cpu cpu v.cpus) → kept ≡ Some none → none.items ≡ []
       → spare_of cpu now ≡ None → SparesDiffer cpu spares now → IsPass after.0 after.1 steps now left kept
   is_pass_left now steps left kept none after no_lock after_is no_steps flags_are kept_is no_strands gone stay =
-      subst (λ (z : Seated × Option (Vec Finished Global)). IsPass z.0.0 z.0.1 steps now left z.1) (λ i. (sym after_is i, sym kept_is i)) record {
+      subst (λ (z : Seated × Option (Vec FinishedStrand Global)). IsPass z.0.0 z.0.1 steps now left z.1) (λ i. (sym after_is i, sym kept_is i)) record {
         carries = subst (λ (l : List Hold). Carries l slots) no_lock pass.carries;
         strand_is = no_steps;
         cpus_are = flags_are;
@@ -63,7 +63,7 @@ module _ {v : View} {slots : List (ℕ × Behind)} {strand : List StrandStep} {s
       }
 
   -- and the new one
-  pub is_pass_off : (off : List (Option Stored)) (steps : List StrandStep) (one : List Bool) (kept : Option (Vec Finished Global)) (after : Seated) → is_among cpu v.cpus ≡ true → after ≡ (split_off cpu v, []) → steps ≡ [] → one ≡ flags_of (cpu ∷ []) → AreFinished (all_strands v) kept
+  pub is_pass_off : (off : List (Option Stored)) (steps : List StrandStep) (one : List Bool) (kept : Option (Vec FinishedStrand Global)) (after : Seated) → is_among cpu v.cpus ≡ true → after ≡ (split_off cpu v, []) → steps ≡ [] → one ≡ flags_of (cpu ∷ []) → AreFinished (all_strands v) kept
       → spare_of cpu off ≡ spare_of cpu spares → ((c : ℕ) → c ≢ cpu → spare_of c off ≡ None) → IsPass after.0 after.1 steps off one kept
   is_pass_off off steps one kept after has after_is none flags_are finished own no_others =
       subst (λ (z : Seated). IsPass z.0 z.1 steps off one kept) (sym after_is) record {
@@ -166,7 +166,7 @@ kept_in_either : {P : Type 0} (first second after : Option Stored) (body : Store
 kept_in_either None second after body is here f g = g (sym is ∙ here)
 kept_in_either (Some x) second after body is here f g = f (sym is ∙ here)
 
-pub is_pass_joined : (v u : View) (slots others : List (ℕ × Behind)) (strand steps now : List StrandStep) (spares theirs all : List (Option Stored)) (flags more both : List Bool) (ended other_ended kept : Option (Vec Finished Global)) (after : Seated)
+pub is_pass_joined : (v u : View) (slots others : List (ℕ × Behind)) (strand steps now : List StrandStep) (spares theirs all : List (Option Stored)) (flags more both : List Bool) (ended other_ended kept : Option (Vec FinishedStrand Global)) (after : Seated)
     → IsPass v slots strand spares flags ended → IsPass u others steps theirs more other_ended → v.held ≡ [] → u.shape ≡ v.shape → after ≡ (joined v u, slots) → now ≡ [] → both ≡ flags_of (v.cpus ++ u.cpus) → AreFinished (all_strands v ++ all_strands u) kept
     → ((cpu : ℕ) → spare_of cpu all ≡ either_spare (spare_of cpu spares) (spare_of cpu theirs)) → IsPass after.0 after.1 now all both kept
 is_pass_joined v u slots others strand steps now spares theirs all flags more both ended other_ended kept after pass other no_lock same_shape after_is none flags_are finished spares_are =

@@ -24,20 +24,20 @@ use Rattle.place_core.specs.State.{is_bucket}
 use Rattle.place_table.specs.declared.content.Behind.{Behind}
 use Rattle.place_table.specs.declared.content.Content.{Content}
 use Rattle.place_table.specs.declared.steps.Recorded.{Recorded}
-use Rattle.place_table.specs.declared.strands.Finished.{Finished}
+use Rattle.place_table.specs.declared.strands.FinishedStrand.{FinishedStrand}
 use Rattle.place_table.specs.declared.view.View.{View}
 use Rattle.place_table.specs.declared.view.Hold.{Hold}
 use Rattle.place_table.specs.declared.view.Notes.{Notes}
 use Rattle.place_table.specs.declared.view.BitSeen.{BitSeen}
 use Rattle.place_table.specs.Rules.{KeptAs}
 use Rattle.place_core.proofs.ElementLemmas.{by_test}
-use Rattle.place_table.specs.Contents.{told, lists_of, Fits, IsSized}
+use Rattle.place_table.specs.Contents.{content_told, lists_of, FitsLock, IsSized}
 use Rattle.place_table.specs.Flushes.{flushed_last}
 use Rattle.place_table.specs.Views.{is_among, is_in_hand_of, hold_at, known_log, home_known, holding, given, with_lost, losing, holds_below, noted, owner_read}
 use Rattle.place_table.specs.Recording.{IsLost, RecordsIn, Records, recorded_step, last_from, last_in, entry_given, no_entry}
-use Rattle.place_table.specs.Plays.{Seated, Took, AreElements, IsApartFromHands, Gives, GivesSome, entry_by, IsKeptOrLost, MayPut, MayGive, OwnerFits, SeesOwner}
+use Rattle.place_table.specs.Plays.{Seated, Took, AreElements, IsApartFromHands, GivesBack, GivesSome, entry_by, IsKeptOrLost, MayPut, MayGive, OwnerFits, SeesOwner}
 use Rattle.place_table.specs.TurnNotes.{NotesFit, InnermostFits}
-use Rattle.place_table.specs.Passes.{PassView, TableView, Carries, HandsReal, IsPass, IsPassOf, with_view, without_content, entry_of, HasBegun, SparesDiffer, Takes, CanGive, Gave, GaveSome, SawOwner, spare_of}
+use Rattle.place_table.specs.Passes.{PassView, TableView, Carries, HandsReal, IsPass, IsPassOf, with_view, without_content, entry_of, HasBegun, SparesDiffer, TookLock, CanGive, Gave, GaveSome, SawOwner, spare_of}
 use Rattle.place_table.proofs.CodeLemmas.{one_owner, has_owner_code}
 use Rattle.place_table.proofs.Worlds.{some_is}
 use Rattle.place_table.specs.declared.view.WordStep.{WordStep}
@@ -53,7 +53,7 @@ unfolding first_behind
 same_behind slots k a b below others one other = ap (first_behind a) (sym one ∙ other)
 
 -- a pass once a lock is taken and its content is out
-pub is_pass_taken : {flags : List Bool} {ended : Option (Vec Finished Global)} (v : View) (slots : List (ℕ × Behind)) (strand : List StrandStep) (spares : List (Option Stored)) (k cpu : ℕ) (taken out : Seated) → IsPass v slots strand spares flags ended → Took k cpu (v, slots) taken
+pub is_pass_taken : {flags : List Bool} {ended : Option (Vec FinishedStrand Global)} (v : View) (slots : List (ℕ × Behind)) (strand : List StrandStep) (spares : List (Option Stored)) (k cpu : ℕ) (taken out : Seated) → IsPass v slots strand spares flags ended → Took k cpu (v, slots) taken
     → (b : Behind) → taken.1 ≡ (k, b) ∷ rest taken.1 → out ≡ (taken.0, (k, without_content b) ∷ rest taken.1) → IsPass out.0 out.1 strand spares flags ended
 is_pass_taken {flags} {ended} v slots strand spares k cpu taken out pass took b slot left =
     let b_is : b ≡ took.behind = same_behind taken.1 k b took.behind (rest taken.1) slots slot (ap (λ (z : Seated). z.1) took.after_is) in
@@ -71,15 +71,15 @@ is_pass_taken {flags} {ended} v slots strand spares k cpu taken out pass took b 
 
 -- what a caller with a pass knows then
 pub takes_of : (t : TableView) (lock : DomainId) (before after : PassView) (here : Content) (k cpu : ℕ) (old taken out : Seated) (b : Behind) → IsTrue (is_lock t.shape lock) → HasBegun before → ((c : ℕ) → is_among c old.0.cpus ≡ true → c < old.0.shape.cpus) → HandsReal old.0.shape old.0.cpus old.0.hand → before.view.shape ≡ t.shape → k ≡ lock_number t.shape lock → cpu ≡ before.cpu → old.0 ≡ before.view
-    → Took k cpu old taken → taken.1 ≡ (k, b) ∷ rest taken.1 → Some here ≡ b.content → out ≡ (taken.0, (k, without_content b) ∷ rest taken.1) → after ≡ with_view before out.0 → Takes t lock before after here
+    → Took k cpu old taken → taken.1 ≡ (k, b) ∷ rest taken.1 → Some here ≡ b.content → out ≡ (taken.0, (k, without_content b) ∷ rest taken.1) → after ≡ with_view before out.0 → TookLock t lock before after here
 takes_of t lock before after here k cpu old taken out b is begun mine real before_shape k_is cpu_is old_is took slot content_is left after_is =
     let b_is : b ≡ took.behind = same_behind taken.1 k b took.behind (rest taken.1) old.1 slot (ap (λ (z : Seated). z.1) took.after_is) in
     let shape_is : old.0.shape ≡ t.shape = ap (λ (v : View). v.shape) old_is ∙ before_shape in
     let named : lock_named t.shape k ≡ lock = ap (lock_named t.shape) k_is ∙ named_by_number t.shape lock is in
     let here_is : took.reads.here ≡ here = some_is (sym took.reads.content_is ∙ (ap (λ (x : Behind). x.content) (sym b_is) ∙ sym content_is)) in
     let content_then : content old.0.shape (lock_named old.0.shape k) took.hold.log ≡ content t.shape lock took.hold.log = ap (λ (z : Shape). content z (lock_named z k) took.hold.log) shape_is ∙ ap (λ (d : DomainId). content t.shape d took.hold.log) named in
-    let told_as : told (lock_named old.0.shape k) took.reads.here ≡ told lock here = (λ i. told (lock_named (shape_is i) k) (here_is i)) ∙ ap (λ (d : DomainId). told d here) named in
-    let told_then : told lock here ≡ content t.shape lock took.hold.log = sym told_as ∙ (took.reads.told_is ∙ content_then) in
+    let told_as : content_told (lock_named old.0.shape k) took.reads.here ≡ content_told lock here = (λ i. content_told (lock_named (shape_is i) k) (here_is i)) ∙ ap (λ (d : DomainId). content_told d here) named in
+    let told_then : content_told lock here ≡ content t.shape lock took.hold.log = sym told_as ∙ (took.reads.told_is ∙ content_then) in
     let view_is : after.view ≡ taken.0 = ap (λ (z : PassView). z.view) after_is ∙ ap (λ (z : Seated). z.0) left in
     record {
       hold = took.hold;
@@ -89,7 +89,7 @@ takes_of t lock before after here k cpu old taken out b is begun mine real befor
       at = took.at;
       after_is = after_is ∙ (ap (λ (z : Seated). with_view before z.0) left ∙ (ap (λ (z : Seated). with_view before z.0) took.after_is ∙ ap (λ (v : View). with_view before (holding took.at took.hold v)) old_is));
       told_is = told_then;
-      fits = subst (λ (z : Content). Fits t.shape lock z) here_is (subst (λ (d : DomainId). Fits t.shape d took.reads.here) named (subst (λ (z : Shape). Fits z (lock_named z k) took.reads.here) shape_is took.reads.fits));
+      fits = subst (λ (z : Content). FitsLock t.shape lock z) here_is (subst (λ (d : DomainId). FitsLock t.shape d took.reads.here) named (subst (λ (z : Shape). FitsLock z (lock_named z k) took.reads.here) shape_is took.reads.fits));
       now = took.now ∙ ap lists_of (content_then ∙ sym told_then);
       elements = subst (λ (z : Shape). AreElements z took.hold.now) shape_is took.elements;
       apart = subst (λ (v : View). IsApartFromHands v lock took.hold.now) old_is (subst (λ (d : DomainId). IsApartFromHands old.0 d took.hold.now) named (subst (λ (z : Shape). IsApartFromHands old.0 (lock_named z k) took.hold.now) shape_is took.apart));
@@ -216,7 +216,7 @@ may_lose t lock p here part can key v key_is v_is = record {
 }
 
 -- a pass once its lock is given back
-is_pass_back : {flags : List Bool} {ended : Option (Vec Finished Global)} (v : View) (slots : List (ℕ × Behind)) (strand now : List StrandStep) (spares : List (Option Stored)) (at : ℕ) (hold : Hold) (entry : Entry) (kept : List StrandStep) (lost : List ℕ) (after : Seated) → IsPass v slots strand spares flags ended
+is_pass_back : {flags : List Bool} {ended : Option (Vec FinishedStrand Global)} (v : View) (slots : List (ℕ × Behind)) (strand now : List StrandStep) (spares : List (Option Stored)) (at : ℕ) (hold : Hold) (entry : Entry) (kept : List StrandStep) (lost : List ℕ) (after : Seated) → IsPass v slots strand spares flags ended
     → after ≡ (with_lost lost (given at hold entry kept v), rest slots) → now ≡ kept → IsPass after.0 after.1 now spares flags ended
 is_pass_back {flags} {ended} v slots strand now spares at hold entry kept lost after pass after_is now_is =
     subst (λ (z : Seated). IsPass z.0 z.1 now spares flags ended) (sym after_is) record {
@@ -230,20 +230,20 @@ is_pass_back {flags} {ended} v slots strand now spares at hold entry kept lost a
       hands_real = pass.hands_real;
     }
 
-pub is_pass_given : {flags : List Bool} {ended : Option (Vec Finished Global)} (v : View) (slots : List (ℕ × Behind)) (strand now : List StrandStep) (spares : List (Option Stored)) (entry : Entry) (kept : List StrandStep) (put after : Seated) → IsPass v slots strand spares flags ended
-    → put.0 ≡ v → rest put.1 ≡ rest slots → Gives entry kept put after → now ≡ kept → IsPass after.0 after.1 now spares flags ended
+pub is_pass_given : {flags : List Bool} {ended : Option (Vec FinishedStrand Global)} (v : View) (slots : List (ℕ × Behind)) (strand now : List StrandStep) (spares : List (Option Stored)) (entry : Entry) (kept : List StrandStep) (put after : Seated) → IsPass v slots strand spares flags ended
+    → put.0 ≡ v → rest put.1 ≡ rest slots → GivesBack entry kept put after → now ≡ kept → IsPass after.0 after.1 now spares flags ended
 is_pass_given v slots strand now spares entry kept put after pass put_is below_is gives now_is =
     let after_is : after ≡ (given gives.at gives.hold entry kept v, rest slots) = gives.after_is ∙ (λ i. (given gives.at gives.hold entry kept (put_is i), below_is i)) in
     is_pass_back v slots strand now spares gives.at gives.hold entry kept v.lost after pass after_is now_is
 
 -- and the same without a part
-pub is_pass_lost : {flags : List Bool} {ended : Option (Vec Finished Global)} (v : View) (slots : List (ℕ × Behind)) (strand : List StrandStep) (spares : List (Option Stored)) (cpu call : ℕ) (put after : Seated) → IsPass v slots strand spares flags ended
+pub is_pass_lost : {flags : List Bool} {ended : Option (Vec FinishedStrand Global)} (v : View) (slots : List (ℕ × Behind)) (strand : List StrandStep) (spares : List (Option Stored)) (cpu call : ℕ) (put after : Seated) → IsPass v slots strand spares flags ended
     → put.0 ≡ v → rest put.1 ≡ rest slots → GivesSome cpu call put after → IsPass after.0 after.1 strand spares flags ended
 is_pass_lost v slots strand spares cpu call put after pass put_is below_is gives =
     let after_is : after ≡ (losing gives.at gives.hold (entry_by cpu call gives.part) v, rest slots) = gives.after_is ∙ (λ i. (losing gives.at gives.hold (entry_by cpu call gives.part) (put_is i), below_is i)) in
     is_pass_back v slots strand strand spares gives.at gives.hold (entry_by cpu call gives.part) v.kept (gives.hold.lock ∷ v.lost) after pass after_is pass.strand_is
 
-pub gave_of : (before after : PassView) (part : Part) (entry : Entry) (kept : List StrandStep) (put given_seat : Seated) → put.0 ≡ before.view → entry ≡ entry_of before part → Gives entry kept put given_seat → after ≡ with_view before given_seat.0 → Gave before after part
+pub gave_of : (before after : PassView) (part : Part) (entry : Entry) (kept : List StrandStep) (put given_seat : Seated) → put.0 ≡ before.view → entry ≡ entry_of before part → GivesBack entry kept put given_seat → after ≡ with_view before given_seat.0 → Gave before after part
 gave_of before after part entry kept put given_seat put_is entry_is gives after_is = record {
   hold = gives.hold;
   below = gives.below;
@@ -287,7 +287,7 @@ gave_some_of t lock before after here part can put given_seat behind k put_is sl
     same_head e = cc
 
 -- a pass that has made a note
-pub is_pass_noted : {flags : List Bool} {ended : Option (Vec Finished Global)} (v : View) (slots : List (ℕ × Behind)) (strand : List StrandStep) (spares : List (Option Stored)) (notes : List Notes) (bits : List BitSeen) (touched : List WordStep) (readings : List HomeIn) (after : Seated) → IsPass v slots strand spares flags ended → after ≡ (noted notes bits touched readings v, slots) → IsPass after.0 after.1 strand spares flags ended
+pub is_pass_noted : {flags : List Bool} {ended : Option (Vec FinishedStrand Global)} (v : View) (slots : List (ℕ × Behind)) (strand : List StrandStep) (spares : List (Option Stored)) (notes : List Notes) (bits : List BitSeen) (touched : List WordStep) (readings : List HomeIn) (after : Seated) → IsPass v slots strand spares flags ended → after ≡ (noted notes bits touched readings v, slots) → IsPass after.0 after.1 strand spares flags ended
 is_pass_noted {flags} {ended} v slots strand spares notes bits touched readings after pass after_is =
     subst (λ (z : Seated). IsPass z.0 z.1 strand spares flags ended) (sym after_is) record { carries = pass.carries; strand_is = pass.strand_is; cpus_are = pass.cpus_are; ended_are = pass.ended_are; spares_fit = pass.spares_fit; within = pass.within; ended_within = pass.ended_within; hands_real = pass.hands_real }
 
@@ -319,7 +319,7 @@ cpu_is_few t p cpu v is of_table begun cpu_is v_is within =
     omega arith
 
 -- a pass with another spare for one CPU, or with none
-pub is_pass_spared : {flags : List Bool} {ended : Option (Vec Finished Global)} (v : View) (slots : List (ℕ × Behind)) (strand : List StrandStep) (cpu : ℕ) (spares now : List (Option Stored)) (found : Option Stored) → IsPass v slots strand spares flags ended → spare_of cpu now ≡ found → IfSome found (IsSized v.shape) → SparesDiffer cpu spares now → IsPass v slots strand now flags ended
+pub is_pass_spared : {flags : List Bool} {ended : Option (Vec FinishedStrand Global)} (v : View) (slots : List (ℕ × Behind)) (strand : List StrandStep) (cpu : ℕ) (spares now : List (Option Stored)) (found : Option Stored) → IsPass v slots strand spares flags ended → spare_of cpu now ≡ found → IfSome found (IsSized v.shape) → SparesDiffer cpu spares now → IsPass v slots strand now flags ended
 is_pass_spared v slots strand cpu spares now found pass here sized others = record {
   carries = pass.carries;
   strand_is = pass.strand_is;

@@ -28,7 +28,7 @@ use Rattle.place_table.specs.declared.view.InHand.{InHand}
 use Rattle.place_table.specs.declared.view.HashIn.{HashIn}
 use Rattle.place_table.specs.declared.view.Notes.{Notes}
 use Rattle.place_table.specs.Views.{hold_at, now_at, with_now, with_places, home_known, hash_known, kept_hashes, kept_readings, touching, is_among, is_in_hand_of, came_at}
-use Rattle.place_table.specs.Rules.{World, Rule, Knows, HashesRight, AtHome, Ascends, entries, hold, hold_of, is_hand_of, is_home_of, StillHome, IsReading, IsHashOf, IsHashed, AreNoted}
+use Rattle.place_table.specs.Rules.{World, Rule, PassKnows, HashesRight, AtHome, Ascends, entries, hold, hold_of, is_hand_of, is_home_of, StillHome, IsReading, IsHashOf, IsHashed, AreNoted}
 use Rattle.place_table.specs.Words.{owner_word, home_word, bit_word}
 use Rattle.map_types.specs.Kind.{is_lru}
 use Rattle.place_table.proofs.StoredHashes.{kept_known}
@@ -45,16 +45,16 @@ use Rattle.place_table.proofs.NotesDone.{word_off, noted_more}
 pub record IsHeldByPass (w : World) (pass k : ℕ) : Type 0 where
   pub cpu : ℕ
   pub holder_is : w.core.holder k ≡ Some cpu
-  pub mine : w.whose cpu ≡ pass
+  pub mine : w.pass_of_cpu cpu ≡ pass
 
 -- these are the locks that a pass holds, where such lists lie under the locks
 abbrev pub AreHeld : World → ℕ → (ℕ → Lists) → List Hold → Type 0
-AreHeld w pass lists held = (k : ℕ) → hold_at k held ≡ hold_of pass w.whose k (w.core.holder k) (w.log k) (lists k) (w.lost k)
+AreHeld w pass lists held = (k : ℕ) → hold_at k held ≡ hold_of pass w.pass_of_cpu k (w.core.holder k) (w.log k) (lists k) (w.lost k)
 
 -- a lock that is held, as the pass has it
-hold_there : (w : World) (pass k : ℕ) (lists : Lists) (by_pass : IsHeldByPass w pass k) → hold_of pass w.whose k (w.core.holder k) (w.log k) lists (w.lost k) ≡ Some (hold k by_pass.cpu (w.log k) lists (w.lost k))
+hold_there : (w : World) (pass k : ℕ) (lists : Lists) (by_pass : IsHeldByPass w pass k) → hold_of pass w.pass_of_cpu k (w.core.holder k) (w.log k) lists (w.lost k) ≡ Some (hold k by_pass.cpu (w.log k) lists (w.lost k))
 hold_there w pass k lists by_pass =
-    ap (λ (z : Option ℕ). hold_of pass w.whose k z (w.log k) lists (w.lost k)) by_pass.holder_is ∙ hold_of_mine w.whose pass k by_pass.cpu (w.log k) lists (w.lost k) by_pass.mine
+    ap (λ (z : Option ℕ). hold_of pass w.pass_of_cpu k z (w.log k) lists (w.lost k)) by_pass.holder_is ∙ hold_of_mine w.pass_of_cpu pass k by_pass.cpu (w.log k) lists (w.lost k) by_pass.mine
 
 -- what the pass knows to lie under a lock does
 pub now_is : (w : World) (pass k : ℕ) (lists : ℕ → Lists) (held : List Hold) → AreHeld w pass lists held → IsHeldByPass w pass k → now_at k held ≡ lists k
@@ -64,7 +64,7 @@ now_is w pass k lists held are by_pass = now_at_is k held (hold k by_pass.cpu (w
 pub held_moved : (w : World) (pass k : ℕ) (lists : ℕ → Lists) (held : List Hold) (now : Lists) → AreHeld w pass lists held → IsHeldByPass w pass k → AreHeld w pass (put lists k now) (with_now k now held)
 held_moved w pass k lists held now are by_pass m =
     let h : Hold = hold k by_pass.cpu (w.log k) (lists k) (w.lost k) in
-    at_put lists k now (λ i l. hold_at i (with_now k now held) ≡ hold_of pass w.whose i (w.core.holder i) (w.log i) l (w.lost i)) m
+    at_put lists k now (λ i l. hold_at i (with_now k now held) ≡ hold_of pass w.pass_of_cpu i (w.core.holder i) (w.log i) l (w.lost i)) m
     (hold_at_now k now held h (are k ∙ hold_there w pass k (lists k) by_pass) ∙ sym (hold_there w pass k now by_pass))
     (λ other. hold_at_else k m now held other ∙ are m)
 
@@ -81,20 +81,20 @@ AreHashes shape w home hand hashes held notes =
 -- What a step shows that changes places, and what the pass knows then.
 pub record MovesPlaces (shape : Shape) (w : World) (pass : ℕ) (lists : ℕ → Lists) (owner : ℕ → Owner) (home : ℕ → Home) (held : List Hold) (hand carried : List InHand) (readings : List HomeIn) (notes : List Notes) (noted : List HashIn) : Type 0 where
   pub under : (k : ℕ) → (lists k ≡ w.core.lists k) ⊎ IsHeldByPass w pass k
-  pub owners : (e : ℕ) → (owner e ≡ w.core.owner e) ⊎ (IsOwnerOfPass w.whose pass (w.core.owner e) × IsOwnerOfPass w.whose pass (owner e))
-  pub homes : (e : ℕ) → (home e ≡ w.core.home e) ⊎ (IsHomeOfPass w.whose pass (w.core.home e) × IsHomeOfPass w.whose pass (home e))
+  pub owners : (e : ℕ) → (owner e ≡ w.core.owner e) ⊎ (IsOwnerOfPass w.pass_of_cpu pass (w.core.owner e) × IsOwnerOfPass w.pass_of_cpu pass (owner e))
+  pub homes : (e : ℕ) → (home e ≡ w.core.home e) ⊎ (IsHomeOfPass w.pass_of_cpu pass (w.core.home e) × IsHomeOfPass w.pass_of_cpu pass (home e))
   pub are_held : AreHeld w pass lists held
   pub ascends : Ascends shape held
-  pub in_hands : AreInHands is_hand_of shape.cpus pass w.whose owner hand
-  pub are_carried : AreInHands is_home_of shape.cpus pass w.whose home carried
+  pub in_hands : AreInHands is_hand_of shape.cpus pass w.pass_of_cpu owner hand
+  pub are_carried : AreInHands is_home_of shape.cpus pass w.pass_of_cpu home carried
   pub placed : Placed shape (core_moved w lists owner home)
   pub ranked : Ranked shape (core_moved w lists owner home)
   pub hashes : IsTrue (is_lru shape.kind) → HashesRight shape w.core.holder lists owner w.log w.hash
   pub are_read : (e c : ℕ) (read : Home) → c < shape.cpus → home_known e c readings ≡ Some read → IsReading shape w.core.holder w.log home hand e c read
   pub are_hashes : AreHashes shape w home hand noted held notes
   -- and what others have in hand, and what they read of it
-  pub at_home : (e c : ℕ) (lock : DomainId) → e < shape.elements → w.core.owner e ≡ owned.Hand c → ¬ (w.whose c ≡ pass) → home e ≡ homed.In lock → (w.core.home e ≡ homed.In lock) ⊎ IsAway shape w.core.holder w.core.holder (w.core.home e) c lock
-  pub still : (e c : ℕ) (read : Home) → w.core.owner e ≡ owned.Hand c → ¬ (w.whose c ≡ pass) → StillHome shape w.core.holder w.log e (w.core.home e) read → StillHome shape w.core.holder w.log e (home e) read
+  pub at_home : (e c : ℕ) (lock : DomainId) → e < shape.elements → w.core.owner e ≡ owned.Hand c → ¬ (w.pass_of_cpu c ≡ pass) → home e ≡ homed.In lock → (w.core.home e ≡ homed.In lock) ⊎ IsAway shape w.core.holder w.core.holder (w.core.home e) c lock
+  pub still : (e c : ℕ) (read : Home) → w.core.owner e ≡ owned.Hand c → ¬ (w.pass_of_cpu c ≡ pass) → StillHome shape w.core.holder w.log e (w.core.home e) read → StillHome shape w.core.holder w.log e (home e) read
 
 module _ (shape : Shape) (s : State Behind View) (r : Rule shape s) (pass : ℕ) (v : View) (at_pass : get_elem? s.views pass ≡ some v) (lists : ℕ → Lists) (owner : ℕ → Owner) (home : ℕ → Home) where
   moved_world : World → WordStep → World
@@ -102,9 +102,9 @@ module _ (shape : Shape) (s : State Behind View) (r : Rule shape s) (pass : ℕ)
     core = core_moved w lists owner home;
     log = w.log;
     lost = w.lost;
-    whose = w.whose;
-    keeper = w.keeper;
-    team = w.team;
+    pass_of_cpu = w.pass_of_cpu;
+    pass_of_strand = w.pass_of_strand;
+    cpus_of_strand = w.cpus_of_strand;
     current = w.current;
     past = w.past;
     next = w.next;
@@ -126,7 +126,7 @@ module _ (shape : Shape) (s : State Behind View) (r : Rule shape s) (pass : ℕ)
       let w' : World = moved_world w x in
       let kn = r.knows pass v at_pass in
       let nv : View = record (with_places held hand carried readings notes (touching (made w) i None n v) v) { hashes = hashes } in
-      let same : SameStrands w w' = record { keeper = λ _. refl; team = λ _. refl; next = refl; current = λ _. refl; past = λ _. refl; whose = λ _. refl; still = λ _ z. z } in (
+      let same : SameStrands w w' = record { pass_of_strand = λ _. refl; cpus_of_strand = λ _. refl; next = refl; current = λ _. refl; past = λ _. refl; pass_of_cpu = λ _. refl; still = λ _ z. z } in (
         record {
           world = w';
           is_shape = r.is_shape;
@@ -144,14 +144,14 @@ module _ (shape : Shape) (s : State Behind View) (r : Rule shape s) (pass : ℕ)
               (λ (stays : lists k ≡ w.core.lists k). subst (λ (l : Lists). AtHome shape k (w.core.holder k) (entries (w.log k)) l (w.lost k) (get_elem? s.homes k)) (sym stays) (r.homes k real there))
               (λ (by_pass : IsHeldByPass w pass k). subst (λ (z : Option ℕ). AtHome shape k z (entries (w.log k)) (w.core.lists k) (w.lost k) (get_elem? s.homes k) → AtHome shape k z (entries (w.log k)) (lists k) (w.lost k) (get_elem? s.homes k)) (sym by_pass.holder_is) (λ z. z) (r.homes k real there))
               (moves.under k);
-          seated = λ c less. subst (λ (z : ℕ). w.whose c < z) (sym (length-set s.views pass nv)) (r.seated c less);
+          seated = λ c less. subst (λ (z : ℕ). w.pass_of_cpu c < z) (sym (length-set s.views pass nv)) (r.seated c less);
           tagged = λ k. tagged_stays w w' (length s.views) (length (set s.views pass nv)) (w.log k) (sym (length-set s.views pass nv)) same (r.tagged k);
           in_time = time_more w.touches (w.current pass, x) r.in_time refl;
           gave_back = λ k real. givers_other k w.touches (w.current pass, x) (λ at _. omega arith) ∙ r.gave_back k real;
           lead = lead_with shape s r (w.current pass) x (omega (arith, r.words, below)) tt;
           of_strands = of_strands_with shape w pass v kn x w' (length s.views) (length (set s.views pass nv)) (there s.views pass v at_pass) (sym (length-set s.views pass nv)) same r.of_strands;
           knows = λ j u f. ⊎_elim
-              (λ t. subst (λ (z : ℕ × View). Knows shape w' z.0 z.1) (λ i. (sym t.0 i, t.1 i)) record {
+              (λ t. subst (λ (z : ℕ × View). PassKnows shape w' z.0 z.1) (λ i. (sym t.0 i, t.1 i)) record {
                 shape_is = kn.shape_is;
                 cpus = kn.cpus;
                 within = kn.within;
@@ -174,18 +174,18 @@ module _ (shape : Shape) (s : State Behind View) (r : Rule shape s) (pass : ℕ)
               })
               (λ t. let ku = r.knows j u t.1 in others shape w w' j u same ku
               (λ k. ⊎_elim
-              (λ (stays : lists k ≡ w.core.lists k). ap (λ (l : Lists). hold_of j w.whose k (w.core.holder k) (w.log k) l (w.lost k)) stays)
+              (λ (stays : lists k ≡ w.core.lists k). ap (λ (l : Lists). hold_of j w.pass_of_cpu k (w.core.holder k) (w.log k) l (w.lost k)) stays)
               (λ (by_pass : IsHeldByPass w pass k).
-              let mine : IsMineOrFree w.whose pass (w.core.holder k) = subst (IsMineOrFree w.whose pass) (sym by_pass.holder_is) by_pass.mine in
-              hold_of_other w.whose pass j k (w.core.holder k) (w.log k) (lists k) (w.lost k) mine t.0 ∙ sym (hold_of_other w.whose pass j k (w.core.holder k) (w.log k) (w.core.lists k) (w.lost k) mine t.0))
+              let mine : IsMineOrFree w.pass_of_cpu pass (w.core.holder k) = subst (IsMineOrFree w.pass_of_cpu pass) (sym by_pass.holder_is) by_pass.mine in
+              hold_of_other w.pass_of_cpu pass j k (w.core.holder k) (w.log k) (lists k) (w.lost k) mine t.0 ∙ sym (hold_of_other w.pass_of_cpu pass j k (w.core.holder k) (w.log k) (w.core.lists k) (w.lost k) mine t.0))
               (moves.under k))
               (λ e c _. ⊎_elim
-              (λ (stays : owner e ≡ w.core.owner e). ap (λ (o : Owner). is_hand_of c o && eqb (w.whose c) j) stays)
-              (λ (ours : IsOwnerOfPass w.whose pass (w.core.owner e) × IsOwnerOfPass w.whose pass (owner e)). not_their_owner w.whose pass j c (owner e) ours.1 t.0 ∙ sym (not_their_owner w.whose pass j c (w.core.owner e) ours.0 t.0))
+              (λ (stays : owner e ≡ w.core.owner e). ap (λ (o : Owner). is_hand_of c o && eqb (w.pass_of_cpu c) j) stays)
+              (λ (ours : IsOwnerOfPass w.pass_of_cpu pass (w.core.owner e) × IsOwnerOfPass w.pass_of_cpu pass (owner e)). not_their_owner w.pass_of_cpu pass j c (owner e) ours.1 t.0 ∙ sym (not_their_owner w.pass_of_cpu pass j c (w.core.owner e) ours.0 t.0))
               (moves.owners e))
               (λ e c _. ⊎_elim
-              (λ (stays : home e ≡ w.core.home e). ap (λ (h : Home). is_home_of c h && eqb (w.whose c) j) stays)
-              (λ (ours : IsHomeOfPass w.whose pass (w.core.home e) × IsHomeOfPass w.whose pass (home e)). not_their_home w.whose pass j c (home e) ours.1 t.0 ∙ sym (not_their_home w.whose pass j c (w.core.home e) ours.0 t.0))
+              (λ (stays : home e ≡ w.core.home e). ap (λ (h : Home). is_home_of c h && eqb (w.pass_of_cpu c) j) stays)
+              (λ (ours : IsHomeOfPass w.pass_of_cpu pass (w.core.home e) × IsHomeOfPass w.pass_of_cpu pass (home e)). not_their_home w.pass_of_cpu pass j c (home e) ours.1 t.0 ∙ sym (not_their_home w.pass_of_cpu pass j c (w.core.home e) ours.0 t.0))
               (moves.homes e))
               (λ _ _ _. refl)
               (λ _ z. z)
@@ -201,21 +201,21 @@ module _ (shape : Shape) (s : State Behind View) (r : Rule shape s) (pass : ℕ)
       )
 
 -- readings of what is still in hand, where no home changes
-pub readings_kept : (shape : Shape) (w : World) (pass : ℕ) (v : View) (kn : Knows shape w pass v) (hand : List InHand) → (e c : ℕ) (read : Home) → c < shape.cpus → home_known e c (kept_readings hand v.readings) ≡ Some read → IsReading shape w.core.holder w.log w.core.home hand e c read
+pub readings_kept : (shape : Shape) (w : World) (pass : ℕ) (v : View) (kn : PassKnows shape w pass v) (hand : List InHand) → (e c : ℕ) (read : Home) → c < shape.cpus → home_known e c (kept_readings hand v.readings) ≡ Some read → IsReading shape w.core.holder w.log w.core.home hand e c read
 readings_kept shape w pass v kn hand e c read within found =
     let k = kept_home e c read hand v.readings found in let was = kn.readings e c read within k.0 in record { real = was.real; in_hand = k.1; still = was.still }
 
 -- hashes of what is still in hand
-pub hashes_kept : (shape : Shape) (w : World) (pass : ℕ) (v : View) (kn : Knows shape w pass v) (hand : List InHand) → (e c : ℕ) (noted : HashIn) → c < shape.cpus → hash_known e c (kept_hashes hand v.hashes) ≡ Some noted → IsHashOf shape w.hash hand e c noted.bucket
+pub hashes_kept : (shape : Shape) (w : World) (pass : ℕ) (v : View) (kn : PassKnows shape w pass v) (hand : List InHand) → (e c : ℕ) (noted : HashIn) → c < shape.cpus → hash_known e c (kept_hashes hand v.hashes) ≡ Some noted → IsHashOf shape w.hash hand e c noted.bucket
 hashes_kept shape w pass v kn hand e c noted within found =
     let k = kept_known e c noted hand v.hashes found in record { in_hand = k.1; bucket_is = (kn.hashes e c noted within k.0).bucket_is }
 
 -- a lock that the pass knows to be held
 module _ (shape : Shape) (s : State Behind View) (r : Rule shape s) (pass : ℕ) (v : View) (at_pass : get_elem? s.views pass ≡ some v) (k : ℕ) (h : Hold) (found : hold_at k v.held ≡ Some h) where
-  pub held_there : HoldIs r.world.whose pass k (r.world.core.holder k) (r.world.log k) (r.world.core.lists k) (r.world.lost k) h
+  pub held_there : HoldIs r.world.pass_of_cpu pass k (r.world.core.holder k) (r.world.log k) (r.world.core.lists k) (r.world.lost k) h
   held_there =
       let w = r.world in let kn = r.knows pass v at_pass in
-      hold_of_is w.whose pass k (w.core.holder k) (w.log k) (w.core.lists k) (w.lost k) h (sym (kn.held k) ∙ found)
+      hold_of_is w.pass_of_cpu pass k (w.core.holder k) (w.log k) (w.core.lists k) (w.lost k) h (sym (kn.held k) ∙ found)
 
   pub by_pass_there : IsHeldByPass r.world pass k
   by_pass_there = record { cpu = h.cpu; holder_is = held_there.holder_is; mine = held_there.mine }

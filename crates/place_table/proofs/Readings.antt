@@ -22,7 +22,7 @@ use Rattle.place_words.proofs.LockLemmas.{named_by_number, number_of_named}
 use Rattle.place_core.specs.declared.step.Lists.{Lists}
 use Rattle.place_core.specs.State as cores
 use Rattle.place_core.specs.State.{rows, is_bucket}
-use Rattle.place_core.specs.Places.{Placed, PlacedAt, Place, lies, carried, lies_at, has_row, home_of_place, MayLieUnder, MayLie}
+use Rattle.place_core.specs.Places.{Placed, PlacedAt, ElementPlace, under_lock, carried, lies_at, has_row, home_of_place, MayLieUnder, MayLie}
 use Rattle.place_core.specs.Steps.{Holds, MayLeave, MayEnter, IsFreeOrInHand, CanRehome}
 use Rattle.place_core.specs.Wholeness.{all_of}
 use Rattle.place_core.proofs.ElementLemmas.{by_test, at_put, put_here, put_else}
@@ -30,7 +30,7 @@ use Rattle.place_core.proofs.RowLemmas.{lies_here}
 use Rattle.place_table.specs.declared.content.Content.{Content}
 use Rattle.place_table.specs.declared.view.InHand.{InHand}
 use Rattle.place_table.specs.declared.view.HomeIn.{HomeIn}
-use Rattle.place_table.specs.Contents.{told, lists_of, Fits}
+use Rattle.place_table.specs.Contents.{content_told, lists_of, FitsLock}
 use Rattle.place_table.specs.StoredHashes.{stored_in}
 use Rattle.place_table.specs.Flushes.{flushes, flushed_then, flushed_from, flushed_last}
 use Rattle.place_table.specs.Views.{is_in_hand_of, home_known, kept_readings, without_readings, with_reading, home_then, readings_then}
@@ -186,10 +186,10 @@ hand_apart : (c : ℕ) → homes.Hand c ≡ homes.In Global → ⊥
 hand_apart c is = cc
 
 -- where an element has a home that is the global lists the map evicts
-evicts_there : (shape : Shape) (place : Place) (lru : Bool) → is_lru shape.kind ≡ lru → home_of_place shape place ≡ homes.In Global → lru ≡ true
-evicts_there shape (lies k) true same is = refl
+evicts_there : (shape : Shape) (place : ElementPlace) (lru : Bool) → is_lru shape.kind ≡ lru → home_of_place shape place ≡ homes.In Global → lru ≡ true
+evicts_there shape (under_lock k) true same is = refl
 evicts_there shape (carried c) true same is = refl
-evicts_there shape (lies k) false same is = absurd (apart (sym (ap (λ (b : Bool). cond b (homes.In (lock_named shape k)) homes.Unlisted) same) ∙ is))
+evicts_there shape (under_lock k) false same is = absurd (apart (sym (ap (λ (b : Bool). cond b (homes.In (lock_named shape k)) homes.Unlisted) same) ∙ is))
   where
     apart : homes.Unlisted ≡ homes.In Global → ⊥
     apart is = cc
@@ -199,9 +199,9 @@ evicts_there shape (carried c) false same is = absurd (apart (sym (ap (λ (b : B
     apart is = cc
 
 -- A lock that this CPU holds is given back by a turn that tells of all that was flushed.
-module _ (shape : Shape) (holder : ℕ → Option ℕ) (lists : ℕ → Lists) (owner : ℕ → Owner) (home : ℕ → Home) (place : ℕ → Place) (p : PlacedAt shape lists owner home place) (log : ℕ → List Tagged)
-    (k cpu : ℕ) (here : Content) (fits : Fits shape (lock_named shape k) here) (l' : List Tagged) (entry : Entry) (more : entries l' ≡ entries (log k) ++ entry ∷ []) (new_is : content shape (lock_named shape k) (entries l') ≡ told (lock_named shape k) here)
-    (same_rows : (e : ℕ) → times e (rows (lists_of (told (lock_named shape k) here))) ≡ times e (rows (lists k)))
+module _ (shape : Shape) (holder : ℕ → Option ℕ) (lists : ℕ → Lists) (owner : ℕ → Owner) (home : ℕ → Home) (place : ℕ → ElementPlace) (p : PlacedAt shape lists owner home place) (log : ℕ → List Tagged)
+    (k cpu : ℕ) (here : Content) (fits : FitsLock shape (lock_named shape k) here) (l' : List Tagged) (entry : Entry) (more : entries l' ≡ entries (log k) ++ entry ∷ []) (new_is : content shape (lock_named shape k) (entries l') ≡ content_told (lock_named shape k) here)
+    (same_rows : (e : ℕ) → times e (rows (lists_of (content_told (lock_named shape k) here))) ≡ times e (rows (lists k)))
     (gone : IsTrue (is_lru shape.kind) → (c e h : ℕ) → lock_named shape k ≡ Local c → stored_in (content shape (lock_named shape k) (entries (log k))) e ≡ Some h → times e (all_of (lists k)) ≡ 0 → (home e ≡ homes.Hand cpu) ⊎ (flushes e entry.part ≡ true)) where
   away : (e c : ℕ) → e < shape.elements → lock_named shape k ≡ Local c → home e ≡ homes.In Global → IsIn e (all_of (lists k)) → ⊥
   away e c real named at inside =
@@ -212,16 +212,16 @@ module _ (shape : Shape) (holder : ℕ → Option ℕ) (lists : ℕ → Lists) (
   flushed_now : (e c : ℕ) → e < shape.elements → lock_named shape k ≡ Local c → home e ≡ homes.In Global → WasFlushed shape holder log k e → flushed_last shape (lock_named shape k) e (entries l') ≡ true
   flushed_now e c real named at was =
       let es : List Entry = entries (log k) in
-      let after_is : stored_in (content_after shape entry.cpu entry.part (content shape (lock_named shape k) es)) e ≡ stored_in (told (lock_named shape k) here) e =
+      let after_is : stored_in (content_after shape entry.cpu entry.part (content shape (lock_named shape k) es)) e ≡ stored_in (content_told (lock_named shape k) here) e =
       ap (λ z. stored_in z e) (sym (content_more shape (lock_named shape k) es entry) ∙ (ap (content shape (lock_named shape k)) (sym more) ∙ new_is)) in
       ap (flushed_last shape (lock_named shape k) e) more ∙ (last_more shape (lock_named shape k) e es entry
-      ∙ (ap (flushed_then (flushed_last shape (lock_named shape k) e es) (flushes e entry.part) (stored_in (content shape (lock_named shape k) es) e)) (after_is ∙ none_after (stored_in (told (lock_named shape k) here) e) refl)
+      ∙ (ap (flushed_then (flushed_last shape (lock_named shape k) e es) (flushes e entry.part) (stored_in (content shape (lock_named shape k) es) e)) (after_is ∙ none_after (stored_in (content_told (lock_named shape k) here) e) refl)
       ∙ go (stored_in (content shape (lock_named shape k) es) e) refl))
     where
-      none_after : (found : Option ℕ) → stored_in (told (lock_named shape k) here) e ≡ found → found ≡ None
+      none_after : (found : Option ℕ) → stored_in (content_told (lock_named shape k) here) e ≡ found → found ≡ None
       none_after None is = refl
       none_after (Some n) is =
-          let inside = stored_listed (told (lock_named shape k) here) e n is in
+          let inside = stored_listed (content_told (lock_named shape k) here) e n is in
           absurd (away e c real named at (in_all e (lists k) (let same = same_rows e in omega (arith, same))))
 
       not_there : times e (all_of (lists k)) ≡ 0
@@ -270,7 +270,7 @@ none_lower (Freelist c) low = omega arith
 module _ (shape : Shape) (core : cores.State) (placed : Placed shape core) (log : ℕ → List Tagged) (hash : ℕ → ℕ) (right : IsTrue (is_lru shape.kind) → HashesRight shape core.holder core.lists core.owner log hash) (lru : IsTrue (is_lru shape.kind))
     (by e : ℕ) (to : Home) (can : CanRehome shape core by e to) where
   -- the lock on whose lists it is
-  lies_home : (lock : DomainId) → core.home e ≡ homes.In lock → placed.place e ≡ lies (lock_number shape lock)
+  lies_home : (lock : DomainId) → core.home e ≡ homes.In lock → placed.place e ≡ under_lock (lock_number shape lock)
   lies_home lock at = go (placed.place e) refl
     where
       is_home : home_of_place shape (placed.place e) ≡ homes.In lock
@@ -282,10 +282,10 @@ module _ (shape : Shape) (core : cores.State) (placed : Placed shape core) (log 
       no_hand : (c : ℕ) → homes.Hand c ≡ homes.In lock → ⊥
       no_hand c is = cc
 
-      go : (place : Place) → placed.place e ≡ place → placed.place e ≡ lies (lock_number shape lock)
-      go (lies k) is =
+      go : (place : ElementPlace) → placed.place e ≡ place → placed.place e ≡ under_lock (lock_number shape lock)
+      go (under_lock k) is =
           let named : lock_named shape k ≡ lock = same_lock (lock_named shape k) lock (sym (ap (home_of_place shape) is ∙ ap (λ (b : Bool). cond b (homes.In (lock_named shape k)) homes.Unlisted) lru) ∙ is_home) in
-          is ∙ ap lies (sym (number_of_named shape k) ∙ ap (lock_number shape) named)
+          is ∙ ap under_lock (sym (number_of_named shape k) ∙ ap (lock_number shape) named)
       go (carried c) is = absurd (no_hand c (sym (ap (home_of_place shape) is ∙ ap (λ (b : Bool). cond b (homes.Hand c) homes.Unlisted) lru) ∙ is_home))
 
   -- what a flush leaves of a reading of the local lock that it was flushed from
@@ -294,7 +294,7 @@ module _ (shape : Shape) (core : cores.State) (placed : Placed shape core) (log 
       let k : ℕ = lock_number shape (Local d) in
       let holds : Holds shape core by (Local d) = subst (MayLeave shape core by) at can.from_there in
       let named : lock_named shape k ≡ Local d = named_by_number shape (Local d) holds.is_lock in
-      let at_k : placed.place e ≡ lies k = lies_home (Local d) at in
+      let at_k : placed.place e ≡ under_lock k = lies_home (Local d) at in
       let row : has_row (is_lru shape.kind) (lock_named shape k) (core.owner e) (lies_at k (placed.place e)) ≡ true =
       ap (λ (l : DomainId). has_row (is_lru shape.kind) l (core.owner e) (lies_at k (placed.place e))) named ∙ ((λ i. lru i && (not (is_free (in_hand i)) && lies_at k (at_k i))) ∙ lies_here k) in
       let listed : IsIn e (rows (core.lists k)) = (let n = placed.placed.rows k e ∙ (λ i. one (below i && row i)) in omega arith) in (
@@ -356,8 +356,8 @@ module _ (shape : Shape) (core : cores.State) (placed : Placed shape core) (log 
               same_owner : (a b : ℕ) → owners.Hand a ≡ owners.Hand b → a ≡ b
               same_owner a b is = cc
 
-              go : (place : Place) → placed.place e ≡ place → d ≡ c
-              go (lies k) is = absurd (no_lock (lock_named shape k) (sym (ap (home_of_place shape) is ∙ ap (λ (b : Bool). cond b (homes.In (lock_named shape k)) homes.Unlisted) lru) ∙ is_home))
+              go : (place : ElementPlace) → placed.place e ≡ place → d ≡ c
+              go (under_lock k) is = absurd (no_lock (lock_named shape k) (sym (ap (home_of_place shape) is ∙ ap (λ (b : Bool). cond b (homes.In (lock_named shape k)) homes.Unlisted) lru) ∙ is_home))
               go (carried x) is =
                   let may : MayLie shape e (core.owner e) (carried x) = subst (MayLie shape e (core.owner e)) is (placed.placed.places e can.real) in
                   same_home d x (sym (sym (ap (home_of_place shape) is ∙ ap (λ (b : Bool). cond b (homes.Hand x) homes.Unlisted) lru) ∙ is_home)) ∙ same_owner x c (sym may.1 ∙ in_hand)
@@ -406,7 +406,7 @@ not_then shape h e d (homes.In (Bucket b)) is at none = cc
 not_then shape h e d (homes.In (Freelist c)) is at none = cc
 not_then shape h e d (homes.Hand c) is at none = cc
 
-module _ (shape : Shape) (holder : ℕ → Option ℕ) (lists : ℕ → Lists) (owner : ℕ → Owner) (home : ℕ → Home) (place : ℕ → Place) (p : PlacedAt shape lists owner home place) (log : ℕ → List Tagged) where
+module _ (shape : Shape) (holder : ℕ → Option ℕ) (lists : ℕ → Lists) (owner : ℕ → Owner) (home : ℕ → Home) (place : ℕ → ElementPlace) (p : PlacedAt shape lists owner home place) (log : ℕ → List Tagged) where
   -- an element in hand, whose home is a lock, is listed under it
   pub listed_at_home : (e : ℕ) (lock : DomainId) → e < shape.elements → is_free (owner e) ≡ false → home e ≡ homes.In lock → IsIn e (rows (lists (lock_number shape lock)))
   listed_at_home e lock real not_free at = go (place e) refl
@@ -417,9 +417,9 @@ module _ (shape : Shape) (holder : ℕ → Option ℕ) (lists : ℕ → Lists) (
       same_lock : (a b : DomainId) → homes.In a ≡ homes.In b → a ≡ b
       same_lock a b is = cc
 
-      evicts : (x : Place) (lru : Bool) → is_lru shape.kind ≡ lru → home_of_place shape x ≡ homes.In lock → lru ≡ true
+      evicts : (x : ElementPlace) (lru : Bool) → is_lru shape.kind ≡ lru → home_of_place shape x ≡ homes.In lock → lru ≡ true
       evicts x true same is = refl
-      evicts (lies k) false same is = absurd (apart (sym (ap (λ (b : Bool). cond b (homes.In (lock_named shape k)) homes.Unlisted) same) ∙ is))
+      evicts (under_lock k) false same is = absurd (apart (sym (ap (λ (b : Bool). cond b (homes.In (lock_named shape k)) homes.Unlisted) same) ∙ is))
         where
           apart : homes.Unlisted ≡ homes.In lock → ⊥
           apart is = cc
@@ -441,8 +441,8 @@ module _ (shape : Shape) (holder : ℕ → Option ℕ) (lists : ℕ → Lists) (
       below : nat_lt e shape.elements ≡ true
       below = grind (arith, real)
 
-      go : (x : Place) → place e ≡ x → IsIn e (rows (lists (lock_number shape lock)))
-      go (lies k) is =
+      go : (x : ElementPlace) → place e ≡ x → IsIn e (rows (lists (lock_number shape lock)))
+      go (under_lock k) is =
           let lru : is_lru shape.kind ≡ true = evicts (place e) (is_lru shape.kind) refl is_home in
           let named : lock_named shape k ≡ lock = same_lock (lock_named shape k) lock (sym (ap (home_of_place shape) is ∙ ap (λ (b : Bool). cond b (homes.In (lock_named shape k)) homes.Unlisted) lru) ∙ is_home) in
           let may : MayLieUnder shape e (lock_named shape k) = subst (MayLie shape e (owner e)) is (p.places e real) in
@@ -465,8 +465,8 @@ module _ (shape : Shape) (holder : ℕ → Option ℕ) (lists : ℕ → Lists) (
       its_lock (Bucket b) may = absurd may
       its_lock (Freelist c) may = true_false (sym (both_true (not (is_lru shape.kind)) (nat_lt c shape.cpus) may).0 ∙ ap not lru)
 
-      in_set : (x : Place) → MayLie shape e (owner e) x → home_of_place shape x ≡ homes.In (CpuLru (set_of shape e))
-      in_set (lies k) may = ap (λ (b : Bool). cond b (homes.In (lock_named shape k)) homes.Unlisted) lru ∙ ap homes.In (its_lock (lock_named shape k) may)
+      in_set : (x : ElementPlace) → MayLie shape e (owner e) x → home_of_place shape x ≡ homes.In (CpuLru (set_of shape e))
+      in_set (under_lock k) may = ap (λ (b : Bool). cond b (homes.In (lock_named shape k)) homes.Unlisted) lru ∙ ap homes.In (its_lock (lock_named shape k) may)
       in_set (carried c) may = true_false (sym may.0 ∙ own)
 
   -- and it is listed there

@@ -42,7 +42,7 @@ record MadeBefore (w : World) (pass : ℕ) (ts : List ℕ) (x : WordStep) : Type
   strand : ℕ
   by : HasBy strand x w.touches
   past : is_among strand ts ≡ true
-  keeper : w.keeper strand ≡ pass
+  pass_of_strand : w.pass_of_strand strand ≡ pass
 
 past_made : (shape : Shape) (w : World) (pass : ℕ) (ts : List ℕ) (es : List Ended) (x : WordStep) → ArePast shape w pass ts es → HasEnded x es → MadeBefore w pass ts x
 past_made shape w pass [] [] x past has = absurd has
@@ -54,13 +54,13 @@ past_made shape w pass (t ∷ ts) (e ∷ es) x past has =
       strand = t;
       by = touches_by t w.touches x (subst (Has x) past.0.touched_are here);
       past = by_test t t (λ b. cond b true (is_among t ts) ≡ true) (λ _. refl) (λ n. absurd (n refl));
-      keeper = past.0.keeper;
+      pass_of_strand = past.0.pass_of_strand;
     })
     (λ (later : HasEnded x es). let found = past_made shape w pass ts es x past.2 later in record {
       strand = found.strand;
       by = found.by;
       past = by_test t found.strand (λ b. cond b true (is_among found.strand ts) ≡ true) (λ _. refl) (λ _. found.past);
-      keeper = found.keeper;
+      pass_of_strand = found.pass_of_strand;
     })
     has
 
@@ -86,7 +86,7 @@ module _ (shape : Shape) (s : State Behind View) (r : Rule shape s) (x : WordSte
       let w = r.world in
       let by = some_by w.touches x has in
       let of = strand_by w (length s.views) by.0 w.touches x r.of_strands by.1 in
-      let j : ℕ = w.keeper by.0 in let at = seat_at s.views j of.seated in let kn = r.knows j at.0 at.1 in
+      let j : ℕ = w.pass_of_strand by.0 in let at = seat_at s.views j of.seated in let kn = r.knows j at.0 at.1 in
       record {
         pass = j;
         view = at.0;
@@ -172,11 +172,11 @@ module _ (shape : Shape) (s : State Behind View) (r : Rule shape s) (pass : ℕ)
       ⊎_elim
       (λ (now : Has x m.view.touched).
       let one = one_strand_by 0 w.touches (w.current m.pass) (w.current pass) x r'.in_time (by_current shape after r' x m.pass m.view at now) by_it in
-      other (sym (r'.knows m.pass m.view at).strand.keeper ∙ (ap w.keeper one ∙ kn.strand.keeper)))
+      other (sym (r'.knows m.pass m.view at).strand.pass_of_strand ∙ (ap w.pass_of_strand one ∙ kn.strand.pass_of_strand)))
       (λ (ended : HasEnded x m.view.ended).
       let found = by_ended shape after r' x m.pass m.view at ended in
       let one = one_strand_by 0 w.touches found.strand (w.current pass) x r'.in_time found.by by_it in
-      other (sym found.keeper ∙ (ap w.keeper one ∙ kn.strand.keeper)))
+      other (sym found.pass_of_strand ∙ (ap w.pass_of_strand one ∙ kn.strand.pass_of_strand)))
       m.made)
 
   one_more : steps_of r'.world.touches ≡ steps_of r.world.touches ++ x ∷ []

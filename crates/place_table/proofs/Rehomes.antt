@@ -17,7 +17,7 @@ use Rattle.place_words.proofs.LockLemmas.{named_by_number, number_of_named}
 use Rattle.place_core.specs.declared.step.Lists.{Lists}
 use Rattle.place_core.specs.State as cores
 use Rattle.place_core.specs.State.{rows, is_bucket}
-use Rattle.place_core.specs.Places.{Placed, Place, lies, carried, lies_at, has_row, home_of_place, MayLieUnder, MayLie}
+use Rattle.place_core.specs.Places.{Placed, ElementPlace, under_lock, carried, lies_at, has_row, home_of_place, MayLieUnder, MayLie}
 use Rattle.place_core.specs.Steps.{Holds, left_by, joined_by, MayLeave, MayEnter, IsFreeOrInHand, CanRehome, after_leaving, after_joining}
 use Rattle.place_core.specs.Steps as steps
 use Rattle.place_core.proofs.ElementLemmas.{by_test, at_put, put_here}
@@ -91,8 +91,8 @@ module _ (shape : Shape) (core : cores.State) (placed : Placed shape core) (log 
           no_hand : (x : ℕ) → homes.Hand x ≡ homes.In lock → ⊥
           no_hand x is = cc
 
-          go : (x : Place) → placed.place e ≡ x → MayLieUnder shape e lock
-          go (lies k) is =
+          go : (x : ElementPlace) → placed.place e ≡ x → MayLieUnder shape e lock
+          go (under_lock k) is =
               let named : lock_named shape k ≡ lock = same_lock (lock_named shape k) lock (sym (ap (home_of_place shape) is ∙ ap (λ (b : Bool). cond b (homes.In (lock_named shape k)) homes.Unlisted) lru) ∙ is_home) in
               let may : MayLieUnder shape e (lock_named shape k) = subst (MayLie shape e (core.owner e)) is (placed.placed.places e can.real) in
               subst (MayLieUnder shape e) named may
@@ -176,8 +176,8 @@ module _ (shape : Shape) (core : cores.State) (placed : Placed shape core) (log 
                   same_home : (a b : ℕ) → homes.Hand a ≡ homes.Hand b → a ≡ b
                   same_home a b is = cc
 
-                  of_place : (x : Place) → placed.place e ≡ x → core.owner e ≡ owners.Hand by
-                  of_place (lies k) is = absurd (no_lock (lock_named shape k) (sym (ap (home_of_place shape) is ∙ ap (λ (b : Bool). cond b (homes.In (lock_named shape k)) homes.Unlisted) lru) ∙ is_home))
+                  of_place : (x : ElementPlace) → placed.place e ≡ x → core.owner e ≡ owners.Hand by
+                  of_place (under_lock k) is = absurd (no_lock (lock_named shape k) (sym (ap (home_of_place shape) is ∙ ap (λ (b : Bool). cond b (homes.In (lock_named shape k)) homes.Unlisted) lru) ∙ is_home))
                   of_place (carried x) is =
                       let may_lie : MayLie shape e (core.owner e) (carried x) = subst (MayLie shape e (core.owner e)) is (placed.placed.places e can.real) in
                       let mine : c ≡ by = subst (MayLeave shape core by) at can.from_there in

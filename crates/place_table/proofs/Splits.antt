@@ -18,7 +18,7 @@ use Rattle.place_table.specs.declared.content.Behind.{Behind}
 use Rattle.place_table.specs.declared.view.View.{View}
 use Rattle.place_table.specs.declared.view.InHand.{InHand}
 use Rattle.place_table.specs.Views.{is_among, hold_at, is_in_hand_of, kept_hashes, came_at, without_cpu, in_hand_of, in_other_hands, all_strands, split_from, split_off}
-use Rattle.place_table.specs.Rules.{Tagged, World, hold, hold_of, is_hand_of, is_home_of, IsStrand, ArePast, IsHashed, Knows, Rule}
+use Rattle.place_table.specs.Rules.{Tagged, World, hold, hold_of, is_hand_of, is_home_of, IsStrand, ArePast, IsHashed, PassKnows, Rule}
 use Rattle.place_table.proofs.StoredHashes.{kept_there}
 use Rattle.place_table.proofs.Worlds.{true_false, none_some, has_mine, lock_still_lost, hashed_stands}
 use Rattle.place_table.proofs.Locks.{there}
@@ -87,9 +87,9 @@ module _ (shape : Shape) (id c : ℕ) (v : View) (cpu : is_among c v.cpus ≡ tr
     core = w.core;
     log = w.log;
     lost = w.lost;
-    whose = put w.whose c n;
-    keeper = put (put (λ t. cond (eqb (w.keeper t) id) n (w.keeper t)) w.next id) (suc w.next) n;
-    team = put (put w.team w.next (without_cpu c v.cpus)) (suc w.next) (c ∷ []);
+    pass_of_cpu = put w.pass_of_cpu c n;
+    pass_of_strand = put (put (λ t. cond (eqb (w.pass_of_strand t) id) n (w.pass_of_strand t)) w.next id) (suc w.next) n;
+    cpus_of_strand = put (put w.cpus_of_strand w.next (without_cpu c v.cpus)) (suc w.next) (c ∷ []);
     current = put (put w.current id w.next) n (suc w.next);
     past = put (put w.past id []) n (done w id);
     next = suc (suc w.next);
@@ -98,21 +98,21 @@ module _ (shape : Shape) (id c : ℕ) (v : View) (cpu : is_among c v.cpus ≡ tr
   }
 
   -- of a strand that was there
-  cut_keeper : (w : World) (n t : ℕ) → t < w.next → (cut w n).keeper t ≡ cond (eqb (w.keeper t) id) n (w.keeper t)
+  cut_pass_of_strand : (w : World) (n t : ℕ) → t < w.next → (cut w n).pass_of_strand t ≡ cond (eqb (w.pass_of_strand t) id) n (w.pass_of_strand t)
   unfolding cut
-  cut_keeper w n t old = put_else _ (suc w.next) n t (λ e. omega arith) ∙ put_else _ w.next id t (λ e. omega arith)
+  cut_pass_of_strand w n t old = put_else _ (suc w.next) n t (λ e. omega arith) ∙ put_else _ w.next id t (λ e. omega arith)
 
-  cut_team : (w : World) (n t : ℕ) → t < w.next → (cut w n).team t ≡ w.team t
+  cut_cpus_of_strand : (w : World) (n t : ℕ) → t < w.next → (cut w n).cpus_of_strand t ≡ w.cpus_of_strand t
   unfolding cut
-  cut_team w n t old = put_else _ (suc w.next) (c ∷ []) t (λ e. omega arith) ∙ put_else w.team w.next _ t (λ e. omega arith)
+  cut_cpus_of_strand w n t old = put_else _ (suc w.next) (c ∷ []) t (λ e. omega arith) ∙ put_else w.cpus_of_strand w.next _ t (λ e. omega arith)
 
-  kept_by_other : (w : World) (n j t : ℕ) → j ≢ id → t < w.next → w.keeper t ≡ j → GoesTo w (cut w n) j t
+  kept_by_other : (w : World) (n j t : ℕ) → j ≢ id → t < w.next → w.pass_of_strand t ≡ j → GoesTo w (cut w n) j t
   kept_by_other w n j t other old e =
-      (cut_keeper w n t old ∙ (by_test (w.keeper t) id (λ b. cond b n (w.keeper t) ≡ w.keeper t) (λ f. absurd (other (sym e ∙ f))) (λ _. refl) ∙ e), cut_team w n t old)
+      (cut_pass_of_strand w n t old ∙ (by_test (w.pass_of_strand t) id (λ b. cond b n (w.pass_of_strand t) ≡ w.pass_of_strand t) (λ f. absurd (other (sym e ∙ f))) (λ _. refl) ∙ e), cut_cpus_of_strand w n t old)
 
-  kept_by_new : (w : World) (n t : ℕ) → t < w.next → w.keeper t ≡ id → GoesTo w (cut w n) n t
+  kept_by_new : (w : World) (n t : ℕ) → t < w.next → w.pass_of_strand t ≡ id → GoesTo w (cut w n) n t
   kept_by_new w n t old e =
-      (cut_keeper w n t old ∙ by_test (w.keeper t) id (λ b. cond b n (w.keeper t) ≡ n) (λ _. refl) (λ f. absurd (f e)), cut_team w n t old)
+      (cut_pass_of_strand w n t old ∙ by_test (w.pass_of_strand t) id (λ b. cond b n (w.pass_of_strand t) ≡ n) (λ _. refl) (λ f. absurd (f e)), cut_cpus_of_strand w n t old)
 
   -- of passes other than the two
   cut_current : (w : World) (n j : ℕ) → j ≢ id → j ≢ n → (cut w n).current j ≡ w.current j
@@ -123,25 +123,25 @@ module _ (shape : Shape) (id c : ℕ) (v : View) (cpu : is_among c v.cpus ≡ tr
   unfolding cut
   cut_past w n j not_id not_new = put_else _ n _ j not_new ∙ put_else w.past id [] j not_id
 
-  theirs : (w : World) (n j d : ℕ) → w.whose c ≡ id → j ≢ id → j ≢ n → eqb (put w.whose c n d) j ≡ eqb (w.whose d) j
+  theirs : (w : World) (n j d : ℕ) → w.pass_of_cpu c ≡ id → j ≢ id → j ≢ n → eqb (put w.pass_of_cpu c n d) j ≡ eqb (w.pass_of_cpu d) j
   theirs w n j d mine not_id not_new =
-      at_put w.whose c n (λ i x. eqb x j ≡ eqb (w.whose i) j) d
-      (not_one n j (λ f. not_new (sym f)) ∙ sym (not_one (w.whose c) j (λ f. not_id (sym f ∙ mine)))) (λ _. refl)
+      at_put w.pass_of_cpu c n (λ i x. eqb x j ≡ eqb (w.pass_of_cpu i) j) d
+      (not_one n j (λ f. not_new (sym f)) ∙ sym (not_one (w.pass_of_cpu c) j (λ f. not_id (sym f ∙ mine)))) (λ _. refl)
 
-  hold_left : (w : World) (n k : ℕ) (holder : Option ℕ) (log : List Tagged) (lists : Lists) (lost : Bool) → id ≢ n → hold_of id w.whose k holder log lists lost ≡ None → hold_of id (put w.whose c n) k holder log lists lost ≡ None
+  hold_left : (w : World) (n k : ℕ) (holder : Option ℕ) (log : List Tagged) (lists : Lists) (lost : Bool) → id ≢ n → hold_of id w.pass_of_cpu k holder log lists lost ≡ None → hold_of id (put w.pass_of_cpu c n) k holder log lists lost ≡ None
   hold_left w n k None log lists lost apart e = refl
   hold_left w n k (Some d) log lists lost apart e =
-      at_put w.whose c n (λ i x. cond (eqb (w.whose i) id) (Some (hold k i log lists lost)) None ≡ None → cond (eqb x id) (Some (hold k i log lists lost)) None ≡ None) d
+      at_put w.pass_of_cpu c n (λ i x. cond (eqb (w.pass_of_cpu i) id) (Some (hold k i log lists lost)) None ≡ None → cond (eqb x id) (Some (hold k i log lists lost)) None ≡ None) d
       (λ _. ap (λ b. cond b (Some (hold k c log lists lost)) None) (not_one n id (λ f. apart (sym f)))) (λ _ f. f) e
 
-  hold_right : (w : World) (n k : ℕ) (holder : Option ℕ) (log : List Tagged) (lists : Lists) (lost : Bool) → w.whose c ≡ id → ((d : ℕ) → holder ≡ Some d → w.whose d < n) → hold_of id w.whose k holder log lists lost ≡ None → hold_of n (put w.whose c n) k holder log lists lost ≡ None
+  hold_right : (w : World) (n k : ℕ) (holder : Option ℕ) (log : List Tagged) (lists : Lists) (lost : Bool) → w.pass_of_cpu c ≡ id → ((d : ℕ) → holder ≡ Some d → w.pass_of_cpu d < n) → hold_of id w.pass_of_cpu k holder log lists lost ≡ None → hold_of n (put w.pass_of_cpu c n) k holder log lists lost ≡ None
   hold_right w n k None log lists lost mine below e = refl
   hold_right w n k (Some d) log lists lost mine below e =
-      at_put w.whose c n (λ i x. cond (eqb (w.whose i) id) (Some (hold k i log lists lost)) None ≡ None → w.whose i < n → cond (eqb x n) (Some (hold k i log lists lost)) None ≡ None) d
+      at_put w.pass_of_cpu c n (λ i x. cond (eqb (w.pass_of_cpu i) id) (Some (hold k i log lists lost)) None ≡ None → w.pass_of_cpu i < n → cond (eqb x n) (Some (hold k i log lists lost)) None ≡ None) d
       (λ f _. absurd (none_some (sym f ∙ ap (λ b. cond b (Some (hold k c log lists lost)) None) (ap (λ (z : ℕ). eqb z id) mine ∙ is_one id))))
-      (λ _ _ less. ap (λ b. cond b (Some (hold k d log lists lost)) None) (not_one (w.whose d) n (λ f. omega arith))) e (below d refl)
+      (λ _ _ less. ap (λ b. cond b (Some (hold k d log lists lost)) None) (not_one (w.pass_of_cpu d) n (λ f. omega arith))) e (below d refl)
 
-  hold_else : (w : World) (n j k : ℕ) (holder : Option ℕ) (log : List Tagged) (lists : Lists) (lost : Bool) → w.whose c ≡ id → j ≢ id → j ≢ n → hold_of j (put w.whose c n) k holder log lists lost ≡ hold_of j w.whose k holder log lists lost
+  hold_else : (w : World) (n j k : ℕ) (holder : Option ℕ) (log : List Tagged) (lists : Lists) (lost : Bool) → w.pass_of_cpu c ≡ id → j ≢ id → j ≢ n → hold_of j (put w.pass_of_cpu c n) k holder log lists lost ≡ hold_of j w.pass_of_cpu k holder log lists lost
   hold_else w n j k None log lists lost mine not_id not_new = refl
   hold_else w n j k (Some d) log lists lost mine not_id not_new = ap (λ b. cond b (Some (hold k d log lists lost)) None) (theirs w n j d mine not_id not_new)
 
@@ -153,20 +153,20 @@ module _ (shape : Shape) (id c : ℕ) (v : View) (cpu : is_among c v.cpus ≡ tr
   same_turns w n = record { log = λ _. refl; lost = λ _. refl; next = omega arith; touches = refl }
 
   -- what a pass has in hand, by owners or by homes: F tells whose hand an element is in
-  hand_right : (w : World) (n e d : ℕ) (F : ℕ → Bool) (hand : List InHand) → w.whose c ≡ id → (d ≢ c → w.whose d < n) → (is_in_hand_of e c hand ≡ (F c && eqb (w.whose c) id)) → is_in_hand_of e d (in_hand_of c hand) ≡ (F d && eqb (put w.whose c n d) n)
+  hand_right : (w : World) (n e d : ℕ) (F : ℕ → Bool) (hand : List InHand) → w.pass_of_cpu c ≡ id → (d ≢ c → w.pass_of_cpu d < n) → (is_in_hand_of e c hand ≡ (F c && eqb (w.pass_of_cpu c) id)) → is_in_hand_of e d (in_hand_of c hand) ≡ (F d && eqb (put w.pass_of_cpu c n d) n)
   hand_right w n e d F hand mine below own =
-      at_put w.whose c n (λ i x. (i ≢ c → w.whose i < n) → is_in_hand_of e i (in_hand_of c hand) ≡ (F i && eqb x n)) d
+      at_put w.pass_of_cpu c n (λ i x. (i ≢ c → w.pass_of_cpu i < n) → is_in_hand_of e i (in_hand_of c hand) ≡ (F i && eqb x n)) d
       (λ _. own_same e c hand ∙ (own ∙ ap (λ t. F c && t) (ap (λ (z : ℕ). eqb z id) mine ∙ (is_one id ∙ sym (is_one n)))))
-      (λ other low. own_other e d c hand other ∙ sym (ap (λ t. F d && t) (not_one (w.whose d) n (λ f. let less = low other in omega arith)) ∙ and_false (F d))) below
+      (λ other low. own_other e d c hand other ∙ sym (ap (λ t. F d && t) (not_one (w.pass_of_cpu d) n (λ f. let less = low other in omega arith)) ∙ and_false (F d))) below
 
-  hand_left : (w : World) (n e d : ℕ) (F : ℕ → Bool) (hand : List InHand) → id ≢ n → (d ≢ c → is_in_hand_of e d hand ≡ (F d && eqb (w.whose d) id)) → is_in_hand_of e d (in_other_hands c hand) ≡ (F d && eqb (put w.whose c n d) id)
+  hand_left : (w : World) (n e d : ℕ) (F : ℕ → Bool) (hand : List InHand) → id ≢ n → (d ≢ c → is_in_hand_of e d hand ≡ (F d && eqb (w.pass_of_cpu d) id)) → is_in_hand_of e d (in_other_hands c hand) ≡ (F d && eqb (put w.pass_of_cpu c n d) id)
   hand_left w n e d F hand apart own =
-      at_put w.whose c n (λ i x. (i ≢ c → is_in_hand_of e i hand ≡ (F i && eqb (w.whose i) id)) → is_in_hand_of e i (in_other_hands c hand) ≡ (F i && eqb x id)) d
+      at_put w.pass_of_cpu c n (λ i x. (i ≢ c → is_in_hand_of e i hand ≡ (F i && eqb (w.pass_of_cpu i) id)) → is_in_hand_of e i (in_other_hands c hand) ≡ (F i && eqb x id)) d
       (λ _. others_same e c hand ∙ sym (ap (λ t. F c && t) (not_one n id (λ f. apart (sym f))) ∙ and_false (F c)))
       (λ other is. others_other e d c hand other ∙ is other) own
 
   -- what is known of stored hashes goes with the hand
-  hashed_apart : (w : World) → Knows shape w id v → IsTrue (is_lru shape.kind) → (hand : List InHand) (e d : ℕ) (lock : DomainId) → e < shape.elements → d < shape.cpus → is_in_hand_of e d v.hand ≡ true → is_in_hand_of e d hand ≡ true → w.core.home e ≡ homes.In lock
+  hashed_apart : (w : World) → PassKnows shape w id v → IsTrue (is_lru shape.kind) → (hand : List InHand) (e d : ℕ) (lock : DomainId) → e < shape.elements → d < shape.cpus → is_in_hand_of e d v.hand ≡ true → is_in_hand_of e d hand ≡ true → w.core.home e ≡ homes.In lock
       → IsHashed shape w.core.holder w.log w.hash (kept_hashes hand v.hashes) [] (lock_number shape lock) e d
   hashed_apart w kn lru hand e d lock real within was there at =
       let k : ℕ = lock_number shape lock in
@@ -175,14 +175,14 @@ module _ (shape : Shape) (id c : ℕ) (v : View) (cpu : is_among c v.cpus ≡ tr
       (λ inside. ap (λ (l : List Hold). is_among e (came_at k l v.notes)) (sym no_lock) ∙ inside) (kn.hashed lru e d lock real within was at)
 
   -- the new pass
-  right : (s : State Behind View) (r : Rule shape s) → get_elem? s.views id ≡ some v → Knows shape (cut r.world (length s.views)) (length s.views) (split_off c v)
+  right : (s : State Behind View) (r : Rule shape s) → get_elem? s.views id ≡ some v → PassKnows shape (cut r.world (length s.views)) (length s.views) (split_off c v)
   unfolding cut
   right s r at_id =
       let w : World = r.world in let n : ℕ = length s.views in let kn = r.knows id v at_id in let mine = has_mine shape w id v c kn cpu in let w' : World = cut w n in record {
         shape_is = kn.shape_is;
-        cpus = λ d less. at_put w.whose c n (λ i x. i < shape.cpus → cond (eqb c i) true false ≡ eqb x n) d
+        cpus = λ d less. at_put w.pass_of_cpu c n (λ i x. i < shape.cpus → cond (eqb c i) true false ≡ eqb x n) d
             (λ _. ap (λ b. cond b true false) (is_one c) ∙ sym (is_one n))
-            (λ other b. ap (λ t. cond t true false) (not_one c d (λ e. other (sym e))) ∙ sym (not_one (w.whose d) n (λ e. let q = r.seated d b in omega arith))) less;
+            (λ other b. ap (λ t. cond t true false) (not_one c d (λ e. other (sym e))) ∙ sym (not_one (w.pass_of_cpu d) n (λ e. let q = r.seated d b in omega arith))) less;
         within = λ d among. by_test c d (λ b. cond b true false ≡ true → d < shape.cpus) (λ e _. subst (λ (z : ℕ). z < shape.cpus) e (kn.within c cpu)) (λ _ f. true_false (sym f)) among;
         held = λ k. sym (hold_right w n k (w.core.holder k) (w.log k) (w.core.lists k) (w.lost k) mine (λ d e. r.seated d (r.ranked.within d k e)) (sym (kn.held k) ∙ ap (hold_at k) no_lock));
         ascends = tt;
@@ -199,9 +199,9 @@ module _ (shape : Shape) (id c : ℕ) (v : View) (cpu : is_among c v.cpus ≡ tr
         only = inl (refl, refl);
         losses = λ k among. lock_still_lost shape w w' k (λ found. found) (kn.losses k among);
         strand = subst (λ (z : ℕ). IsStrand shape w' n z (c ∷ []) [] [] []) (sym (put_here (put w.current id w.next) n (suc w.next))) record {
-          keeper = put_here (put (λ t. cond (eqb (w.keeper t) id) n (w.keeper t)) w.next id) (suc w.next) n;
+          pass_of_strand = put_here (put (λ t. cond (eqb (w.pass_of_strand t) id) n (w.pass_of_strand t)) w.next id) (suc w.next) n;
           numbered = omega arith;
-          team = put_here (put w.team w.next (without_cpu c v.cpus)) (suc w.next) (c ∷ []);
+          cpus_of_strand = put_here (put w.cpus_of_strand w.next (without_cpu c v.cpus)) (suc w.next) (c ∷ []);
           steps_are = λ k. sym (no_turns_yet w n (suc w.next) 0 (w.log k) (omega arith) (r.tagged k));
           stand = tt;
           kept_are = λ k below is found. refl;
@@ -215,12 +215,12 @@ module _ (shape : Shape) (id c : ℕ) (v : View) (cpu : is_among c v.cpus ≡ tr
       }
 
   -- the old one
-  left : (s : State Behind View) (r : Rule shape s) → get_elem? s.views id ≡ some v → id ≢ length s.views → Knows shape (cut r.world (length s.views)) id (split_from c v)
+  left : (s : State Behind View) (r : Rule shape s) → get_elem? s.views id ≡ some v → id ≢ length s.views → PassKnows shape (cut r.world (length s.views)) id (split_from c v)
   unfolding cut
   left s r at_id apart =
       let w : World = r.world in let n : ℕ = length s.views in let kn = r.knows id v at_id in let w' : World = cut w n in record {
         shape_is = kn.shape_is;
-        cpus = λ d less. at_put w.whose c n (λ i x. i < shape.cpus → is_among i (without_cpu c v.cpus) ≡ eqb x id) d
+        cpus = λ d less. at_put w.pass_of_cpu c n (λ i x. i < shape.cpus → is_among i (without_cpu c v.cpus) ≡ eqb x id) d
             (λ _. among_without_same c v.cpus ∙ sym (not_one n id (λ e. apart (sym e))))
             (λ other b. among_without_other d c v.cpus other ∙ kn.cpus d b) less;
         within = λ d among. by_test d c (λ _. d < shape.cpus)
@@ -241,9 +241,9 @@ module _ (shape : Shape) (id c : ℕ) (v : View) (cpu : is_among c v.cpus ≡ tr
         only = inl (refl, refl);
         losses = λ k among. lock_still_lost shape w w' k (λ found. found) (kn.losses k among);
         strand = subst (λ (z : ℕ). IsStrand shape w' id z (without_cpu c v.cpus) [] [] []) (sym (put_else (put w.current id w.next) n (suc w.next) id apart ∙ put_here w.current id w.next)) record {
-          keeper = put_else (put (λ t. cond (eqb (w.keeper t) id) n (w.keeper t)) w.next id) (suc w.next) n w.next (λ e. omega arith) ∙ put_here (λ t. cond (eqb (w.keeper t) id) n (w.keeper t)) w.next id;
+          pass_of_strand = put_else (put (λ t. cond (eqb (w.pass_of_strand t) id) n (w.pass_of_strand t)) w.next id) (suc w.next) n w.next (λ e. omega arith) ∙ put_here (λ t. cond (eqb (w.pass_of_strand t) id) n (w.pass_of_strand t)) w.next id;
           numbered = omega arith;
-          team = put_else (put w.team w.next (without_cpu c v.cpus)) (suc w.next) (c ∷ []) w.next (λ e. omega arith) ∙ put_here w.team w.next (without_cpu c v.cpus);
+          cpus_of_strand = put_else (put w.cpus_of_strand w.next (without_cpu c v.cpus)) (suc w.next) (c ∷ []) w.next (λ e. omega arith) ∙ put_here w.cpus_of_strand w.next (without_cpu c v.cpus);
           steps_are = λ k. sym (no_turns_yet w n w.next 0 (w.log k) (omega arith) (r.tagged k));
           stand = tt;
           kept_are = λ k below is found. refl;
@@ -255,7 +255,7 @@ module _ (shape : Shape) (id c : ℕ) (v : View) (cpu : is_among c v.cpus ≡ tr
       }
 
   -- any other
-  beside : (s : State Behind View) (r : Rule shape s) → get_elem? s.views id ≡ some v → (j : ℕ) (u : View) → get_elem? s.views j ≡ some u → j ≢ id → Knows shape (cut r.world (length s.views)) j u
+  beside : (s : State Behind View) (r : Rule shape s) → get_elem? s.views id ≡ some v → (j : ℕ) (u : View) → get_elem? s.views j ≡ some u → j ≢ id → PassKnows shape (cut r.world (length s.views)) j u
   unfolding cut
   beside s r at_id j u at_j not_id =
       let w : World = r.world in let n : ℕ = length s.views in let mine = has_mine shape w id v c (r.knows id v at_id) cpu in
@@ -285,12 +285,12 @@ module _ (shape : Shape) (id c : ℕ) (v : View) (cpu : is_among c v.cpus ≡ tr
       }
 
   -- the strand of a turn
-  listed_on : (w : World) (n t : ℕ) → id < n → w.keeper t < n → t < w.next → is_among t (w.current (w.keeper t) ∷ w.past (w.keeper t)) ≡ true → StaysListed w (cut w n) (suc n) t
+  listed_on : (w : World) (n t : ℕ) → id < n → w.pass_of_strand t < n → t < w.next → is_among t (w.current (w.pass_of_strand t) ∷ w.past (w.pass_of_strand t)) ≡ true → StaysListed w (cut w n) (suc n) t
   unfolding cut
   listed_on w n t here below old among =
-      by_test (w.keeper t) id (λ _. StaysListed w (cut w n) (suc n) t)
+      by_test (w.pass_of_strand t) id (λ _. StaysListed w (cut w n) (suc n) t)
       (λ own. let to = kept_by_new w n t old own in (
-        (let g : (cut w n).keeper t ≡ n = to.0 in omega arith),
+        (let g : (cut w n).pass_of_strand t ≡ n = to.0 in omega arith),
         omega arith,
         to.1,
         subst (λ (z : ℕ). is_among t ((cut w n).current z ∷ (cut w n).past z) ≡ true) (sym to.0)
@@ -299,13 +299,13 @@ module _ (shape : Shape) (id c : ℕ) (v : View) (cpu : is_among c v.cpus ≡ tr
             ∙ by_test (suc w.next) t (λ b. cond b true (is_among t (done w id)) ≡ true) (λ _. refl)
             (λ _. among_done w id t (subst (λ (z : ℕ). is_among t (w.current z ∷ w.past z) ≡ true) own among)))),
       ))
-      (λ other. let to = kept_by_other w n (w.keeper t) t other old refl in let not_new : w.keeper t ≢ n = (λ e. omega arith) in (
-        (let g : (cut w n).keeper t ≡ w.keeper t = to.0 in omega arith),
+      (λ other. let to = kept_by_other w n (w.pass_of_strand t) t other old refl in let not_new : w.pass_of_strand t ≢ n = (λ e. omega arith) in (
+        (let g : (cut w n).pass_of_strand t ≡ w.pass_of_strand t = to.0 in omega arith),
         omega arith,
         to.1,
         subst (λ (z : ℕ). is_among t ((cut w n).current z ∷ (cut w n).past z) ≡ true) (sym to.0)
-            (ap (λ (z : ℕ). is_among t (z ∷ (cut w n).past (w.keeper t))) (cut_current w n (w.keeper t) other not_new)
-            ∙ (ap (λ z. is_among t (w.current (w.keeper t) ∷ z)) (cut_past w n (w.keeper t) other not_new) ∙ among)),
+            (ap (λ (z : ℕ). is_among t (z ∷ (cut w n).past (w.pass_of_strand t))) (cut_current w n (w.pass_of_strand t) other not_new)
+            ∙ (ap (λ z. is_among t (w.current (w.pass_of_strand t) ∷ z)) (cut_past w n (w.pass_of_strand t) other not_new) ∙ among)),
       ))
 
   pub splits : Splits (Rule shape) id v (split_from c v) (split_off c v)
@@ -328,7 +328,7 @@ module _ (shape : Shape) (id c : ℕ) (v : View) (cpu : is_among c v.cpus ≡ tr
         hashes = r.hashes;
         legal = r.legal;
         homes = r.homes;
-        seated = λ d less. at_put w.whose c n (λ i x. i < shape.cpus → x < length (set s.views id (split_from c v) ++ split_off c v ∷ [])) d (λ _. omega (arith, long)) (λ _ b. let q = r.seated d b in omega (arith, long)) less;
+        seated = λ d less. at_put w.pass_of_cpu c n (λ i x. i < shape.cpus → x < length (set s.views id (split_from c v) ++ split_off c v ∷ [])) d (λ _. omega (arith, long)) (λ _ b. let q = r.seated d b in omega (arith, long)) less;
         tagged = λ k. tagged_moves w w' n (length (set s.views id (split_from c v) ++ split_off c v ∷ [])) (w.log k)
             (λ t below old among. subst (λ (z : ℕ). StaysListed w w' z t) (sym long) (listed_on w n t here below old among)) (r.tagged k);
         in_time = r.in_time;
@@ -338,10 +338,10 @@ module _ (shape : Shape) (id c : ℕ) (v : View) (cpu : is_among c v.cpus ≡ tr
             (λ t below old among. subst (λ (z : ℕ). StaysListed w w' z t) (sym long) (listed_on w n t here below old among)) r.of_strands;
         knows = λ j u f. ⊎_elim
             (λ g. ⊎_elim
-            (λ t. subst (λ (z : ℕ × View). Knows shape w' z.0 z.1) (λ i. (sym t.0 i, t.1 i)) (left s r at_id apart))
+            (λ t. subst (λ (z : ℕ × View). PassKnows shape w' z.0 z.1) (λ i. (sym t.0 i, t.1 i)) (left s r at_id apart))
             (λ t. beside s r at_id j u t.1 t.0)
             (at_set s.views id j (split_from c v) u g))
-            (λ t. subst (λ (z : ℕ × View). Knows shape w' z.0 z.1) (λ i. (sym (t.0 ∙ length-set s.views id (split_from c v)) i, t.1 i)) (right s r at_id))
+            (λ t. subst (λ (z : ℕ × View). PassKnows shape w' z.0 z.1) (λ i. (sym (t.0 ∙ length-set s.views id (split_from c v)) i, t.1 i)) (right s r at_id))
             (at_more (set s.views id (split_from c v)) (split_off c v) u j f);
       }
 

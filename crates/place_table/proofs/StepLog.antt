@@ -10,7 +10,7 @@ use Rattle.place_table.specs.declared.view.View.{View}
 use Rattle.place_table.specs.declared.view.WordStep.{WordStep}
 use Rattle.place_table.specs.Views.{is_among}
 use Rattle.place_table.specs.Words.{word_count, opening_words}
-use Rattle.place_table.specs.Rules.{World, Rule, Knows, Tagged, Touch, AreInTime, givers, strands_of, touches_of, turns_of, IsSeen, LeadTo, IsStrand, AreOfStrands, AreReads}
+use Rattle.place_table.specs.Rules.{World, Rule, PassKnows, Tagged, Touch, AreInTime, givers, strands_of, touches_of, turns_of, IsSeen, LeadTo, IsStrand, AreOfStrands, AreReads}
 use Rattle.place_table.proofs.Entries.{touches_of_same, touches_of_other}
 use Rattle.place_table.proofs.Worlds.{true_false, by_bool, both_true, among_first, SameStrands, of_strands_stay, of_strands_more}
 
@@ -83,32 +83,32 @@ pub reads_more : (xs : List WordStep) (x : WordStep) → AreReads xs → x.seen 
 reads_more [] x are is = (is, tt)
 reads_more (y ∷ ys) x are is = (are.0, reads_more ys x are.1 is)
 
-module _ (shape : Shape) (w : World) (pass : ℕ) (v : View) (kn : Knows shape w pass v) (x : WordStep) where
+module _ (shape : Shape) (w : World) (pass : ℕ) (v : View) (kn : PassKnows shape w pass v) (x : WordStep) where
   pub mine_more : v.touched ++ x ∷ [] ≡ touches_of (w.current pass) (touches_with w pass x)
   mine_more = ap (λ (l : List WordStep). l ++ x ∷ []) kn.strand.touched_are ∙ sym (touches_of_same (w.current pass) w.touches x)
 
   pub past_same : (t : ℕ) → is_among t (w.past pass) ≡ true → touches_of t (touches_with w pass x) ≡ touches_of t w.touches
   past_same t among = touches_of_other t (w.current pass) w.touches x (λ same. true_false (sym among ∙ (ap (λ (z : ℕ). is_among z (w.past pass)) (sym same) ∙ kn.apart)))
 
-  pub other_same : (j t : ℕ) → j ≢ pass → w.keeper t ≡ j → touches_of t (touches_with w pass x) ≡ touches_of t w.touches
-  other_same j t other own = touches_of_other t (w.current pass) w.touches x (λ same. other (sym own ∙ (ap w.keeper (sym same) ∙ kn.strand.keeper)))
+  pub other_same : (j t : ℕ) → j ≢ pass → w.pass_of_strand t ≡ j → touches_of t (touches_with w pass x) ≡ touches_of t w.touches
+  other_same j t other own = touches_of_other t (w.current pass) w.touches x (λ same. other (sym own ∙ (ap w.pass_of_strand (sym same) ∙ kn.strand.pass_of_strand)))
 
   -- in another world of the same strands
   pub of_strands_with : (w' : World) (n m : ℕ) → pass < n → n ≡ m → SameStrands w w' → AreOfStrands w n w.touches → AreOfStrands w' m (touches_with w pass x)
   of_strands_with w' n m below long same are =
       of_strands_stay w w' n m (touches_with w pass x) long same
       (of_strands_more w n w.touches (w.current pass, x) are record {
-        seated = subst (λ (z : ℕ). z < n) (sym kn.strand.keeper) below;
+        seated = subst (λ (z : ℕ). z < n) (sym kn.strand.pass_of_strand) below;
         numbered = kn.strand.numbered;
-        listed = subst (λ (z : ℕ). is_among (w.current pass) (w.current z ∷ w.past z) ≡ true) (sym kn.strand.keeper) (among_first (w.current pass) (w.past pass));
+        listed = subst (λ (z : ℕ). is_among (w.current pass) (w.current z ∷ w.past z) ≡ true) (sym kn.strand.pass_of_strand) (among_first (w.current pass) (w.past pass));
       })
 
   pub strand_with : (w' : World) → SameStrands w w' → ((k : ℕ) → turns_of (w.current pass) 0 (w'.log k) ≡ turns_of (w.current pass) 0 (w.log k)) → ((k : ℕ) → w'.lost k ≡ false → w.lost k ≡ false) → w'.touches ≡ touches_with w pass x
       → IsStrand shape w' pass (w.current pass) v.cpus v.steps v.kept (v.touched ++ x ∷ [])
   strand_with w' same turns losses is = record {
-    keeper = same.keeper (w.current pass) ∙ kn.strand.keeper;
+    pass_of_strand = same.pass_of_strand (w.current pass) ∙ kn.strand.pass_of_strand;
     numbered = subst (λ (n : ℕ). w.current pass < n) (sym same.next) kn.strand.numbered;
-    team = same.team (w.current pass) ∙ kn.strand.team;
+    cpus_of_strand = same.cpus_of_strand (w.current pass) ∙ kn.strand.cpus_of_strand;
     steps_are = λ k. kn.strand.steps_are k ∙ sym (turns k);
     stand = same.still v.steps kn.strand.stand;
     kept_are = λ k within there lo. kn.strand.kept_are k within there (losses k lo);

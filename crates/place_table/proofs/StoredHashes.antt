@@ -21,7 +21,7 @@ use Rattle.place_words.specs.Locks.{lock_named, rank_of}
 use Rattle.place_words.specs.Openings.{is_free}
 use Rattle.place_core.specs.declared.step.Lists.{Lists}
 use Rattle.place_core.specs.State.{rows, is_bucket}
-use Rattle.place_core.specs.Places.{PlacedAt, Place, lies, lies_at}
+use Rattle.place_core.specs.Places.{PlacedAt, ElementPlace, under_lock, lies_at}
 use Rattle.place_core.specs.Wholeness.{all_of}
 use Rattle.map_types.specs.ElementLists.{IsHead}
 use Rattle.place_core.specs.Steps.{with_row, without_row, with_free, without_free}
@@ -31,7 +31,7 @@ use Rattle.place_table.specs.declared.content.Content.{Content}
 use Rattle.place_table.specs.declared.content.Content.TheVariants as contents
 use Rattle.place_table.specs.declared.view.InHand.{InHand}
 use Rattle.place_table.specs.declared.view.HashIn.{HashIn}
-use Rattle.place_table.specs.Contents.{told, lists_of, Fits}
+use Rattle.place_table.specs.Contents.{content_told, lists_of, FitsLock}
 use Rattle.place_table.specs.StoredHashes.{stored_in}
 use Rattle.place_table.specs.Views.{is_among, is_in_hand_of, hash_known, bucket_known, kept_hashes, hash_given, hashes_given}
 use Rattle.place_table.specs.Rules.{Tagged, entries, IsFresh, HashesRight, HasRow, IsBrought, IsHashed, HasHash, HasCome}
@@ -55,7 +55,7 @@ stored_listed (in_locals lists) e h is = let inside = stored_is_in e h lists.pen
 stored_listed (in_global set) e h is = subst (IsIn e) (map-append (λ (row : Row). row.element) set.lists.active set.lists.inactive) (stored_is_in e h (set.lists.active ++ set.lists.inactive) is)
 stored_listed (in_own set) e h is = subst (IsIn e) (map-append (λ (row : Row). row.element) set.lists.active set.lists.inactive) (stored_is_in e h (set.lists.active ++ set.lists.inactive) is)
 
-pub stored_no_bucket : (shape : Shape) (lock : DomainId) (here : Content) (e h : ℕ) → Fits shape lock here → stored_in (told lock here) e ≡ Some h → IsFalse (is_bucket lock)
+pub stored_no_bucket : (shape : Shape) (lock : DomainId) (here : Content) (e h : ℕ) → FitsLock shape lock here → stored_in (content_told lock here) e ≡ Some h → IsFalse (is_bucket lock)
 unfolding stored_in
 stored_no_bucket shape lock (contents.Bucket chain) e h fits is = absurd (none_some is)
 stored_no_bucket shape lock (contents.Freelist freelist) e h fits is = absurd (none_some is)
@@ -77,7 +77,7 @@ is_stored e (row ∷ rows) inside =
     by_test row.element e (λ b. 0 < cond b (suc (times e (elements_of rows))) (times e (elements_of rows)) → (h : ℕ) × (option_map (λ (r : Row). r.hash) (cond b (Some row) (find (λ (r : Row). r.element == e) rows)) ≡ Some h))
     (λ _ _. (row.hash, refl)) (λ _ later. is_stored e rows later) inside
 
-pub listed_stored : (shape : Shape) (lock : DomainId) (here : Content) (e : ℕ) → Fits shape lock here → IsFalse (is_bucket lock) → IsIn e (rows (lists_of (told lock here))) → (h : ℕ) × (stored_in (told lock here) e ≡ Some h)
+pub listed_stored : (shape : Shape) (lock : DomainId) (here : Content) (e : ℕ) → FitsLock shape lock here → IsFalse (is_bucket lock) → IsIn e (rows (lists_of (content_told lock here))) → (h : ℕ) × (stored_in (content_told lock here) e ≡ Some h)
 unfolding stored_in
 listed_stored shape (Bucket b) here e fits no_bucket inside = absurd cc
 listed_stored shape (Freelist c) (contents.Freelist freelist) e fits no_bucket inside = let none_there : 0 < 0 = inside in absurd (omega arith)
@@ -107,7 +107,7 @@ HasNoHashes (CpuLru c) = ⊥
 HasNoHashes (Bucket b) = Unit {0}
 HasNoHashes (Freelist c) = Unit {0}
 
-pub none_stored : (shape : Shape) (lock : DomainId) (here : Content) (e n : ℕ) → HasNoHashes lock → Fits shape lock here → stored_in (told lock here) e ≡ Some n → ⊥
+pub none_stored : (shape : Shape) (lock : DomainId) (here : Content) (e n : ℕ) → HasNoHashes lock → FitsLock shape lock here → stored_in (content_told lock here) e ≡ Some n → ⊥
 unfolding stored_in
 none_stored shape lock (contents.Bucket chain) e n no_hashes fits is = none_some is
 none_stored shape lock (contents.Freelist freelist) e n no_hashes fits is = none_some is
@@ -137,7 +137,7 @@ pub in_all : (e : ℕ) (lists : Lists) → IsIn e (rows lists) → IsIn e (all_o
 in_all e lists inside = let both = times_append e lists.free (rows lists) in omega arith
 
 -- an element on the lists of a lock that is no bucket's lies there
-pub lies_on : (shape : Shape) (lists : ℕ → Lists) (owner : ℕ → Owner) (home : ℕ → Home) (place : ℕ → Place) (p : PlacedAt shape lists owner home place) (k e : ℕ) → IsFalse (is_bucket (lock_named shape k)) → IsIn e (all_of (lists k)) → place e ≡ lies k
+pub lies_on : (shape : Shape) (lists : ℕ → Lists) (owner : ℕ → Owner) (home : ℕ → Home) (place : ℕ → ElementPlace) (p : PlacedAt shape lists owner home place) (k e : ℕ) → IsFalse (is_bucket (lock_named shape k)) → IsIn e (all_of (lists k)) → place e ≡ under_lock k
 lies_on shape lists owner home place p k e no_bucket inside =
     let both = times_append e (lists k).free (rows (lists k)) in
     lies_is k (place e)
@@ -149,11 +149,11 @@ lies_on shape lists owner home place p k e no_bucket inside =
     one_of : (m n : ℕ) → 0 < m + n → (0 < m) ⊎ (0 < n)
     one_of m n some_there = by_test m 0 (λ _. (0 < m) ⊎ (0 < n)) (λ none. inr (omega arith)) (λ more. inl (omega arith))
 
-same_lies : (i j : ℕ) → lies i ≡ lies j → i ≡ j
+same_lies : (i j : ℕ) → under_lock i ≡ under_lock j → i ≡ j
 same_lies i j e = cc
 
 -- and on those of no other
-pub lies_on_one : (shape : Shape) (lists : ℕ → Lists) (owner : ℕ → Owner) (home : ℕ → Home) (place : ℕ → Place) (p : PlacedAt shape lists owner home place) (k j e : ℕ) → j ≢ k → IsFalse (is_bucket (lock_named shape k)) → IsFalse (is_bucket (lock_named shape j)) → IsIn e (all_of (lists k)) → times e (all_of (lists j)) ≡ 0
+pub lies_on_one : (shape : Shape) (lists : ℕ → Lists) (owner : ℕ → Owner) (home : ℕ → Home) (place : ℕ → ElementPlace) (p : PlacedAt shape lists owner home place) (k j e : ℕ) → j ≢ k → IsFalse (is_bucket (lock_named shape k)) → IsFalse (is_bucket (lock_named shape j)) → IsIn e (all_of (lists k)) → times e (all_of (lists j)) ≡ 0
 lies_on_one shape lists owner home place p k j e ne no_bucket nor_other inside =
     by_test (times e (all_of (lists j))) 0 (λ _. times e (all_of (lists j)) ≡ 0)
     (λ none. none)
@@ -161,16 +161,16 @@ lies_on_one shape lists owner home place p k j e ne no_bucket nor_other inside =
 
 -- A lock that this CPU holds, the last that it took, is given back with a content whose rows have new hashes only for what came in
 -- the turn and is in the CPU's hand.
-module _ (shape : Shape) (holder : ℕ → Option ℕ) (lists : ℕ → Lists) (owner : ℕ → Owner) (home : ℕ → Home) (place : ℕ → Place) (p : PlacedAt shape lists owner home place) (log : ℕ → List Tagged) (hash : ℕ → ℕ) (right : HashesRight shape holder lists owner log hash)
-    (k cpu : ℕ) (held : holder k ≡ Some cpu) (here : Content) (fits : Fits shape (lock_named shape k) here) (l' : List Tagged) (new_is : content shape (lock_named shape k) (entries l') ≡ told (lock_named shape k) here)
-    (same_rows : (e : ℕ) → times e (rows (lists_of (told (lock_named shape k) here))) ≡ times e (rows (lists k)))
+module _ (shape : Shape) (holder : ℕ → Option ℕ) (lists : ℕ → Lists) (owner : ℕ → Owner) (home : ℕ → Home) (place : ℕ → ElementPlace) (p : PlacedAt shape lists owner home place) (log : ℕ → List Tagged) (hash : ℕ → ℕ) (right : HashesRight shape holder lists owner log hash)
+    (k cpu : ℕ) (held : holder k ≡ Some cpu) (here : Content) (fits : FitsLock shape (lock_named shape k) here) (l' : List Tagged) (new_is : content shape (lock_named shape k) (entries l') ≡ content_told (lock_named shape k) here)
+    (same_rows : (e : ℕ) → times e (rows (lists_of (content_told (lock_named shape k) here))) ≡ times e (rows (lists k)))
     (innermost : (m : ℕ) → m ≢ k → holder m ≡ Some cpu → rank_of (lock_named shape m) < rank_of (lock_named shape k))
     (fresh : ℕ → Bool) (fresh_is : (e : ℕ) → fresh e ≡ true → owner e ≡ owners.Hand cpu)
     (rowed : (e : ℕ) → fresh e ≡ false → owner e ≡ owners.Hand cpu → IsIn e (rows (lists k)) → HasRow shape log hash k e ⊎ IsBrought shape holder log hash k e)
-    (kept : (j e h n : ℕ) → fresh e ≡ false → holder j ≡ Some cpu → stored_in (content shape (lock_named shape j) (entries (log j))) e ≡ Some h → stored_in (told (lock_named shape k) here) e ≡ Some n → h ≡ n) where
+    (kept : (j e h n : ℕ) → fresh e ≡ false → holder j ≡ Some cpu → stored_in (content shape (lock_named shape j) (entries (log j))) e ≡ Some h → stored_in (content_told (lock_named shape k) here) e ≡ Some n → h ≡ n) where
   -- it, as histories tell it
   abbrev back : histories.Content
-  back = told (lock_named shape k) here
+  back = content_told (lock_named shape k) here
 
   pub was_listed : (e n : ℕ) → stored_in back e ≡ Some n → IsIn e (rows (lists k))
   was_listed e n is = let inside = stored_listed back e n is in let same = same_rows e in omega (arith, same)
@@ -416,7 +416,7 @@ module _ (shape : Shape) (holder : ℕ → Option ℕ) (lists : ℕ → Lists) (
   }
 
 -- Claim, settle, attach and detach
-module _ (shape : Shape) (holder : ℕ → Option ℕ) (lists : ℕ → Lists) (owner : ℕ → Owner) (home : ℕ → Home) (place : ℕ → Place) (p : PlacedAt shape lists owner home place) (log : ℕ → List Tagged) (hash : ℕ → ℕ) (right : HashesRight shape holder lists owner log hash)
+module _ (shape : Shape) (holder : ℕ → Option ℕ) (lists : ℕ → Lists) (owner : ℕ → Owner) (home : ℕ → Home) (place : ℕ → ElementPlace) (p : PlacedAt shape lists owner home place) (log : ℕ → List Tagged) (hash : ℕ → ℕ) (right : HashesRight shape holder lists owner log hash)
     (lock : DomainId) (k e c : ℕ) (held : holder k ≡ Some c) where
   pub hashes_claimed : IsHead e (lists k).free → HashesRight shape holder (put lists k (with_row lock e (without_free e (lists k)))) (put owner e (owners.Hand c)) log hash
   hashes_claimed head =

@@ -61,22 +61,22 @@ pub record SameTurns (w w' : World) : Type 0 where
 
 -- the strand of a number is of another pass, with the CPUs that it had
 abbrev pub GoesTo : World → World → ℕ → ℕ → Type 0
-GoesTo w w' pass t = (w'.keeper t ≡ pass) × (w'.team t ≡ w.team t)
+GoesTo w w' pass t = (w'.pass_of_strand t ≡ pass) × (w'.cpus_of_strand t ≡ w.cpus_of_strand t)
 
-pub strand_moves : (shape : Shape) (w w' : World) (pass to t : ℕ) (cpus : List ℕ) (steps : List Turned) (kept : List StrandStep) (touched : List WordStep) → SameTurns w w' → (t < w.next → w.keeper t ≡ pass → GoesTo w w' to t)
+pub strand_moves : (shape : Shape) (w w' : World) (pass to t : ℕ) (cpus : List ℕ) (steps : List Turned) (kept : List StrandStep) (touched : List WordStep) → SameTurns w w' → (t < w.next → w.pass_of_strand t ≡ pass → GoesTo w w' to t)
     → IsStrand shape w pass t cpus steps kept touched → IsStrand shape w' to t cpus steps kept touched
 strand_moves shape w w' pass to t cpus steps kept touched same goes st =
-    let g = goes st.numbered st.keeper in record {
-      keeper = g.0;
+    let g = goes st.numbered st.pass_of_strand in record {
+      pass_of_strand = g.0;
       numbered = (let below : t < w.next = st.numbered in omega (arith, same.next));
-      team = g.1 ∙ st.team;
+      cpus_of_strand = g.1 ∙ st.cpus_of_strand;
       steps_are = λ k. st.steps_are k ∙ ap (turns_of t 0) (sym (same.log k));
       stand = subst (λ (log : ℕ → List Entry). StandIn log steps) (sym (λ i k. entries (same.log k i))) st.stand;
       kept_are = λ k below there found. st.kept_are k below there (sym (same.lost k) ∙ found);
       touched_are = st.touched_are ∙ ap (touches_of t) (sym same.touches);
     }
 
-pub past_moves : (shape : Shape) (w w' : World) (pass to : ℕ) (ts : List ℕ) (es : List Ended) → SameTurns w w' → ((t : ℕ) → t < w.next → w.keeper t ≡ pass → GoesTo w w' to t) → ArePast shape w pass ts es → ArePast shape w' to ts es
+pub past_moves : (shape : Shape) (w w' : World) (pass to : ℕ) (ts : List ℕ) (es : List Ended) → SameTurns w w' → ((t : ℕ) → t < w.next → w.pass_of_strand t ≡ pass → GoesTo w w' to t) → ArePast shape w pass ts es → ArePast shape w' to ts es
 past_moves shape w w' pass to [] [] same goes p = tt
 past_moves shape w w' pass to [] (e ∷ es) same goes p = absurd p
 past_moves shape w w' pass to (t ∷ ts) [] same goes p = absurd p
@@ -85,16 +85,16 @@ past_moves shape w w' pass to (t ∷ ts) (e ∷ es) same goes p =
 
 -- each turn stays in a strand of a pass that is there
 abbrev pub StaysListed : World → World → ℕ → ℕ → Type 0
-StaysListed w w' passes t = (w'.keeper t < passes) × (t < w'.next) × (w'.team t ≡ w.team t) × (is_among t (w'.current (w'.keeper t) ∷ w'.past (w'.keeper t)) ≡ true)
+StaysListed w w' passes t = (w'.pass_of_strand t < passes) × (t < w'.next) × (w'.cpus_of_strand t ≡ w.cpus_of_strand t) × (is_among t (w'.current (w'.pass_of_strand t) ∷ w'.past (w'.pass_of_strand t)) ≡ true)
 
-pub tagged_moves : (w w' : World) (n m : ℕ) (log : List Tagged) → ((t : ℕ) → w.keeper t < n → t < w.next → is_among t (w.current (w.keeper t) ∷ w.past (w.keeper t)) ≡ true → StaysListed w w' m t)
+pub tagged_moves : (w w' : World) (n m : ℕ) (log : List Tagged) → ((t : ℕ) → w.pass_of_strand t < n → t < w.next → is_among t (w.current (w.pass_of_strand t) ∷ w.past (w.pass_of_strand t)) ≡ true → StaysListed w w' m t)
     → AreTagged w n log → AreTagged w' m log
 tagged_moves w w' n m [] stays tagged = tt
 tagged_moves w w' n m (x ∷ xs) stays tagged =
     let to = stays x.0 tagged.0.seated tagged.0.numbered tagged.0.listed in
     (record { seated = to.0; numbered = to.1; has_cpu = ap (is_among x.1.cpu) to.2 ∙ tagged.0.has_cpu; listed = to.3 }, tagged_moves w w' n m xs stays tagged.1)
 
-pub of_strands_move : (w w' : World) (n m : ℕ) (xs : List Touch) → ((t : ℕ) → w.keeper t < n → t < w.next → is_among t (w.current (w.keeper t) ∷ w.past (w.keeper t)) ≡ true → StaysListed w w' m t)
+pub of_strands_move : (w w' : World) (n m : ℕ) (xs : List Touch) → ((t : ℕ) → w.pass_of_strand t < n → t < w.next → is_among t (w.current (w.pass_of_strand t) ∷ w.past (w.pass_of_strand t)) ≡ true → StaysListed w w' m t)
     → AreOfStrands w n xs → AreOfStrands w' m xs
 of_strands_move w w' n m [] stays are = tt
 of_strands_move w w' n m (x ∷ xs) stays are =
@@ -102,20 +102,20 @@ of_strands_move w w' n m (x ∷ xs) stays are =
     (record { seated = to.0; numbered = to.1; listed = to.3 }, of_strands_move w w' n m xs stays are.1)
 
 -- a strand that has ended is kept by its pass
-pub past_keeper : (shape : Shape) (w : World) (pass t : ℕ) (ts : List ℕ) (es : List Ended) → ArePast shape w pass ts es → is_among t ts ≡ true → w.keeper t ≡ pass
-past_keeper shape w pass t [] [] p among = true_false (sym among)
-past_keeper shape w pass t [] (e ∷ es) p among = absurd p
-past_keeper shape w pass t (u ∷ us) [] p among = absurd p
-past_keeper shape w pass t (u ∷ us) (e ∷ es) p among =
-    by_test u t (λ b. cond b true (is_among t us) ≡ true → w.keeper t ≡ pass)
-    (λ same _. subst (λ (z : ℕ). w.keeper z ≡ pass) same p.0.keeper)
-    (λ _ f. past_keeper shape w pass t us es p.2 f) among
+pub past_pass_of_strand : (shape : Shape) (w : World) (pass t : ℕ) (ts : List ℕ) (es : List Ended) → ArePast shape w pass ts es → is_among t ts ≡ true → w.pass_of_strand t ≡ pass
+past_pass_of_strand shape w pass t [] [] p among = true_false (sym among)
+past_pass_of_strand shape w pass t [] (e ∷ es) p among = absurd p
+past_pass_of_strand shape w pass t (u ∷ us) [] p among = absurd p
+past_pass_of_strand shape w pass t (u ∷ us) (e ∷ es) p among =
+    by_test u t (λ b. cond b true (is_among t us) ≡ true → w.pass_of_strand t ≡ pass)
+    (λ same _. subst (λ (z : ℕ). w.pass_of_strand z ≡ pass) same p.0.pass_of_strand)
+    (λ _ f. past_pass_of_strand shape w pass t us es p.2 f) among
 
-pub not_theirs : (shape : Shape) (w : World) (pass other t : ℕ) (ts : List ℕ) (es : List Ended) → ArePast shape w other ts es → w.keeper t ≡ pass → pass ≢ other → is_among t ts ≡ false
+pub not_theirs : (shape : Shape) (w : World) (pass other t : ℕ) (ts : List ℕ) (es : List Ended) → ArePast shape w other ts es → w.pass_of_strand t ≡ pass → pass ≢ other → is_among t ts ≡ false
 not_theirs shape w pass other t ts es p mine apart = go (is_among t ts) refl
   where
     go : (b : Bool) → is_among t ts ≡ b → b ≡ false
-    go true h = absurd (apart (sym mine ∙ past_keeper shape w other t ts es p h))
+    go true h = absurd (apart (sym mine ∙ past_pass_of_strand shape w other t ts es p h))
     go false h = refl
 
 pub past_append : (shape : Shape) (w : World) (pass : ℕ) (ts us : List ℕ) (es fs : List Ended) → ArePast shape w pass ts es → ArePast shape w pass us fs → ((t : ℕ) → is_among t ts ≡ true → is_among t us ≡ false) → ArePast shape w pass (ts ++ us) (es ++ fs)

@@ -114,7 +114,7 @@ are_turns_of shape w pass passes k ts es past tagged listed = record {
       let t : ℕ = tag_at (w.log k) place in
       let here = strand_here shape w pass ts es (place_in t ts) strand past at_strand in
       let is : t ≡ here.number = eqb-true t here.number (sym (here.alike t (listed place (slice_get_within (entries (w.log k)) place entry at_place))) ∙ sym (same_true (place_in t ts) (place_in t ts) refl)) in
-      ap (is_among entry.cpu) (sym here.is.team ∙ ap w.team (sym is)) ∙ (tagged_at w passes (w.log k) place entry tagged at_place).has_cpu;
+      ap (is_among entry.cpu) (sym here.is.cpus_of_strand ∙ ap w.cpus_of_strand (sym is)) ∙ (tagged_at w passes (w.log k) place entry tagged at_place).has_cpu;
   turns = λ n strand at_strand.
       let here = strand_here shape w pass ts es n strand past at_strand in
       here.is.steps_are k ∙ turns_alike (λ place. place_in (tag_at (w.log k) place) ts) n here.number 0 (w.log k)

@@ -10,7 +10,7 @@ use Rattle.place_words.specs.declared.history.LockHistory.{LockHistory}
 use Rattle.place_words.specs.declared.history.Strand.{Strand}
 use Rattle.place_words.specs.Locks.{is_lock, lock_number, lock_count}
 use Rattle.place_words.proofs.LockLemmas.{named_by_number, number_within}
-use Rattle.place_table.specs.declared.strands.Finished.{Finished}
+use Rattle.place_table.specs.declared.strands.FinishedStrand.{FinishedStrand}
 use Rattle.place_table.specs.declared.view.Ended.{Ended}
 use Rattle.place_table.specs.Views.{is_among, is_recorded}
 use Rattle.place_table.specs.Passes.{flags_of, finished_of, AreFinished}
@@ -55,7 +55,7 @@ told_none shape log lost strands kept told is no_histories no_strands = record {
   told_are = no_strands;
 }
 
-pub told_all : (shape : Shape) (log : Logs) (lost : ℕ → Bool) (strands : List Ended) (ended : Option (Vec Finished Global)) (finished : Vec Finished Global) (kept histories : List LockHistory) (told : List Strand) (some_lost : Bool)
+pub told_all : (shape : Shape) (log : Logs) (lost : ℕ → Bool) (strands : List Ended) (ended : Option (Vec FinishedStrand Global)) (finished : Vec FinishedStrand Global) (kept histories : List LockHistory) (told : List Strand) (some_lost : Bool)
     → IsShape shape → ended ≡ Some finished → AreFinished strands ended → AreKept shape log lost (lock_count shape) kept some_lost → histories ≡ kept → told ≡ map (finished_told shape) finished.items → AreTold shape log lost strands histories told some_lost
 told_all shape log lost strands ended finished kept histories told some_lost is there are are_kept same made =
     let bounds = bounds_of_shape shape is in record {

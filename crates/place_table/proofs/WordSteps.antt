@@ -30,7 +30,7 @@ use Rattle.place_table.specs.declared.view.Notes.{Notes}
 use Rattle.place_table.specs.declared.view.BitSeen.{BitSeen}
 use Rattle.place_table.specs.Laws.{StepsAs, goes_by}
 use Rattle.place_table.specs.Views.{is_among, hold_at, bit_seen, has_all, noted, with_mark, with_clear, with_bit_read, with_owner_read, bits_with, touching, home_known, came_at}
-use Rattle.place_table.specs.Rules.{World, Rule, Knows, IsFresh, IsSeen, LeadTo, IsReading, HasRow, IsBrought, AreNoted}
+use Rattle.place_table.specs.Rules.{World, Rule, PassKnows, IsFresh, IsSeen, LeadTo, IsReading, HasRow, IsBrought, AreNoted}
 use Rattle.place_table.specs.Words.{owner_word, home_word, bit_word, opening_words}
 use Rattle.place_table.specs.Plays.{Seated, Marks, Clears, SeesBit, SeesOwner, OwnerFits}
 use Rattle.place_table.proofs.Came.{came_marked, came_cleared, came_bit_read, came_owner_read}
@@ -56,9 +56,9 @@ bitted w pass f x = record {
   core = core_with w.core f;
   log = w.log;
   lost = w.lost;
-  whose = w.whose;
-  keeper = w.keeper;
-  team = w.team;
+  pass_of_cpu = w.pass_of_cpu;
+  pass_of_strand = w.pass_of_strand;
+  cpus_of_strand = w.cpus_of_strand;
   current = w.current;
   past = w.past;
   next = w.next;
@@ -72,9 +72,9 @@ looked w pass x = record {
   core = w.core;
   log = w.log;
   lost = w.lost;
-  whose = w.whose;
-  keeper = w.keeper;
-  team = w.team;
+  pass_of_cpu = w.pass_of_cpu;
+  pass_of_strand = w.pass_of_strand;
+  cpus_of_strand = w.cpus_of_strand;
   current = w.current;
   past = w.past;
   next = w.next;
@@ -83,7 +83,7 @@ looked w pass x = record {
 }
 
 -- what a pass keeps of bits after one is known, and that only a pass with all CPUs keeps any
-learnt : (shape : Shape) (w : World) (pass : ℕ) (v : View) (f : ℕ → Bool) (e : ℕ) (b : Bool) → Knows shape w pass v → f e ≡ b → ((x : ℕ) → x ≢ e → f x ≡ w.core.bit x)
+learnt : (shape : Shape) (w : World) (pass : ℕ) (v : View) (f : ℕ → Bool) (e : ℕ) (b : Bool) → PassKnows shape w pass v → f e ≡ b → ((x : ℕ) → x ≢ e → f x ≡ w.core.bit x)
     → (x : ℕ) (bit : Bool) → bit_seen x (bits_with e b v) ≡ Some bit → f x ≡ bit
 learnt shape w pass v f e b kn here else_same x bit =
     by_bool (has_all v) (λ t. bit_seen x (cond t (record { element = e; bit = b } ∷ v.bits) v.bits) ≡ Some bit → f x ≡ bit)
@@ -95,7 +95,7 @@ learnt shape w pass v f e b kn here else_same x bit =
     (λ all. true_false (sym (all_here v.shape.cpus v.cpus (λ c less. all c (subst (λ z. c < z.cpus) kn.shape_is less))) ∙ few))
     kn.only)
 
-only_all : (shape : Shape) (w : World) (pass : ℕ) (v : View) (e : ℕ) (b : Bool) → Knows shape w pass v → ((v.known ≡ []) × (bits_with e b v ≡ [])) ⊎ ((c : ℕ) → c < shape.cpus → is_among c v.cpus ≡ true)
+only_all : (shape : Shape) (w : World) (pass : ℕ) (v : View) (e : ℕ) (b : Bool) → PassKnows shape w pass v → ((v.known ≡ []) × (bits_with e b v ≡ [])) ⊎ ((c : ℕ) → c < shape.cpus → is_among c v.cpus ≡ true)
 only_all shape w pass v e b kn =
     by_bool (has_all v) (λ t. ((v.known ≡ []) × (cond t (record { element = e; bit = b } ∷ v.bits) v.bits ≡ [])) ⊎ ((c : ℕ) → c < shape.cpus → is_among c v.cpus ≡ true))
     (λ all. inr (λ c less. here_all v.shape.cpus v.cpus all c (subst (λ z. c < z.cpus) (sym kn.shape_is) less)))
@@ -121,7 +121,7 @@ module _ (shape : Shape) (s : State Behind View) (r : Rule shape s) (pass : ℕ)
       let w' : World = bitted w pass f x in
       let kn = r.knows pass v at_pass in
       let nv : View = noted notes (bits_with e b v) (touching (made w) i seen (one b) v) v.readings v in
-      let same : SameStrands w w' = record { keeper = λ _. refl; team = λ _. refl; next = refl; current = λ _. refl; past = λ _. refl; whose = λ _. refl; still = λ _ z. z } in
+      let same : SameStrands w w' = record { pass_of_strand = λ _. refl; cpus_of_strand = λ _. refl; next = refl; current = λ _. refl; past = λ _. refl; pass_of_cpu = λ _. refl; still = λ _ z. z } in
       record {
         world = w';
         is_shape = r.is_shape;
@@ -146,7 +146,7 @@ module _ (shape : Shape) (s : State Behind View) (r : Rule shape s) (pass : ℕ)
         };
         legal = r.legal;
         homes = r.homes;
-        seated = λ c h. subst (λ (z : ℕ). w.whose c < z) (sym (length-set s.views pass nv)) (r.seated c h);
+        seated = λ c h. subst (λ (z : ℕ). w.pass_of_cpu c < z) (sym (length-set s.views pass nv)) (r.seated c h);
         tagged = λ k. tagged_stays w w' (length s.views) (length (set s.views pass nv)) (w.log k) (sym (length-set s.views pass nv)) same (r.tagged k);
         in_time = time_more w.touches (w.current pass, x) r.in_time refl;
         gave_back = λ m below. givers_other m w.touches (w.current pass, x) (λ at _. omega arith) ∙ r.gave_back m below;
@@ -154,7 +154,7 @@ module _ (shape : Shape) (s : State Behind View) (r : Rule shape s) (pass : ℕ)
             (lead_with shape s r (w.current pass) x (omega (arith, r.words)) (subst (IsSeen seen) (sym (r.bit_words e real)) seen_is) m below);
         of_strands = of_strands_with shape w pass v kn x w' (length s.views) (length (set s.views pass nv)) (there s.views pass v at_pass) (sym (length-set s.views pass nv)) same r.of_strands;
         knows = λ j u h. ⊎_elim
-            (λ t. subst (λ (z : ℕ × View). Knows shape w' z.0 z.1) (λ i. (sym t.0 i, t.1 i)) record {
+            (λ t. subst (λ (z : ℕ × View). PassKnows shape w' z.0 z.1) (λ i. (sym t.0 i, t.1 i)) record {
               shape_is = kn.shape_is;
               cpus = kn.cpus;
               within = kn.within;
@@ -192,7 +192,7 @@ module _ (shape : Shape) (s : State Behind View) (r : Rule shape s) (pass : ℕ)
       let w' : World = looked w pass x in
       let kn = r.knows pass v at_pass in
       let nv : View = noted notes bits (touching (made w) i (Some n) n v) readings v in
-      let same : SameStrands w w' = record { keeper = λ _. refl; team = λ _. refl; next = refl; current = λ _. refl; past = λ _. refl; whose = λ _. refl; still = λ _ z. z } in
+      let same : SameStrands w w' = record { pass_of_strand = λ _. refl; cpus_of_strand = λ _. refl; next = refl; current = λ _. refl; past = λ _. refl; pass_of_cpu = λ _. refl; still = λ _ z. z } in
       let back : set s.words i (get_or s.words i 0) ≡ s.words = set_again s.words i (get_or s.words i 0) (found_at s.words i inside) in
       let bounds = bounds_of_shape shape r.is_shape in (
         record {
@@ -209,7 +209,7 @@ module _ (shape : Shape) (s : State Behind View) (r : Rule shape s) (pass : ℕ)
           hashes = r.hashes;
           legal = r.legal;
           homes = r.homes;
-          seated = λ y h. subst (λ (z : ℕ). w.whose y < z) (sym (length-set s.views pass nv)) (r.seated y h);
+          seated = λ y h. subst (λ (z : ℕ). w.pass_of_cpu y < z) (sym (length-set s.views pass nv)) (r.seated y h);
           tagged = λ k. tagged_stays w w' (length s.views) (length (set s.views pass nv)) (w.log k) (sym (length-set s.views pass nv)) same (r.tagged k);
           in_time = time_more w.touches (w.current pass, x) r.in_time refl;
           gave_back = λ m below. givers_other m w.touches (w.current pass, x) (λ at _. omega arith) ∙ r.gave_back m below;
@@ -217,7 +217,7 @@ module _ (shape : Shape) (s : State Behind View) (r : Rule shape s) (pass : ℕ)
               (lead_with shape s r (w.current pass) x inside (sym found_is) m below);
           of_strands = of_strands_with shape w pass v kn x w' (length s.views) (length (set s.views pass nv)) (there s.views pass v at_pass) (sym (length-set s.views pass nv)) same r.of_strands;
           knows = λ j u h. ⊎_elim
-              (λ t. subst (λ (z : ℕ × View). Knows shape w' z.0 z.1) (λ i. (sym t.0 i, t.1 i)) record {
+              (λ t. subst (λ (z : ℕ × View). PassKnows shape w' z.0 z.1) (λ i. (sym t.0 i, t.1 i)) record {
                 shape_is = kn.shape_is;
                 cpus = kn.cpus;
                 within = kn.within;
@@ -254,7 +254,7 @@ pub in_held_bucket : (shape : Shape) (s : State Behind View) (r : Rule shape s) 
 in_held_bucket shape s r pass v e bucket hold at_pass there found inside =
     let k : ℕ = lock_number shape (Bucket bucket) in
     let w = r.world in let kn = r.knows pass v at_pass in
-    let at = hold_of_is w.whose pass k (w.core.holder k) (w.log k) (w.core.lists k) (w.lost k) hold (sym (kn.held k) ∙ found) in
+    let at = hold_of_is w.pass_of_cpu pass k (w.core.holder k) (w.log k) (w.core.lists k) (w.lost k) hold (sym (kn.held k) ∙ found) in
     let cpu = r.ranked.within hold.cpu k at.holder_is in
     let is : IsTrue (is_lock shape (Bucket bucket)) = grind (arith, nat_tests) in
     let inside_there : IsIn e (w.core.lists k).first = subst (λ (z : Hold). IsIn e z.now.first) at.hold_is inside in
@@ -265,7 +265,7 @@ in_held_bucket shape s r pass v e bucket hold at_pass there found inside =
         real = elements.rows_real e among;
         inside = inside_there;
       },
-      kn.cpus hold.cpu cpu ∙ by_test (w.whose hold.cpu) pass (λ t. t ≡ true) (λ _. refl) (λ n. absurd (n at.mine)),
+      kn.cpus hold.cpu cpu ∙ by_test (w.pass_of_cpu hold.cpu) pass (λ t. t ≡ true) (λ _. refl) (λ n. absurd (n at.mine)),
     )
   where
     in_rows : (e : ℕ) (xs ys : List ℕ) → IsIn e xs → IsIn e (xs ++ ys)

@@ -22,7 +22,7 @@ use Rattle.place_table.specs.declared.view.Turned.{Turned}
 use Rattle.place_table.specs.declared.view.Ended.{Ended}
 use Rattle.place_table.specs.declared.view.WordStep.{WordStep}
 use Rattle.place_table.specs.Views.{is_among, hold_at, is_in_hand_of, known_log, bit_seen, has_all_below, hash_known, came_at}
-use Rattle.place_table.specs.Rules.{Tagged, entries, World, hold, hold_of, is_hand_of, is_home_of, IsAboveAll, turns_of, StandIn, logs_of, IsStrand, ArePast, IsTagged, AreTagged, IsLostLock, Knows, IsHashOf, IsHashed, HasHash, HasCome, HasRow, IsBrought, touches_of, Touch, IsOfStrand, AreOfStrands, StillHome}
+use Rattle.place_table.specs.Rules.{Tagged, entries, World, hold, hold_of, is_hand_of, is_home_of, IsAboveAll, turns_of, StandIn, logs_of, IsStrand, ArePast, IsTagged, AreTagged, IsLostLock, PassKnows, IsHashOf, IsHashed, HasHash, HasCome, HasRow, IsBrought, touches_of, Touch, IsOfStrand, AreOfStrands, StillHome}
 use Rattle.place_words.specs.declared.home.Home.{Home}
 use Rattle.place_words.specs.declared.home.Home.TheVariants as homes
 use Rattle.map_types.specs.declared.kind.DomainId.{DomainId}
@@ -49,33 +49,33 @@ none_some {A} {x} e = cc
 
 -- Holds
 
-pub hold_of_mine : (whose : ℕ → ℕ) (pass k c : ℕ) (log : List Tagged) (lists : Lists) (lost : Bool) → whose c ≡ pass → hold_of pass whose k (Some c) log lists lost ≡ Some (hold k c log lists lost)
-hold_of_mine whose pass k c log lists lost mine =
-    by_test (whose c) pass (λ b. cond b (Some (hold k c log lists lost)) None ≡ Some (hold k c log lists lost)) (λ _. refl) (λ other. absurd (other mine))
+pub hold_of_mine : (pass_of_cpu : ℕ → ℕ) (pass k c : ℕ) (log : List Tagged) (lists : Lists) (lost : Bool) → pass_of_cpu c ≡ pass → hold_of pass pass_of_cpu k (Some c) log lists lost ≡ Some (hold k c log lists lost)
+hold_of_mine pass_of_cpu pass k c log lists lost mine =
+    by_test (pass_of_cpu c) pass (λ b. cond b (Some (hold k c log lists lost)) None ≡ Some (hold k c log lists lost)) (λ _. refl) (λ other. absurd (other mine))
 
 -- a lock is free, or held by a CPU of the pass
 abbrev pub IsMineOrFree : (ℕ → ℕ) → ℕ → Option ℕ → Type 0
-IsMineOrFree whose pass None = Unit {0}
-IsMineOrFree whose pass (Some c) = whose c ≡ pass
+IsMineOrFree pass_of_cpu pass None = Unit {0}
+IsMineOrFree pass_of_cpu pass (Some c) = pass_of_cpu c ≡ pass
 
-pub hold_of_other : (whose : ℕ → ℕ) (pass j k : ℕ) (holder : Option ℕ) (log : List Tagged) (lists : Lists) (lost : Bool) → IsMineOrFree whose pass holder → j ≢ pass → hold_of j whose k holder log lists lost ≡ None
-hold_of_other whose pass j k None log lists lost mine other = refl
-hold_of_other whose pass j k (Some c) log lists lost mine other =
-    by_test (whose c) j (λ b. cond b (Some (hold k c log lists lost)) None ≡ None) (λ e. absurd (other (sym e ∙ mine))) (λ _. refl)
+pub hold_of_other : (pass_of_cpu : ℕ → ℕ) (pass j k : ℕ) (holder : Option ℕ) (log : List Tagged) (lists : Lists) (lost : Bool) → IsMineOrFree pass_of_cpu pass holder → j ≢ pass → hold_of j pass_of_cpu k holder log lists lost ≡ None
+hold_of_other pass_of_cpu pass j k None log lists lost mine other = refl
+hold_of_other pass_of_cpu pass j k (Some c) log lists lost mine other =
+    by_test (pass_of_cpu c) j (λ b. cond b (Some (hold k c log lists lost)) None ≡ None) (λ e. absurd (other (sym e ∙ mine))) (λ _. refl)
 
 -- from what a pass knows of a lock to what is so
-pub record HoldIs (whose : ℕ → ℕ) (pass k : ℕ) (holder : Option ℕ) (log : List Tagged) (lists : Lists) (lost : Bool) (x : Hold) : Type 0 where
+pub record HoldIs (pass_of_cpu : ℕ → ℕ) (pass k : ℕ) (holder : Option ℕ) (log : List Tagged) (lists : Lists) (lost : Bool) (x : Hold) : Type 0 where
   pub holder_is : holder ≡ Some x.cpu
-  pub mine : whose x.cpu ≡ pass
+  pub mine : pass_of_cpu x.cpu ≡ pass
   pub hold_is : x ≡ hold k x.cpu log lists lost
 
-pub hold_of_is : (whose : ℕ → ℕ) (pass k : ℕ) (holder : Option ℕ) (log : List Tagged) (lists : Lists) (lost : Bool) (x : Hold) → hold_of pass whose k holder log lists lost ≡ Some x → HoldIs whose pass k holder log lists lost x
-hold_of_is whose pass k None log lists lost x e = absurd (none_some e)
-hold_of_is whose pass k (Some c) log lists lost x e =
-    by_test (whose c) pass (λ b. cond b (Some (hold k c log lists lost)) None ≡ Some x → HoldIs whose pass k (Some c) log lists lost x)
+pub hold_of_is : (pass_of_cpu : ℕ → ℕ) (pass k : ℕ) (holder : Option ℕ) (log : List Tagged) (lists : Lists) (lost : Bool) (x : Hold) → hold_of pass pass_of_cpu k holder log lists lost ≡ Some x → HoldIs pass_of_cpu pass k holder log lists lost x
+hold_of_is pass_of_cpu pass k None log lists lost x e = absurd (none_some e)
+hold_of_is pass_of_cpu pass k (Some c) log lists lost x e =
+    by_test (pass_of_cpu c) pass (λ b. cond b (Some (hold k c log lists lost)) None ≡ Some x → HoldIs pass_of_cpu pass k (Some c) log lists lost x)
     (λ mine f. let same = some_is f in let cpu : c ≡ x.cpu = ap (λ (y : Hold). y.cpu) same in record {
       holder_is = ap Some cpu;
-      mine = subst (λ (d : ℕ). whose d ≡ pass) cpu mine;
+      mine = subst (λ (d : ℕ). pass_of_cpu d ≡ pass) cpu mine;
       hold_is = sym same ∙ ap (λ (d : ℕ). hold k d log lists lost) cpu;
     })
     (λ _ f. absurd (none_some f)) e
@@ -115,18 +115,18 @@ pub both_true : (a b : Bool) → (a && b) ≡ true → (a ≡ true) × (b ≡ tr
 both_true true b e = (refl, e)
 both_true false b e = true_false (sym e)
 
-pub has_mine : (shape : Shape) (w : World) (pass : ℕ) (v : View) (c : ℕ) → Knows shape w pass v → is_among c v.cpus ≡ true → w.whose c ≡ pass
-has_mine shape w pass v c kn has = eqb-true (w.whose c) pass (sym (kn.cpus c (kn.within c has)) ∙ has)
+pub has_mine : (shape : Shape) (w : World) (pass : ℕ) (v : View) (c : ℕ) → PassKnows shape w pass v → is_among c v.cpus ≡ true → w.pass_of_cpu c ≡ pass
+has_mine shape w pass v c kn has = eqb-true (w.pass_of_cpu c) pass (sym (kn.cpus c (kn.within c has)) ∙ has)
 
-pub in_hand_is : (shape : Shape) (w : World) (pass : ℕ) (v : View) (e c : ℕ) → Knows shape w pass v → is_among c v.cpus ≡ true → is_in_hand_of e c v.hand ≡ true → w.core.owner e ≡ owners.Hand c
+pub in_hand_is : (shape : Shape) (w : World) (pass : ℕ) (v : View) (e c : ℕ) → PassKnows shape w pass v → is_among c v.cpus ≡ true → is_in_hand_of e c v.hand ≡ true → w.core.owner e ≡ owners.Hand c
 in_hand_is shape w pass v e c kn has there =
     hand_is c (w.core.owner e) (both_true _ _ (sym (kn.hands e c (kn.within c has)) ∙ there)).0
 
 -- where a pass has a CPU, what its CPUs have in hand is what it knows to be in their hands
-pub own_hand : (shape : Shape) (w : World) (pass : ℕ) (v : View) (e c : ℕ) → Knows shape w pass v → is_among c v.cpus ≡ true → is_hand_of c (w.core.owner e) ≡ is_in_hand_of e c v.hand
+pub own_hand : (shape : Shape) (w : World) (pass : ℕ) (v : View) (e c : ℕ) → PassKnows shape w pass v → is_among c v.cpus ≡ true → is_hand_of c (w.core.owner e) ≡ is_in_hand_of e c v.hand
 own_hand shape w pass v e c kn has =
     let mine = has_mine shape w pass v c kn has in
-    sym (kn.hands e c (kn.within c has) ∙ and_true (is_hand_of c (w.core.owner e)) (w.whose c) mine)
+    sym (kn.hands e c (kn.within c has) ∙ and_true (is_hand_of c (w.core.owner e)) (w.pass_of_cpu c) mine)
   where
     and_true : (b : Bool) (x : ℕ) → x ≡ pass → (b && eqb x pass) ≡ b
     and_true b x e = by_test x pass (λ t. (b && t) ≡ b) (λ _. go b) (λ n. absurd (n e))
@@ -155,7 +155,7 @@ here_all (suc n) cpus all c less =
     last_or_below c n less = by_test c n (λ b. (c ≡ n) ⊎ (c < n)) (λ e. inl e) (λ other. inr (omega arith))
 
 -- a pass other than this one, which has a CPU of the map, knows no turns and no bits
-pub knows_none : (shape : Shape) (w : World) (pass j : ℕ) (u : View) (c : ℕ) → Knows shape w j u → c < shape.cpus → w.whose c ≡ pass → j ≢ pass → (u.known ≡ []) × (u.bits ≡ [])
+pub knows_none : (shape : Shape) (w : World) (pass j : ℕ) (u : View) (c : ℕ) → PassKnows shape w j u → c < shape.cpus → w.pass_of_cpu c ≡ pass → j ≢ pass → (u.known ≡ []) × (u.bits ≡ [])
 knows_none shape w pass j u c ku real mine other =
     ⊎_elim
     (λ (none_known : (u.known ≡ []) × (u.bits ≡ [])). none_known)
@@ -172,12 +172,12 @@ abbrev pub StillStand : World → World → Type 0
 StillStand w w' = (steps : List Turned) → StandIn (logs_of w) steps → StandIn (logs_of w') steps
 
 pub strand_stays : (shape : Shape) (w w' : World) (pass t : ℕ) (cpus : List ℕ) (steps : List Turned) (kept : List StrandStep) (touched : List WordStep)
-    → w'.keeper t ≡ pass → (t < w.next → t < w'.next) → w'.team t ≡ w.team t → ((k : ℕ) → turns_of t 0 (w'.log k) ≡ turns_of t 0 (w.log k)) → StillStand w w' → ((k : ℕ) → w'.lost k ≡ false → w.lost k ≡ false)
+    → w'.pass_of_strand t ≡ pass → (t < w.next → t < w'.next) → w'.cpus_of_strand t ≡ w.cpus_of_strand t → ((k : ℕ) → turns_of t 0 (w'.log k) ≡ turns_of t 0 (w.log k)) → StillStand w w' → ((k : ℕ) → w'.lost k ≡ false → w.lost k ≡ false)
     → touches_of t w'.touches ≡ touches_of t w.touches → IsStrand shape w pass t cpus steps kept touched → IsStrand shape w' pass t cpus steps kept touched
-strand_stays shape w w' pass t cpus steps kept touched keeper numbered team same still losses touches st = record {
-  keeper = keeper;
+strand_stays shape w w' pass t cpus steps kept touched pass_of_strand numbered cpus_of_strand same still losses touches st = record {
+  pass_of_strand = pass_of_strand;
   numbered = numbered st.numbered;
-  team = team ∙ st.team;
+  cpus_of_strand = cpus_of_strand ∙ st.cpus_of_strand;
   steps_are = λ k. st.steps_are k ∙ sym (same k);
   stand = still steps st.stand;
   kept_are = λ k below is lo. st.kept_are k below is (losses k lo);
@@ -186,23 +186,23 @@ strand_stays shape w w' pass t cpus steps kept touched keeper numbered team same
 
 -- strands have the same passes, CPUs and numbers, and their turns stand where they stood
 pub record SameStrands (w w' : World) : Type 0 where
-  pub keeper : (t : ℕ) → w'.keeper t ≡ w.keeper t
-  pub team : (t : ℕ) → w'.team t ≡ w.team t
+  pub pass_of_strand : (t : ℕ) → w'.pass_of_strand t ≡ w.pass_of_strand t
+  pub cpus_of_strand : (t : ℕ) → w'.cpus_of_strand t ≡ w.cpus_of_strand t
   pub next : w'.next ≡ w.next
   pub current : (pass : ℕ) → w'.current pass ≡ w.current pass
   pub past : (pass : ℕ) → w'.past pass ≡ w.past pass
-  pub whose : (c : ℕ) → w'.whose c ≡ w.whose c
+  pub pass_of_cpu : (c : ℕ) → w'.pass_of_cpu c ≡ w.pass_of_cpu c
   pub still : StillStand w w'
 
 pub past_stays : (shape : Shape) (w w' : World) (pass : ℕ) (ts : List ℕ) (es : List Ended) → SameStrands w w'
-    → ((t k : ℕ) → is_among t ts ≡ true → w.keeper t ≡ pass → turns_of t 0 (w'.log k) ≡ turns_of t 0 (w.log k)) → ((k : ℕ) → w'.lost k ≡ false → w.lost k ≡ false)
-    → ((t : ℕ) → is_among t ts ≡ true → w.keeper t ≡ pass → touches_of t w'.touches ≡ touches_of t w.touches) → ArePast shape w pass ts es → ArePast shape w' pass ts es
+    → ((t k : ℕ) → is_among t ts ≡ true → w.pass_of_strand t ≡ pass → turns_of t 0 (w'.log k) ≡ turns_of t 0 (w.log k)) → ((k : ℕ) → w'.lost k ≡ false → w.lost k ≡ false)
+    → ((t : ℕ) → is_among t ts ≡ true → w.pass_of_strand t ≡ pass → touches_of t w'.touches ≡ touches_of t w.touches) → ArePast shape w pass ts es → ArePast shape w' pass ts es
 past_stays shape w w' pass [] [] same turns losses touches p = tt
 past_stays shape w w' pass [] (e ∷ es) same turns losses touches p = absurd p
 past_stays shape w w' pass (t ∷ ts) [] same turns losses touches p = absurd p
 past_stays shape w w' pass (t ∷ ts) (e ∷ es) same turns losses touches p = (
-  strand_stays shape w w' pass t e.cpus e.steps e.kept e.touched (same.keeper t ∙ p.0.keeper) (λ less. subst (λ (n : ℕ). t < n) (sym same.next) less) (same.team t)
-      (λ k. turns t k (among_first t ts) p.0.keeper) same.still losses (touches t (among_first t ts) p.0.keeper) p.0,
+  strand_stays shape w w' pass t e.cpus e.steps e.kept e.touched (same.pass_of_strand t ∙ p.0.pass_of_strand) (λ less. subst (λ (n : ℕ). t < n) (sym same.next) less) (same.cpus_of_strand t)
+      (λ k. turns t k (among_first t ts) p.0.pass_of_strand) same.still losses (touches t (among_first t ts) p.0.pass_of_strand) p.0,
   p.1,
   past_stays shape w w' pass ts es same
       (λ u k among. turns u k (later u among)) losses (λ u among. touches u (later u among)) p.2,
@@ -216,10 +216,10 @@ pub of_strands_stay : (w w' : World) (n m : ℕ) (xs : List Touch) → n ≡ m �
 of_strands_stay w w' n m [] e same are = tt
 of_strands_stay w w' n m (x ∷ xs) e same are = (
   record {
-    seated = subst (λ (z : ℕ). w'.keeper x.0 < z) e (subst (λ (z : ℕ). z < n) (sym (same.keeper x.0)) are.0.seated);
+    seated = subst (λ (z : ℕ). w'.pass_of_strand x.0 < z) e (subst (λ (z : ℕ). z < n) (sym (same.pass_of_strand x.0)) are.0.seated);
     numbered = subst (λ (z : ℕ). x.0 < z) (sym same.next) are.0.numbered;
-    listed = ap (λ (z : ℕ). is_among x.0 (w'.current z ∷ w'.past z)) (same.keeper x.0)
-        ∙ ((λ i. is_among x.0 (same.current (w.keeper x.0) i ∷ same.past (w.keeper x.0) i)) ∙ are.0.listed);
+    listed = ap (λ (z : ℕ). is_among x.0 (w'.current z ∷ w'.past z)) (same.pass_of_strand x.0)
+        ∙ ((λ i. is_among x.0 (same.current (w.pass_of_strand x.0) i ∷ same.past (w.pass_of_strand x.0) i)) ∙ are.0.listed);
   },
   of_strands_stay w w' n m xs e same are.1,
 )
@@ -233,11 +233,11 @@ pub tagged_stays : (w w' : World) (n m : ℕ) (log : List Tagged) → n ≡ m �
 tagged_stays w w' n m [] e same tagged = tt
 tagged_stays w w' n m (x ∷ xs) e same tagged = (
   record {
-    seated = subst (λ (z : ℕ). w'.keeper x.0 < z) e (subst (λ (z : ℕ). z < n) (sym (same.keeper x.0)) tagged.0.seated);
+    seated = subst (λ (z : ℕ). w'.pass_of_strand x.0 < z) e (subst (λ (z : ℕ). z < n) (sym (same.pass_of_strand x.0)) tagged.0.seated);
     numbered = subst (λ (z : ℕ). x.0 < z) (sym same.next) tagged.0.numbered;
-    has_cpu = ap (is_among x.1.cpu) (same.team x.0) ∙ tagged.0.has_cpu;
-    listed = ap (λ (z : ℕ). is_among x.0 (w'.current z ∷ w'.past z)) (same.keeper x.0)
-        ∙ ((λ i. is_among x.0 (same.current (w.keeper x.0) i ∷ same.past (w.keeper x.0) i)) ∙ tagged.0.listed);
+    has_cpu = ap (is_among x.1.cpu) (same.cpus_of_strand x.0) ∙ tagged.0.has_cpu;
+    listed = ap (λ (z : ℕ). is_among x.0 (w'.current z ∷ w'.past z)) (same.pass_of_strand x.0)
+        ∙ ((λ i. is_among x.0 (same.current (w.pass_of_strand x.0) i ∷ same.past (w.pass_of_strand x.0) i)) ∙ tagged.0.listed);
   },
   tagged_stays w w' n m xs e same tagged.1,
 )
@@ -261,9 +261,9 @@ hash_stands shape hash hash' hand e c b is stays =
     record { in_hand = is.in_hand; bucket_is = ap (λ (h : ℕ). bucket_number h shape.buckets) (stays is.in_hand) ∙ is.bucket_is }
 
 -- a lock that a pass holds as before has the holder and the turns that it had
-same_hold : (whose whose' : ℕ → ℕ) (j k c : ℕ) (holder holder' : Option ℕ) (log log' : List Tagged) (lists lists' : Lists) (lost lost' : Bool) → whose c ≡ j → hold_of j whose' k holder' log' lists' lost' ≡ hold_of j whose k holder log lists lost → holder ≡ Some c → (holder' ≡ Some c) × (entries log' ≡ entries log)
-same_hold whose whose' j k c holder holder' log log' lists lists' lost lost' mine same held =
-    let is = hold_of_is whose' j k holder' log' lists' lost' (hold k c log lists lost) (same ∙ (ap (λ (z : Option ℕ). hold_of j whose k z log lists lost) held ∙ hold_of_mine whose j k c log lists lost mine)) in
+same_hold : (pass_of_cpu pass_of_cpu' : ℕ → ℕ) (j k c : ℕ) (holder holder' : Option ℕ) (log log' : List Tagged) (lists lists' : Lists) (lost lost' : Bool) → pass_of_cpu c ≡ j → hold_of j pass_of_cpu' k holder' log' lists' lost' ≡ hold_of j pass_of_cpu k holder log lists lost → holder ≡ Some c → (holder' ≡ Some c) × (entries log' ≡ entries log)
+same_hold pass_of_cpu pass_of_cpu' j k c holder holder' log log' lists lists' lost lost' mine same held =
+    let is = hold_of_is pass_of_cpu' j k holder' log' lists' lost' (hold k c log lists lost) (same ∙ (ap (λ (z : Option ℕ). hold_of j pass_of_cpu k z log lists lost) held ∙ hold_of_mine pass_of_cpu j k c log lists lost mine)) in
     (is.holder_is, sym (ap (λ (h : Hold). h.log) is.hold_is))
 
 -- where the locks that a CPU holds stay, with their turns, what is known of the stored hash of an element in its hand does
@@ -317,22 +317,22 @@ hashed_away shape holder holder' log log' hash hash' hashes hashes' came came' j
 
 -- THE FRAME. What a pass knows stays where its own locks, hands and strands do, and where what it keeps of turns and bits
 -- is still so.
-pub others : (shape : Shape) (w w' : World) (j : ℕ) (u : View) → SameStrands w w' → Knows shape w j u
-    → ((k : ℕ) → hold_of j w'.whose k (w'.core.holder k) (w'.log k) (w'.core.lists k) (w'.lost k) ≡ hold_of j w.whose k (w.core.holder k) (w.log k) (w.core.lists k) (w.lost k))
-    → ((e c : ℕ) → c < shape.cpus → (is_hand_of c (w'.core.owner e) && eqb (w'.whose c) j) ≡ (is_hand_of c (w.core.owner e) && eqb (w.whose c) j))
-    → ((e c : ℕ) → c < shape.cpus → (is_home_of c (w'.core.home e) && eqb (w'.whose c) j) ≡ (is_home_of c (w.core.home e) && eqb (w.whose c) j))
-    → ((t k : ℕ) → w.keeper t ≡ j → turns_of t 0 (w'.log k) ≡ turns_of t 0 (w.log k))
+pub others : (shape : Shape) (w w' : World) (j : ℕ) (u : View) → SameStrands w w' → PassKnows shape w j u
+    → ((k : ℕ) → hold_of j w'.pass_of_cpu k (w'.core.holder k) (w'.log k) (w'.core.lists k) (w'.lost k) ≡ hold_of j w.pass_of_cpu k (w.core.holder k) (w.log k) (w.core.lists k) (w.lost k))
+    → ((e c : ℕ) → c < shape.cpus → (is_hand_of c (w'.core.owner e) && eqb (w'.pass_of_cpu c) j) ≡ (is_hand_of c (w.core.owner e) && eqb (w.pass_of_cpu c) j))
+    → ((e c : ℕ) → c < shape.cpus → (is_home_of c (w'.core.home e) && eqb (w'.pass_of_cpu c) j) ≡ (is_home_of c (w.core.home e) && eqb (w.pass_of_cpu c) j))
+    → ((t k : ℕ) → w.pass_of_strand t ≡ j → turns_of t 0 (w'.log k) ≡ turns_of t 0 (w.log k))
     → ((k : ℕ) → w'.lost k ≡ false → w.lost k ≡ false)
     → ((k : ℕ) (log : List Entry) → known_log k u.known ≡ Some log → entries (w'.log k) ≡ log)
     → ((e : ℕ) (bit : Bool) → bit_seen e u.bits ≡ Some bit → w'.core.bit e ≡ bit)
-    → ((e c : ℕ) → w.core.owner e ≡ owners.Hand c → w.whose c ≡ j → w'.hash e ≡ w.hash e)
-    → ((e c : ℕ) (lock : DomainId) → e < shape.elements → w.core.owner e ≡ owners.Hand c → w.whose c ≡ j → w'.core.home e ≡ homes.In lock → (w.core.home e ≡ homes.In lock) ⊎ IsAway shape w.core.holder w'.core.holder (w.core.home e) c lock)
-    → ((t : ℕ) → w.keeper t ≡ j → touches_of t w'.touches ≡ touches_of t w.touches)
-    → ((e c : ℕ) (read : Home) → e < shape.elements → w.core.owner e ≡ owners.Hand c → w.whose c ≡ j → StillHome shape w.core.holder w.log e (w.core.home e) read → StillHome shape w'.core.holder w'.log e (w'.core.home e) read)
-    → Knows shape w' j u
+    → ((e c : ℕ) → w.core.owner e ≡ owners.Hand c → w.pass_of_cpu c ≡ j → w'.hash e ≡ w.hash e)
+    → ((e c : ℕ) (lock : DomainId) → e < shape.elements → w.core.owner e ≡ owners.Hand c → w.pass_of_cpu c ≡ j → w'.core.home e ≡ homes.In lock → (w.core.home e ≡ homes.In lock) ⊎ IsAway shape w.core.holder w'.core.holder (w.core.home e) c lock)
+    → ((t : ℕ) → w.pass_of_strand t ≡ j → touches_of t w'.touches ≡ touches_of t w.touches)
+    → ((e c : ℕ) (read : Home) → e < shape.elements → w.core.owner e ≡ owners.Hand c → w.pass_of_cpu c ≡ j → StillHome shape w.core.holder w.log e (w.core.home e) read → StillHome shape w'.core.holder w'.log e (w'.core.home e) read)
+    → PassKnows shape w' j u
 others shape w w' j u same kn holds hands carried turns losses known bits hashes at_home touches readings = record {
   shape_is = kn.shape_is;
-  cpus = λ c less. kn.cpus c less ∙ sym (ap (λ (z : ℕ). eqb z j) (same.whose c));
+  cpus = λ c less. kn.cpus c less ∙ sym (ap (λ (z : ℕ). eqb z j) (same.pass_of_cpu c));
   within = kn.within;
   held = λ k. kn.held k ∙ sym (holds k);
   ascends = kn.ascends;
@@ -341,27 +341,27 @@ others shape w w' j u same kn holds hands carried turns losses known bits hashes
   hashed = λ lru e c lock real within in_hand at.
       let is = both_true _ _ (sym (kn.hands e c within) ∙ in_hand) in
       let own : w.core.owner e ≡ owners.Hand c = hand_is c (w.core.owner e) is.0 in
-      let theirs : w.whose c ≡ j = eqb-true (w.whose c) j is.1 in
+      let theirs : w.pass_of_cpu c ≡ j = eqb-true (w.pass_of_cpu c) j is.1 in
       let k : ℕ = lock_number shape lock in ⊎_elim
       (λ (stays : w.core.home e ≡ homes.In lock). hashed_stands shape w.core.holder w'.core.holder w.log w'.log w.hash w'.hash u.hashes u.hashes (came_at k u.held u.notes) (came_at k u.held u.notes) k e c
-      (λ m held. same_hold w.whose w'.whose j m c (w.core.holder m) (w'.core.holder m) (w.log m) (w'.log m) (w.core.lists m) (w'.core.lists m) (w.lost m) (w'.lost m) theirs (holds m) held)
-      (λ held. (same_hold w'.whose w.whose j k c (w'.core.holder k) (w.core.holder k) (w'.log k) (w.log k) (w'.core.lists k) (w.core.lists k) (w'.lost k) (w.lost k) (same.whose c ∙ theirs) (sym (holds k)) held).0)
+      (λ m held. same_hold w.pass_of_cpu w'.pass_of_cpu j m c (w.core.holder m) (w'.core.holder m) (w.log m) (w'.log m) (w.core.lists m) (w'.core.lists m) (w.lost m) (w'.lost m) theirs (holds m) held)
+      (λ held. (same_hold w'.pass_of_cpu w.pass_of_cpu j k c (w'.core.holder k) (w.core.holder k) (w'.log k) (w.log k) (w'.core.lists k) (w.core.lists k) (w'.lost k) (w.lost k) (same.pass_of_cpu c ∙ theirs) (sym (holds k)) held).0)
       (hashes e c own theirs) refl (λ inside. inside) (kn.hashed lru e c lock real within in_hand stays))
       (λ (away : IsAway shape w.core.holder w'.core.holder (w.core.home e) c lock). let j : ℕ = lock_number shape away.from in
       hashed_away shape w.core.holder w'.core.holder w.log w'.log w.hash w'.hash u.hashes u.hashes (came_at j u.held u.notes) (came_at k u.held u.notes) j k e c away.left away.now refl (kn.hashed lru e c away.from real within in_hand away.was))
       (at_home e c lock real own theirs at);
   hashes = λ e c noted within found. hash_stands shape w.hash w'.hash u.hand e c noted.bucket (kn.hashes e c noted within found)
-      (λ in_hand. let is = both_true _ _ (sym (kn.hands e c within) ∙ in_hand) in hashes e c (hand_is c (w.core.owner e) is.0) (eqb-true (w.whose c) j is.1));
+      (λ in_hand. let is = both_true _ _ (sym (kn.hands e c within) ∙ in_hand) in hashes e c (hand_is c (w.core.owner e) is.0) (eqb-true (w.pass_of_cpu c) j is.1));
   readings = λ e c read within found. let was = kn.readings e c read within found in let is = both_true _ _ (sym (kn.hands e c within) ∙ was.in_hand) in
-      record { real = was.real; in_hand = was.in_hand; still = readings e c read was.real (hand_is c (w.core.owner e) is.0) (eqb-true (w.whose c) j is.1) was.still };
+      record { real = was.real; in_hand = was.in_hand; still = readings e c read was.real (hand_is c (w.core.owner e) is.0) (eqb-true (w.pass_of_cpu c) j is.1) was.still };
   known = known;
   bits = bits;
   only = kn.only;
   losses = λ k among. lock_still_lost shape w w' k (losses k) (kn.losses k among);
   noted = kn.noted;
   strand = subst (λ (z : ℕ). IsStrand shape w' j z u.cpus u.steps u.kept u.touched) (sym (same.current j))
-      (strand_stays shape w w' j (w.current j) u.cpus u.steps u.kept u.touched (same.keeper (w.current j) ∙ kn.strand.keeper) (λ less. subst (λ (n : ℕ). w.current j < n) (sym same.next) less) (same.team (w.current j))
-      (λ k. turns (w.current j) k kn.strand.keeper) same.still losses (touches (w.current j) kn.strand.keeper) kn.strand);
+      (strand_stays shape w w' j (w.current j) u.cpus u.steps u.kept u.touched (same.pass_of_strand (w.current j) ∙ kn.strand.pass_of_strand) (λ less. subst (λ (n : ℕ). w.current j < n) (sym same.next) less) (same.cpus_of_strand (w.current j))
+      (λ k. turns (w.current j) k kn.strand.pass_of_strand) same.still losses (touches (w.current j) kn.strand.pass_of_strand) kn.strand);
   past = subst (λ (z : List ℕ). ArePast shape w' j z u.ended) (sym (same.past j))
       (past_stays shape w w' j (w.past j) u.ended same (λ t k _ own. turns t k own) losses (λ t _ own. touches t own) kn.past);
   apart = (λ i. is_among (same.current j i) (same.past j i)) ∙ kn.apart;

@@ -19,7 +19,7 @@ use Rattle.place_table.specs.declared.content.Behind.{Behind}
 use Rattle.place_table.specs.Contents.{lists_of, IsSized}
 use Rattle.place_table.specs.declared.view.Ended.{Ended}
 use Rattle.place_table.specs.Views.{is_among, is_in_hand_of, known_log, bit_seen, all_strands, is_recorded}
-use Rattle.place_table.specs.Rules.{Reads, is_hand_of, turns_on, indexes, StandIn, Touch, touches_of, LeadTo}
+use Rattle.place_table.specs.Rules.{IsSlotAfter, is_hand_of, turns_on, indexes, StandIn, Touch, touches_of, LeadTo}
 use Rattle.place_table.specs.Passes.{PassView, spare_of}
 use Rattle.place_table.specs.Words.{word_count, owner_word, home_word, bit_word, opening_words, lock_code}
 use Rattle.place_words.specs.Codes.{owner_code, home_code}
@@ -35,7 +35,7 @@ pub record ClosedView : Type 0 where
 -- what stands in the slots at the end, of the locks that the map has: the turns of each, and what they lead to
 pub record AreSlots (shape : Shape) (log : ℕ → List Entry) (lost : ℕ → Bool) (slots : List Behind) : Type 0 where
   pub counted : length slots ≡ lock_count shape
-  pub each : (k : ℕ) → k < lock_count shape → IsTrue (is_lock shape (lock_named shape k)) → (behind : Behind) × (get_elem? slots k ≡ some behind) × Reads shape k (log k) (lost k) behind
+  pub each : (k : ℕ) → k < lock_count shape → IsTrue (is_lock shape (lock_named shape k)) → (behind : Behind) × (get_elem? slots k ≡ some behind) × IsSlotAfter shape k (log k) (lost k) behind
 
 -- the locks that the map has, by number
 abbrev pub has_lock : Shape → ℕ → Bool
@@ -131,7 +131,7 @@ pub record IsClosed (shape : Shape) (pass : PassView) (closed : ClosedView) : Ty
   pub legal : (k : ℕ) → IsLegal shape (lock_named shape k) (log k)
   pub nobody : (k : ℕ) → core.holder k ≡ None
   pub placed : Placed shape core
-  pub lies : (k : ℕ) → k < lock_count shape → IsTrue (has_lock shape k) → core.lists k ≡ lists_of (content shape (lock_named shape k) (log k))
+  pub lists_are : (k : ℕ) → k < lock_count shape → IsTrue (has_lock shape k) → core.lists k ≡ lists_of (content shape (lock_named shape k) (log k))
   pub hands : (e c : ℕ) → c < shape.cpus → is_hand_of c (core.owner e) ≡ is_in_hand_of e c pass.view.hand
   -- and what the pass has in hand is an element of the map, in the hand of one of its CPUs
   pub in_hand : (e c : ℕ) → is_in_hand_of e c pass.view.hand ≡ true → (e < shape.elements) × (c < shape.cpus)

@@ -29,11 +29,11 @@ set_under (Bucket bucket) set = in_own set
 set_under (Freelist cpu) set = in_own set
 
 -- what lies under a lock, as histories tell it
-abbrev pub told : DomainId → Content → histories.Content
-told lock (contents.Bucket chain) = in_bucket chain.bodies
-told lock (contents.Freelist freelist) = on_freelist (numbers freelist.bodies)
-told lock (contents.Local lists) = in_locals (local_told lists)
-told lock (contents.Set set) = set_under lock (set_told set)
+abbrev pub content_told : DomainId → Content → histories.Content
+content_told lock (contents.Bucket chain) = in_bucket chain.bodies
+content_told lock (contents.Freelist freelist) = on_freelist (numbers freelist.bodies)
+content_told lock (contents.Local lists) = in_locals (local_told lists)
+content_told lock (contents.Set set) = set_under lock (set_told set)
 
 -- as lists of elements: of local lists the first is pending, of a set active, and the second inactive
 abbrev pub lists_of_set : ListSet → Lists
@@ -74,24 +74,24 @@ pub record FitsLocal (shape : Shape) (lists : LocalView) : Type 0 where
 -- A bucket lies under a bucket's lock, a freelist under a freelist's, local lists under a CPU's local lock, and a list set under the
 -- global lock or that of a CPU's own set, with bodies of the map's sizes. A freelist has room for every element, as it was created,
 -- and so have local lists and a list set.
-abbrev pub Fits : Shape → DomainId → Content → Type 0
-Fits shape (Bucket bucket) (contents.Bucket chain) = All (IsSized shape) chain.bodies
-Fits shape (Bucket bucket) (contents.Freelist freelist) = ⊥
-Fits shape (Bucket bucket) (contents.Local lists) = ⊥
-Fits shape (Bucket bucket) (contents.Set set) = ⊥
-Fits shape (Freelist cpu) (contents.Freelist freelist) = All (IsSized shape) freelist.bodies × (freelist.room ≡ shape.elements)
-Fits shape (Freelist cpu) (contents.Bucket chain) = ⊥
-Fits shape (Freelist cpu) (contents.Local lists) = ⊥
-Fits shape (Freelist cpu) (contents.Set set) = ⊥
-Fits shape (CpuLru cpu) (contents.Set set) = FitsSet shape set
-Fits shape (CpuLru cpu) (contents.Bucket chain) = ⊥
-Fits shape (CpuLru cpu) (contents.Freelist freelist) = ⊥
-Fits shape (CpuLru cpu) (contents.Local lists) = ⊥
-Fits shape (Local cpu) (contents.Local lists) = FitsLocal shape lists
-Fits shape (Local cpu) (contents.Bucket chain) = ⊥
-Fits shape (Local cpu) (contents.Freelist freelist) = ⊥
-Fits shape (Local cpu) (contents.Set set) = ⊥
-Fits shape Global (contents.Set set) = FitsSet shape set
-Fits shape Global (contents.Bucket chain) = ⊥
-Fits shape Global (contents.Freelist freelist) = ⊥
-Fits shape Global (contents.Local lists) = ⊥
+abbrev pub FitsLock : Shape → DomainId → Content → Type 0
+FitsLock shape (Bucket bucket) (contents.Bucket chain) = All (IsSized shape) chain.bodies
+FitsLock shape (Bucket bucket) (contents.Freelist freelist) = ⊥
+FitsLock shape (Bucket bucket) (contents.Local lists) = ⊥
+FitsLock shape (Bucket bucket) (contents.Set set) = ⊥
+FitsLock shape (Freelist cpu) (contents.Freelist freelist) = All (IsSized shape) freelist.bodies × (freelist.room ≡ shape.elements)
+FitsLock shape (Freelist cpu) (contents.Bucket chain) = ⊥
+FitsLock shape (Freelist cpu) (contents.Local lists) = ⊥
+FitsLock shape (Freelist cpu) (contents.Set set) = ⊥
+FitsLock shape (CpuLru cpu) (contents.Set set) = FitsSet shape set
+FitsLock shape (CpuLru cpu) (contents.Bucket chain) = ⊥
+FitsLock shape (CpuLru cpu) (contents.Freelist freelist) = ⊥
+FitsLock shape (CpuLru cpu) (contents.Local lists) = ⊥
+FitsLock shape (Local cpu) (contents.Local lists) = FitsLocal shape lists
+FitsLock shape (Local cpu) (contents.Bucket chain) = ⊥
+FitsLock shape (Local cpu) (contents.Freelist freelist) = ⊥
+FitsLock shape (Local cpu) (contents.Set set) = ⊥
+FitsLock shape Global (contents.Set set) = FitsSet shape set
+FitsLock shape Global (contents.Bucket chain) = ⊥
+FitsLock shape Global (contents.Freelist freelist) = ⊥
+FitsLock shape Global (contents.Local lists) = ⊥

@@ -23,11 +23,11 @@ use Rattle.place_core.specs.Steps.{CoreStep}
 use Rattle.place_table.specs.declared.content.Behind.{Behind}
 use Rattle.place_table.specs.declared.view.View.{View}
 use Rattle.place_table.specs.declared.view.Hold.{Hold}
-use Rattle.place_table.specs.Contents.{told, lists_of}
+use Rattle.place_table.specs.Contents.{content_told, lists_of}
 use Rattle.place_table.specs.Views.{is_among, hold_at, bucket_known, is_in_hand_of, split_from, split_off, joined, spent}
 use Rattle.place_table.specs.Rules.{Rule, IsAboveAll}
 use Rattle.place_table.specs.Words.{owner_word, home_word, bit_word}
-use Rattle.place_table.specs.Plays.{Seated, MayGive, Tries, Gives, Claims, Settles, Attaches, Detaches, Marks, Clears, SeesBit, SeesOwner, SeesHome, IsKnownHome, MayGoHome, Rehomes, MayClear}
+use Rattle.place_table.specs.Plays.{Seated, MayGive, Tries, GivesBack, Claims, Settles, Attaches, Detaches, Marks, Clears, SeesBit, SeesOwner, SeesHome, IsKnownHome, MayGoHome, Rehomes, MayClear}
 
 -- A step on the word i, which becomes f of what it was, by a pass with this seat: whatever the table is then, if the rule
 -- holds, there are a view and an act of the seat after which the rule holds again, the core has gone on as it may, and this
@@ -59,7 +59,7 @@ abbrev pub GiveIsStep : Type 0
 GiveIsStep =
     (shape : Shape) (slots pass : ℕ) (v : View) (behind : Behind) (slots_below : List (ℕ × Behind)) (lock : DomainId) (hold : Hold) (below : List Hold) → v.held ≡ hold ∷ below → IsTrue (is_lock shape lock) → hold.lock ≡ lock_number shape lock
     → (entry : Entry) (kept : List StrandStep) (may : MayGive shape v hold entry kept behind)
-    → StepsAs shape slots pass (v, (lock_number shape lock, behind) ∷ slots_below) (lock_number shape lock) (λ _. 0) (goes_by shape (Give hold.cpu lock (lists_of (told lock may.here)))) (λ _. Gives entry kept (v, (lock_number shape lock, behind) ∷ slots_below))
+    → StepsAs shape slots pass (v, (lock_number shape lock, behind) ∷ slots_below) (lock_number shape lock) (λ _. 0) (goes_by shape (Give hold.cpu lock (lists_of (content_told lock may.here)))) (λ _. GivesBack entry kept (v, (lock_number shape lock, behind) ∷ slots_below))
 
 -- a bit is set by a store of 1, of an element of a bucket that is held
 abbrev pub MarkIsStep : Type 0

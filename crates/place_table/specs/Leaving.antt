@@ -20,8 +20,8 @@ use Rattle.place_words.specs.Sets.{new_set}
 use Rattle.local_lists.specs.LocalLists.{local_told}
 use Rattle.place_table.specs.declared.content.Content.{Content}
 use Rattle.place_table.specs.declared.content.Content.TheVariants.{Bucket, Freelist, Local, Set}
-use Rattle.place_table.specs.Contents.{told, set_told, Fits, IsSized}
-use Rattle.place_table.specs.declared.strands.Finished.{Finished}
+use Rattle.place_table.specs.Contents.{content_told, set_told, FitsLock, IsSized}
+use Rattle.place_table.specs.declared.strands.FinishedStrand.{FinishedStrand}
 use Rattle.place_table.specs.declared.view.Ended.{Ended}
 use Rattle.place_table.specs.Passes.{spare_of}
 use Rattle.place_table.specs.Closing.{ClosedView, has_lock, history_of, strands_told, IsLeft}
@@ -94,7 +94,7 @@ HaveHistories shape log lost histories =
 -- what lies under all locks that the map has, by number
 abbrev pub AreContents : Shape → Logs → List (Option Content) → Type 0
 AreContents shape log contents =
-    (k : ℕ) → k < lock_count shape → has_lock shape k ≡ true → (here : Content) × (slice_index_or contents k None ≡ Some here) × (told (lock_named shape k) here ≡ content shape (lock_named shape k) (log k)) × Fits shape (lock_named shape k) here
+    (k : ℕ) → k < lock_count shape → has_lock shape k ≡ true → (here : Content) × (slice_index_or contents k None ≡ Some here) × (content_told (lock_named shape k) here ≡ content shape (lock_named shape k) (log k)) × FitsLock shape (lock_named shape k) here
 
 -- the histories of the first n locks, and whether one of them is lost
 pub record AreKept (shape : Shape) (log : Logs) (lost : ℕ → Bool) (n : ℕ) (kept : List LockHistory) (some_lost : Bool) : Type 0 where
@@ -102,7 +102,7 @@ pub record AreKept (shape : Shape) (log : Logs) (lost : ℕ → Bool) (n : ℕ) 
   pub lost_is : some_lost ≡ list_any lost (filter (has_lock shape) (range_with_len 0 n))
 
 -- a strand that was kept, with its CPUs ascending
-abbrev pub finished_told : Shape → Finished → Strand
+abbrev pub finished_told : Shape → FinishedStrand → Strand
 finished_told shape strand = record { cpus = filter (λ cpu. slice_index_or strand.cpus cpu false) (range_with_len 0 shape.cpus); steps = strand.steps }
 
 -- the histories and strands that are handed out, and whether a record is lost; where the strands are lost, so is every record

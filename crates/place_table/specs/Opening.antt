@@ -12,14 +12,14 @@ use Rattle.place_words.specs.Locks.{is_lock, lock_named}
 use Rattle.place_words.specs.Openings.{opening_spares}
 use Rattle.place_table.specs.declared.content.Content.{Content}
 use Rattle.place_table.specs.declared.content.Behind.{Behind}
-use Rattle.place_table.specs.Contents.{told, Fits, IsSized}
+use Rattle.place_table.specs.Contents.{content_told, FitsLock, IsSized}
 use Rattle.place_table.specs.Rules.{KeptAs}
 use Rattle.place_table.specs.Passes.{spare_of}
 
 -- a content is what lies under a lock at first, and there is none where the map has no such lock
 abbrev pub IsFirstContent : Shape → DomainId → Option Content → Type 0
 IsFirstContent shape lock found =
-    MatchOption found (IsFalse (is_lock shape lock)) (λ here. (told lock here ≡ opening_content shape lock) × Fits shape lock here)
+    MatchOption found (IsFalse (is_lock shape lock)) (λ here. (content_told lock here ≡ opening_content shape lock) × FitsLock shape lock here)
 
 -- a slot at first, with no turn of its lock recorded
 pub record IsFirstSlot (shape : Shape) (k : ℕ) (behind : Behind) : Type 0 where

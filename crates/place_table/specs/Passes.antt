@@ -27,14 +27,14 @@ use Rattle.place_core.specs.Wholeness.{all_of}
 use Rattle.place_table.specs.Flushes.{flushed_last}
 use Rattle.place_table.specs.declared.content.Content.{Content}
 use Rattle.place_table.specs.declared.content.Behind.{Behind}
-use Rattle.place_table.specs.declared.strands.Finished.{Finished}
+use Rattle.place_table.specs.declared.strands.FinishedStrand.{FinishedStrand}
 use Rattle.place_table.specs.declared.view.View.{View}
 use Rattle.place_table.specs.declared.view.Hold.{Hold}
 use Rattle.place_table.specs.declared.view.InHand.{InHand}
 use Rattle.place_table.specs.declared.view.Notes.{Notes}
 use Rattle.place_table.specs.declared.view.Turned.{Turned}
 use Rattle.place_table.specs.declared.view.Ended.{Ended}
-use Rattle.place_table.specs.Contents.{told, lists_of, Fits, IsSized}
+use Rattle.place_table.specs.Contents.{content_told, lists_of, FitsLock, IsSized}
 use Rattle.place_table.specs.Views.{is_among, hold_at, is_in_hand_of, known_log, first_view, place_of, kept_step, holding, given, losing, claimed, settled, attached, detached, marked, cleared, bit_read, owner_read, home_read, rehomed, is_recorded, split_from, split_off, joined, bucket_known, home_known}
 use Rattle.place_table.specs.Rules.{KeptAs, IsAboveAll}
 use Rattle.place_table.specs.Plays.{AreElements, IsApartFromHands, MayPut, IsInnermost, IsKeptOrLost, IsKnownBit, OwnerFits, IsKnownHome, HomeFits, MayGoHome, MayClear}
@@ -84,10 +84,10 @@ flags_of cpus = map (λ cpu. is_among cpu cpus) (range_with_len 0 16)
 
 -- Of the strands that have ended those are kept a step of which is recorded, with its CPUs and these steps; or no list of them
 -- is there, since memory for one wasn't found.
-abbrev pub finished_of : Ended → Finished
+abbrev pub finished_of : Ended → FinishedStrand
 finished_of strand = record { cpus = flags_of strand.cpus; steps = strand.kept }
 
-abbrev pub AreFinished : List Ended → Option (Vec Finished Global) → Type 0
+abbrev pub AreFinished : List Ended → Option (Vec FinishedStrand Global) → Type 0
 AreFinished strands kept = MatchOption kept (Unit {0}) (λ v. v.items ≡ map finished_of (filter is_recorded strands))
 
 -- the CPUs of a strand are the map's
@@ -95,7 +95,7 @@ abbrev pub HasCpusOf : Shape → Ended → Type 0
 HasCpusOf shape strand = (cpu : ℕ) → is_among cpu strand.cpus ≡ true → cpu < shape.cpus
 
 -- what holds of each pass
-pub record IsPass (v : View) (slots : List (ℕ × Behind)) (strand : List StrandStep) (spares : List (Option Stored)) (cpus : List Bool) (ended : Option (Vec Finished Global)) : Type 0 where
+pub record IsPass (v : View) (slots : List (ℕ × Behind)) (strand : List StrandStep) (spares : List (Option Stored)) (cpus : List Bool) (ended : Option (Vec FinishedStrand Global)) : Type 0 where
   pub carries : Carries v.held slots
   pub strand_is : strand ≡ v.kept
   pub cpus_are : cpus ≡ flags_of v.cpus
@@ -161,7 +161,7 @@ pub record CanTake (t : TableView) (lock : DomainId) (p : PassView) : Type 0 whe
 
 -- What take leaves: the lock is held, and what lies there is what its turns lead to. Where the pass knew the turns, these
 -- are they.
-pub record Takes (t : TableView) (lock : DomainId) (before after : PassView) (here : Content) : Type 0 where
+pub record TookLock (t : TableView) (lock : DomainId) (before after : PassView) (here : Content) : Type 0 where
   pub hold : Hold
   pub lock_is : hold.lock ≡ lock_number t.shape lock
   pub cpu_is : hold.cpu ≡ before.cpu
@@ -169,9 +169,9 @@ pub record Takes (t : TableView) (lock : DomainId) (before after : PassView) (he
   pub within : before.cpu < t.shape.cpus
   pub at : ℕ
   pub after_is : after ≡ with_view before (holding at hold before.view)
-  pub told_is : told lock here ≡ content t.shape lock hold.log
-  pub fits : Fits t.shape lock here
-  pub now : hold.now ≡ lists_of (told lock here)
+  pub told_is : content_told lock here ≡ content t.shape lock hold.log
+  pub fits : FitsLock t.shape lock here
+  pub now : hold.now ≡ lists_of (content_told lock here)
   pub elements : AreElements t.shape hold.now
   pub apart : IsApartFromHands before.view lock hold.now
   pub legal : IsLegal t.shape lock hold.log

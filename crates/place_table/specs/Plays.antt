@@ -32,9 +32,9 @@ use Rattle.place_table.specs.declared.view.Hold.{Hold}
 use Rattle.place_table.specs.declared.view.InHand.{InHand}
 use Rattle.place_table.specs.declared.view.HashIn.{HashIn}
 use Rattle.place_table.specs.declared.view.Notes.{Notes}
-use Rattle.place_table.specs.Contents.{told, lists_of, Fits}
+use Rattle.place_table.specs.Contents.{content_told, lists_of, FitsLock}
 use Rattle.place_table.specs.Views.{is_among, hold_at, is_in_hand_of, known_log, bit_seen, holding, given, losing, kept_step, moved, with_hashes, claimed, settled, attached, detached, marked, cleared, bit_read, owner_read, home_read, rehomed, home_known, came_last}
-use Rattle.place_table.specs.Rules.{Reads, is_hand_of}
+use Rattle.place_table.specs.Rules.{IsSlotAfter, is_hand_of}
 use Rattle.place_table.specs.TurnNotes.{HasOnlyHash, NotesFit, InnermostFits}
 use Rattle.place_table.specs.StoredHashes.{stored_in}
 use Rattle.place_table.specs.Flushes.{flushes, flushed_last}
@@ -65,7 +65,7 @@ pub record Took (k cpu : ℕ) (before after : Seated) : Type 0 where
   pub cpu_is : hold.cpu ≡ cpu
   pub at : ℕ
   pub after_is : after ≡ (holding at hold before.0, (k, behind) ∷ before.1)
-  pub reads : Reads before.0.shape k hold.log hold.lost behind
+  pub reads : IsSlotAfter before.0.shape k hold.log hold.lost behind
   pub now : hold.now ≡ lists_of (content before.0.shape (lock_named before.0.shape k) hold.log)
   pub elements : AreElements before.0.shape hold.now
   pub apart : IsApartFromHands before.0 (lock_named before.0.shape k) hold.now
@@ -88,14 +88,14 @@ Tries step before found after =
 -- What is put back: an entry that is allowed leads to it, and it has the elements that lie there at this step.
 pub record MayPut (shape : Shape) (v : View) (hold : Hold) (entry : Entry) (here : Content) : Type 0 where
   pub cpu : is_among entry.cpu v.cpus ≡ true
-  pub told_is : told (lock_named shape hold.lock) here ≡ content_after shape entry.cpu entry.part (content shape (lock_named shape hold.lock) hold.log)
-  pub fits : Fits shape (lock_named shape hold.lock) here
+  pub told_is : content_told (lock_named shape hold.lock) here ≡ content_after shape entry.cpu entry.part (content shape (lock_named shape hold.lock) hold.log)
+  pub fits : FitsLock shape (lock_named shape hold.lock) here
   pub allowed : Allows shape entry.cpu entry.part (content shape (lock_named shape hold.lock) hold.log)
-  pub same_free : (e : ℕ) → times e (lists_of (told (lock_named shape hold.lock) here)).free ≡ times e hold.now.free
-  pub same_rows : (e : ℕ) → times e (rows (lists_of (told (lock_named shape hold.lock) here))) ≡ times e (rows hold.now)
+  pub same_free : (e : ℕ) → times e (lists_of (content_told (lock_named shape hold.lock) here)).free ≡ times e hold.now.free
+  pub same_rows : (e : ℕ) → times e (rows (lists_of (content_told (lock_named shape hold.lock) here))) ≡ times e (rows hold.now)
   -- on a map that evicts a row has a new hash only where its element came in this turn and is in the CPU's hand: else it is that
   -- of the row that the element had when this lock was taken, or another one that the pass holds
-  pub rows_kept : IsTrue (is_lru shape.kind) → (j e h n : ℕ) (other : Hold) → hold_at j v.held ≡ Some other → (is_in_hand_of e hold.cpu v.hand && is_among e (came_last v.notes)) ≡ false → stored_in (content shape (lock_named shape j) other.log) e ≡ Some h → stored_in (told (lock_named shape hold.lock) here) e ≡ Some n → h ≡ n
+  pub rows_kept : IsTrue (is_lru shape.kind) → (j e h n : ℕ) (other : Hold) → hold_at j v.held ≡ Some other → (is_in_hand_of e hold.cpu v.hand && is_among e (came_last v.notes)) ≡ false → stored_in (content shape (lock_named shape j) other.log) e ≡ Some h → stored_in (content_told (lock_named shape hold.lock) here) e ≡ Some n → h ≡ n
   -- and what was pending when a local lock was taken, and is on its lists no more, was flushed by the turn, or the CPU carries it
   pub gone : IsTrue (is_lru shape.kind) → (c e h : ℕ) → lock_named shape hold.lock ≡ Local c → stored_in (content shape (lock_named shape hold.lock) hold.log) e ≡ Some h → times e (all_of hold.now) ≡ 0 → (is_in_hand_of e hold.cpu v.carried ≡ true) ⊎ (flushes e entry.part ≡ true)
 
@@ -120,7 +120,7 @@ abbrev pub IsInnermost : View → Hold → List Hold → Type 0
 IsInnermost v hold below = v.held ≡ hold ∷ below
 
 -- the lock taken last was given back with this entry, and these steps are recorded then
-pub record Gives (entry : Entry) (kept : List StrandStep) (before after : Seated) : Type 0 where
+pub record GivesBack (entry : Entry) (kept : List StrandStep) (before after : Seated) : Type 0 where
   pub hold : Hold
   pub below : List Hold
   pub innermost : IsInnermost before.0 hold below
@@ -256,7 +256,7 @@ pub record HomeFits (shape : Shape) (v : View) (e : ℕ) (home : Home) : Type 0 
   pub known : IsTrue (is_lru shape.kind) → (cpu : ℕ) (known : Home) → is_among cpu v.cpus ≡ true → IsKnownHome shape v cpu e known → home ≡ known
   pub is_there : IsTrue (is_lru shape.kind) → MayBeHome shape home
   pub of_hand : (cpu holder : ℕ) → is_among cpu v.cpus ≡ true → is_in_hand_of e cpu v.hand ≡ true → is_in_hand_of e cpu v.carried ≡ false → home ≢ homes.Hand holder
-  pub lies : IsTrue (is_lru shape.kind) → (lock : DomainId) (log : List Entry) → home ≡ homes.In lock → hold_at (lock_number shape lock) v.held ≡ None → known_log (lock_number shape lock) v.known ≡ Some log → IsIn e (all_of (lists_of (content shape lock log)))
+  pub under_home : IsTrue (is_lru shape.kind) → (lock : DomainId) (log : List Entry) → home ≡ homes.In lock → hold_at (lock_number shape lock) v.held ≡ None → known_log (lock_number shape lock) v.known ≡ Some log → IsIn e (all_of (lists_of (content shape lock log)))
 
 -- a home was read
 pub record SeesHome (e : ℕ) (before : Seated) (found : ℕ) (after : Seated) : Type 0 where

@@ -38,7 +38,7 @@ use Rattle.place_table.specs.declared.view.Ended.{Ended}
 use Rattle.place_table.specs.Flushes.{flushed_last}
 use Rattle.place_table.specs.declared.view.WordStep.{WordStep}
 use Rattle.place_table.specs.Words.{word_count, owner_word, home_word, bit_word, lock_code, opening_words}
-use Rattle.place_table.specs.Contents.{told, lists_of, Fits}
+use Rattle.place_table.specs.Contents.{content_told, lists_of, FitsLock}
 use Rattle.place_table.specs.Views.{is_among, hold_at, is_in_hand_of, known_log, bit_seen, place_of, hash_known, home_known, came_at}
 use Rattle.place_table.specs.declared.view.Notes.{Notes}
 use Rattle.place_table.specs.declared.view.OwnerSeen.{OwnerSeen}
@@ -64,12 +64,12 @@ pub record World : Type 0 where
   -- of a lock: its turns, and whether the record of them is lost
   pub log : ℕ → List Tagged
   pub lost : ℕ → Bool
-  -- of a CPU: the pass that has it
-  pub whose : ℕ → ℕ
+  -- of a CPU the pass that has it
+  pub pass_of_cpu : ℕ → ℕ
   -- strands have numbers: of a strand the pass that has it and its CPUs, of a pass its current strand and those that
   -- have ended, and the first number that no strand has
-  pub keeper : ℕ → ℕ
-  pub team : ℕ → List ℕ
+  pub pass_of_strand : ℕ → ℕ
+  pub cpus_of_strand : ℕ → List ℕ
   pub current : ℕ → ℕ
   pub past : ℕ → List ℕ
   pub next : ℕ
@@ -83,17 +83,17 @@ abbrev pub KeptAs : Bool → List Entry → Behind → Type 0
 KeptAs lost log behind = MatchOption behind.history (lost ≡ true) (λ v. (lost ≡ false) × (v.items ≡ log))
 
 -- what stands in the slot of a lock that isn't held: what its turns lead to, and the record of them
-pub record Reads (shape : Shape) (k : ℕ) (log : List Entry) (lost : Bool) (behind : Behind) : Type 0 where
+pub record IsSlotAfter (shape : Shape) (k : ℕ) (log : List Entry) (lost : Bool) (behind : Behind) : Type 0 where
   pub here : Content
   pub content_is : behind.content ≡ Some here
-  pub told_is : told (lock_named shape k) here ≡ content shape (lock_named shape k) log
-  pub fits : Fits shape (lock_named shape k) here
+  pub told_is : content_told (lock_named shape k) here ≡ content shape (lock_named shape k) log
+  pub fits : FitsLock shape (lock_named shape k) here
   pub kept : KeptAs lost log behind
 
 -- While a lock is held its slot is out. Else what stands there is what its turns lead to.
 abbrev pub AtHome : Shape → ℕ → Option ℕ → List Entry → Lists → Bool → maybe.Option (maybe.Option Behind) → Type 0
 AtHome shape k None log lists lost slot =
-    ((behind : Behind) × (slot ≡ some (some behind)) × Reads shape k log lost behind) × (lists ≡ lists_of (content shape (lock_named shape k) log))
+    ((behind : Behind) × (slot ≡ some (some behind)) × IsSlotAfter shape k log lost behind) × (lists ≡ lists_of (content shape (lock_named shape k) log))
 AtHome shape k (Some cpu) log lists lost slot = slot ≡ some none
 
 abbrev pub hold : ℕ → ℕ → List Tagged → Lists → Bool → Hold
@@ -101,8 +101,8 @@ hold k cpu log lists lost = record { lock = k; cpu = cpu; log = entries log; now
 
 -- the hold that a pass has of a lock, by who holds it
 abbrev pub hold_of : ℕ → (ℕ → ℕ) → ℕ → Option ℕ → List Tagged → Lists → Bool → Option Hold
-hold_of pass whose k None log lists lost = None
-hold_of pass whose k (Some cpu) log lists lost = if whose cpu == pass then Some (hold k cpu log lists lost) else None
+hold_of pass pass_of_cpu k None log lists lost = None
+hold_of pass pass_of_cpu k (Some cpu) log lists lost = if pass_of_cpu cpu == pass then Some (hold k cpu log lists lost) else None
 
 abbrev pub is_hand_of : ℕ → Owner → Bool
 is_hand_of cpu owners.Free = false
@@ -189,9 +189,9 @@ logs_of world k = entries (world.log k)
 -- A strand of a pass: on each lock its steps are the turns with its number, each after the turns before it there, and those
 -- that are recorded are all of them where the record isn't lost. Its steps on words are those with its number, in their order.
 pub record IsStrand (shape : Shape) (world : World) (pass strand : ℕ) (cpus : List ℕ) (steps : List Turned) (kept : List StrandStep) (touched : List WordStep) : Type 0 where
-  pub keeper : world.keeper strand ≡ pass
+  pub pass_of_strand : world.pass_of_strand strand ≡ pass
   pub numbered : strand < world.next
-  pub team : world.team strand ≡ cpus
+  pub cpus_of_strand : world.cpus_of_strand strand ≡ cpus
   pub steps_are : (k : ℕ) → turns_on k steps ≡ turns_of strand 0 (world.log k)
   pub stand : StandIn (logs_of world) steps
   pub kept_are : (k : ℕ) → k < lock_count shape → IsTrue (is_lock shape (lock_named shape k)) → world.lost k ≡ false → places_on (lock_named shape k) kept ≡ indexes (turns_on k steps)
@@ -206,10 +206,10 @@ ArePast shape world pass (strand ∷ strands) (e ∷ es) =
 
 -- each turn is a step of a strand of a pass that is there, and the strand has its CPU
 pub record IsTagged (world : World) (passes : ℕ) (turn : Tagged) : Type 0 where
-  pub seated : world.keeper turn.0 < passes
+  pub seated : world.pass_of_strand turn.0 < passes
   pub numbered : turn.0 < world.next
-  pub has_cpu : is_among turn.1.cpu (world.team turn.0) ≡ true
-  pub listed : is_among turn.0 (world.current (world.keeper turn.0) ∷ world.past (world.keeper turn.0)) ≡ true
+  pub has_cpu : is_among turn.1.cpu (world.cpus_of_strand turn.0) ≡ true
+  pub listed : is_among turn.0 (world.current (world.pass_of_strand turn.0) ∷ world.past (world.pass_of_strand turn.0)) ≡ true
 
 abbrev pub AreTagged : World → ℕ → List Tagged → Type 0
 AreTagged world passes [] = Unit {0}
@@ -217,9 +217,9 @@ AreTagged world passes (turn ∷ turns) = IsTagged world passes turn × AreTagge
 
 -- each step on a word is one of a strand of a pass that is there
 pub record IsOfStrand (world : World) (passes strand : ℕ) : Type 0 where
-  pub seated : world.keeper strand < passes
+  pub seated : world.pass_of_strand strand < passes
   pub numbered : strand < world.next
-  pub listed : is_among strand (world.current (world.keeper strand) ∷ world.past (world.keeper strand)) ≡ true
+  pub listed : is_among strand (world.current (world.pass_of_strand strand) ∷ world.past (world.pass_of_strand strand)) ≡ true
 
 abbrev pub AreOfStrands : World → ℕ → List Touch → Type 0
 AreOfStrands world passes [] = Unit {0}
@@ -367,18 +367,18 @@ AreNoted shape steps (hold ∷ holds) (n ∷ notes) =
     (before : List WordStep) × (behind : List WordStep) × (at : ℕ) × (steps ≡ before ++ take_step hold at ∷ behind) × (hold.lock < lock_count shape) × AreOffHeld (hold ∷ holds) behind × IsDone shape behind n × AreNoted shape before holds notes
 
 -- What a pass knows is so.
-pub record Knows (shape : Shape) (world : World) (pass : ℕ) (v : View) : Type 0 where
+pub record PassKnows (shape : Shape) (world : World) (pass : ℕ) (v : View) : Type 0 where
   pub shape_is : v.shape ≡ shape
   -- each CPU is in one pass
-  pub cpus : (c : ℕ) → c < shape.cpus → is_among c v.cpus ≡ (world.whose c == pass)
+  pub cpus : (c : ℕ) → c < shape.cpus → is_among c v.cpus ≡ (world.pass_of_cpu c == pass)
   pub within : (c : ℕ) → is_among c v.cpus ≡ true → c < shape.cpus
   -- the locks that its CPUs hold, with what lies there
-  pub held : (k : ℕ) → hold_at k v.held ≡ hold_of pass world.whose k (world.core.holder k) (world.log k) (world.core.lists k) (world.lost k)
+  pub held : (k : ℕ) → hold_at k v.held ≡ hold_of pass world.pass_of_cpu k (world.core.holder k) (world.log k) (world.core.lists k) (world.lost k)
   pub ascends : Ascends shape v.held
   -- the elements in the hands of its CPUs
-  pub hands : (e c : ℕ) → c < shape.cpus → is_in_hand_of e c v.hand ≡ (is_hand_of c (world.core.owner e) && (world.whose c == pass))
+  pub hands : (e c : ℕ) → c < shape.cpus → is_in_hand_of e c v.hand ≡ (is_hand_of c (world.core.owner e) && (world.pass_of_cpu c == pass))
   -- those of them that are carried
-  pub carried : (e c : ℕ) → c < shape.cpus → is_in_hand_of e c v.carried ≡ (is_home_of c (world.core.home e) && (world.whose c == pass))
+  pub carried : (e c : ℕ) → c < shape.cpus → is_in_hand_of e c v.carried ≡ (is_home_of c (world.core.home e) && (world.pass_of_cpu c == pass))
   -- and the buckets of stored hashes, on a map that evicts of each that is listed
   pub hashes : (e c : ℕ) (noted : HashIn) → c < shape.cpus → hash_known e c v.hashes ≡ Some noted → IsHashOf shape world.hash v.hand e c noted.bucket
   pub hashed : IsTrue (is_lru shape.kind) → (e c : ℕ) (lock : DomainId) → e < shape.elements → c < shape.cpus → is_in_hand_of e c v.hand ≡ true → world.core.home e ≡ homes.In lock → IsHashed shape world.core.holder world.log world.hash v.hashes (came_at (lock_number shape lock) v.held v.notes) (lock_number shape lock) e c
@@ -418,7 +418,7 @@ pub record Rule (shape : Shape) (s : table.State Behind View) : Type 0 where
   pub legal : (k : ℕ) → IsLegal shape (lock_named shape k) (entries (world.log k))
   pub homes : (k : ℕ) → k < lock_count shape → IsTrue (is_lock shape (lock_named shape k)) → AtHome shape k (world.core.holder k) (entries (world.log k)) (world.core.lists k) (world.lost k) (get_elem? s.homes k)
   -- each CPU is in a pass, each turn in a strand, and what each pass knows is so
-  pub seated : (c : ℕ) → c < shape.cpus → world.whose c < length s.views
+  pub seated : (c : ℕ) → c < shape.cpus → world.pass_of_cpu c < length s.views
   pub tagged : (k : ℕ) → AreTagged world (length s.views) (world.log k)
   -- The steps on words are in the order in which they were made. Those on each word lead from what it was at first to what it is,
   -- each is one of a strand, and a lock's turns are those of the strands that gave it back, in order.
@@ -426,4 +426,4 @@ pub record Rule (shape : Shape) (s : table.State Behind View) : Type 0 where
   pub lead : (i : ℕ) → i < word_count shape → LeadTo i (slice_index_or (opening_words shape) i 0) world.touches (slice_index_or s.words i 0)
   pub of_strands : AreOfStrands world (length s.views) world.touches
   pub gave_back : (k : ℕ) → k < lock_count shape → givers k world.touches ≡ strands_of (world.log k)
-  pub knows : (pass : ℕ) (v : View) → get_elem? s.views pass ≡ some v → Knows shape world pass v
+  pub knows : (pass : ℕ) (v : View) → get_elem? s.views pass ≡ some v → PassKnows shape world pass v

@@ -10,8 +10,8 @@ ghost use Rattle.place_table.specs.Closing.{IsClosed};
 
 use crate::closed::Closed;
 use crate::content::{Behind, Content};
-use crate::left::left;
 use crate::pass::Pass;
+use crate::read_slots::read_slots;
 use crate::strands::finish;
 use crate::table::PlaceTable;
 use map_types::{List, NoMemory, Numbers};
@@ -50,7 +50,7 @@ impl PlaceTable {
         empty_out(&mut closed, &mut contents, &mut histories, count);
         closed.free();
         let ended = finish(ended, &cpus, strand);
-        left(alloc, &shape, contents, histories, marked?, ended, &spares)
+        read_slots(alloc, &shape, contents, histories, marked?, ended, &spares)
     }
 }
 

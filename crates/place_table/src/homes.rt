@@ -8,7 +8,7 @@ ghost use Rattle.place_table.specs.Views.{is_among};
 ghost use Rattle.place_table.specs.Words.{word_count, home_word};
 ghost use Rattle.place_table.specs.Plays.{IsKnownHome, MayGoHome, Rehomes};
 
-use crate::rule::{Desk, Place, Rehoming, Way};
+use crate::rule::{Rehoming, SharedTable, TableSeat, Way};
 use map_types::DomainId;
 use place_words::Home;
 
@@ -27,24 +27,24 @@ fn code_of(home: Home) -> u64
 
 /// Takes an element from the home that it has to the head of another, on a map whose CPUs share its lists.
 pub(crate) fn rehome_word<N: Way>(
-    desk: &Desk,
-    seat: &mut Place,
+    shared: &SharedTable,
+    seat: &mut TableSeat,
     element: u32,
     word: usize,
     to: Home,
     cpu: u32,
 )
-    requires table { seat.old.table_id ≡ desk.now.table_id }
-    requires words { (desk.now.table_id.words ≡ word_count desk.now.key) × (word ≡ home_word desk.now.key element) }
+    requires table { seat.old.table_id ≡ shared.now.table_id }
+    requires words { (shared.now.table_id.words ≡ word_count shared.now.key) × (word ≡ home_word shared.now.key element) }
     requires way { (N.element ≡ element) × (N.to ≡ to) }
-    requires element { IsTrue desk.now.key.common × (element < desk.now.key.elements) }
+    requires element { IsTrue shared.now.key.common × (element < shared.now.key.elements) }
     requires cpu { is_among cpu seat.old.me.0.cpus ≡ true }
-    requires home { (from : homes.Home) × IsKnownHome desk.now.key seat.old.me.0 cpu element from }
-    requires goes { MayGoHome desk.now.key seat.old.me.0 cpu element to }
+    requires home { (from : homes.Home) × IsKnownHome shared.now.key seat.old.me.0 cpu element from }
+    requires goes { MayGoHome shared.now.key seat.old.me.0 cpu element to }
     ensures seat { (seat.new.table_id ≡ seat.old.table_id) × (seat.new.id ≡ seat.old.id) }
     ensures rehomed { Rehomes element to seat.old.me seat.new.me }
 {
     let _ = element;
     let _ = cpu;
-    desk.store::<Rehoming<N>>(seat, word, code_of(to));
+    shared.store::<Rehoming<N>>(seat, word, code_of(to));
 }

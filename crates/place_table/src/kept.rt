@@ -35,7 +35,7 @@ fn body_copy(alloc: Global, shape: &Shape, body: &Body) -> Result<Kept, NoMemory
     requires sized { IsSized shape.now body.now }
     ensures { IfOk result (λ kept. kept ≡ body.now) }
 {
-    let key = List::of(Vec::from_slice(alloc, body.key())?);
+    let key = Bytes::from_slice(alloc, body.key())?;
     let values = List::of(parts_of(alloc, part_count(shape), shape.value_size, body)?);
     Ok(Kept {
         element: body.element(),
@@ -75,7 +75,7 @@ fn own_of(alloc: Global, part: u32, size: u32, body: &Body) -> Result<Bytes, NoM
 {
     let mut out = zeros(alloc, size as usize)?;
     body.values().read_own(part, out.as_mut_slice());
-    Ok(List::of(out))
+    Ok(Bytes::of(out))
 }
 
 /// So many zeros.

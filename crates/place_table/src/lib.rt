@@ -10,10 +10,10 @@ mod create;
 mod homes;
 mod kept;
 mod laws;
-mod left;
 mod owners;
 mod pass;
 mod points;
+mod read_slots;
 mod rule;
 mod spares;
 mod split;
@@ -28,8 +28,9 @@ pub use laws::{told_laws, word_laws};
 pub use pass::Pass;
 pub use points::{At, Points};
 pub use rule::{
-    About, Caller, Clearing, Cut, Cutting, Deed, Desk, Giving, Law, Losing, Marking, Merge,
-    Merging, Moving, Place, ReadingBit, ReadingHome, ReadingOwner, Rehoming, Trying, Turn, Way,
+    About, Caller, Clearing, Cut, Cutting, Deed, Giving, Law, Losing, Marking, Merge, Merging,
+    Moving, ReadingBit, ReadingHome, ReadingOwner, Rehoming, SharedTable, TableSeat, Trying, Turn,
+    Way,
 };
 pub use table::PlaceTable;
 pub use view::{

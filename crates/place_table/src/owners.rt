@@ -11,46 +11,46 @@ ghost use Rattle.place_table.specs.Views.{is_among, bucket_known, hold_at, is_in
 ghost use Rattle.place_table.specs.Words.{word_count, owner_word};
 ghost use Rattle.place_table.specs.Plays.{Claims, Settles, Attaches, Detaches};
 
-use crate::rule::{Deed, Desk, Moving, Place};
+use crate::rule::{Deed, Moving, SharedTable, TableSeat};
 use map_types::DomainId;
 
 /// Takes the head of a lock's free list into the hand of the CPU that holds the lock.
 pub(crate) fn claim_word<N: Deed>(
-    desk: &Desk,
-    seat: &mut Place,
+    shared: &SharedTable,
+    seat: &mut TableSeat,
     element: u32,
     word: usize,
     lock: DomainId,
     cpu: u32,
 )
-    requires table { seat.old.table_id ≡ desk.now.table_id }
-    requires words { (desk.now.table_id.words ≡ word_count desk.now.key) × (word ≡ owner_word desk.now.key element) }
+    requires table { seat.old.table_id ≡ shared.now.table_id }
+    requires words { (shared.now.table_id.words ≡ word_count shared.now.key) × (word ≡ owner_word shared.now.key element) }
     requires deed { (at : ℕ) → with_hashes N.hashes (moved at N.lock N.now N.hand N.notes N.word N.left seat.old.me.0) ≡ claimed at lock element cpu seat.old.me.0 }
-    requires lock { (hold : Hold) × IsTrue (is_lock desk.now.key lock) × (hold_at (lock_number desk.now.key lock) seat.old.me.0.held ≡ Some hold) × (hold.cpu ≡ cpu) × IsHead element hold.now.free }
-    requires element { element < desk.now.key.elements }
+    requires lock { (hold : Hold) × IsTrue (is_lock shared.now.key lock) × (hold_at (lock_number shared.now.key lock) seat.old.me.0.held ≡ Some hold) × (hold.cpu ≡ cpu) × IsHead element hold.now.free }
+    requires element { element < shared.now.key.elements }
     ensures seat { (seat.new.table_id ≡ seat.old.table_id) × (seat.new.id ≡ seat.old.id) }
     ensures claimed { Claims lock element cpu seat.old.me seat.new.me }
 {
     let _ = lock;
     let _ = element;
-    desk.store::<Moving<N>>(seat, word, 1 + cpu as u64);
+    shared.store::<Moving<N>>(seat, word, 1 + cpu as u64);
 }
 
 /// Puts an element from the hand of the CPU that holds a lock to the head of the lock's free list.
 pub(crate) fn settle_word<N: Deed>(
-    desk: &Desk,
-    seat: &mut Place,
+    shared: &SharedTable,
+    seat: &mut TableSeat,
     element: u32,
     word: usize,
     lock: DomainId,
     cpu: u32,
 )
-    requires table { seat.old.table_id ≡ desk.now.table_id }
-    requires words { (desk.now.table_id.words ≡ word_count desk.now.key) × (word ≡ owner_word desk.now.key element) }
+    requires table { seat.old.table_id ≡ shared.now.table_id }
+    requires words { (shared.now.table_id.words ≡ word_count shared.now.key) × (word ≡ owner_word shared.now.key element) }
     requires deed { (at : ℕ) → with_hashes N.hashes (moved at N.lock N.now N.hand N.notes N.word N.left seat.old.me.0) ≡ settled at lock element cpu seat.old.me.0 }
-    requires lock { (hold : Hold) × IsTrue (is_lock desk.now.key lock) × (hold_at (lock_number desk.now.key lock) seat.old.me.0.held ≡ Some hold) × (hold.cpu ≡ cpu) × (IsTrue (is_lru desk.now.key.kind) → IsIn element (rows hold.now)) }
+    requires lock { (hold : Hold) × IsTrue (is_lock shared.now.key lock) × (hold_at (lock_number shared.now.key lock) seat.old.me.0.held ≡ Some hold) × (hold.cpu ≡ cpu) × (IsTrue (is_lru shared.now.key.kind) → IsIn element (rows hold.now)) }
     requires has_free_list { IsFalse (is_bucket lock) }
-    requires element { element < desk.now.key.elements }
+    requires element { element < shared.now.key.elements }
     requires hand { (is_among cpu seat.old.me.0.cpus ≡ true) × (is_in_hand_of element cpu seat.old.me.0.hand ≡ true) }
     ensures seat { (seat.new.table_id ≡ seat.old.table_id) × (seat.new.id ≡ seat.old.id) }
     ensures settled { Settles lock element cpu seat.old.me seat.new.me }
@@ -58,52 +58,52 @@ pub(crate) fn settle_word<N: Deed>(
     let _ = lock;
     let _ = element;
     let _ = cpu;
-    desk.store::<Moving<N>>(seat, word, 0);
+    shared.store::<Moving<N>>(seat, word, 0);
 }
 
 /// Puts an element from the hand of the CPU that holds a bucket to the head of the bucket.
 pub(crate) fn attach_word<N: Deed>(
-    desk: &Desk,
-    seat: &mut Place,
+    shared: &SharedTable,
+    seat: &mut TableSeat,
     element: u32,
     word: usize,
     bucket: u32,
     cpu: u32,
 )
-    requires table { seat.old.table_id ≡ desk.now.table_id }
-    requires words { (desk.now.table_id.words ≡ word_count desk.now.key) × (word ≡ owner_word desk.now.key element) }
+    requires table { seat.old.table_id ≡ shared.now.table_id }
+    requires words { (shared.now.table_id.words ≡ word_count shared.now.key) × (word ≡ owner_word shared.now.key element) }
     requires deed { (at : ℕ) → with_hashes N.hashes (moved at N.lock N.now N.hand N.notes N.word N.left seat.old.me.0) ≡ attached at bucket element cpu seat.old.me.0 }
-    requires bucket { (hold : Hold) × (bucket < desk.now.key.buckets) × (hold_at (lock_number desk.now.key (locks.Bucket bucket)) seat.old.me.0.held ≡ Some hold) × (hold.cpu ≡ cpu) }
-    requires element { element < desk.now.key.elements }
+    requires bucket { (hold : Hold) × (bucket < shared.now.key.buckets) × (hold_at (lock_number shared.now.key (locks.Bucket bucket)) seat.old.me.0.held ≡ Some hold) × (hold.cpu ≡ cpu) }
+    requires element { element < shared.now.key.elements }
     requires hand { (is_among cpu seat.old.me.0.cpus ≡ true) × (is_in_hand_of element cpu seat.old.me.0.hand ≡ true) }
-    requires not_carried { IsTrue (is_lru desk.now.key.kind) → is_in_hand_of element cpu seat.old.me.0.carried ≡ false }
-    requires hashed { IsTrue (is_lru desk.now.key.kind) → (bucket_known element cpu seat.old.me.0.hashes ≡ Some bucket) × ((k : ℕ) (other : Hold) → hold_at k seat.old.me.0.held ≡ Some other → k ≡ lock_number desk.now.key (locks.Bucket bucket)) }
+    requires not_carried { IsTrue (is_lru shared.now.key.kind) → is_in_hand_of element cpu seat.old.me.0.carried ≡ false }
+    requires hashed { IsTrue (is_lru shared.now.key.kind) → (bucket_known element cpu seat.old.me.0.hashes ≡ Some bucket) × ((k : ℕ) (other : Hold) → hold_at k seat.old.me.0.held ≡ Some other → k ≡ lock_number shared.now.key (locks.Bucket bucket)) }
     ensures seat { (seat.new.table_id ≡ seat.old.table_id) × (seat.new.id ≡ seat.old.id) }
     ensures attached { Attaches bucket element cpu seat.old.me seat.new.me }
 {
     let _ = element;
     let _ = cpu;
-    desk.store::<Moving<N>>(seat, word, 32 + bucket as u64);
+    shared.store::<Moving<N>>(seat, word, 32 + bucket as u64);
 }
 
 /// Takes an element of a bucket into the hand of the CPU that holds the bucket.
 pub(crate) fn detach_word<N: Deed>(
-    desk: &Desk,
-    seat: &mut Place,
+    shared: &SharedTable,
+    seat: &mut TableSeat,
     element: u32,
     word: usize,
     bucket: u32,
     cpu: u32,
 )
-    requires table { seat.old.table_id ≡ desk.now.table_id }
-    requires words { (desk.now.table_id.words ≡ word_count desk.now.key) × (word ≡ owner_word desk.now.key element) }
+    requires table { seat.old.table_id ≡ shared.now.table_id }
+    requires words { (shared.now.table_id.words ≡ word_count shared.now.key) × (word ≡ owner_word shared.now.key element) }
     requires deed { (at : ℕ) → with_hashes N.hashes (moved at N.lock N.now N.hand N.notes N.word N.left seat.old.me.0) ≡ detached at bucket element cpu seat.old.me.0 }
-    requires bucket { (hold : Hold) × (bucket < desk.now.key.buckets) × (hold_at (lock_number desk.now.key (locks.Bucket bucket)) seat.old.me.0.held ≡ Some hold) × (hold.cpu ≡ cpu) × IsIn element hold.now.first }
-    requires element { element < desk.now.key.elements }
+    requires bucket { (hold : Hold) × (bucket < shared.now.key.buckets) × (hold_at (lock_number shared.now.key (locks.Bucket bucket)) seat.old.me.0.held ≡ Some hold) × (hold.cpu ≡ cpu) × IsIn element hold.now.first }
+    requires element { element < shared.now.key.elements }
     ensures seat { (seat.new.table_id ≡ seat.old.table_id) × (seat.new.id ≡ seat.old.id) }
     ensures detached { Detaches bucket element cpu seat.old.me seat.new.me }
 {
     let _ = bucket;
     let _ = element;
-    desk.store::<Moving<N>>(seat, word, 1 + cpu as u64);
+    shared.store::<Moving<N>>(seat, word, 1 + cpu as u64);
 }

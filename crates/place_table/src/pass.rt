@@ -1,7 +1,7 @@
 //! What one worker has of the table: its seat, its call, its CPUs, the steps of its strands that are recorded, and its spares.
 
-use crate::rule::Place;
-use crate::strands::Finished;
+use crate::rule::TableSeat;
+use crate::strands::FinishedStrand;
 use percpu_values::BoxedBody;
 use place_words::StrandStep;
 use std::marker::Model;
@@ -9,13 +9,13 @@ use std::marker::Model;
 /// A pass for some CPUs of a map. It may move to another thread.
 #[derive(Drop)]
 pub struct Pass {
-    pub(crate) seat: Place,
+    pub(crate) seat: TableSeat,
     pub(crate) cpu: u32,
     pub(crate) call: u32,
     pub(crate) cpus: [bool; 16],
     pub(crate) strand: Vec<StrandStep>,
     /// The strands that have ended, none once memory for one wasn't found.
-    pub(crate) ended: Option<Vec<Finished>>,
+    pub(crate) ended: Option<Vec<FinishedStrand>>,
     pub(crate) spares: [Option<BoxedBody>; 16],
 }
 

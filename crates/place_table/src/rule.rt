@@ -17,9 +17,9 @@ impl TableRule<Behind, View, Shape> for Law {
     ghost first = { λ shape. first_view shape };
 }
 
-pub type Desk = Shared<Behind, View, Shape, Law>;
+pub type SharedTable = Shared<Behind, View, Shape, Law>;
 
-pub type Place = Seat<Behind, View>;
+pub type TableSeat = Seat<Behind, View>;
 
 /// A lock is tried.
 pub struct Trying;
@@ -57,9 +57,9 @@ pub struct Giving<N> {
 }
 
 impl<N: Turn> Play<Behind, View> for Giving<N> {
-    ghost use Rattle.place_table.specs.Plays.{Gives};
+    ghost use Rattle.place_table.specs.Plays.{GivesBack};
 
-    ghost then = { λ st me n after. Gives N.entry N.kept me after };
+    ghost then = { λ st me n after. GivesBack N.entry N.kept me after };
 }
 
 /// The CPU and the call that give a lock back with nothing recorded.

@@ -14,15 +14,15 @@ ghost use Rattle.place_table.specs.declared.view.Notes.{Notes};
 ghost use Rattle.place_table.specs.Views.{is_among, hold_at, is_in_hand_of, kept_step, split_from, split_off, joined};
 ghost use Rattle.place_table.specs.Rules.{IsAboveAll};
 ghost use Rattle.place_table.specs.Words.{word_count, owner_word, home_word, bit_word};
-ghost use Rattle.place_table.specs.Plays.{MayClear, Took, MayGive, IsInnermost, Gives, GivesSome, entry_by, Marks, Clears, SeesBit, SeesOwner, SeesHome};
+ghost use Rattle.place_table.specs.Plays.{MayClear, Took, MayGive, IsInnermost, GivesBack, GivesSome, entry_by, Marks, Clears, SeesBit, SeesOwner, SeesHome};
 ghost use Rattle.place_table.specs.Recording.{Records, entry_given};
 ghost use Rattle.place_table.specs.Passes.{without_content};
 ghost use Rattle.place_table.specs.TurnNotes.{NotesFit};
 
 use crate::content::{Behind, Content};
 use crate::rule::{
-    About, Caller, Clearing, Cut, Cutting, Desk, Giving, Losing, Marking, Merge, Merging, Place,
-    ReadingBit, ReadingHome, ReadingOwner, Trying, Turn,
+    About, Caller, Clearing, Cut, Cutting, Giving, Losing, Marking, Merge, Merging, ReadingBit,
+    ReadingHome, ReadingOwner, SharedTable, TableSeat, Trying, Turn,
 };
 use map_types::DomainId;
 use place_words::{Entry, StrandStep};
@@ -30,30 +30,36 @@ use std::sync::Wait;
 use std::thread;
 
 /// Takes the lock of this number for a CPU, where nobody holds it.
-pub(crate) fn try_lock(desk: &Desk, seat: &mut Place, lock: u32, cpu: u32) -> bool
-    requires table { seat.old.table_id ≡ desk.now.table_id }
-    requires words { desk.now.table_id.words ≡ word_count desk.now.key }
-    requires lock { (lock < lock_count desk.now.key) × IsTrue (is_lock desk.now.key (lock_named desk.now.key lock)) }
+pub(crate) fn try_lock(shared: &SharedTable, seat: &mut TableSeat, lock: u32, cpu: u32) -> bool
+    requires table { seat.old.table_id ≡ shared.now.table_id }
+    requires words { shared.now.table_id.words ≡ word_count shared.now.key }
+    requires lock { (lock < lock_count shared.now.key) × IsTrue (is_lock shared.now.key (lock_named shared.now.key lock)) }
     requires cpu { is_among cpu seat.old.me.0.cpus ≡ true }
-    requires above { IsAboveAll desk.now.key (rank_of (lock_named desk.now.key lock)) seat.old.me.0.held }
+    requires above { IsAboveAll shared.now.key (rank_of (lock_named shared.now.key lock)) seat.old.me.0.held }
     ensures seat { (seat.new.table_id ≡ seat.old.table_id) × (seat.new.id ≡ seat.old.id) }
     ensures took { MatchBool result (Took lock cpu seat.old.me seat.new.me) (seat.new.me ≡ seat.old.me) }
 {
-    desk.compare_exchange::<Trying>(seat, lock as usize, 0, cpu as u64 + 1) == 0
+    shared.compare_exchange::<Trying>(seat, lock as usize, 0, cpu as u64 + 1) == 0
 }
 
 /// Waits for the lock of this number, and takes it for a CPU.
-pub(crate) fn take_lock<R: Wait>(rt: &R, desk: &Desk, seat: &mut Place, lock: u32, cpu: u32)
-    requires table { seat.old.table_id ≡ desk.now.table_id }
-    requires words { desk.now.table_id.words ≡ word_count desk.now.key }
-    requires lock { (lock < lock_count desk.now.key) × IsTrue (is_lock desk.now.key (lock_named desk.now.key lock)) }
+pub(crate) fn take_lock<R: Wait>(
+    rt: &R,
+    shared: &SharedTable,
+    seat: &mut TableSeat,
+    lock: u32,
+    cpu: u32,
+)
+    requires table { seat.old.table_id ≡ shared.now.table_id }
+    requires words { shared.now.table_id.words ≡ word_count shared.now.key }
+    requires lock { (lock < lock_count shared.now.key) × IsTrue (is_lock shared.now.key (lock_named shared.now.key lock)) }
     requires cpu { is_among cpu seat.old.me.0.cpus ≡ true }
-    requires above { IsAboveAll desk.now.key (rank_of (lock_named desk.now.key lock)) seat.old.me.0.held }
+    requires above { IsAboveAll shared.now.key (rank_of (lock_named shared.now.key lock)) seat.old.me.0.held }
     ensures seat { (seat.new.table_id ≡ seat.old.table_id) × (seat.new.id ≡ seat.old.id) }
     ensures took { Took lock cpu seat.old.me seat.new.me }
 {
     for _ in rt.forever() {
-        if try_lock(desk, seat, lock, cpu) {
+        if try_lock(shared, seat, lock, cpu) {
             return;
         }
         thread::yield_now();
@@ -62,14 +68,14 @@ pub(crate) fn take_lock<R: Wait>(rt: &R, desk: &Desk, seat: &mut Place, lock: u3
 }
 
 /// Moves the content out of the slot that was taken last.
-pub(crate) fn unload(desk: &Desk, seat: &mut Place, lock: u32) -> Option<Content>
-    requires table { seat.old.table_id ≡ desk.now.table_id }
+pub(crate) fn unload(shared: &SharedTable, seat: &mut TableSeat, lock: u32) -> Option<Content>
+    requires table { seat.old.table_id ≡ shared.now.table_id }
     requires slot { (behind : Behind) × (seat.old.me.1 ≡ (lock, behind) ∷ rest seat.old.me.1) }
     ensures seat { (seat.new.table_id ≡ seat.old.table_id) × (seat.new.id ≡ seat.old.id) }
     ensures out { (behind : Behind) × (seat.old.me.1 ≡ (lock, behind) ∷ rest seat.old.me.1) × (result ≡ behind.content) × (seat.new.me ≡ (seat.old.me.0, (lock, without_content behind) ∷ rest seat.old.me.1)) }
 {
-    let Behind { content, history } = desk.exchange(seat, lock as usize, Behind::nothing());
-    let _ = desk.exchange(
+    let Behind { content, history } = shared.exchange(seat, lock as usize, Behind::nothing());
+    let _ = shared.exchange(
         seat,
         lock as usize,
         Behind {
@@ -122,120 +128,141 @@ pub(crate) fn record_turn(
 
 /// Gives back the lock that was taken last, with its slot.
 pub(crate) fn give_lock<N: Turn>(
-    desk: &Desk,
-    seat: &mut Place,
+    shared: &SharedTable,
+    seat: &mut TableSeat,
     lock: u32,
     lost: &Option<Entry>,
     strand: &Vec<StrandStep>,
 )
-    requires table { seat.old.table_id ≡ desk.now.table_id }
-    requires words { desk.now.table_id.words ≡ word_count desk.now.key }
-    requires lock { (lock < lock_count desk.now.key) × IsTrue (is_lock desk.now.key (lock_named desk.now.key lock)) }
+    requires table { seat.old.table_id ≡ shared.now.table_id }
+    requires words { shared.now.table_id.words ≡ word_count shared.now.key }
+    requires lock { (lock < lock_count shared.now.key) × IsTrue (is_lock shared.now.key (lock_named shared.now.key lock)) }
     requires turn { (N.entry ≡ entry_given lost.now seat.old.me.1) × (N.kept ≡ strand.now.items) }
-    requires may { (behind : Behind) × (slots : List (ℕ × Behind)) × (hold : Hold) × (below : List Hold) × (seat.old.me.1 ≡ (lock, behind) ∷ slots) × IsInnermost seat.old.me.0 hold below × (hold.lock ≡ lock) × MayGive desk.now.key seat.old.me.0 hold N.entry N.kept behind }
+    requires may { (behind : Behind) × (slots : List (ℕ × Behind)) × (hold : Hold) × (below : List Hold) × (seat.old.me.1 ≡ (lock, behind) ∷ slots) × IsInnermost seat.old.me.0 hold below × (hold.lock ≡ lock) × MayGive shared.now.key seat.old.me.0 hold N.entry N.kept behind }
     ensures seat { (seat.new.table_id ≡ seat.old.table_id) × (seat.new.id ≡ seat.old.id) }
-    ensures gave { Gives N.entry N.kept seat.old.me seat.new.me }
+    ensures gave { GivesBack N.entry N.kept seat.old.me seat.new.me }
 {
     let _ = lost;
     let _ = strand;
-    desk.store::<Giving<N>>(seat, lock as usize, 0);
+    shared.store::<Giving<N>>(seat, lock as usize, 0);
 }
 
 /// Gives back the lock that was taken last, with its slot, in which no history is left.
-pub(crate) fn lose_lock<N: Caller>(desk: &Desk, seat: &mut Place, lock: u32, cpu: u32, call: u32)
-    requires table { seat.old.table_id ≡ desk.now.table_id }
-    requires words { desk.now.table_id.words ≡ word_count desk.now.key }
-    requires lock { (lock < lock_count desk.now.key) × IsTrue (is_lock desk.now.key (lock_named desk.now.key lock)) }
+pub(crate) fn lose_lock<N: Caller>(
+    shared: &SharedTable,
+    seat: &mut TableSeat,
+    lock: u32,
+    cpu: u32,
+    call: u32,
+)
+    requires table { seat.old.table_id ≡ shared.now.table_id }
+    requires words { shared.now.table_id.words ≡ word_count shared.now.key }
+    requires lock { (lock < lock_count shared.now.key) × IsTrue (is_lock shared.now.key (lock_named shared.now.key lock)) }
     requires caller { (N.cpu ≡ cpu) × (N.call ≡ call) }
-    requires may { (behind : Behind) × (hold : Hold) × (below : List Hold) × (part : history.Part) × (notes : Notes) × (notes_below : List Notes) × (seat.old.me.1 ≡ (lock, behind) ∷ rest seat.old.me.1) × IsInnermost seat.old.me.0 hold below × (hold.lock ≡ lock) × MayGive desk.now.key seat.old.me.0 hold (entry_by N.cpu N.call part) seat.old.me.0.kept behind × (seat.old.me.0.notes ≡ notes ∷ notes_below) × NotesFit desk.now.key seat.old.me.0 hold part notes }
+    requires may { (behind : Behind) × (hold : Hold) × (below : List Hold) × (part : history.Part) × (notes : Notes) × (notes_below : List Notes) × (seat.old.me.1 ≡ (lock, behind) ∷ rest seat.old.me.1) × IsInnermost seat.old.me.0 hold below × (hold.lock ≡ lock) × MayGive shared.now.key seat.old.me.0 hold (entry_by N.cpu N.call part) seat.old.me.0.kept behind × (seat.old.me.0.notes ≡ notes ∷ notes_below) × NotesFit shared.now.key seat.old.me.0 hold part notes }
     ensures seat { (seat.new.table_id ≡ seat.old.table_id) × (seat.new.id ≡ seat.old.id) }
     ensures gave { GivesSome N.cpu N.call seat.old.me seat.new.me }
 {
     let _ = cpu;
     let _ = call;
-    desk.store::<Losing<N>>(seat, lock as usize, 0);
+    shared.store::<Losing<N>>(seat, lock as usize, 0);
 }
 
 /// Sets the bit of an element that lies in a bucket that is held.
 pub(crate) fn set_bit<N: About>(
-    desk: &Desk,
-    seat: &mut Place,
+    shared: &SharedTable,
+    seat: &mut TableSeat,
     element: u32,
     word: usize,
     bucket: u32,
 )
-    requires table { seat.old.table_id ≡ desk.now.table_id }
-    requires words { (desk.now.table_id.words ≡ word_count desk.now.key) × (word ≡ bit_word desk.now.key element) }
-    requires element { (element < desk.now.key.elements) × (N.element ≡ element) }
-    requires bucket { (hold : Hold) × (bucket < desk.now.key.buckets) × (hold_at (lock_number desk.now.key (locks.Bucket bucket)) seat.old.me.0.held ≡ Some hold) × IsIn element hold.now.first }
+    requires table { seat.old.table_id ≡ shared.now.table_id }
+    requires words { (shared.now.table_id.words ≡ word_count shared.now.key) × (word ≡ bit_word shared.now.key element) }
+    requires element { (element < shared.now.key.elements) × (N.element ≡ element) }
+    requires bucket { (hold : Hold) × (bucket < shared.now.key.buckets) × (hold_at (lock_number shared.now.key (locks.Bucket bucket)) seat.old.me.0.held ≡ Some hold) × IsIn element hold.now.first }
     ensures seat { (seat.new.table_id ≡ seat.old.table_id) × (seat.new.id ≡ seat.old.id) }
     ensures marked { Marks element seat.old.me seat.new.me }
 {
     let _ = bucket;
     let _ = element;
-    desk.store::<Marking<N>>(seat, word, 1);
+    shared.store::<Marking<N>>(seat, word, 1);
 }
 
 /// Clears the bit of an element in the hand of a CPU or on the lists of a lock that it holds, and answers what it was.
 pub(crate) fn clear_bit<N: About>(
-    desk: &Desk,
-    seat: &mut Place,
+    shared: &SharedTable,
+    seat: &mut TableSeat,
     element: u32,
     word: usize,
     cpu: u32,
 ) -> u64
-    requires table { seat.old.table_id ≡ desk.now.table_id }
-    requires words { (desk.now.table_id.words ≡ word_count desk.now.key) × (word ≡ bit_word desk.now.key element) }
-    requires element { (element < desk.now.key.elements) × (N.element ≡ element) }
-    requires hand { (is_among cpu seat.old.me.0.cpus ≡ true) × MayClear desk.now.key seat.old.me.0 cpu element }
+    requires table { seat.old.table_id ≡ shared.now.table_id }
+    requires words { (shared.now.table_id.words ≡ word_count shared.now.key) × (word ≡ bit_word shared.now.key element) }
+    requires element { (element < shared.now.key.elements) × (N.element ≡ element) }
+    requires hand { (is_among cpu seat.old.me.0.cpus ≡ true) × MayClear shared.now.key seat.old.me.0 cpu element }
     ensures seat { (seat.new.table_id ≡ seat.old.table_id) × (seat.new.id ≡ seat.old.id) }
     ensures cleared { Clears element seat.old.me result seat.new.me }
 {
     let _ = cpu;
     let _ = element;
-    desk.swap::<Clearing<N>>(seat, word, 0)
+    shared.swap::<Clearing<N>>(seat, word, 0)
 }
 
 /// What the bit word of an element is.
-pub(crate) fn read_bit<N: About>(desk: &Desk, seat: &mut Place, element: u32, word: usize) -> u64
-    requires table { seat.old.table_id ≡ desk.now.table_id }
-    requires words { (desk.now.table_id.words ≡ word_count desk.now.key) × (word ≡ bit_word desk.now.key element) }
-    requires element { (element < desk.now.key.elements) × (N.element ≡ element) }
+pub(crate) fn read_bit<N: About>(
+    shared: &SharedTable,
+    seat: &mut TableSeat,
+    element: u32,
+    word: usize,
+) -> u64
+    requires table { seat.old.table_id ≡ shared.now.table_id }
+    requires words { (shared.now.table_id.words ≡ word_count shared.now.key) × (word ≡ bit_word shared.now.key element) }
+    requires element { (element < shared.now.key.elements) × (N.element ≡ element) }
     ensures seat { (seat.new.table_id ≡ seat.old.table_id) × (seat.new.id ≡ seat.old.id) }
     ensures seen { SeesBit element seat.old.me result seat.new.me }
 {
     let _ = element;
-    desk.load::<ReadingBit<N>>(seat, word)
+    shared.load::<ReadingBit<N>>(seat, word)
 }
 
 /// What the owner word of an element is.
-pub(crate) fn read_owner<N: About>(desk: &Desk, seat: &mut Place, element: u32, word: usize) -> u64
-    requires table { seat.old.table_id ≡ desk.now.table_id }
-    requires words { (desk.now.table_id.words ≡ word_count desk.now.key) × (word ≡ owner_word desk.now.key element) }
-    requires element { (element < desk.now.key.elements) × (N.element ≡ element) }
+pub(crate) fn read_owner<N: About>(
+    shared: &SharedTable,
+    seat: &mut TableSeat,
+    element: u32,
+    word: usize,
+) -> u64
+    requires table { seat.old.table_id ≡ shared.now.table_id }
+    requires words { (shared.now.table_id.words ≡ word_count shared.now.key) × (word ≡ owner_word shared.now.key element) }
+    requires element { (element < shared.now.key.elements) × (N.element ≡ element) }
     ensures seat { (seat.new.table_id ≡ seat.old.table_id) × (seat.new.id ≡ seat.old.id) }
     ensures seen { SeesOwner element seat.old.me result seat.new.me }
 {
     let _ = element;
-    desk.load::<ReadingOwner<N>>(seat, word)
+    shared.load::<ReadingOwner<N>>(seat, word)
 }
 
 /// What the home word of an element is.
-pub(crate) fn read_home<N: About>(desk: &Desk, seat: &mut Place, element: u32, word: usize) -> u64
-    requires table { seat.old.table_id ≡ desk.now.table_id }
-    requires words { (desk.now.table_id.words ≡ word_count desk.now.key) × (word ≡ home_word desk.now.key element) }
-    requires element { (element < desk.now.key.elements) × (N.element ≡ element) }
+pub(crate) fn read_home<N: About>(
+    shared: &SharedTable,
+    seat: &mut TableSeat,
+    element: u32,
+    word: usize,
+) -> u64
+    requires table { seat.old.table_id ≡ shared.now.table_id }
+    requires words { (shared.now.table_id.words ≡ word_count shared.now.key) × (word ≡ home_word shared.now.key element) }
+    requires element { (element < shared.now.key.elements) × (N.element ≡ element) }
     ensures seat { (seat.new.table_id ≡ seat.old.table_id) × (seat.new.id ≡ seat.old.id) }
     ensures seen { SeesHome element seat.old.me result seat.new.me }
 {
     let _ = element;
-    desk.load::<ReadingHome<N>>(seat, word)
+    shared.load::<ReadingHome<N>>(seat, word)
 }
 
 /// Splits a CPU off to a new seat, at which all strands go on that end here.
-pub(crate) fn cut_seat<N: Cut>(desk: &Desk, seat: &mut Place, cpu: u32) -> Place
-    requires table { seat.old.table_id ≡ desk.now.table_id }
-    requires words { 0 < desk.now.table_id.words }
+pub(crate) fn cut_seat<N: Cut>(shared: &SharedTable, seat: &mut TableSeat, cpu: u32) -> TableSeat
+    requires table { seat.old.table_id ≡ shared.now.table_id }
+    requires words { 0 < shared.now.table_id.words }
     requires cpu { (is_among cpu seat.old.me.0.cpus ≡ true) × (N.cpu ≡ cpu) }
     requires idle { seat.old.me.0.held ≡ [] }
     ensures seat { (seat.new.table_id ≡ seat.old.table_id) × (seat.new.id ≡ seat.old.id) × (result.table_id ≡ seat.old.table_id) }
@@ -243,18 +270,18 @@ pub(crate) fn cut_seat<N: Cut>(desk: &Desk, seat: &mut Place, cpu: u32) -> Place
     ensures right { result.me ≡ (split_off cpu seat.old.me.0, []) }
 {
     let _ = cpu;
-    desk.split_seat::<Cutting<N>>(seat)
+    shared.split_seat::<Cutting<N>>(seat)
 }
 
 /// Takes in another seat, which carries nothing.
-pub(crate) fn merge_seat<N: Merge>(desk: &Desk, seat: &mut Place, other: Place)
-    requires table { (seat.old.table_id ≡ desk.now.table_id) × (other.table_id ≡ desk.now.table_id) }
-    requires words { 0 < desk.now.table_id.words }
+pub(crate) fn merge_seat<N: Merge>(shared: &SharedTable, seat: &mut TableSeat, other: TableSeat)
+    requires table { (seat.old.table_id ≡ shared.now.table_id) × (other.table_id ≡ shared.now.table_id) }
+    requires words { 0 < shared.now.table_id.words }
     requires slots { other.me.1 ≡ [] }
     requires idle { (seat.old.me.0.held ≡ []) × (other.me.0.held ≡ []) }
     requires shape { N.shape ≡ other.me.0.shape }
     ensures seat { (seat.new.table_id ≡ seat.old.table_id) × (seat.new.id ≡ seat.old.id) }
     ensures joined { seat.new.me ≡ (joined seat.old.me.0 other.me.0, seat.old.me.1) }
 {
-    desk.join_seat::<Merging<N>>(seat, other);
+    shared.join_seat::<Merging<N>>(seat, other);
 }

@@ -9,7 +9,7 @@ use place_words::StrandStep;
 
 /// A strand that has ended and a step of which is recorded: whether it has each CPU, and these steps.
 #[derive(Drop)]
-pub(crate) struct Finished {
+pub(crate) struct FinishedStrand {
     pub(crate) cpus: [bool; 16],
     pub(crate) steps: List<StrandStep>,
 }
@@ -17,10 +17,10 @@ pub(crate) struct Finished {
 /// The strands that have ended, with one more. One with no recorded step isn't kept. Where there were none, or there is no
 /// memory for it, there are none from then on.
 pub(crate) fn finish(
-    ended: Option<Vec<Finished>>,
+    ended: Option<Vec<FinishedStrand>>,
     cpus: &[bool; 16],
     steps: Vec<StrandStep>,
-) -> Option<Vec<Finished>>
+) -> Option<Vec<FinishedStrand>>
     ensures { (strands : List Ended) (last : Ended) → AreFinished strands ended → cpus.now ≡ flags_of last.cpus → steps.items ≡ last.kept → AreFinished (strands ++ last ∷ []) result }
 {
     if steps.is_empty() {
@@ -30,7 +30,7 @@ pub(crate) fn finish(
     if ended.reserve(1).is_err() {
         return None;
     }
-    ended.push_reserved(Finished {
+    ended.push_reserved(FinishedStrand {
         cpus: *cpus,
         steps: List::of(steps),
     });
@@ -39,9 +39,9 @@ pub(crate) fn finish(
 
 /// The strands of two passes that have ended. Where one has none, or there is no memory for all, there are none from then on.
 pub(crate) fn put_together(
-    ours: Option<Vec<Finished>>,
-    theirs: Option<Vec<Finished>>,
-) -> Option<Vec<Finished>>
+    ours: Option<Vec<FinishedStrand>>,
+    theirs: Option<Vec<FinishedStrand>>,
+) -> Option<Vec<FinishedStrand>>
     ensures { (first second : List Ended) → AreFinished first ours → AreFinished second theirs → AreFinished (first ++ second) result }
 {
     let mut ours = ours?;

@@ -5,7 +5,7 @@ ghost use Rattle.map_types.specs.Kind.{is_lru};
 ghost use Rattle.place_words.specs.Locks.{lock_number, lock_count, is_lock};
 ghost use Rattle.place_table.specs.Views.{is_among};
 ghost use Rattle.place_table.specs.Words.{word_count, owner_word, home_word, bit_word};
-ghost use Rattle.place_table.specs.Passes.{IsPassOf, HasBegun, HasOnlySpares, begun, CanTake, Takes, CanGive, CanGiveSome, MayGiveBack, Gave, GaveSome, GaveBack, CanClaim, Claimed, CanSettle, Settled, CanAttach, Attached, Detached, CanMark, Marked, CanRehome, Rehomed, CanClear, CanLook, Cleared, SawBit, SawOwner, SawHome};
+ghost use Rattle.place_table.specs.Passes.{IsPassOf, HasBegun, HasOnlySpares, begun, CanTake, TookLock, CanGive, CanGiveSome, MayGiveBack, Gave, GaveSome, GaveBack, CanClaim, Claimed, CanSettle, Settled, CanAttach, Attached, Detached, CanMark, Marked, CanRehome, Rehomed, CanClear, CanLook, Cleared, SawBit, SawOwner, SawHome};
 
 use crate::content::{Behind, Content};
 use crate::homes::rehome_word;
@@ -87,7 +87,7 @@ impl PlaceTable {
         gate: &G,
     ) -> Content
         requires { CanTake self.now lock pass.old }
-        ensures { Takes self.now lock pass.old pass.new result }
+        ensures { TookLock self.now lock pass.old pass.new result }
     {
         self.take_at(rt, pass, lock, &At { gate })
     }
@@ -101,7 +101,7 @@ impl PlaceTable {
         points: &P,
     ) -> Content
         requires { CanTake self.now lock pass.old }
-        ensures { Takes self.now lock pass.old pass.new result }
+        ensures { TookLock self.now lock pass.old pass.new result }
     {
         let shared = &self.table.shared;
         let number = lock_number(&self.shape, lock);
@@ -200,9 +200,9 @@ impl PlaceTable {
         requires { CanClaim self.now element lock pass.old }
         ensures { Claimed lock element pass.old pass.new }
     {
-        let desk = &self.table.shared;
+        let shared = &self.table.shared;
         let word = self.owner_word(element);
-        claim_word::<Brand>(desk, &mut pass.seat, element, word, lock, pass.cpu);
+        claim_word::<Brand>(shared, &mut pass.seat, element, word, lock, pass.cpu);
     }
 
     /// Puts an element from the CPU's hand to the head of the free list of a lock that the CPU holds.
@@ -210,10 +210,10 @@ impl PlaceTable {
         requires { CanSettle self.now element lock pass.old }
         ensures { Settled lock element pass.old pass.new }
     {
-        let desk = &self.table.shared;
+        let shared = &self.table.shared;
         let cpu = pass.cpu;
         let word = self.owner_word(element);
-        settle_word::<Brand>(desk, &mut pass.seat, element, word, lock, cpu);
+        settle_word::<Brand>(shared, &mut pass.seat, element, word, lock, cpu);
     }
 
     /// Puts an element from the CPU's hand to the head of a bucket that the CPU holds. On a map that evicts the CPU doesn't
@@ -222,10 +222,10 @@ impl PlaceTable {
         requires { CanAttach self.now element bucket pass.old }
         ensures { Attached bucket element pass.old pass.new }
     {
-        let desk = &self.table.shared;
+        let shared = &self.table.shared;
         let cpu = pass.cpu;
         let word = self.owner_word(element);
-        attach_word::<Brand>(desk, &mut pass.seat, element, word, bucket, cpu);
+        attach_word::<Brand>(shared, &mut pass.seat, element, word, bucket, cpu);
     }
 
     /// Takes an element of a bucket that the CPU holds into the CPU's hand.
@@ -233,9 +233,9 @@ impl PlaceTable {
         requires { CanMark self.now element bucket pass.old }
         ensures { Detached bucket element pass.old pass.new }
     {
-        let desk = &self.table.shared;
+        let shared = &self.table.shared;
         let word = self.owner_word(element);
-        detach_word::<Brand>(desk, &mut pass.seat, element, word, bucket, pass.cpu);
+        detach_word::<Brand>(shared, &mut pass.seat, element, word, bucket, pass.cpu);
     }
 
     /// Takes an element from its home to the head of another, on a map whose CPUs share its lists: a lock that the CPU holds,
@@ -244,9 +244,9 @@ impl PlaceTable {
         requires { CanRehome self.now element to pass.old }
         ensures { Rehomed self.now element to pass.old pass.new }
     {
-        let desk = &self.table.shared;
+        let shared = &self.table.shared;
         let word = self.home_word(element);
-        rehome_word::<Brand>(desk, &mut pass.seat, element, word, to, pass.cpu);
+        rehome_word::<Brand>(shared, &mut pass.seat, element, word, to, pass.cpu);
     }
 
     /// Sets the bit of an element of a bucket that the CPU holds.

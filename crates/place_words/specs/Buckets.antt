@@ -30,8 +30,8 @@ abbrev pub IsPresentWith : List ℕ → List Stored → (Stored → Type 0) → 
 IsPresentWith key bucket Fact = MatchOption (present key bucket) ⊥ Fact
 
 -- the key is present at this element, and these bytes are read of its values
-abbrev pub Reads : Shape → Side → ℕ → List ℕ → List Stored → ℕ × List ℕ → Type 0
-Reads shape side cpu key bucket got =
+abbrev pub ReadsValue : Shape → Side → ℕ → List ℕ → List Stored → ℕ × List ℕ → Type 0
+ReadsValue shape side cpu key bucket got =
     IsPresentWith key bucket (λ body. (body.element ≡ got.0) × (got.1 ≡ value_read shape side cpu body.values))
 
 -- BPF_NOEXIST (1) refuses a present key and BPF_EXIST (2) an absent one. A present key is written in place where there is
@@ -69,12 +69,12 @@ AllowsEvict shape cpu e (Held holder) bucket = (body_of e bucket ≡ None) × (h
 -- where a CPU's turn may be this part
 unfoldable pub AllowsInBucket : Shape → ℕ → BucketPart → List Stored → Type 0
 AllowsInBucket shape cpu (Lookup side key None) bucket = IsAbsent key bucket
-AllowsInBucket shape cpu (Lookup side key (Some got)) bucket = Reads shape side cpu key bucket got
+AllowsInBucket shape cpu (Lookup side key (Some got)) bucket = ReadsValue shape side cpu key bucket got
 AllowsInBucket shape cpu (Update side flags key value offer put) bucket = AllowsPut shape flags key put bucket
 AllowsInBucket shape cpu (Delete key None) bucket = IsAbsent key bucket
 AllowsInBucket shape cpu (Delete key (Some e)) bucket = IsPresentWith key bucket (λ body. body.element ≡ e)
 AllowsInBucket shape cpu (Take key None) bucket = IsAbsent key bucket
-AllowsInBucket shape cpu (Take key (Some gone)) bucket = Reads shape Sys cpu key bucket gone
+AllowsInBucket shape cpu (Take key (Some gone)) bucket = ReadsValue shape Sys cpu key bucket gone
 AllowsInBucket shape cpu (Next key found) bucket = AllowsNext key found bucket
 AllowsInBucket shape cpu (First key) bucket = key ≡ first_key bucket
 AllowsInBucket shape cpu (Walk remove room result) bucket = AllowsWalk shape cpu room result bucket

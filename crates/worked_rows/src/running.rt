@@ -3,7 +3,7 @@
 use crate::judging::{Left, fault_of};
 use crate::row::Row;
 use map_run::{HoldGate, MemSink, MemSource, bpfmap};
-use map_types::{List, NoMemory};
+use map_types::{Bytes, List, NoMemory};
 use std::alloc::{AllocError, Global};
 use std::sync::Wait;
 use std::thread::Threads;
@@ -39,7 +39,7 @@ fn run<R: Threads + Wait + Sync>(
 ) -> Result<Option<String>, AllocError> {
     let limit = row.pieces.max(1);
     let words = words_of(alloc, row.words)?;
-    let input = List::of(row.input.as_slice().to_vec(alloc)?);
+    let input = Bytes::from_slice(alloc, row.input.as_slice()).map_err(|_: NoMemory| AllocError)?;
     let mut source = MemSource::of(input, failing_in(alloc, row, call, false)?, limit);
     let gate = gate_of(rt, alloc, row)?;
     let failing = failing_in(alloc, row, call, true)?;

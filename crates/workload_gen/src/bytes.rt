@@ -3,7 +3,7 @@
 ghost use Rattle.std.specs.Prelude.{◌≡◌, IfOk};
 ghost use Rattle.workload_gen.specs.Generated.{little_endian};
 
-use map_types::{Bytes, List, NoMemory};
+use map_types::{Bytes, NoMemory};
 use std::alloc::Global;
 
 /// A number in so many bytes, the lowest first: higher ones are cut, and zeros fill what is left.
@@ -16,5 +16,5 @@ pub(crate) fn little_endian(alloc: Global, number: u32, size: u32) -> Result<Byt
         bytes.push((rest % 256) as u8)?;
         rest /= 256;
     }
-    Ok(List::of(bytes))
+    Ok(Bytes::of(bytes))
 }

@@ -1,5 +1,5 @@
 use Rattle.std.proofs.Common.{◌≡◌, take}
-use Rattle.bucket_walks.specs.Reads.{all_read}
+use Rattle.bucket_walks.specs.BatchReads.{all_read}
 use Rattle.bucket_walks.proofs.parts.copies_of.Given as goal
 
 abbrev pub invariant-loop-place : goal.invariant-loop-place

@@ -1,6 +1,6 @@
 use Rattle.std.proofs.Common.{◌≡◌, map, take}
 use Rattle.place_words.specs.Walks.{pair_of}
-use Rattle.bucket_walks.specs.Reads.{all_read, with_pairs}
+use Rattle.bucket_walks.specs.BatchReads.{all_read, with_pairs}
 use Rattle.bucket_walks.proofs.whole.read_all.Given as goal
 
 abbrev pub invariant-loop-place : goal.invariant-loop-place

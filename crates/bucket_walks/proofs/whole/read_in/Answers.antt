@@ -1,6 +1,6 @@
 use Rattle.std.proofs.Common.{false, inr, refl}
 use Rattle.place_words.specs.declared.bucket_part.BucketPart.TheVariants.{Walk}
-use Rattle.bucket_walks.specs.Reads.{walked_by}
+use Rattle.bucket_walks.specs.BatchReads.{walked_by}
 use Rattle.bucket_walks.proofs.Turn.{may_give, looks}
 use Rattle.bucket_walks.proofs.Wholes.{walk_turn_told, reads_into}
 use Rattle.bucket_walks.proofs.whole.read_in.Goals as goal

@@ -1,7 +1,7 @@
 use Rattle.std.proofs.Common.{Ok, subst}
 use Rattle.map_types.specs.declared.call.Verb.TheVariants.{BatchRead}
 use Rattle.bucket_walks.specs.declared.read.BatchOut.{BatchOut}
-use Rattle.bucket_walks.specs.Reads.{Answers}
+use Rattle.bucket_walks.specs.BatchReads.{Answers}
 use Rattle.map_batch.specs.Calls.{table_of}
 use Rattle.map_run.proofs.ReadAnswers.{batch_answers}
 use Rattle.map_run.proofs.batch_calls.batch_read.Goals as goal

@@ -1,10 +1,10 @@
 use Rattle.std.proofs.Common.{◌-◌, ◌≤◌, vec_len}
-use Rattle.map_run.specs.Reads.{Takes}
+use Rattle.map_run.specs.SourceReads.{TakesFront}
 use Rattle.map_run.proofs.reading.read_all.Given as goal
 
 abbrev pub invariant-loop-buffer : goal.invariant-loop-buffer
 invariant-loop-buffer g l =
-    Takes (g.S.Source.left l.fn.source) (g.S.Source.left l.source) l.bytes.items
+    TakesFront (g.S.Source.left l.fn.source) (g.S.Source.left l.source) l.bytes.items
     × (vec_len l.bytes ≤ 16777217)
     × (g.S.Source.faults l.fn.source ≤ g.S.Source.faults l.source)
 

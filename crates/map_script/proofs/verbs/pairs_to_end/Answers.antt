@@ -20,3 +20,15 @@ loop-places-preserved c =
     let values_are : c.extend_from_slice-in-loop-places.new.self.items ≡ values ++ value = search rules in
     pairs_step c.args.shape.now c.loop-places.count keys values key value c.loop-places.places c.bytes.new.self c.bytes-in-loop-places.new.self
     c.value_len-value_size.ensures so_far.0 so_far.1 c.in_ok-key.ensures c.in_ok-value.ensures keys_are values_are so_far.2
+
+pub loop-places-preserved-in_ok-extend_from_slice-2 : goal.loop-places-preserved-in_ok-extend_from_slice-2
+loop-places-preserved-in_ok-extend_from_slice-2 c =
+    let so_far = c.loop-places.invariant in
+    let keys = c.loop-places.keys.items in
+    let values = c.loop-places.values.items in
+    let key = c.in_ok-key.key in
+    let value = c.in_ok-value.value in
+    let keys_are : c.extend_from_slice.new.self.items ≡ keys ++ key = search rules in
+    let values_are : c.extend_from_slice-in-loop-places.new.self.items ≡ values ++ value = search rules in
+    pairs_step c.args.shape.now c.loop-places.count keys values key value c.loop-places.places c.bytes.new.self c.bytes-in-loop-places.new.self
+    c.value_len-value_size.ensures so_far.0 so_far.1 c.in_ok-key.ensures c.in_ok-value.ensures keys_are values_are so_far.2

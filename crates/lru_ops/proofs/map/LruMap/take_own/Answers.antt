@@ -4,7 +4,7 @@ use Rattle.map_types.specs.declared.kind.DomainId.TheVariants as locks
 use Rattle.place_table.specs.declared.content.Content.{Content}
 use Rattle.place_table.specs.declared.content.Content.TheVariants as contents
 use Rattle.place_table.specs.Calls.{CanCall}
-use Rattle.place_table.specs.Passes.{TableView, Takes, MayGiveBack, GaveBack}
+use Rattle.place_table.specs.Passes.{TableView, TookLock, MayGiveBack, GaveBack}
 use Rattle.lru_lists.specs.declared.notes.RotateNotes.{RotateNotes}
 use Rattle.lru_lists.specs.declared.notes.ShrinkNotes.{ShrinkNotes}
 use Rattle.lru_ops.specs.Lists.{Acquired}
@@ -20,7 +20,7 @@ work_under-shrunk-requires-after_bounds g c κs within =
     let q = c.take.new.pass in
     let set = c.in-Set.set in
     let begins = subst (λ (z : TableView). CanCall z p) (sym c.self.view_is) c.requires.can in
-    let took = subst (λ (z : ℕ × Content). Takes t (locks.CpuLru z.0) p q z.1) (λ i. (c.cpu_of.ensures.value i, c.in-Set.is i)) c.take.ensures in
+    let took = subst (λ (z : ℕ × Content). TookLock t (locks.CpuLru z.0) p q z.1) (λ i. (c.cpu_of.ensures.value i, c.in-Set.is i)) c.take.ensures in
     let apart = subst (λ (z : TableView). z.shape.common ≡ false) (sym c.self.view_is) c.requires.own_lists in
     let few = subst (λ (n : ℕ). n < t.shape.cpus) c.cpu_of.ensures.value c.cpu_of.ensures.within in
     can_work t p q set c.self.invariant.0 c.self.invariant.1 (own_set_there t.shape p.cpu c.self.invariant.1 apart few) begins took
@@ -32,7 +32,7 @@ give_out-got-requires-clause-can g c =
     let q = c.take.new.pass in
     let set = c.in-Set.set in
     let begins = subst (λ (z : TableView). CanCall z p) (sym c.self.view_is) c.requires.can in
-    let took = subst (λ (z : ℕ × Content). Takes t (locks.CpuLru z.0) p q z.1) (λ i. (c.cpu_of.ensures.value i, c.in-Set.is i)) c.take.ensures in
+    let took = subst (λ (z : ℕ × Content). TookLock t (locks.CpuLru z.0) p q z.1) (λ i. (c.cpu_of.ensures.value i, c.in-Set.is i)) c.take.ensures in
     let apart = subst (λ (z : TableView). z.shape.common ≡ false) (sym c.self.view_is) c.requires.own_lists in
     let few = subst (λ (n : ℕ). n < t.shape.cpus) c.cpu_of.ensures.value c.cpu_of.ensures.within in
     can_give_out (can_work t p q set c.self.invariant.0 c.self.invariant.1 (own_set_there t.shape p.cpu c.self.invariant.1 apart few) begins took) c.work_under-shrunk.ensures
@@ -45,7 +45,7 @@ give-requires-after_bounds g c κs within =
     let set = c.in-Set.set in
     let w = c.work_under-shrunk in
     let begins = subst (λ (z : TableView). CanCall z p) (sym c.self.view_is) c.requires.can in
-    let took = subst (λ (z : ℕ × Content). Takes t (locks.CpuLru z.0) p q z.1) (λ i. (c.cpu_of.ensures.value i, c.in-Set.is i)) c.take.ensures in
+    let took = subst (λ (z : ℕ × Content). TookLock t (locks.CpuLru z.0) p q z.1) (λ i. (c.cpu_of.ensures.value i, c.in-Set.is i)) c.take.ensures in
     let apart = subst (λ (z : TableView). z.shape.common ≡ false) (sym c.self.view_is) c.requires.own_lists in
     let few = subst (λ (n : ℕ). n < t.shape.cpus) c.cpu_of.ensures.value c.cpu_of.ensures.within in
     let worked = subst (λ (z : RotateNotes × ShrinkNotes). Worked t set w.new.set z.0 w.new.turning z.1 w.new.shrinking w.result q w.new.pass) (λ i. (c.empty-turning.ensures i, c.empty-shrinking.ensures i)) w.ensures in
@@ -61,7 +61,7 @@ returns g c =
     let set = c.in-Set.set in
     let w = c.work_under-shrunk in
     let begins = subst (λ (z : TableView). CanCall z p) (sym c.self.view_is) c.requires.can in
-    let took = subst (λ (z : ℕ × Content). Takes t (locks.CpuLru z.0) p q z.1) (λ i. (c.cpu_of.ensures.value i, c.in-Set.is i)) c.take.ensures in
+    let took = subst (λ (z : ℕ × Content). TookLock t (locks.CpuLru z.0) p q z.1) (λ i. (c.cpu_of.ensures.value i, c.in-Set.is i)) c.take.ensures in
     let apart = subst (λ (z : TableView). z.shape.common ≡ false) (sym c.self.view_is) c.requires.own_lists in
     let few = subst (λ (n : ℕ). n < t.shape.cpus) c.cpu_of.ensures.value c.cpu_of.ensures.within in
     let worked = subst (λ (z : RotateNotes × ShrinkNotes). Worked t set w.new.set z.0 w.new.turning z.1 w.new.shrinking w.result q w.new.pass) (λ i. (c.empty-turning.ensures i, c.empty-shrinking.ensures i)) w.ensures in

@@ -8,8 +8,8 @@ use Rattle.place_table.proofs.Closes.{at_its_end, if_closed}
 use Rattle.place_table.proofs.Leaves.{buckets_sized, contents_apart, histories_apart}
 use Rattle.place_table.proofs.table.PlaceTable.close.Goals as goal
 
-pub left-requires-clause-sized : goal.left-requires-clause-sized
-left-requires-clause-sized c =
+pub read_slots-requires-clause-sized : goal.read_slots-requires-clause-sized
+read_slots-requires-clause-sized c =
     let table : c.self.inside.shape ≡ c.args.self.shape = ap (λ (t : TableView). t.shape) c.self.view_is in
     let view = ap (λ (p : PassView). p.view) c.pass.view_is in
     let slots = slots_items c.close_with-closed.result.slots in
@@ -33,5 +33,5 @@ returns c =
     let all_words : c.word_count.result ≡ word_count c.self.inside.shape = c.word_count.ensures ∙ c.self.invariant.1 in
     let marked = c.in_ok-marked.ensures e.core.bit (λ n less. ap (λ (i : ℕ). get_or words i 0) (omega (arith, all_words)) ∙ e.words_told.bits n less) in
     let finished = c.finish-ended.ensures v.ended (current_strand v) c.pass.invariant.ended_are c.pass.invariant.cpus_are c.pass.invariant.strand_is in
-    if_closed c.self.inside.shape c.args.self.shape _ c.args.pass words slots c.left.result e c.pass.invariant.hands_real c.pass.invariant.ended_within c.pass.invariant.within table c.pass.view_is
-    (c.left.ensures e.log e.lost e.core.bit (v.ended ++ current_strand v ∷ []) contents histories marked finished)
+    if_closed c.self.inside.shape c.args.self.shape _ c.args.pass words slots c.read_slots.result e c.pass.invariant.hands_real c.pass.invariant.ended_within c.pass.invariant.within table c.pass.view_is
+    (c.read_slots.ensures e.log e.lost e.core.bit (v.ended ++ current_strand v ∷ []) contents histories marked finished)

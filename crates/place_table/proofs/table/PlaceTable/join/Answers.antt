@@ -1,7 +1,7 @@
 use Rattle.std.proofs.Common.{Option, ap, sym, subst, ◌∙◌}
 use Rattle.std.specs.Prelude.{Vec}
 use Rattle.std.specs.Global.{Global}
-use Rattle.place_table.specs.declared.strands.Finished.{Finished}
+use Rattle.place_table.specs.declared.strands.FinishedStrand.{FinishedStrand}
 use Rattle.place_table.specs.Views.{current_strand, all_strands}
 use Rattle.place_table.specs.Passes.{PassView, AreFinished}
 use Rattle.place_table.proofs.Parted.{is_pass_joined, joined_of}
@@ -12,7 +12,7 @@ invariant_of-pass c =
     let v = c.pass.inside.seat.me.0 in let u = c.other.inside.seat.me.0 in
     let no_lock = ap (λ (z : PassView). z.view.held) c.pass.view_is ∙ c.requires.in_no_call.holds_nothing in
     let shapes = ap (λ (z : PassView). z.view.shape) c.other.view_is ∙ (c.requires.other_of_table.1 ∙ sym (ap (λ (z : PassView). z.view.shape) c.pass.view_is ∙ c.requires.of_table.1)) in
-    let ended = subst (λ (o : Option (Vec Finished Global)). AreFinished v.ended o) (sym c.replace.ensures.value) c.pass.invariant.ended_are in
+    let ended = subst (λ (o : Option (Vec FinishedStrand Global)). AreFinished v.ended o) (sym c.replace.ensures.value) c.pass.invariant.ended_are in
     let ours = c.finish-ours.ensures v.ended (current_strand v) ended c.pass.invariant.cpus_are (ap (λ z. z.items) c.replace-steps.ensures.value ∙ c.pass.invariant.strand_is) in
     let theirs = c.finish.ensures u.ended (current_strand u) c.other.invariant.ended_are c.other.invariant.cpus_are c.other.invariant.strand_is in
     is_pass_joined v u _ _ _ _ _ _ _ _ _ _ _ _ _ _ _ c.pass.invariant c.other.invariant no_lock shapes c.merge_seat.ensures.joined (ap (λ z. z.items) c.replace-steps.ensures.after ∙ c.new.ensures.items)

@@ -2,7 +2,7 @@ use Rattle.std.proofs.Common.{◌≡◌, true, Option, ap, sym, subst, ◌∙◌
 use Rattle.std.specs.Prelude.{Vec}
 use Rattle.std.specs.Global.{Global}
 use Rattle.map_types.specs.Creation.{IsShape}
-use Rattle.place_table.specs.declared.strands.Finished.{Finished}
+use Rattle.place_table.specs.declared.strands.FinishedStrand.{FinishedStrand}
 use Rattle.place_table.specs.Views.{is_among, current_strand}
 use Rattle.place_table.specs.Passes.{PassView, TableView, AreFinished}
 use Rattle.place_table.proofs.Parted.{split_few, split_of, is_pass_left, is_pass_off}
@@ -33,7 +33,7 @@ pub invariant_of-result : goal.invariant_of-result
 invariant_of-result c =
     let v = c.pass.inside.seat.me.0 in
     let has : is_among c.args.cpu v.cpus ≡ true = ap (λ (z : PassView). is_among c.args.cpu z.view.cpus) c.pass.view_is ∙ c.requires.has_cpu in
-    let ended = subst (λ (o : Option (Vec Finished Global)). AreFinished v.ended o) (sym c.replace-ended.ensures.value) c.pass.invariant.ended_are in
+    let ended = subst (λ (o : Option (Vec FinishedStrand Global)). AreFinished v.ended o) (sym c.replace-ended.ensures.value) c.pass.invariant.ended_are in
     is_pass_off c.args.cpu c.pass.invariant _ _ _ _ _ has c.cut_seat-seat.ensures.right c.new-3.ensures.items c.one_cpu.ensures
     (c.finish-ended.ensures v.ended (current_strand v) ended c.pass.invariant.cpus_are (ap (λ z. z.items) c.replace-steps.ensures.value ∙ c.pass.invariant.strand_is))
     c.split_spares.ensures.taken c.split_spares.ensures.no_others

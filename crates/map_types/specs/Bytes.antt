@@ -1,0 +1,12 @@
+-- What bytes that may lie in place stand for.
+use Rattle.std.specs.Prelude.{ℕ, ◌≤◌, List, take, ⊤}
+use Rattle.map_types.specs.declared.bytes.Data.{Data}
+use Rattle.map_types.specs.declared.bytes.Data.TheVariants.{Short, Long}
+
+abbrev pub bytes_of : Data → List ℕ
+bytes_of (Short bytes len) = take len bytes
+bytes_of (Long items) = items.items
+
+abbrev pub IsWithin : Data → Type 0
+IsWithin (Short bytes len) = len ≤ 16
+IsWithin (Long items) = ⊤

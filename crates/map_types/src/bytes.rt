@@ -1,0 +1,96 @@
+//! Bytes that contracts see as a list.
+
+ghost use Rattle.std.specs.Prelude.{◌≡◌, ◌==◌, length, IfOk};
+ghost use Rattle.map_types.specs.Bytes.{bytes_of};
+
+use crate::NoMemory;
+use std::alloc::Global;
+use std::marker::Model;
+
+/// So many bytes lie in the value itself, without a block of their own: keys of flows, and counters.
+const SHORT: usize = 16;
+
+/// Bytes, as of a key or a value, which contracts see as a list.
+#[derive(Drop)]
+pub struct Bytes {
+    data: Data,
+}
+
+/// Where bytes lie.
+#[derive(Drop)]
+pub(crate) enum Data {
+    /// In place, the first `len` of these.
+    Short { bytes: [u8; SHORT], len: usize },
+    /// In a block of their own.
+    Long(Vec<u8>),
+}
+
+impl Model for Bytes {
+    ghost use Rattle.std.specs.Prelude.{List, ℕ};
+    ghost use Rattle.map_types.specs.Bytes.{bytes_of, IsWithin};
+
+    ghost Value = { List ℕ };
+
+    ghost view = { λ b. bytes_of b.data };
+
+    ghost invariant = { λ b. IsWithin b.data };
+}
+
+impl Bytes {
+    /// The bytes of a `Vec`. It takes no memory.
+    pub fn of(items: Vec<u8>) -> Bytes
+        ensures { result ≡ items.items }
+    {
+        Bytes {
+            data: Data::Long(items),
+        }
+    }
+
+    /// A copy of these bytes.
+    pub fn from_slice(alloc: Global, source: &[u8]) -> Result<Bytes, NoMemory>
+        ensures { IfOk result (λ copy. copy ≡ source.now) }
+    {
+        let len = source.len();
+        if len > SHORT {
+            return Ok(Bytes {
+                data: Data::Long(source.to_vec(alloc)?),
+            });
+        }
+        let mut bytes = [0; SHORT];
+        bytes[..len].copy_from_slice(source);
+        Ok(Bytes {
+            data: Data::Short { bytes, len },
+        })
+    }
+
+    /// The bytes, in order.
+    pub fn as_slice(&self) -> &[u8]
+        ensures { result.now ≡ self.now }
+    {
+        match &self.data {
+            Data::Short { bytes, len } => &bytes[..*len],
+            Data::Long(items) => items.as_slice(),
+        }
+    }
+
+    /// How many there are.
+    pub fn len(&self) -> usize
+        ensures { result ≡ length self.now }
+    {
+        self.as_slice().len()
+    }
+
+    /// Whether there is none.
+    pub fn is_empty(&self) -> bool
+        ensures { result ≡ (length self.now == 0) }
+    {
+        self.as_slice().is_empty()
+    }
+
+    /// The same bytes once more.
+    pub fn copy(&self, alloc: Global) -> Result<Bytes, NoMemory>
+        ensures { IfOk result (λ copy. copy ≡ self.now) }
+    {
+        Bytes::from_slice(alloc, self.as_slice())
+    }
+}

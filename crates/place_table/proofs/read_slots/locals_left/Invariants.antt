@@ -1,0 +1,10 @@
+use Rattle.std.proofs.Common.{◌≡◌, map}
+use Rattle.place_table.specs.Leaving.{locals_in}
+use Rattle.place_table.proofs.read_slots.locals_left.Given as goal
+
+-- the local lists so far
+abbrev pub invariant-loop-content : goal.invariant-loop-content
+invariant-loop-content l =
+    (goal.iterator-loop-content).can_next l.content-iterator
+    × (goal.iterator-loop-content).is_finite l.content-iterator
+    × (l.locals.items ≡ map locals_in l.yielded)
