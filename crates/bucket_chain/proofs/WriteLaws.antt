@@ -50,10 +50,6 @@ pub part_exact : (shape : Shape) (cpu : ℕ) (values : List (List ℕ)) (bytes :
 part_exact shape cpu values bytes on have long =
     long ∙ sym (part_size_is shape.value_size values have.sized (omega (arith, have.counted, some_part shape cpu on)))
 
-pub own_written : (shape : Shape) (cpu : ℕ) (values : List (List ℕ)) (bytes : List ℕ) → is_percpu shape.kind ≡ true → written_own cpu bytes values ≡ values_written shape Prog cpu values bytes
-own_written shape cpu values bytes is =
-    sym (ap (λ b. if b then written_own cpu bytes values else written_own 0 bytes values) is)
-
 -- A system call writes all parts: their fields are as long as its value, and that is the system call's write.
 pub all_exact : (shape : Shape) (values : List (List ℕ)) (bytes : List ℕ) → is_percpu shape.kind ≡ true → 1 ≤ shape.cpus → HaveSizes (part_count shape) shape.value_size values → length bytes ≡ value_len_of shape Sys → length bytes ≡ length values * round8 (part_size values)
 all_exact shape values bytes is some have long =

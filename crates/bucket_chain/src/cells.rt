@@ -46,7 +46,8 @@ impl Cells {
 
     /// Takes the body at the head out, where there is one.
     pub fn pop(&mut self) -> Option<BoxedBody>
-        ensures { MatchOption result ((self.old ≡ []) × (self.new ≡ [])) (λ body. self.old ≡ body ∷ self.new) }
+        ensures { MatchOption result ((self.old ≡ []) × (self.new ≡ []))
+            (λ body. self.old ≡ body ∷ self.new) }
     {
         let mut cell = self.first.take()?;
         self.first = cell.next.take();
@@ -132,7 +133,9 @@ impl Cells {
         requires at_body { place < length self.old }
         requires in_range { part < length (values_at place self.old) }
         requires exact { length value.now ≡ part_size (values_at place self.old) }
-        ensures { self.new ≡ with_values_at place (written_own part value.now (values_at place self.old)) self.old }
+        ensures { self.new
+            ≡ with_values_at place
+            (written_own part value.now (values_at place self.old)) self.old }
     {
         let front = self.take_front(place);
         let Some(mut body) = self.pop() else {
@@ -146,8 +149,12 @@ impl Cells {
     /// Writes all parts of the values at a place, below the length, from their fields.
     pub fn write_all(&mut self, place: u32, fields: &[u8])
         requires at_body { place < length self.old }
-        requires exact { length fields.now ≡ length (values_at place self.old) * round8 (part_size (values_at place self.old)) }
-        ensures { self.new ≡ with_values_at place (values_in (length (values_at place self.old)) (part_size (values_at place self.old)) fields.now) self.old }
+        requires exact { length fields.now
+            ≡ length (values_at place self.old) * round8 (part_size (values_at place self.old)) }
+        ensures { self.new
+            ≡ with_values_at place
+            (values_in (length (values_at place self.old))
+            (part_size (values_at place self.old)) fields.now) self.old }
     {
         let front = self.take_front(place);
         let Some(mut body) = self.pop() else {

@@ -31,7 +31,8 @@ impl Model for Chain {
 
     ghost view = { λ c. record { bodies = c.cells; spare = 1 } };
 
-    ghost invariant = { λ c. HasDistinctKeys c.cells × (length c.cells ≡ c.count) × (c.count < 2 ^ 32) };
+    ghost invariant = { λ c. HasDistinctKeys c.cells × (length c.cells ≡ c.count)
+        × (c.count < 2 ^ 32) };
 }
 
 impl Chain {
@@ -52,6 +53,7 @@ impl Chain {
         ensures always { IsOk result }
         ensures one { self.new.spare ≡ 1 }
     {
+        // What the chain is seen as is known once a field is read.
         let _ = &self.count;
         Ok(())
     }
@@ -61,7 +63,8 @@ impl Chain {
         ensures place { result ≡ place_of_key key.now self.now.bodies }
         ensures holder { MatchOption result (present key.now self.now.bodies ≡ None)
             (λ place. slice_get self.now.bodies place ≡ present key.now self.now.bodies) }
-        ensures found { IfSome result (λ place. (place < length self.now.bodies) × (key_at place self.now.bodies ≡ key.now)) }
+        ensures found { IfSome result (λ place. (place < length self.now.bodies)
+            × (key_at place self.now.bodies ≡ key.now)) }
         ensures distinct { HasDistinctKeys self.now.bodies }
     {
         self.cells.position_of_key(key)
@@ -80,8 +83,12 @@ impl Chain {
         requires at_body { place < length self.old.bodies }
         requires in_range { part < length (values_at place self.old.bodies) }
         requires exact { length value.now ≡ part_size (values_at place self.old.bodies) }
-        ensures bodies { self.new.bodies ≡ with_values_at place (written_own part value.now (values_at place self.old.bodies)) self.old.bodies }
-        ensures of_key { self.new.bodies ≡ map (rewritten (key_at place self.old.bodies) (written_own part value.now)) self.old.bodies }
+        ensures bodies { self.new.bodies
+            ≡ with_values_at place
+            (written_own part value.now (values_at place self.old.bodies)) self.old.bodies }
+        ensures of_key { self.new.bodies
+            ≡ map (rewritten (key_at place self.old.bodies)
+            (written_own part value.now)) self.old.bodies }
         ensures room { self.new.spare ≡ self.old.spare }
     {
         self.cells.write_own(place, part, value);
@@ -90,9 +97,17 @@ impl Chain {
     /// Writes all parts of the values at a place, below the length, from their fields, as `Values` does.
     pub fn write_all(&mut self, place: u32, fields: &[u8])
         requires at_body { place < length self.old.bodies }
-        requires exact { length fields.now ≡ length (values_at place self.old.bodies) * round8 (part_size (values_at place self.old.bodies)) }
-        ensures bodies { self.new.bodies ≡ with_values_at place (values_in (length (values_at place self.old.bodies)) (part_size (values_at place self.old.bodies)) fields.now) self.old.bodies }
-        ensures of_key { self.new.bodies ≡ map (rewritten (key_at place self.old.bodies) (λ values. values_in (length values) (part_size values) fields.now)) self.old.bodies }
+        requires exact { length fields.now
+            ≡ length (values_at place self.old.bodies) * round8
+            (part_size (values_at place self.old.bodies)) }
+        ensures bodies { self.new.bodies
+            ≡ with_values_at place
+            (values_in (length (values_at place self.old.bodies))
+            (part_size (values_at place self.old.bodies)) fields.now) self.old.bodies }
+        ensures of_key { self.new.bodies
+            ≡ map (rewritten (key_at place self.old.bodies)
+            (λ values. values_in (length values)
+            (part_size values) fields.now)) self.old.bodies }
         ensures room { self.new.spare ≡ self.old.spare }
     {
         self.cells.write_all(place, fields);
@@ -130,7 +145,8 @@ impl Chain {
         ensures taken { result ≡ slice_get self.old.bodies place }
         ensures present { IsSome result ↔ (place < length self.old.bodies) }
         ensures bodies { self.new.bodies ≡ remove self.old.bodies place }
-        ensures of_key { IfSome result (λ body. (present body.key self.old.bodies ≡ Some body) × (self.new.bodies ≡ without_key body.key self.old.bodies)) }
+        ensures of_key { IfSome result (λ body. (present body.key self.old.bodies ≡ Some body)
+            × (self.new.bodies ≡ without_key body.key self.old.bodies)) }
         ensures same { IfNone result (self.new ≡ self.old) }
         ensures room { self.old.spare ≤ self.new.spare }
     {

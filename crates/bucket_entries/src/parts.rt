@@ -36,7 +36,8 @@ pub fn lookup_missed(alloc: Global, side: Side, key: &[u8]) -> Option<Part>
 
 /// The entry of a lookup that found an element with this value.
 pub fn lookup_got(alloc: Global, side: Side, key: &[u8], element: u32, value: &[u8]) -> Option<Part>
-    ensures { IfSome result (λ part. part ≡ parts.Bucket (turns.Lookup side key.now (Some (element, value.now)))) }
+    ensures { IfSome result (λ part. part
+        ≡ parts.Bucket (turns.Lookup side key.now (Some (element, value.now)))) }
 {
     let key = bytes_of(alloc, key).ok()?;
     let value = bytes_of(alloc, value).ok()?;
@@ -65,7 +66,8 @@ pub fn take_missed(alloc: Global, key: &[u8]) -> Option<Part>
 
 /// The entry of a take of an element with this value.
 pub fn take_got(alloc: Global, key: &[u8], element: u32, value: &[u8]) -> Option<Part>
-    ensures { IfSome result (λ part. part ≡ parts.Bucket (turns.Take key.now (Some (element, value.now)))) }
+    ensures { IfSome result (λ part. part
+        ≡ parts.Bucket (turns.Take key.now (Some (element, value.now)))) }
 {
     let key = bytes_of(alloc, key).ok()?;
     let value = bytes_of(alloc, value).ok()?;
@@ -85,7 +87,8 @@ pub fn updated(
     offer: Option<u32>,
     put: Put,
 ) -> Option<Part>
-    ensures { IfSome result (λ part. part ≡ parts.Bucket (turns.Update side flags key.now value.now offer put)) }
+    ensures { IfSome result (λ part. part
+        ≡ parts.Bucket (turns.Update side flags key.now value.now offer put)) }
 {
     let key = bytes_of(alloc, key).ok()?;
     let value = bytes_of(alloc, value).ok()?;

@@ -83,7 +83,8 @@ pub fn write_value(
     requires value { length value.now ≡ value_len_of shape.now side }
     requires sized { All (IsSized shape.now) chain.old.bodies }
     requires place { place_of_key key.now chain.old.bodies ≡ Some place }
-    ensures written { chain.new.bodies ≡ map (written_over shape.now side cpu key.now value.now) chain.old.bodies }
+    ensures written { chain.new.bodies
+        ≡ map (written_over shape.now side cpu key.now value.now) chain.old.bodies }
     ensures sized { All (IsSized shape.now) chain.new.bodies }
 {
     match side {

@@ -32,7 +32,6 @@ use Rattle.bucket_walks.specs.declared.read.Planned.{Planned}
 use Rattle.bucket_walks.specs.Plans.{Plans}
 use Rattle.bucket_walks.specs.BatchReads.{Answers, IsToRead, ReadsOn, stop_of}
 use Rattle.bucket_walks.proofs.Told.{turns_alone, looked_nowhere, looks_no_bits, looks_keep_spare, looks_move_none, looked_on}
-use Rattle.bucket_walks.proofs.Past.{walk_on}
 
 -- a call may go over the buckets
 pub can_walk : {t : TableView} {p : PassView} → CanCall t p → CanWalk t p
@@ -78,9 +77,6 @@ pub bucket_here : {shape told : Shape} {bucket : ℕ} (key : List ℕ) → told 
 bucket_here key same is = is ∙ ap (λ (s : Shape). bucket_of_key s key) same
 
 module _ {t : TableView} {p q : PassView} {bucket : ℕ} (key : List ℕ) (found : NextFound) (can : CanCall t p) (bucket_is : bucket ≡ bucket_of_key t.shape key) (into : LooksInto t bucket p q (Next key found)) where
-  pub walk_after : CanWalk t q
-  walk_after = walk_on (can_walk can) into.looked
-
   on_bucket : turn_of t.shape into.told ≡ on_bucket_of t.shape key (Next key found)
   on_bucket = into.turn ∙ (λ i. on_lock (Bucket (bucket_is i)) (parts.Bucket (Next key found)))
 

@@ -1,6 +1,6 @@
 -- The keys that are found in a bucket, and the turns that tell them.
 use Rattle.std.proofs.Common.{◌≡◌, ℕ, zero, suc, ◌+◌, ◌<◌, ◌≤◌, List, [], ◌∷◌, length, drop, get_or, ⊎_elim, sym, refl, ap, ◌∙◌, subst, arith, Option, Some, None}
-use Rattle.std.specs.Prelude.{All, MatchOption, option_map, slice_get}
+use Rattle.std.specs.Prelude.{MatchOption, option_map, slice_get}
 use Rattle.std.proofs.lemmas.Option.{slice_get_cases}
 use Rattle.map_types.specs.declared.attr.Shape.{Shape}
 use Rattle.map_types.specs.Stored.{Stored}
@@ -12,8 +12,6 @@ use Rattle.place_words.specs.declared.bucket_part.NextFound.{NextFound}
 use Rattle.place_words.specs.declared.bucket_part.NextFound.TheVariants as nexts
 use Rattle.place_words.specs.Bodies.{has_key, present, first_key, next_key}
 use Rattle.place_words.specs.Buckets.{AllowsInBucket, AllowsNext, IsPresentWith, bucket_after}
-use Rattle.place_table.specs.Contents.{IsSized}
-use Rattle.bucket_walks.specs.Looks.{HasKeyOf}
 
 -- Turns
 
@@ -24,20 +22,6 @@ first_turn shape cpu bodies found is = record { allowed = is; left = refl }
 pub next_turn : (shape : Shape) (cpu : ℕ) (bodies : List Stored) (key : List ℕ) (found : NextFound) → AllowsNext key found bodies → IsTurn shape cpu (Next key found) bodies bodies
 unfolding AllowsInBucket bucket_after
 next_turn shape cpu bodies key found allowed = record { allowed = allowed; left = refl }
-
--- the keys of a bucket that is held have the size of the map's
-pub keys_sized : (shape : Shape) (size : ℕ) (bodies : List Stored) → size ≡ shape.key_size → All (IsSized shape) bodies → All (HasKeyOf size) bodies
-keys_sized shape size bodies is sized place below default = (sized place below default).key_sized ∙ sym is
-
--- The first key
-
-pub none_first : (bodies : List Stored) → length bodies ≡ 0 → None ≡ first_key bodies
-none_first [] is = refl
-none_first (body ∷ bodies) is = absurd (omega (arith, is))
-
-pub some_first : (bodies : List Stored) (out : List ℕ) → option_map (λ (body : Stored). body.key) (slice_get bodies 0) ≡ Some out → Some out ≡ first_key bodies
-some_first [] out copied = sym copied
-some_first (body ∷ bodies) out copied = sym copied
 
 -- The key after another one
 

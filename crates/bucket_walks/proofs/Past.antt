@@ -12,12 +12,10 @@ use Rattle.place_words.specs.declared.bucket_part.BucketPart.TheVariants.{First}
 use Rattle.place_words.specs.declared.history.Part.TheVariants as parts
 use Rattle.place_words.specs.Turns.{Turn, on_lock}
 use Rattle.place_words.specs.Walks.{Firsts, buckets_from}
-use Rattle.place_table.specs.declared.view.Turned.{Turned}
 use Rattle.place_table.specs.Known.{turn_of}
 use Rattle.place_table.specs.Passes.{PassView, TableView}
 use Rattle.place_table.proofs.Entries.{append_nil}
-use Rattle.place_table.proofs.Going.{goes_of_table, goes_begun}
-use Rattle.bucket_walks.specs.Looks.{CanWalk, CanEnter, Looked, LooksInto, WalkedPast, WalksOn, key_where, found_none}
+use Rattle.bucket_walks.specs.Looks.{LooksInto, WalkedPast, WalksOn, key_where, found_none}
 use Rattle.bucket_walks.proofs.Told.{looked_nowhere, looked_on}
 
 -- Traces from their end: where the rest of a walk looks at the later buckets, the whole looks at those found empty before it too.
@@ -73,17 +71,6 @@ before_all shape from bucket to to_is past_end =
     append_nil (range_before from bucket to) ∙ (ap (range_with_len from) count ∙ ap (λ n. range_with_len from (n - from)) to_is)
 
 -- One bucket after another
-
--- a pass that went on may go on
-pub walk_on : {t : TableView} {p q : PassView} {steps told : List Turned} {lost : List ℕ} → CanWalk t p → Looked t p q steps told lost → CanWalk t q
-walk_on {t} {p} {q} {steps} {told} {lost} can looked = record {
-  of_table = goes_of_table t p q steps lost looked.went.made.goes can.of_table;
-  begun = goes_begun p q steps lost looked.went.made.goes can.begun;
-  no_lock = looked.went.made.held ∙ can.no_lock;
-}
-
-pub enter_on : {t : TableView} {buckets : List ℕ} {p q : PassView} (bucket : ℕ) → bucket < t.shape.buckets → CanWalk t p → WalkedPast t buckets p q → CanEnter t bucket q
-enter_on bucket there can past = record { can = walk_on can past.looked; there = there }
 
 past_none : (t : TableView) (p : PassView) → WalkedPast t [] p p
 past_none t p = record { steps = []; told = []; lost = []; looked = looked_nowhere t p; turns_are = refl }

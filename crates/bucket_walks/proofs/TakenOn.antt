@@ -26,13 +26,12 @@ use Rattle.place_table.specs.Calls.{CanCall, Called, element_of, spare_element}
 use Rattle.place_table.specs.Known.{IsBy, Learns, turn_of, turn_at}
 use Rattle.place_table.specs.Passes.{PassView, TableView, spare_of}
 use Rattle.place_table.proofs.Entries.{append_nil}
-use Rattle.place_table.proofs.Going.{goes_nowhere, goes_of_table, goes_begun, made_on, learns_none, learns_on}
+use Rattle.place_table.proofs.Going.{goes_nowhere, made_on, learns_none, learns_on}
 use Rattle.place_table.proofs.Worlds.{true_false}
 use Rattle.hash_ops.proofs.Under.{idle_same, no_bits, plain_left}
 use Rattle.bucket_walks.specs.declared.read.BatchOut.{BatchOut}
 use Rattle.bucket_walks.specs.declared.read.BatchOut.TheVariants as outs
 use Rattle.bucket_walks.specs.declared.read.Planned.{Planned}
-use Rattle.bucket_walks.specs.Looks.{CanWalk, CanEnter}
 use Rattle.bucket_walks.specs.PlainTakes.{TakesInto, TakesOn, Took}
 use Rattle.bucket_walks.specs.Plans.{Plans}
 use Rattle.bucket_walks.specs.BatchReads.{Answers, PairsSoFar, BeginsAt, IsOfMap, IsGathered, IsToRead, stop_of, with_pairs}
@@ -75,14 +74,6 @@ took_on {t} {p} {q} {r} {first} {second} {told} {others} {lost} {more} a b = rec
   learns = learns_on t.shape p.view q.view r.view first second [] [] a.learns b.learns;
 }
 
--- a pass that went on may go on
-took_may : {t : TableView} {p q : PassView} {steps told : List Turned} {lost : List ℕ} → CanWalk t p → Took t p q steps told lost → CanWalk t q
-took_may {t} {p} {q} {steps} {told} {lost} can took = record {
-  of_table = goes_of_table t p q steps lost took.made.goes can.of_table;
-  begun = goes_begun p q steps lost took.made.goes can.begun;
-  no_lock = took.made.held ∙ can.no_lock;
-}
-
 -- Traces
 
 -- A bucket that was taken whole, before a trace of the rest; and one for which there was no room, which ends it
@@ -118,9 +109,6 @@ taken_none t limit p out begins = record {
   limit_is = begins.limit_is;
   trace = λ rest turns reply later. subst (λ (pairs : List (List ℕ × List ℕ)). Walks t.shape p.cpu true limit rest pairs turns reply) begins.none later;
 }
-
-pub enter_taken : {t : TableView} {limit : ℕ} {buckets : List ℕ} {p q : PassView} {out : PairsSoFar} (bucket : ℕ) → bucket < t.shape.buckets → CanWalk t p → TakenWhole t limit buckets p q out → CanEnter t bucket q
-enter_taken bucket there can so_far = record { can = took_may can so_far.took; there = there }
 
 turns_on : (shape : Shape) (first others : List Turned) (turns : List TurnAt) → map (turn_at shape) first ++ (map (turn_at shape) others ++ turns) ≡ map (turn_at shape) (first ++ others) ++ turns
 turns_on shape first others turns = sym (ap (λ (l : List TurnAt). l ++ turns) (map-append (turn_at shape) first others) ∙ append_assoc (map (turn_at shape) first) (map (turn_at shape) others) turns)
@@ -222,7 +210,7 @@ module _ {t : TableView} {p s : PassView} (count : ℕ) (start : Option ℕ) (fl
         told_are = took.told_are;
         leaves = record {
           made = took.made;
-          in_no_call = idle_same p s (record { spares_only = idle.spares_only; spares_in_hand = idle.spares_in_hand; none_out = idle.none_out; carries_nothing = idle.carries_nothing })
+          in_no_call = idle_same p s (record { holds_nothing = refl; spares_only = idle.spares_only; spares_in_hand = idle.spares_in_hand; none_out = idle.none_out; carries_nothing = idle.carries_nothing })
               (took.made.held ∙ idle.holds_nothing) goes.cpus goes.shape took.spares took.carried took.hands;
           by_call = took.by_call;
           other_spares = λ other _. ap (spare_of other) took.spares;

@@ -19,15 +19,15 @@ use Rattle.place_words.specs.declared.bucket_part.Walked.TheVariants.{Over, Take
 use Rattle.place_words.specs.declared.history.Part.TheVariants as parts
 use Rattle.place_words.specs.Buckets.{AllowsInBucket, bucket_after}
 use Rattle.place_words.specs.Turns.{Turn, TurnAt, on_lock}
-use Rattle.place_words.specs.Walks.{Walks, TakesOut, IsFreedAfter, buckets_from, pair_of, stopped_at, walked_out}
+use Rattle.place_words.specs.Walks.{Walks, TakesOut, IsFreedAfter, buckets_from, pair_of, stopped_at}
 use Rattle.place_table.specs.declared.view.Turned.{Turned}
 use Rattle.place_table.specs.Known.{turn_at}
 use Rattle.place_table.specs.Passes.{PassView, TableView}
 use Rattle.place_table.proofs.Entries.{append_nil}
 use Rattle.place_table.proofs.Worlds.{by_bool, true_false}
-use Rattle.bucket_walks.specs.Looks.{Looked, LooksInto, CanWalk, CanEnter}
+use Rattle.bucket_walks.specs.Looks.{Looked, LooksInto}
 use Rattle.bucket_walks.specs.BatchReads.{PairsSoFar, BeginsAt, IsOfMap, IsGathered, ReadsInto, ReadsOn, stop_of, walked_by, with_pairs, all_read}
-use Rattle.bucket_walks.proofs.Past.{range_before, before_none, before_more, before_here, before_all, walk_on}
+use Rattle.bucket_walks.proofs.Past.{range_before, before_none, before_more, before_here, before_all}
 use Rattle.bucket_walks.proofs.Told.{looked_nowhere, looked_on}
 
 -- One turn
@@ -70,10 +70,6 @@ takes_none shape cpu at turn is =
     (λ _. record { at_bucket = at; freeing = []; turns_are = refl; bucket_is = is; frees = refl })
     (λ _. ap (λ (t : Turn). t ∷ []) is)
 
-out_none : (walked : Walked) → walked_out false walked ≡ []
-out_none (Over n) = refl
-out_none (Taken all) = refl
-
 -- A bucket that was read whole, before a trace of the rest; and one for which there was no room, which ends it
 module _ (shape : Shape) (cpu limit bucket : ℕ) (rest : List ℕ) (taken : List (List ℕ × List ℕ)) (at : TurnAt) where
   whole_first : (all : List Stored) (turns : List TurnAt) (reply : Reply) → at.turn ≡ on_lock (Bucket bucket) (parts.Bucket (Walk false (limit - length taken) (Taken all)))
@@ -108,9 +104,6 @@ read_none t limit p out begins = record {
   limit_is = begins.limit_is;
   trace = λ rest turns reply later. subst (λ (pairs : List (List ℕ × List ℕ)). Walks t.shape p.cpu false limit rest pairs turns reply) begins.none later;
 }
-
-pub enter_whole : {t : TableView} {limit : ℕ} {buckets : List ℕ} {p q : PassView} {out : PairsSoFar} (bucket : ℕ) → bucket < t.shape.buckets → CanWalk t p → ReadWhole t limit buckets p q out → CanEnter t bucket q
-enter_whole bucket there can so_far = record { can = walk_on can so_far.looked; there = there }
 
 turns_one : (shape : Shape) (first : List Turned) (told : Turned) (turns : List TurnAt) → map (turn_at shape) first ++ turn_at shape told ∷ turns ≡ map (turn_at shape) (first ++ told ∷ []) ++ turns
 turns_one shape first told turns = sym (ap (λ (l : List TurnAt). l ++ turns) (map-append (turn_at shape) first (told ∷ [])) ∙ append_assoc (map (turn_at shape) first) (turn_at shape told ∷ []) turns)

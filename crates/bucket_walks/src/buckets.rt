@@ -28,7 +28,8 @@ pub(crate) fn first_in<R: Wait, G: Gate>(
 ) -> bool
     requires can { CanEnter table.now bucket pass.old }
     requires out { length out.old ≡ table.now.shape.key_size }
-    ensures looks { LooksInto table.now bucket pass.old pass.new (turns.First (key_where result out.new)) }
+    ensures looks { LooksInto table.now bucket pass.old pass.new
+        (turns.First (key_where result out.new)) }
     ensures stays { result ≡ false → out.new ≡ out.old }
     ensures sized { length out.new ≡ length out.old }
 {
@@ -45,29 +46,36 @@ pub(crate) fn first_in<R: Wait, G: Gate>(
     found
 }
 
-/// Looks at what follows a key in a bucket, in one turn. The key that does is copied to `out`. Where there is none, `out` stays.
+/// A key, and the number of its bucket.
+#[derive(Clone, Copy)]
+pub(crate) struct BucketKey<'a> {
+    pub(crate) bucket: u32,
+    pub(crate) key: &'a [u8],
+}
+
+/// Looks at what follows a key in its bucket, in one turn. The key that does is copied to `out`. Where there is none, `out` stays.
 pub(crate) fn next_in<R: Wait, G: Gate>(
     rt: &R,
     alloc: Global,
     table: &PlaceTable,
     pass: &mut Pass,
-    bucket: u32,
-    key: &[u8],
+    from: BucketKey,
     out: &mut [u8],
     gate: &G,
 ) -> After
-    requires can { CanEnter table.now bucket pass.old }
+    requires can { CanEnter table.now from.bucket pass.old }
     requires out { length out.old ≡ table.now.shape.key_size }
-    ensures looks { LooksInto table.now bucket pass.old pass.new (turns.Next key.now (found_after result out.new)) }
+    ensures looks { LooksInto table.now from.entry.bucket pass.old pass.new
+        (turns.Next from.entry.key.now (found_after result out.new)) }
     ensures stays { (result ≡ afters.Key → ⊥) → out.new ≡ out.old }
     ensures sized { length out.new ≡ length out.old }
 {
-    let chain = enter(rt, table, pass, bucket, gate);
-    let after = copy_after(&chain, key, out);
-    let part = next_part(alloc, key, after, out);
+    let chain = enter(rt, table, pass, from.bucket, gate);
+    let after = copy_after(&chain, from.key, out);
+    let part = next_part(alloc, from.key, after, out);
     table.give(
         pass,
-        DomainId::Bucket(bucket),
+        DomainId::Bucket(from.bucket),
         Content::Bucket(chain),
         part,
         gate,
@@ -86,6 +94,7 @@ pub(crate) fn enter<R: Wait, G: Gate>(
     requires { CanEnter table.now bucket pass.old }
     ensures { Enters table.now bucket pass.old pass.new result }
 {
+    // That the CPU is one of the map's is known once it is asked for.
     let _cpu = table.cpu_of(pass);
     let Content::Bucket(chain) = table.take(rt, pass, DomainId::Bucket(bucket), gate) else {
         unreachable!()
@@ -129,7 +138,8 @@ fn copy_after(chain: &Chain, key: &[u8], out: &mut [u8]) -> After
 fn copy_key(chain: &Chain, place: u32, out: &mut [u8])
     requires there { place < length chain.now.bodies }
     requires sized { All (HasKeyOf (length out.old)) chain.now.bodies }
-    ensures key { option_map (λ (body : Stored). body.key) (slice_get chain.now.bodies place) ≡ Some out.new }
+    ensures key { option_map (λ (body : Stored). body.key) (slice_get chain.now.bodies place)
+        ≡ Some out.new }
     ensures sized { length out.new ≡ length out.old }
 {
     out.copy_from_slice(body_at(chain, place).key());

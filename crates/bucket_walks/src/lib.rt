@@ -11,6 +11,6 @@ mod take_plain;
 mod whole;
 
 pub use next::next_key;
-pub use read::{BatchOut, BatchRefusal, look_up_batch};
+pub use read::{BatchOut, BatchRefusal, BatchRequest, look_up_batch};
 pub use take_lru::take_batch_lru;
 pub use take_plain::take_batch_plain;

@@ -6,7 +6,7 @@ ghost use Rattle.map_types.specs.Shape.{HasBounds};
 ghost use Rattle.place_table.specs.Calls.{CanCall, Called, reply_of_value};
 ghost use Rattle.bucket_walks.specs.Looks.{CanWalk, WalksOn};
 
-use crate::buckets::{first_in, next_in};
+use crate::buckets::{BucketKey, first_in, next_in};
 use crate::parts::After;
 use bucket_entries::bucket_number;
 use map_types::{Absent, Gate};
@@ -33,7 +33,8 @@ pub fn next_key<R: Wait, G: Gate>(
     requires bounds { HasBounds table.now.shape }
     requires key { IfSome key (λ key. length key.now ≡ table.now.shape.key_size) }
     requires out { length out.old ≡ table.now.shape.key_size }
-    ensures called { Called table.now pass.old pass.new (verbs.Next (option_map (λ key. key.now) key.entry)) (reply_of_value result out.new) }
+    ensures called { Called table.now pass.old pass.new
+        (verbs.Next (option_map (λ key. key.now) key.entry)) (reply_of_value result out.new) }
     ensures refused { IfErr result (λ _. out.new ≡ out.old) }
 {
     match key {
@@ -53,7 +54,8 @@ fn first_key<R: Wait, G: Gate>(
 ) -> Result<(), Absent>
     requires can { CanCall table.now pass.old }
     requires out { length out.old ≡ table.now.shape.key_size }
-    ensures called { Called table.now pass.old pass.new (verbs.Next None) (reply_of_value result out.new) }
+    ensures called { Called table.now pass.old pass.new (verbs.Next None)
+        (reply_of_value result out.new) }
     ensures refused { IfErr result (λ _. out.new ≡ out.old) }
 {
     first_from(rt, alloc, table, pass, 0, out, gate)
@@ -73,11 +75,13 @@ fn key_after<R: Wait, G: Gate>(
     requires bounds { HasBounds table.now.shape }
     requires key { length key.now ≡ table.now.shape.key_size }
     requires out { length out.old ≡ table.now.shape.key_size }
-    ensures called { Called table.now pass.old pass.new (verbs.Next (Some key.now)) (reply_of_value result out.new) }
+    ensures called { Called table.now pass.old pass.new (verbs.Next (Some key.now))
+        (reply_of_value result out.new) }
     ensures refused { IfErr result (λ _. out.new ≡ out.old) }
 {
     let bucket = bucket_number(table.shape(), key);
-    match next_in(rt, alloc, table, pass, bucket, key, out, gate) {
+    let from = BucketKey { bucket, key };
+    match next_in(rt, alloc, table, pass, from, out, gate) {
         After::Absent => first_from(rt, alloc, table, pass, 0, out, gate),
         After::Last => first_from(rt, alloc, table, pass, bucket + 1, out, gate),
         After::Key => Ok(()),

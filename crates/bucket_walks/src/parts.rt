@@ -52,7 +52,8 @@ pub(crate) fn first_part(alloc: Global, found: bool, key: &[u8]) -> Option<Part>
 
 /// The entry of a look at what follows a key.
 pub(crate) fn next_part(alloc: Global, key: &[u8], after: After, next: &[u8]) -> Option<Part>
-    ensures { IfSome result (λ part. part ≡ parts.Bucket (turns.Next key.now (found_after after next.now))) }
+    ensures { IfSome result (λ part. part
+        ≡ parts.Bucket (turns.Next key.now (found_after after next.now))) }
 {
     let key = bytes_of(alloc, key).ok()?;
     let found = next_found(alloc, after, next).ok()?;
@@ -83,7 +84,8 @@ pub(crate) fn walk_part(
     requires bounds { HasBounds shape.now }
     requires cpu { cpu < shape.now.cpus }
     requires sized { All (IsSized shape.now) chain.now.bodies }
-    ensures { IfSome result (λ part. part ≡ parts.Bucket (turns.Walk remove room (walked_by shape.now cpu room chain.now.bodies))) }
+    ensures { IfSome result (λ part. part
+        ≡ parts.Bucket (turns.Walk remove room (walked_by shape.now cpu room chain.now.bodies))) }
 {
     let result = walked(alloc, shape, cpu, room, chain).ok()?;
     Some(Part::Bucket(BucketPart::Walk {
@@ -157,7 +159,7 @@ fn value_of(alloc: Global, shape: &Shape, cpu: u32, body: &Body) -> Result<Bytes
 {
     let mut value = vec![in alloc; 0; value_len(shape, Side::Sys) as usize]?;
     read_value(shape, Side::Sys, cpu, body, &mut value);
-    Ok(Bytes::of(value))
+    Bytes::from_slice(alloc, value.as_slice())
 }
 
 /// A list of one value.

@@ -17,6 +17,15 @@ use place_table::{Pass, PlaceTable};
 use std::alloc::Global;
 use std::sync::Wait;
 
+/// What a batch read asks for: how many pairs at most, the number of the bucket to start at, if it isn't the first one, and flags,
+/// of which there are none yet: they are to be 0.
+#[derive(Clone, Copy)]
+pub struct BatchRequest {
+    pub count: u32,
+    pub start: Option<u32>,
+    pub flags: u32,
+}
+
 /// What a batch read gives.
 #[derive(Drop)]
 pub enum BatchOut {
@@ -53,29 +62,29 @@ impl From<NoMemory> for BatchRefusal {
 }
 
 /// Copies the keys, each with the value that the system call reads on the pass's CPU, of whole buckets from the one of number
-/// `start` on, or from the first one (0), as long as there is room for what they hold: for `count` pairs, and at most for as many
-/// as the map has elements. A bucket for which there is no room ends it, with ENOSPC where nothing was taken before and else without an error;
-/// after the last bucket it stops with ENOENT. Flags that aren't 0 are `Einval`; else a count of 0 is `Idle`; else a start at or
-/// past the number of buckets is `Past`; in all three nothing is looked at. Each bucket is read in a turn of its own, head first; where memory for its entry isn't found, the record of that
-/// bucket's turns is lost, and the call goes on. Memory for all pairs is found before anything is looked at, and where there is
-/// none nothing is done. The rule is that of the kernel's `__htab_map_lookup_and_delete_batch`.
+/// `request.start` on, or from the first one (0), as long as there is room for what they hold: for `request.count` pairs, and at most
+/// for as many as the map has elements. A bucket for which there is no room ends it, with ENOSPC where nothing was taken before
+/// and else without an error; after the last bucket it stops with ENOENT. Flags that aren't 0 are `Einval`; else a count of 0
+/// is `Idle`; else a start at or past the number of buckets is `Past`; in all three nothing is looked at. Each bucket is read
+/// in a turn of its own, head first; where memory for its entry isn't found, the record of that bucket's turns is lost, and the
+/// call goes on. Memory for all pairs is found before anything is looked at, and where there is none nothing is done. The rule
+/// is that of the kernel's `__htab_map_lookup_and_delete_batch`.
 pub fn look_up_batch<R: Wait, G: Gate>(
     rt: &R,
     alloc: Global,
     table: &PlaceTable,
     pass: &mut Pass,
-    count: u32,
-    start: Option<u32>,
-    flags: u32,
+    request: BatchRequest,
     gate: &G,
 ) -> Result<BatchOut, BatchRefusal>
     requires can { CanCall table.now pass.old }
     requires shape { IsShape table.now.shape }
-    ensures answers { Answers table.now pass.old pass.new (verbs.BatchRead false count start flags) result }
-    ensures comes { Comes table.now.shape count start flags result }
+    ensures answers { Answers table.now pass.old pass.new
+        (verbs.BatchRead false request.count request.start request.flags) result }
+    ensures comes { Comes table.now.shape request.count request.start request.flags result }
 {
     let shape = table.shape();
-    match plan(alloc, shape, count, start, flags) {
+    match plan(alloc, shape, request) {
         Err(refusal) => Err(refusal),
         Ok(None) => Ok(BatchOut::Idle),
         Ok(Some(mut planned)) => {
@@ -97,24 +106,22 @@ pub(crate) struct Planned {
 pub(crate) fn plan(
     alloc: Global,
     shape: &Shape,
-    count: u32,
-    start: Option<u32>,
-    flags: u32,
+    request: BatchRequest,
 ) -> Result<Option<Planned>, BatchRefusal>
     requires { IsShape shape.now }
-    ensures { Plans shape.now count start flags result }
+    ensures { Plans shape.now request.count request.start request.flags result }
 {
-    if flags != 0 {
+    if request.flags != 0 {
         return Err(BatchRefusal::Einval);
     }
-    if count == 0 {
+    if request.count == 0 {
         return Ok(None);
     }
-    let from = start.unwrap_or(0);
+    let from = request.start.unwrap_or(0);
     if from >= shape.buckets {
         return Err(BatchRefusal::Past);
     }
-    let out = room_for(alloc, shape, count)?;
+    let out = room_for(alloc, shape, request.count)?;
     Ok(Some(Planned { from, out }))
 }
 

@@ -9,7 +9,7 @@ ghost use Rattle.bucket_entries.specs.Sized.{IsSized};
 ghost use Rattle.bucket_walks.specs.BatchReads.{IsOfMap};
 
 use bucket_entries::read_value;
-use map_types::{NoMemory, Pairs, Shape, Side};
+use map_types::{NoMemory, PairBlock, Pairs, Shape, Side};
 use percpu_values::Body;
 use std::alloc::Global;
 use std::marker::Model;
@@ -25,6 +25,8 @@ pub(crate) struct ReadRoom {
     values: Vec<u8>,
     /// The value that is read just now.
     value: Vec<u8>,
+    /// Where the pairs come to lie.
+    block: PairBlock,
 }
 
 impl Model for ReadRoom {
@@ -34,9 +36,18 @@ impl Model for ReadRoom {
 
     ghost Value = { PairsSoFar };
 
-    ghost view = { λ r. record { pairs = pairs_of r.count r.key_size r.value_size r.keys.items r.values.items; limit = r.limit; key_size = r.key_size; value_size = r.value_size } };
+    ghost view = { λ r. record {
+      pairs = pairs_of r.count r.key_size r.value_size r.keys.items r.values.items;
+      limit
+          = r.limit;
+      key_size = r.key_size;
+      value_size = r.value_size;
+    } };
 
-    ghost invariant = { λ r. (r.count ≤ r.limit) × (length r.keys.items ≡ r.count * r.key_size) × (length r.values.items ≡ r.count * r.value_size) × (length r.value.items ≡ r.value_size) × (r.limit * r.key_size ≤ vec_capacity r.keys) × (r.limit * r.value_size ≤ vec_capacity r.values) };
+    ghost invariant = { λ r. (r.count ≤ r.limit) × (length r.keys.items ≡ r.count * r.key_size)
+        × (length r.values.items ≡ r.count * r.value_size) × (length r.value.items ≡ r.value_size)
+        × (r.limit * r.key_size ≤ vec_capacity r.keys)
+        × (r.limit * r.value_size ≤ vec_capacity r.values) };
 }
 
 impl ReadRoom {
@@ -47,7 +58,8 @@ impl ReadRoom {
         key_size: u32,
         value_size: u32,
     ) -> Result<ReadRoom, NoMemory>
-        ensures { IfOk result (λ made. made ≡ record { pairs = []; limit = limit; key_size = key_size; value_size = value_size }) }
+        ensures { IfOk result (λ made. made
+            ≡ record { pairs = []; limit = limit; key_size = key_size; value_size = value_size }) }
     {
         let key_size = key_size as usize;
         let value_size = value_size as usize;
@@ -59,6 +71,7 @@ impl ReadRoom {
             keys: Vec::with_capacity(alloc, limit as usize * key_size)?,
             values: Vec::with_capacity(alloc, limit as usize * value_size)?,
             value: zeros(alloc, value_size)?,
+            block: PairBlock::new(alloc)?,
         })
     }
 
@@ -77,7 +90,11 @@ impl ReadRoom {
         requires sized { IsSized shape.now body.now }
         requires of_map { IsOfMap shape.now self.old }
         requires room { length self.old.pairs < self.old.limit }
-        ensures { self.new ≡ record self.old { pairs = self.old.pairs ++ (body.now.key, value_read shape.now Sys cpu body.now.values) ∷ [] } }
+        ensures { self.new
+            ≡ record self.old {
+              pairs = self.old.pairs
+                  ++ (body.now.key, value_read shape.now Sys cpu body.now.values) ∷ [];
+            } }
     {
         copy_pair(
             shape,
@@ -100,9 +117,10 @@ impl ReadRoom {
             value_size,
             keys,
             values,
+            block,
             ..
         } = self;
-        Pairs::of(count as usize, key_size, value_size, keys, values)
+        Pairs::of(block, count as usize, key_size, value_size, keys, values)
     }
 }
 
@@ -127,9 +145,11 @@ fn copy_pair(
     requires sized { IsSized shape.now body.now }
     requires value { length value.old ≡ value_len_of shape.now Sys }
     requires key_room { length keys.old.items + shape.now.key_size ≤ vec_capacity keys.old }
-    requires value_room { length values.old.items + value_len_of shape.now Sys ≤ vec_capacity values.old }
+    requires value_room { length values.old.items + value_len_of shape.now Sys
+        ≤ vec_capacity values.old }
     ensures keys { keys.new.items ≡ keys.old.items ++ body.now.key }
-    ensures values { values.new.items ≡ values.old.items ++ value_read shape.now Sys cpu body.now.values }
+    ensures values { values.new.items
+        ≡ values.old.items ++ value_read shape.now Sys cpu body.now.values }
     ensures key_room { vec_capacity keys.old ≤ vec_capacity keys.new }
     ensures value_room { vec_capacity values.old ≤ vec_capacity values.new }
     ensures value { length value.new ≡ length value.old }

@@ -12,7 +12,7 @@ ghost use Rattle.bucket_walks.specs.BatchReads.{Answers, BeginsAt, Comes, IsOfMa
 
 use crate::buckets::enter;
 use crate::parts::walk_part;
-use crate::read::{BatchOut, BatchRefusal, Planned, plan, read_out};
+use crate::read::{BatchOut, BatchRefusal, BatchRequest, Planned, plan, read_out};
 use crate::room::ReadRoom;
 use crate::whole::read_whole;
 use lru_ops::LruMap;
@@ -30,25 +30,32 @@ pub fn take_batch_lru<R: Wait, G: Gate>(
     alloc: Global,
     map: &LruMap,
     pass: &mut Pass,
-    count: u32,
-    start: Option<u32>,
-    flags: u32,
+    request: BatchRequest,
     gate: &G,
 ) -> Result<BatchOut, BatchRefusal>
     requires can { CanCall map.now pass.old }
-    ensures answers { Answers map.now pass.old pass.new (verbs.BatchRead true count start flags) result }
-    ensures comes { Comes map.now.shape count start flags result }
+    ensures answers { Answers map.now pass.old pass.new
+        (verbs.BatchRead true request.count request.start request.flags) result }
+    ensures comes { Comes map.now.shape request.count request.start request.flags result }
 {
     let shape = map.table().shape();
-    match plan(alloc, shape, count, start, flags) {
+    match plan(alloc, shape, request) {
         Err(refusal) => Err(refusal),
         Ok(None) => Ok(BatchOut::Idle),
-        Ok(Some(Planned { from, mut out })) => {
-            let mut gone = BodyStack::with_room(alloc, out.left())?;
-            let next = take_from(rt, alloc, map, pass, from, &mut out, &mut gone, gate);
-            Ok(read_out(shape, next, out))
+        Ok(Some(Planned { from, out })) => {
+            let gone = BodyStack::with_room(alloc, out.left())?;
+            let mut taking = Taking { out, gone };
+            let next = take_from(rt, alloc, map, pass, from, &mut taking, gate);
+            Ok(read_out(shape, next, taking.out))
         }
     }
+}
+
+/// What a batch take gathers: the pairs, and the bodies of a bucket that are still to be freed, the last taken on top.
+#[derive(Drop)]
+struct Taking {
+    out: ReadRoom,
+    gone: BodyStack,
 }
 
 /// Takes out the buckets from this one on, up to the first for which there is no room, and answers which that is, or else how
@@ -59,19 +66,19 @@ fn take_from<R: Wait, G: Gate>(
     map: &LruMap,
     pass: &mut Pass,
     from: u32,
-    out: &mut ReadRoom,
-    gone: &mut BodyStack,
+    taking: &mut Taking,
     gate: &G,
 ) -> u32
     requires can { CanTakeOut map.now pass.old }
     requires from { from ≤ map.now.shape.buckets }
-    requires begins { BeginsAt map.now.shape out.old.limit out.old }
-    requires gone { gone.old ≡ record { bodies = []; spare = out.old.limit } }
-    ensures { TakesOn map.now from pass.old pass.new out.old.limit out.new.pairs result }
+    requires begins { BeginsAt map.now.shape taking.old.out.limit taking.old.out }
+    requires gone { taking.old.gone ≡ record { bodies = []; spare = taking.old.out.limit } }
+    ensures { TakesOn map.now from pass.old pass.new taking.old.out.limit taking.new.out.pairs
+        result }
 {
     let buckets = map.table().shape().buckets;
     for bucket in from..buckets {
-        if !take_in(rt, alloc, map, pass, bucket, out, gone, gate) {
+        if !take_in(rt, alloc, map, pass, bucket, taking, gate) {
             return bucket;
         }
     }
@@ -86,19 +93,18 @@ fn take_in<R: Wait, G: Gate>(
     map: &LruMap,
     pass: &mut Pass,
     bucket: u32,
-    out: &mut ReadRoom,
-    gone: &mut BodyStack,
+    taking: &mut Taking,
     gate: &G,
 ) -> bool
     requires can { CanTakeOut map.now pass.old }
     requires there { bucket < map.now.shape.buckets }
-    requires of_map { IsOfMap map.now.shape out.old }
-    requires gone { gone.old ≡ record { bodies = []; spare = out.old.limit } }
-    ensures takes { TakesIn map.now bucket pass.old pass.new result out.old out.new }
-    ensures gone { gone.new ≡ gone.old }
+    requires of_map { IsOfMap map.now.shape taking.old.out }
+    requires gone { taking.old.gone ≡ record { bodies = []; spare = taking.old.out.limit } }
+    ensures takes { TakesIn map.now bucket pass.old pass.new result taking.old.out taking.new.out }
+    ensures gone { taking.new.gone ≡ taking.old.gone }
 {
-    let whole = take_out(rt, alloc, map.table(), pass, bucket, out, gone, gate);
-    free_all(rt, map, pass, gone, gate);
+    let whole = take_out(rt, alloc, map.table(), pass, bucket, taking, gate);
+    free_all(rt, map, pass, &mut taking.gone, gate);
     whole
 }
 
@@ -110,33 +116,33 @@ fn take_out<R: Wait, G: Gate>(
     table: &PlaceTable,
     pass: &mut Pass,
     bucket: u32,
-    out: &mut ReadRoom,
-    gone: &mut BodyStack,
+    taking: &mut Taking,
     gate: &G,
 ) -> bool
     requires can { CanEnter table.now bucket pass.old }
     requires shape { IsShape table.now.shape }
     requires bounds { HasBounds table.now.shape }
     requires evicts { IsTrue (is_lru table.now.shape.kind) }
-    requires of_map { IsOfMap table.now.shape out.old }
-    requires empty { gone.old.bodies ≡ [] }
-    requires room { out.old.limit ≤ gone.old.spare }
-    ensures takes { TakesInto table.now bucket pass.old pass.new result out.old out.new gone.new.bodies }
-    ensures room { gone.new.spare + length gone.new.bodies ≡ gone.old.spare }
+    requires of_map { IsOfMap table.now.shape taking.old.out }
+    requires empty { taking.old.gone.bodies ≡ [] }
+    requires room { taking.old.out.limit ≤ taking.old.gone.spare }
+    ensures takes { TakesInto table.now bucket pass.old pass.new result taking.old.out
+        taking.new.out taking.new.gone.bodies }
+    ensures room { taking.new.gone.spare + length taking.new.gone.bodies ≡ taking.old.gone.spare }
 {
     let lock = DomainId::Bucket(bucket);
     let shape = table.shape();
-    let room = out.left();
+    let room = taking.out.left();
     let mut chain = enter(rt, table, pass, bucket, gate);
     let cpu = table.cpu_of(pass);
     let part = walk_part(alloc, true, shape, cpu, room, &chain);
-    if !read_whole(shape, cpu, &chain, out) {
+    if !read_whole(shape, cpu, &chain, &mut taking.out) {
         table.give(pass, lock, Content::Bucket(chain), part, gate);
         return false;
     }
     while let Some(body) = chain.take_out(0) {
         table.detach(pass, body.body().element(), bucket);
-        gone.push(body);
+        taking.gone.push(body);
     }
     table.give(pass, lock, Content::Bucket(chain), part, gate);
     true
@@ -146,7 +152,8 @@ fn take_out<R: Wait, G: Gate>(
 fn free_all<R: Wait, G: Gate>(rt: &R, map: &LruMap, pass: &mut Pass, gone: &mut BodyStack, gate: &G)
     requires { CanFreeAll map.now gone.old.bodies pass.old }
     ensures freed { FreedAll map.now gone.old.bodies pass.old pass.new }
-    ensures empty { gone.new ≡ record { bodies = []; spare = gone.old.spare + length gone.old.bodies } }
+    ensures empty { gone.new
+        ≡ record { bodies = []; spare = gone.old.spare + length gone.old.bodies } }
 {
     while let Some(body) = gone.pop() {
         map.push_free(rt, pass, body, gate);

@@ -11,7 +11,7 @@ ghost use Rattle.bucket_walks.specs.BatchReads.{Answers, BeginsAt, Comes, IsOfMa
 
 use crate::buckets::enter;
 use crate::parts::walk_part;
-use crate::read::{BatchOut, BatchRefusal, plan, read_out};
+use crate::read::{BatchOut, BatchRefusal, BatchRequest, plan, read_out};
 use crate::room::ReadRoom;
 use crate::whole::read_whole;
 use bucket_chain::Chain;
@@ -31,17 +31,16 @@ pub fn take_batch_plain<R: Wait, G: Gate>(
     alloc: Global,
     map: &PlainMap,
     pass: &mut Pass,
-    count: u32,
-    start: Option<u32>,
-    flags: u32,
+    request: BatchRequest,
     gate: &G,
 ) -> Result<BatchOut, BatchRefusal>
     requires can { CanCall map.now pass.old }
-    ensures answers { Answers map.now pass.old pass.new (verbs.BatchRead true count start flags) result }
-    ensures comes { Comes map.now.shape count start flags result }
+    ensures answers { Answers map.now pass.old pass.new
+        (verbs.BatchRead true request.count request.start request.flags) result }
+    ensures comes { Comes map.now.shape request.count request.start request.flags result }
 {
     let shape = map.table().shape();
-    match plan(alloc, shape, count, start, flags) {
+    match plan(alloc, shape, request) {
         Err(refusal) => Err(refusal),
         Ok(None) => Ok(BatchOut::Idle),
         Ok(Some(mut planned)) => {

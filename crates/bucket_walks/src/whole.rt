@@ -56,7 +56,8 @@ pub(crate) fn read_whole(shape: &Shape, cpu: u32, chain: &Chain, out: &mut ReadR
     requires cpu { cpu < shape.now.cpus }
     requires sized { All (IsSized shape.now) chain.now.bodies }
     requires of_map { IsOfMap shape.now out.old }
-    ensures { IsGathered (walked_by shape.now cpu (out.old.limit - length out.old.pairs) chain.now.bodies) result out.old out.new }
+    ensures { IsGathered (walked_by shape.now cpu
+        (out.old.limit - length out.old.pairs) chain.now.bodies) result out.old out.new }
 {
     if out.left() < chain.len() {
         return false;

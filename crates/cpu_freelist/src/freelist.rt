@@ -21,7 +21,10 @@ impl Model for Freelist {
 
     ghost Value = { FreelistView };
 
-    ghost view = { λ f. record { bodies = f.bodies.bodies; room = length f.bodies.bodies + f.bodies.spare } };
+    ghost view = { λ f. record {
+      bodies = f.bodies.bodies;
+      room = length f.bodies.bodies + f.bodies.spare;
+    } };
 }
 
 impl Freelist {
@@ -45,8 +48,10 @@ impl Freelist {
 
     /// Takes the body on top, or gives none where there is none.
     pub fn pop(&mut self) -> Option<BoxedBody>
-        ensures top { MatchOption result ((self.old.bodies ≡ []) × (self.new ≡ self.old)) (λ body. self.old ≡ record self.new { bodies = body ∷ self.new.bodies }) }
-        ensures numbers { MatchOption result (numbers self.old ≡ []) (λ body. numbers self.old ≡ body.element ∷ numbers self.new) }
+        ensures top { MatchOption result ((self.old.bodies ≡ []) × (self.new ≡ self.old))
+            (λ body. self.old ≡ record self.new { bodies = body ∷ self.new.bodies }) }
+        ensures numbers { MatchOption result (numbers self.old ≡ [])
+            (λ body. numbers self.old ≡ body.element ∷ numbers self.new) }
     {
         self.bodies.pop()
     }

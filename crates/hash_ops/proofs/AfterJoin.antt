@@ -93,10 +93,6 @@ told_lock : (shape : Shape) (lost : List ℕ) (step x : Turned) → IsTold shape
 told_lock shape lost step x is =
     ⊎_elim (λ (same : x ≡ step). ap (λ (z : Turned). z.lock) same) (λ (could : (is_among step.lock lost ≡ true) × CouldBe shape step x). could.1.lock) is
 
-pub told_cpu : (shape : Shape) (lost : List ℕ) (step x : Turned) → IsTold shape lost step x → x.entry.cpu ≡ step.entry.cpu
-told_cpu shape lost step x is =
-    ⊎_elim (λ (same : x ≡ step). ap (λ (z : Turned). z.entry.cpu) same) (λ (could : (is_among step.lock lost ≡ true) × CouldBe shape step x). could.1.cpu) is
-
 pub told_allowed : (shape : Shape) (lost : List ℕ) (step x : Turned) → IsTold shape lost step x → IsAllowedAt shape step → Allows shape x.entry.cpu x.entry.part (content shape (lock_named shape step.lock) step.earlier)
 told_allowed shape lost step x is allowed =
     ⊎_elim

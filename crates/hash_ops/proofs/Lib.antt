@@ -1,13 +1,11 @@
 pub mod Crossing
 pub mod Added
 pub mod AfterJoin
-pub mod DeleteThenLookup
 pub mod Ends
 pub mod FreeTurns
 pub mod Gone
 pub mod HandLemmas
 pub mod Looks
-pub mod LostTurns
 pub mod Pops
 pub mod Pushes
 pub mod Replaced

@@ -108,6 +108,7 @@ enters t bucket p q chain plain none_shared can there few took =
         known = λ log is_known. took.known log (ap (λ (n : ℕ). known_log n p.view.known) (sym took.lock_is) ∙ (ap (λ (v : View). known_log took.hold.lock v.known) (sym view) ∙ is_known));
       };
       spares = record {
+        holds_nothing = refl;
         spares_only = λ e cpu has in_hand.
             let x = can.in_no_call.spares_only e cpu (ap (λ (v : View). is_among cpu v.cpus) (sym view) ∙ has) (ap (λ (v : View). is_in_hand_of e cpu v.hand) (sym view) ∙ in_hand) in
             (x.0, ap (λ (z : PassView). spare_of cpu z.spares) took.after_is ∙ x.1, x.2, ap (λ (v : View). v.shape.kind) view ∙ x.3);
@@ -286,11 +287,6 @@ could_be t lock r back part stands can other =
       same_clears = same_clears t.shape r.view r.view can.hold other.hold part stands other.notes (subst (NotesFit t.shape r.view can.hold part) notes can.notes_fit) other.notes_fit;
       leaves = sym (subst (λ (h : Hold). content_told (lock_named t.shape h.lock) back ≡ content_after t.shape r.cpu part (content t.shape (lock_named t.shape h.lock) h.log)) same can.may_put.told_is) ∙ other.may_put.told_is;
     }
-
--- what was made is told as itself, where other locks are lost too
-pub all_told : (shape : Shape) (lost : List ℕ) (steps : List Turned) → AreTold shape lost steps steps
-all_told shape lost [] = tt
-all_told shape lost (step ∷ steps) = (inl refl, all_told shape lost steps)
 
 pub told_more : (shape : Shape) (lost : List ℕ) (inner : List Turned) (last told : Turned) → IsTold shape lost last told → AreTold shape lost (inner ++ last ∷ []) (inner ++ told ∷ [])
 told_more shape lost [] last told is = (is, tt)

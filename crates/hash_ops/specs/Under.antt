@@ -1,14 +1,12 @@
 -- A call from where it holds the bucket of its key to its end.
-use Rattle.std.specs.Prelude.{◌≡◌, ℕ, ◌≤◌, true, false, List, [], length, map, All, Some, Result, Ok, Err}
+use Rattle.std.specs.Prelude.{◌≡◌, ℕ, ◌≤◌, false, List, [], length, map, All, Result, Ok, Err}
 use Rattle.map_types.specs.declared.call.Verb.{Verb}
 use Rattle.map_types.specs.declared.kind.DomainId.TheVariants.{Bucket}
-use Rattle.map_types.specs.declared.kind.MapKind.TheVariants.{Hash}
 use Rattle.map_types.specs.declared.refusal.Errno.TheVariants as errnos
 use Rattle.map_types.specs.declared.reply.Reply.{Reply}
 use Rattle.map_types.specs.declared.reply.Reply.TheVariants.{Done, Refused}
 use Rattle.map_types.specs.declared.kind.Side.{Side}
 use Rattle.map_types.specs.Kind.{is_lru}
-use Rattle.map_types.specs.Stored.{Stored}
 use Rattle.map_types.specs.ValueLen.{value_len_of}
 use Rattle.percpu_values.specs.BodyList.{BodyList}
 use Rattle.place_words.specs.Locks.{lock_number}
@@ -17,18 +15,16 @@ use Rattle.place_table.specs.declared.content.Content.TheVariants as contents
 use Rattle.place_table.specs.declared.view.Turned.{Turned}
 use Rattle.place_table.specs.InBucket.{InBucket}
 use Rattle.place_table.specs.Known.{Learns}
-use Rattle.place_table.specs.Passes.{PassView, TableView, IsInNoCall, HasOnlyKept, SparesDiffer, TookLock, Goes, spare_of}
-use Rattle.place_table.specs.Views.{is_among, is_in_hand_of, notes_below}
+use Rattle.place_table.specs.Passes.{PassView, TableView, IsInNoCall, SparesDiffer, TookLock, Goes, with_view}
+use Rattle.place_table.specs.Views.{notes_below}
 use Rattle.hash_ops.specs.Calls.{turn_of, IsBy, spare_element, AreTold, LosesAtMost}
 use Rattle.hash_ops.specs.declared.map.PlainRefusal.{PlainRefusal}
 use Rattle.hash_ops.specs.declared.map.PlainRefusal.TheVariants as refusals
 
--- its CPUs have nothing in hand but the spares that it keeps, none of which is out, and no element's home is in a hand of theirs
-pub record HasItsSpares (q : PassView) : Type 0 where
-  pub spares_only : HasOnlyKept q
-  pub spares_in_hand : (cpu : ℕ) (body : Stored) → spare_of cpu q.spares ≡ Some body → is_in_hand_of body.element cpu q.view.hand ≡ true
-  pub none_out : q.view.shape.kind ≡ Hash → (cpu : ℕ) → is_among cpu q.view.cpus ≡ true → (body : Stored) × (spare_of cpu q.spares ≡ Some body)
-  pub carries_nothing : q.view.carried ≡ []
+-- Without the locks that it holds the pass would be in no call: its CPUs have nothing in hand but the spares that it keeps, none of
+-- which is out, and no element's home is in a hand of theirs.
+abbrev pub HasItsSpares : PassView → Type 0
+HasItsSpares q = IsInNoCall (with_view q (record q.view { held = [] }))
 
 -- a pass in no call has taken a bucket, of a map that doesn't evict, whose CPUs share no lists
 pub record Enters (t : TableView) (bucket : ℕ) (p q : PassView) (chain : BodyList) : Type 0 where

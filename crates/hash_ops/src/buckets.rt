@@ -14,7 +14,8 @@ ghost use Rattle.hash_ops.specs.Under.{HasItsSpares, Enters, Answered};
 use crate::map::PlainMap;
 use bucket_chain::Chain;
 use bucket_entries::{
-    body_at, body_out, deleted, lookup_got, lookup_missed, read_value, take_got, take_missed,
+    TakenBucket, body_at, body_out, deleted, lookup_got, lookup_missed, read_value, take_got,
+    take_missed,
 };
 use map_types::{Absent, DomainId, Gate, Side};
 use percpu_values::BoxedBody;
@@ -34,6 +35,7 @@ impl PlainMap {
         requires there { bucket < self.now.shape.buckets }
         ensures { Enters self.now bucket pass.old pass.new result }
     {
+        // That the CPU is one of the map's is known once it is asked for.
         let _cpu = self.table.cpu_of(pass);
         let Content::Bucket(chain) = self.table.take(rt, pass, DomainId::Bucket(bucket), gate)
         else {
@@ -46,43 +48,35 @@ impl PlainMap {
     pub(crate) fn lookup_in<G: Gate>(
         &self,
         pass: &mut Pass,
-        bucket: u32,
-        chain: Chain,
+        taken: TakenBucket,
         side: Side,
         key: &[u8],
         out: &mut [u8],
         gate: &G,
     ) -> Result<(), Absent>
-        requires inside { InBucket self.now bucket pass.old chain.bodies }
+        requires inside { InBucket self.now taken.number pass.old taken.chain.bodies }
         requires spares { HasItsSpares pass.old }
-        requires bucket { bucket ≡ bucket_of_key self.now.shape key.now }
+        requires bucket { taken.number ≡ bucket_of_key self.now.shape key.now }
         requires out { length out.old ≡ value_len_of self.now.shape side }
-        ensures answered { Answered self.now pass.old pass.new (verbs.Lookup side key.now) (reply_of_value result out.new) }
+        ensures answered { Answered self.now pass.old pass.new (verbs.Lookup side key.now)
+            (reply_of_value result out.new) }
         ensures refused { IfErr result (λ _. out.new ≡ out.old) }
     {
+        let TakenBucket { number, chain } = taken;
+        let lock = DomainId::Bucket(number);
         let cpu = self.table.cpu_of(pass);
         let Some(place) = chain.find(key) else {
             let part = lookup_missed(self.alloc, side, key);
-            self.table.give(
-                pass,
-                DomainId::Bucket(bucket),
-                Content::Bucket(chain),
-                part,
-                gate,
-            );
+            self.table
+                .give(pass, lock, Content::Bucket(chain), part, gate);
             return Err(Absent);
         };
         let body = body_at(&chain, place);
         let element = body.element();
         read_value(self.table.shape(), side, cpu, body, out);
         let part = lookup_got(self.alloc, side, key, element, out);
-        self.table.give(
-            pass,
-            DomainId::Bucket(bucket),
-            Content::Bucket(chain),
-            part,
-            gate,
-        );
+        self.table
+            .give(pass, lock, Content::Bucket(chain), part, gate);
         Ok(())
     }
 
@@ -99,7 +93,8 @@ impl PlainMap {
         requires inside { InBucket self.now bucket pass.old chain.bodies }
         requires spares { HasItsSpares pass.old }
         requires bucket { bucket ≡ bucket_of_key self.now.shape key.now }
-        ensures { Answered self.now pass.old pass.new (verbs.Delete key.now) (reply_of_done result) }
+        ensures { Answered self.now pass.old pass.new (verbs.Delete key.now)
+            (reply_of_done result) }
     {
         let lock = DomainId::Bucket(bucket);
         let Some(place) = chain.find(key) else {
@@ -121,20 +116,21 @@ impl PlainMap {
         &self,
         rt: &R,
         pass: &mut Pass,
-        bucket: u32,
-        mut chain: Chain,
+        taken: TakenBucket,
         key: &[u8],
         out: &mut [u8],
         gate: &G,
     ) -> Result<(), Absent>
-        requires inside { InBucket self.now bucket pass.old chain.bodies }
+        requires inside { InBucket self.now taken.number pass.old taken.chain.bodies }
         requires spares { HasItsSpares pass.old }
-        requires bucket { bucket ≡ bucket_of_key self.now.shape key.now }
+        requires bucket { taken.number ≡ bucket_of_key self.now.shape key.now }
         requires out { length out.old ≡ value_len_of self.now.shape Sys }
-        ensures answered { Answered self.now pass.old pass.new (verbs.Take key.now) (reply_of_value result out.new) }
+        ensures answered { Answered self.now pass.old pass.new (verbs.Take key.now)
+            (reply_of_value result out.new) }
         ensures refused { IfErr result (λ _. out.new ≡ out.old) }
     {
-        let lock = DomainId::Bucket(bucket);
+        let TakenBucket { number, mut chain } = taken;
+        let lock = DomainId::Bucket(number);
         let Some(place) = chain.find(key) else {
             let part = take_missed(self.alloc, key);
             self.table
@@ -144,7 +140,7 @@ impl PlainMap {
         let cpu = self.table.cpu_of(pass);
         let body = body_out(&mut chain, place);
         read_value(self.table.shape(), Side::Sys, cpu, body.body(), out);
-        let element = self.push_out(rt, pass, bucket, body, gate);
+        let element = self.push_out(rt, pass, number, body, gate);
         let part = take_got(self.alloc, key, element, out);
         self.table
             .give(pass, lock, Content::Bucket(chain), part, gate);
@@ -161,9 +157,11 @@ impl PlainMap {
         gate: &G,
     ) -> u32
         requires detach { CanMark self.now body.element bucket pass.old }
-        requires push { (out : PassView) → Detached bucket body.element pass.old out → CanPush self.now body out }
+        requires push { (out : PassView) → Detached bucket body.element pass.old out
+            → CanPush self.now body out }
         ensures element { result ≡ body.element }
-        ensures pushed { (out : PassView) × Detached bucket body.element pass.old out × Pushed self.now body out pass.new }
+        ensures pushed { (out : PassView) × Detached bucket body.element pass.old out
+            × Pushed self.now body out pass.new }
     {
         let element = body.body().element();
         self.table.detach(pass, element, bucket);

@@ -7,7 +7,7 @@ ghost use Rattle.map_types.specs.ValueLen.{value_len_of};
 ghost use Rattle.hash_ops.specs.Calls.{CanCall, Called, MayRefuse, Updates, reply_of_value, reply_of_done};
 
 use crate::map::{PlainMap, PlainRefusal};
-use bucket_entries::BPF_EXIST;
+use bucket_entries::{BPF_EXIST, TakenBucket, Write};
 use map_types::{Absent, Gate, Side};
 use place_table::Pass;
 use std::sync::Wait;
@@ -29,12 +29,17 @@ impl PlainMap {
         requires can { CanCall self.now pass.old }
         requires key { length key.now ≡ self.now.shape.key_size }
         requires out { length out.old ≡ value_len_of self.now.shape side }
-        ensures called { Called self.now pass.old pass.new (verbs.Lookup side key.now) (reply_of_value result out.new) }
+        ensures called { Called self.now pass.old pass.new (verbs.Lookup side key.now)
+            (reply_of_value result out.new) }
         ensures refused { IfErr result (λ _. out.new ≡ out.old) }
     {
         let bucket = self.bucket_of_key(key);
         let chain = self.enter(rt, pass, bucket, gate);
-        self.lookup_in(pass, bucket, chain, side, key, out, gate)
+        let taken = TakenBucket {
+            number: bucket,
+            chain,
+        };
+        self.lookup_in(pass, taken, side, key, out, gate)
     }
 
     /// Updates a key with a value of a side's length, by flags: BPF_ANY (0), BPF_NOEXIST (1) or BPF_EXIST (2). It is refused
@@ -65,7 +70,13 @@ impl PlainMap {
         }
         let bucket = self.bucket_of_key(key);
         let chain = self.enter(rt, pass, bucket, gate);
-        self.update_in(rt, pass, bucket, chain, side, flags, key, value, gate)
+        let write = Write {
+            side,
+            flags,
+            key,
+            value,
+        };
+        self.update_in(rt, pass, bucket, chain, write, gate)
     }
 
     /// Takes a key out of the map. It is `Absent` (ENOENT) exactly where the bucket's turn found no such key. The element goes
@@ -99,11 +110,16 @@ impl PlainMap {
         requires can { CanCall self.now pass.old }
         requires key { length key.now ≡ self.now.shape.key_size }
         requires out { length out.old ≡ value_len_of self.now.shape Sys }
-        ensures called { Called self.now pass.old pass.new (verbs.Take key.now) (reply_of_value result out.new) }
+        ensures called { Called self.now pass.old pass.new (verbs.Take key.now)
+            (reply_of_value result out.new) }
         ensures refused { IfErr result (λ _. out.new ≡ out.old) }
     {
         let bucket = self.bucket_of_key(key);
         let chain = self.enter(rt, pass, bucket, gate);
-        self.take_in(rt, pass, bucket, chain, key, out, gate)
+        let taken = TakenBucket {
+            number: bucket,
+            chain,
+        };
+        self.take_in(rt, pass, taken, key, out, gate)
     }
 }

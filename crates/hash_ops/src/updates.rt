@@ -11,8 +11,8 @@ ghost use Rattle.hash_ops.specs.Under.{HasItsSpares, AreUpdateArguments, Answere
 
 use crate::map::{PlainMap, PlainRefusal};
 use bucket_chain::Chain;
-use bucket_entries::{BPF_EXIST, BPF_NOEXIST, body_at, fill_body, updated, write_value};
-use map_types::{DomainId, Gate, Side};
+use bucket_entries::{BPF_EXIST, BPF_NOEXIST, Write, body_at, fill_body, updated, write_value};
+use map_types::{DomainId, Gate};
 use place_table::{Content, Pass};
 use place_words::Put;
 use std::sync::Wait;
@@ -27,23 +27,21 @@ impl PlainMap {
         pass: &mut Pass,
         bucket: u32,
         chain: Chain,
-        side: Side,
-        flags: u32,
-        key: &[u8],
-        value: &[u8],
+        write: Write,
         gate: &G,
     ) -> Result<(), PlainRefusal>
         requires inside { InBucket self.now bucket pass.old chain.bodies }
         requires spares { HasItsSpares pass.old }
-        requires gives { AreUpdateArguments self.now bucket side flags key.now value.now }
-        ensures ends { UpdateEnds self.now bucket pass.old pass.new (verbs.Update side flags key.now value.now) result }
-        ensures refuses { IfErr result (MayRefuse flags) }
+        requires gives { AreUpdateArguments self.now bucket write.side write.flags write.key.now
+            write.value.now }
+        ensures ends { UpdateEnds self.now bucket pass.old pass.new
+            (verbs.Update write.entry.side write.entry.flags write.entry.key.now
+            write.entry.value.now) result }
+        ensures refuses { IfErr result (MayRefuse write.entry.flags) }
     {
-        match chain.find(key) {
-            Some(place) => {
-                self.update_present(pass, bucket, chain, place, side, flags, key, value, gate)
-            }
-            None => { self.update_absent(rt, pass, bucket, chain, side, flags, key, value, gate) }
+        match chain.find(write.key) {
+            Some(place) => { self.update_present(pass, bucket, chain, place, write, gate) }
+            None => { self.update_absent(rt, pass, bucket, chain, write, gate) }
         }
     }
 
@@ -54,21 +52,29 @@ impl PlainMap {
         bucket: u32,
         chain: Chain,
         place: u32,
-        side: Side,
-        flags: u32,
-        key: &[u8],
-        value: &[u8],
+        write: Write,
         gate: &G,
     ) -> Result<(), PlainRefusal>
         requires inside { InBucket self.now bucket pass.old chain.bodies }
         requires spares { HasItsSpares pass.old }
-        requires gives { AreUpdateArguments self.now bucket side flags key.now value.now }
-        requires at { IsAt key.now place chain.bodies }
-        ensures ends { UpdateEnds self.now bucket pass.old pass.new (verbs.Update side flags key.now value.now) result }
-        ensures refuses { IfErr result (MayRefuse flags) }
+        requires gives { AreUpdateArguments self.now bucket write.side write.flags write.key.now
+            write.value.now }
+        requires at { IsAt write.key.now place chain.bodies }
+        ensures ends { UpdateEnds self.now bucket pass.old pass.new
+            (verbs.Update write.entry.side write.entry.flags write.entry.key.now
+            write.entry.value.now) result }
+        ensures refuses { IfErr result (MayRefuse write.entry.flags) }
     {
-        if flags == BPF_NOEXIST {
-            let part = updated(self.alloc, side, flags, key, value, None, Put::Exists);
+        if write.flags == BPF_NOEXIST {
+            let part = updated(
+                self.alloc,
+                write.side,
+                write.flags,
+                write.key,
+                write.value,
+                None,
+                Put::Exists,
+            );
             self.table.give(
                 pass,
                 DomainId::Bucket(bucket),
@@ -79,10 +85,10 @@ impl PlainMap {
             return Err(PlainRefusal::Eexist);
         }
         if self.table.shape().kind.is_percpu() {
-            self.write(pass, bucket, chain, place, side, flags, key, value, gate);
+            self.write(pass, bucket, chain, place, write, gate);
             return Ok(());
         }
-        self.replace(pass, bucket, chain, place, side, flags, key, value, gate);
+        self.replace(pass, bucket, chain, place, write, gate);
         Ok(())
     }
 
@@ -93,29 +99,37 @@ impl PlainMap {
         pass: &mut Pass,
         bucket: u32,
         mut chain: Chain,
-        side: Side,
-        flags: u32,
-        key: &[u8],
-        value: &[u8],
+        write: Write,
         gate: &G,
     ) -> Result<(), PlainRefusal>
         requires inside { InBucket self.now bucket pass.old chain.bodies }
         requires spares { HasItsSpares pass.old }
-        requires gives { AreUpdateArguments self.now bucket side flags key.now value.now }
-        requires absent { present key.now chain.bodies ≡ None }
-        ensures ends { UpdateEnds self.now bucket pass.old pass.new (verbs.Update side flags key.now value.now) result }
-        ensures refuses { IfErr result (MayRefuse flags) }
+        requires gives { AreUpdateArguments self.now bucket write.side write.flags write.key.now
+            write.value.now }
+        requires absent { present write.key.now chain.bodies ≡ None }
+        ensures ends { UpdateEnds self.now bucket pass.old pass.new
+            (verbs.Update write.entry.side write.entry.flags write.entry.key.now
+            write.entry.value.now) result }
+        ensures refuses { IfErr result (MayRefuse write.entry.flags) }
     {
         let lock = DomainId::Bucket(bucket);
-        if flags == BPF_EXIST {
-            let part = updated(self.alloc, side, flags, key, value, None, Put::Absent);
+        if write.flags == BPF_EXIST {
+            let part = updated(
+                self.alloc,
+                write.side,
+                write.flags,
+                write.key,
+                write.value,
+                None,
+                Put::Absent,
+            );
             self.table
                 .give(pass, lock, Content::Bucket(chain), part, gate);
             return Err(PlainRefusal::Enoent);
         }
         // There is always room for one more.
         let _ = chain.reserve_one(self.alloc);
-        self.add(rt, pass, bucket, chain, side, flags, key, value, gate)
+        self.add(rt, pass, bucket, chain, write, gate)
     }
 
     /// Adds an absent key, where a freelist gives an element for it. The chain has room for one.
@@ -125,39 +139,54 @@ impl PlainMap {
         pass: &mut Pass,
         bucket: u32,
         mut chain: Chain,
-        side: Side,
-        flags: u32,
-        key: &[u8],
-        value: &[u8],
+        write: Write,
         gate: &G,
     ) -> Result<(), PlainRefusal>
         requires inside { InBucket self.now bucket pass.old chain.bodies }
         requires spares { HasItsSpares pass.old }
-        requires gives { AreUpdateArguments self.now bucket side flags key.now value.now }
-        requires absent { present key.now chain.bodies ≡ None }
-        requires adds { flags ≢ 2 }
+        requires gives { AreUpdateArguments self.now bucket write.side write.flags write.key.now
+            write.value.now }
+        requires absent { present write.key.now chain.bodies ≡ None }
+        requires adds { write.flags ≢ 2 }
         requires room { 1 ≤ chain.spare }
-        ensures ends { UpdateEnds self.now bucket pass.old pass.new (verbs.Update side flags key.now value.now) result }
-        ensures refuses { IfErr result (MayRefuse flags) }
+        ensures ends { UpdateEnds self.now bucket pass.old pass.new
+            (verbs.Update write.entry.side write.entry.flags write.entry.key.now
+            write.entry.value.now) result }
+        ensures refuses { IfErr result (MayRefuse write.entry.flags) }
     {
         let lock = DomainId::Bucket(bucket);
         let cpu = self.table.cpu_of(pass);
         let Some(mut body) = self.pop(rt, pass, gate) else {
-            let part = updated(self.alloc, side, flags, key, value, None, Put::Full);
+            let part = updated(
+                self.alloc,
+                write.side,
+                write.flags,
+                write.key,
+                write.value,
+                None,
+                Put::Full,
+            );
             self.table
                 .give(pass, lock, Content::Bucket(chain), part, gate);
             return Err(PlainRefusal::E2big);
         };
-        fill_body(self.table.shape(), side, cpu, &mut body, key, value);
+        fill_body(
+            self.table.shape(),
+            write.side,
+            cpu,
+            &mut body,
+            write.key,
+            write.value,
+        );
         let element = body.body().element();
         self.table.attach(pass, element, bucket);
         chain.add_head(body);
         let part = updated(
             self.alloc,
-            side,
-            flags,
-            key,
-            value,
+            write.side,
+            write.flags,
+            write.key,
+            write.value,
             None,
             Put::Added(element),
         );
@@ -173,29 +202,37 @@ impl PlainMap {
         bucket: u32,
         mut chain: Chain,
         place: u32,
-        side: Side,
-        flags: u32,
-        key: &[u8],
-        value: &[u8],
+        write: Write,
         gate: &G,
     )
         requires inside { InBucket self.now bucket pass.old chain.bodies }
         requires spares { HasItsSpares pass.old }
-        requires gives { AreUpdateArguments self.now bucket side flags key.now value.now }
-        requires at { IsAt key.now place chain.bodies }
+        requires gives { AreUpdateArguments self.now bucket write.side write.flags write.key.now
+            write.value.now }
+        requires at { IsAt write.key.now place chain.bodies }
         requires percpu { IsTrue (is_percpu self.now.shape.kind) }
-        requires replaces { flags ≢ 1 }
-        ensures { AnsweredAt self.now bucket pass.old pass.new (verbs.Update side flags key.now value.now) replies.Done }
+        requires replaces { write.flags ≢ 1 }
+        ensures { AnsweredAt self.now bucket pass.old pass.new
+            (verbs.Update write.entry.side write.entry.flags write.entry.key.now
+            write.entry.value.now) replies.Done }
     {
         let cpu = self.table.cpu_of(pass);
         let element = body_at(&chain, place).element();
-        write_value(self.table.shape(), side, cpu, &mut chain, place, key, value);
+        write_value(
+            self.table.shape(),
+            write.side,
+            cpu,
+            &mut chain,
+            place,
+            write.key,
+            write.value,
+        );
         let part = updated(
             self.alloc,
-            side,
-            flags,
-            key,
-            value,
+            write.side,
+            write.flags,
+            write.key,
+            write.value,
             None,
             Put::Written(element),
         );
@@ -215,25 +252,32 @@ impl PlainMap {
         bucket: u32,
         mut chain: Chain,
         place: u32,
-        side: Side,
-        flags: u32,
-        key: &[u8],
-        value: &[u8],
+        write: Write,
         gate: &G,
     )
         requires inside { InBucket self.now bucket pass.old chain.bodies }
         requires spares { HasItsSpares pass.old }
-        requires gives { AreUpdateArguments self.now bucket side flags key.now value.now }
-        requires at { IsAt key.now place chain.bodies }
+        requires gives { AreUpdateArguments self.now bucket write.side write.flags write.key.now
+            write.value.now }
+        requires at { IsAt write.key.now place chain.bodies }
         requires single { is_percpu self.now.shape.kind ≡ false }
-        requires replaces { flags ≢ 1 }
-        ensures { AnsweredAt self.now bucket pass.old pass.new (verbs.Update side flags key.now value.now) replies.Done }
+        requires replaces { write.flags ≢ 1 }
+        ensures { AnsweredAt self.now bucket pass.old pass.new
+            (verbs.Update write.entry.side write.entry.flags write.entry.key.now
+            write.entry.value.now) replies.Done }
     {
         let cpu = self.table.cpu_of(pass);
         let Some(mut body) = self.table.spare(pass) else {
             unreachable!()
         };
-        fill_body(self.table.shape(), side, cpu, &mut body, key, value);
+        fill_body(
+            self.table.shape(),
+            write.side,
+            cpu,
+            &mut body,
+            write.key,
+            write.value,
+        );
         let new = body.body().element();
         self.table.attach(pass, new, bucket);
         let spare = chain.replace_head(place, body);
@@ -242,10 +286,10 @@ impl PlainMap {
         self.table.keep_spare(pass, spare);
         let part = updated(
             self.alloc,
-            side,
-            flags,
-            key,
-            value,
+            write.side,
+            write.flags,
+            write.key,
+            write.value,
             None,
             Put::Replaced { new, old },
         );

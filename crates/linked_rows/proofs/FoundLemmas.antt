@@ -40,10 +40,6 @@ linked_as_seen mark cells rows linked = subst (IsLinked mark cells) (sym (rows_a
 
 -- The first row and the last
 
-pub head_found : (mark : ℕ) (cells : List Cell) (rows : List Row) → IsLinked mark cells rows → row_at cells (after_at cells mark) ≡ head_row rows
-head_found mark cells rows linked =
-    ap (row_at cells) (leads_first (after_at cells) mark rows mark (leads_round (after_at cells) mark rows linked.forth)) ∙ linked.its_row (first_cell rows mark) ∙ first_behind mark rows [] rows linked.are refl
-
 pub tail_found : (mark : ℕ) (cells : List Cell) (rows : List Row) → IsLinked mark cells rows → row_at cells (before_at cells mark) ≡ tail_row rows
 tail_found mark cells rows linked =
     let split : rows ≡ reverse (reverse rows) ++ [] = sym (append-nil (reverse (reverse rows)) ∙ reverse-reverse rows) in

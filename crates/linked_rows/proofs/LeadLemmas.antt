@@ -51,10 +51,6 @@ pub leads_first : (f : ℕ → ℕ) (start : ℕ) (rows : List Row) (end : ℕ) 
 leads_first f start [] end leads = leads
 leads_first f start (row ∷ rows) end leads = leads.0
 
-pub leads_last : (f : ℕ → ℕ) (start : ℕ) (rows : List Row) (end : ℕ) → Leads f start rows end → f (last_cell start rows) ≡ end
-leads_last f start [] end leads = leads
-leads_last f start (row ∷ rows) end leads = leads_last f row.element rows end leads.1
-
 pub leads_at : (f : ℕ → ℕ) (start : ℕ) (front : List Row) (row : Row) (back : List Row) (end : ℕ) → Leads f start (front ++ row ∷ back) end → f row.element ≡ first_cell back end
 leads_at f start [] row back end leads = leads_first f row.element back end leads.1
 leads_at f start (x ∷ front) row back end leads = leads_at f x.element front row back end leads.1

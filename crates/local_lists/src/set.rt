@@ -29,9 +29,20 @@ impl<R: Rows> Model for LocalSet<R> {
 
     ghost Value = { LocalView };
 
-    ghost view = { λ s. record { free = s.free; pending = R.rows s.pending; steal = s.steal; elements = R.bound s.pending } };
+    ghost view = { λ s. record {
+      free = s.free;
+      pending = R.rows s.pending;
+      steal = s.steal;
+      elements = R.bound s.pending;
+    } };
 
-    ghost invariant = { λ s. IsLocal (record { free = s.free; pending = R.rows s.pending; steal = s.steal; elements = R.bound s.pending }) };
+    ghost invariant = { λ s. IsLocal
+        (record {
+          free = s.free;
+          pending = R.rows s.pending;
+          steal = s.steal;
+          elements = R.bound s.pending;
+        }) };
 }
 
 impl<R: Rows> LocalSet<R> {
@@ -53,7 +64,8 @@ impl<R: Rows> LocalSet<R> {
     pub fn pop_free(&mut self) -> Option<BoxedBody>
         ensures top { result ≡ slice_get self.old.free.bodies 0 }
         ensures exact { self.new ≡ with_free (popped self.old.free) self.old }
-        ensures known { IfSome result (λ body. (body.element < self.new.elements) × (times_on body.element self.new ≡ 0)) }
+        ensures known { IfSome result (λ body. (body.element < self.new.elements)
+            × (times_on body.element self.new ≡ 0)) }
         ensures whole { IsLocal self.new }
     {
         self.free.pop()
@@ -75,7 +87,8 @@ impl<R: Rows> LocalSet<R> {
     /// no two are the same.
     pub fn swap_free(&mut self, other: &mut BodyStack)
         requires below { (e : ℕ) → IsIn e (numbers other.old.bodies) → e < self.old.elements }
-        requires absent { (e : ℕ) → times e (elements_of self.old.pending) + times e (numbers other.old.bodies) ≤ 1 }
+        requires absent { (e : ℕ)
+            → times e (elements_of self.old.pending) + times e (numbers other.old.bodies) ≤ 1 }
         ensures exact { self.new ≡ with_free other.old self.old }
         ensures other { other.new ≡ self.old.free }
         ensures whole { IsLocal self.new }
@@ -101,7 +114,8 @@ impl<R: Rows> LocalSet<R> {
         ensures taken { result ≡ row_of element self.old.pending }
         ensures present { IsSome result ↔ IsIn element (elements_of self.old.pending) }
         ensures exact { self.new ≡ without_pending element self.old }
-        ensures known { IfSome result (λ row. (row.element ≡ element) × (element < self.new.elements) × (times_on element self.new ≡ 0)) }
+        ensures known { IfSome result (λ row. (row.element ≡ element)
+            × (element < self.new.elements) × (times_on element self.new ≡ 0)) }
         ensures off { times element (elements_of self.new.pending) ≡ 0 }
         ensures whole { IsLocal self.new }
         ensures was_whole { IsLocal self.old }

@@ -63,7 +63,8 @@ pub trait Bits {
     fn clear(&mut self, element: u32) -> bool
         requires noted { can_note self.old 1 }
         requires asked { may_ask self.old element }
-        ensures call { calls self.new ≡ calls self.old ++ BitCall.Cleared (record { element = element; bit = result }) ∷ [] }
+        ensures call { calls self.new
+            ≡ calls self.old ++ BitCall.Cleared (record { element = element; bit = result }) ∷ [] }
         ensures noted { (n : ℕ) → can_note self.old n → can_note self.new (n - 1) }
         ensures asked { (e : ℕ) → may_ask self.old e → may_ask self.new e }
         ensures probes { probes self.new ≡ probes self.old }
@@ -75,7 +76,8 @@ pub trait Bits {
     fn read(&mut self, element: u32) -> bool
         requires noted { can_note self.old 1 }
         requires asked { may_ask self.old element }
-        ensures call { calls self.new ≡ calls self.old ++ BitCall.Read (record { element = element; bit = result }) ∷ [] }
+        ensures call { calls self.new
+            ≡ calls self.old ++ BitCall.Read (record { element = element; bit = result }) ∷ [] }
         ensures noted { (n : ℕ) → can_note self.old n → can_note self.new (n - 1) }
         ensures asked { (e : ℕ) → may_ask self.old e → may_ask self.new e }
         ensures probes { probes self.new ≡ probes self.old }
@@ -94,12 +96,16 @@ pub trait Probe: Bits {
     fn evict(&mut self, element: u32, hash: u32) -> Probed
         requires noted { Self.can_note self.old 1 }
         requires probed { Self.may_probe self.old (record { element = element; hash = hash }) }
-        ensures probe { Self.probes self.new ≡ Self.probes self.old ++ record { element = element; hash = hash; probed = seen_of result } ∷ [] }
+        ensures probe { Self.probes self.new
+            ≡ Self.probes self.old
+            ++ record { element = element; hash = hash; probed = seen_of result } ∷ [] }
         ensures calls { Self.calls self.new ≡ Self.calls self.old }
         ensures noted { (n : ℕ) → Self.can_note self.old n → Self.can_note self.new (n - 1) }
         ensures asked { (e : ℕ) → Self.may_ask self.old e → Self.may_ask self.new e }
-        ensures others { (row : Row) → row ≢ record { element = element; hash = hash } → Self.may_probe self.old row → Self.may_probe self.new row }
-        ensures held { IsHeld result → Self.may_probe self.new (record { element = element; hash = hash }) }
+        ensures others { (row : Row) → row ≢ record { element = element; hash = hash }
+            → Self.may_probe self.old row → Self.may_probe self.new row }
+        ensures held { IsHeld result
+            → Self.may_probe self.new (record { element = element; hash = hash }) }
         ensures body { IfRemoved result (λ body. body.element ≡ element) }
         ensures given { IfRemoved result (Self.gives self.new) }
         ensures gives { (body : Stored) → Self.gives self.old body ↔ Self.gives self.new body }

@@ -27,10 +27,9 @@ impl<T: Drop> Noted<T> {
     pub fn note(&mut self, value: T)
         ensures { AreNoted (value ∷ []) self.old self.new }
     {
-        if let Noted::Kept(list) = mem::replace(self, Noted::Lost) {
-            let mut items = list.into_vec();
-            if items.push(value).is_ok() {
-                *self = Noted::Kept(List::of(items));
+        if let Noted::Kept(mut list) = mem::replace(self, Noted::Lost) {
+            if list.push(value).is_ok() {
+                *self = Noted::Kept(list);
             }
         }
     }

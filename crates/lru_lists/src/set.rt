@@ -33,9 +33,23 @@ impl<R: Rows> Model for ListSet<R> {
 
     ghost Value = { SetView };
 
-    ghost view = { λ s. record { active = R.rows s.active; inactive = R.rows s.inactive; free = s.free; cursor = s.cursor; elements = R.bound s.active } };
+    ghost view = { λ s. record {
+      active = R.rows s.active;
+      inactive = R.rows s.inactive;
+      free = s.free;
+      cursor = s.cursor;
+      elements = R.bound s.active;
+    } };
 
-    ghost invariant = { λ s. IsSet (record { active = R.rows s.active; inactive = R.rows s.inactive; free = s.free; cursor = s.cursor; elements = R.bound s.active }) × (R.bound s.inactive ≡ R.bound s.active) };
+    ghost invariant = { λ s. IsSet
+        (record {
+          active = R.rows s.active;
+          inactive = R.rows s.inactive;
+          free = s.free;
+          cursor = s.cursor;
+          elements = R.bound s.active;
+        })
+        × (R.bound s.inactive ≡ R.bound s.active) };
 }
 
 impl<R: Rows> ListSet<R> {
@@ -104,7 +118,8 @@ impl<R: Rows> ListSet<R> {
     pub fn free_pop(&mut self) -> Option<BoxedBody>
         ensures top { result ≡ slice_get self.old.free.bodies 0 }
         ensures exact { self.new ≡ with_free (popped self.old.free) self.old }
-        ensures known { IfSome result (λ body. (body.element < self.new.elements) × (times_on body.element self.new ≡ 0)) }
+        ensures known { IfSome result (λ body. (body.element < self.new.elements)
+            × (times_on body.element self.new ≡ 0)) }
         ensures whole { IsSet self.new }
     {
         self.free.pop()
@@ -114,7 +129,8 @@ impl<R: Rows> ListSet<R> {
     /// nor inactive, and no two are the same.
     pub fn swap_free(&mut self, other: &mut BodyStack)
         requires below { (e : ℕ) → IsIn e (numbers_of other.old.bodies) → e < self.old.elements }
-        requires absent { (e : ℕ) → times_listed e self.old + times e (numbers_of other.old.bodies) ≤ 1 }
+        requires absent { (e : ℕ)
+            → times_listed e self.old + times e (numbers_of other.old.bodies) ≤ 1 }
         ensures exact { self.new ≡ with_free other.old self.old }
         ensures other { other.new ≡ self.old.free }
         ensures whole { IsSet self.new }
@@ -162,7 +178,9 @@ impl<R: Rows> ListSet<R> {
 
     /// Moves the cursor off an element, towards the head.
     fn leave(&mut self, element: u32)
-        ensures exact { self.new ≡ with_cursor (cursor_without (λ x. x == element) self.old.inactive self.old.cursor) self.old }
+        ensures exact { self.new
+            ≡ with_cursor (cursor_without
+            (λ x. x == element) self.old.inactive self.old.cursor) self.old }
         ensures was_whole { IsSet self.old }
     {
         if self.cursor == Some(element) {
@@ -180,11 +198,13 @@ fn neighbour_of<R: Rows>(rows: &R, element: u32) -> Option<u32>
 
 /// Takes the row of an element out of the list on which it is, where it is on one.
 fn take_out_of<R: Rows>(active: &mut R, inactive: &mut R, element: u32) -> Option<Row>
-    requires { times element (elements_of (R.rows active.old)) + times element (elements_of (R.rows inactive.old)) ≤ 1 }
+    requires { times element (elements_of (R.rows active.old))
+        + times element (elements_of (R.rows inactive.old)) ≤ 1 }
     ensures taken { result ≡ row_of element (R.rows active.old ++ R.rows inactive.old) }
     ensures active { R.rows active.new ≡ without_row element (R.rows active.old) }
     ensures inactive { R.rows inactive.new ≡ without_row element (R.rows inactive.old) }
-    ensures bounds { (R.bound active.new ≡ R.bound active.old) × (R.bound inactive.new ≡ R.bound inactive.old) }
+    ensures bounds { (R.bound active.new ≡ R.bound active.old)
+        × (R.bound inactive.new ≡ R.bound inactive.old) }
 {
     match active.take_out(element) {
         Some(row) => Some(row),

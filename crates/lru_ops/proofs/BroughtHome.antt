@@ -39,7 +39,7 @@ use Rattle.place_table.specs.Calls.{clears_bit}
 use Rattle.place_table.specs.Flushes.{flushes}
 use Rattle.place_table.specs.Known.{Learns}
 use Rattle.place_table.specs.declared.content.Content.{Content as Slot}
-use Rattle.place_table.specs.Passes.{PassView, TableView, CanClear, CanGive, CanRehome, Cleared, Gave, Goes, Rehomed, TookLock, with_view}
+use Rattle.place_table.specs.Passes.{PassView, TableView, CanGive, CanRehome, Cleared, Gave, Goes, Rehomed, TookLock, with_view}
 use Rattle.place_table.specs.Plays.{HoldsLock, IsKnownHome}
 use Rattle.place_table.specs.StoredHashes.{stored_in}
 use Rattle.place_table.specs.TurnNotes.{WasRead, ProbeFits, CameToHand}
@@ -183,14 +183,6 @@ module _ {t : TableView} {e : ℕ} {lists : LocalView} {p q : PassView} (can : C
 
     carried_r : r.view.carried ≡ without_in_hand e p.cpu p.view.carried
     carried_r = ap (λ (z : PassView). z.view.carried) came_view ∙ ap (λ (z : PassView). without_in_hand e p.cpu z.view.carried) b.took.after_is
-
-    pub can_clear_here : CanClear t e r
-    can_clear_here = record {
-      of_table = goes_of_table t q r [] [] to_r (goes_of_table t p q [] [] (to_q b) can.of_table);
-      begun = goes_begun q r [] [] to_r (goes_begun p q [] [] (to_q b) can.begun);
-      real = can.real;
-      allowed = inl ((λ i. is_in_hand_of e ((to_r.cpu ∙ (to_q b).cpu) i) (hand_r i)) ∙ can.in_hand);
-    }
 
     -- and its bit was cleared
     module _ {s : PassView} {bit : Bool} (clear : Cleared e r s bit) where

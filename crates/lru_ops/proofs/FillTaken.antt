@@ -31,7 +31,7 @@ use Rattle.place_table.proofs.StoredHashes.{stored_is_in, stored_listed}
 use Rattle.place_table.proofs.Worlds.{hold_at_first, some_is, none_some}
 use Rattle.local_lists.specs.LocalLists.{LocalView, times_on}
 use Rattle.lru_lists.specs.Sets.{SetView, times_on as times_on_set}
-use Rattle.lru_ops.specs.Filling.{AreFresh, CanFill}
+use Rattle.lru_ops.specs.Filling.{CanFill}
 use Rattle.lru_ops.specs.Refills.{CanRefill}
 use Rattle.lru_ops.specs.GlobalWork.{CanWalk, HoldsGlobal}
 use Rattle.lru_ops.specs.OwnTurns.{rows_on}
@@ -212,6 +212,3 @@ module _ {t : TableView} {lists : LocalView} {p q : PassView} {set : SetView} (c
     noted = noted_q;
     hands_empty = hands_q;
   }
-
-  pub fresh_taken : AreFresh q
-  fresh_taken = (can.below, noted_q)

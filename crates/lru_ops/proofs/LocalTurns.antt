@@ -41,8 +41,7 @@ use Rattle.place_table.specs.Calls.{AreTold, CouldBe, IsTold, reads_bit, clears_
 use Rattle.place_table.specs.Contents.{FitsLocal, FitsLock}
 use Rattle.place_table.specs.Flushes.{flushes}
 use Rattle.place_table.specs.Known.{BitTouch, Learns, turn_at, IsBy}
-use Rattle.place_table.specs.Passes.{PassView, TableView, IsPassOf, HasBegun, CanTake, TookLock, CanGive, MayGiveBack, Goes}
-use Rattle.place_table.specs.Rules.{IsAboveAll}
+use Rattle.place_table.specs.Passes.{PassView, TableView, IsPassOf, HasBegun, TookLock, CanGive, MayGiveBack, Goes}
 use Rattle.place_table.specs.StoredHashes.{stored_in}
 use Rattle.place_table.specs.TurnNotes.{NotesFit, clears_noted}
 use Rattle.place_table.specs.Views.{is_among, is_in_hand_of, hold_at, known_log, came_last, hashes_given, holds_below, notes_below, passed_on, no_notes}
@@ -63,14 +62,6 @@ use Rattle.lru_ops.proofs.OwnWalk.{hold_at_only}
 -- Where the CPUs share lists, each has local ones.
 pub local_there : (shape : Shape) (cpu : ℕ) → IsTrue shape.common → cpu < shape.cpus → IsTrue (is_lock shape (Local cpu))
 local_there shape cpu common few = (λ i. common i && lt-ltb cpu shape.cpus few i)
-
-pub can_take_local : (t : TableView) (cpu : ℕ) (p : PassView) → IsPassOf t p → HasBegun p → IsTrue t.shape.common → cpu < t.shape.cpus → p.view.held ≡ [] → CanTake t (Local cpu) p
-can_take_local t cpu p of_table begun common few alone = record {
-  of_table = of_table;
-  begun = begun;
-  there = local_there t.shape cpu common few;
-  above = subst (λ (l : List Hold). IsAboveAll t.shape 1 l) (sym alone) tt;
-}
 
 -- The local lists of a CPU were taken by a pass that held no lock.
 pub record OnLocal (t : TableView) (c : ℕ) (lists : LocalView) (p q : PassView) : Type 0 where

@@ -37,7 +37,7 @@ use Rattle.lru_ops.specs.declared.map.LruRefusal.TheVariants as refusals
 use Rattle.lru_ops.specs.Calls.{FoundNoElement, Updates}
 use Rattle.lru_ops.specs.Lists.{Changed, Acquired, CanFree}
 use Rattle.lru_ops.specs.Offers.{IsOffered, Offers, PutsAlone, OfferEnds, AloneEnds, CanFreeLeft, HasFreedLeft, CanOffer, IsOutOfHand, HasOffered, OfferAnswers, hand_after}
-use Rattle.lru_ops.specs.Under.{CanEnter, Enters, GivenBack, IsOut}
+use Rattle.lru_ops.specs.Under.{Enters, GivenBack, IsOut}
 use Rattle.lru_ops.proofs.Ends.{changed_on, changed_given, in_no_hand, called_changed, trace_here}
 
 -- Turns of the bucket of a key
@@ -111,9 +111,6 @@ module _ (e cpu : ℕ) (hand : List InHand) where
   left_in_hand there puts.Full x is = subst (λ n. is_in_hand_of n cpu hand ≡ true) (sym (some_is is)) there
 
 -- An element that was taken
-
-pub can_enter_with : {t : TableView} {p : PassView} {key : List ℕ} {body : Stored} (bucket : ℕ) → CanOffer t key body p → bucket < t.shape.buckets → CanEnter t bucket p
-can_enter_with bucket can there = record { of_table = can.of_table; begun = can.begun; no_lock = can.no_lock; there = there }
 
 -- what is left over was freed, by these turns
 record LeftFreed (t : TableView) (left : Option ℕ) (r s : PassView) : Type 0 where

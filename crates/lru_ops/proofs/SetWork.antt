@@ -131,10 +131,6 @@ free_room shape set fits none =
     let bound = fits.bound in
     omega (arith, rows, room, empty, bound)
 
--- the hash of each row is the one that is stored for its element
-found_first : (e : ℕ) (row : Row) (rows : List Row) → row.element ≡ e → row_of e (row ∷ rows) ≡ Some row
-found_first e row rows is = row_of_split e [] row rows refl is
-
 pub own_row : (before : List Row) (rows : List Row) → ((e : ℕ) → times e (elements_of (before ++ rows)) ≤ 1) → All (λ (row : Row). row_of row.element (before ++ rows) ≡ Some row) rows
 own_row before [] once = All-nil (λ (row : Row). row_of row.element (before ++ []) ≡ Some row)
 own_row before (row ∷ rows) once =

@@ -31,7 +31,7 @@ use Rattle.place_table.specs.declared.view.Hold.{Hold}
 use Rattle.place_table.specs.declared.view.Notes.{Notes}
 use Rattle.place_table.specs.Contents.{IsSized}
 use Rattle.place_table.specs.Flushes.{flushes}
-use Rattle.place_table.specs.Passes.{PassView, TableView, CanClaim, CanGive, CanRehome, Claimed, Gave, Goes, Rehomed, TookLock, with_view}
+use Rattle.place_table.specs.Passes.{PassView, TableView, CanGive, CanRehome, Claimed, Gave, Goes, Rehomed, TookLock, with_view}
 use Rattle.place_table.specs.Plays.{HoldsLock}
 use Rattle.place_table.specs.TurnNotes.{WasRead, ProbeFits, CameToHand}
 use Rattle.place_table.specs.Views.{is_in_hand_of, hold_at, no_notes, notes_below, now_at, now_under, with_came, with_in_hand, with_now, rehomed as rehomed_view}
@@ -85,18 +85,6 @@ module _ {t : TableView} {from : ℕ} {lists : LocalView} {p q : PassView} {body
 
   none_first : times e hold.now.first ≡ 0
   none_first = ap (λ (l : Lists). times e l.first) b.took.now ∙ none_pending
-
-  pub can_claim_here : CanClaim t e (Local from) q
-  can_claim_here = record {
-    of_table = goes_of_table t p q [] [] (to_q b) can.of_table;
-    begun = goes_begun p q [] [] (to_q b) can.begun;
-    hold = hold;
-    real = real;
-    there = b.there;
-    held = (λ i. hold_at (sym b.took.lock_is i) (taken_held b i)) ∙ hold_at_first hold [];
-    cpu_is = b.took.cpu_is ∙ sym (to_q b).cpu;
-    head = subst (λ (l : Lists). IsHead e l.free) (sym b.took.now) free_head;
-  }
 
   -- it was claimed
   module _ {m : PassView} (claim : Claimed (Local from) e q m) where

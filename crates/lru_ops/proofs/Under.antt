@@ -1,5 +1,5 @@
 -- What a pass does while it holds a key's bucket alone, and what it leaves once it has given the bucket back.
-use Rattle.std.proofs.Common.{◌+◌, ◌≡◌, ℕ, ◌<◌, cond, true, false, List, [], ◌∷◌, ◌++◌, map, inl, inr, sym, refl, ap, ◌∙◌, subst, Option, Some, None}
+use Rattle.std.proofs.Common.{◌+◌, ◌≡◌, ℕ, ◌<◌, cond, true, List, [], ◌∷◌, ◌++◌, map, inl, inr, sym, refl, ap, ◌∙◌, subst, Option, Some, None}
 use Rattle.std.specs.Prelude.{IsTrue, IfSome, All}
 use Rattle.std.proofs.lemmas.List.Elements.{All-nil, All-head}
 use Rattle.std.proofs.lemmas.Bool.{lt-ltb}
@@ -18,7 +18,7 @@ use Rattle.place_words.specs.declared.history.Part.TheVariants as parts
 use Rattle.place_words.specs.declared.history.StrandStep.{StrandStep}
 use Rattle.place_words.specs.Bodies.{numbers}
 use Rattle.place_words.specs.Histories.{in_bucket, content, content_after, Allows, IsLegal, marks, clears}
-use Rattle.place_words.specs.Locks.{is_lock, lock_named, lock_number, rank_of}
+use Rattle.place_words.specs.Locks.{is_lock, lock_named, lock_number}
 use Rattle.place_words.specs.SerialOrder.{bucket_probes, probes_in}
 use Rattle.place_words.specs.Turns.{on_lock}
 use Rattle.place_words.proofs.LockLemmas.{named_by_number}
@@ -39,13 +39,12 @@ use Rattle.place_table.specs.Calls.{CouldBe, IsTold, sets_bit, bits_of_part, bit
 use Rattle.place_table.specs.Contents.{content_told, FitsLock}
 use Rattle.place_table.specs.InBucket.{InBucket}
 use Rattle.place_table.specs.Known.{Learns, BitTouch}
-use Rattle.place_table.specs.Passes.{PassView, TableView, CanTake, CanAttach, CanMark, TookLock, CanGive, GaveBack, MayGiveBack, Goes, Marked, Attached, Detached, with_view, entry_of}
+use Rattle.place_table.specs.Passes.{PassView, TableView, CanMark, TookLock, CanGive, GaveBack, MayGiveBack, Goes, Marked, Attached, Detached, with_view, entry_of}
 use Rattle.place_table.specs.Plays.{IsApartFromHands}
-use Rattle.place_table.specs.Rules.{IsAboveAll}
 use Rattle.place_table.specs.StoredHashes.{stored_in}
 use Rattle.place_table.specs.Flushes.{flushes}
 use Rattle.place_table.specs.TurnNotes.{WasRead, ProbeFits, CameToHand}
-use Rattle.place_table.specs.Views.{hold_at, now_at, now_under, with_in_hand, without_in_hand, is_in_hand_of, bucket_known, bits_with, with_mark, touching, known_log, holding, given, with_lost, moved, with_hashes, with_now, notes_below, holds_below, passed_on, passed_on_by_bucket}
+use Rattle.place_table.specs.Views.{hold_at, now_at, now_under, with_in_hand, without_in_hand, bits_with, with_mark, touching, known_log, holding, given, with_lost, moved, with_hashes, with_now, notes_below, holds_below, passed_on, passed_on_by_bucket}
 use Rattle.place_table.specs.Words.{owner_word, bit_word}
 use Rattle.place_table.proofs.BucketTurns.{IsTurnWith}
 use Rattle.place_table.proofs.Entries.{append_nil}
@@ -58,14 +57,6 @@ use Rattle.lru_ops.specs.Under.{CanEnter, Enters, GivenBack}
 
 pub bucket_there : (shape : Shape) (bucket : ℕ) → bucket < shape.buckets → IsTrue (is_lock shape (Bucket bucket))
 bucket_there shape bucket there = lt-ltb bucket shape.buckets there
-
-pub can_take_bucket : (t : TableView) (bucket : ℕ) (p : PassView) → CanEnter t bucket p → CanTake t (Bucket bucket) p
-can_take_bucket t bucket p can = record {
-  of_table = can.of_table;
-  begun = can.begun;
-  there = bucket_there t.shape bucket can.there;
-  above = subst (IsAboveAll t.shape (rank_of (Bucket bucket))) (sym can.no_lock) tt;
-}
 
 pub enters : (t : TableView) (bucket : ℕ) (p q : PassView) (chain : BodyList) → IsTrue (is_lru t.shape.kind) → CanEnter t bucket p → p.cpu < t.shape.cpus → TookLock t (Bucket bucket) p q (contents.Bucket chain) → Enters t bucket p q chain
 enters t bucket p q chain lru can few took =
@@ -222,20 +213,6 @@ module _ {t : TableView} {bucket : ℕ} {q r : PassView} {bodies : List Stored} 
     held = held_here;
     cpu_is = b.cpu_is ∙ sym u.goes.cpu;
     inside = inside;
-  }
-
-  -- what is attached doesn't belong to what the CPU carries, and the last hash that it was given is of this bucket
-  pub can_attach : (e : ℕ) → is_in_hand_of e r.cpu hand ≡ true → is_in_hand_of e r.cpu r.view.carried ≡ false → bucket_known e r.cpu r.view.hashes ≡ Some bucket → CanAttach t e bucket r
-  can_attach e in_hand not_carried known = record {
-    of_table = goes_of_table t q r [] [] u.goes b.of_table;
-    begun = goes_begun q r [] [] u.goes b.begun;
-    hold = hold_with b.hold now;
-    there = b.there;
-    held = held_here;
-    cpu_is = b.cpu_is ∙ sym u.goes.cpu;
-    in_hand = ap (is_in_hand_of e r.cpu) u.hand_is ∙ in_hand;
-    not_carried = λ _. not_carried;
-    hashed = λ _. (known, alone);
   }
 
   pub under_attached : (e : ℕ) (s : PassView) → Attached bucket e r s → Under t b.hold b.below q s (with_row (Bucket bucket) e now) set (without_in_hand e q.cpu hand)

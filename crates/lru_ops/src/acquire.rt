@@ -2,18 +2,20 @@
 
 ghost use Rattle.std.specs.Prelude.{◌≡◌, false, IfSome, IfNone, MatchOption, option_map};
 ghost use Rattle.map_types.specs.declared.kind.DomainId.TheVariants as locks;
+ghost use Rattle.place_words.specs.declared.history.Part.TheVariants as parts;
 ghost use Rattle.lru_lists.specs.declared.notes.Noted.TheVariants as noted;
 ghost use Rattle.place_table.specs.Calls.{CanCall};
 ghost use Rattle.lru_ops.specs.Lists.{Acquired};
 ghost use Rattle.lru_ops.specs.OwnTurns.{CanGiveOut, GivesOut, IsOwnTurn, LostSome};
 
 use crate::map::LruMap;
-use crate::probing::work_under;
+use crate::probing::{Tools, work_under};
 use lru_lists::{ListName, ListSet, Noted, RotateNotes, ShrinkNotes};
 use map_types::{DomainId, Gate, List, Row};
 use percpu_values::BoxedBody;
 use place_table::{Content, Listing, Pass, PlaceTable};
-use place_words::{OwnPart, Part, ShrinkNote};
+use place_words::{OwnPart, PackedOwn, Part, ShrinkNote};
+use std::alloc::Global;
 use std::sync::Wait;
 
 /// How many elements are freed at once where a CPU's own set has none free.
@@ -63,18 +65,22 @@ impl LruMap {
         };
         let mut turning = RotateNotes::empty(self.alloc);
         let mut shrinking = ShrinkNotes::empty(self.alloc);
-        let shrunk = work_under(
+        let tools = Tools {
             rt,
-            self.alloc,
-            &self.table,
-            pass,
-            &mut set,
-            &mut turning,
-            &mut shrinking,
+            alloc: self.alloc,
+            table: &self.table,
             gate,
-        );
+        };
+        let shrunk = work_under(&tools, pass, &mut set, &mut turning, &mut shrinking);
         let got = give_out(&self.table, pass, lock, &mut set, hash);
-        let part = own_turn(hash, turning, shrunk, shrinking, element_of(&got));
+        let part = own_turn(
+            self.alloc,
+            hash,
+            turning,
+            shrunk,
+            shrinking,
+            element_of(&got),
+        );
         self.table.give(pass, lock, Content::Set(set), part, gate);
         got
     }
@@ -103,6 +109,7 @@ fn give_out(
     let body = set.free_pop()?;
     let element = body.body().element();
     table.claim(pass, element, lock);
+    // Whatever the bit was, it is clear from here on.
     let _ = table.clear(pass, element);
     set.move_in(Row { element, hash }, ListName::Inactive);
     Some(body)
@@ -118,8 +125,9 @@ pub(crate) fn kept<T>(notes: Noted<T>) -> Option<List<T>>
     }
 }
 
-/// The entry of a turn of an own set, none where memory for a part of it was not found.
+/// The entry of a turn of an own set, none where memory for it or for a part of it was not found.
 fn own_turn(
+    alloc: Global,
     hash: u32,
     turning: RotateNotes,
     shrunk: bool,
@@ -127,6 +135,21 @@ fn own_turn(
     got: Option<u32>,
 ) -> Option<Part>
     ensures told { IfSome result (IsOwnTurn hash turning shrunk shrinking got) }
+{
+    let turn = noted_turn(hash, turning, shrunk, shrinking, got)?;
+    Some(Part::Own(PackedOwn::new(alloc, turn).ok()?))
+}
+
+/// What a turn of an own set noted, none where memory for a part of it was not found.
+fn noted_turn(
+    hash: u32,
+    turning: RotateNotes,
+    shrunk: bool,
+    shrinking: ShrinkNotes,
+    got: Option<u32>,
+) -> Option<OwnPart>
+    ensures told { IfSome result (λ turn. IsOwnTurn hash turning shrunk shrinking got
+        (parts.Own turn)) }
     ensures lost { IfNone result (LostSome turning shrunk shrinking) }
 {
     let active = kept(turning.active)?;
@@ -140,11 +163,11 @@ fn own_turn(
     } else {
         None
     };
-    Some(Part::Own(OwnPart::Turn {
+    Some(OwnPart::Turn {
         hash,
         active,
         inactive,
         shrink,
         got,
-    }))
+    })
 }

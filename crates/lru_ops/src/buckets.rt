@@ -12,7 +12,8 @@ ghost use Rattle.lru_ops.specs.Under.{CanEnter, Enters, LooksUp, Deletes, TakesO
 use crate::map::LruMap;
 use bucket_chain::Chain;
 use bucket_entries::{
-    body_at, body_out, deleted, lookup_got, lookup_missed, read_value, take_got, take_missed,
+    TakenBucket, body_at, body_out, deleted, lookup_got, lookup_missed, read_value, take_got,
+    take_missed,
 };
 use map_types::{Absent, DomainId, Gate, Side};
 use percpu_values::BoxedBody;
@@ -31,6 +32,7 @@ impl LruMap {
         requires { CanEnter self.now bucket pass.old }
         ensures { Enters self.now bucket pass.old pass.new result }
     {
+        // That the CPU is one of the map's is known once it is asked for.
         let _cpu = self.table.cpu_of(pass);
         let Content::Bucket(chain) = self.table.take(rt, pass, DomainId::Bucket(bucket), gate)
         else {
@@ -43,20 +45,21 @@ impl LruMap {
     pub(crate) fn lookup_in<G: Gate>(
         &self,
         pass: &mut Pass,
-        bucket: u32,
-        chain: Chain,
+        taken: TakenBucket,
         side: Side,
         key: &[u8],
         out: &mut [u8],
         gate: &G,
     ) -> Result<(), Absent>
-        requires inside { InBucket self.now bucket pass.old chain.bodies }
-        requires bucket { bucket ≡ bucket_of_key self.now.shape key.now }
+        requires inside { InBucket self.now taken.number pass.old taken.chain.bodies }
+        requires bucket { taken.number ≡ bucket_of_key self.now.shape key.now }
         requires out { length out.old ≡ value_len_of self.now.shape side }
-        ensures looks_up { LooksUp self.now bucket pass.old pass.new side key.now (reply_of_value result out.new) }
+        ensures looks_up { LooksUp self.now taken.number pass.old pass.new side key.now
+            (reply_of_value result out.new) }
         ensures refused { IfErr result (λ _. out.new ≡ out.old) }
     {
-        let lock = DomainId::Bucket(bucket);
+        let TakenBucket { number, chain } = taken;
+        let lock = DomainId::Bucket(number);
         let cpu = self.table.cpu_of(pass);
         let Some(place) = chain.find(key) else {
             let part = lookup_missed(self.alloc, side, key);
@@ -67,7 +70,7 @@ impl LruMap {
         let body = body_at(&chain, place);
         let element = body.element();
         read_value(self.table.shape(), side, cpu, body, out);
-        self.mark_for(pass, bucket, side, element);
+        self.mark_for(pass, number, side, element);
         let part = lookup_got(self.alloc, side, key, element, out);
         self.table
             .give(pass, lock, Content::Bucket(chain), part, gate);

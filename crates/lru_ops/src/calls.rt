@@ -12,7 +12,7 @@ ghost use Rattle.lru_ops.specs.Offers.{AreUpdateArguments, CanFreeLeft, HasFreed
 
 use crate::map::{LruMap, LruRefusal};
 use crate::updates::Offered;
-use bucket_entries::BPF_EXIST;
+use bucket_entries::{BPF_EXIST, TakenBucket, Write};
 use map_types::{Absent, Gate, Side};
 use percpu_values::BoxedBody;
 use place_table::Pass;
@@ -36,12 +36,14 @@ impl LruMap {
         requires can { CanCall self.now pass.old }
         requires key { length key.now ≡ self.now.shape.key_size }
         requires out { length out.old ≡ value_len_of self.now.shape side }
-        ensures called { Called self.now pass.old pass.new (verbs.Lookup side key.now) (reply_of_value result out.new) }
+        ensures called { Called self.now pass.old pass.new (verbs.Lookup side key.now)
+            (reply_of_value result out.new) }
         ensures refused { IfErr result (λ _. out.new ≡ out.old) }
     {
-        let bucket = self.bucket_of_key(key);
-        let chain = self.enter(rt, pass, bucket, gate);
-        self.lookup_in(pass, bucket, chain, side, key, out, gate)
+        let number = self.bucket_of_key(key);
+        let chain = self.enter(rt, pass, number, gate);
+        let taken = TakenBucket { number, chain };
+        self.lookup_in(pass, taken, side, key, out, gate)
     }
 
     /// Updates a key with a value of a side's length, by flags: BPF_ANY (0), BPF_NOEXIST (1) or BPF_EXIST (2). It is refused
@@ -77,7 +79,15 @@ impl LruMap {
         }
         let hash = self.hash_of_key(key);
         match self.acquire(rt, pass, hash, gate) {
-            Some(body) => self.offer(rt, pass, side, flags, key, value, body, gate),
+            Some(body) => {
+                let write = Write {
+                    side,
+                    flags,
+                    key,
+                    value,
+                };
+                self.offer(rt, pass, write, body, gate)
+            }
             None => Err(LruRefusal::Enomem),
         }
     }
@@ -119,7 +129,8 @@ impl LruMap {
         requires can { CanCall self.now pass.old }
         requires key { length key.now ≡ self.now.shape.key_size }
         requires out { length out.old ≡ value_len_of self.now.shape Sys }
-        ensures called { Called self.now pass.old pass.new (verbs.Take key.now) (reply_of_value result out.new) }
+        ensures called { Called self.now pass.old pass.new (verbs.Take key.now)
+            (reply_of_value result out.new) }
         ensures refused { IfErr result (λ _. out.new ≡ out.old) }
     {
         let bucket = self.bucket_of_key(key);
@@ -144,14 +155,16 @@ impl LruMap {
         gate: &G,
     ) -> Result<(), LruRefusal>
         requires can { CanCall self.now pass.old }
-        requires gives { AreUpdateArguments self.now (bucket_of_key self.now.shape key.now) side key.now value.now }
+        requires gives { AreUpdateArguments self.now
+            (bucket_of_key self.now.shape key.now) side key.now value.now }
         requires percpu { IsTrue (is_percpu self.now.shape.kind) }
         ensures updates { Updates self.now pass.old pass.new side 2 key.now value.now result }
         ensures refuses { IfErr result (MayRefuse self.now.shape.kind 2) }
     {
-        let bucket = self.bucket_of_key(key);
-        let chain = self.enter(rt, pass, bucket, gate);
-        self.write_present(pass, bucket, chain, side, key, value, gate)
+        let number = self.bucket_of_key(key);
+        let chain = self.enter(rt, pass, number, gate);
+        let taken = TakenBucket { number, chain };
+        self.write_present(pass, taken, side, key, value, gate)
     }
 
     /// Updates a key in its bucket with an element that was taken for it, and frees what is left over.
@@ -159,24 +172,23 @@ impl LruMap {
         &self,
         rt: &R,
         pass: &mut Pass,
-        side: Side,
-        flags: u32,
-        key: &[u8],
-        value: &[u8],
+        write: Write,
         body: BoxedBody,
         gate: &G,
     ) -> Result<(), LruRefusal>
-        requires can { CanOffer self.now key.now body pass.old }
-        requires gives { AreUpdateArguments self.now (bucket_of_key self.now.shape key.now) side key.now value.now }
-        requires known { flags ≤ 2 }
-        ensures answers { OfferAnswers self.now pass.old pass.new side flags key.now value.now body.element result }
-        ensures refuses { IfErr result (MayRefuse self.now.shape.kind flags) }
+        requires can { CanOffer self.now write.key.now body pass.old }
+        requires gives { AreUpdateArguments self.now
+            (bucket_of_key self.now.shape write.key.now) write.side write.key.now
+            write.value.now }
+        requires known { write.flags ≤ 2 }
+        ensures answers { OfferAnswers self.now pass.old pass.new write.entry.side
+            write.entry.flags write.entry.key.now write.entry.value.now body.element result }
+        ensures refuses { IfErr result (MayRefuse self.now.shape.kind write.entry.flags) }
     {
-        let bucket = self.bucket_of_key(key);
-        let chain = self.enter(rt, pass, bucket, gate);
-        let Offered { answer, left } = self.update_in(
-            pass, bucket, chain, side, flags, key, value, body, gate,
-        );
+        let number = self.bucket_of_key(write.key);
+        let chain = self.enter(rt, pass, number, gate);
+        let taken = TakenBucket { number, chain };
+        let Offered { answer, left } = self.update_in(pass, taken, write, body, gate);
         self.free_left(rt, pass, left, gate);
         answer
     }

@@ -80,6 +80,16 @@ pub(crate) enum Destination {
     OwnHand,
 }
 
+/// What a turn of lists works with beside its pass: the runtime that it waits by, where it takes memory, the table, and the gate
+/// that is told of locks.
+#[derive(Drop)]
+pub(crate) struct Tools<'a, R, G> {
+    pub(crate) rt: &'a R,
+    pub(crate) alloc: Global,
+    pub(crate) table: &'a PlaceTable,
+    pub(crate) gate: &'a G,
+}
+
 /// A pass that answers for bits and probes, and where what a probe removes goes.
 #[derive(Drop)]
 pub(crate) struct Probing<'a, R, G, K> {
@@ -98,7 +108,8 @@ impl<'a, R: Wait, G: Points, K: Begun> Bits for Probing<'a, R, G, K> {
 
     ghost calls = { λ s. calls_noted s.pass.now.view.notes };
 
-    ghost can_note = { λ s _. (s.to ≡ K.to) × Since s.table.now K.to K.lock K.rows K.start s.pass.now };
+    ghost can_note = { λ s _. (s.to ≡ K.to)
+        × Since s.table.now K.to K.lock K.rows K.start s.pass.now };
 
     ghost may_ask = { λ s e. MayAsk s.table.now s.pass.now e };
 
@@ -169,44 +180,40 @@ fn put_removed(table: &PlaceTable, pass: &mut Pass, to: Destination, element: u3
 
 /// Rotates the own set, whose lock the pass holds, and shrinks it where nothing is free, which it answers.
 pub(crate) fn work_under<R: Wait, G: Gate>(
-    rt: &R,
-    alloc: Global,
-    table: &PlaceTable,
+    tools: &Tools<R, G>,
     pass: &mut Pass,
     set: &mut ListSet<Listing>,
     turning: &mut RotateNotes,
     shrinking: &mut ShrinkNotes,
-    gate: &G,
 ) -> bool
-    requires { CanWork table.now set.old pass.old }
-    ensures { Worked table.now set.old set.new turning.old turning.new shrinking.old shrinking.new result pass.old pass.new }
+    requires { CanWork tools.now.table.now set.old pass.old }
+    ensures { Worked tools.now.table.now set.old set.new turning.old turning.new shrinking.old
+        shrinking.new result pass.old pass.new }
 {
-    work_since::<R, G, Brand>(rt, alloc, table, pass, set, turning, shrinking, gate)
+    work_since::<R, G, Brand>(tools, pass, set, turning, shrinking)
 }
 
 /// The same, where what was so before is named.
 fn work_since<R: Wait, G: Gate, K: Begun>(
-    rt: &R,
-    alloc: Global,
-    table: &PlaceTable,
+    tools: &Tools<R, G>,
     pass: &mut Pass,
     set: &mut ListSet<Listing>,
     turning: &mut RotateNotes,
     shrinking: &mut ShrinkNotes,
-    gate: &G,
 ) -> bool
     requires start { K.start ≡ pass.old }
     requires lock { K.lock ≡ locks.CpuLru pass.old.cpu }
     requires to { K.to ≡ destinations.OwnFree }
     requires rows { K.rows ≡ rows_on set.old }
-    requires can { CanWork table.now set.old pass.old }
-    ensures { Worked table.now set.old set.new turning.old turning.new shrinking.old shrinking.new result pass.old pass.new }
+    requires can { CanWork tools.now.table.now set.old pass.old }
+    ensures { Worked tools.now.table.now set.old set.new turning.old turning.new shrinking.old
+        shrinking.new result pass.old pass.new }
 {
-    let points = At { gate };
+    let points = At { gate: tools.gate };
     let mut probing: Probing<R, At<G>, K> = Probing {
-        table,
+        table: tools.table,
         pass,
-        rt,
+        rt: tools.rt,
         gate: &points,
         to: Destination::OwnFree,
         since: PhantomData,
@@ -215,7 +222,7 @@ fn work_since<R: Wait, G: Gate, K: Begun>(
     if set.free_len() > 0 {
         return false;
     }
-    shrink_free(alloc, set, &mut probing, shrinking);
+    shrink_free(tools.alloc, set, &mut probing, shrinking);
     true
 }
 
@@ -229,17 +236,24 @@ fn shrink_free<S: Rows, P: Probe>(
     requires was_whole { IsSet set.old }
     requires empty { set.old.free.bodies ≡ [] }
     requires room { length set.old.active + length set.old.inactive ≤ set.old.free.spare }
-    requires noted { P.can_note probe.old (2 * 4 + (length set.old.active + length set.old.inactive)) }
+    requires noted { P.can_note probe.old (2 * 4
+        + (length set.old.active + length set.old.inactive)) }
     requires asked { (e : ℕ) → IsListed e set.old → P.may_ask probe.old e }
-    requires probed { (row : row_record.Row) → row_on row.element set.old ≡ Some row → P.may_probe probe.old row }
-    ensures shrinks { ShrinksFree set.old set.new (P.calls probe.old) (P.calls probe.new) (P.probes probe.old) (P.probes probe.new) (P.gives probe.new) notes.old notes.new }
+    requires probed { (row : row_record.Row) → row_on row.element set.old ≡ Some row
+        → P.may_probe probe.old row }
+    ensures shrinks { ShrinksFree set.old set.new (P.calls probe.old) (P.calls probe.new)
+        (P.probes probe.old) (P.probes probe.new) (P.gives probe.new) notes.old notes.new }
     ensures whole { IsSet set.new }
-    ensures noted { (n : ℕ) → P.can_note probe.old n → P.can_note probe.new (n - ((length (P.calls probe.new) - length (P.calls probe.old)) + (length (P.probes probe.new) - length (P.probes probe.old)))) }
+    ensures noted { (n : ℕ) → P.can_note probe.old n
+        → P.can_note probe.new
+        (n - ((length (P.calls probe.new) - length (P.calls probe.old))
+        + (length (P.probes probe.new) - length (P.probes probe.old)))) }
     ensures gives { (body : Stored) → P.gives probe.old body ↔ P.gives probe.new body }
     ensures lent { P.lender probe.new ≡ P.lender probe.old }
 {
     let mut freed = BodyStack::empty(alloc);
     set.swap_free(&mut freed);
+    // How many were freed is told by the bodies that came.
     let _ = shrink(set, probe, OWN_SCANS, OWN_TARGET, &mut freed, notes);
     set.swap_free(&mut freed);
 }
@@ -290,53 +304,49 @@ fn rotate_since<R: Wait, G: Gate, K: Begun>(
 /// Shrinks the global lists, whose lock the pass holds within that of the CPU's local lists, by up to `target` elements. What
 /// that frees comes on top of the local free list.
 pub(crate) fn shrink_under<R: Wait, G: Gate>(
-    rt: &R,
-    alloc: Global,
-    table: &PlaceTable,
+    tools: &Tools<R, G>,
     pass: &mut Pass,
     set: &mut ListSet<Listing>,
     lists: &mut LocalSet<Listing>,
     target: u32,
     shrinking: &mut ShrinkNotes,
-    gate: &G,
 )
     requires target { 1 ≤ target }
-    requires can { CanShrinkInto table.now set.old lists.old pass.old }
-    ensures { ShrunkInto table.now target set.old set.new lists.old lists.new shrinking.old shrinking.new pass.old pass.new }
+    requires can { CanShrinkInto tools.now.table.now set.old lists.old pass.old }
+    ensures { ShrunkInto tools.now.table.now target set.old set.new lists.old lists.new
+        shrinking.old shrinking.new pass.old pass.new }
 {
-    shrink_since::<R, G, Brand>(rt, alloc, table, pass, set, lists, target, shrinking, gate)
+    shrink_since::<R, G, Brand>(tools, pass, set, lists, target, shrinking)
 }
 
 /// The same, where what was so before is named.
 fn shrink_since<R: Wait, G: Gate, K: Begun>(
-    rt: &R,
-    alloc: Global,
-    table: &PlaceTable,
+    tools: &Tools<R, G>,
     pass: &mut Pass,
     set: &mut ListSet<Listing>,
     lists: &mut LocalSet<Listing>,
     target: u32,
     shrinking: &mut ShrinkNotes,
-    gate: &G,
 )
     requires start { K.start ≡ pass.old }
     requires lock { K.lock ≡ locks.Global }
     requires to { K.to ≡ destinations.LocalFree }
     requires rows { K.rows ≡ rows_on set.old }
     requires target { 1 ≤ target }
-    requires can { CanShrinkInto table.now set.old lists.old pass.old }
-    ensures { ShrunkInto table.now target set.old set.new lists.old lists.new shrinking.old shrinking.new pass.old pass.new }
+    requires can { CanShrinkInto tools.now.table.now set.old lists.old pass.old }
+    ensures { ShrunkInto tools.now.table.now target set.old set.new lists.old lists.new
+        shrinking.old shrinking.new pass.old pass.new }
 {
-    let points = At { gate };
+    let points = At { gate: tools.gate };
     let mut probing: Probing<R, At<G>, K> = Probing {
-        table,
+        table: tools.table,
         pass,
-        rt,
+        rt: tools.rt,
         gate: &points,
         to: Destination::LocalFree,
         since: PhantomData,
     };
-    shrink_into(alloc, set, lists, &mut probing, target, shrinking);
+    shrink_into(tools.alloc, set, lists, &mut probing, target, shrinking);
 }
 
 /// Shrinks a set into the free list of local lists on which nothing is pending.
@@ -351,21 +361,30 @@ fn shrink_into<S: Rows, P: Probe>(
     requires was_whole { IsSet set.old }
     requires none_pending { lists.old.pending ≡ [] }
     requires bound { lists.old.elements ≡ set.old.elements }
-    requires apart { (e : ℕ) → times_listed e set.old + times e (numbers lists.old.free.bodies) ≤ 1 }
+    requires apart { (e : ℕ)
+        → times_listed e set.old + times e (numbers lists.old.free.bodies) ≤ 1 }
     requires target { 1 ≤ target }
     requires room { length set.old.active + length set.old.inactive ≤ lists.old.free.spare }
-    requires noted { P.can_note probe.old (2 * 128 + (length set.old.active + length set.old.inactive)) }
+    requires noted { P.can_note probe.old (2 * 128
+        + (length set.old.active + length set.old.inactive)) }
     requires asked { (e : ℕ) → IsListed e set.old → P.may_ask probe.old e }
-    requires probed { (row : row_record.Row) → row_on row.element set.old ≡ Some row → P.may_probe probe.old row }
-    ensures shrinks { ShrinksInto target set.old set.new lists.old lists.new (P.calls probe.old) (P.calls probe.new) (P.probes probe.old) (P.probes probe.new) (P.gives probe.new) notes.old notes.new }
+    requires probed { (row : row_record.Row) → row_on row.element set.old ≡ Some row
+        → P.may_probe probe.old row }
+    ensures shrinks { ShrinksInto target set.old set.new lists.old lists.new (P.calls probe.old)
+        (P.calls probe.new) (P.probes probe.old) (P.probes probe.new)
+        (P.gives probe.new) notes.old notes.new }
     ensures whole { IsSet set.new }
     ensures local { IsLocal lists.new }
-    ensures noted { (n : ℕ) → P.can_note probe.old n → P.can_note probe.new (n - ((length (P.calls probe.new) - length (P.calls probe.old)) + (length (P.probes probe.new) - length (P.probes probe.old)))) }
+    ensures noted { (n : ℕ) → P.can_note probe.old n
+        → P.can_note probe.new
+        (n - ((length (P.calls probe.new) - length (P.calls probe.old))
+        + (length (P.probes probe.new) - length (P.probes probe.old)))) }
     ensures gives { (body : Stored) → P.gives probe.old body ↔ P.gives probe.new body }
     ensures lent { P.lender probe.new ≡ P.lender probe.old }
 {
     let mut free = BodyStack::empty(alloc);
     lists.swap_free(&mut free);
+    // How many were freed is told by the bodies that came.
     let _ = shrink(set, probe, GLOBAL_SCANS, target, &mut free, notes);
     lists.swap_free(&mut free);
 }
@@ -380,7 +399,8 @@ pub(crate) fn search_sparing<R: Wait, G: Gate>(
     gate: &G,
 ) -> Option<BoxedBody>
     requires { CanSearch table.now lists.now pass.old }
-    ensures { SearchedSparing table.now lists.now.pending first.old first.new pass.old pass.new result }
+    ensures { SearchedSparing table.now lists.now.pending first.old first.new pass.old pass.new
+        result }
 {
     search_sparing_since::<R, G, Brand>(rt, table, pass, lists, first, gate)
 }
@@ -399,7 +419,8 @@ fn search_sparing_since<R: Wait, G: Gate, K: Begun>(
     requires to { K.to ≡ destinations.OwnHand }
     requires rows { K.rows ≡ lists.now.pending }
     requires can { CanSearch table.now lists.now pass.old }
-    ensures { SearchedSparing table.now lists.now.pending first.old first.new pass.old pass.new result }
+    ensures { SearchedSparing table.now lists.now.pending first.old first.new pass.old pass.new
+        result }
 {
     let points = At { gate };
     let mut probing: Probing<R, At<G>, K> = Probing {
@@ -423,7 +444,8 @@ pub(crate) fn search_all<R: Wait, G: Gate>(
     gate: &G,
 ) -> Option<BoxedBody>
     requires { CanSearch table.now lists.now pass.old }
-    ensures { SearchedAll table.now lists.now.pending second.old second.new pass.old pass.new result }
+    ensures { SearchedAll table.now lists.now.pending second.old second.new pass.old pass.new
+        result }
 {
     search_all_since::<R, G, Brand>(rt, table, pass, lists, second, gate)
 }
@@ -442,7 +464,8 @@ fn search_all_since<R: Wait, G: Gate, K: Begun>(
     requires to { K.to ≡ destinations.OwnHand }
     requires rows { K.rows ≡ lists.now.pending }
     requires can { CanSearch table.now lists.now pass.old }
-    ensures { SearchedAll table.now lists.now.pending second.old second.new pass.old pass.new result }
+    ensures { SearchedAll table.now lists.now.pending second.old second.new pass.old pass.new
+        result }
 {
     let points = At { gate };
     let mut probing: Probing<R, At<G>, K> = Probing {

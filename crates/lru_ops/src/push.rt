@@ -11,7 +11,7 @@ use crate::map::LruMap;
 use map_types::{DomainId, Gate};
 use percpu_values::BoxedBody;
 use place_table::{Content, Pass};
-use place_words::{GlobalPart, Home, LocalPart, OwnPart, Part};
+use place_words::{Home, LocalPart, PackedGlobal, PackedOwn, Part};
 use std::sync::Wait;
 
 impl LruMap {
@@ -42,11 +42,13 @@ impl LruMap {
         let Content::Set(mut set) = self.table.take(rt, pass, lock, gate) else {
             unreachable!()
         };
+        // Whatever the bit was, it is clear from here on.
         let _ = self.table.clear(pass, element);
         self.table.settle(pass, element, lock);
+        // Its row goes: the element goes on in its body.
         let _ = set.take_off(element);
         set.free_push(body);
-        let part = Part::Own(OwnPart::Push { element });
+        let part = Part::Own(PackedOwn::push(element));
         self.table
             .give(pass, lock, Content::Set(set), Some(part), gate);
     }
@@ -89,6 +91,7 @@ impl LruMap {
             unreachable!()
         };
         if lists.take_pending(element).is_some() {
+            // Whatever the bit was, it is clear from here on.
             let _ = self.table.clear(pass, element);
             self.table.settle(pass, element, lock);
             lists.push_free(body);
@@ -120,11 +123,13 @@ impl LruMap {
         let Content::Set(mut set) = self.table.take(rt, pass, lock, gate) else {
             unreachable!()
         };
+        // Whatever the bit was, it is clear from here on.
         let _ = self.table.clear(pass, element);
         self.table.settle(pass, element, lock);
+        // Its row goes: the element goes on in its body.
         let _ = set.take_off(element);
         set.free_push(body);
-        let part = Part::Global(GlobalPart::Push { element });
+        let part = Part::Global(PackedGlobal::push(element));
         self.table
             .give(pass, lock, Content::Set(set), Some(part), gate);
     }
@@ -143,7 +148,8 @@ impl LruMap {
 
 /// The CPU whose local lists are a home: None where it is another.
 fn local_cpu(home: Home) -> Option<u32>
-    ensures { MatchOption result ((cpu : ℕ) → home ≢ homes.In (locks.Local cpu)) (λ cpu. home ≡ homes.In (locks.Local cpu)) }
+    ensures { MatchOption result ((cpu : ℕ) → home ≢ homes.In (locks.Local cpu))
+        (λ cpu. home ≡ homes.In (locks.Local cpu)) }
 {
     match home {
         Home::In(DomainId::Local(cpu)) => Some(cpu),

@@ -1,6 +1,7 @@
 //! A turn of the global lists that fills a CPU's local free list.
 
 ghost use Rattle.std.specs.Prelude.{◌≡◌, ◌++◌, [], Some, IfOk, IfSome, IfNone, map, filter};
+ghost use Rattle.place_words.specs.declared.history.Part.TheVariants as parts;
 ghost use Rattle.place_words.specs.Globals.{flush_visit};
 ghost use Rattle.place_words.specs.Shrinking.{freed, look_removed, try_removed};
 ghost use Rattle.row_list.specs.RowWords.{tail_row};
@@ -9,13 +10,15 @@ ghost use Rattle.lru_ops.specs.Refills.{CanRefill, FilledFrom, IsToldRefill};
 ghost use Rattle.lru_ops.specs.GlobalWork.{CanShrinkInto};
 
 use crate::acquire::kept;
-use crate::probing::{rotate_under, shrink_under};
+use crate::probing::{Tools, rotate_under, shrink_under};
 use local_lists::LocalSet;
 use lru_lists::{ListName, ListSet, Noted, RotateNotes, ShrinkNotes};
 use map_types::{DomainId, Gate, List, NoMemory, Numbers, Row};
 use percpu_values::BoxedBody;
 use place_table::{Content, Listing, Pass, PlaceTable};
-use place_words::{Flush, GlobalPart, Home, Look, Part, Seen, ShrinkNote, Try, Visit};
+use place_words::{
+    Flush, GlobalPart, Home, Look, PackedGlobal, Part, Seen, ShrinkNote, Try, Visit,
+};
 use row_list::Rows;
 use std::alloc::Global;
 use std::sync::Wait;
@@ -28,6 +31,16 @@ pub(crate) const GLOBAL_TARGET: u32 = 128;
 pub(crate) struct Refilled {
     pub(crate) flushed: List<Visit>,
     pub(crate) gained: Numbers,
+}
+
+/// What is noted of a turn of the global lists: what was flushed, what the rotation visited, what moved over, and what the shrink
+/// looked at and tried.
+#[derive(Drop)]
+struct GlobalNotes {
+    flushed: Noted<Flush>,
+    turning: RotateNotes,
+    moved: Noted<u32>,
+    shrinking: ShrinkNotes,
 }
 
 /// Flushes the pending list of the CPU's local lists and fills their free list, in one turn of the global lists: these are rotated,
@@ -48,75 +61,80 @@ pub(crate) fn refill<R: Wait, G: Gate>(
     let Content::Set(mut set) = table.take(rt, pass, lock, gate) else {
         unreachable!()
     };
-    let mut flushed = Noted::empty(alloc);
-    let mut turning = RotateNotes::empty(alloc);
-    let mut moved = Noted::empty(alloc);
-    let mut shrinking = ShrinkNotes::empty(alloc);
-    let target = fill(
+    let tools = Tools {
         rt,
         alloc,
         table,
-        pass,
-        lists,
-        &mut set,
-        &mut flushed,
-        &mut turning,
-        &mut moved,
-        &mut shrinking,
         gate,
-    );
+    };
+    let mut notes = GlobalNotes {
+        flushed: Noted::empty(alloc),
+        turning: RotateNotes::empty(alloc),
+        moved: Noted::empty(alloc),
+        shrinking: ShrinkNotes::empty(alloc),
+    };
+    let target = fill(&tools, pass, lists, &mut set, &mut notes);
+    let GlobalNotes {
+        flushed,
+        turning,
+        moved,
+        shrinking,
+    } = notes;
     let refilled = tell_refill(alloc, &flushed, &moved, &shrinking);
-    let part = global_turn(flushed, turning, moved, target > 0, target, shrinking);
+    let part = global_turn(
+        alloc,
+        flushed,
+        turning,
+        moved,
+        target > 0,
+        target,
+        shrinking,
+    );
     table.give(pass, lock, Content::Set(set), part, gate);
     refilled
 }
 
 /// Does what a turn of the global lists does, whose lock the pass holds, and answers how many elements they were shrunk for.
 fn fill<R: Wait, G: Gate>(
-    rt: &R,
-    alloc: Global,
-    table: &PlaceTable,
+    tools: &Tools<R, G>,
     pass: &mut Pass,
     lists: &mut LocalSet<Listing>,
     set: &mut ListSet<Listing>,
-    flushed: &mut Noted<Flush>,
-    turning: &mut RotateNotes,
-    moved: &mut Noted<u32>,
-    shrinking: &mut ShrinkNotes,
-    gate: &G,
+    notes: &mut GlobalNotes,
 ) -> u32
-    requires can { CanFill table.now set.old lists.old pass.old }
+    requires can { CanFill tools.now.table.now set.old lists.old pass.old }
     requires none_free { lists.old.free.bodies ≡ [] }
     requires fresh { AreFresh pass.old }
-    ensures { FilledUp table.now set.old set.new lists.old lists.new flushed.old flushed.new turning.old turning.new moved.old moved.new shrinking.old shrinking.new pass.old pass.new result }
+    ensures { FilledUp tools.now.table.now set.old set.new lists.old lists.new notes.old.flushed
+        notes.new.flushed notes.old.turning notes.new.turning notes.old.moved notes.new.moved
+        notes.old.shrinking notes.new.shrinking pass.old pass.new result }
 {
-    flush(table, pass, lists, set, flushed);
-    rotate_under(rt, table, pass, set, turning, gate);
-    let count = move_free(table, pass, lists, set, moved);
+    let table = tools.table;
+    flush(table, pass, lists, set, &mut notes.flushed);
+    rotate_under(tools.rt, table, pass, set, &mut notes.turning, tools.gate);
+    let count = move_free(table, pass, lists, set, &mut notes.moved);
     let target = GLOBAL_TARGET - count;
-    shrink_lacking(rt, alloc, table, pass, lists, set, target, shrinking, gate);
+    shrink_lacking(tools, pass, lists, set, target, &mut notes.shrinking);
     target
 }
 
 /// Shrinks the global lists into the local free list, on which so many elements lack, unless none does.
 fn shrink_lacking<R: Wait, G: Gate>(
-    rt: &R,
-    alloc: Global,
-    table: &PlaceTable,
+    tools: &Tools<R, G>,
     pass: &mut Pass,
     lists: &mut LocalSet<Listing>,
     set: &mut ListSet<Listing>,
     target: u32,
     shrinking: &mut ShrinkNotes,
-    gate: &G,
 )
-    requires can { CanShrinkInto table.now set.old lists.old pass.old }
-    ensures { ShrinksLacking table.now target set.old set.new lists.old lists.new shrinking.old shrinking.new pass.old pass.new }
+    requires can { CanShrinkInto tools.now.table.now set.old lists.old pass.old }
+    ensures { ShrinksLacking tools.now.table.now target set.old set.new lists.old lists.new
+        shrinking.old shrinking.new pass.old pass.new }
 {
     if target == 0 {
         return;
     }
-    shrink_under(rt, alloc, table, pass, set, lists, target, shrinking, gate);
+    shrink_under(tools, pass, set, lists, target, shrinking);
 }
 
 /// Flushes all that is pending, from the tail, as in the kernel's `__local_list_flush`.
@@ -128,7 +146,8 @@ fn flush(
     flushed: &mut Noted<Flush>,
 )
     requires can { CanFill table.now set.old lists.old pass.old }
-    ensures { FlushedAll table.now set.old set.new lists.old lists.new flushed.old flushed.new pass.old pass.new }
+    ensures { FlushedAll table.now set.old set.new lists.old lists.new flushed.old flushed.new
+        pass.old pass.new }
 {
     while let Some(row) = lists.pending().tail() {
         let flush = flush_tail(table, pass, lists, set, row);
@@ -146,10 +165,12 @@ fn flush_tail(
 ) -> Flush
     requires can { CanFill table.now set.old lists.old pass.old }
     requires tail { Some row ≡ tail_row lists.old.pending }
-    ensures { FlushedOne table.now row set.old set.new lists.old lists.new pass.old pass.new result }
+    ensures { FlushedOne table.now row set.old set.new lists.old lists.new pass.old pass.new
+        result }
 {
     let bit = table.clear(pass, row.element);
     table.rehome(pass, row.element, Home::In(DomainId::Global));
+    // What comes off is this row.
     let _ = lists.take_pending(row.element);
     set.move_in(row, list_of(bit));
     Flush {
@@ -179,7 +200,8 @@ fn move_free(
     moved: &mut Noted<u32>,
 ) -> u32
     requires can { CanFill table.now set.old lists.old pass.old }
-    ensures { MovedAll table.now set.old set.new lists.old lists.new moved.old moved.new pass.old pass.new result }
+    ensures { MovedAll table.now set.old set.new lists.old lists.new moved.old moved.new pass.old
+        pass.new result }
 {
     let mut count = 0;
     while count < GLOBAL_TARGET {
@@ -264,7 +286,8 @@ fn gained_from(
 
 /// The elements that looks removed.
 fn looked_off(alloc: Global, looks: &[Look]) -> Result<Vec<u32>, NoMemory>
-    ensures { IfOk result (λ elements. elements.items ≡ map (λ look. look.element) (filter look_removed looks.now)) }
+    ensures { IfOk result (λ elements. elements.items
+        ≡ map (λ look. look.element) (filter look_removed looks.now)) }
 {
     Ok(
         looks
@@ -277,7 +300,8 @@ fn looked_off(alloc: Global, looks: &[Look]) -> Result<Vec<u32>, NoMemory>
 
 /// The elements that tries removed.
 fn forced_off(alloc: Global, forced: &[Try]) -> Result<Vec<u32>, NoMemory>
-    ensures { IfOk result (λ elements. elements.items ≡ map (λ try. try.element) (filter try_removed forced.now)) }
+    ensures { IfOk result (λ elements. elements.items
+        ≡ map (λ try. try.element) (filter try_removed forced.now)) }
 {
     Ok(
         forced
@@ -307,8 +331,9 @@ fn removes(tried: &Try) -> bool
     }
 }
 
-/// The entry of a turn of the global lists, none where memory for a part of it was not found.
+/// The entry of a turn of the global lists, none where memory for it or for a part of it was not found.
 fn global_turn(
+    alloc: Global,
     flushed: Noted<Flush>,
     turning: RotateNotes,
     moved: Noted<u32>,
@@ -317,6 +342,23 @@ fn global_turn(
     shrinking: ShrinkNotes,
 ) -> Option<Part>
     ensures told { IfSome result (IsGlobalTurn flushed turning moved shrunk target shrinking) }
+{
+    let turn = noted_turn(flushed, turning, moved, shrunk, target, shrinking)?;
+    Some(Part::Global(PackedGlobal::new(alloc, turn).ok()?))
+}
+
+/// What a turn of the global lists noted, none where memory for a part of it was not found.
+fn noted_turn(
+    flushed: Noted<Flush>,
+    turning: RotateNotes,
+    moved: Noted<u32>,
+    shrunk: bool,
+    target: u32,
+    shrinking: ShrinkNotes,
+) -> Option<GlobalPart>
+    ensures told { IfSome result
+        (λ turn. IsGlobalTurn flushed turning moved shrunk target shrinking
+        (parts.Global turn)) }
     ensures lost { IfNone result (LostInTurn flushed turning moved shrunk shrinking) }
 {
     let flushed = kept(flushed)?;
@@ -332,11 +374,11 @@ fn global_turn(
     } else {
         None
     };
-    Some(Part::Global(GlobalPart::Turn {
+    Some(GlobalPart::Turn {
         flushed,
         active,
         inactive,
         free,
         shrink,
-    }))
+    })
 }

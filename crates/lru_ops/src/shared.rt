@@ -99,6 +99,7 @@ fn make_pending(
     let body = lists.pop_free()?;
     let element = body.body().element();
     table.claim(pass, element, lock);
+    // Whatever the bit was, it is clear from here on.
     let _ = table.clear(pass, element);
     lists.add_pending(Row { element, hash });
     Some(body)

@@ -29,7 +29,8 @@ impl LruMap {
     ) -> Option<BoxedBody>
         requires can { CanSteal self.now pass.old }
         requires below { cursor < self.now.shape.cpus }
-        ensures { StoleRound self.now hash (ring cursor self.now.shape.cpus) pass.old pass.new result }
+        ensures { StoleRound self.now hash (ring cursor self.now.shape.cpus) pass.old pass.new
+            result }
     {
         let cpus = self.table.shape().cpus;
         for from in Ring::of(cursor, cpus) {
@@ -96,9 +97,11 @@ impl LruMap {
     ) -> Option<BoxedBody>
         requires can { CanSearch self.now lists.old pass.old }
         requires none_free { lists.old.free.bodies ≡ [] }
-        ensures { Searched self.now lists.old lists.new first.old first.new second.old second.new pass.old pass.new result }
+        ensures { Searched self.now lists.old lists.new first.old first.new second.old second.new
+            pass.old pass.new result }
     {
         let body = self.walk(rt, pass, lists, first, second, gate)?;
+        // Its row goes: the element goes on in its body.
         let _ = lists.take_pending(body.body().element());
         Some(body)
     }
@@ -115,7 +118,8 @@ impl LruMap {
     ) -> Option<BoxedBody>
         requires can { CanSearch self.now lists.now pass.old }
         requires none_free { lists.now.free.bodies ≡ [] }
-        ensures { Walked self.now lists.now first.old first.new second.old second.new pass.old pass.new result }
+        ensures { Walked self.now lists.now first.old first.new second.old second.new pass.old
+            pass.new result }
     {
         match search_sparing(rt, &self.table, pass, lists, first, gate) {
             Some(body) => Some(body),
@@ -144,6 +148,7 @@ impl LruMap {
             unreachable!()
         };
         self.table.rehome(pass, element, Home::In(lock));
+        // Whatever the bit was, it is clear from here on.
         let _ = self.table.clear(pass, element);
         lists.add_pending(Row { element, hash });
         lists.set_steal_cursor(cursor);

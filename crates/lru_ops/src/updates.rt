@@ -9,8 +9,9 @@ ghost use Rattle.lru_ops.specs.Calls.{MayRefuse};
 ghost use Rattle.lru_ops.specs.Offers.{AreUpdateArguments, IsOffered, IsRefusal, PutsInPlace, Writes, OfferEnds, AloneEnds, Adds, Replaces};
 
 use crate::map::{LruMap, LruRefusal};
-use bucket_chain::Chain;
-use bucket_entries::{BPF_EXIST, BPF_NOEXIST, body_at, fill_body, updated, write_value};
+use bucket_entries::{
+    BPF_EXIST, BPF_NOEXIST, TakenBucket, Write, body_at, fill_body, updated, write_value,
+};
 use map_types::{DomainId, Gate, Side};
 use percpu_values::BoxedBody;
 use place_table::{Content, Pass};
@@ -28,27 +29,24 @@ impl LruMap {
     pub(crate) fn update_in<G: Gate>(
         &self,
         pass: &mut Pass,
-        bucket: u32,
-        chain: Chain,
-        side: Side,
-        flags: u32,
-        key: &[u8],
-        value: &[u8],
+        taken: TakenBucket,
+        write: Write,
         body: BoxedBody,
         gate: &G,
     ) -> Offered
-        requires inside { InBucket self.now bucket pass.old chain.bodies }
-        requires gives { AreUpdateArguments self.now bucket side key.now value.now }
-        requires offered { IsOffered self.now bucket pass.old body }
-        requires known { flags ≤ 2 }
-        ensures ends { OfferEnds self.now bucket pass.old pass.new side flags key.now value.now body result.left result.answer }
-        ensures refuses { IfErr result.answer (MayRefuse self.now.shape.kind flags) }
+        requires inside { InBucket self.now taken.number pass.old taken.chain.bodies }
+        requires gives { AreUpdateArguments self.now taken.number write.side write.key.now
+            write.value.now }
+        requires offered { IsOffered self.now taken.number pass.old body }
+        requires known { write.flags ≤ 2 }
+        ensures ends { OfferEnds self.now taken.number pass.old pass.new write.entry.side
+            write.entry.flags write.entry.key.now write.entry.value.now body result.left
+            result.answer }
+        ensures refuses { IfErr result.answer (MayRefuse self.now.shape.kind write.entry.flags) }
     {
-        match chain.find(key) {
-            Some(place) => self.update_present(
-                pass, bucket, chain, place, side, flags, key, value, body, gate,
-            ),
-            None => self.update_absent(pass, bucket, chain, side, flags, key, value, body, gate),
+        match taken.chain.find(write.key) {
+            Some(place) => self.update_present(pass, taken, place, write, body, gate),
+            None => self.update_absent(pass, taken, write, body, gate),
         }
     }
 
@@ -56,38 +54,26 @@ impl LruMap {
     fn update_present<G: Gate>(
         &self,
         pass: &mut Pass,
-        bucket: u32,
-        chain: Chain,
+        taken: TakenBucket,
         place: u32,
-        side: Side,
-        flags: u32,
-        key: &[u8],
-        value: &[u8],
+        write: Write,
         body: BoxedBody,
         gate: &G,
     ) -> Offered
-        requires inside { InBucket self.now bucket pass.old chain.bodies }
-        requires gives { AreUpdateArguments self.now bucket side key.now value.now }
-        requires offered { IsOffered self.now bucket pass.old body }
-        requires at { IsAt key.now place chain.bodies }
-        requires known { flags ≤ 2 }
-        ensures ends { OfferEnds self.now bucket pass.old pass.new side flags key.now value.now body result.left result.answer }
-        ensures refuses { IfErr result.answer (MayRefuse self.now.shape.kind flags) }
+        requires inside { InBucket self.now taken.number pass.old taken.chain.bodies }
+        requires gives { AreUpdateArguments self.now taken.number write.side write.key.now
+            write.value.now }
+        requires offered { IsOffered self.now taken.number pass.old body }
+        requires at { IsAt write.key.now place taken.chain.bodies }
+        requires known { write.flags ≤ 2 }
+        ensures ends { OfferEnds self.now taken.number pass.old pass.new write.entry.side
+            write.entry.flags write.entry.key.now write.entry.value.now body result.left
+            result.answer }
+        ensures refuses { IfErr result.answer (MayRefuse self.now.shape.kind write.entry.flags) }
     {
-        if flags == BPF_NOEXIST {
+        if write.flags == BPF_NOEXIST {
             let offer = Some(body.body().element());
-            self.refuse(
-                pass,
-                bucket,
-                chain,
-                side,
-                flags,
-                key,
-                value,
-                offer,
-                Put::Exists,
-                gate,
-            );
+            self.refuse(pass, taken, write, offer, Put::Exists, gate);
             return Offered {
                 answer: Err(LruRefusal::Eexist),
                 left: Some(body),
@@ -95,17 +81,13 @@ impl LruMap {
         }
         if self.table.shape().kind.is_percpu() {
             let offer = Some(body.body().element());
-            self.write(
-                pass, bucket, chain, place, side, flags, key, value, offer, gate,
-            );
+            self.write(pass, taken, place, write, offer, gate);
             return Offered {
                 answer: Ok(()),
                 left: Some(body),
             };
         }
-        let old = self.replace(
-            pass, bucket, chain, place, side, flags, key, value, body, gate,
-        );
+        let old = self.replace(pass, taken, place, write, body, gate);
         Offered {
             answer: Ok(()),
             left: Some(old),
@@ -116,43 +98,31 @@ impl LruMap {
     fn update_absent<G: Gate>(
         &self,
         pass: &mut Pass,
-        bucket: u32,
-        chain: Chain,
-        side: Side,
-        flags: u32,
-        key: &[u8],
-        value: &[u8],
+        taken: TakenBucket,
+        write: Write,
         body: BoxedBody,
         gate: &G,
     ) -> Offered
-        requires inside { InBucket self.now bucket pass.old chain.bodies }
-        requires gives { AreUpdateArguments self.now bucket side key.now value.now }
-        requires offered { IsOffered self.now bucket pass.old body }
-        requires absent { present key.now chain.bodies ≡ None }
-        requires known { flags ≤ 2 }
-        ensures ends { OfferEnds self.now bucket pass.old pass.new side flags key.now value.now body result.left result.answer }
-        ensures refuses { IfErr result.answer (MayRefuse self.now.shape.kind flags) }
+        requires inside { InBucket self.now taken.number pass.old taken.chain.bodies }
+        requires gives { AreUpdateArguments self.now taken.number write.side write.key.now
+            write.value.now }
+        requires offered { IsOffered self.now taken.number pass.old body }
+        requires absent { present write.key.now taken.chain.bodies ≡ None }
+        requires known { write.flags ≤ 2 }
+        ensures ends { OfferEnds self.now taken.number pass.old pass.new write.entry.side
+            write.entry.flags write.entry.key.now write.entry.value.now body result.left
+            result.answer }
+        ensures refuses { IfErr result.answer (MayRefuse self.now.shape.kind write.entry.flags) }
     {
-        if flags == BPF_EXIST {
+        if write.flags == BPF_EXIST {
             let offer = Some(body.body().element());
-            self.refuse(
-                pass,
-                bucket,
-                chain,
-                side,
-                flags,
-                key,
-                value,
-                offer,
-                Put::Absent,
-                gate,
-            );
+            self.refuse(pass, taken, write, offer, Put::Absent, gate);
             return Offered {
                 answer: Err(LruRefusal::Enoent),
                 left: Some(body),
             };
         }
-        self.add(pass, bucket, chain, side, flags, key, value, body, gate);
+        self.add(pass, taken, write, body, gate);
         Offered {
             answer: Ok(()),
             left: None,
@@ -163,25 +133,32 @@ impl LruMap {
     fn refuse<G: Gate>(
         &self,
         pass: &mut Pass,
-        bucket: u32,
-        chain: Chain,
-        side: Side,
-        flags: u32,
-        key: &[u8],
-        value: &[u8],
+        taken: TakenBucket,
+        write: Write,
         offer: Option<u32>,
         put: Put,
         gate: &G,
     )
-        requires inside { InBucket self.now bucket pass.old chain.bodies }
+        requires inside { InBucket self.now taken.number pass.old taken.chain.bodies }
         requires refusal { IsRefusal put }
-        requires allowed { AllowsPut self.now.shape flags key.now put chain.bodies }
-        ensures { PutsInPlace self.now bucket pass.old pass.new side flags key.now value.now offer put }
+        requires allowed { AllowsPut self.now.shape write.flags write.key.now put
+            taken.chain.bodies }
+        ensures { PutsInPlace self.now taken.number pass.old pass.new write.entry.side
+            write.entry.flags write.entry.key.now write.entry.value.now offer put }
     {
-        let part = updated(self.alloc, side, flags, key, value, offer, put);
+        let TakenBucket { number, chain } = taken;
+        let part = updated(
+            self.alloc,
+            write.side,
+            write.flags,
+            write.key,
+            write.value,
+            offer,
+            put,
+        );
         self.table.give(
             pass,
-            DomainId::Bucket(bucket),
+            DomainId::Bucket(number),
             Content::Bucket(chain),
             part,
             gate,
@@ -192,42 +169,48 @@ impl LruMap {
     fn add<G: Gate>(
         &self,
         pass: &mut Pass,
-        bucket: u32,
-        mut chain: Chain,
-        side: Side,
-        flags: u32,
-        key: &[u8],
-        value: &[u8],
+        taken: TakenBucket,
+        write: Write,
         mut body: BoxedBody,
         gate: &G,
     )
-        requires inside { InBucket self.now bucket pass.old chain.bodies }
-        requires gives { AreUpdateArguments self.now bucket side key.now value.now }
-        requires offered { IsOffered self.now bucket pass.old body }
-        requires absent { present key.now chain.bodies ≡ None }
-        requires adds { flags ≢ 2 }
-        ensures { Adds self.now bucket pass.old pass.new side flags key.now value.now body.element }
+        requires inside { InBucket self.now taken.number pass.old taken.chain.bodies }
+        requires gives { AreUpdateArguments self.now taken.number write.side write.key.now
+            write.value.now }
+        requires offered { IsOffered self.now taken.number pass.old body }
+        requires absent { present write.key.now taken.chain.bodies ≡ None }
+        requires adds { write.flags ≢ 2 }
+        ensures { Adds self.now taken.number pass.old pass.new write.entry.side write.entry.flags
+            write.entry.key.now write.entry.value.now body.element }
     {
+        let TakenBucket { number, mut chain } = taken;
         let cpu = self.table.cpu_of(pass);
-        fill_body(self.table.shape(), side, cpu, &mut body, key, value);
+        fill_body(
+            self.table.shape(),
+            write.side,
+            cpu,
+            &mut body,
+            write.key,
+            write.value,
+        );
         let element = body.body().element();
-        self.table.attach(pass, element, bucket);
+        self.table.attach(pass, element, number);
         let Ok(()) = chain.reserve_one(self.alloc) else {
             unreachable!()
         };
         chain.add_head(body);
         let part = updated(
             self.alloc,
-            side,
-            flags,
-            key,
-            value,
+            write.side,
+            write.flags,
+            write.key,
+            write.value,
             Some(element),
             Put::Added(element),
         );
         self.table.give(
             pass,
-            DomainId::Bucket(bucket),
+            DomainId::Bucket(number),
             Content::Bucket(chain),
             part,
             gate,
@@ -238,39 +221,46 @@ impl LruMap {
     pub(crate) fn write<G: Gate>(
         &self,
         pass: &mut Pass,
-        bucket: u32,
-        mut chain: Chain,
+        taken: TakenBucket,
         place: u32,
-        side: Side,
-        flags: u32,
-        key: &[u8],
-        value: &[u8],
+        write: Write,
         offer: Option<u32>,
         gate: &G,
     )
-        requires inside { InBucket self.now bucket pass.old chain.bodies }
-        requires gives { AreUpdateArguments self.now bucket side key.now value.now }
-        requires at { IsAt key.now place chain.bodies }
+        requires inside { InBucket self.now taken.number pass.old taken.chain.bodies }
+        requires gives { AreUpdateArguments self.now taken.number write.side write.key.now
+            write.value.now }
+        requires at { IsAt write.key.now place taken.chain.bodies }
         requires percpu { IsTrue (is_percpu self.now.shape.kind) }
-        requires replaces { flags ≢ 1 }
-        ensures { Writes self.now bucket pass.old pass.new side flags key.now value.now offer }
+        requires replaces { write.flags ≢ 1 }
+        ensures { Writes self.now taken.number pass.old pass.new write.entry.side write.entry.flags
+            write.entry.key.now write.entry.value.now offer }
     {
+        let TakenBucket { number, mut chain } = taken;
         let cpu = self.table.cpu_of(pass);
         let element = body_at(&chain, place).element();
-        self.table.mark(pass, element, bucket);
-        write_value(self.table.shape(), side, cpu, &mut chain, place, key, value);
+        self.table.mark(pass, element, number);
+        write_value(
+            self.table.shape(),
+            write.side,
+            cpu,
+            &mut chain,
+            place,
+            write.key,
+            write.value,
+        );
         let part = updated(
             self.alloc,
-            side,
-            flags,
-            key,
-            value,
+            write.side,
+            write.flags,
+            write.key,
+            write.value,
             offer,
             Put::Written(element),
         );
         self.table.give(
             pass,
-            DomainId::Bucket(bucket),
+            DomainId::Bucket(number),
             Content::Bucket(chain),
             part,
             gate,
@@ -282,44 +272,50 @@ impl LruMap {
     fn replace<G: Gate>(
         &self,
         pass: &mut Pass,
-        bucket: u32,
-        mut chain: Chain,
+        taken: TakenBucket,
         place: u32,
-        side: Side,
-        flags: u32,
-        key: &[u8],
-        value: &[u8],
+        write: Write,
         mut body: BoxedBody,
         gate: &G,
     ) -> BoxedBody
-        requires inside { InBucket self.now bucket pass.old chain.bodies }
-        requires gives { AreUpdateArguments self.now bucket side key.now value.now }
-        requires offered { IsOffered self.now bucket pass.old body }
-        requires at { IsAt key.now place chain.bodies }
+        requires inside { InBucket self.now taken.number pass.old taken.chain.bodies }
+        requires gives { AreUpdateArguments self.now taken.number write.side write.key.now
+            write.value.now }
+        requires offered { IsOffered self.now taken.number pass.old body }
+        requires at { IsAt write.key.now place taken.chain.bodies }
         requires single { is_percpu self.now.shape.kind ≡ false }
-        requires replaces { flags ≢ 1 }
-        ensures { Replaces self.now bucket pass.old pass.new side flags key.now value.now body.element result }
+        requires replaces { write.flags ≢ 1 }
+        ensures { Replaces self.now taken.number pass.old pass.new write.entry.side
+            write.entry.flags write.entry.key.now write.entry.value.now body.element result }
     {
+        let TakenBucket { number, mut chain } = taken;
         let cpu = self.table.cpu_of(pass);
-        fill_body(self.table.shape(), side, cpu, &mut body, key, value);
+        fill_body(
+            self.table.shape(),
+            write.side,
+            cpu,
+            &mut body,
+            write.key,
+            write.value,
+        );
         let new = body.body().element();
-        self.table.attach(pass, new, bucket);
-        self.table.mark(pass, new, bucket);
+        self.table.attach(pass, new, number);
+        self.table.mark(pass, new, number);
         let replaced = chain.replace_head(place, body);
         let old = replaced.body().element();
-        self.table.detach(pass, old, bucket);
+        self.table.detach(pass, old, number);
         let part = updated(
             self.alloc,
-            side,
-            flags,
-            key,
-            value,
+            write.side,
+            write.flags,
+            write.key,
+            write.value,
             Some(new),
             Put::Replaced { new, old },
         );
         self.table.give(
             pass,
-            DomainId::Bucket(bucket),
+            DomainId::Bucket(number),
             Content::Bucket(chain),
             part,
             gate,
@@ -331,39 +327,32 @@ impl LruMap {
     pub(crate) fn write_present<G: Gate>(
         &self,
         pass: &mut Pass,
-        bucket: u32,
-        chain: Chain,
+        taken: TakenBucket,
         side: Side,
         key: &[u8],
         value: &[u8],
         gate: &G,
     ) -> Result<(), LruRefusal>
-        requires inside { InBucket self.now bucket pass.old chain.bodies }
-        requires gives { AreUpdateArguments self.now bucket side key.now value.now }
+        requires inside { InBucket self.now taken.number pass.old taken.chain.bodies }
+        requires gives { AreUpdateArguments self.now taken.number side key.now value.now }
         requires percpu { IsTrue (is_percpu self.now.shape.kind) }
-        ensures ends { AloneEnds self.now bucket pass.old pass.new side 2 key.now value.now result }
+        ensures ends { AloneEnds self.now taken.number pass.old pass.new side 2 key.now value.now
+            result }
         ensures refuses { IfErr result (MayRefuse self.now.shape.kind 2) }
     {
-        match chain.find(key) {
+        let write = Write {
+            side,
+            flags: BPF_EXIST,
+            key,
+            value,
+        };
+        match taken.chain.find(key) {
             Some(place) => {
-                self.write(
-                    pass, bucket, chain, place, side, BPF_EXIST, key, value, None, gate,
-                );
+                self.write(pass, taken, place, write, None, gate);
                 Ok(())
             }
             None => {
-                self.refuse(
-                    pass,
-                    bucket,
-                    chain,
-                    side,
-                    BPF_EXIST,
-                    key,
-                    value,
-                    None,
-                    Put::Absent,
-                    gate,
-                );
+                self.refuse(pass, taken, write, None, Put::Absent, gate);
                 Err(LruRefusal::Enoent)
             }
         }

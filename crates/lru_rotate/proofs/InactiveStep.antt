@@ -67,9 +67,6 @@ module _ (before now : SetView) (k : ℕ) (visits : List Visit) (row : Row)
   its_place : Stands before.inactive row
   its_place = stands_there before.cursor before.inactive seen rest row (split_at (walk_of before) k row left)
 
-  active_now : now.active ≡ reverse (those (was_set visits) seen) ++ before.active
-  active_now = ap (λ (s : SetView). s.active) set
-
   inactive_now : now.inactive ≡ without_those (was_set visits) before.inactive
   inactive_now = ap (λ (s : SetView). s.inactive) set
 

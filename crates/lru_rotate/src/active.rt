@@ -24,10 +24,12 @@ pub fn visit_active<R: Rows, B: Bits>(
 )
     requires noted { B.can_note bits.old scans }
     requires asked { (e : ℕ) → IsIn e (elements_of set.old.active) → B.may_ask bits.old e }
-    ensures part { ActivePart scans set.old set.new (B.calls bits.old) (B.calls bits.new) notes.old notes.new }
+    ensures part { ActivePart scans set.old set.new (B.calls bits.old)
+        (B.calls bits.new) notes.old notes.new }
     ensures was_whole { IsSet set.old }
     ensures whole { IsSet set.new }
-    ensures noted { (n : ℕ) → B.can_note bits.old n → B.can_note bits.new (n - (length (B.calls bits.new) - length (B.calls bits.old))) }
+    ensures noted { (n : ℕ) → B.can_note bits.old n
+        → B.can_note bits.new (n - (length (B.calls bits.new) - length (B.calls bits.old))) }
     ensures only { OnlyBits B.may_ask B.probes B.may_probe B.gives B.lender bits.old bits.new }
 {
     let active = set.rows(ListName::Active).len();
@@ -45,7 +47,8 @@ fn visit_tail<R: Rows, B: Bits>(set: &mut ListSet<R>, bits: &mut B) -> Visit
     requires noted { B.can_note bits.old 1 }
     requires asked { (e : ℕ) → IsIn e (elements_of set.old.active) → B.may_ask bits.old e }
     ensures tail { option_map (λ row. row.element) (tail_row set.old.active) ≡ Some result.element }
-    ensures set { set.new ≡ moved_to result.element (if result.bit then names.Active else names.Inactive) set.old }
+    ensures set { set.new
+        ≡ moved_to result.element (if result.bit then names.Active else names.Inactive) set.old }
     ensures call { B.calls bits.new ≡ B.calls bits.old ++ Cleared result ∷ [] }
     ensures was_whole { IsSet set.old }
     ensures whole { IsSet set.new }

@@ -25,10 +25,12 @@ pub fn visit_inactive<R: Rows, B: Bits>(
 )
     requires noted { B.can_note bits.old scans }
     requires asked { (e : ℕ) → IsIn e (elements_of set.old.inactive) → B.may_ask bits.old e }
-    ensures part { InactivePart scans set.old set.new (B.calls bits.old) (B.calls bits.new) notes.old notes.new }
+    ensures part { InactivePart scans set.old set.new (B.calls bits.old)
+        (B.calls bits.new) notes.old notes.new }
     ensures was_whole { IsSet set.old }
     ensures whole { IsSet set.new }
-    ensures noted { (n : ℕ) → B.can_note bits.old n → B.can_note bits.new (n - (length (B.calls bits.new) - length (B.calls bits.old))) }
+    ensures noted { (n : ℕ) → B.can_note bits.old n
+        → B.can_note bits.new (n - (length (B.calls bits.new) - length (B.calls bits.old))) }
     ensures only { OnlyBits B.may_ask B.probes B.may_probe B.gives B.lender bits.old bits.new }
 {
     let mut stop = None;
@@ -55,8 +57,10 @@ fn visit_at<R: Rows, B: Bits>(
     requires noted { B.can_note bits.old 1 }
     requires asked { (e : ℕ) → IsIn e (elements_of set.old.inactive) → B.may_ask bits.old e }
     ensures here { stands_at at set.old.inactive ≡ Some result.0.element }
-    ensures next { result.1 ≡ option_map (λ row. row.element) (row_before result.0.element set.old.inactive) }
-    ensures set { set.new ≡ (if result.0.bit then moved_to result.0.element names.Active set.old else set.old) }
+    ensures next { result.1
+        ≡ option_map (λ row. row.element) (row_before result.0.element set.old.inactive) }
+    ensures set { set.new
+        ≡ (if result.0.bit then moved_to result.0.element names.Active set.old else set.old) }
     ensures call { B.calls bits.new ≡ B.calls bits.old ++ Cleared result.0 ∷ [] }
     ensures was_whole { IsSet set.old }
     ensures whole { IsSet set.new }

@@ -24,11 +24,14 @@ pub fn rotate<R: Rows, B: Bits>(
 )
     requires noted { B.can_note bits.old (2 * scans) }
     requires asked { (e : ℕ) → IsListed e set.old → B.may_ask bits.old e }
-    ensures rotation { Rotation scans set.old set.new (B.calls bits.old) (B.calls bits.new) notes.old notes.new }
+    ensures rotation { Rotation scans set.old set.new (B.calls bits.old)
+        (B.calls bits.new) notes.old notes.new }
     // no row is made or lost
-    ensures rows { IsPermutation (set.old.active ++ set.old.inactive) (set.new.active ++ set.new.inactive) }
+    ensures rows { IsPermutation (set.old.active ++ set.old.inactive)
+        (set.new.active ++ set.new.inactive) }
     ensures whole { IsSet set.new }
-    ensures noted { (n : ℕ) → B.can_note bits.old n → B.can_note bits.new (n - (length (B.calls bits.new) - length (B.calls bits.old))) }
+    ensures noted { (n : ℕ) → B.can_note bits.old n
+        → B.can_note bits.new (n - (length (B.calls bits.new) - length (B.calls bits.old))) }
     ensures only { OnlyBits B.may_ask B.probes B.may_probe B.gives B.lender bits.old bits.new }
 {
     visit_active(set, bits, scans, &mut notes.active);

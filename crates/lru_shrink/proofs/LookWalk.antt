@@ -116,9 +116,6 @@ module _ (set : SetView) (whole : IsSet set) (visited left : List Row) (row : Ro
   unseen : times row.element (looked_at looks) ≡ 0
   unseen = ap (times row.element) seen ∙ not_visited
 
-  front_active : List Row
-  front_active = reverse (those (found_set looks) visited)
-
   active_is : (after_looks (listed set) looks).active ≡ reverse (those (found_set looks) visited) ++ set.active
   unfolding after_looks
   active_is = ap (λ (xs : List Row). reverse (those (found_set looks) xs) ++ set.active) looked

@@ -350,20 +350,3 @@ module _ {Asked : Type 0} {can_note may_ask : Asked → ℕ → Type 0} {may_pro
 
   pub unsparing_all_leaves : LeavesBut (λ e. IfSome {T = Stored} None (λ body. e ≢ body.element)) can_note may_ask may_probe gives lender (length (probes asked_now) - length (probes asked_before)) asked_before asked_now
   unsparing_all_leaves = tries_leave so_far.tries None so_far.did none_tried
-
--- How many calls a search makes at most, probes among them, so that another one has room after it
-pub few_looked : {rows : List Row} {calls calls_after : List BitCall} {probes probes_after : List ProbeCall} {gives : Stored → Type 0} {found : Option Stored} (notes notes_after : Noted Look) → SparingSearch rows calls calls_after probes probes_after gives notes notes_after found →
-    (length calls_after - length calls) + (length probes_after - length probes) ≤ 2 * length rows
-few_looked {rows = rows} {calls = calls} {probes = probes} notes notes_after search =
-    let calls_long = ap (length {A = BitCall}) search.asked ∙ length-append calls (bits_read search.looks) ∙ ap (λ (n : ℕ). length calls + n) (length-map search.looks _) in
-    let probes_long = ap (length {A = ProbeCall}) search.probed ∙ length-append probes (probes_of_looks rows search.looks) in
-    let less = few_probes rows search.looks in
-    let few = search.few in
-    omega arith
-
-pub few_tried : {rows : List Row} {probes probes_after : List ProbeCall} {gives : Stored → Type 0} {found : Option Stored} (notes notes_after : Noted Try) → UnsparingSearch rows probes probes_after gives notes notes_after found →
-    length probes_after - length probes ≤ length rows
-few_tried {rows = rows} {probes = probes} notes notes_after search =
-    let long = ap (length {A = ProbeCall}) search.probed ∙ length-append probes (probes_of_tries rows search.tries) ∙ ap (λ (n : ℕ). length probes + n) (length-map search.tries _) in
-    let few = search.few in
-    omega arith

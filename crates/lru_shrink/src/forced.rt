@@ -23,16 +23,21 @@ pub fn forced<R: Rows, P: Probe>(
 ) -> u32
     requires room { 1 ≤ length (forced_rows (listed set.old)) → 1 ≤ out.old.spare }
     requires noted { P.can_note probe.old (length (forced_rows (listed set.old))) }
-    requires probed { (row : row_record.Row) → row_on row.element set.old ≡ Some row → P.may_probe probe.old row }
-    ensures part { TriesPart set.old set.new (P.probes probe.old) (P.probes probe.new) (P.gives probe.new) out.old out.new notes.old notes.new result }
+    requires probed { (row : row_record.Row) → row_on row.element set.old ≡ Some row
+        → P.may_probe probe.old row }
+    ensures part { TriesPart set.old set.new (P.probes probe.old) (P.probes probe.new)
+        (P.gives probe.new) out.old out.new notes.old notes.new result }
     ensures calls { P.calls probe.new ≡ P.calls probe.old }
     ensures whole { IsSet set.new }
-    ensures only { LeavesBut (λ e. times_listed e set.new ≡ times_listed e set.old) P.can_note P.may_ask P.may_probe P.gives P.lender (length (P.probes probe.new) - length (P.probes probe.old)) probe.old probe.new }
+    ensures only { LeavesBut (λ e. times_listed e set.new
+        ≡ times_listed e set.old) P.can_note P.may_ask P.may_probe P.gives P.lender
+        (length (P.probes probe.new) - length (P.probes probe.old)) probe.old probe.new }
 {
     let list = forced_list(set);
     let Some(body) = search_all(set.rows(list), probe, notes) else {
         return 0;
     };
+    // Its row isn't asked for again: the element goes on in its body.
     let _ = set.take_off(body.body().element());
     out.push(body);
     1

@@ -26,11 +26,17 @@ pub fn looks<R: Rows, P: Probe>(
     requires room { min target (length set.old.inactive) ≤ out.old.spare }
     requires noted { P.can_note probe.old (2 * scans) }
     requires asked { (e : ℕ) → IsListed e set.old → P.may_ask probe.old e }
-    requires probed { (row : row_record.Row) → row_on row.element set.old ≡ Some row → P.may_probe probe.old row }
-    ensures part { LooksPart scans target set.old set.new (P.calls probe.old) (P.calls probe.new) (P.probes probe.old) (P.probes probe.new) (P.gives probe.new) out.old out.new notes.old notes.new result }
+    requires probed { (row : row_record.Row) → row_on row.element set.old ≡ Some row
+        → P.may_probe probe.old row }
+    ensures part { LooksPart scans target set.old set.new (P.calls probe.old) (P.calls probe.new)
+        (P.probes probe.old) (P.probes probe.new)
+        (P.gives probe.new) out.old out.new notes.old notes.new result }
     ensures was_whole { IsSet set.old }
     ensures whole { IsSet set.new }
-    ensures only { LeavesBut (λ e. times_listed e set.new ≡ times_listed e set.old) P.can_note P.may_ask P.may_probe P.gives P.lender ((length (P.calls probe.new) - length (P.calls probe.old)) + (length (P.probes probe.new) - length (P.probes probe.old))) probe.old probe.new }
+    ensures only { LeavesBut (λ e. times_listed e set.new
+        ≡ times_listed e set.old) P.can_note P.may_ask P.may_probe P.gives P.lender
+        ((length (P.calls probe.new) - length (P.calls probe.old))
+        + (length (P.probes probe.new) - length (P.probes probe.old))) probe.old probe.new }
 {
     let mut freed = 0;
     let mut at = set.rows(ListName::Inactive).tail();
@@ -67,9 +73,12 @@ fn look_once<R: Rows, P: Probe>(
     ensures set { set.new ≡ after_look result set.old }
     ensures out { AreStacked (P.gives probe.new) (removed_by_looks (result ∷ [])) out.old out.new }
     ensures call { P.calls probe.new ≡ P.calls probe.old ++ cleared (result ∷ []) }
-    ensures probes { row_on row.element set.old ≡ Some row → P.probes probe.new ≡ P.probes probe.old ++ look_probes set.old (result ∷ []) }
+    ensures probes { row_on row.element set.old ≡ Some row
+        → P.probes probe.new ≡ P.probes probe.old ++ look_probes set.old (result ∷ []) }
     ensures whole { IsSet set.old → IsSet set.new }
-    ensures only { LeavesBut (λ e. times e (removed_by_looks (result ∷ [])) ≡ 0) P.can_note P.may_ask P.may_probe P.gives P.lender (1 + length (look_probes set.old (result ∷ []))) probe.old probe.new }
+    ensures only { LeavesBut (λ e. times e (removed_by_looks (result ∷ []))
+        ≡ 0) P.can_note P.may_ask P.may_probe P.gives P.lender
+        (1 + length (look_probes set.old (result ∷ []))) probe.old probe.new }
 {
     let bit = probe.clear(row.element);
     if bit {
@@ -103,12 +112,16 @@ fn try_once<R: Rows, P: Probe>(
     ensures set { set.new ≡ after_try result set.old }
     ensures out { AreStacked (P.gives probe.new) (removed_by_tries (result ∷ [])) out.old out.new }
     ensures calls { P.calls probe.new ≡ P.calls probe.old }
-    ensures probes { P.probes probe.new ≡ P.probes probe.old ++ record { element = row.element; hash = row.hash; probed = result.probed } ∷ [] }
+    ensures probes { P.probes probe.new
+        ≡ P.probes probe.old
+        ++ record { element = row.element; hash = row.hash; probed = result.probed } ∷ [] }
     ensures whole { IsSet set.old → IsSet set.new }
-    ensures only { LeavesBut (λ e. times e (removed_by_tries (result ∷ [])) ≡ 0) P.can_note P.may_ask P.may_probe P.gives P.lender 1 probe.old probe.new }
+    ensures only { LeavesBut (λ e. times e (removed_by_tries (result ∷ []))
+        ≡ 0) P.can_note P.may_ask P.may_probe P.gives P.lender 1 probe.old probe.new }
 {
     let probed = match probe.evict(row.element, row.hash) {
         Probed::Removed(body) => {
+            // What comes off is this row.
             let _ = set.take_off(row.element);
             out.push(body);
             Seen::Removed

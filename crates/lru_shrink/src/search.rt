@@ -27,10 +27,16 @@ pub fn search_sparing<R: Rows, P: Probe>(
 ) -> Option<BoxedBody>
     requires noted { P.can_note probe.old (2 * length (R.rows rows.now)) }
     requires asked { (e : ℕ) → IsIn e (elements_of (R.rows rows.now)) → P.may_ask probe.old e }
-    requires probed { (row : row_record.Row) → row_of row.element (R.rows rows.now) ≡ Some row → P.may_probe probe.old row }
-    ensures search { SparingSearch (R.rows rows.now) (P.calls probe.old) (P.calls probe.new) (P.probes probe.old) (P.probes probe.new) (P.gives probe.new) notes.old notes.new result }
+    requires probed { (row : row_record.Row) → row_of row.element (R.rows rows.now) ≡ Some row
+        → P.may_probe probe.old row }
+    ensures search { SparingSearch (R.rows rows.now) (P.calls probe.old) (P.calls probe.new)
+        (P.probes probe.old) (P.probes probe.new)
+        (P.gives probe.new) notes.old notes.new result }
     // a row may be probed as before unless its element was removed
-    ensures only { LeavesBut (λ e. IfSome result (λ body. e ≢ body.element)) P.can_note P.may_ask P.may_probe P.gives P.lender ((length (P.calls probe.new) - length (P.calls probe.old)) + (length (P.probes probe.new) - length (P.probes probe.old))) probe.old probe.new }
+    ensures only { LeavesBut (λ e. IfSome result
+        (λ body. e ≢ body.element)) P.can_note P.may_ask P.may_probe P.gives P.lender
+        ((length (P.calls probe.new) - length (P.calls probe.old))
+        + (length (P.probes probe.new) - length (P.probes probe.old))) probe.old probe.new }
 {
     let mut at = rows.tail();
     for _look in 0..rows.len() {
@@ -57,10 +63,14 @@ pub fn search_all<R: Rows, P: Probe>(
     notes: &mut Noted<Try>,
 ) -> Option<BoxedBody>
     requires noted { P.can_note probe.old (length (R.rows rows.now)) }
-    requires probed { (row : row_record.Row) → row_of row.element (R.rows rows.now) ≡ Some row → P.may_probe probe.old row }
-    ensures search { UnsparingSearch (R.rows rows.now) (P.probes probe.old) (P.probes probe.new) (P.gives probe.new) notes.old notes.new result }
+    requires probed { (row : row_record.Row) → row_of row.element (R.rows rows.now) ≡ Some row
+        → P.may_probe probe.old row }
+    ensures search { UnsparingSearch (R.rows rows.now) (P.probes probe.old) (P.probes probe.new)
+        (P.gives probe.new) notes.old notes.new result }
     ensures calls { P.calls probe.new ≡ P.calls probe.old }
-    ensures only { LeavesBut (λ e. IfSome result (λ body. e ≢ body.element)) P.can_note P.may_ask P.may_probe P.gives P.lender (length (P.probes probe.new) - length (P.probes probe.old)) probe.old probe.new }
+    ensures only { LeavesBut (λ e. IfSome result
+        (λ body. e ≢ body.element)) P.can_note P.may_ask P.may_probe P.gives P.lender
+        (length (P.probes probe.new) - length (P.probes probe.old)) probe.old probe.new }
 {
     let mut at = rows.tail();
     for _try in 0..rows.len() {
@@ -86,8 +96,11 @@ fn look_at<P: Probe>(probe: &mut P, row: Row) -> (Look, Option<BoxedBody>)
     ensures bit { is_some result.0.probed ≡ not result.0.bit }
     ensures body { IsFound (P.gives probe.new) (removed_by_looks (result.0 ∷ [])) result.1 }
     ensures call { P.calls probe.new ≡ P.calls probe.old ++ bits_read (result.0 ∷ []) }
-    ensures probes { P.probes probe.new ≡ P.probes probe.old ++ probes_of_looks (row ∷ []) (result.0 ∷ []) }
-    ensures only { LeavesBut (λ e. times e (removed_by_looks (result.0 ∷ [])) ≡ 0) P.can_note P.may_ask P.may_probe P.gives P.lender (1 + length (probes_of_looks (row ∷ []) (result.0 ∷ []))) probe.old probe.new }
+    ensures probes { P.probes probe.new
+        ≡ P.probes probe.old ++ probes_of_looks (row ∷ []) (result.0 ∷ []) }
+    ensures only { LeavesBut (λ e. times e (removed_by_looks (result.0 ∷ []))
+        ≡ 0) P.can_note P.may_ask P.may_probe P.gives P.lender
+        (1 + length (probes_of_looks (row ∷ []) (result.0 ∷ []))) probe.old probe.new }
 {
     let bit = probe.read(row.element);
     if bit {
@@ -115,8 +128,11 @@ fn probe_row<P: Probe>(probe: &mut P, row: Row) -> (Try, Option<BoxedBody>)
     ensures element { result.0.element ≡ row.element }
     ensures body { IsFound (P.gives probe.new) (removed_by_tries (result.0 ∷ [])) result.1 }
     ensures calls { P.calls probe.new ≡ P.calls probe.old }
-    ensures probes { P.probes probe.new ≡ P.probes probe.old ++ record { element = row.element; hash = row.hash; probed = result.0.probed } ∷ [] }
-    ensures only { LeavesBut (λ e. times e (removed_by_tries (result.0 ∷ [])) ≡ 0) P.can_note P.may_ask P.may_probe P.gives P.lender 1 probe.old probe.new }
+    ensures probes { P.probes probe.new
+        ≡ P.probes probe.old
+        ++ record { element = row.element; hash = row.hash; probed = result.0.probed } ∷ [] }
+    ensures only { LeavesBut (λ e. times e (removed_by_tries (result.0 ∷ []))
+        ≡ 0) P.can_note P.may_ask P.may_probe P.gives P.lender 1 probe.old probe.new }
 {
     let (probed, body) = match probe.evict(row.element, row.hash) {
         Probed::Removed(body) => (Seen::Removed, Some(body)),

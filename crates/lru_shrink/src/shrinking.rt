@@ -29,13 +29,20 @@ pub fn shrink<R: Rows, P: Probe>(
 ) -> u32
     requires target { 1 ≤ target }
     requires room { min target (length set.old.active + length set.old.inactive) ≤ out.old.spare }
-    requires noted { P.can_note probe.old (2 * scans + (length set.old.active + length set.old.inactive)) }
+    requires noted { P.can_note probe.old (2 * scans
+        + (length set.old.active + length set.old.inactive)) }
     requires asked { (e : ℕ) → IsListed e set.old → P.may_ask probe.old e }
-    requires probed { (row : row_record.Row) → row_on row.element set.old ≡ Some row → P.may_probe probe.old row }
-    ensures shrink { Shrink scans target set.old set.new (P.calls probe.old) (P.calls probe.new) (P.probes probe.old) (P.probes probe.new) (P.gives probe.new) out.old out.new notes.old notes.new result }
+    requires probed { (row : row_record.Row) → row_on row.element set.old ≡ Some row
+        → P.may_probe probe.old row }
+    ensures shrink { Shrink scans target set.old set.new (P.calls probe.old) (P.calls probe.new)
+        (P.probes probe.old) (P.probes probe.new)
+        (P.gives probe.new) out.old out.new notes.old notes.new result }
     ensures whole { IsSet set.new }
     // a row may be probed as before unless its element left the set
-    ensures only { LeavesBut (λ e. times_listed e set.new ≡ times_listed e set.old) P.can_note P.may_ask P.may_probe P.gives P.lender ((length (P.calls probe.new) - length (P.calls probe.old)) + (length (P.probes probe.new) - length (P.probes probe.old))) probe.old probe.new }
+    ensures only { LeavesBut (λ e. times_listed e set.new
+        ≡ times_listed e set.old) P.can_note P.may_ask P.may_probe P.gives P.lender
+        ((length (P.calls probe.new) - length (P.calls probe.old))
+        + (length (P.probes probe.new) - length (P.probes probe.old))) probe.old probe.new }
 {
     let freed = looks(set, probe, scans, target, out, &mut notes.looks);
     if freed == 0 {

@@ -31,7 +31,8 @@ impl AnyMap {
     /// here. The rule of `htab_map_alloc`, without the checks of the attributes.
     pub fn create(alloc: Global, shape: &Shape) -> Result<(AnyMap, Pass), NoMemory>
         requires shape { IsShape shape.now }
-        ensures { IfOk result (λ made. ((table_of made.0).shape ≡ shape.now) × IsFirstPass (table_of made.0) made.1) }
+        ensures { IfOk result (λ made. ((table_of made.0).shape ≡ shape.now)
+            × IsFirstPass (table_of made.0) made.1) }
     {
         if shape.kind.is_lru() {
             let (map, pass) = LruMap::create(alloc, shape)?;
@@ -58,7 +59,8 @@ impl AnyMap {
     /// for that, the map and the pass are gone.
     pub fn close(self, pass: Pass) -> Result<Closed, NoMemory>
         requires table { IsPassOf (table_of self) pass }
-        requires all_cpus { (c : ℕ) → c < (table_of self).shape.cpus → is_among c pass.view.cpus ≡ true }
+        requires all_cpus { (c : ℕ) → c < (table_of self).shape.cpus
+            → is_among c pass.view.cpus ≡ true }
         requires in_no_call { IsInNoCall pass }
         ensures { IfOk result (λ closed. IsClosed (table_of self).shape pass closed) }
     {
@@ -83,7 +85,8 @@ impl AnyMap {
         requires can { CanCall (table_of self.now) pass.old }
         requires key { length key.now ≡ (table_of self.now).shape.key_size }
         requires out { length out.old ≡ value_len_of (table_of self.now).shape side }
-        ensures called { Called (table_of self.now) pass.old pass.new (verbs.Lookup side key.now) (reply_of_value result out.new) }
+        ensures called { Called (table_of self.now) pass.old pass.new (verbs.Lookup side key.now)
+            (reply_of_value result out.new) }
         ensures refused { IfErr result (λ _. out.new ≡ out.old) }
     {
         match self {
@@ -110,7 +113,8 @@ impl AnyMap {
         requires can { CanCall (table_of self.now) pass.old }
         requires key { length key.now ≡ (table_of self.now).shape.key_size }
         requires value { length value.now ≡ value_len_of (table_of self.now).shape side }
-        ensures updates { Updates (table_of self.now) pass.old pass.new side flags key.now value.now result }
+        ensures updates { Updates (table_of self.now) pass.old pass.new side flags key.now
+            value.now result }
         ensures refuses { IfErr result (MayRefuse (table_of self.now).shape.kind flags) }
     {
         // Which answers there are goes by the map's kind.
@@ -133,7 +137,8 @@ impl AnyMap {
     ) -> Result<(), Absent>
         requires can { CanCall (table_of self.now) pass.old }
         requires key { length key.now ≡ (table_of self.now).shape.key_size }
-        ensures { Called (table_of self.now) pass.old pass.new (verbs.Delete key.now) (reply_of_done result) }
+        ensures { Called (table_of self.now) pass.old pass.new (verbs.Delete key.now)
+            (reply_of_done result) }
     {
         match self {
             AnyMap::Plain(map) => map.delete(rt, pass, key, gate),
@@ -153,7 +158,8 @@ impl AnyMap {
         requires can { CanCall (table_of self.now) pass.old }
         requires key { length key.now ≡ (table_of self.now).shape.key_size }
         requires out { length out.old ≡ value_len_of (table_of self.now).shape Sys }
-        ensures called { Called (table_of self.now) pass.old pass.new (verbs.Take key.now) (reply_of_value result out.new) }
+        ensures called { Called (table_of self.now) pass.old pass.new (verbs.Take key.now)
+            (reply_of_value result out.new) }
         ensures refused { IfErr result (λ _. out.new ≡ out.old) }
     {
         match self {

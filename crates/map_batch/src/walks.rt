@@ -7,7 +7,9 @@ ghost use Rattle.bucket_walks.specs.BatchReads.{Answers, Comes};
 ghost use Rattle.map_batch.specs.Calls.{table_of};
 
 use crate::any_map::AnyMap;
-use bucket_walks::{BatchOut, BatchRefusal, look_up_batch, take_batch_lru, take_batch_plain};
+use bucket_walks::{
+    BatchOut, BatchRefusal, BatchRequest, look_up_batch, take_batch_lru, take_batch_plain,
+};
 use map_types::{Absent, Gate};
 use place_table::Pass;
 use std::alloc::Global;
@@ -30,7 +32,8 @@ pub fn next_key<R: Wait, G: Gate>(
     requires can { CanCall (table_of map.now) pass.old }
     requires key { IfSome key (λ key. length key.now ≡ (table_of map.now).shape.key_size) }
     requires out { length out.old ≡ (table_of map.now).shape.key_size }
-    ensures called { Called (table_of map.now) pass.old pass.new (verbs.Next (option_map (λ key. key.now) key.entry)) (reply_of_value result out.new) }
+    ensures called { Called (table_of map.now) pass.old pass.new
+        (verbs.Next (option_map (λ key. key.now) key.entry)) (reply_of_value result out.new) }
     ensures refused { IfErr result (λ _. out.new ≡ out.old) }
 {
     bucket_walks::next_key(rt, alloc, map.table(), pass, key, out, gate)
@@ -61,14 +64,20 @@ pub fn read_batch<R: Wait, G: Gate>(
     gate: &G,
 ) -> Result<BatchOut, BatchRefusal>
     requires can { CanCall (table_of map.now) pass.old }
-    ensures answers { Answers (table_of map.now) pass.old pass.new (verbs.BatchRead remove count start flags) result }
+    ensures answers { Answers (table_of map.now) pass.old pass.new
+        (verbs.BatchRead remove count start flags) result }
     ensures comes { Comes (table_of map.now).shape count start flags result }
 {
+    let request = BatchRequest {
+        count,
+        start,
+        flags,
+    };
     if !remove {
-        return look_up_batch(rt, alloc, map.table(), pass, count, start, flags, gate);
+        return look_up_batch(rt, alloc, map.table(), pass, request, gate);
     }
     match map {
-        AnyMap::Plain(map) => take_batch_plain(rt, alloc, map, pass, count, start, flags, gate),
-        AnyMap::Lru(map) => take_batch_lru(rt, alloc, map, pass, count, start, flags, gate),
+        AnyMap::Plain(map) => take_batch_plain(rt, alloc, map, pass, request, gate),
+        AnyMap::Lru(map) => take_batch_lru(rt, alloc, map, pass, request, gate),
     }
 }

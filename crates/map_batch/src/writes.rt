@@ -42,7 +42,8 @@ pub fn update_batch<R: Wait, G: Gate>(
     gate: &G,
 ) -> Result<BatchCount, WriteRefusal>
     requires can { CanCall (table_of map.now) pass.old }
-    requires sizes { HaveSizes (table_of map.now).shape.key_size (value_len_of (table_of map.now).shape Sys) pairs.now }
+    requires sizes { HaveSizes (table_of map.now).shape.key_size
+        (value_len_of (table_of map.now).shape Sys) pairs.now }
     requires few { length pairs.now < 2 ^ 32 }
     ensures { UpdatesBatch (table_of map.now) pass.old pass.new flags pairs.now result }
 {
@@ -61,7 +62,8 @@ fn update_each<R: Wait, G: Gate>(
     gate: &G,
 ) -> BatchCount
     requires can { CanCall (table_of map.now) pass.old }
-    requires sizes { HaveSizes (table_of map.now).shape.key_size (value_len_of (table_of map.now).shape Sys) pairs.now }
+    requires sizes { HaveSizes (table_of map.now).shape.key_size
+        (value_len_of (table_of map.now).shape Sys) pairs.now }
     requires few { length pairs.now < 2 ^ 32 }
     ensures { UpdatesBatch (table_of map.now) pass.old pass.new 0 pairs.now (Ok result) }
 {

@@ -6,12 +6,13 @@ use Rattle.map_types.specs.declared.attr.Shape.{Shape}
 use Rattle.map_types.specs.declared.refusal.Errno.{Errno}
 use Rattle.map_types.specs.declared.reply.Reply.{Reply}
 use Rattle.map_types.specs.declared.reply.Reply.TheVariants.{Done, Value, Refused, Batch, Count}
+use Rattle.map_script.specs.Canonical.{kind_name}
 use Rattle.map_script.specs.declared.script.Script.{Script}
 use Rattle.map_report.specs.declared.record.Options.{Options}
 use Rattle.map_report.specs.declared.record.RunRecord.{RunRecord}
 use Rattle.map_report.specs.Dump.{dump_lines}
 use Rattle.map_report.specs.History.{history_lines}
-use Rattle.map_report.specs.Words.{errno_name, kind_name, number_text, numbered}
+use Rattle.map_report.specs.Words.{errno_name, number_text, numbered}
 
 -- `map KIND capacity N elements N buckets N`
 abbrev pub map_line : Shape → List ℕ

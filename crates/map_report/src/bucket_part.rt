@@ -67,7 +67,8 @@ fn push_update(
     put: Put,
 ) -> Result<(), AllocError>
     ensures { OnOk result (string_bytes text.new
-        ≡ string_bytes text.old ++ bucket_part_text (parts.Update side flags key.now value.now offer put)) }
+        ≡ string_bytes text.old
+        ++ bucket_part_text (parts.Update side flags key.now value.now offer put)) }
 {
     push_asked(text, side, flags, key, value)?;
     text.push_str(" offer")?;
@@ -128,7 +129,8 @@ fn push_take(text: &mut String, key: &Bytes, gone: &Option<(u32, Bytes)>) -> Res
 
 /// Adds a word and an element with the value that was read, and ` none` where there is none.
 fn push_read(text: &mut String, word: &str, read: &Option<(u32, Bytes)>) -> Result<(), AllocError>
-    ensures { OnOk result (string_bytes text.new ≡ string_bytes text.old ++ read_text word.now read.now) }
+    ensures { OnOk result (string_bytes text.new
+        ≡ string_bytes text.old ++ read_text word.now read.now) }
 {
     match read {
         Some((element, value)) => {
@@ -229,7 +231,8 @@ impl Piece for Kept {
 
 /// Adds values, with nothing between them.
 fn push_values(text: &mut String, values: &[Bytes]) -> Result<(), AllocError>
-    ensures { OnOk result (string_bytes text.new ≡ string_bytes text.old ++ flat_map encode_lower values.now) }
+    ensures { OnOk result (string_bytes text.new
+        ≡ string_bytes text.old ++ flat_map encode_lower values.now) }
 {
     for value in values {
         push_hex(text, value.as_slice())?;

@@ -31,7 +31,8 @@ pub(crate) fn add_dump<L: Lines>(
 
 /// Adds the freelists and the spares of a map that doesn't evict.
 fn add_plain<L: Lines>(lines: &mut L, finals: &Finals) -> Result<(), AllocError>
-    ensures { OnOk result (L.written lines.new ≡ L.written lines.old ++ flat_map L.line (plain_lines finals.now)) }
+    ensures { OnOk result (L.written lines.new
+        ≡ L.written lines.old ++ flat_map L.line (plain_lines finals.now)) }
 {
     add_numbered(lines, 0, finals.freelists.as_slice())?;
     add_numbered(lines, 0, finals.spares.as_slice())
@@ -247,7 +248,8 @@ struct ListLine<'a> {
 }
 
 impl Piece for ListLine<'_> {
-    ghost shown = { λ line. list_line (name_text line.lock.word.now line.lock.number) line.list.now line.elements.now };
+    ghost shown = { λ line. list_line (name_text line.lock.word.now line.lock.number) line.list.now
+        line.elements.now };
 
     fn push_to(&self, text: &mut String) -> Result<(), AllocError> {
         self.lock.push_to(text)?;
@@ -264,7 +266,8 @@ struct CursorLine {
 }
 
 impl Piece for CursorLine {
-    ghost shown = { λ line. cursor_line (name_text line.lock.word.now line.lock.number) line.cursor };
+    ghost shown = { λ line. cursor_line (name_text line.lock.word.now line.lock.number)
+        line.cursor };
 
     fn push_to(&self, text: &mut String) -> Result<(), AllocError> {
         self.lock.push_to(text)?;

@@ -13,7 +13,8 @@ use std::alloc::AllocError;
 
 /// Adds each lock that has an entry with its entries, and then each strand with its steps.
 pub(crate) fn add_history<L: Lines>(lines: &mut L, kept: &RunRecord) -> Result<(), AllocError>
-    ensures { OnOk result (L.written lines.new ≡ L.written lines.old ++ flat_map L.line (history_lines kept.now)) }
+    ensures { OnOk result (L.written lines.new
+        ≡ L.written lines.old ++ flat_map L.line (history_lines kept.now)) }
 {
     add_locks(lines, kept.histories.as_slice())?;
     add_strands(lines, kept.strands.as_slice())
@@ -32,7 +33,8 @@ fn add_locks<L: Lines>(lines: &mut L, histories: &[LockHistory]) -> Result<(), A
 
 /// Adds a lock with its entries, if it has any.
 fn add_lock<L: Lines>(lines: &mut L, history: &LockHistory) -> Result<(), AllocError>
-    ensures { OnOk result (L.written lines.new ≡ L.written lines.old ++ flat_map L.line (lock_lines history.now)) }
+    ensures { OnOk result (L.written lines.new
+        ≡ L.written lines.old ++ flat_map L.line (lock_lines history.now)) }
 {
     if history.entries.is_empty() {
         return Ok(());
@@ -72,8 +74,14 @@ impl Piece for Part {
             Part::Bucket(part) => part.push_to(text),
             Part::Free(part) => part.push_to(text),
             Part::Local(part) => part.push_to(text),
-            Part::Global(part) => part.push_to(text),
-            Part::Own(part) => part.push_to(text),
+            Part::Global(part) => match part.part() {
+                Ok(part) => part.push_to(text),
+                Err(part) => part.push_to(text),
+            },
+            Part::Own(part) => match part.part() {
+                Ok(part) => part.push_to(text),
+                Err(part) => part.push_to(text),
+            },
         }
     }
 }

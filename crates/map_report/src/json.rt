@@ -71,7 +71,8 @@ fn answers_of(
     script: &Script,
     kept: &RunRecord,
 ) -> Result<Map<String, Value>, AllocError>
-    ensures { IfOk result (λ members. members_view members.entries ≡ answers script.now kept.now script.now.spec) }
+    ensures { IfOk result (λ members. members_view members.entries
+        ≡ answers script.now kept.now script.now.spec) }
 {
     match script.spec {
         None => member_of(
@@ -85,7 +86,8 @@ fn answers_of(
 
 /// One member.
 fn member_of(alloc: Global, name: &str, value: Value) -> Result<Map<String, Value>, AllocError>
-    ensures { IfOk result (λ members. members_view members.entries ≡ member name.now (view value) no_members) }
+    ensures { IfOk result (λ members. members_view members.entries
+        ≡ member name.now (view value) no_members) }
 {
     let mut members = Map::new(alloc);
     serde_json::put(&mut members, alloc, name, value)?;
@@ -130,7 +132,8 @@ fn put_history(
     asked: bool,
 ) -> Result<(), AllocError>
     ensures { OnOk result (members_view members.new.entries ≡ (if asked
-        then with_member (codes "history") (texts (history_lines kept.now)) (members_view members.old.entries)
+        then with_member (codes "history") (texts (history_lines kept.now))
+        (members_view members.old.entries)
         else members_view members.old.entries)) }
 {
     if !asked {
@@ -151,7 +154,8 @@ fn put_dump(
     asked: bool,
 ) -> Result<(), AllocError>
     ensures { OnOk result (members_view members.new.entries ≡ (if asked
-        then with_member (codes "dump") (texts (dump_lines shape.now finals.now)) (members_view members.old.entries)
+        then with_member (codes "dump") (texts (dump_lines shape.now finals.now))
+        (members_view members.old.entries)
         else members_view members.old.entries)) }
 {
     if !asked {

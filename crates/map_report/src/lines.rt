@@ -22,7 +22,8 @@ pub(crate) trait Lines {
 
     /// Adds a line.
     fn add<T: Piece>(&mut self, piece: &T) -> Result<(), AllocError>
-        ensures { OnOk result (written self.new ≡ written self.old ++ line (T.Piece.shown piece.now)) };
+        ensures { OnOk result (written self.new
+            ≡ written self.old ++ line (T.Piece.shown piece.now)) };
 }
 
 /// Its bytes: each line is ended by a line feed.
@@ -57,7 +58,8 @@ impl Lines for Vec<String> {
 
 /// Adds a line for each of the items.
 pub(crate) fn add_each<L: Lines, T: Piece>(lines: &mut L, items: &[T]) -> Result<(), AllocError>
-    ensures { OnOk result (L.written lines.new ≡ L.written lines.old ++ flat_map L.line (map T.shown items.now)) }
+    ensures { OnOk result (L.written lines.new
+        ≡ L.written lines.old ++ flat_map L.line (map T.shown items.now)) }
 {
     for item in items {
         lines.add(item)?;

@@ -98,7 +98,8 @@ impl Piece for Option<ShrinkNote> {
 
 /// Adds what a shrink did.
 fn push_note(text: &mut String, note: &ShrinkNote) -> Result<(), AllocError>
-    ensures { OnOk result (string_bytes text.new ≡ string_bytes text.old ++ shrink_text (Some note.now)) }
+    ensures { OnOk result (string_bytes text.new
+        ≡ string_bytes text.old ++ shrink_text (Some note.now)) }
 {
     text.push_str(" shrink")?;
     note.target.push_to(text)?;
@@ -127,7 +128,8 @@ impl Piece for Stolen {
 
 /// Adds a word, how many items there are, and each of them.
 fn push_list<T: Piece>(text: &mut String, word: &str, items: &[T]) -> Result<(), AllocError>
-    ensures { OnOk result (string_bytes text.new ≡ string_bytes text.old ++ (word.now ++ counted T.shown items.now)) }
+    ensures { OnOk result (string_bytes text.new
+        ≡ string_bytes text.old ++ (word.now ++ counted T.shown items.now)) }
 {
     text.push_str(word)?;
     push_counted(text, items)
@@ -136,7 +138,8 @@ fn push_list<T: Piece>(text: &mut String, word: &str, items: &[T]) -> Result<(),
 /// Adds what a rotation saw of both lists.
 #[tactic(auto, unfolding(crate::specs::ListParts::rotation_text))]
 fn push_rotation(text: &mut String, active: &[Visit], inactive: &[Visit]) -> Result<(), AllocError>
-    ensures { OnOk result (string_bytes text.new ≡ string_bytes text.old ++ rotation_text active.now inactive.now) }
+    ensures { OnOk result (string_bytes text.new
+        ≡ string_bytes text.old ++ rotation_text active.now inactive.now) }
 {
     push_list(text, " active", active)?;
     push_list(text, " inactive", inactive)
@@ -285,7 +288,8 @@ fn push_global_turn(
     shrink: &Option<ShrinkNote>,
 ) -> Result<(), AllocError>
     ensures { OnOk result (string_bytes text.new
-        ≡ string_bytes text.old ++ global_part_text (global.Turn flushed.now active.now inactive.now free.now shrink.now)) }
+        ≡ string_bytes text.old
+        ++ global_part_text (global.Turn flushed.now active.now inactive.now free.now shrink.now)) }
 {
     push_list(text, "turn flush", flushed.as_slice())?;
     push_rotation(text, active.as_slice(), inactive.as_slice())?;
@@ -320,7 +324,8 @@ fn push_own_turn(
     got: Option<u32>,
 ) -> Result<(), AllocError>
     ensures { OnOk result (string_bytes text.new
-        ≡ string_bytes text.old ++ own_part_text (own.Turn hash active.now inactive.now shrink.now got)) }
+        ≡ string_bytes text.old
+        ++ own_part_text (own.Turn hash active.now inactive.now shrink.now got)) }
 {
     text.push_str("turn ")?;
     push_hash(text, hash)?;

@@ -51,7 +51,8 @@ impl Piece for Option<u32> {
 
 /// Adds each of the items.
 pub(crate) fn push_each<T: Piece>(text: &mut String, items: &[T]) -> Result<(), AllocError>
-    ensures { OnOk result (string_bytes text.new ≡ string_bytes text.old ++ flat_map T.shown items.now) }
+    ensures { OnOk result (string_bytes text.new
+        ≡ string_bytes text.old ++ flat_map T.shown items.now) }
 {
     for item in items {
         item.push_to(text)?;
@@ -62,7 +63,8 @@ pub(crate) fn push_each<T: Piece>(text: &mut String, items: &[T]) -> Result<(), 
 /// Adds how many items there are, and each of them.
 #[tactic(auto, unfolding(crate::specs::Words::counted))]
 pub(crate) fn push_counted<T: Piece>(text: &mut String, items: &[T]) -> Result<(), AllocError>
-    ensures { OnOk result (string_bytes text.new ≡ string_bytes text.old ++ counted T.shown items.now) }
+    ensures { OnOk result (string_bytes text.new
+        ≡ string_bytes text.old ++ counted T.shown items.now) }
 {
     push_number(text, items.len() as u64)?;
     push_each(text, items)
@@ -85,7 +87,8 @@ pub(crate) fn push_number(text: &mut String, number: u64) -> Result<(), AllocErr
 
 /// Adds bytes as two hexadecimal digits each, in lower case.
 pub(crate) fn push_hex(text: &mut String, bytes: &[u8]) -> Result<(), AllocError>
-    ensures { OnOk result (string_bytes text.new ≡ string_bytes text.old ++ encode_lower bytes.now) }
+    ensures { OnOk result (string_bytes text.new
+        ≡ string_bytes text.old ++ encode_lower bytes.now) }
 {
     let digits = hex::encode(*text.allocator(), bytes)?;
     text.push_str(digits.as_str())

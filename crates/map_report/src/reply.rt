@@ -58,7 +58,8 @@ fn push_count(text: &mut String, stop: Option<Errno>, done: u32) -> Result<(), A
 
 /// Adds each pair, as ` KEY=VALUE`.
 fn push_pairs(text: &mut String, pairs: &Pairs) -> Result<(), AllocError>
-    ensures { OnOk result (string_bytes text.new ≡ string_bytes text.old ++ flat_map pair_text pairs.now) }
+    ensures { OnOk result (string_bytes text.new
+        ≡ string_bytes text.old ++ flat_map pair_text pairs.now) }
 {
     for i in 0..pairs.len() {
         text.push_str(" ")?;

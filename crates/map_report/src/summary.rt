@@ -105,7 +105,8 @@ fn add_outcomes<L: Lines>(
 
 /// Adds a word with a number.
 fn add_total<L: Lines>(lines: &mut L, word: &str, total: u64) -> Result<(), AllocError>
-    ensures { OnOk result (L.written lines.new ≡ L.written lines.old ++ L.line (total_line word.now total)) }
+    ensures { OnOk result (L.written lines.new
+        ≡ L.written lines.old ++ L.line (total_line word.now total)) }
 {
     lines.add(&Total { word, total })
 }

@@ -11,9 +11,8 @@ use crate::dump::add_dump;
 use crate::history::add_history;
 use crate::lines::{Lines, add_numbered};
 use crate::piece::Piece;
-use crate::words::kind_name;
 use crate::{Options, RunRecord};
-use map_script::Script;
+use map_script::{Script, kind_name};
 use map_types::{NoMemory, Shape};
 use place_words::Finals;
 use std::alloc::{AllocError, Global};
@@ -63,7 +62,8 @@ pub(crate) fn add_dump_if(
     asked: bool,
 ) -> Result<(), AllocError>
     ensures { OnOk result (string_bytes text.new
-        ≡ string_bytes text.old ++ flat_map ended (if asked then dump_lines shape.now finals.now else [])) }
+        ≡ string_bytes text.old
+        ++ flat_map ended (if asked then dump_lines shape.now finals.now else [])) }
 {
     if asked {
         add_dump(text, shape, finals)
@@ -87,7 +87,8 @@ impl Piece for Shape {
 
 /// Adds a label and a number.
 fn push_labelled(text: &mut String, label: &str, number: u32) -> Result<(), AllocError>
-    ensures { OnOk result (string_bytes text.new ≡ string_bytes text.old ++ label.now ++ number_text number) }
+    ensures { OnOk result (string_bytes text.new
+        ≡ string_bytes text.old ++ label.now ++ number_text number) }
 {
     text.push_str(label)?;
     number.push_to(text)

@@ -1,23 +1,11 @@
-//! The words of a report: names of kinds, errors, sides, locks and bits.
+//! The words of a report: names of errors, sides, locks and bits.
 
 ghost use Rattle.std.specs.Prelude.{◌≡◌, ◌++◌, OnOk, string_bytes};
-ghost use Rattle.map_report.specs.Words.{bit_text, errno_name, kind_name, lock_name, number_text, side_name};
+ghost use Rattle.map_report.specs.Words.{bit_text, errno_name, lock_name, number_text, side_name};
 
 use crate::piece::Piece;
-use map_types::{DomainId, Errno, MapKind, Side};
+use map_types::{DomainId, Errno, Side};
 use std::alloc::AllocError;
-
-/// The name of a kind of map.
-pub(crate) fn kind_name(kind: MapKind) -> &'static str
-    ensures { result.now ≡ kind_name kind }
-{
-    match kind {
-        MapKind::Hash => "hash",
-        MapKind::PercpuHash => "percpu_hash",
-        MapKind::LruHash => "lru_hash",
-        MapKind::LruPercpuHash => "lru_percpu_hash",
-    }
-}
 
 /// The name of an error.
 pub(crate) fn errno_name(errno: Errno) -> &'static str
@@ -65,7 +53,8 @@ pub(crate) fn push_lock(text: &mut String, lock: DomainId) -> Result<(), AllocEr
 
 /// Adds a name and a number.
 fn push_named(text: &mut String, name: &str, number: u32) -> Result<(), AllocError>
-    ensures { OnOk result (string_bytes text.new ≡ string_bytes text.old ++ name.now ++ number_text number) }
+    ensures { OnOk result (string_bytes text.new
+        ≡ string_bytes text.old ++ name.now ++ number_text number) }
 {
     text.push_str(name)?;
     number.push_to(text)

@@ -20,7 +20,8 @@ use Rattle.map_script.specs.declared.script.Script.{Script}
 use Rattle.map_script.specs.WellFormed.{HasSizes, IsCallOn, IsWellFormed}
 use Rattle.percpu_values.proofs.SideLemmas.{HaveSizes, length-value_read, HaveSizes-written, HaveSizes-new}
 use Rattle.place_words.specs.Buckets.{new_stored}
-use Rattle.place_words.specs.Logs.{first_spares, new_state, answers}
+use Rattle.place_words.specs.Logs.{new_state, answers}
+use Rattle.place_words.specs.Openings.{first_spares}
 use Rattle.place_words.proofs.EachTurn.{PassAll, VerbPasses}
 use Rattle.place_words.proofs.EveryRun.{every_run}
 use Rattle.map_report.specs.Freelists.{opening_stacks, spares_popped}

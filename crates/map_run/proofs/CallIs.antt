@@ -72,10 +72,6 @@ allows_put : (shape : Shape) (cpu : ℕ) (side : Side) (flags : ℕ) (key value 
 unfolding AllowsInBucket
 allows_put shape cpu side flags key value offer put bodies may = may
 
-put_allows : (shape : Shape) (cpu : ℕ) (side : Side) (flags : ℕ) (key value : List ℕ) (offer : Option ℕ) (put : Put) (bodies : List Stored) → AllowsPut shape flags key put bodies → AllowsInBucket shape cpu (Update side flags key value offer put) bodies
-unfolding AllowsInBucket
-put_allows shape cpu side flags key value offer put bodies may = may
-
 module _ (Fact : State → Turn → Type 0) (shape : Shape) (cpu number : ℕ) (supplies : Supplies shape cpu) (decides : Decides Fact shape cpu) where
   -- what is left over is freed
   frees_is : (left : Option ℕ) (turns : List TurnAt) (state : State) (home : ℕ) → IsSettled shape (lies_in shape state) home (option_to_list left) → FreesOne shape left turns → AreMade shape cpu number turns state → EachTurn Fact shape cpu number turns state

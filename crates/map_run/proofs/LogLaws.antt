@@ -19,7 +19,8 @@ use Rattle.map_script.specs.declared.script.Script.{Script}
 use Rattle.place_words.specs.declared.finals.Finals.{Finals}
 use Rattle.place_words.specs.declared.history.StrandStep.{StrandStep}
 use Rattle.place_words.specs.Histories.{Content, bucket_in, replayed}
-use Rattle.place_words.specs.Logs.{State, all_turned, after_one, new_state, run, answers, first_spares}
+use Rattle.place_words.specs.Logs.{State, all_turned, after_one, new_state, run, answers}
+use Rattle.place_words.specs.Openings.{first_spares}
 use Rattle.place_words.specs.Turns.{Turn}
 use Rattle.map_report.specs.Runs.{steps_of_turns, steps_of_calls}
 use Rattle.map_report.specs.Serial.{opening, in_bucket_at, after_call, replies_from, lists_after}

@@ -42,7 +42,7 @@ use Rattle.map_run.specs.Copies.{record_left, strand_left}
 use Rattle.map_run.proofs.CallsByLogs.{IsDetermined, knows_next, spares_next, reply_next, run_more, answers_more, steps_more}
 use Rattle.map_run.proofs.Closing.{kept_all, made_of_all, length_indexes}
 use Rattle.map_run.proofs.FinalsByLogs.{IsSameState, same_finals}
-use Rattle.map_run.proofs.SerialRun.{take_next, element_is, first_same, spare_first}
+use Rattle.map_run.proofs.SerialRun.{take_next, element_is, spare_first}
 use Rattle.map_run.proofs.TurnsMade.{EachTurn}
 use Rattle.map_run.proofs.Whole.{none_lost, no_losses, strands_of, strands_are_told, told_of_one}
 
@@ -79,7 +79,7 @@ first_by_logs t p first =
         steps_are = ap (map (λ (step : Turned). kept_step t.shape step.lock (place_of step))) no_steps;
         real = subst (All (IsOfMap t.shape)) (sym no_steps) (All-nil (IsOfMap t.shape));
       };
-      spares = λ none cpu. element_is (spare_of cpu p.spares) ∙ spare_first t p first cpu (spare_of cpu p.spares) refl ∙ ap (λ (spares : List ℕ). slice_get spares cpu) (first_same t.shape t.shape.kind);
+      spares = λ none cpu. element_is (spare_of cpu p.spares) ∙ spare_first t p first cpu (spare_of cpu p.spares) refl;
       answered = λ none. refl;
     }
 

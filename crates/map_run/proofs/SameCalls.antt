@@ -17,7 +17,7 @@ use Rattle.place_words.specs.declared.history.Entry.{Entry}
 use Rattle.map_types.specs.ElementLists.{put}
 use Rattle.place_words.specs.Histories.{Content, Allows, content, content_after, opening_content, replayed}
 use Rattle.place_words.specs.Locks.{is_lock, is_same_lock}
-use Rattle.place_words.specs.Logs.{State, Does, first_does, lies_in, turned, all_turned, does, key_does}
+use Rattle.place_words.specs.Logs.{State, Does, first_does, lies_in, turned, all_turned, key_does}
 use Rattle.place_words.specs.PlainTraces.{IsPlainTrace, spare_after_part, spare_after}
 use Rattle.place_words.specs.Turns.{Turn, after_turn, AreAllowed}
 use Rattle.place_words.proofs.DoneLaws.{IsKeyVerb, key_done}
@@ -64,17 +64,6 @@ spare_there : (shape : Shape) (lists : Finals) (cpu : ℕ) → is_lru shape.kind
 spare_there shape lists cpu built sound within one_value =
     let many : length lists.spares ≡ shape.cpus = sound.lengths.spares ∙ ap (λ (b : Bool). cond b shape.cpus 0) (kind_spares shape.kind built one_value) in
     there_is lists.spares cpu (omega (arith, many, within))
-
-does_key : (shape : Shape) (cpu number : ℕ) (state : State) (verb : Verb) → IsKeyVerb verb → does shape cpu number state verb ≡ key_does shape cpu number state verb
-unfolding does
-does_key shape cpu number state (verbs.Lookup side key) is = refl
-does_key shape cpu number state (verbs.Update side flags key value) is = refl
-does_key shape cpu number state (verbs.Delete key) is = refl
-does_key shape cpu number state (verbs.Take key) is = refl
-does_key shape cpu number state (verbs.Next key) is = absurd is
-does_key shape cpu number state (verbs.BatchRead remove count start flags) is = absurd is
-does_key shape cpu number state (verbs.BatchUpdate flags pairs) is = absurd is
-does_key shape cpu number state (verbs.BatchDelete flags keys) is = absurd is
 
 -- What a call by logs does is what it does on lists: these turns, which lead there, and this reply.
 pub record IsSame (shape : Shape) (cpu : ℕ) (lists : Finals) (did : Does) (turns : List Turn) (after : Finals × Reply) : Type 0 where

@@ -8,15 +8,13 @@ use Rattle.map_types.specs.declared.call.Call.{Call}
 use Rattle.map_types.specs.declared.kind.MapKind.{MapKind}
 use Rattle.map_types.specs.declared.kind.MapKind.TheVariants.{Hash, PercpuHash, LruHash, LruPercpuHash}
 use Rattle.map_types.specs.Stored.{Stored}
-use Rattle.place_words.specs.Logs as logs
-use Rattle.place_words.specs.Openings.{opening_spares}
+use Rattle.place_words.specs.Openings.{opening_spares, first_spares}
 use Rattle.place_table.specs.declared.view.InHand.{InHand}
 use Rattle.place_table.specs.declared.view.View.{View}
 use Rattle.place_table.specs.Calls.{element_of}
-use Rattle.place_table.specs.Opening.{first_spares}
 use Rattle.place_table.specs.Passes.{PassView, TableView, spare_of, IsFirstPass}
 use Rattle.place_table.specs.Views.{is_among, is_in_hand_of, spares_from}
-use Rattle.place_table.proofs.FirstSpares.{hand_is_spares, spare_in_hand}
+use Rattle.place_table.proofs.FirstSpares.{spare_in_hand}
 use Rattle.place_table.proofs.Opens.{among}
 
 -- The call of an index
@@ -33,20 +31,13 @@ pub element_is : (spare : Option Stored) → element_of spare ≡ option_map (λ
 element_is None = refl
 element_is (Some body) = refl
 
--- the first spares, as the table has them and as a run does
-pub first_same : (shape : Shape) (kind : MapKind) → first_spares kind shape ≡ logs.first_spares shape kind
-first_same shape Hash = refl
-first_same shape PercpuHash = refl
-first_same shape LruHash = refl
-first_same shape LruPercpuHash = refl
-
 spares_few : (shape : Shape) → length (opening_spares shape) ≤ shape.cpus
 unfolding opening_spares
 spares_few shape = rw length-take (omega arith)
 
 -- the spares that it keeps are those at first, by CPU
 module _ (t : TableView) (p : PassView) (first : IsFirstPass t p) (cpu : ℕ) where
-  none_first : spare_of cpu p.spares ≡ None → (kind : MapKind) → t.shape.kind ≡ kind → length (first_spares kind t.shape) ≤ cpu
+  none_first : spare_of cpu p.spares ≡ None → (kind : MapKind) → t.shape.kind ≡ kind → length (first_spares t.shape kind) ≤ cpu
   none_first out Hash hash =
       let few = spares_few t.shape in
       ⊎_elim
@@ -59,12 +50,12 @@ module _ (t : TableView) (p : PassView) (first : IsFirstPass t p) (cpu : ℕ) wh
   none_first out LruHash is = omega arith
   none_first out LruPercpuHash is = omega arith
 
-  pub spare_first : (found : Option Stored) → spare_of cpu p.spares ≡ found → option_map (λ (body : Stored). body.element) found ≡ slice_get (first_spares t.shape.kind t.shape) cpu
-  spare_first None is = sym (slice_get_past (first_spares t.shape.kind t.shape) cpu (none_first is t.shape.kind refl))
+  pub spare_first : (found : Option Stored) → spare_of cpu p.spares ≡ found → option_map (λ (body : Stored). body.element) found ≡ slice_get (first_spares t.shape t.shape.kind) cpu
+  spare_first None is = sym (slice_get_past (first_spares t.shape t.shape.kind) cpu (none_first is t.shape.kind refl))
   spare_first (Some body) is =
-      let spares : List ℕ = first_spares t.shape.kind t.shape in
+      let spares : List ℕ = first_spares t.shape t.shape.kind in
       let in_hand : is_in_hand_of body.element cpu (spares_from 0 spares) ≡ true =
-      subst (λ (hand : List InHand). is_in_hand_of body.element cpu hand ≡ true) (ap (λ (v : View). v.hand) first.view_is ∙ hand_is_spares t.shape.kind t.shape)
+      subst (λ (hand : List InHand). is_in_hand_of body.element cpu hand ≡ true) (ap (λ (v : View). v.hand) first.view_is)
       (first.in_no_call.spares_in_hand cpu body is) in
       let at = spare_in_hand body.element cpu 0 spares in_hand in
       let place : at.0 ≡ cpu = let here = at.2 in omega arith in

@@ -28,7 +28,7 @@ use Rattle.map_run.specs.Work.{AreCallsBy, HasWorked, IsCallBy, count_of, has_tu
 use Rattle.map_run.specs.Workers.{HaveWorked, HasDone, HasSplit}
 use Rattle.map_run.proofs.AnyRecord.{spares_of}
 use Rattle.map_run.proofs.CallsByLogs.{all_real}
-use Rattle.map_run.proofs.SerialRun.{element_is, first_same, spare_first, take_next}
+use Rattle.map_run.proofs.SerialRun.{element_is, spare_first, take_next}
 
 -- CPUs
 
@@ -75,7 +75,7 @@ first_split t p shape_is first =
       gone = λ cpu none. absurd (omega arith);
       here = λ cpu _ below. first_has t p cpu first below;
       spares_gone = λ cpu none. absurd (omega arith);
-      spares = λ cpu _. element_is (spare_of cpu p.spares) ∙ spare_first t p first cpu (spare_of cpu p.spares) refl ∙ ap (λ (spares : List ℕ). slice_get spares cpu) (first_same t.shape t.shape.kind ∙ sym spares_open);
+      spares = λ cpu _. element_is (spare_of cpu p.spares) ∙ spare_first t p first cpu (spare_of cpu p.spares) refl ∙ ap (λ (spares : List ℕ). slice_get spares cpu) (sym spares_open);
       no_turns = ap (λ (v : View). filter has_turn (all_strands v)) first.view_is;
     }
 

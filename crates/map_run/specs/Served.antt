@@ -1,5 +1,5 @@
 -- The scripts that are run: each whose calls are on its map, within the limits.
-use Rattle.std.specs.Prelude.{◌≡◌, ◌<◌, ◌^◌, ℕ, List, length, All, Option, IfSome, ⊤}
+use Rattle.std.specs.Prelude.{◌≡◌, ◌<◌, ◌^◌, ℕ, length, All, IfSome, ⊤}
 use Rattle.map_types.specs.Pairs.{HaveSizes}
 use Rattle.map_types.specs.Shape.{HasBounds}
 use Rattle.map_types.specs.ValueLen.{value_len_of}

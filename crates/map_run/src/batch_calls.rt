@@ -9,6 +9,7 @@ ghost use Rattle.place_table.specs.Calls.{CanCall, Called};
 ghost use Rattle.map_batch.specs.Calls.{table_of};
 ghost use Rattle.map_report.specs.Record.{MayAnswer};
 
+use bucket_walks::BatchRequest;
 use map_batch::{
     AnyMap, BatchCount, BatchOut, BatchRefusal, WriteRefusal, delete_batch, read_batch,
     update_batch,
@@ -25,15 +26,20 @@ pub(crate) fn batch_read<R: Wait, G: Gate>(
     map: &AnyMap,
     pass: &mut Pass,
     remove: bool,
-    count: u32,
-    start: Option<u32>,
-    flags: u32,
+    request: BatchRequest,
     gate: &G,
 ) -> Result<Reply, NoMemory>
     requires can { CanCall (table_of map.now) pass.old }
-    ensures answers { IfOk result (λ reply. MayAnswer (table_of map.now).shape (verbs.BatchRead remove count start flags) reply) }
-    ensures called { IfOk result (λ reply. Called (table_of map.now) pass.old pass.new (verbs.BatchRead remove count start flags) reply) }
+    ensures answers { IfOk result (λ reply. MayAnswer (table_of map.now).shape
+        (verbs.BatchRead remove request.count request.start request.flags) reply) }
+    ensures called { IfOk result (λ reply. Called (table_of map.now) pass.old pass.new
+        (verbs.BatchRead remove request.count request.start request.flags) reply) }
 {
+    let BatchRequest {
+        count,
+        start,
+        flags,
+    } = request;
     match read_batch(map, rt, alloc, pass, count, start, flags, remove, gate) {
         Ok(BatchOut::Idle) => Ok(Reply::Done),
         Ok(BatchOut::Read { stop, taken, next }) => Ok(Reply::Batch { stop, taken, next }),
@@ -53,10 +59,13 @@ pub(crate) fn batch_update<R: Wait, G: Gate>(
     gate: &G,
 ) -> Result<Reply, NoMemory>
     requires can { CanCall (table_of map.now) pass.old }
-    requires sizes { HaveSizes (table_of map.now).shape.key_size (value_len_of (table_of map.now).shape Sys) pairs.now }
+    requires sizes { HaveSizes (table_of map.now).shape.key_size
+        (value_len_of (table_of map.now).shape Sys) pairs.now }
     requires few { length pairs.now < 2 ^ 32 }
-    ensures answers { IfOk result (λ reply. MayAnswer (table_of map.now).shape (verbs.BatchUpdate flags pairs.now) reply) }
-    ensures called { IfOk result (λ reply. Called (table_of map.now) pass.old pass.new (verbs.BatchUpdate flags pairs.now) reply) }
+    ensures answers { IfOk result (λ reply. MayAnswer (table_of map.now).shape
+        (verbs.BatchUpdate flags pairs.now) reply) }
+    ensures called { IfOk result (λ reply. Called (table_of map.now) pass.old pass.new
+        (verbs.BatchUpdate flags pairs.now) reply) }
 {
     match update_batch(map, rt, pass, flags, pairs, gate) {
         Ok(BatchCount { done, stop }) => Ok(Reply::Count { stop, done }),
@@ -76,8 +85,10 @@ pub(crate) fn batch_delete<R: Wait, G: Gate>(
     requires can { CanCall (table_of map.now) pass.old }
     requires sizes { All (λ key. length key ≡ (table_of map.now).shape.key_size) keys.now }
     requires few { length keys.now < 2 ^ 32 }
-    ensures answers { IfOk result (λ reply. MayAnswer (table_of map.now).shape (verbs.BatchDelete flags keys.now) reply) }
-    ensures called { IfOk result (λ reply. Called (table_of map.now) pass.old pass.new (verbs.BatchDelete flags keys.now) reply) }
+    ensures answers { IfOk result (λ reply. MayAnswer (table_of map.now).shape
+        (verbs.BatchDelete flags keys.now) reply) }
+    ensures called { IfOk result (λ reply. Called (table_of map.now) pass.old pass.new
+        (verbs.BatchDelete flags keys.now) reply) }
 {
     match delete_batch(map, rt, pass, flags, keys, gate) {
         Ok(BatchCount { done, stop }) => Ok(Reply::Count { stop, done }),

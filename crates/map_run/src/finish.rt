@@ -28,8 +28,10 @@ use workload_gen::generate;
 
 /// Ends a run with a line.
 fn end_with_line<K: Sink>(sink: &mut K, status: u8, line: &[u8]) -> Finish
-    ensures { (ending : Ending) → status_of ending ≡ status → text_due ending ≡ line.now → kept_of ending ≡ None
-        → Ends ending (K.written sink.old) (K.written sink.new) (Rose (K.faults sink.old) (K.faults sink.new)) result }
+    ensures { (ending : Ending) → status_of ending ≡ status → text_due ending ≡ line.now
+        → kept_of ending ≡ None
+        → Ends ending (K.written sink.old) (K.written sink.new)
+        (Rose (K.faults sink.old) (K.faults sink.new)) result }
 {
     let status = match deliver(sink, line) {
         Ok(()) => status,
@@ -91,7 +93,8 @@ fn lines_in(
     script: &Script,
     kept: &RunRecord,
 ) -> Result<Vec<u8>, NoMemory>
-    ensures { IfOk result (λ text. text.items ≡ lines_of asked.mode script.now kept.now asked.options) }
+    ensures { IfOk result (λ text. text.items
+        ≡ lines_of asked.mode script.now kept.now asked.options) }
 {
     match asked.mode {
         Mode::Serial | Mode::Race => text_of(alloc, script, kept, asked.options),
@@ -127,9 +130,11 @@ fn run_in<R: Threads + Wait + Sync, G: Gate>(
 ) -> Result<Run, NoMemory>
     requires read { IsReadAs (form_of asked.mode) script.now }
     requires script { IsScript script.now }
-    ensures ran { IfOk result (λ run. RanAs asked.mode (script_run asked.mode script.now) run.kept) }
+    ensures ran { IfOk result (λ run. RanAs asked.mode
+        (script_run asked.mode script.now) run.kept) }
     ensures closed { IfOk result (λ run. IsCopyOf run.kept run.closed) }
-    ensures text { IfOk result (λ run. run.text.items ≡ out asked (script_run asked.mode script.now) run.kept) }
+    ensures text { IfOk result (λ run. run.text.items
+        ≡ out asked (script_run asked.mode script.now) run.kept) }
 {
     match asked.mode {
         Mode::Serial | Mode::Race => run_calls(rt, alloc, asked, script, gate),
@@ -217,7 +222,8 @@ fn end_with_fault<K: Sink>(
     line: u32,
     cause: Cause,
 ) -> Finish
-    ensures { (asked : Asked) → read_as (form_of asked.mode) input.now ≡ Err (ScriptRefusal.Fault line cause)
+    ensures { (asked : Asked)
+        → read_as (form_of asked.mode) input.now ≡ Err (ScriptRefusal.Fault line cause)
         → Finishes (HasInput asked input.now) (K.written sink.old) (K.written sink.new)
         (Rose (K.faults sink.old) (K.faults sink.new)) result }
 {
@@ -229,7 +235,8 @@ fn end_with_fault<K: Sink>(
 
 /// Ends a run whose script has a map that can't be created.
 fn end_with_refusal<K: Sink>(input: &[u8], sink: &mut K, why: CreateRefusal) -> Finish
-    ensures { (asked : Asked) → read_as (form_of asked.mode) input.now ≡ Err (ScriptRefusal.Create why)
+    ensures { (asked : Asked)
+        → read_as (form_of asked.mode) input.now ≡ Err (ScriptRefusal.Create why)
         → Finishes (HasInput asked input.now) (K.written sink.old) (K.written sink.new)
         (Rose (K.faults sink.old) (K.faults sink.new)) result }
 {
@@ -278,8 +285,10 @@ fn end_with_words<R: Threads + Wait + Sync, S: Source, K: Sink, G: Gate>(
     sink: &mut K,
     gate: &G,
 ) -> Finish
-    ensures finish { Finishes (HasCause (map string_bytes words.now) (S.left source.old) (S.left source.new)
-        (Rose (S.faults source.old) (S.faults source.new))) (K.written sink.old) (K.written sink.new)
+    ensures finish { Finishes (HasCause (map string_bytes words.now) (S.left source.old)
+        (S.left source.new)
+        (Rose (S.faults source.old) (S.faults source.new))) (K.written sink.old)
+        (K.written sink.new)
         (Rose (K.faults sink.old) (K.faults sink.new)) result }
     ensures unread { are_words (map string_bytes words.now) ≡ false → source.new ≡ source.old }
 {
@@ -300,7 +309,8 @@ fn end_with_source<R: Threads + Wait + Sync, S: Source, K: Sink, G: Gate>(
     gate: &G,
 ) -> Finish
     ensures { Finishes (HasSource asked (S.left source.old) (S.left source.new)
-        (Rose (S.faults source.old) (S.faults source.new))) (K.written sink.old) (K.written sink.new)
+        (Rose (S.faults source.old) (S.faults source.new))) (K.written sink.old)
+        (K.written sink.new)
         (Rose (K.faults sink.old) (K.faults sink.new)) result }
 {
     match read_all(alloc, source) {
@@ -345,14 +355,18 @@ pub fn bpfmap<R: Threads + Wait + Sync, S: Source, K: Sink, G: Gate>(
     gate: &G,
 ) -> Finish
     // How it ended, why, what was written, and what is kept.
-    ensures finish { Finishes (HasCause (map string_bytes words.now) (S.left source.old) (S.left source.new)
-        (Rose (S.faults source.old) (S.faults source.new))) (K.written sink.old) (K.written sink.new)
+    ensures finish { Finishes (HasCause (map string_bytes words.now) (S.left source.old)
+        (S.left source.new)
+        (Rose (S.faults source.old) (S.faults source.new))) (K.written sink.old)
+        (K.written sink.new)
         (Rose (K.faults sink.old) (K.faults sink.new)) result }
 
     // Where the source tells its bytes, the status is the one that they have, unless a read or a write failed or
     // memory was not found. So each script is run: with good words its status is 0, or 5, or a fault's.
-    ensures status { IfSome (S.left source.old) (λ input. IsStatus (status_due (map string_bytes words.now) input)
-        result.status (Rose (S.faults source.old) (S.faults source.new)) (Rose (K.faults sink.old) (K.faults sink.new))) }
+    ensures status { IfSome (S.left source.old) (λ input. IsStatus
+        (status_due (map string_bytes words.now) input)
+        result.status (Rose (S.faults source.old) (S.faults source.new))
+        (Rose (K.faults sink.old) (K.faults sink.new))) }
 
     // With other words nothing is read.
     ensures unread { are_words (map string_bytes words.now) ≡ false → source.new ≡ source.old }

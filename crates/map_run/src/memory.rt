@@ -41,7 +41,15 @@ impl MemSource {
     /// listed numbers fail. It takes no memory.
     pub fn of(bytes: Bytes, failing_calls: Numbers, piece_limit: u32) -> MemSource
         requires { 1 ≤ piece_limit }
-        ensures { result ≡ record { left = bytes; failing = failing_calls; piece_limit = piece_limit; next_call = 0; faults = 0 } }
+        ensures { result
+            ≡ record {
+              left = bytes;
+              failing = failing_calls;
+              piece_limit = piece_limit;
+              next_call
+                  = 0;
+              faults = 0;
+            } }
     {
         MemSource {
             bytes,
@@ -77,7 +85,8 @@ impl Source for MemSource {
     /// other.
     fn read(&mut self, buf: &mut [u8]) -> Result<usize, Failed>
         ensures fails { IsErr result ↔ Contains self.old.failing self.old.next_call }
-        ensures count { IfOk result (λ n. n ≡ piece_len (length buf.old) self.old.piece_limit (length self.old.left)) }
+        ensures count { IfOk result (λ n. n
+            ≡ piece_len (length buf.old) self.old.piece_limit (length self.old.left)) }
         ensures copied { IfOk result (λ n. buf.new ≡ take n self.old.left ++ drop n buf.old) }
         ensures ok { IfOk result (λ n. self.new ≡ record self.old {
           left = drop n self.old.left;
@@ -129,7 +138,8 @@ impl Model for MemSink {
       faults = s.faults;
     } };
 
-    ghost invariant = { λ s. KeepsToRoom s.piece_limit s.flushed (length s.bytes.items) s.room (vec_capacity s.bytes) };
+    ghost invariant = { λ s. KeepsToRoom s.piece_limit s.flushed (length s.bytes.items) s.room
+        (vec_capacity s.bytes) };
 }
 
 impl MemSink {

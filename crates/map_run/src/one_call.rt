@@ -12,11 +12,16 @@ ghost use Rattle.map_report.specs.Record.{MayAnswer};
 ghost use Rattle.map_run.specs.Served.{IsServedCall};
 
 use crate::batch_calls::{batch_delete, batch_read, batch_update};
+use bucket_entries::Write;
+use bucket_walks::BatchRequest;
 use map_batch::{AnyMap, next_key};
 use map_types::{Absent, Bytes, Call, Errno, Gate, NoMemory, Reply, Side, Verb, value_len};
 use place_table::Pass;
 use std::alloc::Global;
 use std::sync::Wait;
+
+/// Room for values of at most so many bytes is taken in place.
+const SHORT: usize = 64;
 
 /// Runs a call of this number on its CPU, and gives its answer.
 pub(crate) fn run_call<R: Wait, G: Gate>(
@@ -33,8 +38,10 @@ pub(crate) fn run_call<R: Wait, G: Gate>(
     requires has_cpu { is_among call.now.cpu pass.old.view.cpus ≡ true }
     requires in_no_call { IsInNoCall pass.old }
     requires served { IsServedCall (table_of map.now).shape call.now }
-    ensures answers { IfOk result (λ reply. MayAnswer (table_of map.now).shape call.now.verb reply) }
-    ensures called { IfOk result (λ reply. Called (table_of map.now) (begun pass.old call.now.cpu number) pass.new call.now.verb reply) }
+    ensures answers { IfOk result (λ reply. MayAnswer
+        (table_of map.now).shape call.now.verb reply) }
+    ensures called { IfOk result (λ reply. Called (table_of map.now)
+        (begun pass.old call.now.cpu number) pass.new call.now.verb reply) }
 {
     map.table().begin(pass, call.cpu, number);
     match &call.verb {
@@ -44,16 +51,15 @@ pub(crate) fn run_call<R: Wait, G: Gate>(
             flags,
             key,
             value,
-        } => update(
-            rt,
-            map,
-            pass,
-            *side,
-            *flags,
-            key.as_slice(),
-            value.as_slice(),
-            gate,
-        ),
+        } => {
+            let write = Write {
+                side: *side,
+                flags: *flags,
+                key: key.as_slice(),
+                value: value.as_slice(),
+            };
+            update(rt, map, pass, write, gate)
+        }
         Verb::Delete { key } => delete(rt, map, pass, key.as_slice(), gate),
         Verb::Take { key } => take(rt, alloc, map, pass, key.as_slice(), gate),
         Verb::Next { key } => next(rt, alloc, map, pass, key, gate),
@@ -62,7 +68,14 @@ pub(crate) fn run_call<R: Wait, G: Gate>(
             count,
             start,
             flags,
-        } => batch_read(rt, alloc, map, pass, *remove, *count, *start, *flags, gate),
+        } => {
+            let request = BatchRequest {
+                count: *count,
+                start: *start,
+                flags: *flags,
+            };
+            batch_read(rt, alloc, map, pass, *remove, request, gate)
+        }
         Verb::BatchUpdate { flags, pairs } => { batch_update(rt, map, pass, *flags, pairs, gate) }
         Verb::BatchDelete { flags, keys } => batch_delete(rt, map, pass, *flags, keys, gate),
     }
@@ -81,12 +94,20 @@ fn look_up<R: Wait, G: Gate>(
     requires shape { IsShape (table_of map.now).shape }
     requires can { CanCall (table_of map.now) pass.old }
     requires key { length key.now ≡ (table_of map.now).shape.key_size }
-    ensures answers { IfOk result (λ reply. MayAnswer (table_of map.now).shape (verbs.Lookup side key.now) reply) }
-    ensures called { IfOk result (λ reply. Called (table_of map.now) pass.old pass.new (verbs.Lookup side key.now) reply) }
+    ensures answers { IfOk result (λ reply. MayAnswer (table_of map.now).shape
+        (verbs.Lookup side key.now) reply) }
+    ensures called { IfOk result (λ reply. Called (table_of map.now) pass.old pass.new
+        (verbs.Lookup side key.now) reply) }
 {
-    let mut out = room_for(alloc, map, side)?;
+    let len = value_len(map.table().shape(), side) as usize;
+    if len <= SHORT {
+        let mut out = [0; SHORT];
+        let got = map.lookup(rt, pass, side, key, &mut out[..len], gate);
+        return value_reply(alloc, got, &out[..len]);
+    }
+    let mut out = zeros(alloc, len)?;
     let got = map.lookup(rt, pass, side, key, out.as_mut_slice(), gate);
-    Ok(value_reply(got, out))
+    value_reply(alloc, got, out.as_slice())
 }
 
 /// Updates a key.
@@ -94,18 +115,25 @@ fn update<R: Wait, G: Gate>(
     rt: &R,
     map: &AnyMap,
     pass: &mut Pass,
-    side: Side,
-    flags: u32,
-    key: &[u8],
-    value: &[u8],
+    write: Write,
     gate: &G,
 ) -> Result<Reply, NoMemory>
     requires can { CanCall (table_of map.now) pass.old }
-    requires key { length key.now ≡ (table_of map.now).shape.key_size }
-    requires value { length value.now ≡ value_len_of (table_of map.now).shape side }
-    ensures answers { IfOk result (λ reply. MayAnswer (table_of map.now).shape (verbs.Update side flags key.now value.now) reply) }
-    ensures called { IfOk result (λ reply. Called (table_of map.now) pass.old pass.new (verbs.Update side flags key.now value.now) reply) }
+    requires key { length write.key.now ≡ (table_of map.now).shape.key_size }
+    requires value { length write.value.now ≡ value_len_of (table_of map.now).shape write.side }
+    ensures answers { IfOk result (λ reply. MayAnswer (table_of map.now).shape
+        (verbs.Update write.entry.side write.entry.flags write.entry.key.now write.entry.value.now)
+        reply) }
+    ensures called { IfOk result (λ reply. Called (table_of map.now) pass.old pass.new
+        (verbs.Update write.entry.side write.entry.flags write.entry.key.now write.entry.value.now)
+        reply) }
 {
+    let Write {
+        side,
+        flags,
+        key,
+        value,
+    } = write;
     match map.update(rt, pass, side, flags, key, value, gate) {
         Ok(()) => Ok(Reply::Done),
         Err(errno) => Ok(Reply::Refused(errno)),
@@ -122,8 +150,10 @@ fn delete<R: Wait, G: Gate>(
 ) -> Result<Reply, NoMemory>
     requires can { CanCall (table_of map.now) pass.old }
     requires key { length key.now ≡ (table_of map.now).shape.key_size }
-    ensures answers { IfOk result (λ reply. MayAnswer (table_of map.now).shape (verbs.Delete key.now) reply) }
-    ensures called { IfOk result (λ reply. Called (table_of map.now) pass.old pass.new (verbs.Delete key.now) reply) }
+    ensures answers { IfOk result (λ reply. MayAnswer (table_of map.now).shape
+        (verbs.Delete key.now) reply) }
+    ensures called { IfOk result (λ reply. Called (table_of map.now) pass.old pass.new
+        (verbs.Delete key.now) reply) }
 {
     match map.delete(rt, pass, key, gate) {
         Ok(()) => Ok(Reply::Done),
@@ -143,12 +173,20 @@ fn take<R: Wait, G: Gate>(
     requires shape { IsShape (table_of map.now).shape }
     requires can { CanCall (table_of map.now) pass.old }
     requires key { length key.now ≡ (table_of map.now).shape.key_size }
-    ensures answers { IfOk result (λ reply. MayAnswer (table_of map.now).shape (verbs.Take key.now) reply) }
-    ensures called { IfOk result (λ reply. Called (table_of map.now) pass.old pass.new (verbs.Take key.now) reply) }
+    ensures answers { IfOk result (λ reply. MayAnswer (table_of map.now).shape
+        (verbs.Take key.now) reply) }
+    ensures called { IfOk result (λ reply. Called (table_of map.now) pass.old pass.new
+        (verbs.Take key.now) reply) }
 {
-    let mut out = room_for(alloc, map, Side::Sys)?;
+    let len = value_len(map.table().shape(), Side::Sys) as usize;
+    if len <= SHORT {
+        let mut out = [0; SHORT];
+        let got = map.take_key(rt, pass, key, &mut out[..len], gate);
+        return value_reply(alloc, got, &out[..len]);
+    }
+    let mut out = zeros(alloc, len)?;
     let got = map.take_key(rt, pass, key, out.as_mut_slice(), gate);
-    Ok(value_reply(got, out))
+    value_reply(alloc, got, out.as_slice())
 }
 
 /// Answers the key that follows this one in the order of a walk, or the first one.
@@ -162,12 +200,14 @@ fn next<R: Wait, G: Gate>(
 ) -> Result<Reply, NoMemory>
     requires can { CanCall (table_of map.now) pass.old }
     requires key { IfSome key.now (λ key. length key ≡ (table_of map.now).shape.key_size) }
-    ensures answers { IfOk result (λ reply. MayAnswer (table_of map.now).shape (verbs.Next key.now) reply) }
-    ensures called { IfOk result (λ reply. Called (table_of map.now) pass.old pass.new (verbs.Next key.now) reply) }
+    ensures answers { IfOk result (λ reply. MayAnswer (table_of map.now).shape
+        (verbs.Next key.now) reply) }
+    ensures called { IfOk result (λ reply. Called (table_of map.now) pass.old pass.new
+        (verbs.Next key.now) reply) }
 {
-    let mut out = zeros(alloc, map.table().shape().key_size)?;
+    let mut out = zeros(alloc, map.table().shape().key_size as usize)?;
     let got = next_into(rt, alloc, map, pass, key, out.as_mut_slice(), gate);
-    Ok(value_reply(got, out))
+    value_reply(alloc, got, out.as_slice())
 }
 
 /// Copies to `out` the key that follows this one, or the first one.
@@ -183,7 +223,8 @@ fn next_into<R: Wait, G: Gate>(
     requires can { CanCall (table_of map.now) pass.old }
     requires key { IfSome key.now (λ key. length key ≡ (table_of map.now).shape.key_size) }
     requires out { length out.old ≡ (table_of map.now).shape.key_size }
-    ensures called { Called (table_of map.now) pass.old pass.new (verbs.Next key.now) (reply_of_value result out.new) }
+    ensures called { Called (table_of map.now) pass.old pass.new (verbs.Next key.now)
+        (reply_of_value result out.new) }
     ensures sized { length out.new ≡ length out.old }
 {
     match key {
@@ -193,26 +234,18 @@ fn next_into<R: Wait, G: Gate>(
 }
 
 /// The answer of a lookup, a take or a next key, which left this value or key where there was one.
-fn value_reply(got: Result<(), Absent>, value: Vec<u8>) -> Reply
-    ensures { result ≡ reply_of_value got value.items }
+fn value_reply(alloc: Global, got: Result<(), Absent>, value: &[u8]) -> Result<Reply, NoMemory>
+    ensures { IfOk result (λ reply. reply ≡ reply_of_value got value.now) }
 {
     match got {
-        Ok(()) => Reply::Value(Bytes::of(value)),
-        Err(Absent) => Reply::Refused(Errno::Enoent),
+        Ok(()) => Ok(Reply::Value(Bytes::from_slice(alloc, value)?)),
+        Err(Absent) => Ok(Reply::Refused(Errno::Enoent)),
     }
 }
 
-/// Room for a value of a side.
-fn room_for(alloc: Global, map: &AnyMap, side: Side) -> Result<Vec<u8>, NoMemory>
-    requires { IsShape (table_of map.now).shape }
-    ensures { IfOk result (λ bytes. length bytes.items ≡ value_len_of (table_of map.now).shape side) }
-{
-    zeros(alloc, value_len(map.table().shape(), side))
-}
-
 /// So many zeros.
-fn zeros(alloc: Global, count: u32) -> Result<Vec<u8>, NoMemory>
+fn zeros(alloc: Global, count: usize) -> Result<Vec<u8>, NoMemory>
     ensures { IfOk result (λ bytes. length bytes.items ≡ count) }
 {
-    Ok(vec![in alloc; 0; count as usize]?)
+    Ok(vec![in alloc; 0; count]?)
 }

@@ -78,7 +78,8 @@ fn race_calls<R: Threads + Wait + Sync, G: Gate>(
     requires calls { All (IsServedCall (table_of map.now).shape) calls.now }
     requires few { length calls.now ≤ 200000 }
     requires first { HasSplit (table_of map.now) 0 pass.old }
-    ensures { IfOk result (λ replies. HaveRaced (table_of map.now) calls.now pass.new replies.items) }
+    ensures { IfOk result
+        (λ replies. HaveRaced (table_of map.now) calls.now pass.new replies.items) }
 {
     let cpus = map.table().shape().cpus;
     let mut workers = Vec::with_capacity(alloc, cpus as usize)?;
@@ -142,8 +143,12 @@ fn work_at_once<R: Threads + Wait + Sync, G: Gate>(
     requires shape { IsShape (table_of map.now).shape }
     requires calls { All (IsServedCall (table_of map.now).shape) calls.now }
     requires few { length calls.now ≤ 200000 }
-    requires first { All (λ worker. HasWorked (table_of map.now) worker.cpu [] worker.pass worker.replies) workers.old }
-    ensures done { (k : ℕ) (d : Worker) → k < length workers.old → HasDone (table_of map.now) calls.now (slice_index_or workers.old k d) (slice_index_or workers.new k d) }
+    requires first { All
+        (λ worker. HasWorked
+        (table_of map.now) worker.cpu [] worker.pass worker.replies) workers.old }
+    ensures done { (k : ℕ) (d : Worker) → k < length workers.old
+        → HasDone (table_of map.now) calls.now (slice_index_or workers.old k d)
+        (slice_index_or workers.new k d) }
 {
     thread::for_each_mut(
         rt,
@@ -153,7 +158,8 @@ fn work_at_once<R: Threads + Wait + Sync, G: Gate>(
             requires shape { IsShape (table_of map.now).shape }
             requires calls { All (IsServedCall (table_of map.now).shape) calls.now }
             requires few { length calls.now ≤ 200000 }
-            requires first { HasWorked (table_of map.now) worker.now.cpu [] worker.now.pass worker.now.replies }
+            requires first { HasWorked (table_of map.now) worker.now.cpu [] worker.now.pass
+                worker.now.replies }
         { work(rt, alloc, map, calls, gate, worker) },
     );
 }
@@ -177,7 +183,8 @@ fn join_all(
     requires split { HasSplit (table_of map.now) (table_of map.now).shape.cpus pass.old }
     requires worked { HaveWorked (table_of map.now) 0 calls.now workers.items }
     requires count { length workers.items ≡ (table_of map.now).shape.cpus }
-    ensures { IfOk result (λ replies. HaveRaced (table_of map.now) calls.now pass.new replies.items) }
+    ensures { IfOk result
+        (λ replies. HaveRaced (table_of map.now) calls.now pass.new replies.items) }
 {
     let mut replies = Vec::with_capacity(alloc, workers.len())?;
     for worker in workers {
@@ -194,9 +201,11 @@ fn in_file_order(
     mut replies: Vec<ReplyQueue>,
 ) -> Result<Vec<Reply>, NoMemory>
     requires cpus { All (λ (call : Call). call.cpu < length replies.items) calls.now }
-    requires counted { (cpu : ℕ) → cpu < length replies.items → length (replies_by cpu replies.items) ≡ count_of cpu calls.now }
+    requires counted { (cpu : ℕ) → cpu < length replies.items
+        → length (replies_by cpu replies.items) ≡ count_of cpu calls.now }
     ensures count { IfOk result (λ all. length all.items ≡ length calls.now) }
-    ensures each { IfOk result (λ all. (cpu : ℕ) → cpu < length replies.items → replies_of cpu calls.now all.items ≡ replies_by cpu replies.items) }
+    ensures each { IfOk result (λ all. (cpu : ℕ) → cpu < length replies.items
+        → replies_of cpu calls.now all.items ≡ replies_by cpu replies.items) }
 {
     let mut all = Vec::with_capacity(alloc, calls.len())?;
     for call in calls {
@@ -210,7 +219,8 @@ fn next_reply(replies: &mut [ReplyQueue], cpu: u32) -> Reply
     requires there { cpu < length replies.old }
     requires left { 0 < length (replies_by cpu replies.old) }
     ensures first { replies_by cpu replies.old ≡ result ∷ replies_by cpu replies.new }
-    ensures others { (other : ℕ) → other ≢ cpu → replies_by other replies.new ≡ replies_by other replies.old }
+    ensures others { (other : ℕ) → other ≢ cpu
+        → replies_by other replies.new ≡ replies_by other replies.old }
 {
     match replies[cpu as usize].pop() {
         Some(reply) => reply,
@@ -225,7 +235,8 @@ fn keep_race(
     replies: Vec<Reply>,
     closed: Closed,
 ) -> Result<(RunRecord, Closed), NoMemory>
-    ensures { IfOk result (λ kept. (kept.0 ≡ race_left cpus replies.items closed) × (kept.1 ≡ closed) × (closed.lost ≡ false)) }
+    ensures { IfOk result (λ kept. (kept.0 ≡ race_left cpus replies.items closed)
+        × (kept.1 ≡ closed) × (closed.lost ≡ false)) }
 {
     if closed.lost() {
         return Err(NoMemory);
@@ -246,7 +257,7 @@ fn record_of(
     let strands = strands_of(alloc, cpus, closed.strands().as_slice())?;
     Ok(RunRecord {
         replies: List::of(replies),
-        histories: List::of(histories_of(alloc, closed.histories().as_slice())?),
+        histories: histories_of(alloc, closed.histories())?,
         strands: List::of(strands),
         finals: closed.finals().copy(alloc)?,
     })
@@ -254,7 +265,8 @@ fn record_of(
 
 /// The strands of all CPUs, in ascending order.
 fn strands_of(alloc: Global, cpus: u32, strands: &[Strand]) -> Result<Vec<Strand>, NoMemory>
-    ensures { IfOk result (λ each. each.items ≡ map (λ cpu. strand_of_cpu cpu strands.now) (range_with_len 0 cpus)) }
+    ensures { IfOk result (λ each. each.items
+        ≡ map (λ cpu. strand_of_cpu cpu strands.now) (range_with_len 0 cpus)) }
 {
     let mut each = Vec::with_capacity(alloc, cpus as usize)?;
     for cpu in 0..cpus {

@@ -26,9 +26,11 @@ pub(crate) enum ReadStop {
 /// All the bytes that are left, if they are at most `MAX_SCRIPT_BYTES`. No more than one byte past them is read, and
 /// nothing is read after a failure.
 pub(crate) fn read_all<S: Source>(alloc: Global, source: &mut S) -> Result<Vec<u8>, ReadStop>
-    ensures whole { IfOk result (λ bytes. TakesAll (S.left source.old) (S.left source.new) bytes.items
+    ensures whole { IfOk result (λ bytes. TakesAll (S.left source.old)
+        (S.left source.new) bytes.items
         × (length bytes.items ≤ 16777216)) }
-    ensures failed { IsErrOf result ReadStop.Failed → Rose (S.faults source.old) (S.faults source.new) }
+    ensures failed { IsErrOf result ReadStop.Failed
+        → Rose (S.faults source.old) (S.faults source.new) }
     ensures too_long { IsErrOf result ReadStop.TooLong → (bytes : List ℕ)
         × TakesFront (S.left source.old) (S.left source.new) bytes × (length bytes ≡ 16777217) }
     ensures never_falls { S.faults source.old ≤ S.faults source.new }
@@ -60,10 +62,12 @@ fn read_more<S: Source>(
     bytes: &mut Vec<u8>,
 ) -> Result<usize, ReadStop>
     ensures fits { IfOk result (λ n. n ≤ length buffer.old) }
-    ensures appended { IfOk result (λ n. (taken : List ℕ) × TakesFront (S.left source.old) (S.left source.new) taken
+    ensures appended { IfOk result (λ n. (taken : List ℕ)
+        × TakesFront (S.left source.old) (S.left source.new) taken
         × (length taken ≡ n) × (bytes.new.items ≡ bytes.old.items ++ taken)) }
     ensures end { IfOk result (λ n. EndsWhereNoneIsLeft (S.left source.old) (length buffer.old) n) }
-    ensures failed { IsErrOf result ReadStop.Failed → Rose (S.faults source.old) (S.faults source.new) }
+    ensures failed { IsErrOf result ReadStop.Failed
+        → Rose (S.faults source.old) (S.faults source.new) }
     ensures never_long { IsErrOf result ReadStop.TooLong → ⊥ }
     ensures never_falls { S.faults source.old ≤ S.faults source.new }
 {

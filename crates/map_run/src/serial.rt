@@ -98,7 +98,8 @@ fn keep(
     replies: Vec<Reply>,
     closed: Closed,
 ) -> Result<(RunRecord, Closed), NoMemory>
-    ensures { IfOk result (λ kept. (kept.0 ≡ record_left cpus replies.items closed) × (kept.1 ≡ closed) × (closed.lost ≡ false)) }
+    ensures { IfOk result (λ kept. (kept.0 ≡ record_left cpus replies.items closed)
+        × (kept.1 ≡ closed) × (closed.lost ≡ false)) }
 {
     if closed.lost() {
         return Err(NoMemory);
@@ -120,7 +121,7 @@ fn record_of(
     strands.push(strand_of(alloc, cpus, closed.strands().as_slice())?)?;
     Ok(RunRecord {
         replies: List::of(replies),
-        histories: List::of(histories_of(alloc, closed.histories().as_slice())?),
+        histories: histories_of(alloc, closed.histories())?,
         strands: List::of(strands),
         finals: closed.finals().copy(alloc)?,
     })
@@ -153,11 +154,21 @@ fn all_cpus(alloc: Global, cpus: u32) -> Result<Vec<u32>, NoMemory>
     Ok((0..cpus).collect(alloc)?)
 }
 
-/// Copies of histories.
+/// The same histories once more. Those that a closed table shares are not copied.
 pub(crate) fn histories_of(
     alloc: Global,
-    histories: &[LockHistory],
-) -> Result<Vec<LockHistory>, NoMemory>
+    histories: &List<LockHistory>,
+) -> Result<List<LockHistory>, NoMemory>
+    ensures { IfOk result (λ copies. copies ≡ histories.now) }
+{
+    match histories.again() {
+        Some(same) => Ok(same),
+        None => Ok(List::of(copies_of(alloc, histories.as_slice())?)),
+    }
+}
+
+/// Copies of histories.
+fn copies_of(alloc: Global, histories: &[LockHistory]) -> Result<Vec<LockHistory>, NoMemory>
     ensures { IfOk result (λ copies. copies.items ≡ histories.now) }
 {
     let mut copies = Vec::with_capacity(alloc, histories.len())?;

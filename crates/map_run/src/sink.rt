@@ -19,7 +19,8 @@ pub trait Sink {
     fn write(&mut self, piece: &[u8]) -> Result<usize, Failed>
         ensures fits { IfOk result (λ n. n ≤ length piece.now) }
         ensures goes_on { IfOk result (λ n. 0 < length piece.now → 0 < n) }
-        ensures added { IfOk result (λ n. Adds (written self.old) (written self.new) (take n piece.now)) }
+        ensures added { IfOk result (λ n. Adds (written self.old) (written self.new)
+            (take n piece.now)) }
         ensures kept { OnErr result (KeepsBytes (written self.old) (written self.new)) }
         ensures cause { OnErr result (Rose (faults self.old) (faults self.new)) }
         ensures never_falls { faults self.old ≤ faults self.new };

@@ -17,7 +17,8 @@ pub trait Source {
     /// end.
     fn read(&mut self, buf: &mut [u8]) -> Result<usize, Failed>
         ensures fits { IfOk result (λ n. n ≤ length buf.old) }
-        ensures taken { IfOk result (λ n. TakesFront (left self.old) (left self.new) (take n buf.new)) }
+        ensures taken { IfOk result (λ n. TakesFront (left self.old) (left self.new)
+            (take n buf.new)) }
         ensures end { IfOk result (λ n. EndsWhereNoneIsLeft (left self.old) (length buf.old) n) }
         ensures cause { OnErr result (Rose (faults self.old) (faults self.new)) }
         ensures never_falls { faults self.old ≤ faults self.new };

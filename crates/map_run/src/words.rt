@@ -41,7 +41,8 @@ static MODES: [&str; 3] = ["serial", "race", "gen"];
 
 /// An option that is given or not.
 fn flag<'a>(alloc: Global, name: &'a str) -> Arg<'a>
-    ensures rule { rule_of result ≡ record (new_rule name.now) { long = Some name.now; action = Some ArgAction.SetTrue } }
+    ensures rule { rule_of result
+        ≡ record (new_rule name.now) { long = Some name.now; action = Some ArgAction.SetTrue } }
     ensures local { result.global ≡ false }
 {
     Arg::new(alloc, name).long(name).action(ArgAction::SetTrue)
@@ -54,8 +55,10 @@ fn matches_of<'a>(alloc: Global, words: &'a [String]) -> Result<ArgMatches<'a>, 
         (one_text (found_of m) (codes "history") ≡ Some (bool_text options.history))
         × (one_text (found_of m) (codes "dump") ≡ Some (bool_text options.dump))
         × (one_text (found_of m) (codes "json") ≡ Some (bool_text options.json))) }
-    ensures mode { IfOk result (λ m. first_value (found_of m) (codes "mode") ≡ Some (mode_word (mode_of (map string_bytes words.now)))) }
-    ensures other { IfErr result (λ e. (kind_of e ≡ ErrorKind.OutOfMemory) ⊎ (are_words (map string_bytes words.now) ≡ false)) }
+    ensures mode { IfOk result (λ m. first_value (found_of m) (codes "mode")
+        ≡ Some (mode_word (mode_of (map string_bytes words.now)))) }
+    ensures other { IfErr result (λ e. (kind_of e ≡ ErrorKind.OutOfMemory)
+        ⊎ (are_words (map string_bytes words.now) ≡ false)) }
 {
     let mode = Arg::new(alloc, "mode")
         .required(true)
@@ -74,8 +77,10 @@ fn matches_of<'a>(alloc: Global, words: &'a [String]) -> Result<ArgMatches<'a>, 
 /// of `--history`, `--dump` and `--json` at most once, in any order. One `--` may stand, after which no option follows.
 pub(crate) fn asked_of(alloc: Global, words: &[String]) -> Result<Asked, WordsStop>
     ensures taken { IfOk result (λ asked. IsTrue (are_words (map string_bytes words.now))
-        × (asked.options ≡ options_of (map string_bytes words.now)) × (asked.mode ≡ mode_of (map string_bytes words.now))) }
-    ensures other { IsErrOf result WordsStop.Other → are_words (map string_bytes words.now) ≡ false }
+        × (asked.options ≡ options_of (map string_bytes words.now))
+        × (asked.mode ≡ mode_of (map string_bytes words.now))) }
+    ensures other { IsErrOf result WordsStop.Other
+        → are_words (map string_bytes words.now) ≡ false }
 {
     match matches_of(alloc, words) {
         Ok(matches) => Ok(Asked {

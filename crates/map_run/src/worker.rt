@@ -38,40 +38,36 @@ pub(crate) fn work<R: Wait, G: Gate>(
     requires shape { IsShape (table_of map.now).shape }
     requires calls { All (IsServedCall (table_of map.now).shape) calls.now }
     requires few { length calls.now ≤ 200000 }
-    requires first { HasWorked (table_of map.now) worker.old.cpu [] worker.old.pass worker.old.replies }
+    requires first { HasWorked (table_of map.now) worker.old.cpu [] worker.old.pass
+        worker.old.replies }
     ensures cpu { worker.new.cpu ≡ worker.old.cpu }
-    ensures worked { worker.new.failed ≡ false → HasWorked (table_of map.now) worker.old.cpu calls.now worker.new.pass worker.new.replies }
+    ensures worked { worker.new.failed ≡ false
+        → HasWorked (table_of map.now) worker.old.cpu calls.now worker.new.pass worker.new.replies }
 {
-    let done = run_own(
-        rt,
-        alloc,
-        map,
-        &mut worker.pass,
-        worker.cpu,
-        calls,
-        gate,
-        &mut worker.replies,
-    );
+    let done = run_own(rt, alloc, map, calls, gate, worker);
     worker.failed = done.is_err();
 }
 
-/// Runs the calls of a CPU among these, and adds their answers. They are numbered as they stand among all, from 1.
+/// Runs the calls of the worker's CPU among these, and adds their answers. They are numbered as they stand among all, from 1.
 fn run_own<R: Wait, G: Gate>(
     rt: &R,
     alloc: Global,
     map: &AnyMap,
-    pass: &mut Pass,
-    cpu: u32,
     calls: &[Call],
     gate: &G,
-    replies: &mut ReplyQueue,
+    worker: &mut Worker,
 ) -> Result<(), NoMemory>
     requires shape { IsShape (table_of map.now).shape }
     requires calls { All (IsServedCall (table_of map.now).shape) calls.now }
     requires few { length calls.now ≤ 200000 }
-    requires first { HasWorked (table_of map.now) cpu [] pass.old replies.old }
-    ensures { OnOk result (HasWorked (table_of map.now) cpu calls.now pass.new replies.new) }
+    requires first { HasWorked (table_of map.now) worker.old.cpu [] worker.old.pass
+        worker.old.replies }
+    ensures cpu { worker.new.cpu ≡ worker.old.cpu }
+    ensures worked { OnOk result
+        (HasWorked (table_of map.now) worker.old.cpu calls.now worker.new.pass
+        worker.new.replies) }
 {
+    let cpu = worker.cpu;
     let mut number = 0;
     for call in calls {
         number += 1;
@@ -79,9 +75,9 @@ fn run_own<R: Wait, G: Gate>(
             continue;
         }
         gate.at(cpu, Point::Begin(number));
-        let reply = run_call(rt, alloc, map, pass, number, call, gate)?;
+        let reply = run_call(rt, alloc, map, &mut worker.pass, number, call, gate)?;
         gate.at(cpu, Point::Done(number));
-        replies.push(reply)?;
+        worker.replies.push(reply)?;
     }
     Ok(())
 }

@@ -36,7 +36,7 @@ label_and_number label number = label ∷ decimal number ∷ []
 abbrev pub unless_zero : ℕ → Tokens → Tokens
 unless_zero number tokens = if number == 0 then [] else tokens
 
--- the name of a kind of map
+-- the name of a kind of map, in scripts and in reports
 abbrev pub kind_name : MapKind → List ℕ
 kind_name Hash = codes "hash"
 kind_name PercpuHash = codes "percpu_hash"

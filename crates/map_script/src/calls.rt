@@ -73,7 +73,8 @@ fn call_within(
 ) -> Result<Call, LineError>
     requires shape { IsShape shape.now }
     requires room { room ≤ 67108864 }
-    ensures { IsParsedAs (λ call. call) result (of_line line.now (call_within shape.now count room)) }
+    ensures { IsParsedAs (λ call. call) result (of_line line.now
+        (call_within shape.now count room)) }
 {
     let tokens = line.tokens()?;
     let call = call_line(alloc, shape, tokens)?;

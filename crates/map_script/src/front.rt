@@ -18,7 +18,8 @@ pub(crate) fn call_at_front<'a>(
     text: &'a [u8],
 ) -> Option<(Call, &'a [u8])>
     requires { IsShape shape.now }
-    ensures { MatchOption result ⊤ (λ found. BeginsWith (call_line shape.now) text.now found.0 found.1.now) }
+    ensures { MatchOption result ⊤ (λ found. BeginsWith
+        (call_line shape.now) text.now found.0 found.1.now) }
 {
     let (cpu, places) = cpu_at_front(shape.cpus, text)?;
     let (verb, rest) = verb_at_front(alloc, shape, places)?;
@@ -41,7 +42,8 @@ fn cpu_at_front(cpus: u32, text: &[u8]) -> Option<(u32, &[u8])>
 /// Reads what a call does.
 fn verb_at_front<'a>(alloc: Global, shape: &Shape, text: &'a [u8]) -> Option<(Verb, &'a [u8])>
     requires { IsShape shape.now }
-    ensures { MatchOption result ⊤ (λ found. BeginsWith (verb_line shape.now) text.now found.0 found.1.now) }
+    ensures { MatchOption result ⊤ (λ found. BeginsWith
+        (verb_line shape.now) text.now found.0 found.1.now) }
 {
     if let Some(places) = behind_lookup(text) {
         lookup_at_front(alloc, shape, text, places)
@@ -105,7 +107,8 @@ fn lookup_at_front<'a>(
     places: &'a [u8],
 ) -> Option<(Verb, &'a [u8])>
     requires { text.now ≡ codes "lookup " ++ places.now }
-    ensures { MatchOption result ⊤ (λ found. BeginsWith (verb_line shape.now) text.now found.0 found.1.now) }
+    ensures { MatchOption result ⊤ (λ found. BeginsWith
+        (verb_line shape.now) text.now found.0 found.1.now) }
 {
     let (key, rest) = bytes_before(b'\n', alloc, shape.key_size, places)?;
     Some((
@@ -126,7 +129,8 @@ fn update_at_front<'a>(
 ) -> Option<(Verb, &'a [u8])>
     requires shape { IsShape shape.now }
     requires text { text.now ≡ codes "update any " ++ places.now }
-    ensures { MatchOption result ⊤ (λ found. BeginsWith (verb_line shape.now) text.now found.0 found.1.now) }
+    ensures { MatchOption result ⊤ (λ found. BeginsWith
+        (verb_line shape.now) text.now found.0 found.1.now) }
 {
     let (key, behind) = bytes_before(b' ', alloc, shape.key_size, places)?;
     let (value, rest) = bytes_before(b'\n', alloc, value_len(shape, Side::Prog), behind)?;
@@ -149,7 +153,8 @@ fn delete_at_front<'a>(
     places: &'a [u8],
 ) -> Option<(Verb, &'a [u8])>
     requires { text.now ≡ codes "delete " ++ places.now }
-    ensures { MatchOption result ⊤ (λ found. BeginsWith (verb_line shape.now) text.now found.0 found.1.now) }
+    ensures { MatchOption result ⊤ (λ found. BeginsWith
+        (verb_line shape.now) text.now found.0 found.1.now) }
 {
     let (key, rest) = bytes_before(b'\n', alloc, shape.key_size, places)?;
     Some((Verb::Delete { key }, rest))
@@ -157,7 +162,8 @@ fn delete_at_front<'a>(
 
 /// Reads bytes of a size, and this byte behind them.
 fn bytes_before<'a>(end: u8, alloc: Global, size: u32, text: &'a [u8]) -> Option<(Bytes, &'a [u8])>
-    ensures { MatchOption result ⊤ (λ found. BeginsWithBytes size text.now found.0 (end ∷ found.1.now)) }
+    ensures { MatchOption result ⊤ (λ found. BeginsWithBytes size text.now found.0
+        (end ∷ found.1.now)) }
 {
     let (bytes, behind) = bytes_at_front(alloc, size, text)?;
     match behind {
@@ -212,7 +218,8 @@ fn any_at_front(alloc: Global, size: u32, text: &[u8]) -> Option<(Bytes, &[u8])>
     if !decode_digits(digits, bytes.as_mut_slice()) {
         return None;
     }
-    Some((Bytes::of(bytes), rest))
+    let copy = Bytes::from_slice(alloc, bytes.as_slice()).ok()?;
+    Some((copy, rest))
 }
 
 /// Decodes twice as many digits as there is room for bytes. Where one is no digit it answers false, and the bytes mean

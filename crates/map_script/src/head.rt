@@ -98,6 +98,7 @@ pub(crate) fn gen_line(shape: &Shape, line: &TextLine) -> Result<GenSpec, Cause>
 pub(crate) fn no_line(line: &TextLine) -> Result<GenSpec, Cause>
     ensures { result ≡ of_line line.now (λ tokens. Err Cause.Gen) }
 {
+    // A fault of the line itself comes first.
     let _tokens = line.tokens()?;
     Err(Cause::Gen)
 }

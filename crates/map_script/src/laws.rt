@@ -10,13 +10,17 @@ ghost use Rattle.map_script.specs.SameLines.{in_one_line, ends_line};
 /// a script or a fault at a line. A comment goes from a `#` to the end of its line, and may be left out; one blank may stand
 /// for another, and one for two; and a blank at the end or at the beginning of a line may be left out.
 pub fn reading_laws()
-    ensures comment { (form : forms.Form) (before comment rest : List ℕ) → in_one_line comment ≡ true → ends_line rest ≡ true
+    ensures comment { (form : forms.Form) (before comment rest : List ℕ)
+        → in_one_line comment ≡ true → ends_line rest ≡ true
         → read_as form (before ++ 35 ∷ (comment ++ rest)) ≡ read_as form (before ++ rest) }
-    ensures blank { (form : forms.Form) (before rest : List ℕ) (b c : ℕ) → is_blank b ≡ true → is_blank c ≡ true
+    ensures blank { (form : forms.Form) (before rest : List ℕ) (b c : ℕ) → is_blank b ≡ true
+        → is_blank c ≡ true
         → read_as form (before ++ b ∷ rest) ≡ read_as form (before ++ c ∷ rest) }
-    ensures blanks { (form : forms.Form) (before rest : List ℕ) (b c : ℕ) → is_blank b ≡ true → is_blank c ≡ true
+    ensures blanks { (form : forms.Form) (before rest : List ℕ) (b c : ℕ) → is_blank b ≡ true
+        → is_blank c ≡ true
         → read_as form (before ++ b ∷ c ∷ rest) ≡ read_as form (before ++ c ∷ rest) }
-    ensures at_end { (form : forms.Form) (before rest : List ℕ) (b : ℕ) → is_blank b ≡ true → ends_line rest ≡ true
+    ensures at_end { (form : forms.Form) (before rest : List ℕ) (b : ℕ) → is_blank b ≡ true
+        → ends_line rest ≡ true
         → read_as form (before ++ b ∷ rest) ≡ read_as form (before ++ rest) }
     ensures at_begin { (form : forms.Form) (before rest : List ℕ) (b : ℕ) → is_blank b ≡ true
         → read_as form (before ++ 10 ∷ b ∷ rest) ≡ read_as form (before ++ 10 ∷ rest) }

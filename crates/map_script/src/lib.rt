@@ -20,3 +20,4 @@ pub use laws::reading_laws;
 pub use reading::read_script;
 pub use refusal::{Cause, ScriptRefusal};
 pub use script::{Form, GenSpec, Script};
+pub use text::kind_name;

@@ -50,7 +50,8 @@ impl<'a> Lines<'a> {
 
     /// The next line that says something.
     pub(crate) fn next_line(&mut self) -> Option<TextLine<'a>>
-        ensures line { MatchOption result (self.old.lines ≡ []) (λ line. self.old.lines ≡ line ∷ self.new.lines) }
+        ensures line { MatchOption result (self.old.lines ≡ [])
+            (λ line. self.old.lines ≡ line ∷ self.new.lines) }
         ensures end { self.new.end ≡ self.old.end }
     {
         let (line, rest, number) = first_line(self.rest, self.number)?;
@@ -70,7 +71,8 @@ impl<'a> Lines<'a> {
     ) -> Option<Call>
         requires shape { IsShape shape.now }
         requires room { room ≤ 67108864 }
-        ensures call { MatchOption result (self.new ≡ self.old) (λ call. FirstIsCall shape.now count room self.old.lines call self.new.lines) }
+        ensures call { MatchOption result (self.new ≡ self.old)
+            (λ call. FirstIsCall shape.now count room self.old.lines call self.new.lines) }
         ensures end { self.new.end ≡ self.old.end }
     {
         if count >= MAX_CALLS {
@@ -173,7 +175,8 @@ fn cut_line(text: &[u8]) -> (&[u8], &[u8], u32)
     ensures lines { (number : ℕ) → lines_from number text.now ≡
         (if is_nothing (said_by result.0.now)
         then lines_from (number + result.2) result.1.now
-        else record { number = number; says = said_by result.0.now } ∷ lines_from (number + result.2) result.1.now) }
+        else record { number = number; says = said_by result.0.now }
+        ∷ lines_from (number + result.2) result.1.now) }
     ensures feeds { count_by is_line_feed text.now ≡ count_by is_line_feed result.1.now + result.2 }
     ensures shorter { length result.1.now < length text.now }
 {

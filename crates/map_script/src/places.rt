@@ -135,7 +135,8 @@ fn number_of(token: &[u8]) -> Option<u32>
 /// The value of decimal digits.
 fn digits_value(token: &[u8]) -> Option<u64>
     requires { length token.now ≤ 10 }
-    ensures { result ≡ (if list_all is_ascii_digit token.now then Some (digits_value 10 token.now) else None) }
+    ensures { result
+        ≡ (if list_all is_ascii_digit token.now then Some (digits_value 10 token.now) else None) }
 {
     let mut value: u64 = 0;
     for digit in token {
@@ -185,7 +186,10 @@ pub(crate) fn bytes_in(alloc: Global, size: u32, word: &[u8]) -> Result<Bytes, L
     }
     // These digits can be decoded, so only memory may be missing.
     match hex::decode(alloc, word) {
-        Ok(bytes) => Ok(Bytes::of(bytes)),
+        Ok(bytes) => match Bytes::from_slice(alloc, bytes.as_slice()) {
+            Ok(copy) => Ok(copy),
+            Err(_) => Err(LineError::NoMemory),
+        },
         Err(_) => Err(LineError::NoMemory),
     }
 }

@@ -36,7 +36,8 @@ impl Script {
     pub fn text(&self, alloc: Global) -> Result<Vec<u8>, NoMemory>
         ensures canonical { IfOk result (λ text. text.items ≡ canonical self.now) }
         // A script that form Calls gives is what form Calls reads from its canonical text.
-        ensures round_trip { IfOk result (λ text. IsReadAs Form.Calls self.now → read_as Form.Calls text.items ≡ Ok self.now) }
+        ensures round_trip { IfOk result (λ text. IsReadAs Form.Calls self.now
+            → read_as Form.Calls text.items ≡ Ok self.now) }
     {
         text_of(alloc, self)
     }

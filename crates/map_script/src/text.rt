@@ -24,7 +24,8 @@ pub(crate) fn text_of(alloc: Global, script: &Script) -> Result<Vec<u8>, NoMemor
 
 /// Adds `map KIND key N value N max N cpus N`, and `flags N` and `seed N` where they aren't 0.
 fn push_map(text: &mut Vec<u8>, attr: &CreateAttr) -> Result<(), AllocError>
-    ensures { OnOk result (text.new.items ≡ text.old.items ++ line_text (codes "map") (map_tokens attr.now)) }
+    ensures { OnOk result (text.new.items
+        ≡ text.old.items ++ line_text (codes "map") (map_tokens attr.now)) }
 {
     text.extend_from_slice(b"map")?;
     push_token(text, kind_name(attr.kind).as_bytes())?;
@@ -35,8 +36,10 @@ fn push_map(text: &mut Vec<u8>, attr: &CreateAttr) -> Result<(), AllocError>
 
 /// Adds ` key N value N max N cpus N`.
 fn push_sizes(text: &mut Vec<u8>, attr: &CreateAttr) -> Result<(), AllocError>
-    ensures { OnOk result (text.new.items ≡ text.old.items ++ spaced (label_and_number (codes "key") attr.now.key_size
-        ++ label_and_number (codes "value") attr.now.value_size ++ label_and_number (codes "max") attr.now.max_entries
+    ensures { OnOk result (text.new.items
+        ≡ text.old.items ++ spaced (label_and_number (codes "key") attr.now.key_size
+        ++ label_and_number (codes "value") attr.now.value_size
+        ++ label_and_number (codes "max") attr.now.max_entries
         ++ label_and_number (codes "cpus") attr.now.cpus)) }
 {
     push_labelled(text, b"key", attr.key_size)?;
@@ -47,7 +50,9 @@ fn push_sizes(text: &mut Vec<u8>, attr: &CreateAttr) -> Result<(), AllocError>
 
 /// Adds ` flags N` and ` seed N`, each where it isn't 0.
 fn push_options(text: &mut Vec<u8>, attr: &CreateAttr) -> Result<(), AllocError>
-    ensures { OnOk result (text.new.items ≡ text.old.items ++ spaced (unless_zero attr.now.flags (label_and_number (codes "flags") attr.now.flags)
+    ensures { OnOk result (text.new.items
+        ≡ text.old.items
+        ++ spaced (unless_zero attr.now.flags (label_and_number (codes "flags") attr.now.flags)
         ++ unless_zero attr.now.seed (label_and_number (codes "seed") attr.now.seed))) }
 {
     push_unless_zero(text, b"flags", attr.flags)?;
@@ -70,7 +75,8 @@ fn push_body(
 
 /// Adds `gen seed N calls N keys N mix N`.
 fn push_spec(text: &mut Vec<u8>, spec: GenSpec) -> Result<(), AllocError>
-    ensures { OnOk result (text.new.items ≡ text.old.items ++ line_text (codes "gen") (spec_tokens spec)) }
+    ensures { OnOk result (text.new.items
+        ≡ text.old.items ++ line_text (codes "gen") (spec_tokens spec)) }
 {
     text.extend_from_slice(b"gen")?;
     push_labelled(text, b"seed", spec.seed)?;
@@ -128,7 +134,8 @@ fn push_verb(text: &mut Vec<u8>, verb: &Verb) -> Result<(), AllocError>
 
 /// Adds a name, and bytes.
 fn push_named_bytes(text: &mut Vec<u8>, name: &str, bytes: &Bytes) -> Result<(), AllocError>
-    ensures { OnOk result (text.new.items ≡ text.old.items ++ spaced (name.now ∷ encode_lower bytes.now ∷ [])) }
+    ensures { OnOk result (text.new.items
+        ≡ text.old.items ++ spaced (name.now ∷ encode_lower bytes.now ∷ [])) }
 {
     push_token(text, name.as_bytes())?;
     push_bytes(text, bytes.as_slice())
@@ -142,7 +149,10 @@ fn push_update(
     key: &Bytes,
     value: &Bytes,
 ) -> Result<(), AllocError>
-    ensures { OnOk result (text.new.items ≡ text.old.items ++ spaced (update_name side ∷ flag_token flags ∷ encode_lower key.now ∷ encode_lower value.now ∷ [])) }
+    ensures { OnOk result (text.new.items
+        ≡ text.old.items
+        ++ spaced (update_name side ∷ flag_token flags ∷ encode_lower key.now
+        ∷ encode_lower value.now ∷ [])) }
 {
     push_token(text, update_name(side).as_bytes())?;
     push_flag(text, flags)?;
@@ -158,7 +168,10 @@ fn push_batch_read(
     start: Option<u32>,
     flags: u32,
 ) -> Result<(), AllocError>
-    ensures { OnOk result (text.new.items ≡ text.old.items ++ spaced (batch_name remove ∷ decimal count ∷ start_token start ∷ unless_zero flags (decimal flags ∷ []))) }
+    ensures { OnOk result (text.new.items
+        ≡ text.old.items
+        ++ spaced (batch_name remove ∷ decimal count ∷ start_token start
+        ∷ unless_zero flags (decimal flags ∷ []))) }
 {
     push_token(text, batch_name(remove).as_bytes())?;
     push_number(text, count)?;
@@ -168,7 +181,8 @@ fn push_batch_read(
 
 /// Adds the flags of a batch read, where they aren't 0.
 fn push_batch_flags(text: &mut Vec<u8>, flags: u32) -> Result<(), AllocError>
-    ensures { OnOk result (text.new.items ≡ text.old.items ++ spaced (unless_zero flags (decimal flags ∷ []))) }
+    ensures { OnOk result (text.new.items
+        ≡ text.old.items ++ spaced (unless_zero flags (decimal flags ∷ []))) }
 {
     if flags == 0 {
         return Ok(());
@@ -178,7 +192,9 @@ fn push_batch_flags(text: &mut Vec<u8>, flags: u32) -> Result<(), AllocError>
 
 /// Adds `batch_update FLAGS`, and each key with its value.
 fn push_batch_update(text: &mut Vec<u8>, flags: u32, pairs: &Pairs) -> Result<(), AllocError>
-    ensures { OnOk result (text.new.items ≡ text.old.items ++ spaced (codes "batch_update" ∷ decimal flags ∷ flat_map pair_tokens pairs.now)) }
+    ensures { OnOk result (text.new.items
+        ≡ text.old.items
+        ++ spaced (codes "batch_update" ∷ decimal flags ∷ flat_map pair_tokens pairs.now)) }
 {
     push_labelled(text, b"batch_update", flags)?;
     push_pairs(text, pairs)
@@ -186,7 +202,8 @@ fn push_batch_update(text: &mut Vec<u8>, flags: u32, pairs: &Pairs) -> Result<()
 
 /// Adds each key with its value.
 fn push_pairs(text: &mut Vec<u8>, pairs: &Pairs) -> Result<(), AllocError>
-    ensures { OnOk result (text.new.items ≡ text.old.items ++ spaced (flat_map pair_tokens pairs.now)) }
+    ensures { OnOk result (text.new.items
+        ≡ text.old.items ++ spaced (flat_map pair_tokens pairs.now)) }
 {
     for i in 0..pairs.len() {
         push_bytes(text, pairs.key(i))?;
@@ -197,7 +214,9 @@ fn push_pairs(text: &mut Vec<u8>, pairs: &Pairs) -> Result<(), AllocError>
 
 /// Adds `batch_delete FLAGS`, and each key.
 fn push_batch_delete(text: &mut Vec<u8>, flags: u32, keys: &[Bytes]) -> Result<(), AllocError>
-    ensures { OnOk result (text.new.items ≡ text.old.items ++ spaced (codes "batch_delete" ∷ decimal flags ∷ map encode_lower keys.now)) }
+    ensures { OnOk result (text.new.items
+        ≡ text.old.items
+        ++ spaced (codes "batch_delete" ∷ decimal flags ∷ map encode_lower keys.now)) }
 {
     push_labelled(text, b"batch_delete", flags)?;
     push_keys(text, keys)
@@ -237,7 +256,8 @@ fn push_start(text: &mut Vec<u8>, start: Option<u32>) -> Result<(), AllocError>
 
 /// Adds a label and a number, where the number isn't 0.
 fn push_unless_zero(text: &mut Vec<u8>, label: &[u8], number: u32) -> Result<(), AllocError>
-    ensures { OnOk result (text.new.items ≡ text.old.items ++ spaced (unless_zero number (label_and_number label.now number))) }
+    ensures { OnOk result (text.new.items
+        ≡ text.old.items ++ spaced (unless_zero number (label_and_number label.now number))) }
 {
     if number == 0 {
         return Ok(());
@@ -247,7 +267,8 @@ fn push_unless_zero(text: &mut Vec<u8>, label: &[u8], number: u32) -> Result<(),
 
 /// Adds a label and a number.
 fn push_labelled(text: &mut Vec<u8>, label: &[u8], number: u32) -> Result<(), AllocError>
-    ensures { OnOk result (text.new.items ≡ text.old.items ++ spaced (label_and_number label.now number)) }
+    ensures { OnOk result (text.new.items
+        ≡ text.old.items ++ spaced (label_and_number label.now number)) }
 {
     push_token(text, label)?;
     push_number(text, number)
@@ -281,7 +302,8 @@ fn push_digits(text: &mut Vec<u8>, number: u32) -> Result<(), AllocError>
 
 /// Adds bytes behind a space.
 fn push_bytes(text: &mut Vec<u8>, bytes: &[u8]) -> Result<(), AllocError>
-    ensures { OnOk result (text.new.items ≡ text.old.items ++ behind_space (encode_lower bytes.now)) }
+    ensures { OnOk result (text.new.items
+        ≡ text.old.items ++ behind_space (encode_lower bytes.now)) }
 {
     text.extend_from_slice(b" ")?;
     push_hex(text, bytes)
@@ -298,8 +320,8 @@ fn push_hex(text: &mut Vec<u8>, bytes: &[u8]) -> Result<(), AllocError>
     Ok(())
 }
 
-/// The name of a kind of map.
-fn kind_name(kind: MapKind) -> &'static str
+/// The name of a kind of map, in scripts and in reports.
+pub fn kind_name(kind: MapKind) -> &'static str
     ensures { result.now ≡ kind_name kind }
 {
     match kind {

@@ -42,7 +42,8 @@ impl<'a> Tokens<'a> {
     /// Reads this word, where it is the next token. Otherwise nothing is read.
     pub(crate) fn takes(&mut self, word: &[u8]) -> bool
         ensures taken { IsTrue result → self.old ≡ word.now ∷ self.new }
-        ensures left { IsFalse result → (self.new ≡ self.old) × IsFalse (is_next word.now self.old) }
+        ensures left { IsFalse result
+            → (self.new ≡ self.old) × IsFalse (is_next word.now self.old) }
     {
         let Some((token, rest)) = first_token(self.rest) else {
             return false;
@@ -82,7 +83,9 @@ fn first_token(line: &[u8]) -> Option<(&[u8], &[u8])>
 /// What stands before the first blank, and what stands behind it.
 fn cut_token(line: &[u8]) -> (&[u8], &[u8])
     requires { 0 < length line.now }
-    ensures tokens { tokens_of line.now ≡ (if length result.0.now == 0 then tokens_of result.1.now else result.0.now ∷ tokens_of result.1.now) }
+    ensures tokens { tokens_of line.now
+        ≡ (if length result.0.now == 0 then tokens_of result.1.now else result.0.now
+        ∷ tokens_of result.1.now) }
     ensures shorter { length result.1.now < length line.now }
 {
     match line.iter().position(|byte| is_blank(*byte)) {

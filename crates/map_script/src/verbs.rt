@@ -8,7 +8,7 @@ ghost use Rattle.map_script.specs.Grammar.{lookup_places, update_places, delete_
 use crate::line_error::LineError;
 use crate::refusal::Cause;
 use crate::tokens::Tokens;
-use map_types::{Bytes, List, Pairs, Shape, Side, Verb, value_len};
+use map_types::{Bytes, List, PairBlock, Pairs, Shape, Side, Verb, value_len};
 use std::alloc::Global;
 
 /// Reads the name of a verb, and its places.
@@ -154,7 +154,12 @@ fn pairs_to_end(alloc: Global, shape: &Shape, mut places: Tokens) -> Result<Pair
         values.extend_from_slice(value.as_slice())?;
         count += 1;
     }
+    let block = match PairBlock::new(alloc) {
+        Ok(block) => block,
+        Err(_) => return Err(LineError::NoMemory),
+    };
     Ok(Pairs::of(
+        block,
         count,
         shape.key_size as usize,
         value_size as usize,

@@ -4,11 +4,11 @@ use Rattle.std.specs.Prelude.{filter, find}
 use Rattle.std.specs.List.{position_or_len}
 use Rattle.std.proofs.lemmas.Bool.{ne_eqb, eq-eqb, cond_both}
 use Rattle.std.proofs.lemmas.Bool.Decides.{eqb_tells}
-use Rattle.std.proofs.lemmas.List.{reverse-append, append_assoc, map-append, take_at, drop_at, length_push}
+use Rattle.std.proofs.lemmas.List.{reverse-append, append_assoc, map-append, take_at, length_push}
 use Rattle.std.proofs.lemmas.List.Elements.{filter-append}
 use Rattle.map_types.specs.ElementLists.{times}
 use Rattle.map_types.specs.declared.row.Row.{Row}
-use Rattle.map_types.specs.Listed.{elements_of, rows_before, rows_to, rows_after}
+use Rattle.map_types.specs.Listed.{elements_of, rows_before, rows_to}
 
 -- a test of two numbers, by cases
 pub by_test : (x y : ℕ) (F : Bool → Type 0) → (x ≡ y → F true) → (x ≢ y → F false) → F (eqb x y)
@@ -124,13 +124,6 @@ passes_around xs ys row before after =
     let here : filter p (row ∷ ys) ≡ filter p ys = rw (eq-eqb row.element row.element refl) refl in
     cc (apart, here, passes_absent row.element xs before, passes_absent row.element ys after)
 
-pub position_absent : (e : ℕ) (rows : List Row) → IsAbsent e rows → position_or_len (λ row. eqb row.element e) rows ≡ length rows
-position_absent e [] absent = refl
-position_absent e (row ∷ rows) absent =
-    let parts = absent_parts e row rows absent in
-    let rest = position_absent e rows parts.1 in
-    rw (ne_eqb row.element e parts.0) (omega (arith, rest))
-
 pub position_around : (xs ys : List Row) (row : Row) → IsAbsent row.element xs → position_or_len (λ other. eqb other.element row.element) (xs ++ row ∷ ys) ≡ length xs
 position_around [] ys row before = rw (eq-eqb row.element row.element refl) refl
 position_around (x ∷ xs) ys row before =
@@ -145,8 +138,3 @@ pub to_around : (xs ys : List Row) (row : Row) → IsAbsent row.element xs → r
 to_around xs ys row before =
     let split : xs ++ row ∷ ys ≡ (xs ++ row ∷ []) ++ ys = sym (append_assoc xs (row ∷ []) ys) in
     rw (position_around xs ys row before, split) (take_at (xs ++ row ∷ []) ys (length xs + 1) (length_push xs row))
-
-pub after_around : (xs ys : List Row) (row : Row) → IsAbsent row.element xs → rows_after row.element (xs ++ row ∷ ys) ≡ ys
-after_around xs ys row before =
-    let split : xs ++ row ∷ ys ≡ (xs ++ row ∷ []) ++ ys = sym (append_assoc xs (row ∷ []) ys) in
-    rw (position_around xs ys row before, split) (drop_at (xs ++ row ∷ []) ys (length xs + 1) (length_push xs row))

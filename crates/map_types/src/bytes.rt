@@ -8,7 +8,7 @@ use std::alloc::Global;
 use std::marker::Model;
 
 /// So many bytes lie in the value itself, without a block of their own: keys of flows, and counters.
-const SHORT: usize = 16;
+const SHORT: usize = 22;
 
 /// Bytes, as of a key or a value, which contracts see as a list.
 #[derive(Drop)]
@@ -20,9 +20,9 @@ pub struct Bytes {
 #[derive(Drop)]
 pub(crate) enum Data {
     /// In place, the first `len` of these.
-    Short { bytes: [u8; SHORT], len: usize },
+    Short { bytes: [u8; SHORT], len: u8 },
     /// In a block of their own.
-    Long(Vec<u8>),
+    Long(Box<Vec<u8>>),
 }
 
 impl Model for Bytes {
@@ -37,29 +37,24 @@ impl Model for Bytes {
 }
 
 impl Bytes {
-    /// The bytes of a `Vec`. It takes no memory.
-    pub fn of(items: Vec<u8>) -> Bytes
-        ensures { result ≡ items.items }
-    {
-        Bytes {
-            data: Data::Long(items),
-        }
-    }
-
     /// A copy of these bytes.
     pub fn from_slice(alloc: Global, source: &[u8]) -> Result<Bytes, NoMemory>
         ensures { IfOk result (λ copy. copy ≡ source.now) }
     {
         let len = source.len();
         if len > SHORT {
+            let items = source.to_vec(alloc)?;
             return Ok(Bytes {
-                data: Data::Long(source.to_vec(alloc)?),
+                data: Data::Long(Box::new(alloc, items)?),
             });
         }
         let mut bytes = [0; SHORT];
         bytes[..len].copy_from_slice(source);
         Ok(Bytes {
-            data: Data::Short { bytes, len },
+            data: Data::Short {
+                bytes,
+                len: len as u8,
+            },
         })
     }
 
@@ -68,7 +63,7 @@ impl Bytes {
         ensures { result.now ≡ self.now }
     {
         match &self.data {
-            Data::Short { bytes, len } => &bytes[..*len],
+            Data::Short { bytes, len } => &bytes[..*len as usize],
             Data::Long(items) => items.as_slice(),
         }
     }

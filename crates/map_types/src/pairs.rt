@@ -1,14 +1,28 @@
 //! Pairs of a key and a value, in two flat buffers.
 
-ghost use Rattle.std.specs.Prelude.{◌≡◌, ◌*◌, ◌<◌, ◌==◌, List, [], ℕ, length, take, drop, vec_len};
+ghost use Rattle.std.specs.Prelude.{◌≡◌, ◌*◌, ◌<◌, ◌==◌, List, ℕ, length, take, drop, vec_len};
 ghost use Rattle.map_types.specs.Pairs.{pairs_of, pair_at, joined_keys, joined_values, HaveSizes};
 
+use crate::NoMemory;
 use std::alloc::Global;
 use std::marker::Model;
 
 /// Keys of one size with values of one size, in order. Contracts see a list of pairs.
 #[derive(Drop)]
 pub struct Pairs {
+    data: Box<PairData>,
+}
+
+/// A block in which pairs come to lie. It is had before the pairs are, so that they can be made where no memory may be
+/// wanting.
+#[derive(Drop)]
+pub struct PairBlock {
+    data: Box<PairData>,
+}
+
+/// What lies in the block of some pairs.
+#[derive(Drop)]
+pub(crate) struct PairData {
     key_size: usize,
     value_size: usize,
     count: usize,
@@ -22,27 +36,33 @@ impl Model for Pairs {
 
     ghost Value = { List (List ℕ × List ℕ) };
 
-    ghost view = { λ p. pairs_of p.count p.key_size p.value_size p.keys.items p.values.items };
+    ghost view = { λ p. pairs_of p.data.value.count p.data.value.key_size p.data.value.value_size p.data.value.keys.items p.data.value.values.items };
 
-    ghost invariant = { λ p. (length p.keys.items ≡ p.count * p.key_size) × (length p.values.items ≡ p.count * p.value_size) };
+    ghost invariant = { λ p. (length p.data.value.keys.items ≡ p.data.value.count * p.data.value.key_size)
+        × (length p.data.value.values.items ≡ p.data.value.count * p.data.value.value_size) };
 }
 
-impl Pairs {
-    /// No pairs.
-    pub fn empty(alloc: Global) -> Pairs
-        ensures { result ≡ [] }
-    {
-        Pairs {
+impl PairBlock {
+    /// A block for some pairs.
+    pub fn new(alloc: Global) -> Result<PairBlock, NoMemory> {
+        let nothing = PairData {
             key_size: 0,
             value_size: 0,
             count: 0,
             keys: Vec::new(alloc),
             values: Vec::new(alloc),
-        }
+        };
+        Ok(PairBlock {
+            data: Box::new(alloc, nothing)?,
+        })
     }
+}
 
-    /// The pairs that lie end to end in two buffers: so many keys of a size, and as many values of a size, in bytes.
+impl Pairs {
+    /// The pairs that lie end to end in two buffers: so many keys of a size, and as many values of a size, in bytes. They
+    /// come to lie in this block.
     pub fn of(
+        block: PairBlock,
         count: usize,
         key_size: usize,
         value_size: usize,
@@ -54,16 +74,19 @@ impl Pairs {
         ensures exact { result ≡ pairs_of count key_size value_size keys.items values.items }
         ensures sizes { HaveSizes key_size value_size result }
         // Pairs whose keys and values are laid end to end are got back.
-        ensures joined { (pairs : List (List ℕ × List ℕ)) → HaveSizes key_size value_size pairs → length pairs ≡ count
+        ensures joined { (pairs : List (List ℕ × List ℕ)) → HaveSizes key_size value_size pairs
+            → length pairs ≡ count
             → joined_keys pairs ≡ keys.items → joined_values pairs ≡ values.items → result ≡ pairs }
     {
-        Pairs {
+        let PairBlock { mut data } = block;
+        *data = PairData {
             key_size,
             value_size,
             count,
             keys,
             values,
-        }
+        };
+        Pairs { data }
     }
 
     /// The buffers: the keys end to end, and the values.
@@ -71,7 +94,8 @@ impl Pairs {
         ensures keys { result.0.items ≡ joined_keys self }
         ensures values { result.1.items ≡ joined_values self }
     {
-        let Pairs { keys, values, .. } = self;
+        let Pairs { data } = self;
+        let PairData { keys, values, .. } = Box::into_inner(data);
         (keys, values)
     }
 
@@ -79,14 +103,14 @@ impl Pairs {
     pub fn len(&self) -> usize
         ensures { result ≡ length self.now }
     {
-        self.count
+        self.data.count
     }
 
     /// Whether there is none.
     pub fn is_empty(&self) -> bool
         ensures { result ≡ (length self.now == 0) }
     {
-        self.count == 0
+        self.data.count == 0
     }
 
     /// The key of the pair at an index below `len`.
@@ -94,7 +118,8 @@ impl Pairs {
         requires { i < length self.now }
         ensures { result.now ≡ (pair_at self.now i).0 }
     {
-        piece(&self.keys, self.count, self.key_size, i)
+        let data: &PairData = &self.data;
+        piece(&data.keys, data.count, data.key_size, i)
     }
 
     /// The value of the pair at an index below `len`.
@@ -102,7 +127,8 @@ impl Pairs {
         requires { i < length self.now }
         ensures { result.now ≡ (pair_at self.now i).1 }
     {
-        piece(&self.values, self.count, self.value_size, i)
+        let data: &PairData = &self.data;
+        piece(&data.values, data.count, data.value_size, i)
     }
 }
 

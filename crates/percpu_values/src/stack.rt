@@ -21,7 +21,8 @@ impl Model for BodyStack {
 
     ghost Value = { BodyList };
 
-    ghost view = { λ s. record { bodies = reverse s.bodies.items; spare = vec_capacity s.bodies - vec_len s.bodies } };
+    ghost view = { λ s. record
+        { bodies = reverse s.bodies.items; spare = vec_capacity s.bodies - vec_len s.bodies } };
 
     ghost invariant = { λ s. vec_capacity s.bodies < 2 ^ 32 };
 }
@@ -48,15 +49,19 @@ impl BodyStack {
     /// Puts a body on top, where there is room for one.
     pub fn push(&mut self, body: BoxedBody)
         requires { 1 ≤ self.old.spare }
-        ensures { self.new ≡ record { bodies = body ∷ self.old.bodies; spare = self.old.spare - 1 } }
+        ensures { self.new
+            ≡ record { bodies = body ∷ self.old.bodies; spare = self.old.spare - 1 } }
     {
         self.bodies.push_reserved(body);
     }
 
     /// Takes the body on top, where there is one. There is then room for one more.
     pub fn pop(&mut self) -> Option<BoxedBody>
-        ensures top { MatchOption result ((self.old.bodies ≡ []) × (self.new ≡ self.old)) (λ body. self.old ≡ record { bodies = body ∷ self.new.bodies; spare = self.new.spare - 1 }) }
-        ensures room { MatchOption result (self.new.spare ≡ self.old.spare) (λ _. self.new.spare ≡ self.old.spare + 1) }
+        ensures top { MatchOption result ((self.old.bodies ≡ []) × (self.new ≡ self.old))
+            (λ body. self.old
+            ≡ record { bodies = body ∷ self.new.bodies; spare = self.new.spare - 1 }) }
+        ensures room { MatchOption result (self.new.spare ≡ self.old.spare)
+            (λ _. self.new.spare ≡ self.old.spare + 1) }
     {
         self.bodies.pop()
     }

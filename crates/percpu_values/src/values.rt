@@ -152,7 +152,8 @@ fn piece(bytes: &[u8], start: usize, size: usize) -> &[u8]
 /// Copies a value to a place.
 fn copy_to(bytes: &mut [u8], start: usize, value: &[u8])
     requires { start + length value.now ≤ length bytes.old }
-    ensures { bytes.new ≡ take start bytes.old ++ (value.now ++ drop (start + length value.now) bytes.old) }
+    ensures { bytes.new
+        ≡ take start bytes.old ++ (value.now ++ drop (start + length value.now) bytes.old) }
 {
     bytes[start..start + value.len()].copy_from_slice(value);
 }
@@ -161,7 +162,8 @@ fn copy_to(bytes: &mut [u8], start: usize, value: &[u8])
 fn copy_to_field(bytes: &mut [u8], start: usize, field: usize, value: &[u8])
     requires inside { start + field ≤ length bytes.old }
     requires rounded { field ≡ round8 (length value.now) }
-    ensures { bytes.new ≡ take start bytes.old ++ (field_of value.now ++ drop (start + field) bytes.old) }
+    ensures { bytes.new
+        ≡ take start bytes.old ++ (field_of value.now ++ drop (start + field) bytes.old) }
 {
     fill_field(&mut bytes[start..start + field], value);
 }

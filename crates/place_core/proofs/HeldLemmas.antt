@@ -14,7 +14,7 @@ use Rattle.place_core.specs.declared.step.Lists.{Lists}
 use Rattle.place_core.specs.declared.step.Step.TheVariants.{Take, Give, Rehome, Clear}
 use Rattle.map_types.specs.ElementLists.{put, times}
 use Rattle.place_core.specs.State.{no_lists, rows, HasOnlyItsLists, HasCursorInside}
-use Rattle.place_core.specs.Steps.{Holds, CanTake, CanRehome, CanClear, IsHeldHome, after_leaving, after_joining}
+use Rattle.place_core.specs.Steps.{Holds, CanTake, CanRehome, IsHeldHome, after_leaving, after_joining}
 use Rattle.place_core.specs.CoreView.{CoreView, holder_in, AreHolds, state_of, IsCore}
 use Rattle.place_core.specs.Answers.{Does}
 use Rattle.place_core.proofs.ElementLemmas.{by_test, at_put}
@@ -188,11 +188,3 @@ did_clear core cpu e owner home is few real owner_is home_is allowed =
     let at_home = at_any core.homes e home homes.Unlisted in_homes home_is in
     did_bit core (Clear cpu e) e false is real
     record { is_cpu = few; real = real; allowed = subst (λ (x : Owner × Home). IsHeldHome core.shape (state_of core) cpu x.1 ⊎ (x.0 ≡ owners.Hand cpu)) (λ i. (sym at_owner i, sym at_home i)) allowed } refl
-
-pub no_clear : (core : CoreView) (cpu e : ℕ) (owner : Owner) (home : Home) → IsCore core → e < core.shape.elements → owner ≡ get_or core.owners e owner → home ≡ get_or core.homes e home → (IsHeldHome core.shape (state_of core) cpu home ⊎ (owner ≡ owners.Hand cpu) → ⊥) → CanClear core.shape (state_of core) cpu e → ⊥
-no_clear core cpu e owner home is real owner_is home_is fails can =
-    let in_owners : e < length core.owners = omega (arith, is.owners) in
-    let in_homes : e < length core.homes = omega (arith, is.homes) in
-    let at_owner = at_any core.owners e owner owners.Free in_owners owner_is in
-    let at_home = at_any core.homes e home homes.Unlisted in_homes home_is in
-    fails (subst (λ (x : Owner × Home). IsHeldHome core.shape (state_of core) cpu x.1 ⊎ (x.0 ≡ owners.Hand cpu)) (λ i. (at_owner i, at_home i)) can.allowed)

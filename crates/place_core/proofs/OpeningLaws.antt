@@ -145,9 +145,6 @@ module _ (shape : Shape) (bounds : HasBounds shape) where
       (λ apart plain. ap (is_lock shape) (first_plain shape cpu apart plain) ∙ and_from (not (is_lru shape.kind)) (ltb cpu shape.cpus) (not_from_false (is_lru shape.kind) plain) (lt-ltb cpu shape.cpus few))
 
   module _ (e : ℕ) (real : e < shape.elements) where
-    its_lock : DomainId
-    its_lock = first_lock shape (its_cpu shape bounds e real)
-
     pushed_under_its : times e (opening_pushed shape (first_lock shape (its_cpu shape bounds e real))) ≡ 1
     pushed_under_its =
         by_kind shape bounds (times e (opening_pushed shape (first_lock shape (its_cpu shape bounds e real))) ≡ 1)

@@ -1,8 +1,6 @@
 -- The state of a map's places: who holds each lock and what lies under it, and of each element its owner, its home and
 -- its bit. Locks, elements and CPUs go by their numbers.
-use Rattle.std.specs.Prelude.{◌≡◌, ◌≢◌, ℕ, ◌<◌, Bool, true, false, ⊤, List, [], ◌++◌, Option, None, Some, IfSome}
-use Rattle.map_types.specs.declared.attr.Shape.{Shape}
-use Rattle.map_types.specs.declared.kind.MapKind.TheVariants.{Hash}
+use Rattle.std.specs.Prelude.{◌≡◌, ℕ, Bool, true, false, ⊤, List, [], ◌++◌, Option, None, IfSome}
 use Rattle.map_types.specs.declared.kind.DomainId.{DomainId}
 use Rattle.map_types.specs.declared.kind.DomainId.TheVariants.{Local, Global, CpuLru, Bucket, Freelist}
 use Rattle.place_words.specs.declared.home.Home.{Home}
@@ -48,9 +46,3 @@ HasOnlyItsLists (Freelist cpu) lists = (lists.first ≡ []) × (lists.second ≡
 -- a cursor is an inactive element or the mark
 abbrev pub HasCursorInside : Lists → Type 0
 HasCursorInside lists = IfSome lists.cursor (λ e. IsIn e lists.second)
-
--- A CPU is in no call where it holds no lock, carries no element, and has nothing in hand but one spare of HASH.
-pub record IsInNoCall (shape : Shape) (s : State) (cpu : ℕ) : Type 0 where
-  pub holds_nothing : (k : ℕ) → s.holder k ≢ Some cpu
-  pub carries_nothing : (e : ℕ) → e < shape.elements → s.home e ≢ homes.Hand cpu
-  pub spare_only : (d e : ℕ) → d < shape.elements → e < shape.elements → s.owner d ≡ owners.Hand cpu → s.owner e ≡ owners.Hand cpu → (shape.kind ≡ Hash) × (d ≡ e)

@@ -43,7 +43,9 @@ pub(crate) fn holder_in(number: u32, held: &[(u32, u32)]) -> Option<u32>
 /// Whether all that a CPU holds is below a rank.
 pub(crate) fn holds_below(shape: &Shape, cpu: u32, rank_above: u32, held: &[(u32, u32)]) -> bool
     requires { IsShape shape.now }
-    ensures { result ≡ list_all (λ hold. not (hold.1 == cpu) || nat_lt (rank_of (lock_named shape.now hold.0)) rank_above) held.now }
+    ensures { result
+        ≡ list_all (λ hold. not (hold.1 == cpu) || nat_lt
+        (rank_of (lock_named shape.now hold.0)) rank_above) held.now }
 {
     held.iter().all(|hold| hold.1 != cpu || rank(lock_named(shape, hold.0)) < rank_above)
 }
@@ -51,7 +53,8 @@ pub(crate) fn holds_below(shape: &Shape, cpu: u32, rank_above: u32, held: &[(u32
 /// Whether a CPU holds a lock.
 pub(crate) fn holds(cells: &Cells, cpu: u32, lock: DomainId) -> bool
     requires { IsCore (view_of cells.now) }
-    ensures { MatchBool result (Holds cells.now.shape (state_of (view_of cells.now)) cpu lock) (¬ Holds cells.now.shape (state_of (view_of cells.now)) cpu lock) }
+    ensures { MatchBool result (Holds cells.now.shape (state_of (view_of cells.now)) cpu lock)
+        (¬ Holds cells.now.shape (state_of (view_of cells.now)) cpu lock) }
 {
     if cpu >= cells.shape.cpus || !is_lock(&cells.shape, lock) {
         return false;

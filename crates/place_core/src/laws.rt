@@ -24,7 +24,8 @@ pub fn step_laws()
 /// What the places of the elements say: wherever they are right, each element stands where its owner and its home tell, once
 /// and nowhere else, and those on free lists, in buckets and in hands add up to the map's elements. So it is in each core.
 pub fn place_laws()
-    ensures in_one_place { (shape : shapes.Shape) (s : State) → Placed shape s → EachInOnePlace shape s }
+    ensures in_one_place { (shape : shapes.Shape) (s : State) → Placed shape s
+        → EachInOnePlace shape s }
     ensures add_up { (shape : shapes.Shape) (s : State) → Placed shape s
         → free_total shape s + bucket_total shape s + hand_total shape s ≡ shape.elements }
 {}
@@ -36,7 +37,8 @@ pub fn reached_laws()
         → Leads shape (opening shape) list s → Placed shape s }
     ensures ranked { (shape : shapes.Shape) (list : List steps.Step) (s : State)
         → Leads shape (opening shape) list s → Ranked shape s }
-    ensures in_one_place { (shape : shapes.Shape) (list : List steps.Step) (s : State) → IsShape shape
+    ensures in_one_place { (shape : shapes.Shape) (list : List steps.Step) (s : State)
+        → IsShape shape
         → Leads shape (opening shape) list s → EachInOnePlace shape s }
     ensures add_up { (shape : shapes.Shape) (list : List steps.Step) (s : State) → IsShape shape
         → Leads shape (opening shape) list s
@@ -45,5 +47,6 @@ pub fn reached_laws()
 
 /// CPUs that want locks only above the ranks of all that they hold never wait in a circle.
 pub fn wait_laws()
-    ensures { (shape : shapes.Shape) (s : State) (wants : ℕ → Option ℕ) → AreWants shape s wants → ¬ IsStuck s wants }
+    ensures { (shape : shapes.Shape) (s : State) (wants : ℕ → Option ℕ) → AreWants shape s wants
+        → ¬ IsStuck s wants }
 {}

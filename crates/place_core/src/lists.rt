@@ -71,7 +71,8 @@ pub(crate) fn is_in(element: u32, elements: &[u32]) -> bool
 
 /// Whether an element is listed under a lock, where it has to be.
 pub(crate) fn is_listed_if(lru: bool, element: u32, lists: &Lists) -> bool
-    ensures { MatchBool result (IsTrue lru → IsIn element (rows lists.now)) (IsTrue lru × (¬ IsIn element (rows lists.now))) }
+    ensures { MatchBool result (IsTrue lru → IsIn element (rows lists.now))
+        (IsTrue lru × (¬ IsIn element (rows lists.now))) }
 {
     if !lru {
         return true;
@@ -84,7 +85,8 @@ pub(crate) fn is_listed_if(lru: bool, element: u32, lists: &Lists) -> bool
 
 /// Whether each number stands equally often in two lists.
 pub(crate) fn have_same(alloc: Global, some: &[u32], others: &[u32]) -> Result<bool, NoMemory>
-    ensures { IfOk result (λ same. IsTrue same ↔ ((e : ℕ) → times e some.now ≡ times e others.now)) }
+    ensures { IfOk result (λ same. IsTrue same
+        ↔ ((e : ℕ) → times e some.now ≡ times e others.now)) }
 {
     let mut one = some.to_vec(alloc)?;
     let mut other = others.to_vec(alloc)?;
@@ -95,7 +97,8 @@ pub(crate) fn have_same(alloc: Global, some: &[u32], others: &[u32]) -> Result<b
 
 /// Whether the same elements are listed, or in the bucket, in two lists of a lock.
 pub(crate) fn have_same_rows(alloc: Global, some: &Lists, others: &Lists) -> Result<bool, NoMemory>
-    ensures { IfOk result (λ same. IsTrue same ↔ ((e : ℕ) → times e (rows some.now) ≡ times e (rows others.now))) }
+    ensures { IfOk result (λ same. IsTrue same
+        ↔ ((e : ℕ) → times e (rows some.now) ≡ times e (rows others.now))) }
 {
     let mut one = some.first.as_slice().to_vec(alloc)?;
     one.extend_from_slice(some.second.as_slice())?;

@@ -36,7 +36,8 @@ pub(crate) fn take(cells: &mut Cells, cpu: u32, lock: DomainId) -> Result<(), Co
 
 /// Whether a lock has lists only where it may, and a cursor only at an inactive element.
 fn has_own(lock: DomainId, lists: &Lists) -> bool
-    ensures { MatchBool result (HasOnlyItsLists lock lists.now × HasCursorInside lists.now) (HasOnlyItsLists lock lists.now → HasCursorInside lists.now → ⊥) }
+    ensures { MatchBool result (HasOnlyItsLists lock lists.now × HasCursorInside lists.now)
+        (HasOnlyItsLists lock lists.now → HasCursorInside lists.now → ⊥) }
 {
     let own = match lock {
         DomainId::Local(_) => lists.second.is_empty(),
@@ -75,7 +76,8 @@ pub(crate) fn give(
     lists: &Lists,
 ) -> Result<(), CoreRefusal>
     requires { IsCore (view_of cells.old) }
-    ensures { Answers (view_of cells.old) (steps.Give cpu lock lists.now) (view_of cells.new) result }
+    ensures { Answers (view_of cells.old) (steps.Give cpu lock lists.now)
+        (view_of cells.new) result }
 {
     if !holds(cells, cpu, lock) || !has_own(lock, lists) {
         return Err(CoreRefusal::NotEnabled);

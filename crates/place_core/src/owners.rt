@@ -20,7 +20,8 @@ pub(crate) fn claim(
     lock: DomainId,
 ) -> Result<(), CoreRefusal>
     requires { IsCore (view_of cells.old) }
-    ensures { Answers (view_of cells.old) (steps.Claim cpu element lock) (view_of cells.new) result }
+    ensures { Answers (view_of cells.old) (steps.Claim cpu element lock)
+        (view_of cells.new) result }
 {
     if !holds(cells, cpu, lock) {
         return Err(CoreRefusal::NotEnabled);
@@ -46,7 +47,8 @@ pub(crate) fn settle(
     lock: DomainId,
 ) -> Result<(), CoreRefusal>
     requires { IsCore (view_of cells.old) }
-    ensures { Answers (view_of cells.old) (steps.Settle cpu element lock) (view_of cells.new) result }
+    ensures { Answers (view_of cells.old) (steps.Settle cpu element lock)
+        (view_of cells.new) result }
 {
     if !holds(cells, cpu, lock) || is_bucket(lock) || element >= cells.shape.elements {
         return Err(CoreRefusal::NotEnabled);
@@ -75,7 +77,8 @@ pub(crate) fn attach(
     bucket: u32,
 ) -> Result<(), CoreRefusal>
     requires { IsCore (view_of cells.old) }
-    ensures { Answers (view_of cells.old) (steps.Attach cpu element bucket) (view_of cells.new) result }
+    ensures { Answers (view_of cells.old) (steps.Attach cpu element bucket)
+        (view_of cells.new) result }
 {
     let lock = DomainId::Bucket(bucket);
     if !holds(cells, cpu, lock) || element >= cells.shape.elements {
@@ -103,7 +106,8 @@ pub(crate) fn detach(
     bucket: u32,
 ) -> Result<(), CoreRefusal>
     requires { IsCore (view_of cells.old) }
-    ensures { Answers (view_of cells.old) (steps.Detach cpu element bucket) (view_of cells.new) result }
+    ensures { Answers (view_of cells.old) (steps.Detach cpu element bucket)
+        (view_of cells.new) result }
 {
     let lock = DomainId::Bucket(bucket);
     if !holds(cells, cpu, lock) {
@@ -128,7 +132,8 @@ pub(crate) fn mark(
     bucket: u32,
 ) -> Result<(), CoreRefusal>
     requires { IsCore (view_of cells.old) }
-    ensures { Answers (view_of cells.old) (steps.Mark cpu element bucket) (view_of cells.new) result }
+    ensures { Answers (view_of cells.old) (steps.Mark cpu element bucket)
+        (view_of cells.new) result }
 {
     let lock = DomainId::Bucket(bucket);
     if !holds(cells, cpu, lock) {

@@ -56,8 +56,10 @@ impl Core {
     /// After either nothing has changed. A step copies the lists that it changes, and takes time and memory by their
     /// length.
     pub fn step(&mut self, alloc: Global, step: &Step) -> Result<(), CoreRefusal>
-        ensures done { OnOk result (CoreStep self.old.shape (state_of self.old) step.now (state_of self.new)) }
-        ensures not_enabled { result ≡ Err refusals.NotEnabled → ¬ IsEnabled self.old.shape (state_of self.old) step.now }
+        ensures done { OnOk result (CoreStep self.old.shape (state_of self.old) step.now
+            (state_of self.new)) }
+        ensures not_enabled { result ≡ Err refusals.NotEnabled
+            → ¬ IsEnabled self.old.shape (state_of self.old) step.now }
         ensures unchanged { OnErr result (self.new ≡ self.old) }
         ensures shape { self.new.shape ≡ self.old.shape }
 

@@ -19,7 +19,8 @@ use std::alloc::Global;
 /// Whether a home is a lock that a CPU holds.
 fn is_held_home(cells: &Cells, cpu: u32, home: Home) -> bool
     requires { IsCore (view_of cells.now) }
-    ensures { MatchBool result (IsHeldHome cells.now.shape (state_of (view_of cells.now)) cpu home) (¬ IsHeldHome cells.now.shape (state_of (view_of cells.now)) cpu home) }
+    ensures { MatchBool result (IsHeldHome cells.now.shape (state_of (view_of cells.now)) cpu home)
+        (¬ IsHeldHome cells.now.shape (state_of (view_of cells.now)) cpu home) }
 {
     match home {
         Home::In(lock) => holds(cells, cpu, lock),
@@ -30,7 +31,8 @@ fn is_held_home(cells: &Cells, cpu: u32, home: Home) -> bool
 /// Whether an element may leave its home by a CPU's step.
 fn may_leave(cells: &Cells, cpu: u32, home: Home) -> bool
     requires { IsCore (view_of cells.now) }
-    ensures { MatchBool result (MayLeave cells.now.shape (state_of (view_of cells.now)) cpu home) (¬ MayLeave cells.now.shape (state_of (view_of cells.now)) cpu home) }
+    ensures { MatchBool result (MayLeave cells.now.shape (state_of (view_of cells.now)) cpu home)
+        (¬ MayLeave cells.now.shape (state_of (view_of cells.now)) cpu home) }
 {
     match home {
         Home::In(lock) => holds(cells, cpu, lock),
@@ -42,7 +44,9 @@ fn may_leave(cells: &Cells, cpu: u32, home: Home) -> bool
 /// Whether an element of this owner may come to a home by a CPU's step.
 fn may_enter(cells: &Cells, cpu: u32, owner: Owner, to: Home) -> bool
     requires { IsCore (view_of cells.now) }
-    ensures { MatchBool result (MayEnter cells.now.shape (state_of (view_of cells.now)) cpu owner to) (¬ MayEnter cells.now.shape (state_of (view_of cells.now)) cpu owner to) }
+    ensures { MatchBool result (MayEnter cells.now.shape
+        (state_of (view_of cells.now)) cpu owner to)
+        (¬ MayEnter cells.now.shape (state_of (view_of cells.now)) cpu owner to) }
 {
     match to {
         Home::In(DomainId::Local(at)) => {
@@ -87,8 +91,10 @@ fn joined_by(
 fn may_clear(cells: &Cells, cpu: u32, owner: Owner, home: Home) -> bool
     requires { IsCore (view_of cells.now) }
     ensures { MatchBool result
-        (IsHeldHome cells.now.shape (state_of (view_of cells.now)) cpu home ⊎ (owner ≡ owners.Hand cpu))
-        (¬ (IsHeldHome cells.now.shape (state_of (view_of cells.now)) cpu home ⊎ (owner ≡ owners.Hand cpu))) }
+        (IsHeldHome cells.now.shape (state_of (view_of cells.now)) cpu home
+        ⊎ (owner ≡ owners.Hand cpu))
+        (¬ (IsHeldHome cells.now.shape (state_of (view_of cells.now)) cpu home
+        ⊎ (owner ≡ owners.Hand cpu))) }
 {
     if is_hand(owner, cpu) {
         return true;

@@ -7,7 +7,7 @@ ghost use Rattle.map_types.specs.declared.attr.Shape as shapes;
 ghost use Rattle.place_words.specs.Locks.{lock_count, lock_named};
 ghost use Rattle.place_words.specs.declared.owner.Owner.TheVariants as owner_names;
 ghost use Rattle.place_words.specs.Openings.{opening_stack, opening_spares, spare_owner, opening_owner, opening_free};
-ghost use Rattle.place_words.specs.Shares.{pushed_from, share_first, share_count};
+ghost use Rattle.place_words.specs.Shares.{pushed_from};
 ghost use Rattle.place_core.specs.Opening.{opening_home, opening_lists};
 ghost use Rattle.place_core.specs.Answers.{view_of};
 ghost use Rattle.place_core.specs.OpeningView.{AreOpeningOwners, IsOpening};
@@ -16,6 +16,7 @@ ghost use Rattle.place_words.specs.Openings.{is_free};
 use crate::Lists;
 use crate::cells::{Cells, is_free};
 use crate::lists::index_of;
+use cpu_freelist::share;
 use map_types::{DomainId, MapKind, NoMemory, Numbers, Shape};
 use place_words::{Home, Owner, is_lock, lock_named};
 use std::alloc::Global;
@@ -33,27 +34,13 @@ fn push_from(list: &mut Vec<u32>, first: u32, count: u32) -> Result<(), NoMemory
     Ok(())
 }
 
-/// The first element of a CPU's share, and how many there are.
-fn share(shape: &Shape, cpu: u32) -> (u32, u32)
-    requires shape { IsShape shape.now }
-    requires cpu { cpu < shape.now.cpus }
-    ensures first { result.0 ≡ share_first shape.now.elements shape.now.cpus cpu }
-    ensures count { result.1 ≡ share_count shape.now.elements shape.now.cpus cpu }
-    ensures within { result.0 + result.1 ≤ shape.now.elements }
-{
-    let each = shape.elements / shape.cpus;
-    let more = shape.elements % shape.cpus;
-    let one_more = if cpu < more { 1 } else { 0 };
-    (cpu * each + cpu.min(more), each + one_more)
-}
-
 /// A CPU's share, as it lies on its stack at first.
 fn stack(alloc: Global, shape: &Shape, cpu: u32) -> Result<Vec<u32>, NoMemory>
     requires shape { IsShape shape.now }
     requires cpu { cpu < shape.now.cpus }
     ensures { IfOk result (λ list. list.items ≡ opening_stack shape.now cpu) }
 {
-    let (first, count) = share(shape, cpu);
+    let (first, count) = share(shape.elements, shape.cpus, cpu);
     let mut list = Vec::new(alloc);
     push_from(&mut list, first, count)?;
     Ok(list)
@@ -76,7 +63,8 @@ pub fn spares_at_first(alloc: Global, shape: &Shape) -> Result<Vec<u32>, NoMemor
 #[tactic(auto, unfolding(place_words::specs::Openings::opening_owner))]
 fn owner_at_first(kind: MapKind, spares: &[u32], element: u32) -> Owner
     requires { length spares.now < 2 ^ 32 }
-    ensures { (shape : shapes.Shape) → opening_spares shape ≡ spares.now → result ≡ opening_owner shape kind element }
+    ensures { (shape : shapes.Shape) → opening_spares shape ≡ spares.now
+        → result ≡ opening_owner shape kind element }
 {
     match kind {
         MapKind::Hash => match index_of(element, spares) {
@@ -107,7 +95,9 @@ pub fn home_at_first(shape: &Shape, element: u32) -> Home
 fn only_free(alloc: Global, owners: &[Owner], first: u32, count: u32) -> Result<Numbers, NoMemory>
     requires within { first + count ≤ length owners.now }
     requires few { length owners.now < 2 ^ 32 }
-    ensures { IfOk result (λ list. list ≡ filter (λ e. is_free (slice_index_or owners.now e owner_names.Free)) (pushed_from first count)) }
+    ensures { IfOk result (λ list. list
+        ≡ filter (λ e. is_free (slice_index_or owners.now e owner_names.Free))
+        (pushed_from first count)) }
 {
     let mut list = Vec::new(alloc);
     let mut left = count;
@@ -140,11 +130,11 @@ pub fn free_at_first(
         DomainId::Bucket(_) => Ok(Numbers::of(Vec::new(alloc))),
         DomainId::Global => only_free(alloc, owners, 0, shape.elements),
         DomainId::CpuLru(cpu) => {
-            let (first, count) = share(shape, cpu);
+            let (first, count) = share(shape.elements, shape.cpus, cpu);
             only_free(alloc, owners, first, count)
         }
         DomainId::Freelist(cpu) => {
-            let (first, count) = share(shape, cpu);
+            let (first, count) = share(shape.elements, shape.cpus, cpu);
             only_free(alloc, owners, first, count)
         }
     }
@@ -154,7 +144,8 @@ pub fn free_at_first(
 fn lists_at_first(alloc: Global, shape: &Shape, owners: &[Owner]) -> Result<Vec<Lists>, NoMemory>
     requires shape { IsShape shape.now }
     requires owners { AreOpeningOwners shape.now owners.now }
-    ensures { IfOk result (λ lists. lists.items ≡ map (opening_lists shape.now) (range_with_len 0 (lock_count shape.now))) }
+    ensures { IfOk result (λ lists. lists.items
+        ≡ map (opening_lists shape.now) (range_with_len 0 (lock_count shape.now))) }
 {
     let mut lists = Vec::new(alloc);
     let count = shape.cpus + 1 + shape.cpus + shape.buckets + shape.cpus;
@@ -173,7 +164,8 @@ fn lists_at_first(alloc: Global, shape: &Shape, owners: &[Owner]) -> Result<Vec<
 /// Who has each element at first.
 pub fn owners_at_first(alloc: Global, shape: &Shape) -> Result<Vec<Owner>, NoMemory>
     requires { IsShape shape.now }
-    ensures { IfOk result (λ owners. owners.items ≡ map (opening_owner shape.now shape.now.kind) (range_with_len 0 shape.now.elements)) }
+    ensures { IfOk result (λ owners. owners.items
+        ≡ map (opening_owner shape.now shape.now.kind) (range_with_len 0 shape.now.elements)) }
 {
     let spares = spares_at_first(alloc, shape)?;
     let mut owners = Vec::new(alloc);
@@ -186,7 +178,8 @@ pub fn owners_at_first(alloc: Global, shape: &Shape) -> Result<Vec<Owner>, NoMem
 /// Where the home of each element is at first.
 fn homes_at_first(alloc: Global, shape: &Shape) -> Result<Vec<Home>, NoMemory>
     requires { IsShape shape.now }
-    ensures { IfOk result (λ homes. homes.items ≡ map (opening_home shape.now) (range_with_len 0 shape.now.elements)) }
+    ensures { IfOk result (λ homes. homes.items
+        ≡ map (opening_home shape.now) (range_with_len 0 shape.now.elements)) }
 {
     let mut homes = Vec::new(alloc);
     for element in 0..shape.elements {

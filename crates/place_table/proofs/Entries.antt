@@ -10,7 +10,6 @@ use Rattle.place_table.specs.declared.view.WordStep.{WordStep}
 use Rattle.place_table.specs.declared.view.Turned.{Turned}
 use Rattle.place_table.specs.Views.{turned, place_of}
 use Rattle.place_table.specs.Rules.{Tagged, entries, turns_on, turns_of, indexes, Touch, touches_of}
-use Rattle.place_table.specs.Recording.{last_from}
 use Rattle.place_table.proofs.Worlds.{by_bool}
 
 pub append_nil : {A : Type 0} (l : List A) → l ++ [] ≡ l
@@ -94,8 +93,3 @@ places_on_other lock (x ∷ xs) s other =
 pub indexes_more : (l m : List (ℕ × Entry)) → indexes (l ++ m) ≡ indexes l ++ indexes m
 indexes_more [] m = refl
 indexes_more (x ∷ xs) m = ap (λ l. x.0 ∷ l) (indexes_more xs m)
-
--- the last entry
-pub last_of_more : (d : Entry) (es : List Entry) (e : Entry) → last_from d (es ++ e ∷ []) ≡ e
-last_of_more d [] e = refl
-last_of_more d (x ∷ xs) e = last_of_more x xs e

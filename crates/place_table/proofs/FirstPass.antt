@@ -10,7 +10,7 @@ use Rattle.map_types.specs.declared.kind.MapKind.TheVariants.{Hash, PercpuHash, 
 use Rattle.map_types.specs.Shape.{HasBounds}
 use Rattle.map_types.specs.Stored.{Stored}
 use Rattle.place_words.specs.declared.history.StrandStep.{StrandStep}
-use Rattle.place_words.specs.Openings.{opening_spares}
+use Rattle.place_words.specs.Openings.{opening_spares, first_spares}
 use Rattle.place_table.specs.declared.content.Behind.{Behind}
 use Rattle.place_table.specs.declared.strands.FinishedStrand.{FinishedStrand}
 use Rattle.place_table.specs.declared.view.View.{View}
@@ -18,8 +18,8 @@ use Rattle.place_table.specs.declared.view.InHand.{InHand}
 use Rattle.place_table.specs.Contents.{IsSized}
 use Rattle.place_table.specs.Views.{is_among, is_in_hand_of, numbers_below, spares_from, first_hand, first_view}
 use Rattle.place_table.specs.Passes.{PassView, TableView, spare_of, flags_of, SparesFit, HasCpusOf, IsPass, IsInNoCall, IsFirstPass}
-use Rattle.place_table.specs.Opening.{first_spares, AreBodiesOf}
-use Rattle.place_table.proofs.FirstSpares.{hand_past, spares_count, hand_is_spares, spare_in_hand, spare_at_place}
+use Rattle.place_table.specs.Opening.{AreBodiesOf}
+use Rattle.place_table.proofs.FirstSpares.{hand_past, spares_count, spare_in_hand, spare_at_place}
 use Rattle.place_table.proofs.Opens.{among, among_below}
 use Rattle.place_table.proofs.Worlds.{true_false}
 
@@ -31,43 +31,43 @@ body_at shape elements bodies cpu are within = go (spare_of cpu bodies) refl (ar
     go None is past = absurd (omega arith)
     go (Some body) is fact = (body, is, fact.1)
 
-first_count : (shape : Shape) → HasBounds shape → shape.kind ≡ Hash → length (first_spares shape.kind shape) ≡ shape.cpus
-first_count shape bounds hash = ap (λ (kind : MapKind). length (first_spares kind shape)) hash ∙ spares_count shape bounds hash
+first_count : (shape : Shape) → HasBounds shape → shape.kind ≡ Hash → length (first_spares shape shape.kind) ≡ shape.cpus
+first_count shape bounds hash = ap (λ (kind : MapKind). length (first_spares shape kind)) hash ∙ spares_count shape bounds hash
 
 -- each spare that is kept is the CPU's, and has the sizes of the map
-kept_fact : (shape : Shape) (spares : List (Option Stored)) → AreBodiesOf shape (first_spares shape.kind shape) spares → (cpu : ℕ) (body : Stored) → spare_of cpu spares ≡ Some body
-    → (cpu < length (first_spares shape.kind shape)) × (body.element ≡ get_or (first_spares shape.kind shape) cpu 0) × IsSized shape body
+kept_fact : (shape : Shape) (spares : List (Option Stored)) → AreBodiesOf shape (first_spares shape shape.kind) spares → (cpu : ℕ) (body : Stored) → spare_of cpu spares ≡ Some body
+    → (cpu < length (first_spares shape shape.kind)) × (body.element ≡ get_or (first_spares shape shape.kind) cpu 0) × IsSized shape body
 kept_fact shape spares are cpu body kept =
-    subst (λ (found : Option Stored). MatchOption found (length (first_spares shape.kind shape) ≤ cpu) (λ stored. (cpu < length (first_spares shape.kind shape)) × (stored.element ≡ get_or (first_spares shape.kind shape) cpu 0) × IsSized shape stored)) kept (are cpu)
+    subst (λ (found : Option Stored). MatchOption found (length (first_spares shape shape.kind) ≤ cpu) (λ stored. (cpu < length (first_spares shape shape.kind)) × (stored.element ≡ get_or (first_spares shape shape.kind) cpu 0) × IsSized shape stored)) kept (are cpu)
 
-first_spares_fit : (shape : Shape) (spares : List (Option Stored)) → AreBodiesOf shape (first_spares shape.kind shape) spares → SparesFit (first_view shape) spares
+first_spares_fit : (shape : Shape) (spares : List (Option Stored)) → AreBodiesOf shape (first_spares shape shape.kind) spares → SparesFit (first_view shape) spares
 first_spares_fit shape spares are cpu body kept = (kept_fact shape spares are cpu body kept).2
 
-first_in_hand : (shape : Shape) (spares : List (Option Stored)) → AreBodiesOf shape (first_spares shape.kind shape) spares → (cpu : ℕ) (body : Stored) → spare_of cpu spares ≡ Some body → is_in_hand_of body.element cpu (first_hand shape.kind shape) ≡ true
+first_in_hand : (shape : Shape) (spares : List (Option Stored)) → AreBodiesOf shape (first_spares shape shape.kind) spares → (cpu : ℕ) (body : Stored) → spare_of cpu spares ≡ Some body → is_in_hand_of body.element cpu (first_hand shape.kind shape) ≡ true
 first_in_hand shape spares are cpu body kept =
     let fact = kept_fact shape spares are cpu body kept in
     let place : 0 + cpu ≡ cpu = omega arith in
-    let hand : is_in_hand_of (get_or (first_spares shape.kind shape) cpu 0) cpu (spares_from 0 (first_spares shape.kind shape)) ≡ true = subst (λ (c : ℕ). is_in_hand_of (get_or (first_spares shape.kind shape) cpu 0) c (spares_from 0 (first_spares shape.kind shape)) ≡ true) place (spare_at_place cpu 0 (first_spares shape.kind shape) fact.0) in
-    ap (λ (e : ℕ). is_in_hand_of e cpu (first_hand shape.kind shape)) fact.1 ∙ (ap (λ (hand : List InHand). is_in_hand_of (get_or (first_spares shape.kind shape) cpu 0) cpu hand) (hand_is_spares shape.kind shape) ∙ hand)
+    let hand : is_in_hand_of (get_or (first_spares shape shape.kind) cpu 0) cpu (spares_from 0 (first_spares shape shape.kind)) ≡ true = subst (λ (c : ℕ). is_in_hand_of (get_or (first_spares shape shape.kind) cpu 0) c (spares_from 0 (first_spares shape shape.kind)) ≡ true) place (spare_at_place cpu 0 (first_spares shape shape.kind) fact.0) in
+    ap (λ (e : ℕ). is_in_hand_of e cpu (first_hand shape.kind shape)) fact.1 ∙ hand
 
-pub first_in_no_call : (shape : Shape) (p : PassView) → HasBounds shape → p.view ≡ first_view shape → AreBodiesOf shape (first_spares shape.kind shape) p.spares → IsInNoCall p
+pub first_in_no_call : (shape : Shape) (p : PassView) → HasBounds shape → p.view ≡ first_view shape → AreBodiesOf shape (first_spares shape shape.kind) p.spares → IsInNoCall p
 first_in_no_call shape p bounds is are = record {
   holds_nothing = ap (λ (v : View). v.held) is;
   spares_only = λ e cpu mine in_hand.
-      let hand : is_in_hand_of e cpu (spares_from 0 (first_spares shape.kind shape)) ≡ true = subst (λ (hand : List InHand). is_in_hand_of e cpu hand ≡ true) (ap (λ (v : View). v.hand) is ∙ hand_is_spares shape.kind shape) in_hand in
-      let found = spare_in_hand e cpu 0 (first_spares shape.kind shape) hand in
+      let hand : is_in_hand_of e cpu (spares_from 0 (first_spares shape shape.kind)) ≡ true = subst (λ (hand : List InHand). is_in_hand_of e cpu hand ≡ true) (ap (λ (v : View). v.hand) is) in_hand in
+      let found = spare_in_hand e cpu 0 (first_spares shape shape.kind) hand in
       let at : found.0 ≡ cpu = let place = found.2 in omega arith in
-      let kept = body_at shape (first_spares shape.kind shape) p.spares cpu are (let within = found.1 in omega arith) in (
+      let kept = body_at shape (first_spares shape shape.kind) p.spares cpu are (let within = found.1 in omega arith) in (
         kept.0,
         kept.1,
-        kept.2 ∙ (ap (λ (i : ℕ). get_or (first_spares shape.kind shape) i 0) (sym at) ∙ found.3),
+        kept.2 ∙ (ap (λ (i : ℕ). get_or (first_spares shape shape.kind) i 0) (sym at) ∙ found.3),
         ap (λ (v : View). v.shape.kind) is ∙ only_hash e cpu shape shape.kind (ap (λ (v : View). is_in_hand_of e cpu v.hand) (sym is) ∙ in_hand),
       );
   spares_in_hand = λ cpu body kept. subst (λ (hand : List InHand). is_in_hand_of body.element cpu hand ≡ true) (sym (ap (λ (v : View). v.hand) is)) (first_in_hand shape p.spares are cpu body kept);
   none_out = λ hash cpu mine.
       let is_hash : shape.kind ≡ Hash = ap (λ (v : View). v.shape.kind) (sym is) ∙ hash in
       let few : cpu < shape.cpus = among_below cpu shape.cpus (subst (λ (v : View). is_among cpu v.cpus ≡ true) is mine) in
-      let kept = body_at shape (first_spares shape.kind shape) p.spares cpu are (omega (arith, first_count shape bounds is_hash)) in
+      let kept = body_at shape (first_spares shape shape.kind) p.spares cpu are (omega (arith, first_count shape bounds is_hash)) in
       (kept.0, kept.1);
   carries_nothing = ap (λ (v : View). v.carried) is;
 }
@@ -98,13 +98,13 @@ first_mine shape bounds e cpu in_hand = go shape.kind refl in_hand
     go LruHash hash is = true_false (sym is)
     go LruPercpuHash hash is = true_false (sym is)
 
-pub first_is_pass : (shape : Shape) → HasBounds shape → (v : View) (slots : List (ℕ × Behind)) (strand : List StrandStep) (spares : List (Option Stored)) (flags : List Bool) (ended : Vec FinishedStrand Global) → v ≡ first_view shape → slots ≡ [] → strand ≡ [] → AreBodiesOf shape (first_spares shape.kind shape) spares
+pub first_is_pass : (shape : Shape) → HasBounds shape → (v : View) (slots : List (ℕ × Behind)) (strand : List StrandStep) (spares : List (Option Stored)) (flags : List Bool) (ended : Vec FinishedStrand Global) → v ≡ first_view shape → slots ≡ [] → strand ≡ [] → AreBodiesOf shape (first_spares shape shape.kind) spares
     → flags ≡ flags_of (numbers_below shape.cpus) → ended.items ≡ [] → IsPass v slots strand spares flags (Some ended)
 first_is_pass shape bounds v slots strand spares flags ended is none no_steps are all_cpus none_ended =
     subst (λ (w : View). IsPass w slots strand spares flags (Some ended)) (sym is)
     (subst (λ (xs : List (ℕ × Behind)). IsPass (first_view shape) xs strand spares flags (Some ended)) (sym none)
     record { carries = tt; strand_is = no_steps; cpus_are = all_cpus; ended_are = none_ended; spares_fit = first_spares_fit shape spares are; within = λ cpu has. among_below cpu shape.cpus has; ended_within = All-nil (HasCpusOf shape); hands_real = λ e cpu in_hand. (first_real shape bounds e cpu in_hand, among cpu shape.cpus (first_mine shape bounds e cpu in_hand)) })
 
-pub is_first_pass : (t : TableView) (p : PassView) → HasBounds t.shape → p.table ≡ t.id → p.view ≡ first_view t.shape → AreBodiesOf t.shape (first_spares t.shape.kind t.shape) p.spares → IsFirstPass t p
+pub is_first_pass : (t : TableView) (p : PassView) → HasBounds t.shape → p.table ≡ t.id → p.view ≡ first_view t.shape → AreBodiesOf t.shape (first_spares t.shape t.shape.kind) p.spares → IsFirstPass t p
 is_first_pass t p bounds of_table is are =
     record { table_is = of_table; view_is = is; in_no_call = first_in_no_call t.shape p bounds is are }

@@ -1,7 +1,7 @@
 -- A list set as it is filled at first, and local lists, which are empty.
 use Rattle.std.proofs.Common.{◌≡◌, ℕ, zero, suc, ◌+◌, ◌-◌, ◌<◌, ◌≤◌, true, cond, ltb, List, [], ◌∷◌, length, drop, get_or, All, Some, ap, ◌∙◌, sym, subst, ⊎_elim, ◌⊎◌, arith}
 use Rattle.std.proofs.lemmas.Bool.{and_parts, ltb-true}
-use Rattle.std.proofs.Math.Seq.{drop-cons, drop-length}
+use Rattle.std.proofs.Math.Seq.{drop-cons}
 use Rattle.std.proofs.lemmas.List.{length-map, length-drop}
 use Rattle.std.proofs.lemmas.List.Elements.{All-nil, All-cons}
 use Rattle.map_types.specs.declared.attr.Shape.{Shape}
@@ -16,7 +16,7 @@ use Rattle.place_words.specs.Locks.{is_lock}
 use Rattle.place_words.specs.Openings.{opening_free}
 use Rattle.place_words.specs.Sets.{ListSet, new_set}
 use Rattle.local_lists.specs.LocalLists.{LocalView, IsLocal, local_told, empty_local}
-use Rattle.lru_lists.specs.Sets.{SetView, IsSet, empty_set, times_on, with_free, pushed}
+use Rattle.lru_lists.specs.Sets.{SetView, IsSet, times_on, with_free, pushed}
 use Rattle.place_core.proofs.ElementLemmas.{by_test, times_cons_same}
 use Rattle.place_table.specs.declared.content.Content.TheVariants as lying
 use Rattle.place_table.specs.Contents.{set_told, IsSized, FitsSet}
@@ -27,18 +27,6 @@ pub record IsFilled (shape : Shape) (elements : List ℕ) (from : ℕ) (set : Se
   pub within : from ≤ length elements
   pub told : set_told set ≡ new_set (drop from elements)
   pub fits : FitsSet shape set
-
-pub filled_first : (shape : Shape) (elements : List ℕ) (set : SetView) → set ≡ empty_set shape.elements → IsSet set → IsFilled shape elements (length elements) set
-filled_first shape elements set is whole = record {
-  within = omega arith;
-  told = ap set_told is ∙ ap new_set (sym (drop-length elements));
-  fits = record {
-    sized = subst (λ (s : SetView). All (IsSized shape) s.free.bodies) (sym is) (All-nil (IsSized shape));
-    bound = ap (λ (s : SetView). s.elements) is;
-    room = ap (λ (s : SetView). length s.free.bodies + s.free.spare) is ∙ omega arith;
-    whole = whole;
-  };
-}
 
 times_drop : (e n : ℕ) (xs : List ℕ) → times e (drop n xs) ≤ times e xs
 times_drop e zero xs = omega arith
@@ -101,10 +89,6 @@ module _ (shape : Shape) (elements : List ℕ) (from now : ℕ) (set : SetView) 
           whole = whole;
         };
       }
-
--- at the end all are free
-pub filled_told : (shape : Shape) (elements : List ℕ) (from : ℕ) (set : SetView) → IsFilled shape elements from set → from ≡ 0 → set_told set ≡ new_set elements
-filled_told shape elements from set filled none = filled.told ∙ ap (λ (n : ℕ). new_set (drop n elements)) none
 
 -- a list set lies under the lock of a CPU's own set, or under the global lock
 pub set_first : (shape : Shape) (lock : DomainId) (free : List ℕ) (set : SetView) → ((cpu : ℕ) × (lock ≡ CpuLru cpu)) ⊎ (lock ≡ Global)

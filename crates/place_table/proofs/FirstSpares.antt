@@ -17,7 +17,6 @@ use Rattle.place_core.specs.Opening.{opening}
 use Rattle.place_core.proofs.ElementLemmas.{by_test, times_append}
 use Rattle.place_core.proofs.OpeningLemmas.{pushed_in, pushed_out, first_next, first_of_all}
 use Rattle.place_core.proofs.StartLemmas.{flat_more}
-use Rattle.place_table.specs.Opening.{first_spares}
 use Rattle.place_table.specs.Views.{is_in_hand_of, spares_from, first_hand}
 use Rattle.place_table.specs.Rules.{is_hand_of}
 
@@ -123,12 +122,6 @@ spares_count shape bounds hash =
     let elements = bounds.spares_of_hash hash in
     length-take-le shape.cpus (stacks shape shape.cpus) (omega arith)
 
-pub first_spares_few : (shape : Shape) (kind : MapKind) → length (opening_spares shape) ≤ shape.cpus → length (first_spares kind shape) ≤ shape.cpus
-first_spares_few shape Hash few = few
-first_spares_few shape PercpuHash few = omega arith
-first_spares_few shape LruHash few = omega arith
-first_spares_few shape LruPercpuHash few = omega arith
-
 -- Hands
 
 not_in_hand : (e c b : ℕ) (xs : List ℕ) → times e xs ≡ 0 → is_in_hand_of e c (spares_from b xs) ≡ false
@@ -153,12 +146,6 @@ hand_by_place e c b (x ∷ xs) once =
     either false none = none
 
 -- the hand of the first pass, by kind
-pub hand_is_spares : (kind : MapKind) (shape : Shape) → first_hand kind shape ≡ spares_from 0 (first_spares kind shape)
-hand_is_spares Hash shape = refl
-hand_is_spares PercpuHash shape = refl
-hand_is_spares LruHash shape = refl
-hand_is_spares LruPercpuHash shape = refl
-
 hand_by_owner : (shape : Shape) (kind : MapKind) (e c : ℕ) → is_in_hand_of e c (first_hand kind shape) ≡ is_hand_of c (opening_owner shape kind e)
 unfolding opening_owner
 hand_by_owner shape Hash e c =

@@ -91,10 +91,6 @@ any_last : (lost : ℕ → Bool) (locks : List ℕ) (n : ℕ) (b : Bool) → los
 any_last lost locks n b is =
     list_any-append lost locks (n ∷ []) ∙ ap (λ (v : Bool). list_any lost locks || v) (any_one lost n b is)
 
--- no lock is of none
-pub none_kept : (shape : Shape) (log : Logs) (lost : ℕ → Bool) → AreKept shape log lost 0 [] false
-none_kept shape log lost = record { kept_are = refl; lost_is = refl }
-
 -- a lock that the map doesn't have leaves none
 pub no_lock : (shape : Shape) (log : Logs) (lost : ℕ → Bool) (n : ℕ) (kept : List LockHistory) (some_lost : Bool) → has_lock shape n ≡ false → AreKept shape log lost n kept some_lost → AreKept shape log lost (n + 1) kept some_lost
 no_lock shape log lost n kept some_lost there is =

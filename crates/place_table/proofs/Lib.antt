@@ -23,7 +23,6 @@ pub mod Leaves
 pub mod Locks
 pub mod MapLeft
 pub mod NotesDone
-pub mod OneStrand
 pub mod Opens
 pub mod OwnerSteps
 pub mod OwnersSeen

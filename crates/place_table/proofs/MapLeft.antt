@@ -1,5 +1,5 @@
 -- What a closed table hands out of the map, list by list.
-use Rattle.std.proofs.Common.{◌≡◌, ℕ, zero, suc, ◌+◌, ◌<◌, ◌≤◌, Bool, true, false, not, ◌&&◌, nat_lt, List, [], ◌∷◌, ◌++◌, length, get_or, map, refl, ap, sym, ◌∙◌, append-nil, arith, Option}
+use Rattle.std.proofs.Common.{◌≡◌, ℕ, zero, suc, ◌+◌, ◌<◌, ◌≤◌, Bool, true, false, not, ◌&&◌, nat_lt, List, [], ◌∷◌, ◌++◌, length, get_or, map, refl, ap, sym, ◌∙◌, arith, Option}
 use Rattle.std.specs.Prelude.{filter, slice_get, option_map, option_to_list}
 use Rattle.std.specs.List.{flat_map, range_with_len}
 use Rattle.std.proofs.lemmas.List.FromFn.{length-map-range_with_len, get_or-map-range_with_len}
@@ -8,7 +8,6 @@ use Rattle.map_types.specs.declared.kind.DomainId.{DomainId}
 use Rattle.map_types.specs.declared.kind.DomainId.TheVariants.{Local, Global, CpuLru, Bucket, Freelist}
 use Rattle.map_types.specs.Kind.{is_lru}
 use Rattle.map_types.specs.Stored.{Stored}
-use Rattle.place_words.specs.declared.finals.LocalFinal.{LocalFinal}
 use Rattle.place_words.specs.declared.finals.SetFinal.{SetFinal}
 use Rattle.place_words.specs.declared.history.Entry.{Entry}
 use Rattle.place_words.specs.Histories.{in_bucket, on_freelist, content}
@@ -20,7 +19,7 @@ use Rattle.place_table.specs.declared.view.Ended.{Ended}
 use Rattle.place_table.specs.Closing.{ClosedView, IsLeft, state_left}
 use Rattle.place_table.specs.Leaving.{spares_in}
 use Rattle.place_table.specs.Passes.{spare_of}
-use Rattle.place_table.proofs.Leaves.{passes_below, no_own_set, where_none}
+use Rattle.place_table.proofs.Leaves.{passes_below, where_none}
 
 -- the locks of one sort, where the map has all of them
 all_there : (shape : Shape) (lock : ℕ → DomainId) (n : ℕ) → ((k : ℕ) → k < n → is_lock shape (lock k) ≡ true) → filter (λ k. is_lock shape (lock k)) (range_with_len 0 n) ≡ range_with_len 0 n
@@ -39,9 +38,6 @@ has_freelist shape plain cpu less = ap (λ (b : Bool). not b && nat_lt cpu shape
 has_set : (shape : Shape) → is_lru shape.kind ≡ true → shape.common ≡ false → (cpu : ℕ) → cpu < shape.cpus → is_lock shape (CpuLru cpu) ≡ true
 has_set shape evicts apart cpu less =
     ap (λ (b : Bool). (b && not shape.common) && nat_lt cpu shape.cpus) evicts ∙ ap (λ (b : Bool). not b && nat_lt cpu shape.cpus) apart ∙ passes_below cpu shape.cpus less
-
-has_local : (shape : Shape) → shape.common ≡ true → (cpu : ℕ) → cpu < shape.cpus → is_lock shape (Local cpu) ≡ true
-has_local shape common cpu less = ap (λ (b : Bool). b && nat_lt cpu shape.cpus) common ∙ passes_below cpu shape.cpus less
 
 no_global_set : (shape : Shape) (state : State) (sets : List SetFinal) → shape.common ≡ false → where_lock shape (λ one. Global) (λ one. final_set (globals_at shape state)) (range_with_len 0 1) ++ sets ≡ sets
 no_global_set shape state sets apart =
@@ -101,15 +97,6 @@ module _ {shape : Shape} {log : ℕ → List Entry} {lost bit : ℕ → Bool} {s
   no_freelists evicts =
       ap (λ f. f.freelists) left.finals_are ∙ where_none shape Freelist (freelist_at shape now) (range_with_len 0 shape.cpus) (λ cpu. ap (λ (b : Bool). not b && nat_lt cpu shape.cpus) evicts)
 
-  -- list sets, of a map that evicts whose CPUs have their own
-  pub sets_counted : is_lru shape.kind ≡ true → shape.common ≡ false → length closed.finals.sets ≡ shape.cpus
-  unfolding finals_of
-  sets_counted evicts apart =
-      let tell : ℕ → SetFinal = λ cpu. final_set (own_at shape now cpu) in
-      ap (λ f. length f.sets) left.finals_are
-      ∙ ap length (no_global_set shape now (where_lock shape CpuLru tell (range_with_len 0 shape.cpus)) apart)
-      ∙ where_counted shape CpuLru tell shape.cpus (has_set shape evicts apart)
-
   pub sets_are : is_lru shape.kind ≡ true → shape.common ≡ false → (cpu : ℕ) (d : SetFinal) → cpu < shape.cpus → get_or closed.finals.sets cpu d ≡ final_set (own_at shape now cpu)
   unfolding finals_of
   sets_are evicts apart cpu d less =
@@ -125,26 +112,6 @@ module _ {shape : Shape} {log : ℕ → List Entry} {lost bit : ℕ → Bool} {s
       ap (λ f. f.sets) left.finals_are
       ∙ no_global_set shape now (where_lock shape CpuLru tell (range_with_len 0 shape.cpus)) apart
       ∙ where_none shape CpuLru tell (range_with_len 0 shape.cpus) (λ cpu. ap (λ (b : Bool). (b && not shape.common) && nat_lt cpu shape.cpus) plain)
-
-  -- where the CPUs share lists, the list set that they share, and their local lists
-  pub shared_set_is : shape.common ≡ true → closed.finals.sets ≡ final_set (globals_at shape now) ∷ []
-  unfolding finals_of
-  shared_set_is common =
-      let tell : ℕ → SetFinal = λ cpu. final_set (own_at shape now cpu) in
-      let shared : List SetFinal = where_lock shape (λ one. Global) (λ one. final_set (globals_at shape now)) (range_with_len 0 1) in
-      ap (λ f. f.sets) left.finals_are
-      ∙ ap (λ (sets : List SetFinal). shared ++ sets) (where_none shape CpuLru tell (range_with_len 0 shape.cpus) (λ cpu. no_own_set shape cpu common))
-      ∙ append-nil shared
-      ∙ ap (map (λ (one : ℕ). final_set (globals_at shape now))) (all_there shape (λ one. Global) 1 (λ one less. common))
-
-  pub locals_counted : shape.common ≡ true → length closed.finals.locals ≡ shape.cpus
-  unfolding finals_of
-  locals_counted common = ap (λ f. length f.locals) left.finals_are ∙ where_counted shape Local (λ cpu. final_local (locals_at shape now cpu)) shape.cpus (has_local shape common)
-
-  pub locals_are : shape.common ≡ true → (cpu : ℕ) (d : LocalFinal) → cpu < shape.cpus → get_or closed.finals.locals cpu d ≡ final_local (locals_at shape now cpu)
-  unfolding finals_of
-  locals_are common cpu d less =
-      ap (λ f. get_or f.locals cpu d) left.finals_are ∙ where_at shape Local (λ cpu. final_local (locals_at shape now cpu)) shape.cpus cpu d (has_local shape common) less
 
   pub no_locals : shape.common ≡ false → closed.finals.locals ≡ []
   unfolding finals_of

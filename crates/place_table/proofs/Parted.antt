@@ -24,11 +24,6 @@ use Rattle.place_table.proofs.StrandMoves.{among_append}
 use Rattle.place_table.proofs.Splits.{among_without_same, among_without_other, others_same, others_other, own_same, own_other}
 use Rattle.place_table.proofs.Joins.{hand_append, in_either}
 
--- a pass that holds no lock carries no slot
-pub carries_none : (held : List Hold) (slots : List (ℕ × Behind)) → held ≡ [] → Carries held slots → slots ≡ []
-carries_none held [] none carries = refl
-carries_none held (slot ∷ slots) none carries = absurd (subst (λ (l : List Hold). Carries l (slot ∷ slots)) none carries)
-
 -- a CPU of which what is left doesn't tell is another
 other_than : (c cpu : ℕ) (P : ℕ → Bool) → P cpu ≡ false → P c ≡ true → c ≢ cpu
 other_than c cpu P never is same = true_false (sym is ∙ (ap P same ∙ never))

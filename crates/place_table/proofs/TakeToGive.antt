@@ -1,18 +1,14 @@
 -- From what a take tells to what a give asks.
-use Rattle.std.proofs.Common.{◌≡◌, ◌≢◌, ℕ, zero, suc, ◌<◌, cond, Bool, true, false, List, [], ◌∷◌, ◌++◌, sym, refl, ap, ◌∙◌, subst, arith, Option, Some, MatchOption}
+use Rattle.std.proofs.Common.{◌≡◌, ◌≢◌, ℕ, zero, suc, ◌<◌, cond, true, List, [], sym, refl, ap, ◌∙◌, subst, arith}
 use Rattle.std.specs.Prelude.{IsTrue}
-use Rattle.std.proofs.lemmas.List.Elements.{All-nil, All-head}
+use Rattle.std.proofs.lemmas.List.Elements.{All-head}
 use Rattle.map_types.specs.declared.attr.Shape.{Shape}
 use Rattle.map_types.specs.declared.kind.DomainId.{DomainId}
 use Rattle.map_types.specs.declared.kind.DomainId.TheVariants.{Local, Global, CpuLru, Bucket, Freelist}
-use Rattle.map_types.specs.Kind.{is_lru}
-use Rattle.percpu_values.specs.BodyList.{BodyList}
 use Rattle.place_words.specs.declared.bucket_part.BucketPart.TheVariants.{Lookup, Update, Delete, Take, Next, First, Walk, Evict}
 use Rattle.place_words.specs.declared.history.Part.{Part}
 use Rattle.place_words.specs.declared.history.Part.TheVariants as parts
-use Rattle.place_words.specs.Bodies.{first_key}
-use Rattle.place_words.specs.Buckets.{AllowsInBucket, bucket_after}
-use Rattle.map_types.specs.ElementLists.{times, one}
+use Rattle.map_types.specs.ElementLists.{times}
 use Rattle.place_words.specs.Histories as histories
 use Rattle.place_words.specs.Histories.{content, content_after, Allows, in_bucket, on_freelist, in_locals, in_global, in_own}
 use Rattle.place_words.specs.declared.list_part.GlobalPart.{GlobalPart}
@@ -24,27 +20,17 @@ use Rattle.place_core.specs.State.{rows}
 use Rattle.place_core.specs.declared.step.Lists.{Lists}
 use Rattle.place_table.specs.declared.content.Content.{Content}
 use Rattle.place_table.specs.declared.content.Content.TheVariants as contents
-use Rattle.map_types.specs.Stored.{Stored}
-use Rattle.place_table.specs.Flushes.{flushes}
 use Rattle.place_table.specs.StoredHashes.{stored_in}
-use Rattle.place_table.proofs.Worlds.{by_bool}
 use Rattle.place_table.specs.Contents.{content_told, lists_of, FitsLock}
-use Rattle.place_words.specs.declared.owner.Owner.{Owner}
 use Rattle.place_core.proofs.ElementLemmas.{by_test, times_append}
 use Rattle.place_table.specs.declared.view.View.{View}
 use Rattle.place_table.specs.declared.view.Notes.{Notes}
-use Rattle.place_table.specs.declared.view.BitSeen.{BitSeen}
 use Rattle.place_table.specs.declared.view.Turned.{Turned}
-use Rattle.place_table.proofs.Going.{goes_noted, made_on}
-use Rattle.place_table.specs.Views.{no_notes, is_among, is_in_hand_of, noted, with_clear, with_owner_read, bits_with, numbers_below, touching, passed_on}
-use Rattle.place_table.specs.TurnNotes.{NotesFit, WasRead, WasReadInHand, ProbeFits, CameToHand}
-use Rattle.place_table.specs.Passes.{PassView, TableView, IsPassOf, HasBegun, TookLock, CanGive, Went, HasOnlySpares, IsInNoCall, IsFirstPass, SawOwner, Cleared, with_view, spare_of}
-use Rattle.place_table.specs.declared.view.WordStep.{WordStep}
-use Rattle.place_table.specs.declared.view.HomeIn.{HomeIn}
+use Rattle.place_table.specs.Views.{no_notes, is_among, is_in_hand_of, numbers_below, passed_on}
+use Rattle.place_table.specs.TurnNotes.{NotesFit, WasReadInHand, ProbeFits}
+use Rattle.place_table.specs.Passes.{PassView, TableView, IsPassOf, HasBegun, TookLock, CanGive, Went, IsInNoCall, IsFirstPass, spare_of}
 use Rattle.place_table.proofs.StoredHashes.{stored_listed, HasNoHashes, none_stored}
 use Rattle.place_words.specs.declared.bucket_part.Seen.TheVariants.{Removed, Held}
-use Rattle.place_table.specs.Words.{owner_word, bit_word}
-use Rattle.place_words.specs.Codes.{owner_code}
 
 -- a bucket or a freelist that was taken may be given back by a part that changes nothing
 pub unchanged : (t : TableView) (lock : DomainId) (p q : PassView) (here : Content) (part : Part) → HasNoHashes lock → (took : TookLock t lock p q here) → IsPassOf t q → HasBegun q → IsTrue (is_lock t.shape lock)
@@ -134,12 +120,6 @@ stays_idle p q more lost idle went =
       carries_nothing = went.carried ∙ idle.carries_nothing;
     }
 
--- a call may begin on it
-pub only_spares : (p : PassView) → IsInNoCall p → HasOnlySpares p
-only_spares p idle e cpu has in_hand =
-    let x = idle.spares_only e cpu has in_hand in
-    (x.3, subst (λ (kept : Option Stored). MatchOption kept ((other : ℕ) → is_in_hand_of other cpu p.view.hand ≡ true → other ≡ e) (λ body. body.element ≡ e)) (sym x.1) x.2)
-
 -- the pass that has taken a lock is of the table and has begun
 pub taken_of_table : (t : TableView) (lock : DomainId) (p q : PassView) (here : Content) → TookLock t lock p q here → IsPassOf t p → IsPassOf t q
 taken_of_table t lock p q here took of_table =
@@ -147,63 +127,6 @@ taken_of_table t lock p q here took of_table =
 
 pub taken_begun : (t : TableView) (lock : DomainId) (p q : PassView) (here : Content) → TookLock t lock p q here → HasBegun p → HasBegun q
 taken_begun t lock p q here took begun = ap (λ (z : PassView). is_among z.cpu z.view.cpus) took.after_is ∙ begun
-
--- the key at the head of a bucket may always be told
-pub told_first : (t : TableView) (bucket : ℕ) (p q : PassView) (chain : BodyList) → TookLock t (Bucket bucket) p q (contents.Bucket chain) → IsPassOf t p → HasBegun p → IsTrue (is_lock t.shape (Bucket bucket))
-    → CanGive t (Bucket bucket) q (contents.Bucket chain) (parts.Bucket (First (first_key chain.bodies)))
-unfolding AllowsInBucket bucket_after
-told_first t bucket p q chain took of_table begun there =
-    unchanged t (Bucket bucket) p q (contents.Bucket chain) (parts.Bucket (First (first_key chain.bodies))) tt took (taken_of_table t (Bucket bucket) p q (contents.Bucket chain) took of_table) (taken_begun t (Bucket bucket) p q (contents.Bucket chain) took begun) there
-    refl refl record {
-      marks_are = by_bool (is_lru t.shape.kind) (λ b. [] ≡ cond {A = List ℕ} b [] []) (λ _. refl) (λ _. refl);
-      clears_are = refl;
-      reads = All-nil (WasRead []);
-      flushed = tt;
-      off = All-nil (λ e. flushes e (parts.Bucket (First (first_key chain.bodies))) ≡ true);
-      held = All-nil (ProbeFits []);
-      came = All-nil (CameToHand q.view took.hold no_notes);
-    }
-
--- a look, or a bit cleared, where no lock is held
-pub went_noted : (p q : PassView) (notes : List Notes) (bits : List BitSeen) (touched : List WordStep) (readings : List HomeIn) → q ≡ with_view p (noted notes bits touched readings p.view) → notes ≡ p.view.notes → Went p q [] []
-went_noted p q notes bits touched readings after_is same = record {
-  made = record {
-    goes = goes_noted notes bits touched readings p q after_is;
-    held = ap (λ (z : PassView). z.view.held) after_is;
-    notes = ap (λ (z : PassView). z.view.notes) after_is ∙ same;
-  };
-  spares = ap (λ (z : PassView). z.spares) after_is;
-  hand = ap (λ (z : PassView). z.view.hand) after_is;
-  carried = ap (λ (z : PassView). z.view.carried) after_is;
-}
-
--- one after the other
-pub went_on : (p q r : PassView) (first second : List Turned) (lost more_lost : List ℕ) → Went p q first lost → Went q r second more_lost → Went p r (first ++ second) (more_lost ++ lost)
-went_on p q r first second lost more_lost a b = record {
-  made = made_on p q r first second lost more_lost a.made b.made;
-  spares = b.spares ∙ a.spares;
-  hand = b.hand ∙ a.hand;
-  carried = b.carried ∙ a.carried;
-}
-
--- an owner was read
-pub went_owner : (t : TableView) (e : ℕ) (p q : PassView) (owner : Owner) → p.view.notes ≡ [] → SawOwner t e p q owner → Went p q [] []
-went_owner t e p q owner none_noted saw =
-    went_noted p q (with_owner_read e owner p.view.notes) p.view.bits (touching saw.at (owner_word p.view.shape e) (Some (owner_code owner)) (owner_code owner) p.view) p.view.readings saw.after_is (no_read p.view.notes none_noted)
-  where
-    no_read : (notes : List Notes) → notes ≡ [] → with_owner_read e owner notes ≡ notes
-    no_read [] empty = refl
-    no_read (n ∷ below) empty = absurd cc
-
--- an owner was read and a bit cleared, where no lock is held
-pub went_cleared : (t : TableView) (e : ℕ) (p q r : PassView) (owner : Owner) (bit : Bool) → p.view.notes ≡ [] → SawOwner t e p q owner → Cleared e q r bit → Went p r [] []
-went_cleared t e p q r owner bit none_noted saw was_cleared =
-    let first = went_owner t e p q owner none_noted saw in
-    went_on p q r [] [] [] [] first (went_noted q r (with_clear e bit q.view.notes) (bits_with e false q.view) (touching was_cleared.at (bit_word q.view.shape e) (Some (one bit)) 0 q.view) q.view.readings was_cleared.after_is (no_clear q.view.notes (first.made.notes ∙ none_noted)))
-  where
-    no_clear : (notes : List Notes) → notes ≡ [] → with_clear e bit notes ≡ notes
-    no_clear [] empty = refl
-    no_clear (n ∷ below) empty = absurd cc
 
 -- The first pass
 

@@ -4,12 +4,9 @@ use mathlib.Core.Option.{some}
 use lib.ListN.{get_elem?}
 use Rattle.map_types.specs.declared.attr.Shape.{Shape}
 use Rattle.map_types.specs.declared.kind.DomainId.{DomainId}
-use Rattle.map_types.specs.declared.kind.MapKind.{MapKind}
-use Rattle.map_types.specs.declared.kind.MapKind.TheVariants.{Hash, PercpuHash, LruHash, LruPercpuHash}
 use Rattle.map_types.specs.Stored.{Stored}
 use Rattle.place_words.specs.Histories.{opening_content}
 use Rattle.place_words.specs.Locks.{is_lock, lock_named}
-use Rattle.place_words.specs.Openings.{opening_spares}
 use Rattle.place_table.specs.declared.content.Content.{Content}
 use Rattle.place_table.specs.declared.content.Behind.{Behind}
 use Rattle.place_table.specs.Contents.{content_told, FitsLock, IsSized}
@@ -30,13 +27,6 @@ pub record IsFirstSlot (shape : Shape) (k : ℕ) (behind : Behind) : Type 0 wher
 pub record AreFirstSlots (shape : Shape) (n : ℕ) (slots : List Behind) : Type 0 where
   pub count : length slots ≡ n
   pub each : (k : ℕ) → k < n → (behind : Behind) × (get_elem? slots k ≡ some behind) × IsFirstSlot shape k behind
-
--- the elements that are spares at first, by CPU: only a map of kind HASH has any
-abbrev pub first_spares : MapKind → Shape → List ℕ
-first_spares Hash shape = opening_spares shape
-first_spares PercpuHash shape = []
-first_spares LruHash shape = []
-first_spares LruPercpuHash shape = []
 
 -- the bodies of some elements, by CPU from CPU 0 on, and no more
 abbrev pub AreBodiesOf : Shape → List ℕ → List (Option Stored) → Type 0

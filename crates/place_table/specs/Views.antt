@@ -22,9 +22,8 @@ use Rattle.key_hash.specs.Bucket.{bucket_number}
 use Rattle.map_types.specs.Kind.{is_lru}
 use Rattle.place_words.specs.Histories.{Content, content, content_after}
 use Rattle.place_words.specs.Locks.{lock_count, lock_named, lock_number}
-use Rattle.place_words.specs.Openings.{opening_spares}
+use Rattle.place_words.specs.Openings.{first_spares}
 use Rattle.map_types.specs.declared.kind.MapKind.{MapKind}
-use Rattle.map_types.specs.declared.kind.MapKind.TheVariants.{Hash, PercpuHash, LruHash, LruPercpuHash}
 use Rattle.place_core.specs.declared.step.Lists.{Lists}
 use Rattle.place_core.specs.State.{no_lists, rows}
 use Rattle.place_core.specs.Steps.{with_free, without_free, with_row, without_row, left_by, joined_by}
@@ -155,10 +154,7 @@ spares_from cpu [] = []
 spares_from cpu (spare ∷ spares) = record { element = spare; cpu = cpu } ∷ spares_from (suc cpu) spares
 
 abbrev pub first_hand : MapKind → Shape → List InHand
-first_hand Hash shape = spares_from 0 (opening_spares shape)
-first_hand PercpuHash shape = []
-first_hand LruHash shape = []
-first_hand LruPercpuHash shape = []
+first_hand kind shape = spares_from 0 (first_spares shape kind)
 
 abbrev pub first_view : Shape → View
 first_view shape = record {

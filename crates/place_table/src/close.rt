@@ -63,7 +63,10 @@ fn marked_in(
 ) -> Result<Numbers, NoMemory>
     requires full { IsFull closed.now.words }
     requires within { first + elements ≤ slots_len closed.now.words }
-    ensures { (bit : ℕ → Bool) → ((e : ℕ) → e < elements → slice_index_or (slots_items closed.now.words) (first + e) 0 ≡ one (bit e)) → IfOk result (λ marked. marked ≡ filter bit (range_with_len 0 elements)) }
+    ensures { (bit : ℕ → Bool)
+        → ((e : ℕ) → e < elements
+        → slice_index_or (slots_items closed.now.words) (first + e) 0 ≡ one (bit e))
+        → IfOk result (λ marked. marked ≡ filter bit (range_with_len 0 elements)) }
 {
     let mut marked = Vec::new(alloc);
     for element in 0..elements {
@@ -83,10 +86,14 @@ fn empty_out(
 )
     requires full { IsFull closed.old.slots × (slots_len closed.old.slots ≡ count) }
     requires room_for_contents { (contents.old.items ≡ []) × (count ≤ vec_capacity contents.old) }
-    requires room_for_histories { (histories.old.items ≡ []) × (count ≤ vec_capacity histories.old) }
-    ensures contents { contents.new.items ≡ map (λ behind. behind.content) (slots_items closed.old.slots) }
-    ensures histories { histories.new.items ≡ map (λ behind. behind.history) (slots_items closed.old.slots) }
-    ensures empty { (k : ℕ) → k < slots_len closed.new.slots → slice_index_or (slots_filled closed.new.slots) k false ≡ false }
+    requires room_for_histories { (histories.old.items ≡ [])
+        × (count ≤ vec_capacity histories.old) }
+    ensures contents { contents.new.items
+        ≡ map (λ behind. behind.content) (slots_items closed.old.slots) }
+    ensures histories { histories.new.items
+        ≡ map (λ behind. behind.history) (slots_items closed.old.slots) }
+    ensures empty { (k : ℕ) → k < slots_len closed.new.slots
+        → slice_index_or (slots_filled closed.new.slots) k false ≡ false }
 {
     for slot in 0..count {
         let Behind { content, history } = closed.take(slot);

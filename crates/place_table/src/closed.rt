@@ -18,7 +18,8 @@ impl Model for Closed {
 
     ghost Value = { ClosedView };
 
-    ghost view = { λ c. record { histories = c.histories; strands = c.strands; finals = c.finals; lost = c.lost } };
+    ghost view = { λ c. record
+        { histories = c.histories; strands = c.strands; finals = c.finals; lost = c.lost } };
 }
 
 impl Closed {

@@ -37,14 +37,16 @@ fn add_cpu(cpus: &mut [bool; 16], cpu: u32)
 /// Takes a CPU out.
 pub(crate) fn drop_cpu(cpus: &mut [bool; 16], cpu: u32)
     requires { cpu < 16 }
-    ensures { (among : List ℕ) → cpus.old ≡ flags_of among → cpus.new ≡ flags_of (without_cpu cpu among) }
+    ensures { (among : List ℕ) → cpus.old ≡ flags_of among
+        → cpus.new ≡ flags_of (without_cpu cpu among) }
 {
     cpus[cpu as usize] = false;
 }
 
 /// Adds the CPUs of another pass.
 pub(crate) fn add_cpus(cpus: &mut [bool; 16], others: &[bool; 16])
-    ensures { (first second : List ℕ) → cpus.old ≡ flags_of first → others.now ≡ flags_of second → cpus.new ≡ flags_of (first ++ second) }
+    ensures { (first second : List ℕ) → cpus.old ≡ flags_of first → others.now ≡ flags_of second
+        → cpus.new ≡ flags_of (first ++ second) }
 {
     for cpu in 0..16 {
         cpus[cpu] = cpus[cpu] | others[cpu];

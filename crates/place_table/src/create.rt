@@ -6,10 +6,11 @@ ghost use Rattle.map_types.specs.ElementLists.{times, IsIn};
 ghost use Rattle.place_words.specs.Bodies.{numbers};
 ghost use Rattle.place_words.specs.Codes.{owner_code, HasOwnerCode};
 ghost use Rattle.place_words.specs.Locks.{lock_count};
+ghost use Rattle.place_words.specs.Openings.{first_spares};
 ghost use Rattle.place_words.specs.Sets.{new_set};
 ghost use Rattle.place_core.specs.OpeningView.{AreOpeningOwners};
 ghost use Rattle.place_table.specs.Contents.{IsSized, FitsSet, set_told};
-ghost use Rattle.place_table.specs.Opening.{IsFirstContent, IsFirstSlot, AreFirstSlots, first_spares, AreBodiesOf};
+ghost use Rattle.place_table.specs.Opening.{IsFirstContent, IsFirstSlot, AreFirstSlots, AreBodiesOf};
 ghost use Rattle.place_table.specs.Words.{opening_words, opening_home_codes};
 ghost use Rattle.place_table.specs.Passes.{IsFirstPass};
 
@@ -251,7 +252,8 @@ fn bodies_of(
 /// The bodies of the spares at first, by CPU.
 fn spare_bodies(alloc: Global, shape: &Shape) -> Result<[Option<BoxedBody>; 16], NoMemory>
     requires { IsShape shape.now }
-    ensures { IfOk result (λ spares. AreBodiesOf shape.now (first_spares shape.now.kind shape.now) spares) }
+    ensures { IfOk result (λ spares. AreBodiesOf shape.now
+        (first_spares shape.now shape.now.kind) spares) }
 {
     match shape.kind {
         MapKind::Hash => {

@@ -35,15 +35,18 @@ pub(crate) fn rehome_word<N: Way>(
     cpu: u32,
 )
     requires table { seat.old.table_id ≡ shared.now.table_id }
-    requires words { (shared.now.table_id.words ≡ word_count shared.now.key) × (word ≡ home_word shared.now.key element) }
+    requires words { (shared.now.table_id.words ≡ word_count shared.now.key)
+        × (word ≡ home_word shared.now.key element) }
     requires way { (N.element ≡ element) × (N.to ≡ to) }
     requires element { IsTrue shared.now.key.common × (element < shared.now.key.elements) }
     requires cpu { is_among cpu seat.old.me.0.cpus ≡ true }
-    requires home { (from : homes.Home) × IsKnownHome shared.now.key seat.old.me.0 cpu element from }
+    requires home { (from : homes.Home)
+        × IsKnownHome shared.now.key seat.old.me.0 cpu element from }
     requires goes { MayGoHome shared.now.key seat.old.me.0 cpu element to }
     ensures seat { (seat.new.table_id ≡ seat.old.table_id) × (seat.new.id ≡ seat.old.id) }
     ensures rehomed { Rehomes element to seat.old.me seat.new.me }
 {
+    // Only the clauses name these.
     let _ = element;
     let _ = cpu;
     shared.store::<Rehoming<N>>(seat, word, code_of(to));

@@ -75,7 +75,7 @@ fn own_of(alloc: Global, part: u32, size: u32, body: &Body) -> Result<Bytes, NoM
 {
     let mut out = zeros(alloc, size as usize)?;
     body.values().read_own(part, out.as_mut_slice());
-    Ok(Bytes::of(out))
+    Bytes::from_slice(alloc, out.as_slice())
 }
 
 /// So many zeros.

@@ -24,13 +24,19 @@ pub(crate) fn claim_word<N: Deed>(
     cpu: u32,
 )
     requires table { seat.old.table_id ≡ shared.now.table_id }
-    requires words { (shared.now.table_id.words ≡ word_count shared.now.key) × (word ≡ owner_word shared.now.key element) }
-    requires deed { (at : ℕ) → with_hashes N.hashes (moved at N.lock N.now N.hand N.notes N.word N.left seat.old.me.0) ≡ claimed at lock element cpu seat.old.me.0 }
-    requires lock { (hold : Hold) × IsTrue (is_lock shared.now.key lock) × (hold_at (lock_number shared.now.key lock) seat.old.me.0.held ≡ Some hold) × (hold.cpu ≡ cpu) × IsHead element hold.now.free }
+    requires words { (shared.now.table_id.words ≡ word_count shared.now.key)
+        × (word ≡ owner_word shared.now.key element) }
+    requires deed { (at : ℕ)
+        → with_hashes N.hashes (moved at N.lock N.now N.hand N.notes N.word N.left seat.old.me.0)
+        ≡ claimed at lock element cpu seat.old.me.0 }
+    requires lock { (hold : Hold) × IsTrue (is_lock shared.now.key lock)
+        × (hold_at (lock_number shared.now.key lock) seat.old.me.0.held ≡ Some hold)
+        × (hold.cpu ≡ cpu) × IsHead element hold.now.free }
     requires element { element < shared.now.key.elements }
     ensures seat { (seat.new.table_id ≡ seat.old.table_id) × (seat.new.id ≡ seat.old.id) }
     ensures claimed { Claims lock element cpu seat.old.me seat.new.me }
 {
+    // Only the clauses name these.
     let _ = lock;
     let _ = element;
     shared.store::<Moving<N>>(seat, word, 1 + cpu as u64);
@@ -46,15 +52,22 @@ pub(crate) fn settle_word<N: Deed>(
     cpu: u32,
 )
     requires table { seat.old.table_id ≡ shared.now.table_id }
-    requires words { (shared.now.table_id.words ≡ word_count shared.now.key) × (word ≡ owner_word shared.now.key element) }
-    requires deed { (at : ℕ) → with_hashes N.hashes (moved at N.lock N.now N.hand N.notes N.word N.left seat.old.me.0) ≡ settled at lock element cpu seat.old.me.0 }
-    requires lock { (hold : Hold) × IsTrue (is_lock shared.now.key lock) × (hold_at (lock_number shared.now.key lock) seat.old.me.0.held ≡ Some hold) × (hold.cpu ≡ cpu) × (IsTrue (is_lru shared.now.key.kind) → IsIn element (rows hold.now)) }
+    requires words { (shared.now.table_id.words ≡ word_count shared.now.key)
+        × (word ≡ owner_word shared.now.key element) }
+    requires deed { (at : ℕ)
+        → with_hashes N.hashes (moved at N.lock N.now N.hand N.notes N.word N.left seat.old.me.0)
+        ≡ settled at lock element cpu seat.old.me.0 }
+    requires lock { (hold : Hold) × IsTrue (is_lock shared.now.key lock)
+        × (hold_at (lock_number shared.now.key lock) seat.old.me.0.held ≡ Some hold)
+        × (hold.cpu ≡ cpu) × (IsTrue (is_lru shared.now.key.kind) → IsIn element (rows hold.now)) }
     requires has_free_list { IsFalse (is_bucket lock) }
     requires element { element < shared.now.key.elements }
-    requires hand { (is_among cpu seat.old.me.0.cpus ≡ true) × (is_in_hand_of element cpu seat.old.me.0.hand ≡ true) }
+    requires hand { (is_among cpu seat.old.me.0.cpus ≡ true)
+        × (is_in_hand_of element cpu seat.old.me.0.hand ≡ true) }
     ensures seat { (seat.new.table_id ≡ seat.old.table_id) × (seat.new.id ≡ seat.old.id) }
     ensures settled { Settles lock element cpu seat.old.me seat.new.me }
 {
+    // Only the clauses name these.
     let _ = lock;
     let _ = element;
     let _ = cpu;
@@ -71,16 +84,27 @@ pub(crate) fn attach_word<N: Deed>(
     cpu: u32,
 )
     requires table { seat.old.table_id ≡ shared.now.table_id }
-    requires words { (shared.now.table_id.words ≡ word_count shared.now.key) × (word ≡ owner_word shared.now.key element) }
-    requires deed { (at : ℕ) → with_hashes N.hashes (moved at N.lock N.now N.hand N.notes N.word N.left seat.old.me.0) ≡ attached at bucket element cpu seat.old.me.0 }
-    requires bucket { (hold : Hold) × (bucket < shared.now.key.buckets) × (hold_at (lock_number shared.now.key (locks.Bucket bucket)) seat.old.me.0.held ≡ Some hold) × (hold.cpu ≡ cpu) }
+    requires words { (shared.now.table_id.words ≡ word_count shared.now.key)
+        × (word ≡ owner_word shared.now.key element) }
+    requires deed { (at : ℕ)
+        → with_hashes N.hashes (moved at N.lock N.now N.hand N.notes N.word N.left seat.old.me.0)
+        ≡ attached at bucket element cpu seat.old.me.0 }
+    requires bucket { (hold : Hold) × (bucket < shared.now.key.buckets)
+        × (hold_at (lock_number shared.now.key (locks.Bucket bucket)) seat.old.me.0.held
+        ≡ Some hold) × (hold.cpu ≡ cpu) }
     requires element { element < shared.now.key.elements }
-    requires hand { (is_among cpu seat.old.me.0.cpus ≡ true) × (is_in_hand_of element cpu seat.old.me.0.hand ≡ true) }
-    requires not_carried { IsTrue (is_lru shared.now.key.kind) → is_in_hand_of element cpu seat.old.me.0.carried ≡ false }
-    requires hashed { IsTrue (is_lru shared.now.key.kind) → (bucket_known element cpu seat.old.me.0.hashes ≡ Some bucket) × ((k : ℕ) (other : Hold) → hold_at k seat.old.me.0.held ≡ Some other → k ≡ lock_number shared.now.key (locks.Bucket bucket)) }
+    requires hand { (is_among cpu seat.old.me.0.cpus ≡ true)
+        × (is_in_hand_of element cpu seat.old.me.0.hand ≡ true) }
+    requires not_carried { IsTrue (is_lru shared.now.key.kind)
+        → is_in_hand_of element cpu seat.old.me.0.carried ≡ false }
+    requires hashed { IsTrue (is_lru shared.now.key.kind)
+        → (bucket_known element cpu seat.old.me.0.hashes ≡ Some bucket)
+        × ((k : ℕ) (other : Hold) → hold_at k seat.old.me.0.held ≡ Some other
+        → k ≡ lock_number shared.now.key (locks.Bucket bucket)) }
     ensures seat { (seat.new.table_id ≡ seat.old.table_id) × (seat.new.id ≡ seat.old.id) }
     ensures attached { Attaches bucket element cpu seat.old.me seat.new.me }
 {
+    // Only the clauses name these.
     let _ = element;
     let _ = cpu;
     shared.store::<Moving<N>>(seat, word, 32 + bucket as u64);
@@ -96,13 +120,19 @@ pub(crate) fn detach_word<N: Deed>(
     cpu: u32,
 )
     requires table { seat.old.table_id ≡ shared.now.table_id }
-    requires words { (shared.now.table_id.words ≡ word_count shared.now.key) × (word ≡ owner_word shared.now.key element) }
-    requires deed { (at : ℕ) → with_hashes N.hashes (moved at N.lock N.now N.hand N.notes N.word N.left seat.old.me.0) ≡ detached at bucket element cpu seat.old.me.0 }
-    requires bucket { (hold : Hold) × (bucket < shared.now.key.buckets) × (hold_at (lock_number shared.now.key (locks.Bucket bucket)) seat.old.me.0.held ≡ Some hold) × (hold.cpu ≡ cpu) × IsIn element hold.now.first }
+    requires words { (shared.now.table_id.words ≡ word_count shared.now.key)
+        × (word ≡ owner_word shared.now.key element) }
+    requires deed { (at : ℕ)
+        → with_hashes N.hashes (moved at N.lock N.now N.hand N.notes N.word N.left seat.old.me.0)
+        ≡ detached at bucket element cpu seat.old.me.0 }
+    requires bucket { (hold : Hold) × (bucket < shared.now.key.buckets)
+        × (hold_at (lock_number shared.now.key (locks.Bucket bucket)) seat.old.me.0.held
+        ≡ Some hold) × (hold.cpu ≡ cpu) × IsIn element hold.now.first }
     requires element { element < shared.now.key.elements }
     ensures seat { (seat.new.table_id ≡ seat.old.table_id) × (seat.new.id ≡ seat.old.id) }
     ensures detached { Detaches bucket element cpu seat.old.me seat.new.me }
 {
+    // Only the clauses name these.
     let _ = bucket;
     let _ = element;
     shared.store::<Moving<N>>(seat, word, 1 + cpu as u64);

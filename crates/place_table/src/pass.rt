@@ -24,7 +24,16 @@ impl Model for Pass {
 
     ghost Value = { PassView };
 
-    ghost view = { λ p. record { table = p.seat.table_id; seat = p.seat.id; cpu = p.cpu; call = p.call; view = p.seat.me.0; spares = p.spares } };
+    ghost view = { λ p. record {
+      table = p.seat.table_id;
+      seat = p.seat.id;
+      cpu = p.cpu;
+      call = p.call;
+      view
+          = p.seat.me.0;
+      spares = p.spares;
+    } };
 
-    ghost invariant = { λ p. IsPass p.seat.me.0 p.seat.me.1 p.strand.items p.spares p.cpus p.ended };
+    ghost invariant = { λ p. IsPass p.seat.me.0 p.seat.me.1 p.strand.items p.spares p.cpus
+        p.ended };
 }

@@ -32,7 +32,7 @@ use row_list::Rows;
 use std::alloc::Global;
 
 /// What is left of what lay in the slots, contents and histories apart, beside the marked elements, the strands and the
-/// spares.
+/// spares. What may be long is shared, so that it is had once more without copies.
 pub(crate) fn read_slots(
     alloc: Global,
     shape: &Shape,
@@ -43,10 +43,82 @@ pub(crate) fn read_slots(
     spares: &[Option<BoxedBody>; 16],
 ) -> Result<Closed, NoMemory>
     requires shape { IsShape shape.now }
-    requires counted { (length contents.items ≡ lock_count shape.now) × (length histories.items ≡ lock_count shape.now) }
-    requires sized { All (HasSizedBodies shape.now) (slice_range contents.items (first_bucket shape.now) (first_freelist shape.now)) }
-    ensures { (log : Logs) (lost bit : ℕ → Bool) (strands : List Ended) → AreContents shape.now log contents.items → HaveHistories shape.now log lost histories.items
-        → marked ≡ filter bit (range_with_len 0 shape.now.elements) → AreFinished strands ended → IfOk result (λ closed. WasLeft shape.now log lost bit strands spares.now closed) }
+    requires counted { (length contents.items ≡ lock_count shape.now)
+        × (length histories.items ≡ lock_count shape.now) }
+    requires sized { All (HasSizedBodies shape.now)
+        (slice_range contents.items (first_bucket shape.now) (first_freelist shape.now)) }
+    ensures { (log : Logs) (lost bit : ℕ → Bool) (strands : List Ended)
+        → AreContents shape.now log contents.items
+        → HaveHistories shape.now log lost histories.items
+        → marked ≡ filter bit (range_with_len 0 shape.now.elements) → AreFinished strands ended
+        → IfOk result (λ closed. WasLeft shape.now log lost bit strands spares.now closed) }
+{
+    let closed = closed_of(alloc, shape, contents, histories, marked, ended, spares)?;
+    let same = share(alloc, closed)?;
+    Ok(same)
+}
+
+/// The same, of which every list may be had once more without copies.
+fn share(alloc: Global, closed: Closed) -> Result<Closed, NoMemory>
+    ensures { IfOk result (λ same. same ≡ closed) }
+{
+    let Closed {
+        histories,
+        strands,
+        finals,
+        lost,
+    } = closed;
+    Ok(Closed {
+        histories: histories.share(alloc)?,
+        strands,
+        finals: share_finals(alloc, finals)?,
+        lost,
+    })
+}
+
+/// The same, of which every list may be had once more without copies.
+fn share_finals(alloc: Global, finals: Finals) -> Result<Finals, NoMemory>
+    ensures { IfOk result (λ same. same ≡ finals) }
+{
+    let Finals {
+        buckets,
+        freelists,
+        spares,
+        sets,
+        locals,
+        marked,
+    } = finals;
+    Ok(Finals {
+        buckets: buckets.share(alloc)?,
+        freelists: freelists.share(alloc)?,
+        spares: spares.share(alloc)?,
+        sets: sets.share(alloc)?,
+        locals: locals.share(alloc)?,
+        marked: marked.share(alloc)?,
+    })
+}
+
+/// What is left of what lay in the slots, contents and histories apart, beside the marked elements, the strands and the
+/// spares.
+fn closed_of(
+    alloc: Global,
+    shape: &Shape,
+    contents: Vec<Option<Content>>,
+    histories: Vec<Option<Vec<Entry>>>,
+    marked: Numbers,
+    ended: Option<Vec<FinishedStrand>>,
+    spares: &[Option<BoxedBody>; 16],
+) -> Result<Closed, NoMemory>
+    requires shape { IsShape shape.now }
+    requires counted { (length contents.items ≡ lock_count shape.now)
+        × (length histories.items ≡ lock_count shape.now) }
+    requires sized { All (HasSizedBodies shape.now)
+        (slice_range contents.items (first_bucket shape.now) (first_freelist shape.now)) }
+    ensures { (log : Logs) (lost bit : ℕ → Bool) (strands : List Ended)
+        → AreContents shape.now log contents.items
+        → HaveHistories shape.now log lost histories.items
+        → marked ≡ filter bit (range_with_len 0 shape.now.elements) → AreFinished strands ended
+        → IfOk result (λ closed. WasLeft shape.now log lost bit strands spares.now closed) }
 {
     let first_bucket = 2 * shape.cpus as usize + 1;
     let first_freelist = first_bucket + shape.buckets as usize;
@@ -125,9 +197,11 @@ fn lists_left(
 ) -> Result<Lists, NoMemory>
     requires shape { IsShape shape.now }
     requires counted { length contents.items ≡ lock_count shape.now }
-    ensures freelists { IfOk result (λ lists. lists.freelists.items ≡ freelists_in shape.now contents.items) }
+    ensures freelists { IfOk result (λ lists. lists.freelists.items
+        ≡ freelists_in shape.now contents.items) }
     ensures sets { IfOk result (λ lists. lists.sets.items ≡ sets_in shape.now contents.items) }
-    ensures locals { IfOk result (λ lists. lists.locals.items ≡ all_locals_in shape.now contents.items) }
+    ensures locals { IfOk result (λ lists. lists.locals.items
+        ≡ all_locals_in shape.now contents.items) }
 {
     let first_set = shape.cpus as usize + 1;
     let first_bucket = first_set + shape.cpus as usize;
@@ -157,8 +231,10 @@ fn shared_left(
 ) -> Result<Lists, NoMemory>
     requires within { cpus < length contents.items }
     ensures freelists { IfOk result (λ lists. lists.freelists.items ≡ []) }
-    ensures sets { IfOk result (λ lists. lists.sets.items ≡ set_in (slice_index_or contents.items cpus None) ∷ []) }
-    ensures locals { IfOk result (λ lists. lists.locals.items ≡ map locals_in (take cpus contents.items)) }
+    ensures sets { IfOk result (λ lists. lists.sets.items
+        ≡ set_in (slice_index_or contents.items cpus None) ∷ []) }
+    ensures locals { IfOk result (λ lists. lists.locals.items
+        ≡ map locals_in (take cpus contents.items)) }
 {
     let shared = contents[cpus].take();
     Ok(Lists {
@@ -234,7 +310,8 @@ fn sets_left(
     first: usize,
     past: usize,
 ) -> Result<Vec<SetFinal>, NoMemory>
-    ensures { IfOk result (λ sets. sets.items ≡ map set_in (drop first (take past contents.items))) }
+    ensures { IfOk result (λ sets. sets.items
+        ≡ map set_in (drop first (take past contents.items))) }
 {
     contents.truncate(past);
     let mut sets = Vec::new(alloc);
@@ -295,7 +372,8 @@ fn freelists_left(
     contents: Vec<Option<Content>>,
     first: usize,
 ) -> Result<Vec<Numbers>, NoMemory>
-    ensures { IfOk result (λ freelists. freelists.items ≡ map numbers_in (drop first contents.items)) }
+    ensures { IfOk result (λ freelists. freelists.items
+        ≡ map numbers_in (drop first contents.items)) }
 {
     let mut freelists = Vec::new(alloc);
     for content in contents.into_iter().skip(first) {
@@ -342,8 +420,10 @@ fn turns_left(
 ) -> Result<Turns, NoMemory>
     requires shape { IsShape shape.now }
     requires counted { length histories.items ≡ lock_count shape.now }
-    ensures { (log : Logs) (lost : ℕ → Bool) (strands : List Ended) → HaveHistories shape.now log lost histories.items → AreFinished strands ended
-        → IfOk result (λ turns. AreTold shape.now log lost strands turns.histories turns.strands turns.lost) }
+    ensures { (log : Logs) (lost : ℕ → Bool) (strands : List Ended)
+        → HaveHistories shape.now log lost histories.items → AreFinished strands ended
+        → IfOk result
+        (λ turns. AreTold shape.now log lost strands turns.histories turns.strands turns.lost) }
 {
     let Some(ended) = ended else {
         return Ok(Turns {
@@ -375,7 +455,9 @@ fn histories_left(
 ) -> Result<Histories, NoMemory>
     requires shape { IsShape shape.now }
     requires counted { length histories.items ≡ lock_count shape.now }
-    ensures { (log : Logs) (lost : ℕ → Bool) → HaveHistories shape.now log lost histories.items → IfOk result (λ left. AreKept shape.now log lost (lock_count shape.now) left.kept.items left.lost) }
+    ensures { (log : Logs) (lost : ℕ → Bool) → HaveHistories shape.now log lost histories.items
+        → IfOk result (λ left. AreKept shape.now log lost
+        (lock_count shape.now) left.kept.items left.lost) }
 {
     let mut left = Histories {
         kept: Vec::new(alloc),
@@ -398,8 +480,11 @@ impl Histories {
         history: Option<Vec<Entry>>,
     ) -> Result<(), NoMemory>
         requires shape { IsShape shape.now }
-        ensures { (log : Logs) (lost : ℕ → Bool) → (has_lock shape.now number ≡ true → IsHistory (lost number) (log number) history)
-            → AreKept shape.now log lost number self.old.kept.items self.old.lost → OnOk result (AreKept shape.now log lost (number + 1) self.new.kept.items self.new.lost) }
+        ensures { (log : Logs) (lost : ℕ → Bool)
+            → (has_lock shape.now number ≡ true → IsHistory (lost number) (log number) history)
+            → AreKept shape.now log lost number self.old.kept.items self.old.lost
+            → OnOk result (AreKept shape.now log lost
+            (number + 1) self.new.kept.items self.new.lost) }
     {
         let lock = lock_named(shape, number);
         if !is_lock(shape, lock) {
@@ -441,14 +526,15 @@ fn strand_left(alloc: Global, shape: &Shape, strand: FinishedStrand) -> Result<S
     let FinishedStrand { cpus, steps } = strand;
     Ok(Strand {
         cpus: cpus_left(alloc, shape.cpus, &cpus)?,
-        steps,
+        steps: steps.share(alloc)?,
     })
 }
 
 /// The CPUs below this number whose flag is set.
 fn cpus_left(alloc: Global, count: u32, flags: &[bool; 16]) -> Result<Numbers, NoMemory>
     requires few { count ≤ 16 }
-    ensures { IfOk result (λ cpus. cpus ≡ filter (λ cpu. slice_index_or flags.now cpu false) (range_with_len 0 count)) }
+    ensures { IfOk result (λ cpus. cpus
+        ≡ filter (λ cpu. slice_index_or flags.now cpu false) (range_with_len 0 count)) }
 {
     let mut cpus = Vec::new(alloc);
     for cpu in 0..count {

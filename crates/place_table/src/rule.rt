@@ -139,7 +139,8 @@ pub struct Moving<N> {
 impl<N: Deed> Play<Behind, View> for Moving<N> {
     ghost use Rattle.place_table.specs.Plays.{Moves};
 
-    ghost then = { λ st me n after. Moves N.lock N.now N.hand N.hashes N.notes N.word N.left me after };
+    ghost then = { λ st me n after. Moves N.lock N.now N.hand N.hashes N.notes N.word N.left me
+        after };
 }
 
 /// The element whose home changes, and its home from then on.
@@ -272,7 +273,17 @@ impl Merge for Brand {
     ghost use Rattle.std.specs.Prelude.{false};
     ghost use Rattle.map_types.specs.declared.kind.MapKind.TheVariants.{Hash};
 
-    ghost shape = { record { kind = Hash; cpus = 0; capacity = 0; elements = 0; buckets = 0; key_size = 0; value_size = 0; seed = 0; common = false } };
+    ghost shape = { record {
+      kind = Hash;
+      cpus = 0;
+      capacity = 0;
+      elements = 0;
+      buckets = 0;
+      key_size = 0;
+      value_size = 0;
+      seed = 0;
+      common = false;
+    } };
 }
 
 /// A pass takes in another.

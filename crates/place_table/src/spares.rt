@@ -15,6 +15,7 @@ impl PlaceTable {
         requires { CanSpare self.now pass.old }
         ensures { Spared self.now pass.old pass.new result }
     {
+        // That a map has 16 CPUs at most is known of the table once a field is read.
         let _ = &self.shape;
         take_from(&mut pass.spares, pass.cpu)
     }
@@ -24,6 +25,7 @@ impl PlaceTable {
         requires { CanKeepSpare self.now body pass.old }
         ensures { KeptSpare body pass.old pass.new }
     {
+        // That a map has 16 CPUs at most is known of the table once a field is read.
         let _ = &self.shape;
         put_into(&mut pass.spares, pass.cpu, body);
     }
@@ -66,7 +68,8 @@ pub(crate) fn split_spares(
 
 /// Keeps for each CPU what is kept for it here or there.
 pub(crate) fn join_spares(ours: &mut [Option<BoxedBody>; 16], theirs: &mut [Option<BoxedBody>; 16])
-    ensures { (cpu : ℕ) → spare_of cpu ours.new ≡ either_spare (spare_of cpu ours.old) (spare_of cpu theirs.old) }
+    ensures { (cpu : ℕ)
+        → spare_of cpu ours.new ≡ either_spare (spare_of cpu ours.old) (spare_of cpu theirs.old) }
 {
     for cpu in 0..16 {
         join_spare(ours, theirs, cpu);
@@ -76,7 +79,8 @@ pub(crate) fn join_spares(ours: &mut [Option<BoxedBody>; 16], theirs: &mut [Opti
 /// Keeps what is kept there for a CPU, where nothing is kept for it here.
 fn join_spare(ours: &mut [Option<BoxedBody>; 16], theirs: &mut [Option<BoxedBody>; 16], cpu: u32)
     requires { cpu < 16 }
-    ensures here { spare_of cpu ours.new ≡ either_spare (spare_of cpu ours.old) (spare_of cpu theirs.old) }
+    ensures here { spare_of cpu ours.new
+        ≡ either_spare (spare_of cpu ours.old) (spare_of cpu theirs.old) }
     ensures others { SparesDiffer cpu ours.old ours.new × SparesDiffer cpu theirs.old theirs.new }
 {
     if ours[cpu as usize].is_none() {

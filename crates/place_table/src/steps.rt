@@ -33,11 +33,14 @@ use std::thread;
 pub(crate) fn try_lock(shared: &SharedTable, seat: &mut TableSeat, lock: u32, cpu: u32) -> bool
     requires table { seat.old.table_id ≡ shared.now.table_id }
     requires words { shared.now.table_id.words ≡ word_count shared.now.key }
-    requires lock { (lock < lock_count shared.now.key) × IsTrue (is_lock shared.now.key (lock_named shared.now.key lock)) }
+    requires lock { (lock < lock_count shared.now.key)
+        × IsTrue (is_lock shared.now.key (lock_named shared.now.key lock)) }
     requires cpu { is_among cpu seat.old.me.0.cpus ≡ true }
-    requires above { IsAboveAll shared.now.key (rank_of (lock_named shared.now.key lock)) seat.old.me.0.held }
+    requires above { IsAboveAll shared.now.key (rank_of
+        (lock_named shared.now.key lock)) seat.old.me.0.held }
     ensures seat { (seat.new.table_id ≡ seat.old.table_id) × (seat.new.id ≡ seat.old.id) }
-    ensures took { MatchBool result (Took lock cpu seat.old.me seat.new.me) (seat.new.me ≡ seat.old.me) }
+    ensures took { MatchBool result (Took lock cpu seat.old.me seat.new.me)
+        (seat.new.me ≡ seat.old.me) }
 {
     shared.compare_exchange::<Trying>(seat, lock as usize, 0, cpu as u64 + 1) == 0
 }
@@ -52,9 +55,11 @@ pub(crate) fn take_lock<R: Wait>(
 )
     requires table { seat.old.table_id ≡ shared.now.table_id }
     requires words { shared.now.table_id.words ≡ word_count shared.now.key }
-    requires lock { (lock < lock_count shared.now.key) × IsTrue (is_lock shared.now.key (lock_named shared.now.key lock)) }
+    requires lock { (lock < lock_count shared.now.key)
+        × IsTrue (is_lock shared.now.key (lock_named shared.now.key lock)) }
     requires cpu { is_among cpu seat.old.me.0.cpus ≡ true }
-    requires above { IsAboveAll shared.now.key (rank_of (lock_named shared.now.key lock)) seat.old.me.0.held }
+    requires above { IsAboveAll shared.now.key (rank_of
+        (lock_named shared.now.key lock)) seat.old.me.0.held }
     ensures seat { (seat.new.table_id ≡ seat.old.table_id) × (seat.new.id ≡ seat.old.id) }
     ensures took { Took lock cpu seat.old.me seat.new.me }
 {
@@ -72,9 +77,12 @@ pub(crate) fn unload(shared: &SharedTable, seat: &mut TableSeat, lock: u32) -> O
     requires table { seat.old.table_id ≡ shared.now.table_id }
     requires slot { (behind : Behind) × (seat.old.me.1 ≡ (lock, behind) ∷ rest seat.old.me.1) }
     ensures seat { (seat.new.table_id ≡ seat.old.table_id) × (seat.new.id ≡ seat.old.id) }
-    ensures out { (behind : Behind) × (seat.old.me.1 ≡ (lock, behind) ∷ rest seat.old.me.1) × (result ≡ behind.content) × (seat.new.me ≡ (seat.old.me.0, (lock, without_content behind) ∷ rest seat.old.me.1)) }
+    ensures out { (behind : Behind) × (seat.old.me.1 ≡ (lock, behind) ∷ rest seat.old.me.1)
+        × (result ≡ behind.content)
+        × (seat.new.me ≡ (seat.old.me.0, (lock, without_content behind) ∷ rest seat.old.me.1)) }
 {
     let Behind { content, history } = shared.exchange(seat, lock as usize, Behind::nothing());
+    // What comes out is the empty slot from above.
     let _ = shared.exchange(
         seat,
         lock as usize,
@@ -136,12 +144,17 @@ pub(crate) fn give_lock<N: Turn>(
 )
     requires table { seat.old.table_id ≡ shared.now.table_id }
     requires words { shared.now.table_id.words ≡ word_count shared.now.key }
-    requires lock { (lock < lock_count shared.now.key) × IsTrue (is_lock shared.now.key (lock_named shared.now.key lock)) }
+    requires lock { (lock < lock_count shared.now.key)
+        × IsTrue (is_lock shared.now.key (lock_named shared.now.key lock)) }
     requires turn { (N.entry ≡ entry_given lost.now seat.old.me.1) × (N.kept ≡ strand.now.items) }
-    requires may { (behind : Behind) × (slots : List (ℕ × Behind)) × (hold : Hold) × (below : List Hold) × (seat.old.me.1 ≡ (lock, behind) ∷ slots) × IsInnermost seat.old.me.0 hold below × (hold.lock ≡ lock) × MayGive shared.now.key seat.old.me.0 hold N.entry N.kept behind }
+    requires may { (behind : Behind) × (slots : List (ℕ × Behind)) × (hold : Hold)
+        × (below : List Hold) × (seat.old.me.1 ≡ (lock, behind) ∷ slots)
+        × IsInnermost seat.old.me.0 hold below × (hold.lock ≡ lock)
+        × MayGive shared.now.key seat.old.me.0 hold N.entry N.kept behind }
     ensures seat { (seat.new.table_id ≡ seat.old.table_id) × (seat.new.id ≡ seat.old.id) }
     ensures gave { GivesBack N.entry N.kept seat.old.me seat.new.me }
 {
+    // Only the clauses name these.
     let _ = lost;
     let _ = strand;
     shared.store::<Giving<N>>(seat, lock as usize, 0);
@@ -157,12 +170,21 @@ pub(crate) fn lose_lock<N: Caller>(
 )
     requires table { seat.old.table_id ≡ shared.now.table_id }
     requires words { shared.now.table_id.words ≡ word_count shared.now.key }
-    requires lock { (lock < lock_count shared.now.key) × IsTrue (is_lock shared.now.key (lock_named shared.now.key lock)) }
+    requires lock { (lock < lock_count shared.now.key)
+        × IsTrue (is_lock shared.now.key (lock_named shared.now.key lock)) }
     requires caller { (N.cpu ≡ cpu) × (N.call ≡ call) }
-    requires may { (behind : Behind) × (hold : Hold) × (below : List Hold) × (part : history.Part) × (notes : Notes) × (notes_below : List Notes) × (seat.old.me.1 ≡ (lock, behind) ∷ rest seat.old.me.1) × IsInnermost seat.old.me.0 hold below × (hold.lock ≡ lock) × MayGive shared.now.key seat.old.me.0 hold (entry_by N.cpu N.call part) seat.old.me.0.kept behind × (seat.old.me.0.notes ≡ notes ∷ notes_below) × NotesFit shared.now.key seat.old.me.0 hold part notes }
+    requires may { (behind : Behind) × (hold : Hold) × (below : List Hold) × (part : history.Part)
+        × (notes : Notes) × (notes_below : List Notes)
+        × (seat.old.me.1 ≡ (lock, behind) ∷ rest seat.old.me.1)
+        × IsInnermost seat.old.me.0 hold below × (hold.lock ≡ lock)
+        × MayGive shared.now.key seat.old.me.0 hold
+        (entry_by N.cpu N.call part) seat.old.me.0.kept behind
+        × (seat.old.me.0.notes ≡ notes ∷ notes_below)
+        × NotesFit shared.now.key seat.old.me.0 hold part notes }
     ensures seat { (seat.new.table_id ≡ seat.old.table_id) × (seat.new.id ≡ seat.old.id) }
     ensures gave { GivesSome N.cpu N.call seat.old.me seat.new.me }
 {
+    // Only the clauses name these.
     let _ = cpu;
     let _ = call;
     shared.store::<Losing<N>>(seat, lock as usize, 0);
@@ -177,12 +199,16 @@ pub(crate) fn set_bit<N: About>(
     bucket: u32,
 )
     requires table { seat.old.table_id ≡ shared.now.table_id }
-    requires words { (shared.now.table_id.words ≡ word_count shared.now.key) × (word ≡ bit_word shared.now.key element) }
+    requires words { (shared.now.table_id.words ≡ word_count shared.now.key)
+        × (word ≡ bit_word shared.now.key element) }
     requires element { (element < shared.now.key.elements) × (N.element ≡ element) }
-    requires bucket { (hold : Hold) × (bucket < shared.now.key.buckets) × (hold_at (lock_number shared.now.key (locks.Bucket bucket)) seat.old.me.0.held ≡ Some hold) × IsIn element hold.now.first }
+    requires bucket { (hold : Hold) × (bucket < shared.now.key.buckets)
+        × (hold_at (lock_number shared.now.key (locks.Bucket bucket)) seat.old.me.0.held
+        ≡ Some hold) × IsIn element hold.now.first }
     ensures seat { (seat.new.table_id ≡ seat.old.table_id) × (seat.new.id ≡ seat.old.id) }
     ensures marked { Marks element seat.old.me seat.new.me }
 {
+    // Only the clauses name these.
     let _ = bucket;
     let _ = element;
     shared.store::<Marking<N>>(seat, word, 1);
@@ -197,12 +223,15 @@ pub(crate) fn clear_bit<N: About>(
     cpu: u32,
 ) -> u64
     requires table { seat.old.table_id ≡ shared.now.table_id }
-    requires words { (shared.now.table_id.words ≡ word_count shared.now.key) × (word ≡ bit_word shared.now.key element) }
+    requires words { (shared.now.table_id.words ≡ word_count shared.now.key)
+        × (word ≡ bit_word shared.now.key element) }
     requires element { (element < shared.now.key.elements) × (N.element ≡ element) }
-    requires hand { (is_among cpu seat.old.me.0.cpus ≡ true) × MayClear shared.now.key seat.old.me.0 cpu element }
+    requires hand { (is_among cpu seat.old.me.0.cpus ≡ true)
+        × MayClear shared.now.key seat.old.me.0 cpu element }
     ensures seat { (seat.new.table_id ≡ seat.old.table_id) × (seat.new.id ≡ seat.old.id) }
     ensures cleared { Clears element seat.old.me result seat.new.me }
 {
+    // Only the clauses name these.
     let _ = cpu;
     let _ = element;
     shared.swap::<Clearing<N>>(seat, word, 0)
@@ -216,11 +245,13 @@ pub(crate) fn read_bit<N: About>(
     word: usize,
 ) -> u64
     requires table { seat.old.table_id ≡ shared.now.table_id }
-    requires words { (shared.now.table_id.words ≡ word_count shared.now.key) × (word ≡ bit_word shared.now.key element) }
+    requires words { (shared.now.table_id.words ≡ word_count shared.now.key)
+        × (word ≡ bit_word shared.now.key element) }
     requires element { (element < shared.now.key.elements) × (N.element ≡ element) }
     ensures seat { (seat.new.table_id ≡ seat.old.table_id) × (seat.new.id ≡ seat.old.id) }
     ensures seen { SeesBit element seat.old.me result seat.new.me }
 {
+    // Only the clauses name it.
     let _ = element;
     shared.load::<ReadingBit<N>>(seat, word)
 }
@@ -233,11 +264,13 @@ pub(crate) fn read_owner<N: About>(
     word: usize,
 ) -> u64
     requires table { seat.old.table_id ≡ shared.now.table_id }
-    requires words { (shared.now.table_id.words ≡ word_count shared.now.key) × (word ≡ owner_word shared.now.key element) }
+    requires words { (shared.now.table_id.words ≡ word_count shared.now.key)
+        × (word ≡ owner_word shared.now.key element) }
     requires element { (element < shared.now.key.elements) × (N.element ≡ element) }
     ensures seat { (seat.new.table_id ≡ seat.old.table_id) × (seat.new.id ≡ seat.old.id) }
     ensures seen { SeesOwner element seat.old.me result seat.new.me }
 {
+    // Only the clauses name it.
     let _ = element;
     shared.load::<ReadingOwner<N>>(seat, word)
 }
@@ -250,11 +283,13 @@ pub(crate) fn read_home<N: About>(
     word: usize,
 ) -> u64
     requires table { seat.old.table_id ≡ shared.now.table_id }
-    requires words { (shared.now.table_id.words ≡ word_count shared.now.key) × (word ≡ home_word shared.now.key element) }
+    requires words { (shared.now.table_id.words ≡ word_count shared.now.key)
+        × (word ≡ home_word shared.now.key element) }
     requires element { (element < shared.now.key.elements) × (N.element ≡ element) }
     ensures seat { (seat.new.table_id ≡ seat.old.table_id) × (seat.new.id ≡ seat.old.id) }
     ensures seen { SeesHome element seat.old.me result seat.new.me }
 {
+    // Only the clauses name it.
     let _ = element;
     shared.load::<ReadingHome<N>>(seat, word)
 }
@@ -265,17 +300,20 @@ pub(crate) fn cut_seat<N: Cut>(shared: &SharedTable, seat: &mut TableSeat, cpu: 
     requires words { 0 < shared.now.table_id.words }
     requires cpu { (is_among cpu seat.old.me.0.cpus ≡ true) × (N.cpu ≡ cpu) }
     requires idle { seat.old.me.0.held ≡ [] }
-    ensures seat { (seat.new.table_id ≡ seat.old.table_id) × (seat.new.id ≡ seat.old.id) × (result.table_id ≡ seat.old.table_id) }
+    ensures seat { (seat.new.table_id ≡ seat.old.table_id) × (seat.new.id ≡ seat.old.id)
+        × (result.table_id ≡ seat.old.table_id) }
     ensures left { seat.new.me ≡ (split_from cpu seat.old.me.0, seat.old.me.1) }
     ensures right { result.me ≡ (split_off cpu seat.old.me.0, []) }
 {
+    // Only the clauses name it.
     let _ = cpu;
     shared.split_seat::<Cutting<N>>(seat)
 }
 
 /// Takes in another seat, which carries nothing.
 pub(crate) fn merge_seat<N: Merge>(shared: &SharedTable, seat: &mut TableSeat, other: TableSeat)
-    requires table { (seat.old.table_id ≡ shared.now.table_id) × (other.table_id ≡ shared.now.table_id) }
+    requires table { (seat.old.table_id ≡ shared.now.table_id)
+        × (other.table_id ≡ shared.now.table_id) }
     requires words { 0 < shared.now.table_id.words }
     requires slots { other.me.1 ≡ [] }
     requires idle { (seat.old.me.0.held ≡ []) × (other.me.0.held ≡ []) }

@@ -21,7 +21,9 @@ pub(crate) fn finish(
     cpus: &[bool; 16],
     steps: Vec<StrandStep>,
 ) -> Option<Vec<FinishedStrand>>
-    ensures { (strands : List Ended) (last : Ended) → AreFinished strands ended → cpus.now ≡ flags_of last.cpus → steps.items ≡ last.kept → AreFinished (strands ++ last ∷ []) result }
+    ensures { (strands : List Ended) (last : Ended) → AreFinished strands ended
+        → cpus.now ≡ flags_of last.cpus → steps.items ≡ last.kept
+        → AreFinished (strands ++ last ∷ []) result }
 {
     if steps.is_empty() {
         return ended;
@@ -42,7 +44,8 @@ pub(crate) fn put_together(
     ours: Option<Vec<FinishedStrand>>,
     theirs: Option<Vec<FinishedStrand>>,
 ) -> Option<Vec<FinishedStrand>>
-    ensures { (first second : List Ended) → AreFinished first ours → AreFinished second theirs → AreFinished (first ++ second) result }
+    ensures { (first second : List Ended) → AreFinished first ours → AreFinished second theirs
+        → AreFinished (first ++ second) result }
 {
     let mut ours = ours?;
     let mut theirs = theirs?;

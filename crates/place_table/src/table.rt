@@ -44,7 +44,8 @@ impl Model for PlaceTable {
 
     ghost view = { λ t. record { id = t.table.shared.table_id; shape = t.shape } };
 
-    ghost invariant = { λ t. (t.table.shared.key ≡ t.shape) × (t.table.shared.table_id.words ≡ word_count t.shape) × IsShape t.shape };
+    ghost invariant = { λ t. (t.table.shared.key ≡ t.shape)
+        × (t.table.shared.table_id.words ≡ word_count t.shape) × IsShape t.shape };
 }
 
 impl PlaceTable {
@@ -166,6 +167,7 @@ impl PlaceTable {
             Behind::nothing(),
         );
         let Recorded { history, lost } = record_turn(&mut pass.strand, history, lock, entry);
+        // What comes out is the empty slot from above.
         let _ = shared.exchange(
             &mut pass.seat,
             number as usize,
@@ -184,6 +186,7 @@ impl PlaceTable {
     {
         let shared = &self.table.shared;
         let number = lock_number(&self.shape, lock);
+        // What comes out has no content, and its history is given up.
         let _ = shared.exchange(
             &mut pass.seat,
             number as usize,

@@ -3,7 +3,6 @@
 use Rattle.std.proofs.Common.{◌≡◌, ℕ, zero, suc, ◌+◌, ◌<◌, ◌≤◌, Bool, false, cond, eqb, List, [], ◌∷◌, drop, reverse, refl, ap, ◌∙◌, sym, subst, arith}
 use Rattle.std.specs.Prelude.{Option, None, Some, option_to_list}
 use Rattle.std.proofs.lemmas.Bool.{ne_eqb}
-use Rattle.std.proofs.lemmas.Option.{none-some}
 use Rattle.map_types.specs.declared.attr.Shape.{Shape}
 use Rattle.map_types.specs.declared.row.Row.{Row}
 use Rattle.map_types.specs.ElementLists.{times}
@@ -138,19 +137,6 @@ steal_brings bits (e ∷ free) pending = refl
 steal_gives_no_row : (bits : ℕ → Bool) (free : List ℕ) (pending : List Row) → new_in_local (steal_of bits free pending) ≡ []
 steal_gives_no_row bits [] pending = refl
 steal_gives_no_row bits (e ∷ free) pending = refl
-
-nothing_taken : (es : List ℕ) (first : List Look) (second : List Try) (lists : LocalLists) → steal_got (local.Steal (stolen_of es) first second) ≡ None → local_after (local.Steal (stolen_of es) first second) lists ≡ lists
-unfolding local_after
-nothing_taken [] first second lists none = refl
-nothing_taken (e ∷ es) first second lists none = absurd (none-some e (sym none))
-
-steal_nothing : (bits : ℕ → Bool) (free : List ℕ) (pending : List Row) (lists : LocalLists) → steal_got (steal_of bits free pending) ≡ None → local_after (steal_of bits free pending) lists ≡ lists
-steal_nothing bits [] pending lists none = nothing_taken _ _ _ lists none
-steal_nothing bits (e ∷ free) pending lists none = absurd (none-some e (sym none))
-
--- one that gets nothing leaves the lists as they are
-pub steal_leaves : (bits : ℕ → Bool) (lists : LocalLists) → steal_got (steal_of bits lists.free lists.pending) ≡ None → local_after (steal_of bits lists.free lists.pending) lists ≡ lists
-steal_leaves bits lists none = steal_nothing bits lists.free lists.pending lists none
 
 cursor_kept : (es : List ℕ) (first : List Look) (second : List Try) (lists : LocalLists) → (local_after (local.Steal (stolen_of es) first second) lists).steal ≡ lists.steal
 unfolding local_after

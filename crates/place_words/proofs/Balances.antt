@@ -135,9 +135,6 @@ module _ (shape : Shape) (cpu : ℕ) (spare : Option ℕ) where
 
   -- Next key
 
-  quiet_first : (turn : Turn) (turns : List Turn) → Balances spare (turn ∷ []) → spare_after spare (turn ∷ []) ≡ spare → Balances spare turns → Balances spare (turn ∷ turns)
-  quiet_first turn turns one same rest = balances_both spare (turn ∷ []) turns one (subst (λ (s : Option ℕ). Balances s turns) (sym same) rest)
-
   firsts_step : (bucket : ℕ) (buckets : List ℕ) (key : Option (List ℕ)) (rest : List Turn) (reply : Reply) → ((turns : List Turn) → Firsts buckets turns reply → Balances spare turns)
       → MatchOption key (Firsts buckets rest reply) (λ first. (rest ≡ []) × (reply ≡ Value first)) → Balances spare (on_lock (Bucket bucket) (parts.Bucket (First key)) ∷ rest)
   firsts_step bucket buckets None rest reply more goes = let later = more rest goes in record { even = λ e. omega (arith, later.even e); none = later.none }

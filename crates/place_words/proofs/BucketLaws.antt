@@ -176,11 +176,6 @@ numbers_written shape side cpu key value bodies =
 -- The turns that move elements
 
 module _ (shape : Shape) (cpu : ℕ) (bucket : List Stored) where
-  pub added_numbers : (side : Side) (flags : ℕ) (key value : List ℕ) (offer : Option ℕ) (e : ℕ)
-      → numbers (bucket_after shape cpu (Update side flags key value offer (puts.Added e)) bucket) ≡ e ∷ numbers bucket
-  unfolding bucket_after
-  added_numbers side flags key value offer e = refl
-
   pub replaced_numbers : (side : Side) (flags : ℕ) (key value : List ℕ) (offer : Option ℕ) (new old : ℕ)
       → AllowsInBucket shape cpu (Update side flags key value offer (puts.Replaced new old)) bucket → (x : ℕ)
       → times x (old ∷ numbers (bucket_after shape cpu (Update side flags key value offer (puts.Replaced new old)) bucket)) ≡ times x (new ∷ numbers bucket)
@@ -216,10 +211,6 @@ module _ (shape : Shape) (cpu : ℕ) (bucket : List Stored) where
   unfolding AllowsInBucket
   walked_numbers remove room all allowed = ap numbers allowed.1 ∙ numbers_read shape cpu bucket
 
-  pub emptied_numbers : (room : ℕ) (all : List Stored) → numbers (bucket_after shape cpu (Walk true room (Taken all)) bucket) ≡ []
-  unfolding bucket_after
-  emptied_numbers room all = refl
-
 -- All turns at once: what lies there after it and what was taken is what lay there and what was brought.
 module _ (shape : Shape) (cpu : ℕ) (bucket : List Stored) (x : ℕ) where
   pub bucket_counts : (part : BucketPart) → AllowsInBucket shape cpu part bucket
@@ -250,31 +241,6 @@ module _ (shape : Shape) (cpu : ℕ) (bucket : List Stored) (x : ℕ) where
   bucket_counts (Evict e Removed) allowed =
       omega (arith, evicted_numbers shape cpu bucket e allowed x, times_more x e (numbers (without_element e bucket)))
   bucket_counts (Evict e (Held holder)) allowed = refl
-
--- a turn that brings and takes nothing leaves the elements in their order
-pub bucket_stays : (shape : Shape) (cpu : ℕ) (part : BucketPart) (bucket : List Stored)
-    → brought_to_bucket part ≡ [] → taken_from_bucket part ≡ [] → AllowsInBucket shape cpu part bucket → numbers (bucket_after shape cpu part bucket) ≡ numbers bucket
-unfolding AllowsInBucket bucket_after
-bucket_stays shape cpu (Lookup side key got) bucket brought taken allowed = refl
-bucket_stays shape cpu (Update side flags key value offer (puts.Added e)) bucket brought taken allowed = absurd cc
-bucket_stays shape cpu (Update side flags key value offer (puts.Replaced new old)) bucket brought taken allowed = absurd cc
-bucket_stays shape cpu (Update side flags key value offer (puts.Written e)) bucket brought taken allowed =
-    numbers_written shape side cpu key value bucket
-bucket_stays shape cpu (Update side flags key value offer puts.Exists) bucket brought taken allowed = refl
-bucket_stays shape cpu (Update side flags key value offer puts.Absent) bucket brought taken allowed = refl
-bucket_stays shape cpu (Update side flags key value offer puts.Full) bucket brought taken allowed = refl
-bucket_stays shape cpu (Delete key None) bucket brought taken allowed = refl
-bucket_stays shape cpu (Delete key (Some e)) bucket brought taken allowed = absurd cc
-bucket_stays shape cpu (Take key None) bucket brought taken allowed = refl
-bucket_stays shape cpu (Take key (Some gone)) bucket brought taken allowed = absurd cc
-bucket_stays shape cpu (Next key found) bucket brought taken allowed = refl
-bucket_stays shape cpu (First key) bucket brought taken allowed = refl
-bucket_stays shape cpu (Walk remove room (Over n)) bucket brought taken allowed = refl
-bucket_stays shape cpu (Walk true room (Taken all)) bucket brought taken allowed =
-    sym taken ∙ walked_numbers shape cpu bucket true room all allowed
-bucket_stays shape cpu (Walk false room (Taken all)) bucket brought taken allowed = refl
-bucket_stays shape cpu (Evict e Removed) bucket brought taken allowed = absurd cc
-bucket_stays shape cpu (Evict e (Held holder)) bucket brought taken allowed = refl
 
 -- Elements that lie there
 

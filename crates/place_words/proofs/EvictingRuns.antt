@@ -10,7 +10,8 @@ use Rattle.map_types.specs.declared.kind.MapKind.{MapKind}
 use Rattle.map_types.specs.declared.kind.MapKind.TheVariants.{Hash, PercpuHash, LruHash, LruPercpuHash}
 use Rattle.map_types.specs.Kind.{is_lru}
 use Rattle.map_types.specs.Shape.{HasBounds}
-use Rattle.place_words.specs.Logs.{State, lies_in, turned, all_turned, first_spares, new_state, does, after_one, run, IsDone}
+use Rattle.place_words.specs.Logs.{State, lies_in, turned, all_turned, new_state, does, after_one, run, IsDone}
+use Rattle.place_words.specs.Openings.{first_spares}
 use Rattle.place_words.specs.SerialOrder.{AreDone}
 use Rattle.place_words.specs.Turns.{Turn}
 use Rattle.place_words.proofs.BatchesDone.{call_kept}
@@ -73,9 +74,3 @@ module _ (shape : Shape) (lru : is_lru shape.kind ≡ true) where
       let within = All-head (λ (c : Call). c.cpu < shape.cpus) call calls served in
       let rest = run_done (suc number) calls (after_one shape number call state) (All-tail (λ (c : Call). c.cpu < shape.cpus) call calls served) (call_reaches number call state within reached) in
       ((call_done call.cpu number call.verb state within reached, rest.0), rest.1)
-
--- from a new map, and whatever comes next
-pub next_done : (shape : Shape) → HasBounds shape → (lru : is_lru shape.kind ≡ true) → (number : ℕ) (calls : List Call) → All (λ (call : Call). call.cpu < shape.cpus) calls → (cpu later : ℕ) (verb : Verb) → cpu < shape.cpus
-    → IsDone shape cpu later verb (run shape number calls (new_state shape))
-next_done shape bounds lru number calls served cpu later verb within =
-    call_done shape lru cpu later verb (run shape number calls (new_state shape)) within (run_done shape lru number calls (new_state shape) served (new_reached shape bounds lru)).1

@@ -1,20 +1,18 @@
 -- The turn of the global lists that is computed in serial order, with the refill around it, is one that the rules allow.
 use Rattle.std.proofs.Common.{◌≡◌, ℕ, ◌<◌, ◌≤◌, Bool, true, false, List, [], ◌∷◌, ◌++◌, length, take, reverse, map, refl, ap, ◌∙◌, sym, subst, arith}
 use Rattle.std.specs.Prelude.{None, Some, nat_lt, ◌-◌, if◌then◌else◌}
-use Rattle.std.proofs.Math.Seq.{take-nil}
-use Rattle.std.proofs.lemmas.List.{length-take, map-append, nil_from_length, reverse-append}
+use Rattle.std.proofs.lemmas.List.{map-append, reverse-append}
 use Rattle.map_types.specs.declared.attr.Shape.{Shape}
 use Rattle.map_types.specs.declared.row.Row.{Row}
 use Rattle.map_types.specs.ElementLists.{times}
 use Rattle.map_types.specs.Listed.{Listed, elements_of}
 use Rattle.place_words.specs.declared.history.Part.TheVariants as parts
-use Rattle.place_words.specs.declared.list_part.GlobalPart.{GlobalPart}
 use Rattle.place_words.specs.declared.list_part.GlobalPart.TheVariants as global
 use Rattle.place_words.specs.declared.list_part.LocalPart.{LocalPart}
 use Rattle.place_words.specs.declared.list_part.LocalPart.TheVariants as local
 use Rattle.place_words.specs.declared.visits.Flush.{Flush}
 use Rattle.place_words.specs.declared.visits.Visit.{Visit}
-use Rattle.place_words.specs.Choices.{without_bits, active_visits, inactive_visits, bits_rotated, shrink_of, flush_of, global_shrink, global_turn, refill_of, refill_got}
+use Rattle.place_words.specs.Choices.{without_bits, active_visits, inactive_visits, bits_rotated, shrink_of, flush_of, global_turn, refill_of}
 use Rattle.place_words.specs.Globals.{global_scans, global_target, flush_visit, flushed_elements, flushed_rows, with_flushed, IsOutside, AreFlushed, AllowsGlobalShrink, AllowsOnGlobal}
 use Rattle.place_words.specs.Histories.{in_global}
 use Rattle.place_words.specs.Locals.{LocalLists, last_of, AllowsOnLocal}
@@ -22,16 +20,16 @@ use Rattle.place_words.specs.Moves.{elements_of_set, taken_from_global}
 use Rattle.place_words.specs.Rotation.{visits_of, rotated}
 use Rattle.place_words.specs.RowMoves.{gone_by_global}
 use Rattle.place_words.specs.Sets.{ListSet, has_row, is_listed}
-use Rattle.place_words.specs.Takings.{global_probes, freed_by, rows_brought, listed_rows}
-use Rattle.map_types.proofs.RowLemmas.{AreOnce, times_append, times_rows-append, times_rows-cons, times_rows-reverse}
+use Rattle.place_words.specs.Takings.{global_probes, rows_brought, listed_rows}
+use Rattle.map_types.proofs.RowLemmas.{AreOnce, times_rows-append, times_rows-cons, times_rows-reverse}
 use Rattle.place_words.proofs.BucketLaws.{times_more}
 use Rattle.place_words.proofs.KeepLaws.{in_elements, has_one, listed_one, flushed_in}
 use Rattle.place_words.proofs.LookLaws.{shrink_allowed}
 use Rattle.place_words.proofs.Loses.{in_set}
-use Rattle.place_words.proofs.OwnLaws.{visits_name, rotation_visits, no_head, shrink_where_probed, shrink_listed}
-use Rattle.place_words.proofs.RotationCounts.{no_times, no_rows, none_listed, none_in_empty, rotated_less, rotated_none}
+use Rattle.place_words.proofs.OwnLaws.{visits_name, rotation_visits, shrink_where_probed, shrink_listed}
+use Rattle.place_words.proofs.RotationCounts.{rotated_less}
 use Rattle.place_words.proofs.RowCounts.{any, rows_any}
-use Rattle.place_words.proofs.ShrinkProbes.{removed_tries, shrink_probed, freed_none, reverse_empty, append_empty}
+use Rattle.place_words.proofs.ShrinkProbes.{removed_tries, shrink_probed}
 
 nat_lt_yes : (m n : ℕ) → nat_lt m n ≡ true → m < n
 nat_lt_yes m n same = grind (arith, same)
@@ -144,11 +142,6 @@ global_gone_listed bits pending set e =
     let apart = times_rows-append e set.lists.active set.lists.inactive in
     omega (arith, gone, rotated_less global_scans now active inactive e, flushed_in set flushed e any, brought, whole, apart, rows_any e set.lists.active, rows_any e set.lists.inactive)
 
--- and no two of one element where none is pending or listed twice
-pub global_gone_once : (bits : ℕ → Bool) (pending : List Row) (set : ListSet) → AreOnce (rows_brought (parts.Global (global_turn bits pending set)) ++ listed_rows (in_global set))
-    → (e : ℕ) → times e (gone_by_global (global_turn bits pending set)) ≤ 1
-global_gone_once bits pending set once e = omega (arith, global_gone_listed bits pending set e, once e)
-
 -- The refill around it
 
 -- It tells the bits that the global turn found on what was pending, and brings what that moved off free and what it freed.
@@ -158,75 +151,9 @@ pub refill_is : (key_hash : ℕ) (bits : ℕ → Bool) (pending : List Row) (set
 unfolding global_turn
 refill_is key_hash bits pending set = ap (λ (visits : List Visit). local.Refill key_hash visits (taken_from_global (global_turn bits pending set)) (last_of (taken_from_global (global_turn bits pending set)))) (flush_visits bits (reverse pending))
 
-pub global_gives : (bits : ℕ → Bool) (pending : List Row) (set : ListSet) → taken_from_global (global_turn bits pending set) ≡ take global_target set.free ++ gone_by_global (global_turn bits pending set)
-unfolding global_turn
-global_gives bits pending set = refl
-
--- what a global turn flushes, and what a refill tells of what it flushed
-abbrev pub flushes_of : GlobalPart → List Flush
-flushes_of (global.Turn flushed active inactive free shrink) = flushed
-flushes_of (global.Push e) = []
-
-abbrev pub refill_tells : LocalPart → List Visit
-refill_tells (local.Pop key_hash e) = []
-refill_tells (local.Refill key_hash flushed gained got) = flushed
-refill_tells (local.Steal got first second) = []
-refill_tells (local.Add key_hash e cursor) = []
-refill_tells (local.Push e done) = []
-
--- both tell the same bits of what was pending
-pub same_bits : (key_hash : ℕ) (part : GlobalPart) → refill_tells (refill_of key_hash part) ≡ map flush_visit (flushes_of part)
-same_bits key_hash (global.Turn flushed active inactive free shrink) = refl
-same_bits key_hash (global.Push e) = refl
-
 -- the computed refill is allowed on local lists with nothing free
 pub refill_allowed : (shape : Shape) (key_hash : ℕ) (bits : ℕ → Bool) (set : ListSet) (lists : LocalLists) → lists.free ≡ []
     → AllowsOnLocal shape (refill_of key_hash (global_turn bits lists.pending set)) lists
 refill_allowed shape key_hash bits set lists none_free =
     subst (λ (part : LocalPart). AllowsOnLocal shape part lists) (sym (refill_is key_hash bits lists.pending set))
     (none_free, visits_name bits (reverse lists.pending) ∙ elements_turned lists.pending, refl)
-
-shrink_none : (moved : ℕ) (bits : ℕ → Bool) (lists : Listed) → moved ≡ 0 → freed_by (global_shrink moved bits lists) ≡ [] → (lists.active ≡ []) × (lists.inactive ≡ [])
-shrink_none moved bits lists none empty =
-    freed_none global_scans global_target bits lists (omega arith) (omega arith)
-    (subst (λ (n : ℕ). freed_by (global_shrink n bits lists) ≡ []) none empty)
-
-take_none : (xs : List ℕ) → take global_target xs ≡ [] → xs ≡ []
-take_none xs none =
-    let short : length (take global_target xs) ≡ 0 = ap (length {A = ℕ}) none in
-    nil_from_length xs (omega (arith, short, length-take global_target xs))
-
--- it gets nothing only where nothing is free or listed in the global lists, and nothing was pending
-pub refill_none : (key_hash : ℕ) (bits : ℕ → Bool) (pending : List Row) (set : ListSet) → refill_got (refill_of key_hash (global_turn bits pending set)) ≡ None
-    → (set.free ≡ []) × (set.lists.active ≡ []) × (set.lists.inactive ≡ []) × (pending ≡ [])
-unfolding global_turn
-refill_none key_hash bits pending set none =
-    let flushed : List Flush = now_flushed bits pending in
-    let now : Listed = (with_flushed flushed set).lists in
-    let left : ℕ → Bool = without_bits (elements_of pending) bits in
-    let active : List Visit = active_visits global_scans left now in
-    let inactive : List Visit = inactive_visits global_scans left now in
-    let free : List ℕ = take global_target set.free in
-    let after : Listed = rotated global_scans now active inactive in
-    let gained = reverse_empty (free ++ freed_by (global_shrink (length free) (bits_rotated global_scans left now) after)) (no_head _ none) in
-    let apart = append_empty free (freed_by (global_shrink (length free) (bits_rotated global_scans left now) after)) gained in
-    let short : length free ≡ 0 = ap (length {A = ℕ}) apart.0 in
-    let both = shrink_none (length free) (bits_rotated global_scans left now) after short apart.1 in
-    let before = rotated_none global_scans now active inactive (rotation_visits global_scans left now) (none_in_empty after both.0 both.1) in
-    let set_none = none_listed set.lists (λ e. omega (arith, before e, flushed_in set flushed e any)) in
-    let no_flushes : flushed_rows flushed ≡ [] = no_rows (flushed_rows flushed) (λ e. omega (arith, before e, flushed_in set flushed e any, rows_any e (flushed_rows flushed))) in
-    (take_none set.free apart.0, set_none.0, set_none.1, reverse_empty pending (sym (with_hashes bits pending) ∙ no_flushes))
-
--- and it gets nothing wherever that holds
-pub none_refilled : (key_hash : ℕ) (bits : ℕ → Bool) (pending : List Row) (set : ListSet) → set.free ≡ [] → set.lists.active ≡ [] → set.lists.inactive ≡ [] → pending ≡ []
-    → refill_got (refill_of key_hash (global_turn bits pending set)) ≡ None
-none_refilled key_hash bits pending set free active inactive none =
-    ap refill_got (refill_is key_hash bits pending set)
-    ∙ ap last_of (global_gives bits pending set ∙ ap (λ (es : List ℕ). take global_target es ++ gone_by_global (global_turn bits pending set)) free
-    ∙ no_times (take global_target [] ++ gone_by_global (global_turn bits pending set)) (λ e.
-    let gone = global_gone_listed bits pending set e in
-    let brought : times e (elements_of (rows_brought (parts.Global (global_turn bits pending set)))) ≡ 0 = ap (λ (rows : List Row). times e (elements_of rows)) (global_brings bits pending set ∙ ap reverse none) in
-    let rows = times_rows-append e (rows_brought (parts.Global (global_turn bits pending set))) (set.lists.active ++ set.lists.inactive) in
-    let apart = times_rows-append e set.lists.active set.lists.inactive in
-    let empty : times e (take global_target []) ≡ 0 = ap (times e) (take-nil global_target) in
-    omega (arith, times_append e (take global_target []) (gone_by_global (global_turn bits pending set)), empty, gone, brought, rows, apart, rows_any e set.lists.active, rows_any e set.lists.inactive, none_in_empty set.lists active inactive e)))

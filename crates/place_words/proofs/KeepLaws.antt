@@ -149,12 +149,6 @@ given_rows e of active given inactive =
     omega (arith, rows_append e of active (given ++ inactive), rows_append e of given inactive, rows_append e of active inactive)
 
 module _ (hash : ℕ) (active inactive : _) (shrink : Option ShrinkNote) (got : Option ℕ) (set : ListSet) (once : (e : ℕ) → times e (elements_of_set set) ≤ 1) (allowed : AllowsOnOwn (own.Turn hash active inactive shrink got) set) where
-  turned_set : ListSet
-  turned_set = rotated_set own_scans active inactive set
-
-  shrunk_set : ListSet
-  shrunk_set = shrunk_into_free shrink (rotated_set own_scans active inactive set)
-
   pub own_loses : Loses set.lists (shrunk_into_free shrink (rotated_set own_scans active inactive set)).lists (freed_by shrink)
   own_loses =
       let rotates = rotation_loses own_scans set.lists active inactive (once_listed set once) allowed.0 in

@@ -10,13 +10,12 @@ use Rattle.place_words.specs.declared.history.Part.{Part}
 use Rattle.place_words.specs.declared.history.Part.TheVariants as parts
 use Rattle.place_words.specs.declared.list_part.GlobalPart.{GlobalPart}
 use Rattle.place_words.specs.declared.list_part.LocalPart.{LocalPart}
-use Rattle.place_words.specs.declared.list_part.OwnPart.{OwnPart}
 use Rattle.place_words.specs.Globals.{global_after}
 use Rattle.place_words.specs.Histories.{Content, content, content_after, opening_content, replayed, in_bucket, on_freelist, in_locals, in_global, in_own, locals_in, global_in, own_in}
 use Rattle.place_words.specs.Locals.{LocalLists, new_locals, local_after}
 use Rattle.place_words.specs.Locks.{is_same_lock}
 use Rattle.place_words.specs.Logs.{State, turned, all_turned, lies_in, locals_at, globals_at, own_at}
-use Rattle.place_words.specs.Sets.{ListSet, new_set, own_after}
+use Rattle.place_words.specs.Sets.{ListSet, new_set}
 use Rattle.place_words.specs.Turns.{Turn, on_lock}
 use Rattle.place_words.proofs.HistoryLemmas.{content_more}
 use Rattle.place_words.proofs.LockLemmas.{same_lock}
@@ -121,10 +120,6 @@ locals_turned shape cpu number on part state =
 pub globals_turned : (shape : Shape) (cpu number : ℕ) (part : GlobalPart) (state : State) → globals_at shape (turned shape cpu number (on_lock Global (parts.Global part)) state) ≡ global_after part (globals_at shape state)
 globals_turned shape cpu number part state =
     ap (λ (lies : Content). unwrap_or (global_in lies) (new_set [])) (lies_turned shape cpu number (on_lock Global (parts.Global part)) state ∙ ap (content_after shape cpu (parts.Global part)) (lies_globals shape state))
-
-pub own_turned : (shape : Shape) (cpu number on : ℕ) (part : OwnPart) (state : State) → own_at shape (turned shape cpu number (on_lock (CpuLru on) (parts.Own part)) state) on ≡ own_after part (own_at shape state on)
-own_turned shape cpu number on part state =
-    ap (λ (lies : Content). unwrap_or (own_in lies) (new_set [])) (lies_turned shape cpu number (on_lock (CpuLru on) (parts.Own part)) state ∙ ap (content_after shape cpu (parts.Own part)) (lies_own shape state on))
 
 -- Turns of other locks
 

@@ -73,11 +73,6 @@ others_fewer f g contents lock less [] = omega arith
 others_fewer f g contents lock less (other ∷ locks) =
     fewer_step (is_same_lock lock other) (f (contents other)) (g (contents other)) _ _ (less (contents other)) (others_fewer f g contents lock less locks)
 
--- the sum stays where all that is summed stays
-pub sum_stays : (f : Content → ℕ) (contents now : DomainId → Content) (locks : List DomainId) → ((lock : DomainId) → f (contents lock) ≡ f (now lock)) → sum_over f contents locks ≡ sum_over f now locks
-sum_stays f contents now [] stay = refl
-sum_stays f contents now (lock ∷ locks) stay = omega (arith, stay lock, sum_stays f contents now locks stay)
-
 -- Where a lock stands
 
 module _ (lock : ℕ → DomainId) (tells : (a b : ℕ) → is_same_lock (lock a) (lock b) ≡ eqb a b) where

@@ -10,8 +10,8 @@ use Rattle.map_types.specs.declared.call.Call.{Call}
 use Rattle.map_types.specs.declared.kind.MapKind.{MapKind}
 use Rattle.map_types.specs.Kind.{is_lru}
 use Rattle.place_words.specs.Histories.{AllAllowed}
-use Rattle.place_words.specs.Logs.{State, first_spares, new_state, after_one, run}
-use Rattle.place_words.specs.Openings.{opening_stack, opening_spares}
+use Rattle.place_words.specs.Logs.{State, new_state, after_one, run}
+use Rattle.place_words.specs.Openings.{opening_stack, opening_spares, first_spares}
 use Rattle.place_words.specs.SerialOrder.{IsOrderly, AreDone}
 use Rattle.place_words.proofs.AlwaysGets.{stack_some}
 use Rattle.place_words.proofs.PlainlyDone.{plainly_done}

@@ -15,8 +15,8 @@ use Rattle.map_types.specs.Shape.{HasBounds}
 use Rattle.map_types.proofs.RowLemmas.{by_test, times_append}
 use Rattle.place_words.specs.Histories.{replayed}
 use Rattle.place_words.specs.Locks.{is_lock}
-use Rattle.place_words.specs.Logs.{freelist_at, first_spares, new_state}
-use Rattle.place_words.specs.Openings.{is_free, opening_stack, opening_spares, spare_owner, opening_owner, opening_free}
+use Rattle.place_words.specs.Logs.{freelist_at, new_state}
+use Rattle.place_words.specs.Openings.{is_free, opening_stack, opening_spares, first_spares, spare_owner, opening_owner, opening_free}
 use Rattle.place_words.specs.Shares.{share_first}
 use Rattle.place_words.proofs.OpeningSettled.{stack_count, share_all}
 use Rattle.place_words.proofs.PlainRests.{in_buckets, on_freelists, IsKept, sum_below}

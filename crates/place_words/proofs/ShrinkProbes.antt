@@ -1,9 +1,9 @@
 -- What a shrink that is computed in serial order frees: exactly what it probes, each from a row that is listed, and something
 -- wherever anything is listed.
-use Rattle.std.proofs.Common.{◌≡◌, ℕ, zero, suc, ◌≤◌, Bool, true, false, cond, ◌&&◌, ◌||◌, eqb, List, [], ◌∷◌, ◌++◌, length, take, reverse, map, refl, ap, ◌∙◌, sym, subst, arith, ⊎_elim}
+use Rattle.std.proofs.Common.{◌≡◌, ℕ, zero, suc, ◌≤◌, Bool, true, false, cond, eqb, List, [], ◌∷◌, ◌++◌, length, take, reverse, map, refl, ap, ◌∙◌, sym, arith, ⊎_elim}
 use Rattle.std.specs.Prelude.{Some, filter, find, count_by, option_map, if◌then◌else◌}
 use Rattle.std.specs.List.{flat_map}
-use Rattle.std.proofs.lemmas.Bool.{cases_lt, both_ways, eqb-true, eq-eqb, ne_eqb}
+use Rattle.std.proofs.lemmas.Bool.{cases_lt, both_ways, eqb-true, eq-eqb}
 use Rattle.std.proofs.lemmas.List.{map-append, nil_from_length, length-reverse, length-map}
 use Rattle.std.proofs.lemmas.List.Sums.{length-filter}
 use Rattle.map_types.specs.declared.row.Row.{Row}
@@ -15,11 +15,11 @@ use Rattle.place_words.specs.declared.visits.Try.{Try}
 use Rattle.place_words.specs.Choices.{looks_over, forced_over, forced_after, shrink_of}
 use Rattle.place_words.specs.Shrinking.{look_removed, try_removed, found_set, taken_off, after_looks, forced_rows, freed}
 use Rattle.place_words.specs.Takings.{look_probes, walk_probes, shrink_probes, stored_hash}
-use Rattle.map_types.proofs.RowLemmas.{by_test, times_append, times_rows-append, times_rows-reverse, AreOnce}
+use Rattle.map_types.proofs.RowLemmas.{by_test, times_append, times_rows-append, times_rows-reverse}
 use Rattle.place_words.specs.RowMoves.{rows_of}
 use Rattle.place_words.proofs.BucketLaws.{times_more}
 use Rattle.place_words.proofs.CostLemmas.{freed_count}
-use Rattle.place_words.proofs.LookLaws.{spared, removed, count_suc}
+use Rattle.place_words.proofs.LookLaws.{spared, removed}
 use Rattle.place_words.proofs.Worked.{not_nil}
 use Rattle.place_words.proofs.Loses.{in_set}
 use Rattle.place_words.proofs.RowCounts.{any, rows_append, rows_reverse, rows_cut, rows_any, rows_those, rows_without}
@@ -172,11 +172,6 @@ freed_listed scans target bits lists e =
     (omega (arith, whole, looked_there bits scans target (reverse lists.inactive) e, times_rows-reverse e lists.inactive))
     (λ some. omega (arith, some, whole, active, inactive, forced, turned))
 
--- and each element once, where no element has two rows
-pub freed_once : (scans target : ℕ) (bits : ℕ → Bool) (lists : Listed) → AreOnce (lists.active ++ lists.inactive) → (e : ℕ)
-    → times e (freed (shrink_of scans target bits lists).looks (shrink_of scans target bits lists).forced) ≤ 1
-freed_once scans target bits lists once e = omega (arith, freed_listed scans target bits lists e, once e)
-
 -- An element that has a row has a stored hash
 
 pub stored_there : (e : ℕ) (rows : List Row) → 1 ≤ times e (elements_of rows) → (hash : ℕ) × (stored_hash e rows ≡ Some hash)
@@ -207,43 +202,9 @@ off_none looks rows none = by (eqb (count_by look_removed looks) 0) refl none
         let none : count_by look_removed looks ≡ 0 = omega (arith, counted, zero_long) in
         absurd (both_ways (eqb (count_by look_removed looks) 0) is (eq-eqb (count_by look_removed looks) 0 none))
 
-both_empty : (first second : List Row) → cond (eqb (length second) 0) first second ≡ [] → (first ≡ []) × (second ≡ [])
-both_empty first [] none = (none, refl)
-both_empty first (row ∷ second) none =
-    let some : eqb (suc (length second)) 0 ≡ false = ne_eqb (suc (length second)) 0 (λ same. omega (arith, same)) in
-    absurd (not_nil (subst (λ (b : Bool). cond b first (row ∷ second) ≡ []) some none))
-
 pub append_empty : {A : Type 0} (xs ys : List A) → xs ++ ys ≡ [] → (xs ≡ []) × (ys ≡ [])
 append_empty [] ys none = (refl, none)
 append_empty (x ∷ xs) ys none = absurd (not_nil none)
 
 pub reverse_empty : {A : Type 0} (xs : List A) → reverse xs ≡ [] → xs ≡ []
 reverse_empty xs none = nil_from_length xs (sym (length-reverse xs) ∙ ap length none)
-
-seen_first : (bit : Bool) (row : Row) (rows : List Row) (if_set if_not : List Look) → let looks : List Look = if bit then spared row ∷ if_set else removed row ∷ if_not in
-    count_by look_removed looks ≡ 0 → those (found_set looks) (take (length looks) (row ∷ rows)) ≡ [] → ⊥
-seen_first true row rows if_set if_not none empty =
-    not_nil (subst (λ (b : Bool). cond ((b && true) || found_set if_set row.element) (row ∷ those (found_set (spared row ∷ if_set)) (take (length if_set) rows)) (those (found_set (spared row ∷ if_set)) (take (length if_set) rows)) ≡ [])
-    (eq-eqb row.element row.element refl) empty)
-seen_first false row rows if_set if_not none empty = omega (arith, none, count_suc row if_not)
-
-seen_none : (bits : ℕ → Bool) (scans target : ℕ) (rows : List Row) → 1 ≤ scans → 1 ≤ target → let looks : List Look = looks_over bits scans target rows in
-    count_by look_removed looks ≡ 0 → those (found_set looks) (take (length looks) rows) ≡ [] → rows ≡ []
-seen_none bits scans target [] some more none empty = refl
-seen_none bits zero target (row ∷ rows) some more none empty = absurd (omega (arith, some))
-seen_none bits (suc scans) zero (row ∷ rows) some more none empty = absurd (omega (arith, more))
-seen_none bits (suc scans) (suc target) (row ∷ rows) some more none empty =
-    absurd (seen_first (bits row.element) row rows (looks_over bits scans (suc target) rows) (looks_over bits scans target rows) none empty)
-
--- a shrink frees nothing only where nothing is listed
-pub freed_none : (scans target : ℕ) (bits : ℕ → Bool) (lists : Listed) → 1 ≤ scans → 1 ≤ target
-    → freed (shrink_of scans target bits lists).looks (shrink_of scans target bits lists).forced ≡ [] → (lists.active ≡ []) × (lists.inactive ≡ [])
-unfolding shrink_of after_looks
-freed_none scans target bits lists some more none =
-    let looks : List Look = looks_over bits scans target (reverse lists.inactive) in
-    let walked : List Row = take (length looks) (reverse lists.inactive) in
-    let off = off_none looks (reverse (forced_rows (after_looks lists looks))) none in
-    let both = both_empty (reverse (those (found_set looks) walked) ++ lists.active) (without_those (taken_off looks) lists.inactive) (reverse_empty _ off.1) in
-    let apart = append_empty (reverse (those (found_set looks) walked)) lists.active both.0 in
-    let seen = seen_none bits scans target (reverse lists.inactive) some more off.0 (reverse_empty _ apart.0) in
-    (apart.1, reverse_empty lists.inactive seen)

@@ -15,15 +15,12 @@ use Rattle.place_words.specs.declared.visits.Try.{Try}
 use Rattle.place_words.specs.Choices.{forced_over, forced_after, sparing_over, stolen_of, steal_of, steal_got}
 use Rattle.place_words.specs.Locals.{LocalLists, last_of, AreSparing, AreUnsparing, IsSearch, AllowsSteal, AllowsOnLocal}
 use Rattle.place_words.specs.RowMoves.{gone_by_local}
-use Rattle.place_words.specs.Sets.{has_row}
 use Rattle.place_words.specs.Shrinking.{IsFirstEnd, look_removed, try_removed, freed}
 use Rattle.place_words.specs.Takings.{local_probes, stolen_element, ring_next}
 use Rattle.map_types.proofs.RowLemmas.{times_rows-reverse}
 use Rattle.place_words.proofs.CostLemmas.{freed_count}
 use Rattle.place_words.proofs.GlobalChoices.{not_there}
-use Rattle.place_words.proofs.KeepLaws.{has_none}
 use Rattle.place_words.proofs.LookLaws.{spared, removed, ElementsFrom, elements_step, probed_step, tries_until, tries_name}
-use Rattle.place_words.proofs.RowCounts.{rows_any}
 use Rattle.place_words.proofs.ShrinkProbes.{removed_tries, AreProbesOf, probes_step, after_probe, walks_probe, looked_off, off_step, freed_bound, off_none, reverse_empty}
 use Rattle.place_words.proofs.Worked.{AreProbed, probed0, not_nil}
 
@@ -215,11 +212,3 @@ ring_next_below cpu cpus below = by (eqb (cpu + 1) cpus) refl
 pub add_allowed : (shape : Shape) (key_hash e cursor : ℕ) (lists : LocalLists) → times e lists.free ≡ 0 → times e (elements_of lists.pending) ≡ 0 → cursor < shape.cpus
     → AllowsOnLocal shape (local.Add key_hash e cursor) lists
 add_allowed shape key_hash e cursor lists not_free none below = (not_there e lists.pending none, not_free, below)
-
--- a pending element may be freed
-pub push_allowed : (shape : Shape) (e : ℕ) (lists : LocalLists) → 1 ≤ times e (elements_of lists.pending) → AllowsOnLocal shape (local.Push e true) lists
-push_allowed shape e lists some = by (has_row e lists.pending) refl
-  where
-    by : (has : Bool) → has_row e lists.pending ≡ has → has_row e lists.pending ≡ true
-    by true is = is
-    by false is = absurd (omega (arith, some, has_none e lists.pending is, rows_any e lists.pending))

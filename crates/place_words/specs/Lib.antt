@@ -13,6 +13,7 @@ pub mod Logs
 pub mod Moves
 pub mod Named
 pub mod Openings
+pub mod Packed
 pub mod PlainTraces
 pub mod Rotation
 pub mod RowMoves

@@ -8,8 +8,6 @@ use Rattle.map_types.specs.declared.call.Verb.{Verb}
 use Rattle.map_types.specs.declared.call.Verb.TheVariants as verbs
 use Rattle.map_types.specs.declared.kind.DomainId.{DomainId}
 use Rattle.map_types.specs.declared.kind.DomainId.TheVariants.{Local, Global, CpuLru, Bucket, Freelist}
-use Rattle.map_types.specs.declared.kind.MapKind.{MapKind}
-use Rattle.map_types.specs.declared.kind.MapKind.TheVariants.{Hash, PercpuHash, LruHash, LruPercpuHash}
 use Rattle.map_types.specs.declared.kind.Side.{Side}
 use Rattle.map_types.specs.declared.kind.Side.TheVariants.{Sys}
 use Rattle.map_types.specs.declared.refusal.Errno.{Errno}
@@ -49,7 +47,7 @@ use Rattle.place_words.specs.Histories.{Content, content, marks, clears, bucket_
 use Rattle.map_types.specs.Listed.{elements_of}
 use Rattle.place_words.specs.Locals.{LocalLists, new_locals}
 use Rattle.place_words.specs.Locks.{is_lock, is_same_lock}
-use Rattle.place_words.specs.Openings.{opening_spares}
+use Rattle.place_words.specs.Openings.{first_spares}
 use Rattle.place_words.specs.PlainTraces.{spare_after_part, reply_of_put, reply_of_got, reply_of_gone, element_gone}
 use Rattle.place_words.specs.Sets.{ListSet, new_set, has_row}
 use Rattle.place_words.specs.Takings.{listed_rows, rows_brought, probes_of, stored_hash, evicts, brings_home, freed_globally, set_of}
@@ -353,12 +351,6 @@ does shape cpu number state (verbs.BatchDelete flags keys) = write_does shape cp
 -- Runs
 
 -- a new map: no lock has had a turn, no bit is set, and on HASH each CPU has a spare
-abbrev pub first_spares : Shape → MapKind → List ℕ
-first_spares shape Hash = opening_spares shape
-first_spares shape PercpuHash = []
-first_spares shape LruHash = []
-first_spares shape LruPercpuHash = []
-
 abbrev pub new_state : Shape → State
 new_state shape = record { logs = λ lock. []; bits = λ e. false; spares = slice_get (first_spares shape shape.kind) }
 

@@ -27,6 +27,13 @@ opening_stack shape cpu = pushed_from (share_first shape.elements shape.cpus cpu
 unfoldable pub opening_spares : Shape → List ℕ
 opening_spares shape = take shape.cpus (flat_map (opening_stack shape) (range_with_len 0 shape.cpus))
 
+-- the elements that are spares at first, by CPU: only a map of kind HASH has any
+abbrev pub first_spares : Shape → MapKind → List ℕ
+first_spares shape Hash = opening_spares shape
+first_spares shape PercpuHash = []
+first_spares shape LruHash = []
+first_spares shape LruPercpuHash = []
+
 -- the owner of an element that is this CPU's spare, or nobody's
 abbrev pub spare_owner : Option ℕ → Owner
 spare_owner None = owners.Free

@@ -30,22 +30,35 @@ impl EqualCopy for (u32, Bytes) {
     }
 }
 
-/// A list of the same small records.
+/// A list of the same small records. One whose elements are shared takes no memory.
 pub(crate) fn copy_list<T: Copy>(list: &List<T>, alloc: Global) -> Result<List<T>, NoMemory>
     ensures { IfOk result (λ copy. copy ≡ list.now) }
 {
-    Ok(List::of(Vec::from_slice(alloc, list.as_slice())?))
+    match list.again() {
+        Some(same) => Ok(same),
+        None => Ok(List::of(Vec::from_slice(alloc, list.as_slice())?)),
+    }
 }
 
-/// A list of copies of all elements of a list.
+/// A list of copies of all elements of a list. One whose elements are shared takes no memory.
 pub(crate) fn copy_each<T: EqualCopy>(list: &List<T>, alloc: Global) -> Result<List<T>, NoMemory>
     ensures { IfOk result (λ copy. copy ≡ list.now) }
 {
-    let mut copies = Vec::with_capacity(alloc, list.len())?;
-    for item in list.as_slice() {
+    match list.again() {
+        Some(same) => Ok(same),
+        None => Ok(List::of(copies_of(alloc, list.as_slice())?)),
+    }
+}
+
+/// Copies of all of these.
+fn copies_of<T: EqualCopy>(alloc: Global, items: &[T]) -> Result<Vec<T>, NoMemory>
+    ensures { IfOk result (λ copies. copies.items ≡ items.now) }
+{
+    let mut copies = Vec::with_capacity(alloc, items.len())?;
+    for item in items {
         copies.push(item.copy(alloc)?)?;
     }
-    Ok(List::of(copies))
+    Ok(copies)
 }
 
 /// A copy of what is there, if anything is.

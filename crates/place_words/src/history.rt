@@ -3,7 +3,7 @@
 ghost use Rattle.std.specs.Prelude.{◌≡◌, IfOk};
 
 use crate::copying::{EqualCopy, copy_each, copy_list};
-use crate::{BucketPart, FreePart, GlobalPart, LocalPart, OwnPart};
+use crate::{BucketPart, FreePart, LocalPart, PackedGlobal, PackedOwn};
 use map_types::{DomainId, List, NoMemory, Numbers};
 use std::alloc::Global;
 
@@ -13,8 +13,8 @@ pub enum Part {
     Bucket(BucketPart),
     Free(FreePart),
     Local(LocalPart),
-    Global(GlobalPart),
-    Own(OwnPart),
+    Global(PackedGlobal),
+    Own(PackedOwn),
 }
 
 /// One turn of a lock: the CPU that had it, the call in which it had it, and what it did.

@@ -22,7 +22,8 @@ pub enum Home {
 pub fn home_code(home: Home) -> u64
     requires { HasHomeCode home }
     ensures exact { result ≡ home_code home }
-    ensures one_to_one { (other : homes.Home) → HasHomeCode other → home_code other ≡ result → other ≡ home }
+    ensures one_to_one { (other : homes.Home) → HasHomeCode other → home_code other ≡ result
+        → other ≡ home }
 {
     match home {
         Home::Unlisted => 0,

@@ -22,13 +22,19 @@ ghost use Rattle.place_words.specs.Turns.{TurnAt, turns_of, AreLegalAt};
 /// What an update of a map that evicts does at most, whatever the other CPUs do between its turns: where the CPUs share lists
 /// and where each has its own. Its turns have to stand in histories that replay by the rules.
 pub fn bound_laws()
-    ensures shared { (shape : shapes.Shape) (cpu : ℕ) (spare : Option ℕ) (side : sides.Side) (flags : ℕ) (key value : List ℕ)
-        (turns : List TurnAt) (reply : replies.Reply) → IsTrue (is_lru shape.kind) → IsTrue shape.common → cpu < shape.cpus
-        → IsTrace shape cpu spare (verbs.Update side flags key value) turns reply → AreLegalAt shape cpu turns
+    ensures shared { (shape : shapes.Shape) (cpu : ℕ) (spare : Option ℕ) (side : sides.Side)
+        (flags : ℕ) (key value : List ℕ)
+        (turns : List TurnAt) (reply : replies.Reply) → IsTrue (is_lru shape.kind)
+        → IsTrue shape.common → cpu < shape.cpus
+        → IsTrace shape cpu spare (verbs.Update side flags key value) turns reply
+        → AreLegalAt shape cpu turns
         → IsWithinShared shape.cpus (turns_of turns) }
-    ensures own { (shape : shapes.Shape) (cpu : ℕ) (spare : Option ℕ) (side : sides.Side) (flags : ℕ) (key value : List ℕ)
-        (turns : List TurnAt) (reply : replies.Reply) → IsTrue (is_lru shape.kind) → IsFalse shape.common
-        → IsTrace shape cpu spare (verbs.Update side flags key value) turns reply → AreLegalAt shape cpu turns
+    ensures own { (shape : shapes.Shape) (cpu : ℕ) (spare : Option ℕ) (side : sides.Side)
+        (flags : ℕ) (key value : List ℕ)
+        (turns : List TurnAt) (reply : replies.Reply) → IsTrue (is_lru shape.kind)
+        → IsFalse shape.common
+        → IsTrace shape cpu spare (verbs.Update side flags key value) turns reply
+        → AreLegalAt shape cpu turns
         → IsWithinOwn (turns_of turns) }
 {}
 
@@ -42,7 +48,8 @@ pub fn keep_laws()
         → Allows shape cpu part content → IsOnce content → KeepsRows shape cpu part content }
     ensures once { (shape : shapes.Shape) (cpu : ℕ) (part : parts.Part) (content : Content)
         → Allows shape cpu part content → IsOnce content
-        → ((e : ℕ) → times e (elements_in content) + times e (brought part) ≤ 1 + times e (taken part))
+        → ((e : ℕ) → times e (elements_in content) + times e (brought part)
+        ≤ 1 + times e (taken part))
         → IsOnce (content_after shape cpu part content) }
 {}
 
@@ -52,8 +59,10 @@ pub fn keep_laws()
 /// since on a map that evicts no element is in one between calls.
 pub fn serial_laws()
     ensures done { (shape : shapes.Shape) (calls : List requests.Call) → IsShape shape
-        → All (λ (call : requests.Call). call.cpu < shape.cpus) calls → AreDone shape 1 calls (new_state shape) }
+        → All (λ (call : requests.Call). call.cpu < shape.cpus) calls
+        → AreDone shape 1 calls (new_state shape) }
     ensures gets { (shape : shapes.Shape) (calls : List requests.Call) → IsShape shape
         → All (λ (call : requests.Call). call.cpu < shape.cpus) calls → AlwaysGets shape calls }
-    ensures removes { (shape : shapes.Shape) (calls : List requests.Call) → AlwaysRemoves shape calls }
+    ensures removes { (shape : shapes.Shape) (calls : List requests.Call)
+        → AlwaysRemoves shape calls }
 {}

@@ -13,6 +13,7 @@ mod laws;
 mod list_part;
 mod lock;
 mod owner;
+mod packed;
 mod visits;
 
 pub use bucket_part::{BucketPart, NextFound, Put, Seen, Walked};
@@ -24,4 +25,5 @@ pub use laws::{bound_laws, keep_laws, serial_laws};
 pub use list_part::{GlobalPart, LocalPart, OwnPart, Stolen};
 pub use lock::{is_lock, lock_named, lock_number, rank};
 pub use owner::{Owner, owner_code, owner_of_code};
+pub use packed::{PackedGlobal, PackedOwn};
 pub use visits::{Flush, Look, ShrinkNote, Try, Visit};

@@ -19,7 +19,8 @@ pub enum Owner {
 pub fn owner_code(owner: Owner) -> u64
     requires { HasOwnerCode owner }
     ensures exact { result ≡ owner_code owner }
-    ensures one_to_one { (other : owners.Owner) → HasOwnerCode other → owner_code other ≡ result → other ≡ owner }
+    ensures one_to_one { (other : owners.Owner) → HasOwnerCode other → owner_code other ≡ result
+        → other ≡ owner }
 {
     match owner {
         Owner::Free => 0,

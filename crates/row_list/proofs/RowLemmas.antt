@@ -105,10 +105,6 @@ row_after_absent e (x ∷ rows) none =
 abbrev pub HasSome : Option Row → Type 0 → Type 0
 HasSome found P = IsSome found ↔ P
 
-pub head_present : (rows : List Row) → HasSome (head_row rows) (rows ≢ [])
-head_present [] = (λ some. absurd cc, λ some. absurd (some refl))
-head_present (row ∷ rows) = (λ _ is. absurd cc, λ _. refl)
-
 pub tail_present : (rows : List Row) → HasSome (tail_row rows) (rows ≢ [])
 tail_present [] = (λ some. absurd cc, λ some. absurd (some refl))
 tail_present (row ∷ rows) =
@@ -237,20 +233,6 @@ pub row_of_right : (e : ℕ) (xs ys : List Row) → row_of e xs ≡ None → row
 row_of_right e [] ys none = refl
 row_of_right e (x ∷ xs) ys none =
     by_test x.element e (λ b. cond b (Some x) (row_of e xs) ≡ None → cond b (Some x) (row_of e (xs ++ ys)) ≡ row_of e ys) (λ _ here. absurd cc) (λ _ there. row_of_right e xs ys there) none
-
-pub before_is_in : (e : ℕ) (rows : List Row) (row : Row) → row_before e rows ≡ Some row → IsIn row.element (elements_of rows)
-before_is_in e [] row found = absurd cc
-before_is_in e (x ∷ rows) row found =
-    by_test x.element e (λ b. cond b None (row_before_from (Some x) e rows) ≡ Some row → IsIn row.element (elements_of (x ∷ rows)))
-    (λ _ here. absurd cc)
-    (λ _ there. from x rows there) found
-  where
-    from : (y : Row) (ys : List Row) → row_before_from (Some y) e ys ≡ Some row → 0 < times row.element (elements_of (y ∷ ys))
-    from y [] found = absurd cc
-    from y (z ∷ ys) found =
-        by_test z.element e (λ b. cond b (Some y) (row_before_from (Some z) e ys) ≡ Some row → 0 < times row.element (elements_of (y ∷ z ∷ ys)))
-        (λ _ here. let same = ap (λ (r : Row). r.element) (same_Some y row here) in let first = times_here y.element row.element (elements_of (z ∷ ys)) same in omega arith)
-        (λ _ there. let rest = from z ys there in by_test y.element row.element (λ b. 0 < cond b (suc (times row.element (elements_of (z ∷ ys)))) (times row.element (elements_of (z ∷ ys)))) (λ _. omega arith) (λ _. rest)) found
 
 -- Around the row of an element that is there
 

@@ -45,12 +45,16 @@ pub trait Rows: Drop {
     /// The row next to that of an element, towards the head: None where the element isn't in the list or is the head.
     fn before(&self, element: u32) -> Option<Row>
         ensures exact { result ≡ row_before element (rows self.now) }
-        ensures present { IsSome result ↔ (IsIn element (elements_of (rows self.now)) × (¬ IsHead element (elements_of (rows self.now)))) };
+        ensures present { IsSome result
+            ↔ (IsIn element (elements_of (rows self.now))
+            × (¬ IsHead element (elements_of (rows self.now)))) };
 
     /// The row next to that of an element, towards the tail: None where the element isn't in the list or is the tail.
     fn after(&self, element: u32) -> Option<Row>
         ensures exact { result ≡ row_after element (rows self.now) }
-        ensures present { IsSome result ↔ (IsIn element (elements_of (rows self.now)) × (¬ IsHead element (reverse (elements_of (rows self.now))))) };
+        ensures present { IsSome result
+            ↔ (IsIn element (elements_of (rows self.now))
+            × (¬ IsHead element (reverse (elements_of (rows self.now))))) };
 
     /// Takes out the row of an element, where it is in the list.
     fn take_out(&mut self, element: u32) -> Option<Row>

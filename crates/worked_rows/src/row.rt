@@ -118,6 +118,7 @@ impl<'a> Row<'a> {
             "script" => self.block = Block::Script,
             "report" => self.block = Block::Report,
             "cut" => {
+                // The last byte goes, where there is one.
                 let _ = self.input.pop();
             }
             "missed" => self.missed = true,

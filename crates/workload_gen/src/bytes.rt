@@ -16,5 +16,5 @@ pub(crate) fn little_endian(alloc: Global, number: u32, size: u32) -> Result<Byt
         bytes.push((rest % 256) as u8)?;
         rest /= 256;
     }
-    Ok(Bytes::of(bytes))
+    Bytes::from_slice(alloc, bytes.as_slice())
 }

@@ -20,7 +20,8 @@ pub(crate) fn round_calls(
     requires cpus { 1 ≤ shape.now.cpus }
     requires keys { 1 ≤ spec.now.keys }
     requires few { spec.now.calls ≤ 200000 }
-    ensures { IfOk result (λ calls. calls.items ≡ map (round_call shape.now spec.now) (range_with_len 0 spec.now.calls)) }
+    ensures { IfOk result (λ calls. calls.items
+        ≡ map (round_call shape.now spec.now) (range_with_len 0 spec.now.calls)) }
 {
     let mut calls = Vec::with_capacity(alloc, spec.calls as usize)?;
     for i in 0..spec.calls {
@@ -39,7 +40,8 @@ pub(crate) fn drawn_calls(
     requires cpus { 1 ≤ shape.now.cpus }
     requires keys { 1 ≤ spec.now.keys }
     requires few { spec.now.calls ≤ 200000 }
-    ensures { IfOk result (λ calls. calls.items ≡ map (drawn_call shape.now spec.now) (range_with_len 0 spec.now.calls)) }
+    ensures { IfOk result (λ calls. calls.items
+        ≡ map (drawn_call shape.now spec.now) (range_with_len 0 spec.now.calls)) }
 {
     let mut calls = Vec::with_capacity(alloc, spec.calls as usize)?;
     let mut draws = Draws::of(spec.seed);

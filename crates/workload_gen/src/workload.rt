@@ -27,9 +27,11 @@ pub fn generate(alloc: Global, script: &Script) -> Result<Script, NoMemory>
     ensures exact { IfOk result (λ generated. generated ≡ generated_script script.now) }
     ensures well_formed { IfOk result IsWellFormed }
     // Its canonical text, which has the line and no calls, is read as the script again.
-    ensures own_text { IfOk result (λ generated. read_as Form.Generator (canonical generated) ≡ Ok script.now) }
+    ensures own_text { IfOk result (λ generated. read_as Form.Generator (canonical generated)
+        ≡ Ok script.now) }
     // The canonical text of the same calls without the line is read as these calls.
-    ensures listed_text { IfOk result (λ generated. read_as Form.Calls (canonical (listed generated)) ≡ Ok (listed generated)) }
+    ensures listed_text { IfOk result (λ generated. read_as Form.Calls
+        (canonical (listed generated)) ≡ Ok (listed generated)) }
 {
     let calls = calls_generated(alloc, &script.shape, script.spec)?;
     Ok(Script {

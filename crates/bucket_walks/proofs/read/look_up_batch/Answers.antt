@@ -6,17 +6,17 @@ use Rattle.bucket_walks.proofs.Ends.{refused_read, none_to_read, called_read}
 use Rattle.bucket_walks.proofs.read.look_up_batch.Goals as goal
 
 pub returns-in-Err-clause-answers : goal.returns-in-Err-clause-answers
-returns-in-Err-clause-answers g c = refused_read false c.args.count c.args.start c.args.flags c.requires.can c.shape-shape.result.now c.in-Err.refusal c.shape-shape.ensures c.in-Err.ensures
+returns-in-Err-clause-answers g c = refused_read false c.args.request.count c.args.request.start c.args.request.flags c.requires.can c.shape-shape.result.now c.in-Err.refusal c.shape-shape.ensures c.in-Err.ensures
 
 pub returns-in-Ok-None-clause-answers : goal.returns-in-Ok-None-clause-answers
 returns-in-Ok-None-clause-answers g c =
-    let plans = subst (λ (p : Option Planned). Plans c.shape-shape.result.now c.args.count c.args.start c.args.flags (Ok p)) c.in-Ok-None.field-0-is c.in-Ok-None.ensures in
-    none_to_read false c.args.count c.args.start c.args.flags c.requires.can plans.0 plans.1
+    let plans = subst (λ (p : Option Planned). Plans c.shape-shape.result.now c.args.request.count c.args.request.start c.args.request.flags (Ok p)) c.in-Ok-None.field-0-is c.in-Ok-None.ensures in
+    none_to_read false c.args.request.count c.args.request.start c.args.request.flags c.requires.can plans.0 plans.1
 
 pub read_from-next-requires-clause-bounds : goal.read_from-next-requires-clause-bounds
 read_from-next-requires-clause-bounds g c κs within = bounds_of_shape c.args.table.now.shape c.requires.shape
 
 pub returns-in-Ok-Some-clause-answers : goal.returns-in-Ok-Some-clause-answers
 returns-in-Ok-Some-clause-answers g c =
-    let plans = subst (λ (p : Option Planned). Plans c.shape-shape.result.now c.args.count c.args.start c.args.flags (Ok p)) c.in-Ok-Some.field-0-is c.in-Ok-Some.ensures in
-    called_read c.args.count c.args.start c.args.flags c.requires.can c.shape-shape.result.now c.in-Ok-Some.planned c.read_out.result c.shape-shape.ensures plans refl c.read_from-next.ensures c.read_out.ensures
+    let plans = subst (λ (p : Option Planned). Plans c.shape-shape.result.now c.args.request.count c.args.request.start c.args.request.flags (Ok p)) c.in-Ok-Some.field-0-is c.in-Ok-Some.ensures in
+    called_read c.args.request.count c.args.request.start c.args.request.flags c.requires.can c.shape-shape.result.now c.in-Ok-Some.planned c.read_out.result c.shape-shape.ensures plans refl c.read_from-next.ensures c.read_out.ensures

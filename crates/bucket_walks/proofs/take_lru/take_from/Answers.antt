@@ -5,7 +5,7 @@ use Rattle.bucket_walks.proofs.LruWhole.{take_on, taken_begins, taken_more, take
 use Rattle.bucket_walks.proofs.take_lru.take_from.Goals as goal
 
 pub loop-bucket-init : goal.loop-bucket-init
-loop-bucket-init g c = (taken_begins c.args.map.now c.args.out.now.limit c.args.from c.shape.result.now.buckets c.args.pass.now c.args.out.now c.requires.begins, refl)
+loop-bucket-init g c = (taken_begins c.args.map.now c.args.taking.now.out.limit c.args.from c.shape.result.now.buckets c.args.pass.now c.args.taking.now.out c.requires.begins, refl)
 
 pub take_in-requires-clause-can : goal.take_in-requires-clause-can
 take_in-requires-clause-can g c κs within = take_on c.requires.can c.loop-bucket.invariant.0.changed c.loop-bucket.invariant.0.hand

@@ -10,15 +10,15 @@ use Rattle.bucket_walks.proofs.take_lru.take_in.Goals as goal
 
 pub free_all-requires : goal.free_all-requires
 free_all-requires g c =
-    (c.type_bounds.sync-G, can_free_all c.requires.can (subst (λ (z : TableView). TakesInto z c.args.bucket c.args.pass.now c.take_out-whole.new.pass c.take_out-whole.result c.args.out.now c.take_out-whole.new.out c.take_out-whole.new.gone.bodies) c.table.ensures.value c.take_out-whole.ensures.takes))
+    (c.type_bounds.sync-G, can_free_all c.requires.can (subst (λ (z : TableView). TakesInto z c.args.bucket c.args.pass.now c.take_out-whole.new.pass c.take_out-whole.result c.args.taking.now.out c.take_out-whole.new.taking.out c.take_out-whole.new.taking.gone.bodies) c.table.ensures.value c.take_out-whole.ensures.takes))
 
 pub returns-clause-takes : goal.returns-clause-takes
 returns-clause-takes g c =
-    takes_in c.requires.can (subst (λ (z : TableView). TakesInto z c.args.bucket c.args.pass.now c.take_out-whole.new.pass c.take_out-whole.result c.args.out.now c.take_out-whole.new.out c.take_out-whole.new.gone.bodies) c.table.ensures.value c.take_out-whole.ensures.takes)
+    takes_in c.requires.can (subst (λ (z : TableView). TakesInto z c.args.bucket c.args.pass.now c.take_out-whole.new.pass c.take_out-whole.result c.args.taking.now.out c.take_out-whole.new.taking.out c.take_out-whole.new.taking.gone.bodies) c.table.ensures.value c.take_out-whole.ensures.takes)
     c.table.ensures.evicts c.free_all.ensures.freed
 
 pub returns-clause-gone : goal.returns-clause-gone
-returns-clause-gone g c = empty_again c.take_out-whole.new.gone (ap (λ (s : BodyList). s.bodies) c.requires.gone) c.free_all.ensures.empty c.take_out-whole.ensures.room
+returns-clause-gone g c = empty_again c.take_out-whole.new.taking.gone (ap (λ (s : BodyList). s.bodies) c.requires.gone) c.free_all.ensures.empty c.take_out-whole.ensures.room
 
 pub take_out-whole-requires-clause-shape : goal.take_out-whole-requires-clause-shape
 take_out-whole-requires-clause-shape g c κs within = subst (λ (z : TableView). IsShape z.shape) (sym c.table.ensures.value) c.table.ensures.shape

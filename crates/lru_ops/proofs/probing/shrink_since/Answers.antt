@@ -18,7 +18,7 @@ pub shrink_into-requires-clause-apart : goal.shrink_into-requires-clause-apart
 shrink_into-requires-clause-apart g c e = c.requires.can.apart e
 
 pub shrink_into-requires-clause-room : goal.shrink_into-requires-clause-room
-shrink_into-requires-clause-room g c = local_room c.args.table.now c.args.set.now c.args.lists.now c.args.pass.now c.requires.can
+shrink_into-requires-clause-room g c = local_room c.args.tools.now.table.now c.args.set.now c.args.lists.now c.args.pass.now c.requires.can
 
 pub shrink_into-requires-clause-noted : goal.shrink_into-requires-clause-noted
 shrink_into-requires-clause-noted g c = (sym c.requires.to, since_global c.requires.can.walk c.requires.start c.requires.lock c.requires.to c.requires.rows)
@@ -28,7 +28,7 @@ shrink_into-requires-clause-asked g c e listed = may_ask c.requires.can.walk e l
 
 pub shrink_into-requires-clause-probed : goal.shrink_into-requires-clause-probed
 shrink_into-requires-clause-probed g c row found =
-    subst (λ rows. MayChase c.args.table.now rows c.args.pass.now row) (sym c.requires.rows) (may_chase c.requires.can.walk row found)
+    subst (λ rows. MayChase c.args.tools.now.table.now rows c.args.pass.now row) (sym c.requires.rows) (may_chase c.requires.can.walk row found)
 
 pub returns : goal.returns
 returns g c =
@@ -36,6 +36,6 @@ returns g c =
     let n = c.shrink_into.new in
     let f = c.shrink_into.ensures in
     let start = since_global c.requires.can.walk c.requires.start c.requires.lock c.requires.to c.requires.rows in
-    let done : ShrunkInto a.table.now a.target a.set.now n.set a.lists.now n.lists a.shrinking.now n.notes a.pass.now n.probe.pass.now =
+    let done : ShrunkInto a.tools.now.table.now a.target a.set.now n.set a.lists.now n.lists a.shrinking.now n.notes a.pass.now n.probe.pass.now =
     shrunk_into c.requires.can c.requires.start c.requires.lock c.requires.to c.requires.rows (f.noted 0 (sym c.requires.to, start)).1 f.shrinks f.whole f.local in
-    subst (λ (z : PassView). ShrunkInto a.table.now a.target a.set.now n.set a.lists.now n.lists a.shrinking.now n.notes a.pass.now z) (search rules) done
+    subst (λ (z : PassView). ShrunkInto a.tools.now.table.now a.target a.set.now n.set a.lists.now n.lists a.shrinking.now n.notes a.pass.now z) (search rules) done

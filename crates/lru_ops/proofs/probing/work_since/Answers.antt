@@ -18,13 +18,13 @@ returns-then-free_len-gt0 g c =
     let m = c.rotate.new in
     let e = c.rotate.ensures in
     let start = since_own c.requires.can c.requires.start c.requires.lock c.requires.to c.requires.rows in
-    let done : Worked a.table.now a.set.now m.set a.turning.now m.notes a.shrinking.now a.shrinking.now false a.pass.now m.bits.pass.now =
+    let done : Worked a.tools.now.table.now a.set.now m.set a.turning.now m.notes a.shrinking.now a.shrinking.now false a.pass.now m.bits.pass.now =
     rotated_worked c.requires.can c.requires.start c.requires.to c.requires.rows (e.noted 0 (sym c.requires.to, start)).1 a.shrinking.now e.rotation e.rows e.whole e.only.probed (subst (λ (n : ℕ). 0 < n) c.free_len.ensures.exact c.if-free_len-gt0.true) in
-    subst (λ (z : PassView). Worked a.table.now a.set.now m.set a.turning.now m.notes a.shrinking.now a.shrinking.now false a.pass.now z) (search rules) done
+    subst (λ (z : PassView). Worked a.tools.now.table.now a.set.now m.set a.turning.now m.notes a.shrinking.now a.shrinking.now false a.pass.now z) (search rules) done
 
 pub shrink_free-requires-clause-room : goal.shrink_free-requires-clause-room
 shrink_free-requires-clause-room g c =
-    free_room c.args.table.now.shape c.rotate.new.set (fits_rotated c.requires.can.fits c.rotate.ensures.rotation c.rotate.ensures.rows c.rotate.ensures.whole) (none_free c.rotate.new.set.free.bodies c.free_len.result c.free_len.ensures.exact c.if-free_len-gt0.false)
+    free_room c.args.tools.now.table.now.shape c.rotate.new.set (fits_rotated c.requires.can.fits c.rotate.ensures.rotation c.rotate.ensures.rows c.rotate.ensures.whole) (none_free c.rotate.new.set.free.bodies c.free_len.result c.free_len.ensures.exact c.if-free_len-gt0.false)
 
 pub shrink_free-requires-clause-noted : goal.shrink_free-requires-clause-noted
 shrink_free-requires-clause-noted g c =
@@ -37,7 +37,7 @@ shrink_free-requires-clause-asked g c e listed =
 pub shrink_free-requires-clause-probed : goal.shrink_free-requires-clause-probed
 shrink_free-requires-clause-probed g c row found =
     (c.rotate.ensures.only.probing row).0
-    (subst (λ rows. MayChase c.args.table.now rows c.args.pass.now row) (sym c.requires.rows) (may_chase c.requires.can row (still_on c.args.set.now c.rotate.new.set c.requires.can.fits.whole c.rotate.ensures.rows row found)))
+    (subst (λ rows. MayChase c.args.tools.now.table.now rows c.args.pass.now row) (sym c.requires.rows) (may_chase c.requires.can row (still_on c.args.set.now c.rotate.new.set c.requires.can.fits.whole c.rotate.ensures.rows row found)))
 
 pub returns : goal.returns
 returns g c =
@@ -47,6 +47,6 @@ returns g c =
     let e = c.rotate.ensures in
     let f = c.shrink_free.ensures in
     let start = since_own c.requires.can c.requires.start c.requires.lock c.requires.to c.requires.rows in
-    let done : Worked a.table.now a.set.now n.set a.turning.now m.notes a.shrinking.now n.notes true a.pass.now n.probe.pass.now =
+    let done : Worked a.tools.now.table.now a.set.now n.set a.turning.now m.notes a.shrinking.now n.notes true a.pass.now n.probe.pass.now =
     shrunk_worked c.requires.can c.requires.start c.requires.to c.requires.rows (f.noted 0 (e.noted 0 (sym c.requires.to, start))).1 e.rotation e.rows e.whole e.only.probed f.shrinks (none_free m.set.free.bodies c.free_len.result c.free_len.ensures.exact c.if-free_len-gt0.false) f.whole in
-    subst (λ (z : PassView). Worked a.table.now a.set.now n.set a.turning.now m.notes a.shrinking.now n.notes true a.pass.now z) (search rules) done
+    subst (λ (z : PassView). Worked a.tools.now.table.now a.set.now n.set a.turning.now m.notes a.shrinking.now n.notes true a.pass.now z) (search rules) done

@@ -10,9 +10,9 @@ fill-target-requires-clause-can g c κs within = can_fill_taken c.requires.can c
 
 pub give-requires-after_bounds : goal.give-requires-after_bounds
 give-requires-after_bounds g c κs within =
-    may_give_refill c.requires.can c.in-Set.ensures c.fill-target.ensures c.empty-flushed.ensures c.empty-turning.ensures c.empty-moved.ensures c.empty-shrinking.ensures (some_lack c.fill-target.result) c.global_turn-part.result c.global_turn-part.ensures.told
+    may_give_refill c.requires.can c.in-Set.ensures c.fill-target.ensures c.empty.ensures c.empty-2.ensures c.empty-3.ensures c.empty-4.ensures (some_lack c.fill-target.result) c.global_turn-part.result c.global_turn-part.ensures.told
 
 pub returns : goal.returns
 returns g c =
-    filled_from c.requires.can c.in-Set.ensures c.fill-target.ensures c.empty-flushed.ensures c.empty-turning.ensures c.empty-moved.ensures c.empty-shrinking.ensures (some_lack c.fill-target.result) c.global_turn-part.result c.global_turn-part.ensures.told
+    filled_from c.requires.can c.in-Set.ensures c.fill-target.ensures c.empty.ensures c.empty-2.ensures c.empty-3.ensures c.empty-4.ensures (some_lack c.fill-target.result) c.global_turn-part.result c.global_turn-part.ensures.told
     c.give.new.pass c.tell_refill-refilled.result c.tell_refill-refilled.ensures c.give.ensures

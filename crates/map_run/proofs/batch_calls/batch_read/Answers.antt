@@ -8,6 +8,6 @@ use Rattle.map_run.proofs.batch_calls.batch_read.Goals as goal
 
 pub returns-in-Ok-Read-clause-answers : goal.returns-in-Ok-Read-clause-answers
 returns-in-Ok-Read-clause-answers g c =
-    let verb = BatchRead c.args.remove c.args.count c.args.start c.args.flags in
-    batch_answers (table_of c.args.map.now) c.args.pass.now c.read_batch.new.pass c.args.remove c.args.count c.args.start c.args.flags c.in-Ok-Read.stop c.in-Ok-Read.taken c.in-Ok-Read.next
+    let verb = BatchRead c.args.remove c.args.request.count c.args.request.start c.args.request.flags in
+    batch_answers (table_of c.args.map.now) c.args.pass.now c.read_batch.new.pass c.args.remove c.args.request.count c.args.request.start c.args.request.flags c.in-Ok-Read.stop c.in-Ok-Read.taken c.in-Ok-Read.next
     (subst (λ (out : BatchOut). Answers (table_of c.args.map.now) c.args.pass.now c.read_batch.new.pass verb (Ok out)) c.in-Ok-Read.field-0-is c.in-Ok-Read.ensures.answers)

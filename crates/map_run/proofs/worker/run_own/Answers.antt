@@ -6,12 +6,14 @@ use Rattle.map_run.proofs.worker.run_own.Goals as goal
 pub loop-call-preserved-then-call-cpu : goal.loop-call-preserved-then-call-cpu
 loop-call-preserved-then-call-cpu g c = record {
   count = omega arith;
-  worked = passes_by (table_of c.args.map.now) c.args.cpu c.args.calls.now c.loop-call.call-index c.call-item.result c.loop-call.pass c.loop-call.replies (omega arith) c.call-item.is c.if-call-cpu.true c.loop-call.invariant.worked;
+  same = c.loop-call.invariant.same;
+  worked = passes_by (table_of c.args.map.now) c.args.worker.now.cpu c.args.calls.now c.loop-call.call-index c.call-item.result c.loop-call.worker.pass c.loop-call.worker.replies (omega arith) c.call-item.is c.if-call-cpu.true c.loop-call.invariant.worked;
 }
 
 pub loop-call-preserved : goal.loop-call-preserved
 loop-call-preserved g c = record {
   count = omega arith;
-  worked = works_on (table_of c.args.map.now) c.args.cpu c.args.calls.now c.loop-call.call-index c.call-item.result c.loop-call.pass c.run_call.new.pass (c.loop-call.number + 1) c.in_ok-reply.reply c.loop-call.replies c.push.new.self
+  same = c.loop-call.invariant.same;
+  worked = works_on (table_of c.args.map.now) c.args.worker.now.cpu c.args.calls.now c.loop-call.call-index c.call-item.result c.loop-call.worker.pass c.run_call.new.pass (c.loop-call.number + 1) c.in_ok-reply.reply c.loop-call.worker.replies c.push.new.self
       (omega arith) c.call-item.is (omega arith) c.if-call-cpu.false c.loop-call.invariant.worked c.in_ok-reply.ensures.called c.in_ok-reply.ensures.answers c.in_ok-push.ensures;
 }

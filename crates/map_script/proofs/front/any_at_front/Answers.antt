@@ -16,5 +16,6 @@ returns c =
     let twice : length digits ≡ 2 * length bytes = (decode_of-ok digits bytes is).2 in
     let made : c.in_ok-bytes.bytes.len ≡ size = search rules in
     let fits : length room ≡ c.in_ok-bytes.bytes.len = search rules in
-    let whole : c.of.result ≡ bytes = c.of.ensures ∙ taken_whole c.in_ok-bytes.bytes.len bytes room (omega arith) fits in
+    let same : c.in_ok-copy.copy ≡ c.as_slice.result.now = search rules in
+    let whole : c.in_ok-copy.copy ≡ bytes = same ∙ (c.as_slice.ensures.value ∙ taken_whole c.in_ok-bytes.bytes.len bytes room (omega arith) fits) in
     rw whole (decoded_token size digits bytes c.in_ok-digits.rest.now c.args.text.now (omega arith) sized is (parts_joined (2 * size) c.args.text.now digits c.in_ok-digits.rest.now split.1 split.2))

@@ -31,10 +31,10 @@ give-requires-after_bounds g c κs within =
     let bodies = a.chain.bodies in
     let plain = is_plain_of _ _ c.self.view_is c.self.invariant in
     let popped : Popped t q c.pop.new.pass None = c.in_default.ensures in
-    let turn = full_turn t.shape q.cpu bodies b.sized a.side a.flags a.key.now a.value.now None c.requires.absent c.requires.adds plain in
+    let turn = full_turn t.shape q.cpu bodies b.sized a.write.side a.write.flags a.write.key.now a.write.value.now None c.requires.absent c.requires.adds plain in
     subst (λ (z : TableView). MayGiveBack z (locks.Bucket a.bucket) c.pop.new.pass (contents.Bucket a.chain) c.updated-part.result) (sym c.self.view_is)
-    (may_give_back t (locks.Bucket a.bucket) c.pop.new.pass (contents.Bucket a.chain) (parts.Bucket (Update a.side a.flags a.key.now a.value.now None puts.Full)) c.updated-part.result
-    (can_give_full t a.bucket q c.pop.new.pass a.chain b plain a.side a.flags a.key.now a.value.now popped turn) c.updated-part.ensures)
+    (may_give_back t (locks.Bucket a.bucket) c.pop.new.pass (contents.Bucket a.chain) (parts.Bucket (Update a.write.side a.write.flags a.write.key.now a.write.value.now None puts.Full)) c.updated-part.result
+    (can_give_full t a.bucket q c.pop.new.pass a.chain b plain a.write.side a.write.flags a.write.key.now a.write.value.now popped turn) c.updated-part.ensures)
 
 pub returns-in_default-clause-ends : goal.returns-in_default-clause-ends
 returns-in_default-clause-ends g c =
@@ -45,8 +45,8 @@ returns-in_default-clause-ends g c =
     let bodies = a.chain.bodies in
     let plain = is_plain_of _ _ c.self.view_is c.self.invariant in
     let popped : Popped t q c.pop.new.pass None = c.in_default.ensures in
-    let turn = full_turn t.shape q.cpu bodies b.sized a.side a.flags a.key.now a.value.now None c.requires.absent c.requires.adds plain in
-    answered_full t a.bucket q c.pop.new.pass a.chain b plain a.side a.flags a.key.now a.value.now popped turn c.give.new.pass c.updated-part.result c.requires.spares c.requires.gives c.updated-part.ensures
+    let turn = full_turn t.shape q.cpu bodies b.sized a.write.side a.write.flags a.write.key.now a.write.value.now None c.requires.absent c.requires.adds plain in
+    answered_full t a.bucket q c.pop.new.pass a.chain b plain a.write.side a.write.flags a.write.key.now a.write.value.now popped turn c.give.new.pass c.updated-part.result c.requires.spares c.requires.gives c.updated-part.ensures
     (subst (λ (z : TableView). GaveBack z (locks.Bucket a.bucket) c.pop.new.pass c.give.new.pass (contents.Bucket a.chain) c.updated-part.result) c.self.view_is c.give.ensures)
 
 pub fill_body-requires-clause-bounds : goal.fill_body-requires-clause-bounds
@@ -73,7 +73,7 @@ add_head-requires-clause-countable g c =
 
 pub add_head-requires-clause-absent : goal.add_head-requires-clause-absent
 add_head-requires-clause-absent g c =
-    ap (λ (z : Stored). place_of_key z.key c.args.chain.bodies) c.fill_body.ensures.stored ∙ nowhere c.args.key.now c.args.chain.bodies c.requires.absent
+    ap (λ (z : Stored). place_of_key z.key c.args.chain.bodies) c.fill_body.ensures.stored ∙ nowhere c.args.write.key.now c.args.chain.bodies c.requires.absent
 
 pub give-requires-2-after_bounds : goal.give-requires-2-after_bounds
 give-requires-2-after_bounds g c κs within =
@@ -90,12 +90,12 @@ give-requires-2-after_bounds g c κs within =
     let e_is : was.element ≡ e = ap (λ (z : Stored). z.element) (sym c.fill_body.ensures.stored) ∙ sym (c.element-element.ensures ∙ ap (λ (z : Stored). z.element) c.body.ensures) in
     let shape_is = c.shape.ensures ∙ ap (λ (t : TableView). t.shape) c.self.view_is in
     let back = c.add_head.new.self in
-    let stored : filled ≡ new_stored t.shape a.side q.cpu e a.key.now a.value.now = c.fill_body.ensures.stored ∙ (λ i. new_stored (shape_is i) a.side (c.cpu_of-cpu.ensures.value i) (e_is i) a.key.now a.value.now) in
+    let stored : filled ≡ new_stored t.shape a.write.side q.cpu e a.write.key.now a.write.value.now = c.fill_body.ensures.stored ∙ (λ i. new_stored (shape_is i) a.write.side (c.cpu_of-cpu.ensures.value i) (e_is i) a.write.key.now a.write.value.now) in
     let fits = subst (λ (s : Shape). IsSized s filled) shape_is c.fill_body.ensures.sized in
-    let turn = added_turn t.shape q.cpu bodies back.bodies b.sized a.side a.flags a.key.now a.value.now None e filled c.requires.absent c.requires.adds stored fits c.add_head.ensures in
+    let turn = added_turn t.shape q.cpu bodies back.bodies b.sized a.write.side a.write.flags a.write.key.now a.write.value.now None e filled c.requires.absent c.requires.adds stored fits c.add_head.ensures in
     subst (λ (z : TableView). MayGiveBack z (locks.Bucket a.bucket) c.attach.new.pass (contents.Bucket back) c.updated-part-2.result) (sym c.self.view_is)
-    (may_give_back t (locks.Bucket a.bucket) c.attach.new.pass (contents.Bucket back) (parts.Bucket (Update a.side a.flags a.key.now a.value.now None (puts.Added e))) c.updated-part-2.result
-    (can_give_added t a.bucket q c.pop.new.pass bodies b plain was popped e e_is c.attach.new.pass c.attach.ensures back a.side a.flags a.key.now a.value.now turn) c.updated-part-2.ensures)
+    (may_give_back t (locks.Bucket a.bucket) c.attach.new.pass (contents.Bucket back) (parts.Bucket (Update a.write.side a.write.flags a.write.key.now a.write.value.now None (puts.Added e))) c.updated-part-2.result
+    (can_give_added t a.bucket q c.pop.new.pass bodies b plain was popped e e_is c.attach.new.pass c.attach.ensures back a.write.side a.write.flags a.write.key.now a.write.value.now turn) c.updated-part-2.ensures)
 
 pub returns-clause-ends : goal.returns-clause-ends
 returns-clause-ends g c =
@@ -112,8 +112,8 @@ returns-clause-ends g c =
     let e_is : was.element ≡ e = ap (λ (z : Stored). z.element) (sym c.fill_body.ensures.stored) ∙ sym (c.element-element.ensures ∙ ap (λ (z : Stored). z.element) c.body.ensures) in
     let shape_is = c.shape.ensures ∙ ap (λ (t : TableView). t.shape) c.self.view_is in
     let back = c.add_head.new.self in
-    let stored : filled ≡ new_stored t.shape a.side q.cpu e a.key.now a.value.now = c.fill_body.ensures.stored ∙ (λ i. new_stored (shape_is i) a.side (c.cpu_of-cpu.ensures.value i) (e_is i) a.key.now a.value.now) in
+    let stored : filled ≡ new_stored t.shape a.write.side q.cpu e a.write.key.now a.write.value.now = c.fill_body.ensures.stored ∙ (λ i. new_stored (shape_is i) a.write.side (c.cpu_of-cpu.ensures.value i) (e_is i) a.write.key.now a.write.value.now) in
     let fits = subst (λ (s : Shape). IsSized s filled) shape_is c.fill_body.ensures.sized in
-    let turn = added_turn t.shape q.cpu bodies back.bodies b.sized a.side a.flags a.key.now a.value.now None e filled c.requires.absent c.requires.adds stored fits c.add_head.ensures in
-    answered_added t a.bucket q c.pop.new.pass bodies b plain was popped e e_is c.attach.new.pass c.attach.ensures back a.side a.flags a.key.now a.value.now turn c.give-2.new.pass c.updated-part-2.result c.requires.spares c.requires.gives c.updated-part-2.ensures
+    let turn = added_turn t.shape q.cpu bodies back.bodies b.sized a.write.side a.write.flags a.write.key.now a.write.value.now None e filled c.requires.absent c.requires.adds stored fits c.add_head.ensures in
+    answered_added t a.bucket q c.pop.new.pass bodies b plain was popped e e_is c.attach.new.pass c.attach.ensures back a.write.side a.write.flags a.write.key.now a.write.value.now turn c.give-2.new.pass c.updated-part-2.result c.requires.spares c.requires.gives c.updated-part-2.ensures
     (subst (λ (z : TableView). GaveBack z (locks.Bucket a.bucket) c.attach.new.pass c.give-2.new.pass (contents.Bucket back) c.updated-part-2.result) c.self.view_is c.give-2.ensures)

@@ -113,13 +113,13 @@ give-requires-after_bounds g c κs within =
     let four = c.keep_spare.ensures.after_is in
     let shape_is = c.shape.ensures ∙ ap (λ (t : TableView). t.shape) c.self.view_is in
     let back = c.replace_head-spare.new.self in
-    let stored : filled ≡ new_stored t.shape a.side q.cpu c.element-new.result a.key.now a.value.now = c.fill_body.ensures.stored ∙ (λ i. new_stored (shape_is i) a.side (c.cpu_of-cpu.ensures.value i) (was_is i) a.key.now a.value.now) in
+    let stored : filled ≡ new_stored t.shape a.write.side q.cpu c.element-new.result a.write.key.now a.write.value.now = c.fill_body.ensures.stored ∙ (λ i. new_stored (shape_is i) a.write.side (c.cpu_of-cpu.ensures.value i) (was_is i) a.write.key.now a.write.value.now) in
     let fits = subst (λ (s : Shape). IsSized s filled) shape_is c.fill_body.ensures.sized in
-    let turn = replaced_turn t.shape q.cpu bodies back.bodies b.sized a.side a.flags a.key.now a.value.now None c.element-new.result c.element-old.result filled out c.requires.replaces c.requires.single stored fits c.replace_head-spare.ensures.holder c.replace_head-spare.ensures.of_key old_is in
+    let turn = replaced_turn t.shape q.cpu bodies back.bodies b.sized a.write.side a.write.flags a.write.key.now a.write.value.now None c.element-new.result c.element-old.result filled out c.requires.replaces c.requires.single stored fits c.replace_head-spare.ensures.holder c.replace_head-spare.ensures.of_key old_is in
     let u = under_replaced t a.bucket q bodies b plain c.element-new.result c.element-old.result new_in_hand old_inside c.spare.new.pass c.attach.new.pass c.detach.new.pass c.keep_spare.new.pass one two three four in
     subst (λ (z : TableView). MayGiveBack z (locks.Bucket a.bucket) c.keep_spare.new.pass (contents.Bucket back) c.updated-part.result) (sym c.self.view_is)
-    (may_give_back t (locks.Bucket a.bucket) c.keep_spare.new.pass (contents.Bucket back) (parts.Bucket (Update a.side a.flags a.key.now a.value.now None (puts.Replaced c.element-new.result c.element-old.result))) c.updated-part.result
-    (can_replace t a.bucket q bodies b plain c.element-new.result c.element-old.result new_in_hand old_inside c.keep_spare.new.pass back a.side a.flags a.key.now a.value.now u turn) c.updated-part.ensures)
+    (may_give_back t (locks.Bucket a.bucket) c.keep_spare.new.pass (contents.Bucket back) (parts.Bucket (Update a.write.side a.write.flags a.write.key.now a.write.value.now None (puts.Replaced c.element-new.result c.element-old.result))) c.updated-part.result
+    (can_replace t a.bucket q bodies b plain c.element-new.result c.element-old.result new_in_hand old_inside c.keep_spare.new.pass back a.write.side a.write.flags a.write.key.now a.write.value.now u turn) c.updated-part.ensures)
 
 pub returns : goal.returns
 returns g c =
@@ -144,9 +144,9 @@ returns g c =
     let four = c.keep_spare.ensures.after_is in
     let shape_is = c.shape.ensures ∙ ap (λ (t : TableView). t.shape) c.self.view_is in
     let back = c.replace_head-spare.new.self in
-    let stored : filled ≡ new_stored t.shape a.side q.cpu c.element-new.result a.key.now a.value.now = c.fill_body.ensures.stored ∙ (λ i. new_stored (shape_is i) a.side (c.cpu_of-cpu.ensures.value i) (was_is i) a.key.now a.value.now) in
+    let stored : filled ≡ new_stored t.shape a.write.side q.cpu c.element-new.result a.write.key.now a.write.value.now = c.fill_body.ensures.stored ∙ (λ i. new_stored (shape_is i) a.write.side (c.cpu_of-cpu.ensures.value i) (was_is i) a.write.key.now a.write.value.now) in
     let fits = subst (λ (s : Shape). IsSized s filled) shape_is c.fill_body.ensures.sized in
-    let turn = replaced_turn t.shape q.cpu bodies back.bodies b.sized a.side a.flags a.key.now a.value.now None c.element-new.result c.element-old.result filled out c.requires.replaces c.requires.single stored fits c.replace_head-spare.ensures.holder c.replace_head-spare.ensures.of_key old_is in
+    let turn = replaced_turn t.shape q.cpu bodies back.bodies b.sized a.write.side a.write.flags a.write.key.now a.write.value.now None c.element-new.result c.element-old.result filled out c.requires.replaces c.requires.single stored fits c.replace_head-spare.ensures.holder c.replace_head-spare.ensures.of_key old_is in
     let u = under_replaced t a.bucket q bodies b plain c.element-new.result c.element-old.result new_in_hand old_inside c.spare.new.pass c.attach.new.pass c.detach.new.pass c.keep_spare.new.pass one two three four in
     let cpu_3 : c.detach.new.pass.cpu ≡ q.cpu = ap (λ (z : PassView). z.cpu) three.1 ∙ (ap (λ (z : PassView). z.cpu) two.1 ∙ ap (λ (z : PassView). z.cpu) one) in
     let cpu_1 : c.spare.new.pass.cpu ≡ q.cpu = ap (λ (z : PassView). z.cpu) one in
@@ -154,7 +154,7 @@ returns g c =
     let spares_3 : c.detach.new.pass.spares ≡ c.spare.new.pass.spares = ap (λ (z : PassView). z.spares) three.1 ∙ ap (λ (z : PassView). z.spares) two.1 in
     let hand_is = ap (λ (z : PassView). z.view.hand) four ∙ (ap (λ (z : PassView). z.view.hand) three.1
     ∙ (λ i. with_in_hand c.element-old.result (cpu_2 i) ((ap (λ (z : PassView). z.view.hand) two.1 ∙ (λ j. without_in_hand c.element-new.result (cpu_1 j) (ap (λ (z : PassView). z.view.hand) one j))) i))) in
-    answered_replaced t a.bucket q bodies b plain c.element-new.result c.element-old.result new_in_hand old_inside c.keep_spare.new.pass c.give.new.pass back a.side a.flags a.key.now a.value.now c.updated-part.result was out c.requires.spares c.requires.gives u turn c.updated-part.ensures
+    answered_replaced t a.bucket q bodies b plain c.element-new.result c.element-old.result new_in_hand old_inside c.keep_spare.new.pass c.give.new.pass back a.write.side a.write.flags a.write.key.now a.write.value.now c.updated-part.result was out c.requires.spares c.requires.gives u turn c.updated-part.ensures
     (subst (λ (z : TableView). GaveBack z (locks.Bucket a.bucket) c.keep_spare.new.pass c.give.new.pass (contents.Bucket back) c.updated-part.result) c.self.view_is c.give.ensures)
     kept_was was_is (ap (λ (n : ℕ). spare_of n c.keep_spare.new.pass.spares) (sym cpu_3) ∙ c.keep_spare.ensures.here) (sym old_is)
     (λ other ne. c.keep_spare.ensures.others other (λ is. ne (is ∙ cpu_3)) ∙ (ap (spare_of other) spares_3 ∙ c.spare.ensures.others other ne)) hand_is

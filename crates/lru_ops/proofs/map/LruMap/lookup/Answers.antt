@@ -3,4 +3,4 @@ use Rattle.lru_ops.proofs.map.LruMap.lookup.Goals as goal
 
 pub returns-clause-called : goal.returns-clause-called
 returns-clause-called g c =
-    looked_up c.requires.can c.enter-chain.ensures c.bucket_of_key-bucket.ensures.value c.lookup_in.ensures.looks_up
+    looked_up c.requires.can c.enter-chain.ensures c.bucket_of_key-number.ensures.value c.lookup_in.ensures.looks_up

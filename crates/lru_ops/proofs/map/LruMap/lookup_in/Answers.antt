@@ -22,9 +22,9 @@ give-requires-after_bounds g c κs within =
     let b = c.requires.inside in
     let part = Lookup c.args.side c.args.key.now None in
     let lru = lru_of _ _ c.self.view_is c.self.invariant.1 in
-    let turn = lookup_missed_turn t.shape c.args.pass.now.cpu c.args.chain.bodies b.sized c.args.side c.args.key.now c.in_default.ensures.holder in
-    subst (λ (z : TableView). MayGiveBack z (locks.Bucket c.args.bucket) c.args.pass.now (contents.Bucket c.args.chain) c.lookup_missed-part.result) (sym c.self.view_is)
-    (may_give b (under_nothing b) c.args.chain part (numbers c.args.chain.bodies) (unchanged c.args.chain b part lru turn refl (missed_marks c.args.side c.args.key.now)) c.lookup_missed-part.result c.lookup_missed-part.ensures)
+    let turn = lookup_missed_turn t.shape c.args.pass.now.cpu c.args.taken.chain.bodies b.sized c.args.side c.args.key.now c.in_default.ensures.holder in
+    subst (λ (z : TableView). MayGiveBack z (locks.Bucket c.args.taken.number) c.args.pass.now (contents.Bucket c.args.taken.chain) c.lookup_missed-part.result) (sym c.self.view_is)
+    (may_give b (under_nothing b) c.args.taken.chain part (numbers c.args.taken.chain.bodies) (unchanged c.args.taken.chain b part lru turn refl (missed_marks c.args.side c.args.key.now)) c.lookup_missed-part.result c.lookup_missed-part.ensures)
 
 pub returns-in_default-clause-looks_up : goal.returns-in_default-clause-looks_up
 returns-in_default-clause-looks_up g c =
@@ -32,11 +32,11 @@ returns-in_default-clause-looks_up g c =
     let b = c.requires.inside in
     let part = Lookup c.args.side c.args.key.now None in
     let lru = lru_of _ _ c.self.view_is c.self.invariant.1 in
-    let turn = lookup_missed_turn t.shape c.args.pass.now.cpu c.args.chain.bodies b.sized c.args.side c.args.key.now c.in_default.ensures.holder in
+    let turn = lookup_missed_turn t.shape c.args.pass.now.cpu c.args.taken.chain.bodies b.sized c.args.side c.args.key.now c.in_default.ensures.holder in
     record {
       got = None;
-      gives = gives b (under_nothing b) c.args.chain part (numbers c.args.chain.bodies) (unchanged c.args.chain b part lru turn refl (missed_marks c.args.side c.args.key.now)) lru c.give.new.pass c.lookup_missed-part.result c.lookup_missed-part.ensures
-          (subst (λ (z : TableView). GaveBack z (locks.Bucket c.args.bucket) c.args.pass.now c.give.new.pass (contents.Bucket c.args.chain) c.lookup_missed-part.result) c.self.view_is c.give.ensures);
+      gives = gives b (under_nothing b) c.args.taken.chain part (numbers c.args.taken.chain.bodies) (unchanged c.args.taken.chain b part lru turn refl (missed_marks c.args.side c.args.key.now)) lru c.give.new.pass c.lookup_missed-part.result c.lookup_missed-part.ensures
+          (subst (λ (z : TableView). GaveBack z (locks.Bucket c.args.taken.number) c.args.pass.now c.give.new.pass (contents.Bucket c.args.taken.chain) c.lookup_missed-part.result) c.self.view_is c.give.ensures);
       reply_is = refl;
     }
 
@@ -46,12 +46,12 @@ read_value-requires-clause-bounds g c = subst HasBounds (sym c.shape.ensures) (b
 pub read_value-requires-clause-sized : goal.read_value-requires-clause-sized
 read_value-requires-clause-sized g c =
     let shape_is : c.shape.result.now ≡ c.args.self.now.shape = c.shape.ensures ∙ ap (λ (t : TableView). t.shape) c.self.view_is in
-    subst (λ (s : Shape). IsSized s c.body_at-body.result.now) (sym shape_is) (sized_at c.args.self.now.shape c.args.chain.bodies c.in-Some.place c.body_at-body.result.now c.requires.inside.sized c.body_at-body.ensures)
+    subst (λ (s : Shape). IsSized s c.body_at-body.result.now) (sym shape_is) (sized_at c.args.self.now.shape c.args.taken.chain.bodies c.in-Some.place c.body_at-body.result.now c.requires.inside.sized c.body_at-body.ensures)
 
 pub mark_for-requires : goal.mark_for-requires
 mark_for-requires g c =
     let body = c.body_at-body.result.now in
-    can_mark_at c.requires.inside c.args.key.now body c.element-element.result (found_body c.args.key.now c.args.chain.bodies c.in-Some.place body c.in-Some.ensures.holder (sym c.body_at-body.ensures)) c.element-element.ensures
+    can_mark_at c.requires.inside c.args.key.now body c.element-element.result (found_body c.args.key.now c.args.taken.chain.bodies c.in-Some.place body c.in-Some.ensures.holder (sym c.body_at-body.ensures)) c.element-element.ensures
 
 pub give-requires-2-after_bounds : goal.give-requires-2-after_bounds
 give-requires-2-after_bounds g c κs within =
@@ -64,9 +64,9 @@ give-requires-2-after_bounds g c κs within =
     let part = Lookup c.args.side c.args.key.now (Some (e, out)) in
     let lru = lru_of _ _ c.self.view_is c.self.invariant.1 in
     let read : out ≡ value_read t.shape c.args.side c.args.pass.now.cpu body.values = c.read_value.ensures ∙ (λ i. value_read (shape_is i) c.args.side (c.cpu_of-cpu.ensures.value i) body.values) in
-    let turn = lookup_got_turn t.shape c.args.pass.now.cpu c.args.chain.bodies b.sized c.args.side c.args.key.now c.in-Some.place body e out c.in-Some.ensures.holder (sym c.body_at-body.ensures) c.element-element.ensures read in
-    subst (λ (z : TableView). MayGiveBack z (locks.Bucket c.args.bucket) c.mark_for.new.pass (contents.Bucket c.args.chain) c.lookup_got-part.result) (sym c.self.view_is)
-    (may_give b (under_looked b c.args.side e c.mark_for.new.pass c.mark_for.ensures) c.args.chain part (numbers c.args.chain.bodies) (looked c.args.chain b c.args.side c.args.key.now out e c.mark_for.new.pass c.mark_for.ensures lru turn) c.lookup_got-part.result c.lookup_got-part.ensures)
+    let turn = lookup_got_turn t.shape c.args.pass.now.cpu c.args.taken.chain.bodies b.sized c.args.side c.args.key.now c.in-Some.place body e out c.in-Some.ensures.holder (sym c.body_at-body.ensures) c.element-element.ensures read in
+    subst (λ (z : TableView). MayGiveBack z (locks.Bucket c.args.taken.number) c.mark_for.new.pass (contents.Bucket c.args.taken.chain) c.lookup_got-part.result) (sym c.self.view_is)
+    (may_give b (under_looked b c.args.side e c.mark_for.new.pass c.mark_for.ensures) c.args.taken.chain part (numbers c.args.taken.chain.bodies) (looked c.args.taken.chain b c.args.side c.args.key.now out e c.mark_for.new.pass c.mark_for.ensures lru turn) c.lookup_got-part.result c.lookup_got-part.ensures)
 
 pub returns-clause-looks_up : goal.returns-clause-looks_up
 returns-clause-looks_up g c =
@@ -79,10 +79,10 @@ returns-clause-looks_up g c =
     let part = Lookup c.args.side c.args.key.now (Some (e, out)) in
     let lru = lru_of _ _ c.self.view_is c.self.invariant.1 in
     let read : out ≡ value_read t.shape c.args.side c.args.pass.now.cpu body.values = c.read_value.ensures ∙ (λ i. value_read (shape_is i) c.args.side (c.cpu_of-cpu.ensures.value i) body.values) in
-    let turn = lookup_got_turn t.shape c.args.pass.now.cpu c.args.chain.bodies b.sized c.args.side c.args.key.now c.in-Some.place body e out c.in-Some.ensures.holder (sym c.body_at-body.ensures) c.element-element.ensures read in
+    let turn = lookup_got_turn t.shape c.args.pass.now.cpu c.args.taken.chain.bodies b.sized c.args.side c.args.key.now c.in-Some.place body e out c.in-Some.ensures.holder (sym c.body_at-body.ensures) c.element-element.ensures read in
     record {
       got = Some (e, out);
-      gives = gives b (under_looked b c.args.side e c.mark_for.new.pass c.mark_for.ensures) c.args.chain part (numbers c.args.chain.bodies) (looked c.args.chain b c.args.side c.args.key.now out e c.mark_for.new.pass c.mark_for.ensures lru turn) lru c.give-2.new.pass c.lookup_got-part.result c.lookup_got-part.ensures
-          (subst (λ (z : TableView). GaveBack z (locks.Bucket c.args.bucket) c.mark_for.new.pass c.give-2.new.pass (contents.Bucket c.args.chain) c.lookup_got-part.result) c.self.view_is c.give-2.ensures);
+      gives = gives b (under_looked b c.args.side e c.mark_for.new.pass c.mark_for.ensures) c.args.taken.chain part (numbers c.args.taken.chain.bodies) (looked c.args.taken.chain b c.args.side c.args.key.now out e c.mark_for.new.pass c.mark_for.ensures lru turn) lru c.give-2.new.pass c.lookup_got-part.result c.lookup_got-part.ensures
+          (subst (λ (z : TableView). GaveBack z (locks.Bucket c.args.taken.number) c.mark_for.new.pass c.give-2.new.pass (contents.Bucket c.args.taken.chain) c.lookup_got-part.result) c.self.view_is c.give-2.ensures);
       reply_is = refl;
     }

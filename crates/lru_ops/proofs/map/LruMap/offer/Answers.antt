@@ -4,9 +4,9 @@ use Rattle.lru_ops.proofs.map.LruMap.offer.Goals as goal
 pub free_left-requires : goal.free_left-requires
 free_left-requires g c = (
   c.type_bounds.sync-G,
-  can_free_ends c.requires.can c.bucket_of_key-bucket.ensures.value c.enter-chain.ensures c.update_in-answer.new.pass c.args.side c.args.flags c.args.value.now c.update_in-answer.result.left c.update_in-answer.result.answer c.update_in-answer.ensures.ends,
+  can_free_ends c.requires.can c.bucket_of_key-number.ensures.value c.enter-chain.ensures c.update_in-answer.new.pass c.args.write.side c.args.write.flags c.args.write.value.now c.update_in-answer.result.left c.update_in-answer.result.answer c.update_in-answer.ensures.ends,
 )
 
 pub returns-clause-answers : goal.returns-clause-answers
 returns-clause-answers g c =
-    offer_answers c.requires.can c.bucket_of_key-bucket.ensures.value c.enter-chain.ensures c.update_in-answer.new.pass c.args.side c.args.flags c.args.value.now c.update_in-answer.result.left c.free_left.new.pass c.update_in-answer.result.answer c.update_in-answer.ensures.ends c.free_left.ensures
+    offer_answers c.requires.can c.bucket_of_key-number.ensures.value c.enter-chain.ensures c.update_in-answer.new.pass c.args.write.side c.args.write.flags c.args.write.value.now c.update_in-answer.result.left c.free_left.new.pass c.update_in-answer.result.answer c.update_in-answer.ensures.ends c.free_left.ensures

@@ -16,8 +16,8 @@ pub mark-requires : goal.mark-requires
 mark-requires g c =
     let a = c.args in
     let e_is = c.element-new.ensures ∙ ap (λ (z : Stored). z.element) (c.body.ensures ∙ c.fill_body.ensures.stored) in
-    subst (λ (z : TableView). CanMark z c.element-new.result a.bucket c.attach.new.pass) (sym c.self.view_is)
-    (can_mark_filled a.chain c.requires.inside (lru_of _ _ c.self.view_is c.self.invariant.1) a.side a.flags a.key.now a.value.now (c.shape.ensures ∙ ap (λ (z : TableView). z.shape) c.self.view_is) c.cpu_of-cpu.ensures.value
+    subst (λ (z : TableView). CanMark z c.element-new.result a.taken.number c.attach.new.pass) (sym c.self.view_is)
+    (can_mark_filled a.taken.chain c.requires.inside (lru_of _ _ c.self.view_is c.self.invariant.1) a.write.side a.write.flags a.write.key.now a.write.value.now (c.shape.ensures ∙ ap (λ (z : TableView). z.shape) c.self.view_is) c.cpu_of-cpu.ensures.value
     a.body c.requires.offered c.element-new.result e_is c.fill_body.new.body c.fill_body.ensures.stored c.fill_body.ensures.sized c.attach.new.pass c.attach.ensures)
 
 pub detach-requires : goal.detach-requires
@@ -25,8 +25,8 @@ detach-requires g c =
     let a = c.args in
     let e_is = c.element-new.ensures ∙ ap (λ (z : Stored). z.element) (c.body.ensures ∙ c.fill_body.ensures.stored) in
     let old_is = c.element-old.ensures ∙ ap (λ (z : Stored). z.element) c.body-2.ensures in
-    subst (λ (z : TableView). CanMark z c.element-old.result a.bucket c.mark.new.pass) (sym c.self.view_is)
-    (can_detach_was a.chain c.requires.inside (lru_of _ _ c.self.view_is c.self.invariant.1) a.side a.flags a.key.now a.value.now (c.shape.ensures ∙ ap (λ (z : TableView). z.shape) c.self.view_is) c.cpu_of-cpu.ensures.value
+    subst (λ (z : TableView). CanMark z c.element-old.result a.taken.number c.mark.new.pass) (sym c.self.view_is)
+    (can_detach_was a.taken.chain c.requires.inside (lru_of _ _ c.self.view_is c.self.invariant.1) a.write.side a.write.flags a.write.key.now a.write.value.now (c.shape.ensures ∙ ap (λ (z : TableView). z.shape) c.self.view_is) c.cpu_of-cpu.ensures.value
     a.body c.requires.offered c.element-new.result e_is c.fill_body.new.body c.fill_body.ensures.stored c.fill_body.ensures.sized c.attach.new.pass c.attach.ensures c.mark.new.pass c.mark.ensures a.place c.replace_head-replaced.result c.element-old.result c.replace_head-replaced.ensures.taken c.replace_head-replaced.ensures.holder old_is)
 
 pub give-requires-after_bounds : goal.give-requires-after_bounds
@@ -34,8 +34,8 @@ give-requires-after_bounds g c κs within =
     let a = c.args in
     let e_is = c.element-new.ensures ∙ ap (λ (z : Stored). z.element) (c.body.ensures ∙ c.fill_body.ensures.stored) in
     let old_is = c.element-old.ensures ∙ ap (λ (z : Stored). z.element) c.body-2.ensures in
-    subst (λ (z : TableView). MayGiveBack z (locks.Bucket a.bucket) c.detach.new.pass (contents.Bucket c.replace_head-replaced.new.self) c.updated-part.result) (sym c.self.view_is)
-    (replace_done a.chain c.requires.inside (lru_of _ _ c.self.view_is c.self.invariant.1) a.side a.flags a.key.now a.value.now (c.shape.ensures ∙ ap (λ (z : TableView). z.shape) c.self.view_is) c.cpu_of-cpu.ensures.value
+    subst (λ (z : TableView). MayGiveBack z (locks.Bucket a.taken.number) c.detach.new.pass (contents.Bucket c.replace_head-replaced.new.self) c.updated-part.result) (sym c.self.view_is)
+    (replace_done a.taken.chain c.requires.inside (lru_of _ _ c.self.view_is c.self.invariant.1) a.write.side a.write.flags a.write.key.now a.write.value.now (c.shape.ensures ∙ ap (λ (z : TableView). z.shape) c.self.view_is) c.cpu_of-cpu.ensures.value
     a.body c.requires.offered c.element-new.result e_is c.fill_body.new.body c.fill_body.ensures.stored c.fill_body.ensures.sized c.attach.new.pass c.attach.ensures c.mark.new.pass c.mark.ensures a.place c.replace_head-replaced.result c.element-old.result c.replace_head-replaced.ensures.taken c.replace_head-replaced.ensures.holder old_is
     c.detach.new.pass c.detach.ensures c.replace_head-replaced.new.self c.requires.single c.requires.replaces c.replace_head-replaced.ensures.of_key c.updated-part.result c.updated-part.ensures).0
 
@@ -44,7 +44,7 @@ returns g c =
     let a = c.args in
     let e_is = c.element-new.ensures ∙ ap (λ (z : Stored). z.element) (c.body.ensures ∙ c.fill_body.ensures.stored) in
     let old_is = c.element-old.ensures ∙ ap (λ (z : Stored). z.element) c.body-2.ensures in
-    (replace_done a.chain c.requires.inside (lru_of _ _ c.self.view_is c.self.invariant.1) a.side a.flags a.key.now a.value.now (c.shape.ensures ∙ ap (λ (z : TableView). z.shape) c.self.view_is) c.cpu_of-cpu.ensures.value
+    (replace_done a.taken.chain c.requires.inside (lru_of _ _ c.self.view_is c.self.invariant.1) a.write.side a.write.flags a.write.key.now a.write.value.now (c.shape.ensures ∙ ap (λ (z : TableView). z.shape) c.self.view_is) c.cpu_of-cpu.ensures.value
     a.body c.requires.offered c.element-new.result e_is c.fill_body.new.body c.fill_body.ensures.stored c.fill_body.ensures.sized c.attach.new.pass c.attach.ensures c.mark.new.pass c.mark.ensures a.place c.replace_head-replaced.result c.element-old.result c.replace_head-replaced.ensures.taken c.replace_head-replaced.ensures.holder old_is
     c.detach.new.pass c.detach.ensures c.replace_head-replaced.new.self c.requires.single c.requires.replaces c.replace_head-replaced.ensures.of_key c.updated-part.result c.updated-part.ensures).1 c.give.new.pass
-    (subst (λ (z : TableView). GaveBack z (locks.Bucket a.bucket) c.detach.new.pass c.give.new.pass (contents.Bucket c.replace_head-replaced.new.self) c.updated-part.result) c.self.view_is c.give.ensures)
+    (subst (λ (z : TableView). GaveBack z (locks.Bucket a.taken.number) c.detach.new.pass c.give.new.pass (contents.Bucket c.replace_head-replaced.new.self) c.updated-part.result) c.self.view_is c.give.ensures)

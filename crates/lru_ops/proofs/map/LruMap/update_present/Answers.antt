@@ -15,7 +15,7 @@ returns-then-is_percpu-clause-ends g c =
     record {
       put = puts.Written w.written;
       may_put = ap (λ (s : Shape). is_percpu s.kind) (sym (c.shape.ensures ∙ ap (λ (z : TableView). z.shape) c.self.view_is)) ∙ sym c.if-is_percpu.ensures;
-      gives = subst (λ (n : ℕ). PutsInPlace a.self.now a.bucket a.pass.now c.write.new.pass a.side a.flags a.key.now a.value.now (Some n) (puts.Written w.written)) e_is w.gives;
+      gives = subst (λ (n : ℕ). PutsInPlace a.self.now a.taken.number a.pass.now c.write.new.pass a.write.side a.write.flags a.write.key.now a.write.value.now (Some n) (puts.Written w.written)) e_is w.gives;
       left_is = refl;
       is_out = (c.requires.offered.real, c.requires.offered.sized);
       reply_is = refl;

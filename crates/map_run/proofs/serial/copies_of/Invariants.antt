@@ -1,5 +1,5 @@
 use Rattle.std.proofs.Common.{◌≡◌, take}
-use Rattle.map_run.proofs.serial.histories_of.Given as goal
+use Rattle.map_run.proofs.serial.copies_of.Given as goal
 
 -- the copies so far
 abbrev pub invariant-loop-history : goal.invariant-loop-history

@@ -1,0 +1,27 @@
+use Rattle.std.proofs.Common.{◌+◌, ◌-◌, ◌*◌, ◌∙◌, ap, drop, take, map, List, Option, arith}
+use Rattle.map_types.proofs.CreationLemmas.{bounds_of_shape}
+use Rattle.place_table.specs.declared.content.Content.{Content}
+use Rattle.place_table.specs.Leaving.{bodies_in}
+use Rattle.place_table.proofs.Leaves.{finals_left}
+use Rattle.place_table.proofs.read_slots.closed_of.Goals as goal
+
+pub spares_left-requires : goal.spares_left-requires
+spares_left-requires c = let bounds = bounds_of_shape c.args.shape.now c.requires.shape in omega arith
+
+pub returns : goal.returns
+returns c = λ log lost bit strands told turns set finished.
+    let kept = c.in_ok-histories.ensures log lost strands turns finished in record {
+      strands_lost = kept.strands_lost;
+      left = record {
+        histories_are = kept.are_kept.kept_are;
+        lost_is = kept.are_kept.lost_is;
+        strands_are = kept.told_are;
+        finals_are = finals_left c.args.shape.now log bit c.args.spares.now c.args.contents.items told c.requires.counted.0 _ _ _ (omega arith) (omega arith)
+            (c.of.ensures ∙ c.in_ok-buckets.ensures ∙ ap (λ (l : List (Option Content)). map bodies_in (take (2 * c.args.shape.now.cpus + 1 + c.args.shape.now.buckets - (2 * c.args.shape.now.cpus + 1)) (drop (2 * c.args.shape.now.cpus + 1) l))) c.deref.ensures.value)
+            (c.of-2.ensures ∙ c.in_ok-freelists.ensures.freelists)
+            c.in_ok-spares.ensures
+            (c.of-3.ensures ∙ c.in_ok-freelists.ensures.sets)
+            (c.of-4.ensures ∙ c.in_ok-freelists.ensures.locals)
+            set;
+      };
+    }
