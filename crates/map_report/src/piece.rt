@@ -85,11 +85,23 @@ pub(crate) fn push_number(text: &mut String, number: u64) -> Result<(), AllocErr
     push_decimal(text, number)
 }
 
+/// The digits of at most so many bytes are made in place.
+const SHORT: usize = 32;
+
 /// Adds bytes as two hexadecimal digits each, in lower case.
 pub(crate) fn push_hex(text: &mut String, bytes: &[u8]) -> Result<(), AllocError>
     ensures { OnOk result (string_bytes text.new
         ≡ string_bytes text.old ++ encode_lower bytes.now) }
 {
+    if bytes.len() <= SHORT {
+        let mut digits = [0; 2 * SHORT];
+        let place = &mut digits[..2 * bytes.len()];
+        if hex::encode_to_slice(bytes, place).is_ok() {
+            if let Ok(digits) = str::from_utf8(place) {
+                return text.push_str(digits);
+            }
+        }
+    }
     let digits = hex::encode(*text.allocator(), bytes)?;
     text.push_str(digits.as_str())
 }
