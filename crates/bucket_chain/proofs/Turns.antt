@@ -37,7 +37,7 @@ pub found_key : (key : List ℕ) (bodies : List Stored) (body : Stored) → pres
 found_key key bodies body found = (bytes_eq-Decides body.key key).0 (find_passes (has_key key) bodies body found)
 
 -- the key at a place, where there is a body
-first_dropped : (k : ℕ) (bodies : List Stored) → first_key (drop k bodies) ≡ option_map (λ (body : Stored). body.key) (slice_get bodies k)
+pub first_dropped : (k : ℕ) (bodies : List Stored) → first_key (drop k bodies) ≡ option_map (λ (body : Stored). body.key) (slice_get bodies k)
 first_dropped zero [] = refl
 first_dropped (suc k) [] = refl
 first_dropped zero (body ∷ bodies) = refl
@@ -47,7 +47,7 @@ first_is : (bodies : List Stored) → first_key bodies ≡ option_map (λ (body 
 first_is [] = refl
 first_is (body ∷ bodies) = refl
 
-next_is : (key : List ℕ) (bodies : List Stored) (place : ℕ) → Some place ≡ place_of_key key bodies → next_key key bodies ≡ option_map (λ (body : Stored). body.key) (slice_get bodies (place + 1))
+pub next_is : (key : List ℕ) (bodies : List Stored) (place : ℕ) → Some place ≡ place_of_key key bodies → next_key key bodies ≡ option_map (λ (body : Stored). body.key) (slice_get bodies (place + 1))
 next_is key bodies place at =
     ap (λ k. first_key (drop (k + 1) bodies)) (sym (position_some (has_key key) bodies place (sym at))) ∙ first_dropped (place + 1) bodies
 

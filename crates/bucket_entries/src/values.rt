@@ -4,11 +4,10 @@ ghost use Rattle.std.specs.Prelude.{◌≡◌, ◌<◌, IsTrue, All, Some, map, 
 ghost use Rattle.map_types.specs.Kind.{is_percpu};
 ghost use Rattle.map_types.specs.Shape.{HasBounds};
 ghost use Rattle.map_types.specs.Sides.{part_count, value_read, new_values};
-ghost use Rattle.map_types.specs.Stored.{HasSizes};
+ghost use Rattle.map_types.specs.Stored.{HasSizes, IsSized};
 ghost use Rattle.map_types.specs.ValueLen.{value_len_of};
 ghost use Rattle.bucket_chain.specs.Places.{place_of_key};
 ghost use Rattle.place_words.specs.Buckets.{new_stored, written_over};
-ghost use Rattle.bucket_entries.specs.Sized.{IsSized};
 
 use bucket_chain::Chain;
 use map_types::{Shape, Side};

@@ -8,16 +8,16 @@ use Rattle.std.proofs.lemmas.Slice.Eq.{bytes_eq-Decides}
 use Rattle.map_types.specs.ElementLists.{times, without, IsIn}
 use Rattle.map_types.specs.declared.attr.Shape.{Shape}
 use Rattle.map_types.specs.Kind.{is_lru}
-use Rattle.map_types.specs.Stored.{Stored}
+use Rattle.map_types.specs.Stored.{Stored, IsSized}
+use Rattle.map_types.proofs.RowLemmas.{by_test}
 use Rattle.place_words.specs.declared.free_part.FreePart.TheVariants.{Pushed}
 use Rattle.place_words.specs.Bodies.{numbers, has_key, without_key}
 use Rattle.place_words.specs.Histories.{in_bucket}
 use Rattle.place_words.specs.Turns.{Turn, on_freelist_of}
 use Rattle.place_core.specs.declared.step.Lists.{Lists}
 use Rattle.place_core.specs.Steps.{without_row}
-use Rattle.place_core.proofs.ElementLemmas.{by_test}
 use Rattle.place_table.specs.declared.view.Turned.{Turned}
-use Rattle.place_table.specs.Contents.{lists_of, IsSized}
+use Rattle.place_table.specs.Contents.{lists_of}
 use Rattle.place_table.specs.InBucket.{InBucket}
 use Rattle.place_table.specs.Known.{turn_of}
 use Rattle.place_table.specs.Passes.{PassView, TableView, Detached}

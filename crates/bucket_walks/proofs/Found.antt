@@ -1,16 +1,16 @@
 -- The keys that are found in a bucket, and the turns that tell them.
-use Rattle.std.proofs.Common.{◌≡◌, ℕ, zero, suc, ◌+◌, ◌<◌, ◌≤◌, List, [], ◌∷◌, length, drop, get_or, ⊎_elim, sym, refl, ap, ◌∙◌, subst, arith, Option, Some, None}
+use Rattle.std.proofs.Common.{◌≡◌, ℕ, ◌+◌, ◌<◌, ◌≤◌, List, length, get_or, ⊎_elim, sym, refl, ap, ◌∙◌, subst, arith, Option, Some, None}
 use Rattle.std.specs.Prelude.{MatchOption, option_map, slice_get}
 use Rattle.std.proofs.lemmas.Option.{slice_get_cases}
 use Rattle.map_types.specs.declared.attr.Shape.{Shape}
 use Rattle.map_types.specs.Stored.{Stored}
 use Rattle.bucket_chain.specs.Places.{place_of_key}
 use Rattle.bucket_chain.specs.Turns.{IsTurn}
-use Rattle.bucket_chain.proofs.Found.{position_some}
+use Rattle.bucket_chain.proofs.Turns.{next_is}
 use Rattle.place_words.specs.declared.bucket_part.BucketPart.TheVariants.{Next, First}
 use Rattle.place_words.specs.declared.bucket_part.NextFound.{NextFound}
 use Rattle.place_words.specs.declared.bucket_part.NextFound.TheVariants as nexts
-use Rattle.place_words.specs.Bodies.{has_key, present, first_key, next_key}
+use Rattle.place_words.specs.Bodies.{present, first_key, next_key}
 use Rattle.place_words.specs.Buckets.{AllowsInBucket, AllowsNext, IsPresentWith, bucket_after}
 
 -- Turns
@@ -24,17 +24,6 @@ unfolding AllowsInBucket bucket_after
 next_turn shape cpu bodies key found allowed = record { allowed = allowed; left = refl }
 
 -- The key after another one
-
--- the key at the head of what is left behind some bodies
-first_dropped : (k : ℕ) (bodies : List Stored) → first_key (drop k bodies) ≡ option_map (λ (body : Stored). body.key) (slice_get bodies k)
-first_dropped zero [] = refl
-first_dropped (suc k) [] = refl
-first_dropped zero (body ∷ bodies) = refl
-first_dropped (suc k) (body ∷ bodies) = first_dropped k bodies
-
-next_is : (key : List ℕ) (bodies : List Stored) (place : ℕ) → Some place ≡ place_of_key key bodies → next_key key bodies ≡ option_map (λ (body : Stored). body.key) (slice_get bodies (place + 1))
-next_is key bodies place at =
-    ap (λ k. first_key (drop (k + 1) bodies)) (sym (position_some (has_key key) bodies place (sym at))) ∙ first_dropped (place + 1) bodies
 
 -- there is a body at the place of the key
 holds : (key : List ℕ) (bodies : List Stored) (place : ℕ) (Fact : Type 0) → place < length bodies → slice_get bodies place ≡ present key bodies → Fact → IsPresentWith key bodies (λ body. Fact)

@@ -8,10 +8,9 @@ use Rattle.map_types.specs.declared.attr.Shape.{Shape}
 use Rattle.map_types.specs.declared.kind.Side.TheVariants.{Sys}
 use Rattle.map_types.specs.Pairs.{pairs_of}
 use Rattle.map_types.specs.Sides.{value_read}
-use Rattle.map_types.specs.Stored.{Stored}
+use Rattle.map_types.specs.Stored.{Stored, IsSized}
 use Rattle.map_types.specs.ValueLen.{value_len_of}
 use Rattle.percpu_values.proofs.SideLemmas.{length-value_read}
-use Rattle.bucket_entries.specs.Sized.{IsSized}
 use Rattle.map_types.proofs.PairLemmas.{length-pairs_of, joined_keys-pairs_of, joined_values-pairs_of, HaveSizes-pairs_of, HaveSizes-push, joined_keys-push, joined_values-push, same_pairs}
 use Rattle.bucket_walks.specs.contracts.room.ReadRoom.{the_view}
 use Rattle.bucket_walks.specs.declared.room.ReadRoom.TheInside.{Inside}

@@ -7,12 +7,13 @@ use Rattle.map_types.specs.declared.attr.Shape.{Shape}
 use Rattle.map_types.specs.Kind.{is_lru}
 use Rattle.map_types.specs.ElementLists.{times, IsIn}
 use Rattle.map_types.specs.Stored.{Stored}
+use Rattle.map_types.proofs.RowLemmas.{by_test}
 use Rattle.percpu_values.specs.BodyList.{BodyList}
 use Rattle.place_words.specs.Bodies.{numbers}
 use Rattle.place_words.specs.Takings.{Frees}
 use Rattle.place_words.specs.Turns.{TurnAt}
 use Rattle.place_words.specs.Walks.{FreesAll}
-use Rattle.place_core.proofs.ElementLemmas.{by_test, times_cons_same}
+use Rattle.place_core.proofs.ElementLemmas.{times_cons_same}
 use Rattle.place_table.specs.declared.view.InHand.{InHand}
 use Rattle.place_table.specs.declared.view.Turned.{Turned}
 use Rattle.place_table.specs.Calls.{finds_moved_on}

@@ -10,7 +10,8 @@ use Rattle.map_types.specs.declared.attr.Shape.{Shape}
 use Rattle.map_types.specs.declared.kind.DomainId.TheVariants.{Bucket}
 use Rattle.map_types.specs.Kind.{is_lru}
 use Rattle.map_types.specs.ElementLists.{times, without, IsIn}
-use Rattle.map_types.specs.Stored.{Stored}
+use Rattle.map_types.specs.Stored.{Stored, IsSized}
+use Rattle.map_types.proofs.RowLemmas.{by_test}
 use Rattle.percpu_values.specs.BodyList.{BodyList}
 use Rattle.bucket_chain.specs.Turns.{IsTurn}
 use Rattle.place_words.specs.declared.bucket_part.BucketPart.{BucketPart}
@@ -27,9 +28,9 @@ use Rattle.place_words.specs.Walks.{walked_out}
 use Rattle.place_core.specs.declared.step.Lists.{Lists}
 use Rattle.place_core.specs.State.{rows}
 use Rattle.place_core.specs.Steps.{without_row}
-use Rattle.place_core.proofs.ElementLemmas.{by_test, times_cons_same}
+use Rattle.place_core.proofs.ElementLemmas.{times_cons_same}
 use Rattle.place_table.specs.declared.content.Content.TheVariants as contents
-use Rattle.place_table.specs.Contents.{IsSized, lists_of}
+use Rattle.place_table.specs.Contents.{lists_of}
 use Rattle.place_table.specs.InBucket.{InBucket}
 use Rattle.place_table.specs.Passes.{PassView, TableView, CanMark, Detached, GaveBack, MayGiveBack}
 use Rattle.place_table.proofs.BucketBodies.{rows_taken}
@@ -80,7 +81,7 @@ numbers_apart : (gone left : List Stored) → numbers (reverse_aux gone left) �
 numbers_apart [] left = refl
 numbers_apart (body ∷ gone) left = numbers_apart gone (body ∷ left)
 
-numbers_read : (shape : Shape) (cpu : ℕ) (bodies : List Stored) → numbers (all_read shape cpu bodies) ≡ numbers bodies
+pub numbers_read : (shape : Shape) (cpu : ℕ) (bodies : List Stored) → numbers (all_read shape cpu bodies) ≡ numbers bodies
 numbers_read shape cpu [] = refl
 numbers_read shape cpu (body ∷ bodies) = ap (λ (l : List ℕ). body.element ∷ l) (numbers_read shape cpu bodies)
 

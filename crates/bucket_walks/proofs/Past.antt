@@ -1,5 +1,5 @@
 -- The buckets from one on are looked at in their order, up to the first that isn't empty.
-use Rattle.std.proofs.Common.{◌≡◌, ℕ, zero, suc, ◌+◌, ◌-◌, ◌<◌, ◌≤◌, min, Bool, true, false, List, [], ◌∷◌, ◌++◌, map, sym, refl, ap, ◌∙◌, subst, arith, Some, None}
+use Rattle.std.proofs.Common.{◌≡◌, ℕ, suc, ◌+◌, ◌-◌, ◌<◌, ◌≤◌, min, Bool, true, false, List, [], ◌∷◌, ◌++◌, map, sym, refl, ap, ◌∙◌, subst, arith, Some, None}
 use Rattle.std.specs.List.{range_with_len}
 use Rattle.std.proofs.lemmas.List.{map-append}
 use Rattle.map_types.specs.declared.attr.Shape.{Shape}
@@ -17,6 +17,7 @@ use Rattle.place_table.specs.Passes.{PassView, TableView}
 use Rattle.place_table.proofs.Entries.{append_nil}
 use Rattle.bucket_walks.specs.Looks.{LooksInto, WalkedPast, WalksOn, key_where, found_none}
 use Rattle.bucket_walks.proofs.Told.{looked_nowhere, looked_on}
+use Rattle.hash_ops.proofs.Pops.{range_split}
 
 -- Traces from their end: where the rest of a walk looks at the later buckets, the whole looks at those found empty before it too.
 firsts_past : (passed rest : List ℕ) (turns : List Turn) (reply : Reply) → Firsts rest turns reply → Firsts (passed ++ rest) (found_none passed ++ turns) reply
@@ -24,16 +25,6 @@ firsts_past [] rest turns reply later = later
 firsts_past (bucket ∷ passed) rest turns reply later = (None, found_none passed ++ turns, refl, firsts_past passed rest turns reply later)
 
 -- The buckets from one on, cut at one of them
-
-range_split : (from m n : ℕ) → range_with_len from (m + n) ≡ range_with_len from m ++ range_with_len (from + m) n
-range_split from zero n =
-    let none : 0 + n ≡ n = omega arith in
-    let start : from ≡ from + 0 = omega arith in
-    ap (range_with_len from) none ∙ ap (λ k. range_with_len k n) start
-range_split from (suc m) n =
-    let count : suc m + n ≡ suc (m + n) = omega arith in
-    let start : from + 1 + m ≡ from + suc m = omega arith in
-    ap (range_with_len from) count ∙ (ap (λ l. from ∷ l) (range_split (from + 1) m n) ∙ ap (λ k. from ∷ (range_with_len (from + 1) m ++ range_with_len k n)) start)
 
 -- those before a bucket, itself, and those after it
 range_at : (from bucket to : ℕ) → from ≤ bucket → bucket < to → range_with_len from (to - from) ≡ range_with_len from (bucket - from) ++ bucket ∷ range_with_len (bucket + 1) (to - (bucket + 1))

@@ -54,7 +54,7 @@ took_nowhere t p = record {
   learns = learns_none t.shape p.view;
 }
 
-spare_append : (spare : Option ℕ) (first second : List Turn) → spare_after spare (first ++ second) ≡ spare_after (spare_after spare first) second
+pub spare_append : (spare : Option ℕ) (first second : List Turn) → spare_after spare (first ++ second) ≡ spare_after (spare_after spare first) second
 spare_append spare [] second = refl
 spare_append spare (turn ∷ first) second = spare_append (spare_after_part spare turn.part) first second
 

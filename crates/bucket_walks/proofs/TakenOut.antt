@@ -8,7 +8,7 @@ use Rattle.map_types.specs.ElementLists.{times}
 use Rattle.map_types.specs.declared.attr.Shape.{Shape}
 use Rattle.map_types.specs.declared.kind.DomainId.TheVariants.{Bucket}
 use Rattle.map_types.specs.Kind.{is_lru}
-use Rattle.map_types.specs.Stored.{Stored}
+use Rattle.map_types.specs.Stored.{Stored, IsSized}
 use Rattle.percpu_values.specs.BodyList.{BodyList}
 use Rattle.bucket_chain.specs.Turns.{IsTurn}
 use Rattle.place_words.specs.declared.bucket_part.BucketPart.TheVariants.{Walk}
@@ -25,27 +25,24 @@ use Rattle.place_words.specs.Walks.{IsFreedAfter, TakesOut, walked_out}
 use Rattle.place_core.specs.declared.step.Lists.{Lists}
 use Rattle.place_table.specs.declared.content.Content.TheVariants as contents
 use Rattle.place_table.specs.declared.view.Turned.{Turned}
-use Rattle.place_table.specs.Contents.{lists_of, IsSized}
+use Rattle.place_table.specs.Contents.{lists_of}
 use Rattle.place_table.specs.InBucket.{InBucket}
 use Rattle.place_table.specs.Known.{IsBy, turn_of, turn_at}
 use Rattle.place_table.specs.Passes.{PassView, TableView, CanGive, GaveBack, Goes, MayGiveBack}
-use Rattle.place_table.specs.Views.{is_in_hand_of, notes_below}
+use Rattle.place_table.specs.Views.{is_in_hand_of, notes_below, hold_with}
 use Rattle.place_table.proofs.BucketBodies.{rows_taken}
 use Rattle.place_table.proofs.Entries.{append_nil}
 use Rattle.place_table.proofs.Going.{goes_on, goes_took, learns_after, learns_took}
 use Rattle.place_table.proofs.Worlds.{by_bool}
-use Rattle.hash_ops.proofs.Under.{Under, Left, hold_with, none_noted, under_nothing, can_give, left, may_give_back, told_more}
+use Rattle.hash_ops.proofs.Under.{Under, Left, none_noted, under_nothing, can_give, left, may_give_back, told_more}
 use Rattle.bucket_walks.specs.Looks.{Enters}
 use Rattle.bucket_walks.specs.PlainTakes.{IsPushed, PushesAll, TakesInto}
 use Rattle.bucket_walks.specs.BatchReads.{PairsSoFar, IsGathered, all_read, walked_by}
 use Rattle.bucket_walks.proofs.Emptied.{Emptied, emptied_all, pushes_of}
 use Rattle.bucket_walks.proofs.Told.{turns_alone}
+use Rattle.bucket_walks.proofs.LruOut.{numbers_read}
 
 -- Parts
-
-numbers_read : (shape : Shape) (cpu : ℕ) (bodies : List Stored) → numbers (all_read shape cpu bodies) ≡ numbers bodies
-numbers_read shape cpu [] = refl
-numbers_read shape cpu (body ∷ bodies) = ap (λ (l : List ℕ). body.element ∷ l) (numbers_read shape cpu bodies)
 
 left_alone : (shape : Shape) (cpu room : ℕ) (bodies left : List Stored) → room < length bodies → left ≡ bodies → IsTurn shape cpu (Walk true room (Over (length bodies))) bodies left
 unfolding AllowsInBucket bucket_after

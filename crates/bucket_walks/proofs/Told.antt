@@ -1,6 +1,6 @@
 -- Turns one after another: what they are told as, what looks at buckets leave of bits and spares, and the looks of two parts of a
 -- walk.
-use Rattle.std.proofs.Common.{◌≡◌, ℕ, cond, true, false, List, [], ◌∷◌, ◌++◌, map, inl, inr, ⊎_elim, sym, refl, ap, ◌∙◌, subst, Option}
+use Rattle.std.proofs.Common.{◌≡◌, ℕ, cond, true, false, List, [], ◌∷◌, ◌++◌, map, ⊎_elim, sym, refl, ap, ◌∙◌, subst, Option}
 use Rattle.std.specs.Prelude.{Bool, IsFalse, All, flat_map}
 use Rattle.std.proofs.lemmas.List.Elements.{All-nil, All-cons, All-append}
 use Rattle.map_types.specs.declared.attr.Shape.{Shape}
@@ -14,42 +14,16 @@ use Rattle.place_words.specs.PlainTraces.{spare_after, spare_after_part}
 use Rattle.place_words.specs.Histories.{marks}
 use Rattle.place_words.specs.SerialOrder.{probes_in}
 use Rattle.place_words.specs.Turns.{Turn, turns_of}
-use Rattle.place_core.proofs.ElementLemmas.{by_test}
 use Rattle.place_table.specs.declared.view.Turned.{Turned}
-use Rattle.place_table.specs.Calls.{CouldBe, AreTold, sets_bit, bits_of_part, bits_of_turns, finds_moved_on}
+use Rattle.place_table.specs.Calls.{AreTold, sets_bit, bits_of_part, bits_of_turns, finds_moved_on}
 use Rattle.place_table.specs.Known.{BitTouch, turn_of, turn_at, IsBy}
 use Rattle.place_table.specs.Passes.{PassView, TableView}
-use Rattle.place_table.specs.Views.{is_among}
 use Rattle.place_table.proofs.Going.{goes_nowhere, made_on, learns_on, learns_none}
-use Rattle.place_table.proofs.Worlds.{true_false, by_bool}
+use Rattle.place_table.proofs.Worlds.{by_bool}
 use Rattle.bucket_walks.specs.Looks.{IsLook, AreLooks, Looked}
+use Rattle.lru_ops.proofs.Ends.{among_behind, among_before, told_where, told_append}
 
 -- What turns are told as
-
-among_behind : (n : ℕ) (first second : List ℕ) → is_among n second ≡ true → is_among n (first ++ second) ≡ true
-among_behind n [] second among = among
-among_behind n (x ∷ first) second among = by_test x n (λ b. cond b true (is_among n (first ++ second)) ≡ true) (λ _. refl) (λ _. among_behind n first second among)
-
-among_before : (n : ℕ) (first second : List ℕ) → is_among n first ≡ true → is_among n (first ++ second) ≡ true
-among_before n [] second among = absurd (true_false (sym among))
-among_before n (x ∷ first) second among =
-    by_test x n (λ b. cond b true (is_among n first) ≡ true → cond b true (is_among n (first ++ second)) ≡ true) (λ _ _. refl) (λ _ later. among_before n first second later) among
-
--- what is told of turns where some records are lost is so where more are
-told_where : (shape : Shape) (lost more : List ℕ) → ((n : ℕ) → is_among n lost ≡ true → is_among n more ≡ true) → (steps told : List Turned) → AreTold shape lost steps told → AreTold shape more steps told
-told_where shape lost more are [] [] is = tt
-told_where shape lost more are [] (told ∷ others) is = absurd is
-told_where shape lost more are (step ∷ steps) [] is = absurd is
-told_where shape lost more are (step ∷ steps) (told ∷ others) is = (
-  ⊎_elim (λ (same : told ≡ step). inl same) (λ (x : (is_among step.lock lost ≡ true) × CouldBe shape step told). inr (are step.lock x.0, x.1)) is.0,
-  told_where shape lost more are steps others is.1,
-)
-
-told_append : (shape : Shape) (lost : List ℕ) (first second told others : List Turned) → AreTold shape lost first told → AreTold shape lost second others → AreTold shape lost (first ++ second) (told ++ others)
-told_append shape lost [] second [] others is later = later
-told_append shape lost [] second (one ∷ told) others is later = absurd is
-told_append shape lost (step ∷ first) second [] others is later = absurd is
-told_append shape lost (step ∷ first) second (one ∷ told) others is later = (is.0, told_append shape lost first second told others is.1 later)
 
 -- of two parts, each with its lost records
 pub told_on : (shape : Shape) (lost more : List ℕ) (first second told others : List Turned) → AreTold shape lost first told → AreTold shape more second others → AreTold shape (more ++ lost) (first ++ second) (told ++ others)

@@ -2,7 +2,6 @@
 use Rattle.std.proofs.Common.{◌≡◌, ℕ, ◌<◌, true, List, [], ◌∷◌, ◌++◌, inl, inr, sym, refl, ap, ◌∙◌, subst, Option, Some, None}
 use Rattle.std.specs.Prelude.{IsTrue, IfSome, All}
 use Rattle.std.proofs.lemmas.List.Elements.{All-nil, All-cons}
-use Rattle.std.proofs.lemmas.Bool.{lt-ltb}
 use Rattle.map_types.specs.declared.attr.Shape.{Shape}
 use Rattle.map_types.specs.declared.kind.DomainId.{DomainId}
 use Rattle.map_types.specs.declared.kind.DomainId.TheVariants.{Bucket, Local, Global}
@@ -42,11 +41,9 @@ use Rattle.place_table.proofs.TurnClears.{same_clears}
 use Rattle.place_table.proofs.Worlds.{among_first}
 use Rattle.bucket_walks.specs.Looks.{CanEnter, Enters, IsLook, LooksInto}
 use Rattle.bucket_walks.proofs.Told.{marks_none, probes_none}
+use Rattle.lru_ops.proofs.Under.{bucket_there}
 
 -- Entering
-
-bucket_there : (shape : Shape) (bucket : ℕ) → bucket < shape.buckets → IsTrue (is_lock shape (Bucket bucket))
-bucket_there shape bucket there = lt-ltb bucket shape.buckets there
 
 pub enters : {t : TableView} {bucket : ℕ} {p q : PassView} {chain : BodyList} → CanEnter t bucket p → TookLock t (Bucket bucket) p q (contents.Bucket chain) → Enters t bucket p q chain
 enters {t} {bucket} {p} {q} {chain} enter took =

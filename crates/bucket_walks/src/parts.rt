@@ -6,10 +6,10 @@ ghost use Rattle.map_types.specs.Creation.{IsShape};
 ghost use Rattle.map_types.specs.declared.kind.Side.TheVariants.{Sys};
 ghost use Rattle.map_types.specs.Shape.{HasBounds};
 ghost use Rattle.map_types.specs.Sides.{value_read};
+ghost use Rattle.map_types.specs.Stored.{IsSized};
 ghost use Rattle.place_words.specs.Buckets.{as_read};
 ghost use Rattle.place_words.specs.declared.bucket_part.BucketPart.TheVariants as turns;
 ghost use Rattle.place_words.specs.declared.history.Part.TheVariants as parts;
-ghost use Rattle.bucket_entries.specs.Sized.{IsSized};
 ghost use Rattle.bucket_walks.specs.Looks.{key_where, found_after};
 ghost use Rattle.bucket_walks.specs.BatchReads.{all_read, walked_by};
 

@@ -5,7 +5,7 @@ ghost use Rattle.map_types.specs.declared.kind.Side.TheVariants.{Sys};
 ghost use Rattle.map_types.specs.Shape.{HasBounds};
 ghost use Rattle.map_types.specs.Sides.{value_read};
 ghost use Rattle.map_types.specs.ValueLen.{value_len_of};
-ghost use Rattle.bucket_entries.specs.Sized.{IsSized};
+ghost use Rattle.map_types.specs.Stored.{IsSized};
 ghost use Rattle.bucket_walks.specs.BatchReads.{IsOfMap};
 
 use bucket_entries::read_value;

@@ -3,8 +3,8 @@
 ghost use Rattle.std.specs.Prelude.{◌≡◌, ◌+◌, ◌-◌, ◌<◌, ◌≤◌, All, length, map};
 ghost use Rattle.map_types.specs.Creation.{IsShape};
 ghost use Rattle.map_types.specs.Shape.{HasBounds};
+ghost use Rattle.map_types.specs.Stored.{IsSized};
 ghost use Rattle.place_words.specs.Walks.{pair_of};
-ghost use Rattle.bucket_entries.specs.Sized.{IsSized};
 ghost use Rattle.bucket_walks.specs.Looks.{CanEnter};
 ghost use Rattle.bucket_walks.specs.BatchReads.{IsOfMap, IsGathered, ReadsInto, all_read, walked_by, with_pairs};
 

@@ -1,7 +1,7 @@
 //! The stack of a CPU's free elements.
 
 ghost use Rattle.std.specs.Prelude.{◌≡◌, ◌<◌, [], ◌∷◌, length, IfOk, MatchOption};
-ghost use Rattle.cpu_freelist.specs.Stack.{numbers};
+ghost use Rattle.place_words.specs.Bodies.{numbers};
 
 use map_types::NoMemory;
 use percpu_values::{BodyStack, BoxedBody};
@@ -41,7 +41,7 @@ impl Freelist {
     pub fn push(&mut self, body: BoxedBody)
         requires { length self.old.bodies < self.old.room }
         ensures on_top { self.new ≡ record self.old { bodies = body ∷ self.old.bodies } }
-        ensures numbers { numbers self.new ≡ body.element ∷ numbers self.old }
+        ensures numbers { numbers self.new.bodies ≡ body.element ∷ numbers self.old.bodies }
     {
         self.bodies.push(body);
     }
@@ -50,8 +50,8 @@ impl Freelist {
     pub fn pop(&mut self) -> Option<BoxedBody>
         ensures top { MatchOption result ((self.old.bodies ≡ []) × (self.new ≡ self.old))
             (λ body. self.old ≡ record self.new { bodies = body ∷ self.new.bodies }) }
-        ensures numbers { MatchOption result (numbers self.old ≡ [])
-            (λ body. numbers self.old ≡ body.element ∷ numbers self.new) }
+        ensures numbers { MatchOption result (numbers self.old.bodies ≡ [])
+            (λ body. numbers self.old.bodies ≡ body.element ∷ numbers self.new.bodies) }
     {
         self.bodies.pop()
     }

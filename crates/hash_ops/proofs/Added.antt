@@ -25,7 +25,7 @@ use Rattle.place_table.specs.declared.content.Content.TheVariants as contents
 use Rattle.place_table.specs.declared.view.Turned.{Turned}
 use Rattle.place_table.specs.Known.{turn_of}
 use Rattle.place_table.specs.Passes.{PassView, TableView, CanGive, CanAttach, Attached, GaveBack}
-use Rattle.place_table.specs.Views.{is_in_hand_of, with_in_hand, without_in_hand}
+use Rattle.place_table.specs.Views.{is_in_hand_of, with_in_hand, without_in_hand, hold_with}
 use Rattle.place_table.proofs.Entries.{append_nil}
 use Rattle.place_table.proofs.Hands.{in_hand_more, hand_back}
 use Rattle.hash_ops.specs.Calls.{spare_element}
@@ -34,7 +34,7 @@ use Rattle.place_table.specs.InBucket.{InBucket}
 use Rattle.hash_ops.specs.Under.{HasItsSpares, AnsweredAt, AreUpdateArguments}
 use Rattle.place_table.proofs.BucketTurns.{IsTurnWith}
 use Rattle.place_table.proofs.BucketBodies.{rows_taken}
-use Rattle.hash_ops.proofs.Under.{Under, hold_with, none_noted, under_nothing, under_reached, under_attached, may_reach, can_attach, can_give, left_at, answered_at, update_trace}
+use Rattle.hash_ops.proofs.Under.{Under, none_noted, under_nothing, under_reached, under_attached, may_reach, can_attach, can_give, left_at, answered_at, update_trace}
 
 -- looks leave the spare
 looked_spare : (spare : Option ℕ) (cpus : List ℕ) (rest : List Turn) → spare_after spare (found_empty cpus ++ rest) ≡ spare_after spare rest

@@ -15,6 +15,7 @@ use Rattle.map_types.specs.Kind.{is_lru, is_percpu}
 use Rattle.map_types.specs.Parts.{part_at, new_own}
 use Rattle.map_types.specs.Sides.{value_read, new_values, percpu_read, percpu_new}
 use Rattle.map_types.specs.Stored.{Stored}
+use Rattle.map_types.proofs.RowLemmas.{by_test}
 use Rattle.place_words.specs.declared.bucket_part.BucketPart.{BucketPart}
 use Rattle.place_words.specs.declared.bucket_part.BucketPart.TheVariants.{Lookup, Update}
 use Rattle.place_words.specs.declared.bucket_part.Put.{Put}
@@ -31,7 +32,6 @@ use Rattle.place_words.specs.Traces.{Turn, bucket_of_key, on_bucket_of}
 use Rattle.place_words.proofs.HistoryLemmas.{content_more}
 use Rattle.place_words.proofs.LockLemmas.{number_of_named}
 use Rattle.place_words.proofs.PlainLaws.{trace_plain}
-use Rattle.place_core.proofs.ElementLemmas.{by_test}
 use Rattle.place_table.specs.declared.view.Turned.{Turned}
 use Rattle.place_table.specs.Known.{IsAllowedAt, AreAllowedAt, log_then, log_after_all, GoOn, Learns, turn_of, turn_at}
 use Rattle.place_table.specs.Passes.{PassView, TableView, Joined, IsPassOf, begun}

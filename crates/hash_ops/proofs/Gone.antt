@@ -6,7 +6,7 @@ use Rattle.map_types.specs.declared.call.Verb.{Verb}
 use Rattle.map_types.specs.declared.kind.DomainId.TheVariants.{Bucket}
 use Rattle.map_types.specs.declared.reply.Reply.{Reply}
 use Rattle.map_types.specs.Kind.{is_lru}
-use Rattle.map_types.specs.Stored.{Stored}
+use Rattle.map_types.specs.Stored.{Stored, IsSized}
 use Rattle.percpu_values.specs.BodyList.{BodyList}
 use Rattle.place_words.specs.declared.bucket_part.BucketPart.{BucketPart}
 use Rattle.place_words.specs.declared.free_part.FreePart.TheVariants as turns
@@ -14,6 +14,7 @@ use Rattle.place_words.specs.declared.history.Part.{Part}
 use Rattle.place_words.specs.declared.history.Part.TheVariants as parts
 use Rattle.place_words.specs.Bodies.{present, numbers}
 use Rattle.map_types.specs.ElementLists.{times, without, IsIn}
+use Rattle.map_types.proofs.RowLemmas.{by_test}
 use Rattle.place_words.specs.Histories.{in_bucket}
 use Rattle.place_words.specs.Locks.{lock_number}
 use Rattle.place_words.specs.SerialOrder.{bucket_probes}
@@ -21,13 +22,12 @@ use Rattle.place_words.specs.Traces.{Turn, IsPlainTrace, bucket_of_key, on_bucke
 use Rattle.place_words.proofs.BucketLaws.{present_is_in}
 use Rattle.place_core.specs.declared.step.Lists.{Lists}
 use Rattle.place_core.specs.Steps.{without_row}
-use Rattle.place_core.proofs.ElementLemmas.{by_test}
 use Rattle.place_table.specs.declared.content.Content.TheVariants as contents
 use Rattle.place_table.specs.declared.view.Turned.{Turned}
-use Rattle.place_table.specs.Contents.{lists_of, IsSized}
+use Rattle.place_table.specs.Contents.{lists_of}
 use Rattle.place_table.specs.Known.{turn_of}
 use Rattle.place_table.specs.Passes.{PassView, TableView, CanMark, Detached, CanGive, MayGiveBack, GaveBack, with_view}
-use Rattle.place_table.specs.Views.{hold_at, is_in_hand_of, now_under, with_in_hand, without_in_hand, moved, with_hash_of}
+use Rattle.place_table.specs.Views.{hold_at, is_in_hand_of, now_under, with_in_hand, without_in_hand, moved, with_hash_of, hold_with}
 use Rattle.place_table.proofs.Entries.{append_nil}
 use Rattle.place_table.proofs.Hands.{in_hand_more, now_at_is, hand_back}
 use Rattle.hash_ops.specs.Calls.{spare_element}
@@ -36,7 +36,7 @@ use Rattle.place_table.specs.InBucket.{InBucket}
 use Rattle.hash_ops.specs.Under.{HasItsSpares, Answered}
 use Rattle.place_table.proofs.BucketTurns.{IsTurnWith}
 use Rattle.hash_ops.proofs.HandLemmas.{is_real, not_in_hand}
-use Rattle.hash_ops.proofs.Under.{Under, hold_with, none_noted, under_nothing, under_moved, under_reached, may_reach, can_give, may_give_back, left, answered_same}
+use Rattle.hash_ops.proofs.Under.{Under, none_noted, under_nothing, under_moved, under_reached, may_reach, can_give, may_give_back, left, answered_same}
 use Rattle.place_table.specs.Words.{owner_word}
 
 -- what lies in the bucket without the element

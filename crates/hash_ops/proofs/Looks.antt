@@ -4,22 +4,22 @@ use Rattle.std.specs.Prelude.{IsTrue, MatchOption}
 use Rattle.std.proofs.lemmas.List.Elements.{All-head, All-tail}
 use Rattle.map_types.specs.declared.kind.DomainId.TheVariants.{Freelist}
 use Rattle.map_types.specs.Kind.{is_lru}
-use Rattle.map_types.specs.Stored.{Stored}
+use Rattle.map_types.specs.Stored.{Stored, IsSized}
 use Rattle.cpu_freelist.specs.Stack.{FreelistView}
 use Rattle.place_words.specs.declared.free_part.FreePart.TheVariants as turns
 use Rattle.place_words.specs.declared.history.Part.{Part}
 use Rattle.place_words.specs.declared.history.Part.TheVariants as parts
 use Rattle.place_words.specs.Bodies.{numbers}
 use Rattle.map_types.specs.ElementLists.{times, without, IsHead}
+use Rattle.map_types.proofs.RowLemmas.{by_test}
 use Rattle.place_words.specs.Locks.{is_lock, lock_number}
 use Rattle.place_words.specs.Traces.{Turn}
 use Rattle.place_core.specs.declared.step.Lists.{Lists}
 use Rattle.place_core.specs.State.{rows}
 use Rattle.place_core.specs.Steps.{without_free}
-use Rattle.place_core.proofs.ElementLemmas.{by_test, times_cons_same}
+use Rattle.place_core.proofs.ElementLemmas.{times_cons_same}
 use Rattle.place_table.specs.declared.content.Content.TheVariants as contents
 use Rattle.place_table.specs.declared.view.Notes.{Notes}
-use Rattle.place_table.specs.Contents.{IsSized}
 use Rattle.place_table.specs.Passes.{PassView, TableView, IsPassOf, HasBegun, TookLock, CanClaim, Claimed, CanGive, Gave, Goes, with_view}
 use Rattle.place_table.specs.Views.{no_notes, is_in_hand_of, now_under, claimed, moved, with_came, with_in_hand}
 use Rattle.place_table.proofs.TakeToGive.{unchanged, taken_of_table, taken_begun}

@@ -78,7 +78,7 @@ popped_ring t p q (Some body) a = record {
 
 -- The CPUs from one to another, cut at one between them
 
-range_split : (from m n : ℕ) → range_with_len from (m + n) ≡ range_with_len from m ++ range_with_len (from + m) n
+pub range_split : (from m n : ℕ) → range_with_len from (m + n) ≡ range_with_len from m ++ range_with_len (from + m) n
 range_split from zero n =
     let none : 0 + n ≡ n = omega arith in
     let start : from ≡ from + 0 = omega arith in

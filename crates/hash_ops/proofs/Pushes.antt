@@ -4,22 +4,21 @@ use Rattle.std.specs.Prelude.{IsTrue}
 use Rattle.std.proofs.lemmas.List.{length-map}
 use Rattle.std.proofs.lemmas.List.Elements.{All-cons}
 use Rattle.map_types.specs.declared.kind.DomainId.TheVariants.{Freelist}
-use Rattle.map_types.specs.Stored.{Stored}
+use Rattle.map_types.specs.Stored.{Stored, IsSized}
 use Rattle.cpu_freelist.specs.Stack.{FreelistView}
 use Rattle.place_words.specs.declared.free_part.FreePart.TheVariants as turns
 use Rattle.place_words.specs.declared.history.Part.{Part}
 use Rattle.place_words.specs.declared.history.Part.TheVariants as parts
 use Rattle.place_words.specs.Bodies.{numbers}
 use Rattle.map_types.specs.ElementLists.{times}
+use Rattle.map_types.proofs.RowLemmas.{by_test}
 use Rattle.place_words.specs.Histories.{on_freelist}
 use Rattle.place_words.specs.Locks.{is_lock, lock_number}
 use Rattle.place_words.specs.Traces.{on_freelist_of}
 use Rattle.place_core.specs.declared.step.Lists.{Lists}
 use Rattle.place_core.specs.State.{rows}
 use Rattle.place_core.specs.Steps.{with_free, without_row}
-use Rattle.place_core.proofs.ElementLemmas.{by_test}
 use Rattle.place_table.specs.declared.content.Content.TheVariants as contents
-use Rattle.place_table.specs.Contents.{IsSized}
 use Rattle.place_table.specs.Passes.{PassView, TableView, TookLock, Settled, CanGive, Gave, Goes, with_view}
 use Rattle.place_table.specs.Views.{no_notes, now_under, moved, without_in_hand}
 use Rattle.place_table.proofs.TakeToGive.{taken_of_table, taken_begun}

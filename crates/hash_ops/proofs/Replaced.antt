@@ -16,14 +16,14 @@ use Rattle.place_words.specs.declared.history.Part.{Part}
 use Rattle.place_words.specs.declared.history.Part.TheVariants as parts
 use Rattle.place_words.specs.Bodies.{numbers}
 use Rattle.map_types.specs.ElementLists.{times, without, IsIn}
+use Rattle.map_types.proofs.RowLemmas.{by_test}
 use Rattle.place_core.specs.declared.step.Lists.{Lists}
 use Rattle.place_core.specs.State.{rows}
 use Rattle.place_core.specs.Steps.{with_row, without_row}
-use Rattle.place_core.proofs.ElementLemmas.{by_test}
 use Rattle.place_table.specs.declared.content.Content.TheVariants as contents
 use Rattle.place_table.specs.declared.view.InHand.{InHand}
 use Rattle.place_table.specs.Passes.{PassView, TableView, IsInNoCall, CanGive, Attached, Detached, GaveBack, SparesDiffer, spare_of, with_spares}
-use Rattle.place_table.specs.Views.{is_among, is_in_hand_of, with_in_hand, without_in_hand}
+use Rattle.place_table.specs.Views.{is_among, is_in_hand_of, with_in_hand, without_in_hand, hold_with}
 use Rattle.place_table.proofs.Entries.{append_nil}
 use Rattle.place_table.proofs.Hands.{in_hand_more, in_hand_more_else, in_hand_less, in_hand_less_else}
 use Rattle.place_table.proofs.Worlds.{true_false, some_is}
@@ -33,7 +33,7 @@ use Rattle.hash_ops.specs.Calls.{spare_element, element_of}
 use Rattle.place_table.specs.InBucket.{InBucket}
 use Rattle.hash_ops.specs.Under.{HasItsSpares, AnsweredAt, AreUpdateArguments}
 use Rattle.place_table.proofs.BucketTurns.{IsTurnWith}
-use Rattle.hash_ops.proofs.Under.{Under, hold_with, none_noted, under_nothing, under_spared, under_attached, under_detached, can_give, left_at, update_trace, not_in_hand}
+use Rattle.hash_ops.proofs.Under.{Under, none_noted, under_nothing, under_spared, under_attached, under_detached, can_give, left_at, update_trace, not_in_hand}
 
 -- Hands, with the old element in the place of the new one
 

@@ -13,7 +13,7 @@ use Rattle.map_types.specs.declared.kind.DomainId.TheVariants.{Bucket, Freelist,
 use Rattle.map_types.specs.declared.reply.Reply.{Reply}
 use Rattle.map_types.specs.Creation.{IsShape}
 use Rattle.map_types.specs.Kind.{is_lru}
-use Rattle.map_types.specs.Stored.{Stored}
+use Rattle.map_types.specs.Stored.{Stored, IsSized}
 use Rattle.percpu_values.specs.BodyList.{BodyList}
 use Rattle.bucket_chain.specs.Turns.{IsTurn}
 use Rattle.map_types.proofs.CreationLemmas.{bounds_of_shape}
@@ -26,6 +26,7 @@ use Rattle.place_words.specs.declared.history.StrandStep.{StrandStep}
 use Rattle.place_words.specs.Bodies.{numbers}
 use Rattle.place_words.specs.Buckets.{bucket_marks}
 use Rattle.map_types.specs.ElementLists.{times, IsIn}
+use Rattle.map_types.proofs.RowLemmas.{by_test}
 use Rattle.place_words.specs.Histories.{in_bucket, content, content_after, Allows, IsLegal}
 use Rattle.place_words.specs.Locks.{is_lock, lock_named, lock_number, rank_of}
 use Rattle.place_words.specs.Traces.{Turn, IsTrace, IsPlainTrace, LooksFor, reply_of_put, bucket_of_key, on_bucket_of, spare_after}
@@ -37,7 +38,6 @@ use Rattle.place_words.proofs.PlainLaws.{plain_trace, plain_spare}
 use Rattle.place_core.specs.declared.step.Lists.{Lists}
 use Rattle.place_core.specs.State.{rows}
 use Rattle.place_core.specs.Steps.{with_row, without_row}
-use Rattle.place_core.proofs.ElementLemmas.{by_test}
 use Rattle.place_table.specs.declared.content.Content.{Content}
 use Rattle.place_table.specs.declared.content.Content.TheVariants as contents
 use Rattle.place_table.specs.declared.view.View.{View}
@@ -46,14 +46,14 @@ use Rattle.place_table.specs.declared.view.InHand.{InHand}
 use Rattle.place_table.specs.declared.view.HashIn.{HashIn}
 use Rattle.place_table.specs.declared.view.Notes.{Notes}
 use Rattle.place_table.specs.declared.view.Turned.{Turned}
-use Rattle.place_table.specs.Contents.{content_told, FitsLock, IsSized}
+use Rattle.place_table.specs.Contents.{content_told, FitsLock}
 use Rattle.place_table.specs.Flushes.{flushes}
 use Rattle.place_table.specs.Known.{Learns, turn_of, turn_at, IsBy}
 use Rattle.place_table.specs.Passes.{PassView, TableView, IsInNoCall, SparesDiffer, CanAttach, Attached, CanMark, Detached, TookLock, CanGive, GaveBack, MayGiveBack, Goes, spare_of, with_view, with_spares, entry_of}
 use Rattle.place_table.specs.Plays.{IsApartFromHands}
 use Rattle.place_table.specs.Rules.{IsAboveAll}
 use Rattle.place_table.specs.TurnNotes.{NotesFit, WasRead, ProbeFits, CameToHand}
-use Rattle.place_table.specs.Views.{is_among, hold_at, now_at, now_under, with_in_hand, without_in_hand, is_in_hand_of, known_log, holding, given, with_lost, moved, with_hashes, with_now, no_notes, notes_below, holds_below}
+use Rattle.place_table.specs.Views.{is_among, hold_at, now_at, now_under, with_in_hand, without_in_hand, is_in_hand_of, known_log, holding, given, with_lost, moved, with_hashes, with_now, no_notes, notes_below, holds_below, hold_with}
 use Rattle.place_table.proofs.Going.{goes_on, goes_nowhere, goes_took, goes_moved, goes_spared, goes_gave, goes_gave_some, goes_of_table, goes_begun, given_turn, same_head, learns_on, learns_after, learns_before, learns_none, learns_moved, learns_took, learns_given, AreElsewhere}
 use Rattle.place_table.proofs.Entries.{append_nil}
 use Rattle.place_table.proofs.Worlds.{among_first, by_bool, some_is, none_some, hold_at_first}
@@ -121,9 +121,6 @@ enters t bucket p q chain plain none_shared can there few took =
     }
 
 -- Under the bucket
-
-abbrev pub hold_with : Hold → Lists → Hold
-hold_with hold now = record { lock = hold.lock; cpu = hold.cpu; log = hold.log; now = now; lost = hold.lost }
 
 -- From where the bucket was taken: these turns of other locks were made, and this lies in the bucket now.
 pub record Under (t : TableView) (hold : Hold) (below : List Notes) (q r : PassView) (now : Lists) (inner : List Turned) : Type 0 where

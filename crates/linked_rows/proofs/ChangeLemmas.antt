@@ -6,8 +6,9 @@ use Rattle.std.proofs.lemmas.Grind.{reverse_onto}
 use Rattle.map_types.specs.ElementLists.{times}
 use Rattle.map_types.specs.declared.row.Row.{Row}
 use Rattle.map_types.specs.Listed.{elements_of}
+use Rattle.map_types.proofs.RowLemmas.{by_test}
 use Rattle.row_list.specs.RowWords.{row_of, without_row, spare_of}
-use Rattle.row_list.proofs.ElementLemmas.{by_test, times_elsewhere, absent_parts}
+use Rattle.row_list.proofs.ElementLemmas.{times_elsewhere, absent_parts}
 use Rattle.row_list.proofs.RowLemmas.{row_of_absent, gone_without, without_are_rows, without_split, length_without, times_rows_reverse, splits}
 use Rattle.row_list.proofs.PlainLemmas.{around}
 use Rattle.linked_rows.specs.declared.cells.Cell.{Cell}

@@ -8,7 +8,7 @@ use Rattle.map_types.specs.declared.row.Row.{Row}
 use Rattle.map_types.specs.Listed.{elements_of}
 use Rattle.row_list.specs.RowWords.{row_of, head_row, tail_row, row_before, row_after}
 use Rattle.row_list.proofs.RowLemmas.{elements_append, last_from, last_of_reverse, row_before_split, row_after_split, row_present, splits}
-use Rattle.row_list.proofs.PlainLemmas.{around}
+use Rattle.row_list.proofs.PlainLemmas.{around, some_row}
 use Rattle.linked_rows.specs.declared.cells.Cell.{Cell}
 use Rattle.linked_rows.specs.Cells.{after_at, before_at, row_at, row_first, rows_from, rows_of, IsLinked}
 use Rattle.linked_rows.proofs.LeadLemmas.{Leads, leads_round, first_cell, leads_first, leads_at}
@@ -99,9 +99,6 @@ after_found mark cells rows e linked listed =
     ap (λ (x : ℕ). row_at cells (after_at cells x)) (sym parts.3.its) ∙ ap (row_at cells) to ∙ linked.its_row (first_cell back mark) ∙ first_behind mark rows (front ++ its ∷ []) back linked.are behind ∙ sym word
 
 -- On the way over the rows
-
-abbrev pub some_row : Row
-some_row = record { element = 0; hash = 0 }
 
 pub met_next : (mark : ℕ) (cells : List Cell) (rows : List Row) (i at : ℕ) (told new : List ℕ) → IsLinked mark cells rows → i < length rows → told ≡ elements_of (take i rows) → at ≡ first_cell (drop i rows) mark → new ≡ told ++ at ∷ [] → (new ≡ elements_of (take (i + 1) rows)) × (after_at cells at ≡ first_cell (drop (i + 1) rows) mark)
 met_next mark cells rows i at told new linked within is_told is_at is_new =

@@ -4,7 +4,8 @@ use Rattle.std.proofs.lemmas.Grind.{reverse_onto}
 use Rattle.map_types.specs.ElementLists.{times, IsIn}
 use Rattle.map_types.specs.declared.row.Row.{Row}
 use Rattle.map_types.specs.Listed.{elements_of}
-use Rattle.row_list.proofs.ElementLemmas.{by_test, times_here, absent_parts}
+use Rattle.map_types.proofs.RowLemmas.{by_test}
+use Rattle.row_list.proofs.ElementLemmas.{times_here, absent_parts}
 use Rattle.row_list.proofs.RowLemmas.{fewer_behind}
 use Rattle.linked_rows.specs.Cells.{IsRing}
 

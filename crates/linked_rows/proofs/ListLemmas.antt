@@ -5,8 +5,9 @@ use Rattle.std.proofs.lemmas.Grind.{reverse_onto}
 use Rattle.map_types.specs.ElementLists.{times}
 use Rattle.map_types.specs.declared.row.Row.{Row}
 use Rattle.map_types.specs.Listed.{elements_of}
+use Rattle.map_types.proofs.RowLemmas.{times_append, by_test}
 use Rattle.row_list.specs.RowWords.{row_of, without_row, head_row, AreRows, spare_of}
-use Rattle.row_list.proofs.ElementLemmas.{by_test, times_here, times_append}
+use Rattle.row_list.proofs.ElementLemmas.{times_here}
 use Rattle.row_list.proofs.RowLemmas.{elements_append, row_of_split, row_of_absent, times_rows_reverse}
 use Rattle.linked_rows.proofs.LeadLemmas.{AreOnce, first_cell}
 

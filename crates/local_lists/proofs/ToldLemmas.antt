@@ -5,10 +5,10 @@ use Rattle.std.proofs.lemmas.Option.{same_Some}
 use Rattle.map_types.specs.ElementLists.{IsHead}
 use Rattle.map_types.specs.Stored.{Stored}
 use Rattle.map_types.specs.declared.row.Row.{Row}
-use Rattle.percpu_values.specs.BodyList.{BodyList}
+use Rattle.percpu_values.specs.BodyList.{BodyList, pushed, popped}
 use Rattle.place_words.specs.Bodies.{numbers}
 use Rattle.place_words.specs.Locals.{new_locals, made_pending, not_pending}
-use Rattle.local_lists.specs.LocalLists.{LocalView, local_told, empty_local, pushed, popped, with_pending_row, without_pending}
+use Rattle.local_lists.specs.LocalLists.{LocalView, local_told, empty_local, with_pending_row, without_pending}
 
 pub told_empty : (elements cpu : ℕ) → local_told (empty_local elements cpu) ≡ new_locals cpu
 told_empty elements cpu = refl

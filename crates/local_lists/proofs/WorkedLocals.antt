@@ -3,7 +3,8 @@ use Rattle.std.proofs.Common.{◌≡◌, ℕ, ◌+◌, List, [], ◌∷◌, map,
 use Rattle.map_types.specs.Stored.{Stored}
 use Rattle.map_types.specs.declared.row.Row.{Row}
 use Rattle.place_words.specs.Locals.{LocalLists}
-use Rattle.local_lists.specs.LocalLists.{LocalView, local_told, pushed, popped, with_free, with_pending_row, without_pending, with_steal}
+use Rattle.local_lists.specs.LocalLists.{LocalView, local_told, with_free, with_pending_row, without_pending, with_steal}
+use Rattle.percpu_values.specs.BodyList.{pushed, popped}
 
 abbrev body : ℕ → Stored
 body e = record { element = e; key = []; values = [] }

@@ -2,7 +2,6 @@
 -- its thefts. The rules are those of the kernel's `__local_list_pop_free`, `__local_list_add_pending`,
 -- `__local_list_pop_pending` and `bpf_common_lru_push_free`. Lists are head first.
 use Rattle.std.specs.Prelude.{ℕ, ◌+◌, ◌-◌, ◌<◌, ◌≤◌, ◌^◌, List, [], ◌∷◌}
-use Rattle.map_types.specs.Stored.{Stored}
 use Rattle.map_types.specs.ElementLists.{times}
 use Rattle.map_types.specs.Listed.{elements_of}
 use Rattle.map_types.specs.declared.row.Row.{Row}
@@ -43,17 +42,6 @@ empty_local elements cpu = record {
 
 abbrev pub with_free : BodyList → LocalView → LocalView
 with_free free lists = record lists { free = free }
-
--- a free list after a push, and after a pop
-abbrev pub pushed : Stored → BodyList → BodyList
-pushed body free = record { bodies = body ∷ free.bodies; spare = free.spare - 1 }
-
-abbrev pub popped_from : List Stored → ℕ → BodyList
-popped_from [] spare = record { bodies = []; spare = spare }
-popped_from (body ∷ bodies) spare = record { bodies = bodies; spare = spare + 1 }
-
-abbrev pub popped : BodyList → BodyList
-popped free = popped_from free.bodies free.spare
 
 -- a row comes to the head of pending, and the row of an element leaves it
 abbrev pub with_pending_row : Row → LocalView → LocalView

@@ -5,7 +5,8 @@ ghost use Rattle.map_types.specs.ElementLists.{times, IsIn};
 ghost use Rattle.map_types.specs.Listed.{elements_of};
 ghost use Rattle.place_words.specs.Bodies.{numbers};
 ghost use Rattle.row_list.specs.RowWords.{row_of};
-ghost use Rattle.local_lists.specs.LocalLists.{IsLocal, empty_local, times_on, pushed, popped, with_free, with_pending_row, without_pending, with_steal};
+ghost use Rattle.local_lists.specs.LocalLists.{IsLocal, empty_local, times_on, with_free, with_pending_row, without_pending, with_steal};
+ghost use Rattle.percpu_values.specs.BodyList.{pushed, popped};
 
 use map_types::NoMemory;
 use percpu_values::{BodyStack, BoxedBody};

@@ -9,8 +9,9 @@ use Rattle.std.proofs.lemmas.List.{take-append-drop, take_at, reverse-reverse}
 use Rattle.map_types.specs.ElementLists.{times, IsIn, before_from, neighbour}
 use Rattle.map_types.specs.declared.row.Row.{Row}
 use Rattle.map_types.specs.Listed.{elements_of, rows_before, nearest_before, cursor_without}
+use Rattle.map_types.proofs.RowLemmas.{times_append, by_test}
 use Rattle.row_list.specs.RowWords.{is_of, without_row, head_row, row_before_from, row_before}
-use Rattle.row_list.proofs.ElementLemmas.{by_test, absent_parts, times_append}
+use Rattle.row_list.proofs.ElementLemmas.{absent_parts}
 use Rattle.row_list.proofs.RowLemmas.{elements_append, times_rows_reverse, found_is_in, kept_without, fewer_without, last_from, last_of_reverse, row_before_split, splits}
 
 -- a place for the cursor in a list: one of its elements, or the mark

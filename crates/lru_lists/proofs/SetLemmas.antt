@@ -3,8 +3,8 @@ use Rattle.std.proofs.Common.{◌≡◌, ℕ, eqb, List, ◌++◌, Some, refl, a
 use Rattle.map_types.specs.ElementLists.{times}
 use Rattle.map_types.specs.declared.row.Row.{Row}
 use Rattle.map_types.specs.Listed.{elements_of, cursor_without}
+use Rattle.map_types.proofs.RowLemmas.{times_append}
 use Rattle.row_list.specs.RowWords.{without_row}
-use Rattle.row_list.proofs.ElementLemmas.{times_append}
 use Rattle.row_list.proofs.RowLemmas.{elements_append, HasSome, row_present, row_of_element, gone_without, fewer_without}
 use Rattle.lru_lists.specs.Sets.{SetView, IsSet, IsListed, times_listed, times_on, row_on, taken_off, with_cursor}
 use Rattle.lru_lists.proofs.CursorLemmas.{cursor_stays, placed_in_more}

@@ -1,7 +1,6 @@
 -- A list set of an evicting map: the lists active, inactive and free, and the cursor of the rotation. The rules are those
 -- of the kernel's `__bpf_lru_node_move`, `__bpf_lru_node_move_in` and `__bpf_lru_node_move_to_free`. Lists are head first.
 use Rattle.std.specs.Prelude.{ℕ, ◌==◌, ◌+◌, ◌-◌, ◌<◌, ◌≤◌, ◌^◌, List, [], ◌∷◌, ◌++◌, map, Option, None, Some, MatchOption}
-use Rattle.map_types.specs.Stored.{Stored}
 use Rattle.percpu_values.specs.BodyList.{BodyList}
 use Rattle.map_types.specs.ElementLists.{times, IsIn}
 use Rattle.map_types.specs.Listed.{Listed, elements_of, cursor_without}
@@ -9,6 +8,7 @@ use Rattle.map_types.specs.declared.row.Row.{Row}
 use Rattle.row_list.specs.RowWords.{row_of, without_row}
 use Rattle.lru_lists.specs.declared.name.ListName.{ListName}
 use Rattle.lru_lists.specs.declared.name.ListName.TheVariants.{Active, Inactive}
+use Rattle.place_words.specs.Bodies.{numbers}
 
 -- The cursor is an inactive element, or none where it stands at the mark. `elements` is a bound of the elements that the
 -- set may have.
@@ -27,15 +27,12 @@ abbrev pub rows_of : ListName → SetView → List Row
 rows_of Active set = set.active
 rows_of Inactive set = set.inactive
 
-abbrev pub numbers_of : List Stored → List ℕ
-numbers_of bodies = map (λ (body : Stored). body.element) bodies
-
 -- how often an element stands on active and inactive, and how often on any of the three lists
 abbrev pub times_listed : ℕ → SetView → ℕ
 times_listed e set = times e (elements_of set.active) + times e (elements_of set.inactive)
 
 abbrev pub times_on : ℕ → SetView → ℕ
-times_on e set = times_listed e set + times e (numbers_of set.free.bodies)
+times_on e set = times_listed e set + times e (numbers set.free.bodies)
 
 -- the element is active or inactive
 abbrev pub IsListed : ℕ → SetView → Type 0
@@ -88,19 +85,12 @@ brought (Some row) to set = moved_in row to set
 abbrev pub moved_to : ℕ → ListName → SetView → SetView
 moved_to e to set = brought (row_on e set) to (taken_off e set)
 
+-- a set with these active and inactive rows and this cursor, its free list as it was
+abbrev pub with_listed : Listed → SetView → SetView
+with_listed rows set = record set { active = rows.active; inactive = rows.inactive; cursor = rows.cursor }
+
 abbrev pub with_cursor : Option ℕ → SetView → SetView
 with_cursor at set = record set { cursor = at }
 
 abbrev pub with_free : BodyList → SetView → SetView
 with_free free set = record set { free = free }
-
--- a stack after a push, and after a pop
-abbrev pub pushed : Stored → BodyList → BodyList
-pushed body stack = record { bodies = body ∷ stack.bodies; spare = stack.spare - 1 }
-
-abbrev pub popped_from : List Stored → ℕ → BodyList
-popped_from [] spare = record { bodies = []; spare = spare }
-popped_from (body ∷ bodies) spare = record { bodies = bodies; spare = spare + 1 }
-
-abbrev pub popped : BodyList → BodyList
-popped stack = popped_from stack.bodies stack.spare

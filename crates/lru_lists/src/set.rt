@@ -5,7 +5,9 @@ ghost use Rattle.map_types.specs.Listed.{elements_of, cursor_without};
 ghost use Rattle.row_list.specs.RowWords.{row_of, row_before, without_row};
 ghost use Rattle.std.specs.Option.{option_map};
 ghost use Rattle.map_types.specs.ElementLists.{times, IsIn};
-ghost use Rattle.lru_lists.specs.Sets.{IsSet, IsListed, IsPlace, empty_set, rows_of, numbers_of, times_listed, times_on, row_on, moved_in, moved_to, taken_off, with_cursor, with_free, pushed, popped};
+ghost use Rattle.lru_lists.specs.Sets.{IsSet, IsListed, IsPlace, empty_set, rows_of, times_listed, times_on, row_on, moved_in, moved_to, taken_off, with_cursor, with_free};
+ghost use Rattle.percpu_values.specs.BodyList.{pushed, popped};
+ghost use Rattle.place_words.specs.Bodies.{numbers};
 
 use crate::ListName;
 use map_types::NoMemory;
@@ -128,9 +130,9 @@ impl<R: Rows> ListSet<R> {
     /// The free list and a stack of bodies change places, their room included. The elements of the stack are neither active
     /// nor inactive, and no two are the same.
     pub fn swap_free(&mut self, other: &mut BodyStack)
-        requires below { (e : ℕ) → IsIn e (numbers_of other.old.bodies) → e < self.old.elements }
+        requires below { (e : ℕ) → IsIn e (numbers other.old.bodies) → e < self.old.elements }
         requires absent { (e : ℕ)
-            → times_listed e self.old + times e (numbers_of other.old.bodies) ≤ 1 }
+            → times_listed e self.old + times e (numbers other.old.bodies) ≤ 1 }
         ensures exact { self.new ≡ with_free other.old self.old }
         ensures other { other.new ≡ self.old.free }
         ensures whole { IsSet self.new }

@@ -9,6 +9,7 @@ use Rattle.map_types.specs.declared.kind.DomainId.TheVariants.{CpuLru, Global, L
 use Rattle.map_types.specs.declared.row.Row.{Row}
 use Rattle.map_types.specs.ElementLists.{times, without, IsIn}
 use Rattle.map_types.specs.Kind.{is_lru}
+use Rattle.map_types.proofs.RowLemmas.{times_append, by_test}
 use Rattle.key_hash.specs.Bucket.{bucket_number}
 use Rattle.place_words.specs.declared.bucket_part.Seen.{Seen}
 use Rattle.place_words.specs.declared.bucket_part.Seen.TheVariants.{Removed, Held}
@@ -22,7 +23,7 @@ use Rattle.place_core.specs.declared.step.Lists.{Lists}
 use Rattle.place_core.specs.State.{rows}
 use Rattle.place_core.specs.Steps.{with_free, without_row}
 use Rattle.place_core.specs.Wholeness.{all_of}
-use Rattle.place_core.proofs.ElementLemmas.{by_test, times_append, times_cons_same, times_cons_other, times_without_other}
+use Rattle.place_core.proofs.ElementLemmas.{times_cons_same, times_cons_other, times_without_other}
 use Rattle.place_table.specs.declared.view.BitAsked.{BitAsked}
 use Rattle.place_table.specs.declared.view.Hold.{Hold}
 use Rattle.place_table.specs.declared.view.InHand.{InHand}
@@ -36,7 +37,7 @@ use Rattle.place_table.specs.Plays.{MayClear, HoldsLock, IsKnownHome}
 use Rattle.place_table.specs.TurnNotes.{HasOnlyHash}
 use Rattle.place_table.specs.Rules.{IsAboveAll}
 use Rattle.place_table.specs.StoredHashes.{stored_in}
-use Rattle.place_table.specs.Views.{is_among, is_in_hand_of, hold_at, cleared, bit_read, with_clear, with_bit_read}
+use Rattle.place_table.specs.Views.{is_among, is_in_hand_of, hold_at, cleared, bit_read, with_clear, with_bit_read, hold_with}
 use Rattle.place_table.proofs.Entries.{append_nil}
 use Rattle.place_table.proofs.Going.{goes_on, goes_noted, goes_of_table, goes_begun, same_head, learns_on, learns_cleared, learns_bit_read}
 use Rattle.place_table.proofs.Hands.{in_hand_more, in_hand_more_else}
@@ -50,7 +51,7 @@ use Rattle.lru_lists.specs.Probes.{seen_of, IsHeld}
 use Rattle.lru_ops.specs.declared.probing.Destination.{Destination}
 use Rattle.lru_ops.specs.declared.probing.Destination.TheVariants.{OwnFree, LocalFree, OwnHand}
 use Rattle.lru_ops.specs.Askings.{call_of, calls_noted, probe_of, probes_made, asked_by, asked_after, owners_with, owners_after, notes_after, came_with, came_after, held_after, taken_after, touch_by, AreEvicts, hash_in, Since, MayAsk, MayChase}
-use Rattle.lru_ops.specs.Evictions.{HoldsLists, HoldsFor, MayProbe, IsEvict, SawHolders, hold_with, lists_with, freed_outside, held_with, taken_with, noted_with, CanChase, Chased}
+use Rattle.lru_ops.specs.Evictions.{HoldsLists, HoldsFor, MayProbe, IsEvict, SawHolders, lists_with, freed_outside, held_with, taken_with, noted_with, CanChase, Chased}
 use Rattle.lru_ops.proofs.DoesOn.{does_nothing}
 use Rattle.lru_ops.proofs.Holders.{saw_on, saw_on_none, saw_none}
 

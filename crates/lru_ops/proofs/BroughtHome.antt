@@ -11,6 +11,7 @@ use Rattle.map_types.specs.Creation.{IsShape}
 use Rattle.map_types.specs.ElementLists.{times, IsIn}
 use Rattle.map_types.specs.Kind.{is_lru}
 use Rattle.map_types.specs.Listed.{elements_of}
+use Rattle.map_types.proofs.RowLemmas.{times_append, by_test}
 use Rattle.key_hash.specs.Bucket.{bucket_number}
 use Rattle.place_words.specs.declared.history.Part.{Part}
 use Rattle.place_words.specs.declared.history.Part.TheVariants as parts
@@ -28,7 +29,7 @@ use Rattle.place_core.specs.declared.step.Lists.{Lists}
 use Rattle.place_core.specs.State.{rows}
 use Rattle.place_core.specs.Steps.{with_row}
 use Rattle.place_core.specs.Wholeness.{all_of}
-use Rattle.place_core.proofs.ElementLemmas.{by_test, times_append, times_cons_same}
+use Rattle.place_core.proofs.ElementLemmas.{times_cons_same}
 use Rattle.place_table.specs.declared.content.Content.TheVariants as contents
 use Rattle.place_table.specs.declared.view.HashIn.{HashIn}
 use Rattle.place_table.specs.declared.view.Hold.{Hold}
@@ -43,13 +44,12 @@ use Rattle.place_table.specs.Passes.{PassView, TableView, CanGive, CanRehome, Cl
 use Rattle.place_table.specs.Plays.{HoldsLock, IsKnownHome}
 use Rattle.place_table.specs.StoredHashes.{stored_in}
 use Rattle.place_table.specs.TurnNotes.{WasRead, ProbeFits, CameToHand}
-use Rattle.place_table.specs.Views.{is_among, is_in_hand_of, hold_at, bucket_known, hash_given, hashes_given, no_notes, notes_below, now_at, with_clear, with_came, with_now, without_in_hand, cleared as cleared_view, rehomed as rehomed_view}
+use Rattle.place_table.specs.Views.{is_among, is_in_hand_of, hold_at, bucket_known, hash_given, hashes_given, no_notes, notes_below, now_at, with_clear, with_came, with_now, without_in_hand, cleared as cleared_view, rehomed as rehomed_view, hold_with}
 use Rattle.place_table.proofs.Came.{came_among, come_from_other}
 use Rattle.place_table.proofs.Going.{goes_on, given_turn, goes_noted, goes_of_table, goes_begun, learns_on, learns_cleared, same_head}
 use Rattle.place_table.proofs.StoredHashes.{stored_is_in}
 use Rattle.place_table.proofs.Worlds.{both_true, hand_is, hold_at_first, some_is, true_false}
 use Rattle.local_lists.specs.LocalLists.{LocalView, IsLocal, local_told, times_on, with_pending_row, with_steal}
-use Rattle.lru_ops.specs.Evictions.{hold_with}
 use Rattle.lru_ops.specs.Shared.{CanBringHome, BroughtHome}
 use Rattle.lru_ops.proofs.GivingOut.{came_first, forget_seen, skip_row}
 use Rattle.lru_ops.proofs.Holders.{saw_on_none, saw_none}

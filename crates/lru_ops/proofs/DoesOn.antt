@@ -37,7 +37,7 @@ does_nothing t to rows p notes below are = record {
   learns = learns_none t.shape p.view;
 }
 
-asked_append : (first second : List BitCall) (asked : List BitAsked) → asked_after (first ++ second) asked ≡ asked_after second (asked_after first asked)
+pub asked_append : (first second : List BitCall) (asked : List BitAsked) → asked_after (first ++ second) asked ≡ asked_after second (asked_after first asked)
 asked_append [] second asked = refl
 asked_append (call ∷ first) second asked = asked_append first second (asked_by call ∷ asked)
 

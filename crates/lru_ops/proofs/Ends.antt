@@ -10,6 +10,7 @@ use Rattle.map_types.specs.declared.kind.MapKind.{MapKind}
 use Rattle.map_types.specs.declared.kind.MapKind.TheVariants.{Hash}
 use Rattle.map_types.specs.declared.reply.Reply.{Reply}
 use Rattle.map_types.specs.Kind.{is_lru}
+use Rattle.map_types.proofs.RowLemmas.{by_test}
 use Rattle.percpu_values.specs.BodyList.{BodyList}
 use Rattle.place_words.specs.declared.bucket_part.BucketPart.{BucketPart}
 use Rattle.place_words.specs.declared.history.Part.TheVariants as parts
@@ -18,7 +19,6 @@ use Rattle.place_words.specs.PlainTraces.{IsPlainTrace, spare_after}
 use Rattle.place_words.specs.Turns.{TurnAt, Turn, turns_of}
 use Rattle.place_words.specs.Traces.{IsTrace}
 use Rattle.place_words.specs.Walks.{IsKeyTrace}
-use Rattle.place_core.proofs.ElementLemmas.{by_test}
 use Rattle.place_table.specs.declared.content.Content.TheVariants as contents
 use Rattle.place_table.specs.declared.view.InHand.{InHand}
 use Rattle.place_table.specs.declared.view.Turned.{Turned}

@@ -3,13 +3,14 @@ use Rattle.std.proofs.Common.{◌≡◌, ◌≢◌, ℕ, ◌<◌, ◌≤◌, ◌
 use Rattle.std.proofs.lemmas.List.Elements.{recursion_from_All, All-nil, All-cons}
 use Rattle.std.specs.List.{AllByRecursion}
 use Rattle.std.specs.Prelude.{◌==◌, find, reverse, IsTrue, IsFalse, is_some, All, suc}
-use Rattle.std.proofs.lemmas.Bool.{lt-ltb, eqb-true}
+use Rattle.std.proofs.lemmas.Bool.{eqb-true}
 use Rattle.map_types.specs.declared.attr.Shape.{Shape}
 use Rattle.map_types.specs.declared.kind.DomainId.{DomainId}
 use Rattle.map_types.specs.declared.kind.DomainId.TheVariants.{Bucket, CpuLru, Freelist, Global, Local}
 use Rattle.map_types.specs.ElementLists.{one, times, without, IsIn}
 use Rattle.map_types.specs.Kind.{is_lru}
-use Rattle.map_types.specs.Stored.{Stored}
+use Rattle.map_types.specs.Stored.{Stored, IsSized}
+use Rattle.map_types.proofs.RowLemmas.{by_test}
 use Rattle.percpu_values.specs.BodyList.{BodyList}
 use Rattle.bucket_chain.specs.Turns.{IsTurn}
 use Rattle.bucket_chain.proofs.SizeLaws.{sizes_stay}
@@ -33,7 +34,7 @@ use Rattle.place_core.specs.declared.step.Lists.{Lists}
 use Rattle.place_core.specs.Places.{is_in_bucket}
 use Rattle.place_core.specs.State.{rows, is_bucket}
 use Rattle.place_core.specs.Steps.{without_row}
-use Rattle.place_core.proofs.ElementLemmas.{by_test, times_cons_same, times_cons_other, times_without_same, times_without_other}
+use Rattle.place_core.proofs.ElementLemmas.{times_cons_same}
 use Rattle.place_table.specs.declared.content.Content.TheVariants as contents
 use Rattle.place_table.specs.declared.view.View.{View}
 use Rattle.place_table.specs.declared.view.Hold.{Hold}
@@ -41,7 +42,7 @@ use Rattle.place_table.specs.declared.view.InHand.{InHand}
 use Rattle.place_table.specs.declared.view.Notes.{Notes}
 use Rattle.place_table.specs.declared.view.Turned.{Turned}
 use Rattle.place_table.specs.declared.view.WordStep.{WordStep}
-use Rattle.place_table.specs.Contents.{lists_of, FitsLock, IsSized}
+use Rattle.place_table.specs.Contents.{lists_of, FitsLock}
 use Rattle.place_table.specs.Known.{Learns}
 use Rattle.place_table.specs.Passes.{PassView, TableView, CanTake, CanMark, TookLock, CanGive, Gave, Goes, with_view, entry_of}
 use Rattle.place_table.specs.Plays.{OwnerFits, IsListedHere}
@@ -49,14 +50,16 @@ use Rattle.place_table.specs.Rules.{IsAboveAll, is_hand_of}
 use Rattle.place_table.specs.Flushes.{flushes}
 use Rattle.place_table.specs.StoredHashes.{stored_in}
 use Rattle.place_table.specs.TurnNotes.{HasOnlyHash, WasRead, ProbeFits, CameToHand, clears_among}
-use Rattle.place_table.specs.Views.{is_among, is_in_hand_of, hold_at, now_under, with_now, with_in_hand, detached, owner_read, with_owner_read, holding, known_log, no_notes, given, holds_below, notes_below, owners_probed}
+use Rattle.place_table.specs.Views.{is_among, is_in_hand_of, hold_at, now_under, with_now, with_in_hand, detached, owner_read, with_owner_read, holding, known_log, no_notes, given, holds_below, notes_below, owners_probed, hold_with}
 use Rattle.place_table.specs.Words.{owner_word}
 use Rattle.place_table.proofs.Entries.{append_nil}
 use Rattle.place_table.proofs.Going.{goes_on, goes_took, goes_moved, goes_noted, goes_gave, goes_of_table, goes_begun, given_turn, same_head, learns_on, learns_nothing, learns_took, learns_given}
 use Rattle.place_table.proofs.Hands.{now_at_is}
 use Rattle.place_table.proofs.Worlds.{hold_at_first, hold_at_other, some_is, none_some, true_false}
-use Rattle.lru_ops.specs.Evictions.{HoldsLists, CanProbe, Inside, IsEvict, hand_with, EndedWith, EvictedWith, hold_with}
+use Rattle.place_table.proofs.BucketTurns.{left_is}
+use Rattle.lru_ops.specs.Evictions.{HoldsLists, CanProbe, Inside, IsEvict, hand_with, EndedWith, EvictedWith}
 use Rattle.lru_ops.proofs.Holders.{SawSeen, saw_on, saw_none, saw_probe}
+use Rattle.lru_ops.proofs.Under.{bucket_there}
 
 -- The body of an element that was found
 
@@ -84,9 +87,6 @@ one_number : (n : ℕ) → (n == n) ≡ true
 one_number n = by_test n n (λ b. b ≡ true) (λ _. refl) (λ other. absurd (other refl))
 
 -- Locks
-
-pub bucket_there : (shape : Shape) (bucket : ℕ) → bucket < shape.buckets → IsTrue (is_lock shape (Bucket bucket))
-bucket_there shape bucket there = lt-ltb bucket shape.buckets there
 
 bucket_no_local : (bucket cpu : ℕ) → Bucket bucket ≡ Local cpu → ⊥
 bucket_no_local bucket cpu e = cc
@@ -193,13 +193,6 @@ inside t bucket e p q chain can took =
     }
 
 -- Under the bucket
-
-left_is : (e : ℕ) (left all : List ℕ) → ((x : ℕ) → times x (e ∷ left) ≡ times x all) → (x : ℕ) → times x left ≡ times x (without e all)
-left_is e left all out x =
-    let here : times e left ≡ times e (without e all) = omega (arith, out e, times_cons_same e left, times_without_same e all) in
-    by_test x e (λ _. times x left ≡ times x (without e all))
-    (λ same. subst (λ k. times k left ≡ times k (without e all)) (sym same) here)
-    (λ other. sym (times_cons_other x e left other) ∙ out x ∙ sym (times_without_other x e all other))
 
 no_marks : (b : Bool) (none : List ℕ) → none ≡ cond b none none
 no_marks true none = refl

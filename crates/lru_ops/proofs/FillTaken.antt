@@ -7,6 +7,7 @@ use Rattle.map_types.specs.declared.kind.DomainId.TheVariants.{Global, Local}
 use Rattle.map_types.specs.declared.row.Row.{Row}
 use Rattle.map_types.specs.ElementLists.{times, IsIn}
 use Rattle.map_types.specs.Listed.{elements_of}
+use Rattle.map_types.proofs.RowLemmas.{times_append, by_test}
 use Rattle.place_words.specs.Bodies.{numbers}
 use Rattle.place_words.specs.Histories.{Content, content, in_global}
 use Rattle.place_words.specs.Locks.{is_lock, lock_named, lock_number, rank_of}
@@ -15,7 +16,6 @@ use Rattle.place_words.proofs.LockLemmas.{named_by_number}
 use Rattle.place_core.specs.declared.step.Lists.{Lists}
 use Rattle.place_core.specs.State.{rows, is_bucket}
 use Rattle.place_core.specs.Wholeness.{all_of}
-use Rattle.place_core.proofs.ElementLemmas.{by_test, times_append}
 use Rattle.place_table.specs.declared.content.Content.TheVariants as contents
 use Rattle.place_table.specs.declared.view.Hold.{Hold}
 use Rattle.place_table.specs.declared.view.Notes.{Notes}
@@ -64,7 +64,7 @@ hold_at_two k first second x is =
     is
 
 -- what is stored for an element of the set, which is listed then
-stored_global : (set : SetView) (e : ℕ) → stored_in (in_global (set_told set)) e ≡ stored_hash e (rows_on set)
+pub stored_global : (set : SetView) (e : ℕ) → stored_in (in_global (set_told set)) e ≡ stored_hash e (rows_on set)
 unfolding stored_in
 stored_global set e = refl
 

@@ -1,5 +1,5 @@
 -- Lists and sets over a turn of the global lists that fills local lists: what is flushed, and what is left of both.
-use Rattle.std.proofs.Common.{◌≡◌, ℕ, ◌≤◌, ◌+◌, Bool, List, [], ◌∷◌, ◌++◌, map, drop, length, take, sym, refl, ap, ◌∙◌, subst, Option, Some, append_assoc, arith}
+use Rattle.std.proofs.Common.{◌≡◌, ℕ, ◌≤◌, ◌+◌, Bool, List, [], ◌∷◌, ◌++◌, map, drop, length, take, sym, ap, ◌∙◌, subst, Option, Some, append_assoc, arith}
 use Rattle.std.specs.Prelude.{◌||◌, not, reverse, filter, option_map, All, IsPermutation}
 use Rattle.std.proofs.lemmas.List.{map-append, reverse-append}
 use Rattle.std.proofs.lemmas.List.Elements.{All-nil, All-cons, All-head, All-tail, All-append, All-filter, All-map}
@@ -7,6 +7,7 @@ use Rattle.std.proofs.lemmas.List.Sorted.{All-permutation, IsPermutation-reverse
 use Rattle.map_types.specs.declared.row.Row.{Row}
 use Rattle.map_types.specs.ElementLists.{times}
 use Rattle.map_types.specs.Listed.{Listed, elements_of}
+use Rattle.map_types.proofs.RowLemmas.{times_append}
 use Rattle.place_words.specs.declared.list_part.GlobalPart.TheVariants as global
 use Rattle.place_words.specs.declared.visits.Flush.{Flush}
 use Rattle.place_words.specs.declared.visits.ShrinkNote.{ShrinkNote}
@@ -18,7 +19,7 @@ use Rattle.place_words.specs.Sets.{ListSet, rotated_set}
 use Rattle.place_words.specs.Takings.{stored_hash}
 use Rattle.place_words.proofs.BucketLaws.{times_more}
 use Rattle.place_words.proofs.GlobalChoices.{not_there}
-use Rattle.place_core.proofs.ElementLemmas.{times_append, times_cons_same}
+use Rattle.place_core.proofs.ElementLemmas.{times_cons_same}
 use Rattle.place_table.specs.declared.view.BitAsked.{BitAsked}
 use Rattle.place_table.specs.Calls.{clears_found}
 use Rattle.place_table.specs.Contents.{set_told}
@@ -32,20 +33,17 @@ use Rattle.lru_lists.specs.Sets.{SetView, listed, times_on}
 use Rattle.lru_lists.proofs.SetLemmas.{its_row}
 use Rattle.lru_ops.specs.Askings.{asked_after}
 use Rattle.lru_ops.specs.OwnTurns.{rows_on}
-use Rattle.lru_ops.proofs.FlushRows.{asked_on}
 use Rattle.lru_ops.proofs.Holders.{all_split}
 use Rattle.lru_ops.proofs.SetWork.{listed_times, own_row, row_has, stored_row}
+use Rattle.lru_ops.proofs.DoesOn.{asked_append}
+use Rattle.lru_ops.proofs.RefillTurns.{elements_flushed}
 
 -- What is flushed
-
-flushed_names : (flushed : List Flush) → elements_of (flushed_rows flushed) ≡ flushed_elements flushed
-flushed_names [] = refl
-flushed_names (flush ∷ flushed) = ap (λ (l : List ℕ). flush.element ∷ l) (flushed_names flushed)
 
 -- each element as often as it was pending
 pub flushed_times : (e : ℕ) (flushed : List Flush) (pending : List Row) → flushed_rows flushed ≡ reverse pending → times e (flushed_elements flushed) ≡ times e (elements_of pending)
 flushed_times e flushed pending is =
-    ap (times e) (sym (flushed_names flushed)) ∙ (ap (λ (l : List Row). times e (elements_of l)) is ∙ times_rows_reverse e pending)
+    ap (times e) (sym (elements_flushed flushed)) ∙ (ap (λ (l : List Row). times e (elements_of l)) is ∙ times_rows_reverse e pending)
 
 outside : (set : SetView) (e : ℕ) → times_on e set ≡ 0 → IsOutside (set_told set) e
 outside set e none =
@@ -111,7 +109,7 @@ module _ (set flushed_set rotated moved : SetView) (flushed : List Flush) (told_
   once_there : (e : ℕ) → times e (elements_of there) ≤ 1
   once_there e =
       let parts : times e (elements_of there) ≡ times e (elements_of (flushed_rows flushed)) + times e (elements_of (rows_on set)) = ap (times e) (elements_append (flushed_rows flushed) (rows_on set)) ∙ times_append e (elements_of (flushed_rows flushed)) (elements_of (rows_on set)) in
-      let names : times e (elements_of (flushed_rows flushed)) ≡ times e (flushed_elements flushed) = ap (times e) (flushed_names flushed) in
+      let names : times e (elements_of (flushed_rows flushed)) ≡ times e (flushed_elements flushed) = ap (times e) (elements_flushed flushed) in
       let rows = listed_times e set in
       let once = apart e in
       omega (arith, parts, names, rows, once)
@@ -171,7 +169,7 @@ free_filled moved gone = ap (λ (l : List ℕ). reverse gone ++ l) (append_nil (
 -- Bits, of flushes, of a rotation and of a shrink
 
 asked_both : (a b : List Visit) (asked : List BitAsked) → asked_after (map calls.Cleared b) (asked_after (map calls.Cleared a) asked) ≡ asked_after (map calls.Cleared (a ++ b)) asked
-asked_both a b asked = sym (ap (λ (l : List BitCall). asked_after l asked) (map-append calls.Cleared a b) ∙ asked_on (map calls.Cleared a) (map calls.Cleared b) asked)
+asked_both a b asked = sym (ap (λ (l : List BitCall). asked_after l asked) (map-append calls.Cleared a b) ∙ asked_append (map calls.Cleared a) (map calls.Cleared b) asked)
 
 in_a_row : (a b c d : List Visit) → (a ++ (b ++ c)) ++ d ≡ a ++ (b ++ (c ++ d))
 in_a_row a b c d = append_assoc a (b ++ c) d ∙ ap (λ (l : List Visit). a ++ l) (append_assoc b c d)

@@ -26,7 +26,7 @@ use Rattle.place_table.specs.Contents.{FitsLocal, set_told}
 use Rattle.place_table.specs.Known.{BitTouch, Learns}
 use Rattle.place_table.specs.Passes.{PassView, TableView, Goes}
 use Rattle.place_table.specs.TurnNotes.{HasOnlyHash}
-use Rattle.place_table.specs.Views.{no_notes}
+use Rattle.place_table.specs.Views.{no_notes, hold_with}
 use Rattle.place_table.proofs.Entries.{append_nil}
 use Rattle.place_table.proofs.Going.{goes_on, learns_on, same_head}
 use Rattle.local_lists.specs.LocalLists.{LocalView}
@@ -39,7 +39,7 @@ use Rattle.lru_lists.specs.declared.notes.ShrinkNotes.{ShrinkNotes}
 use Rattle.lru_lists.specs.Sets.{SetView, times_on as times_on_set}
 use Rattle.lru_ops.specs.declared.probing.Destination.TheVariants.{LocalFree}
 use Rattle.lru_ops.specs.Askings.{AreEvicts, Does, held_after, lists_after, notes_after, came_after}
-use Rattle.lru_ops.specs.Evictions.{SawHolders, hold_with}
+use Rattle.lru_ops.specs.Evictions.{SawHolders}
 use Rattle.lru_ops.specs.Filling.{AreFresh, FilledUp, MovedAll, MovesFree, turn_told, CanFill, Flushes, FlushedAll, flushed_notes, off_notes}
 use Rattle.lru_ops.specs.GlobalWork.{HoldsGlobal, Rotated}
 use Rattle.lru_ops.specs.OwnTurns.{rows_on}

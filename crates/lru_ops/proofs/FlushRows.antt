@@ -5,6 +5,7 @@ use Rattle.std.proofs.lemmas.List.{map-append, reverse-append, reverse-reverse}
 use Rattle.map_types.specs.declared.row.Row.{Row}
 use Rattle.map_types.specs.ElementLists.{times}
 use Rattle.map_types.specs.Listed.{elements_of}
+use Rattle.map_types.proofs.RowLemmas.{times_append, by_test}
 use Rattle.place_words.specs.declared.owner.Owner.{Owner}
 use Rattle.place_words.specs.declared.owner.Owner.TheVariants as owners
 use Rattle.place_words.specs.declared.visits.Flush.{Flush}
@@ -12,7 +13,7 @@ use Rattle.place_words.specs.Globals.{flush_row, flushed_rows, with_flushed}
 use Rattle.place_words.specs.Openings.{is_free}
 use Rattle.place_words.specs.Sets.{ListSet}
 use Rattle.place_words.specs.Takings.{stored_hash}
-use Rattle.place_core.proofs.ElementLemmas.{by_test, times_append, times_cons_same}
+use Rattle.place_core.proofs.ElementLemmas.{times_cons_same}
 use Rattle.place_table.specs.declared.view.Hold.{Hold}
 use Rattle.place_table.specs.declared.view.Notes.{Notes}
 use Rattle.place_table.specs.Contents.{set_told}
@@ -21,10 +22,7 @@ use Rattle.place_table.proofs.Entries.{append_nil}
 use Rattle.place_table.proofs.Worlds.{some_is, none_some}
 use Rattle.row_list.specs.RowWords.{head_row, tail_row, without_row}
 use Rattle.row_list.proofs.RowLemmas.{elements_append, without_split}
-use Rattle.lru_lists.specs.declared.bits.BitCall.{BitCall}
 use Rattle.lru_lists.specs.Sets.{SetView, moved_in}
-use Rattle.place_table.specs.declared.view.BitAsked.{BitAsked}
-use Rattle.lru_ops.specs.Askings.{asked_by, asked_after}
 use Rattle.lru_ops.specs.Filling.{flushed_to}
 
 -- The tail of a list of rows
@@ -92,10 +90,6 @@ off_second k e hold local outer n m below other is =
     by_test hold.lock k (λ b. cond b (record n { off = e ∷ n.off } ∷ m ∷ below) (n ∷ with_off k e (local ∷ outer) (m ∷ below)) ≡ n ∷ record m { off = e ∷ m.off } ∷ below)
     (λ same. absurd (other (sym same)))
     (λ _. by_test local.lock k (λ b. n ∷ cond b (record m { off = e ∷ m.off } ∷ below) (m ∷ with_off k e outer below) ≡ n ∷ record m { off = e ∷ m.off } ∷ below) (λ _. refl) (λ no. absurd (no (sym is))))
-
-pub asked_on : (first second : List BitCall) (asked : List BitAsked) → asked_after (first ++ second) asked ≡ asked_after second (asked_after first asked)
-asked_on [] second asked = refl
-asked_on (call ∷ first) second asked = asked_on first second (asked_by call ∷ asked)
 
 -- The set with one flush more
 

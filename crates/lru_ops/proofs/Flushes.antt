@@ -20,20 +20,22 @@ use Rattle.place_core.specs.declared.step.Lists.{Lists}
 use Rattle.place_core.specs.State.{rows}
 use Rattle.place_core.specs.Steps.{with_free, with_row, without_free, without_row}
 use Rattle.place_core.specs.Wholeness.{all_of}
-use Rattle.place_core.proofs.ElementLemmas.{by_test, times_append, times_cons_same}
+use Rattle.place_core.proofs.ElementLemmas.{times_cons_same}
 use Rattle.place_table.specs.declared.view.Hold.{Hold}
 use Rattle.place_table.specs.declared.view.Notes.{Notes}
 use Rattle.place_table.specs.declared.view.View.{View}
 use Rattle.place_table.specs.Calls.{clears_found}
-use Rattle.place_table.specs.Contents.{IsSized, set_told}
+use Rattle.place_table.specs.Contents.{set_told}
 use Rattle.place_table.specs.Rules.{IsAboveAll}
 use Rattle.place_table.specs.TurnNotes.{HasOnlyHash}
 use Rattle.percpu_values.specs.BodyList.{BodyList}
 use Rattle.map_types.proofs.CreationLemmas.{bounds_of_shape}
+use Rattle.map_types.specs.Stored.{IsSized}
+use Rattle.map_types.proofs.RowLemmas.{times_append, by_test}
 use Rattle.place_table.specs.Known.{Learns}
 use Rattle.place_table.specs.Passes.{PassView, TableView, CanClear, CanRehome, Cleared, Goes, Rehomed, with_view}
 use Rattle.place_table.specs.Plays.{HoldsLock, IsKnownHome}
-use Rattle.place_table.specs.Views.{is_among, is_in_hand_of, hold_at, now_at, with_came, with_clear, with_now, with_off, cleared as cleared_view, rehomed as rehomed_view}
+use Rattle.place_table.specs.Views.{is_among, is_in_hand_of, hold_at, now_at, with_came, with_clear, with_now, with_off, cleared as cleared_view, rehomed as rehomed_view, hold_with}
 use Rattle.place_table.proofs.Came.{come_from_other}
 use Rattle.place_table.proofs.Entries.{append_nil}
 use Rattle.place_table.proofs.Going.{goes_on, goes_nowhere, goes_noted, goes_of_table, goes_begun, learns_on, learns_none, learns_cleared, same_head}
@@ -47,15 +49,15 @@ use Rattle.lru_lists.specs.Notes.{AreNoted}
 use Rattle.lru_lists.specs.Sets.{SetView, IsSet, moved_in, row_on, times_listed, times_on as times_on_set}
 use Rattle.lru_lists.proofs.NoteLemmas.{noted_none, noted_more}
 use Rattle.lru_ops.specs.Askings.{asked_after}
-use Rattle.lru_ops.specs.Evictions.{hold_with}
 use Rattle.lru_ops.specs.GlobalWork.{HoldsGlobal}
 use Rattle.lru_ops.specs.Filling.{CanFill, Flushes, FlushedOne, FlushedAll, flushed_to, flushed_notes, off_notes}
 use Rattle.lru_ops.proofs.Asked.{log_at, log_first, only_hash_on, other_local}
-use Rattle.lru_ops.proofs.FlushRows.{tail_split, no_tail, without_tail, before_tail, found_front, found_tail, not_free, came_top, off_second, asked_on, flushed_more}
+use Rattle.lru_ops.proofs.FlushRows.{tail_split, no_tail, without_tail, before_tail, found_front, found_tail, not_free, came_top, off_second, flushed_more}
 use Rattle.lru_ops.proofs.GivingOut.{row_more, skip_row}
 use Rattle.lru_ops.proofs.Holders.{saw_on, saw_on_none, saw_none, saw_nothing}
 use Rattle.lru_ops.proofs.Removed.{changed_first, changed_second, goes_placed, learns_placed}
 use Rattle.lru_ops.proofs.SetWork.{row_gone}
+use Rattle.lru_ops.proofs.DoesOn.{asked_append}
 
 -- The set with a row more
 
@@ -440,7 +442,7 @@ bits_on a b = sym (ap (map clears_found) (map-append flush_visit a b) ∙ map-ap
 
 notes_on : (a b : List Flush) (came mine : List ℕ) (n : Notes) → flushed_notes b came (flushed_notes a mine n) ≡ flushed_notes (a ++ b) came n
 notes_on a b came mine n =
-    λ i. record n { came = came; asked = sym ((λ j. asked_after ((ap (map calls.Cleared) (map-append flush_visit a b) ∙ map-append calls.Cleared (map flush_visit a) (map flush_visit b)) j) n.asked) ∙ asked_on (map calls.Cleared (map flush_visit a)) (map calls.Cleared (map flush_visit b)) n.asked) i }
+    λ i. record n { came = came; asked = sym ((λ j. asked_after ((ap (map calls.Cleared) (map-append flush_visit a b) ∙ map-append calls.Cleared (map flush_visit a) (map flush_visit b)) j) n.asked) ∙ asked_append (map calls.Cleared (map flush_visit a)) (map calls.Cleared (map flush_visit b)) n.asked) i }
 
 offs_on : (a b : List Flush) (n : Notes) → off_notes b (off_notes a n) ≡ off_notes (a ++ b) n
 offs_on a b n =

@@ -11,7 +11,8 @@ use Rattle.map_types.specs.declared.kind.DomainId.TheVariants.{CpuLru}
 use Rattle.map_types.specs.declared.row.Row.{Row}
 use Rattle.map_types.specs.ElementLists.{times, without}
 use Rattle.map_types.specs.Listed.{elements_of}
-use Rattle.map_types.specs.Stored.{Stored}
+use Rattle.map_types.specs.Stored.{Stored, IsSized}
+use Rattle.map_types.proofs.RowLemmas.{times_append, by_test}
 use Rattle.place_words.specs.declared.bucket_part.Seen.{Seen}
 use Rattle.place_words.specs.declared.bucket_part.Seen.TheVariants.{Removed, Held}
 use Rattle.place_words.specs.declared.list_part.OwnPart.TheVariants as own
@@ -27,7 +28,7 @@ use Rattle.place_words.specs.Takings.{shrink_probes, stored_hash}
 use Rattle.place_core.specs.declared.step.Lists.{Lists}
 use Rattle.place_core.specs.State.{rows}
 use Rattle.place_core.specs.Steps.{with_row, without_free}
-use Rattle.place_core.proofs.ElementLemmas.{by_test, times_append, times_cons_same}
+use Rattle.place_core.proofs.ElementLemmas.{times_cons_same}
 use Rattle.place_table.specs.declared.view.BitAsked.{BitAsked}
 use Rattle.place_table.specs.declared.view.Hold.{Hold}
 use Rattle.place_table.specs.declared.view.InHand.{InHand}
@@ -36,12 +37,12 @@ use Rattle.place_table.specs.declared.view.OwnerSeen.{OwnerSeen}
 use Rattle.place_table.specs.declared.view.Turned.{Turned}
 use Rattle.place_table.specs.declared.view.View.{View}
 use Rattle.place_table.specs.Calls.{clears_found, clears_bit}
-use Rattle.place_table.specs.Contents.{set_told, lists_of_set, FitsSet, IsSized}
+use Rattle.place_table.specs.Contents.{set_told, lists_of_set, FitsSet}
 use Rattle.place_table.specs.Known.{BitTouch, SeesBit, Learns}
 use Rattle.place_table.specs.Passes.{PassView, TableView, Claimed, Cleared, Goes, with_view}
 use Rattle.place_table.proofs.Came.{came_among}
 use Rattle.place_table.specs.TurnNotes.{clears_among, clears_noted, AreCleared, WasReadInHand, ProbeFits, CameToHand}
-use Rattle.place_table.specs.Views.{is_among, is_in_hand_of, hold_at, now_under, with_now, with_came, with_clear, with_in_hand, no_notes, bit_seen, claimed as claimed_view, cleared as cleared_view}
+use Rattle.place_table.specs.Views.{is_among, is_in_hand_of, hold_at, now_under, with_now, with_came, with_clear, with_in_hand, no_notes, bit_seen, claimed as claimed_view, cleared as cleared_view, hold_with}
 use Rattle.place_table.proofs.Entries.{append_nil}
 use Rattle.place_table.proofs.Going.{goes_on, goes_noted, goes_of_table, goes_begun, same_head, learns_on, learns_nothing, learns_cleared}
 use Rattle.place_table.proofs.Hands.{now_at_is, in_hand_more}
@@ -53,13 +54,14 @@ use Rattle.lru_lists.specs.declared.name.ListName.TheVariants.{Inactive}
 use Rattle.lru_lists.specs.declared.notes.RotateNotes.{RotateNotes}
 use Rattle.lru_lists.specs.declared.notes.ShrinkNotes.{ShrinkNotes}
 use Rattle.lru_lists.specs.Notes.{AreNoted}
-use Rattle.lru_lists.specs.Sets.{SetView, IsSet, listed, moved_in, popped, popped_from, with_free}
+use Rattle.lru_lists.specs.Sets.{SetView, IsSet, listed, moved_in, with_free}
 use Rattle.lru_ops.specs.Askings.{asked_by, asked_after, owners_with, owners_after, notes_after, lists_after, touch_by, AreEvicts}
-use Rattle.lru_ops.specs.Evictions.{SawHolders, hold_with}
+use Rattle.lru_ops.specs.Evictions.{SawHolders}
 use Rattle.lru_ops.specs.OwnTurns.{note_of, rows_on, try_of, CanWork, Worked, CanGiveOut, GaveOut, GivesOut}
 use Rattle.lru_ops.proofs.OwnWalk.{now_first, DidOwn, did_own}
 use Rattle.lru_ops.proofs.PassWork.{held_alone}
 use Rattle.lru_ops.proofs.Holders.{saw_on_none, saw_none}
+use Rattle.percpu_values.specs.BodyList.{popped_from, popped}
 
 -- The free list without its head
 

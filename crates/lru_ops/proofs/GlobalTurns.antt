@@ -13,6 +13,7 @@ use Rattle.map_types.specs.declared.row.Row.{Row}
 use Rattle.map_types.specs.ElementLists.{times}
 use Rattle.map_types.specs.Listed.{elements_of}
 use Rattle.map_types.proofs.CreationLemmas.{bounds_of_shape}
+use Rattle.map_types.proofs.RowLemmas.{times_append}
 use Rattle.key_hash.specs.Bucket.{IsPowerOfTwo}
 use Rattle.place_words.specs.declared.bucket_part.BucketPart.TheVariants.{Evict}
 use Rattle.place_words.specs.declared.bucket_part.Seen.TheVariants.{Held}
@@ -34,7 +35,6 @@ use Rattle.place_words.specs.Takings.{Chase, IsChased, freed_by, listed_rows, sh
 use Rattle.place_words.specs.Turns.{turns_of}
 use Rattle.place_words.proofs.LockLemmas.{named_by_number}
 use Rattle.place_core.specs.State.{rows}
-use Rattle.place_core.proofs.ElementLemmas.{times_append}
 use Rattle.place_table.specs.declared.content.Content.TheVariants as contents
 use Rattle.place_table.specs.declared.view.Hold.{Hold}
 use Rattle.place_table.specs.declared.view.Notes.{Notes}
@@ -46,7 +46,7 @@ use Rattle.place_table.specs.Known.{BitTouch, IsBy, Learns, turn_at}
 use Rattle.place_table.specs.Passes.{PassView, TableView, IsPassOf, TookLock, CanGive, Gave, GaveBack, MayGiveBack, Goes}
 use Rattle.place_table.specs.StoredHashes.{stored_in}
 use Rattle.place_table.specs.TurnNotes.{AreCleared, CameToHand, ProbeFits, TellsFlush, WasRead, clears_among, clears_noted}
-use Rattle.place_table.specs.Views.{is_among, known_log, holds_below, notes_below, passed_on, no_notes}
+use Rattle.place_table.specs.Views.{is_among, known_log, holds_below, notes_below, passed_on, no_notes, hold_with}
 use Rattle.place_table.proofs.Entries.{append_nil}
 use Rattle.place_table.proofs.Going.{AreElsewhere, log_elsewhere, given_turn, goes_on, goes_took, goes_of_table, goes_begun, same_head, learns_on, learns_after, learns_gave, learns_took}
 use Rattle.local_lists.specs.LocalLists.{LocalView}
@@ -60,7 +60,7 @@ use Rattle.lru_lists.specs.Sets.{SetView, row_on}
 use Rattle.lru_lists.proofs.SetLemmas.{its_row}
 use Rattle.lru_ops.specs.declared.refill.Refilled.{Refilled}
 use Rattle.lru_ops.specs.Askings.{AreEvicts, owners_after}
-use Rattle.lru_ops.specs.Evictions.{SawHolders, hold_with}
+use Rattle.lru_ops.specs.Evictions.{SawHolders}
 use Rattle.lru_ops.specs.Filling.{FilledUp, lacks, turn_told, IsGlobalTurn, global_note}
 use Rattle.lru_ops.specs.Refills.{CanRefill, FilledFrom, IsToldRefill}
 use Rattle.lru_ops.specs.Lists.{GaveNone, IsHeldByOther}
@@ -74,6 +74,7 @@ use Rattle.lru_ops.proofs.NoneFound.{filled_none, held_elsewhere, none_taken, no
 use Rattle.lru_ops.proofs.OwnTurns.{GaveAs, gave_as, gave_some_as, evicts_bits, evicts_by, chase_of, cleared_times, lock_among, told_last}
 use Rattle.lru_ops.proofs.SameFlushes.{flushes_passed, flushes_same, flushes_told}
 use Rattle.lru_ops.proofs.SetWork.{stored_row}
+use Rattle.lru_ops.proofs.FillTaken.{stored_global}
 
 -- Probes among the rows that were there or flushed
 
@@ -86,10 +87,6 @@ evicts_on shape cpu call rows others (probe ∷ probes) (turn ∷ turns) on are 
 all_elsewhere : (k : ℕ) (turns : List Turned) → AreElsewhere k turns → All (λ (turn : Turned). turn.lock ≢ k) turns
 all_elsewhere k [] apart = All-nil (λ (turn : Turned). turn.lock ≢ k)
 all_elsewhere k (turn ∷ turns) apart = All-cons (λ (z : Turned). z.lock ≢ k) turn turns apart.0 (all_elsewhere k turns apart.1)
-
-stored_global : (set : SetView) (e : ℕ) → stored_in (in_global (set_told set)) e ≡ stored_hash e (rows_on set)
-unfolding stored_in
-stored_global set e = refl
 
 global_no_local : (d : ℕ) → Global ≡ Local d → ⊥
 global_no_local d e = cc

@@ -7,7 +7,8 @@ use Rattle.map_types.specs.declared.kind.DomainId.TheVariants.{Global}
 use Rattle.map_types.specs.declared.row.Row.{Row}
 use Rattle.map_types.specs.ElementLists.{times, IsIn}
 use Rattle.map_types.specs.Listed.{elements_of}
-use Rattle.map_types.specs.Stored.{Stored}
+use Rattle.map_types.specs.Stored.{Stored, IsSized}
+use Rattle.map_types.proofs.RowLemmas.{times_append}
 use Rattle.percpu_values.specs.BodyList.{BodyList}
 use Rattle.place_words.specs.Bodies.{numbers}
 use Rattle.place_words.specs.Globals.{global_scans}
@@ -15,12 +16,11 @@ use Rattle.place_words.specs.Shrinking.{freed}
 use Rattle.place_core.specs.declared.step.Lists.{Lists}
 use Rattle.place_core.specs.State.{rows, rows as core_rows}
 use Rattle.place_core.specs.Wholeness.{all_of}
-use Rattle.place_core.proofs.ElementLemmas.{times_append}
 use Rattle.place_table.specs.declared.view.Hold.{Hold}
-use Rattle.place_table.specs.Contents.{FitsSet, IsSized}
+use Rattle.place_table.specs.Contents.{FitsSet}
 use Rattle.place_table.specs.Passes.{PassView, TableView}
 use Rattle.place_table.specs.Plays.{HoldsLock}
-use Rattle.place_table.specs.Views.{is_among, is_in_hand_of, hold_at}
+use Rattle.place_table.specs.Views.{is_among, is_in_hand_of, hold_at, hold_with}
 use Rattle.place_table.proofs.Entries.{append_nil}
 use Rattle.place_table.proofs.Going.{same_head}
 use Rattle.place_table.proofs.Worlds.{hold_at_first}
@@ -38,7 +38,7 @@ use Rattle.lru_shrink.specs.Shrunk.{Shrink, AreStacked, look_probes, try_probes,
 use Rattle.lru_ops.specs.declared.probing.Destination.{Destination}
 use Rattle.lru_ops.specs.declared.probing.Destination.TheVariants.{LocalFree}
 use Rattle.lru_ops.specs.Askings.{calls_noted, probes_made, held_after, lists_after, Does, hash_in, Since, MayAsk, MayChase}
-use Rattle.lru_ops.specs.Evictions.{HoldsLists, HoldsFor, hold_with}
+use Rattle.lru_ops.specs.Evictions.{HoldsLists, HoldsFor}
 use Rattle.lru_ops.specs.GlobalWork.{HoldsGlobal, CanWalk, Rotated, CanShrinkInto, ShrinksInto, ShrunkInto}
 use Rattle.lru_ops.specs.OwnTurns.{rows_on}
 use Rattle.lru_ops.proofs.Asked.{log_at, log_after, only_hash_on, same_table, since_start}

@@ -1,5 +1,5 @@
 -- What a pass saw of holders by its steps on words.
-use Rattle.std.proofs.Common.{◌≡◌, ℕ, inl, inr, ⊎_elim, List, [], ◌∷◌, ◌++◌, sym, ap, ◌∙◌, subst, append_assoc}
+use Rattle.std.proofs.Common.{◌≡◌, ℕ, List, [], ◌∷◌, ◌++◌, sym, ap, ◌∙◌, subst, append_assoc}
 use Rattle.std.specs.Prelude.{All}
 use Rattle.std.proofs.lemmas.List.Elements.{All-nil, All-cons, All-head, All-tail, All-append}
 use Rattle.map_types.specs.declared.attr.Shape.{Shape}
@@ -16,17 +16,10 @@ use Rattle.place_table.specs.declared.view.WordStep.{WordStep}
 use Rattle.place_table.specs.Passes.{PassView}
 use Rattle.place_table.specs.Rules.{owner_step, HasStep}
 use Rattle.place_table.proofs.Entries.{append_nil}
+use Rattle.place_table.proofs.NotesDone.{has_more, has_behind}
 use Rattle.lru_ops.specs.Evictions.{SawHolder, SawHolders}
 
 -- Steps before and behind
-
-pub has_more : (x : ℕ → WordStep) (xs more : List WordStep) → HasStep x xs → HasStep x (xs ++ more)
-has_more x [] more has = absurd has
-has_more x (y ∷ ys) more has = ⊎_elim (λ (same : y ≡ x y.at). inl same) (λ (later : HasStep x ys). inr (has_more x ys more later)) has
-
-has_behind : (x : ℕ → WordStep) (xs more : List WordStep) → HasStep x more → HasStep x (xs ++ more)
-has_behind x [] more has = has
-has_behind x (y ∷ ys) more has = inr (has_behind x ys more has)
 
 saw_each : (shape : Shape) (touched others : List WordStep) (turns : List Turned) → ((x : ℕ → WordStep) → HasStep x touched → HasStep x others) → All (SawHolder shape touched) turns → All (SawHolder shape others) turns
 saw_each shape touched others turns on all k d less = λ e holder is. on (owner_step shape (record { element = e; owner = Hand holder })) (all k d less e holder is)

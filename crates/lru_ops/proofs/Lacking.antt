@@ -4,6 +4,7 @@ use Rattle.std.specs.Prelude.{reverse}
 use Rattle.map_types.specs.declared.row.Row.{Row}
 use Rattle.map_types.specs.ElementLists.{times}
 use Rattle.map_types.specs.Listed.{elements_of}
+use Rattle.map_types.specs.Stored.{IsSized}
 use Rattle.place_words.specs.declared.visits.Look.{Look}
 use Rattle.place_words.specs.declared.visits.ShrinkNote.{ShrinkNote}
 use Rattle.place_words.specs.declared.visits.Try.{Try}
@@ -12,7 +13,7 @@ use Rattle.place_words.specs.Globals.{AllowsGlobalShrink, global_target, shrunk_
 use Rattle.place_words.specs.Histories.{looks_told}
 use Rattle.place_words.specs.Shrinking.{freed}
 use Rattle.place_words.specs.Takings.{freed_by, shrink_probes}
-use Rattle.place_table.specs.Contents.{IsSized, set_told}
+use Rattle.place_table.specs.Contents.{set_told}
 use Rattle.place_table.specs.Passes.{PassView, TableView}
 use Rattle.local_lists.specs.LocalLists.{LocalView}
 use Rattle.lru_lists.specs.declared.bits.BitCall.{BitCall}

@@ -44,13 +44,13 @@ use Rattle.place_table.specs.Known.{BitTouch, Learns, turn_at, IsBy}
 use Rattle.place_table.specs.Passes.{PassView, TableView, IsPassOf, HasBegun, TookLock, CanGive, MayGiveBack, Goes}
 use Rattle.place_table.specs.StoredHashes.{stored_in}
 use Rattle.place_table.specs.TurnNotes.{NotesFit, clears_noted}
-use Rattle.place_table.specs.Views.{is_among, is_in_hand_of, hold_at, known_log, came_last, hashes_given, holds_below, notes_below, passed_on, no_notes}
+use Rattle.place_table.specs.Views.{is_among, is_in_hand_of, hold_at, known_log, came_last, hashes_given, holds_below, notes_below, passed_on, no_notes, hold_with}
 use Rattle.place_table.proofs.Entries.{append_nil}
 use Rattle.place_table.proofs.Going.{AreElsewhere, log_elsewhere, given_turn, goes_on, goes_took, goes_of_table, goes_begun, same_head, learns_on, learns_after, learns_gave, learns_took}
 use Rattle.lru_lists.specs.declared.bits.ProbeCall.{ProbeCall}
 use Rattle.local_lists.specs.LocalLists.{LocalView, local_told}
 use Rattle.lru_ops.specs.Askings.{AreEvicts}
-use Rattle.lru_ops.specs.Evictions.{SawHolder, SawHolders, hold_with}
+use Rattle.lru_ops.specs.Evictions.{SawHolder, SawHolders}
 use Rattle.lru_ops.specs.OwnTurns.{try_of}
 use Rattle.lru_ops.specs.Shared.{ChangedHands}
 use Rattle.lru_ops.proofs.Ends.{among_behind, among_before, told_where, told_append, bits_append}

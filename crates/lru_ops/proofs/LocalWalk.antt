@@ -9,10 +9,11 @@ use Rattle.place_core.specs.State.{rows}
 use Rattle.place_table.specs.declared.view.Hold.{Hold}
 use Rattle.place_table.specs.declared.view.InHand.{InHand}
 use Rattle.place_table.specs.declared.view.Notes.{Notes}
+use Rattle.place_table.specs.Views.{hold_with}
 use Rattle.lru_lists.specs.declared.bits.ProbeCall.{ProbeCall}
 use Rattle.lru_ops.specs.declared.probing.Destination.TheVariants.{LocalFree}
 use Rattle.lru_ops.specs.Askings.{held_after, lists_after, taken_after, came_with, came_after}
-use Rattle.lru_ops.specs.Evictions.{hold_with, lists_with, held_with, taken_with}
+use Rattle.lru_ops.specs.Evictions.{lists_with, held_with, taken_with}
 use Rattle.lru_ops.proofs.Asked.{now_with, taken_none}
 use Rattle.lru_ops.proofs.SetWork.{taken_by, free_after, rows_after}
 

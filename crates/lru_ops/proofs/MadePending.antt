@@ -6,7 +6,7 @@ use Rattle.map_types.specs.declared.attr.Shape.{Shape}
 use Rattle.map_types.specs.declared.kind.DomainId.{DomainId}
 use Rattle.map_types.specs.declared.kind.DomainId.TheVariants.{Local}
 use Rattle.map_types.specs.ElementLists.{times, IsHead}
-use Rattle.map_types.specs.Stored.{Stored}
+use Rattle.map_types.specs.Stored.{Stored, IsSized}
 use Rattle.place_words.specs.Bodies.{numbers}
 use Rattle.place_words.specs.Locks.{lock_number}
 use Rattle.place_core.specs.declared.step.Lists.{Lists}
@@ -15,20 +15,20 @@ use Rattle.place_core.proofs.ElementLemmas.{times_cons_same}
 use Rattle.place_table.specs.declared.view.Notes.{Notes}
 use Rattle.place_table.specs.declared.view.View.{View}
 use Rattle.place_table.specs.Calls.{clears_bit}
-use Rattle.place_table.specs.Contents.{IsSized}
 use Rattle.place_table.specs.Known.{Learns}
 use Rattle.place_table.specs.Passes.{PassView, TableView, CanClaim, CanClear, Claimed, Cleared, Goes}
-use Rattle.place_table.specs.Views.{is_in_hand_of, hold_at, now_under, with_came, with_clear, with_in_hand, with_now, cleared as cleared_view}
+use Rattle.place_table.specs.Views.{is_in_hand_of, hold_at, now_under, with_came, with_clear, with_in_hand, with_now, cleared as cleared_view, hold_with}
 use Rattle.place_table.proofs.Going.{goes_on, goes_noted, goes_of_table, goes_begun, learns_on, learns_cleared}
 use Rattle.place_table.proofs.Hands.{in_hand_more, now_at_is}
 use Rattle.place_table.proofs.Worlds.{hold_at_first}
-use Rattle.local_lists.specs.LocalLists.{LocalView, IsLocal, popped, with_free, with_pending_row}
+use Rattle.local_lists.specs.LocalLists.{LocalView, IsLocal, with_free, with_pending_row}
 use Rattle.local_lists.proofs.ToldLemmas.{top_is_head, popped_numbers, popped_room}
-use Rattle.lru_ops.specs.Evictions.{SawHolders, hold_with}
+use Rattle.lru_ops.specs.Evictions.{SawHolders}
 use Rattle.lru_ops.specs.LocalWork.{CanMakePending, MadePending}
 use Rattle.lru_ops.proofs.GivingOut.{came_first, forget_seen, popped_sized, first_of, head_number, without_head}
 use Rattle.lru_ops.proofs.Holders.{saw_on_none, saw_none}
 use Rattle.lru_ops.proofs.Removed.{goes_placed, learns_placed, now_first}
+use Rattle.percpu_values.specs.BodyList.{popped}
 
 -- The head of free
 

@@ -8,8 +8,9 @@ use Rattle.map_types.specs.declared.kind.DomainId.TheVariants.{Global, Local}
 use Rattle.map_types.specs.declared.row.Row.{Row}
 use Rattle.map_types.specs.ElementLists.{times, IsIn}
 use Rattle.map_types.specs.Listed.{elements_of}
-use Rattle.map_types.specs.Stored.{Stored}
+use Rattle.map_types.specs.Stored.{Stored, IsSized}
 use Rattle.map_types.proofs.CreationLemmas.{bounds_of_shape}
+use Rattle.map_types.proofs.RowLemmas.{times_append}
 use Rattle.place_words.specs.declared.home.Home.TheVariants as homes
 use Rattle.place_words.specs.declared.owner.Owner.TheVariants as owners
 use Rattle.place_words.specs.Bodies.{numbers}
@@ -20,24 +21,23 @@ use Rattle.place_words.specs.Sets.{ListSet}
 use Rattle.place_core.specs.declared.step.Lists.{Lists}
 use Rattle.place_core.specs.State.{rows}
 use Rattle.place_core.specs.Steps.{with_free, without_free}
-use Rattle.place_core.proofs.ElementLemmas.{times_append, times_cons_same}
+use Rattle.place_core.proofs.ElementLemmas.{times_cons_same}
 use Rattle.place_table.specs.declared.view.Hold.{Hold}
 use Rattle.place_table.specs.declared.view.Notes.{Notes}
-use Rattle.place_table.specs.Contents.{IsSized, set_told}
+use Rattle.place_table.specs.Contents.{set_told}
 use Rattle.place_table.specs.Passes.{PassView, TableView, CanRehome, Goes, Rehomed, with_view}
 use Rattle.place_table.specs.Plays.{HoldsLock, IsKnownHome, IsKnownFree}
 use Rattle.place_table.specs.Rules.{IsAboveAll}
-use Rattle.place_table.specs.Views.{is_among, is_in_hand_of, now_at, with_now, with_came, rehomed as rehomed_view}
+use Rattle.place_table.specs.Views.{is_among, is_in_hand_of, now_at, with_now, with_came, rehomed as rehomed_view, hold_with}
 use Rattle.place_table.proofs.Came.{come_from_other}
 use Rattle.place_table.proofs.Entries.{append_nil}
 use Rattle.place_table.proofs.Going.{goes_on, goes_nowhere, goes_of_table, goes_begun, learns_on, learns_none, same_head}
-use Rattle.local_lists.specs.LocalLists.{LocalView, IsLocal, pushed, times_on, with_free as with_local_free}
+use Rattle.local_lists.specs.LocalLists.{LocalView, IsLocal, times_on, with_free as with_local_free}
 use Rattle.local_lists.proofs.ToldLemmas.{pushed_room}
 use Rattle.lru_lists.specs.declared.notes.Noted.{Noted}
 use Rattle.lru_lists.specs.Notes.{AreNoted}
-use Rattle.lru_lists.specs.Sets.{SetView, IsSet, popped, with_free as with_set_free}
+use Rattle.lru_lists.specs.Sets.{SetView, IsSet, with_free as with_set_free}
 use Rattle.lru_lists.proofs.NoteLemmas.{noted_none, noted_more}
-use Rattle.lru_ops.specs.Evictions.{hold_with}
 use Rattle.lru_ops.specs.Filling.{MovesFree, MovedOne, MovesOne, MovedAll, CanFill}
 use Rattle.lru_ops.specs.GlobalWork.{HoldsGlobal}
 use Rattle.lru_ops.proofs.Asked.{log_at, log_first, only_hash_on}
@@ -47,6 +47,7 @@ use Rattle.lru_ops.proofs.GlobalWalk.{free_rows, elements_of_free, length_free}
 use Rattle.lru_ops.proofs.Holders.{saw_on, saw_none, saw_nothing}
 use Rattle.lru_ops.proofs.Removed.{came_second, changed_first, changed_second, goes_placed, learns_placed}
 use Rattle.lru_ops.proofs.SetWork.{rows_few, length_numbers}
+use Rattle.percpu_values.specs.BodyList.{pushed, popped}
 
 module _ {t : TableView} {set : SetView} {lists : LocalView} {p : PassView} {body : Stored} (can : CanFill t set lists p) (top : Some body ≡ slice_get set.free.bodies 0) where
   abbrev e : ℕ

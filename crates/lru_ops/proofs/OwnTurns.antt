@@ -16,6 +16,7 @@ use Rattle.map_types.specs.Kind.{is_lru}
 use Rattle.map_types.specs.Listed.{elements_of}
 use Rattle.map_types.specs.Stored.{Stored}
 use Rattle.map_types.proofs.CreationLemmas.{bounds_of_shape}
+use Rattle.map_types.proofs.RowLemmas.{by_test}
 use Rattle.key_hash.specs.Bucket.{bucket_number, IsPowerOfTwo}
 use Rattle.key_hash.proofs.Buckets.{bucket_number-lt}
 use Rattle.place_words.specs.declared.bucket_part.BucketPart.TheVariants.{Evict}
@@ -33,7 +34,6 @@ use Rattle.place_words.specs.Takings.{Acquires, TakesFree, TakesByRefill, TakesO
 use Rattle.place_words.specs.Turns.{Turn, turns_of}
 use Rattle.place_words.proofs.LockLemmas.{named_by_number}
 use Rattle.place_core.specs.State.{rows}
-use Rattle.place_core.proofs.ElementLemmas.{by_test}
 use Rattle.place_table.specs.declared.content.Content.TheVariants as contents
 use Rattle.place_table.specs.declared.view.HashIn.{HashIn}
 use Rattle.place_table.specs.declared.view.Hold.{Hold}
@@ -50,7 +50,7 @@ use Rattle.place_table.specs.Passes.{PassView, TableView, TookLock, CanGive, Gav
 use Rattle.place_table.specs.StoredHashes.{stored_in}
 use Rattle.place_table.specs.TurnNotes.{WasRead, AreCleared, CameToHand, clears_noted}
 use Rattle.place_table.proofs.Came.{came_among}
-use Rattle.place_table.specs.Views.{is_among, is_in_hand_of, hold_at, known_log, bucket_known, hash_given, hashes_given, came_last, learned, holding, holds_below, notes_below, passed_on, no_notes, with_in_hand}
+use Rattle.place_table.specs.Views.{is_among, is_in_hand_of, hold_at, known_log, bucket_known, hash_given, hashes_given, came_last, learned, holding, holds_below, notes_below, passed_on, no_notes, with_in_hand, hold_with}
 use Rattle.place_table.proofs.Entries.{append_nil}
 use Rattle.place_table.proofs.Going.{AreElsewhere, log_elsewhere, given_turn, goes_on, goes_took, goes_gave, goes_gave_some, goes_of_table, goes_begun, same_head, learns_on, learns_after, learns_gave, learns_took}
 use Rattle.place_table.proofs.Worlds.{true_false}
@@ -60,15 +60,16 @@ use Rattle.lru_lists.specs.declared.notes.RotateNotes.{RotateNotes}
 use Rattle.lru_lists.specs.declared.notes.ShrinkNotes.{ShrinkNotes}
 use Rattle.lru_lists.specs.Sets.{SetView}
 use Rattle.lru_ops.specs.Askings.{AreEvicts}
-use Rattle.lru_ops.specs.Evictions.{IsEvict, SawHolders, hold_with}
+use Rattle.lru_ops.specs.Evictions.{IsEvict, SawHolders}
 use Rattle.lru_ops.specs.Lists.{Acquired, Changed, FoundNone, FoundNoneOwn, FoundNoneShared, IsHeldByOther, IsTakenFor}
 use Rattle.lru_ops.specs.OwnTurns.{note_of, rows_on, try_of, own_part, IsOwnTurn, CanWork, Worked, GaveOut, GivesOut}
 use Rattle.lru_ops.proofs.OwnWalk.{hold_at_only}
-use Rattle.lru_ops.proofs.EvictTurns.{bucket_there, other_lock}
+use Rattle.lru_ops.proofs.EvictTurns.{other_lock}
 use Rattle.lru_ops.proofs.GivingOut.{Ready, ready, hand_with_got, found_new, row_more}
 use Rattle.lru_ops.proofs.Holders.{saw_on, saw_none, saw_both, own_tells_none}
 use Rattle.lru_ops.proofs.NoneFound.{shrank_none, held_elsewhere}
 use Rattle.lru_ops.proofs.PassWork.{stored_here}
+use Rattle.lru_ops.proofs.Under.{bucket_there}
 
 -- Where each CPU has lists of its own, the map has their locks.
 pub own_set_there : (shape : Shape) (cpu : ℕ) → IsTrue (is_lru shape.kind) → shape.common ≡ false → cpu < shape.cpus → IsTrue (is_lock shape (CpuLru cpu))

@@ -1,23 +1,23 @@
 -- What a walk over the own set leaves of a pass that holds its lock alone.
 use Rattle.std.proofs.Common.{◌≡◌, ℕ, cond, List, [], ◌∷◌, map, sym, refl, ap, ◌∙◌, Some, None}
 use Rattle.map_types.specs.declared.row.Row.{Row}
+use Rattle.map_types.proofs.RowLemmas.{by_test}
 use Rattle.place_words.specs.declared.bucket_part.Seen.{Seen}
 use Rattle.place_words.specs.declared.bucket_part.Seen.TheVariants.{Removed, Held}
 use Rattle.place_core.specs.declared.step.Lists.{Lists}
-use Rattle.place_core.proofs.ElementLemmas.{by_test}
 use Rattle.place_table.specs.declared.view.Hold.{Hold}
 use Rattle.place_table.specs.declared.view.InHand.{InHand}
 use Rattle.place_table.specs.declared.view.Notes.{Notes}
 use Rattle.place_table.specs.declared.view.Turned.{Turned}
 use Rattle.place_table.specs.Known.{Learns}
 use Rattle.place_table.specs.Passes.{PassView, TableView, Goes}
-use Rattle.place_table.specs.Views.{hold_at, with_now}
+use Rattle.place_table.specs.Views.{hold_at, with_now, hold_with}
 use Rattle.place_table.proofs.Worlds.{some_is, none_some}
 use Rattle.lru_lists.specs.declared.bits.BitCall.{BitCall}
 use Rattle.lru_lists.specs.declared.bits.ProbeCall.{ProbeCall}
 use Rattle.lru_ops.specs.declared.probing.Destination.TheVariants.{OwnFree}
 use Rattle.lru_ops.specs.Askings.{notes_after, came_after, held_after, lists_after, touch_by, AreEvicts, Does}
-use Rattle.lru_ops.specs.Evictions.{SawHolders, hold_with, lists_with, taken_with}
+use Rattle.lru_ops.specs.Evictions.{SawHolders, lists_with, taken_with}
 use Rattle.lru_ops.proofs.Asked.{held_first, taken_none}
 
 -- the one lock that is held

@@ -7,6 +7,8 @@ use Rattle.map_types.specs.declared.kind.DomainId.{DomainId}
 use Rattle.map_types.specs.declared.kind.DomainId.TheVariants.{CpuLru}
 use Rattle.map_types.specs.ElementLists.{IsIn}
 use Rattle.map_types.specs.Listed.{elements_of}
+use Rattle.map_types.specs.Stored.{IsSized}
+use Rattle.map_types.proofs.RowLemmas.{times_append}
 use Rattle.place_words.specs.Histories.{Content, in_own, content}
 use Rattle.place_words.specs.Locks.{lock_named}
 use Rattle.place_words.specs.Sets.{own_scans}
@@ -15,9 +17,8 @@ use Rattle.place_words.proofs.LockLemmas.{named_by_number}
 use Rattle.place_core.specs.declared.step.Lists.{Lists}
 use Rattle.place_core.specs.State.{rows}
 use Rattle.place_core.specs.Wholeness.{all_of}
-use Rattle.place_core.proofs.ElementLemmas.{times_append}
 use Rattle.place_table.specs.declared.view.Hold.{Hold}
-use Rattle.place_table.specs.Contents.{set_told, IsSized}
+use Rattle.place_table.specs.Contents.{set_told}
 use Rattle.place_table.specs.Passes.{PassView, TableView}
 use Rattle.place_table.specs.Plays.{HoldsLock}
 use Rattle.place_table.specs.StoredHashes.{stored_in}

@@ -9,6 +9,7 @@ use Rattle.map_types.specs.ElementLists.{times, IsIn}
 use Rattle.map_types.specs.Kind.{is_lru}
 use Rattle.map_types.specs.Listed.{elements_of}
 use Rattle.map_types.specs.Stored.{Stored}
+use Rattle.map_types.proofs.RowLemmas.{times_append, by_test}
 use Rattle.place_words.specs.declared.history.Part.{Part}
 use Rattle.place_words.specs.declared.history.Part.TheVariants as parts
 use Rattle.place_words.specs.declared.list_part.LocalPart.TheVariants as local
@@ -19,7 +20,7 @@ use Rattle.place_words.specs.Takings.{stored_hash, TakesFree, TakesByRefill, Tak
 use Rattle.place_core.specs.declared.step.Lists.{Lists}
 use Rattle.place_core.specs.State.{rows}
 use Rattle.place_core.specs.Wholeness.{all_of}
-use Rattle.place_core.proofs.ElementLemmas.{by_test, times_append, times_cons_same}
+use Rattle.place_core.proofs.ElementLemmas.{times_cons_same}
 use Rattle.place_table.specs.declared.content.Content.{Content as Slot}
 use Rattle.place_table.specs.declared.content.Content.TheVariants as contents
 use Rattle.place_table.specs.declared.view.Hold.{Hold}
@@ -29,14 +30,13 @@ use Rattle.place_table.specs.Flushes.{flushes}
 use Rattle.place_table.specs.Known.{turn_at}
 use Rattle.place_table.specs.Passes.{PassView, TableView, CanGive, Gave, TookLock}
 use Rattle.place_table.specs.TurnNotes.{WasRead, ProbeFits, CameToHand}
-use Rattle.place_table.specs.Views.{is_in_hand_of, is_among, no_notes, notes_below, bucket_known, with_in_hand}
+use Rattle.place_table.specs.Views.{is_in_hand_of, is_among, no_notes, notes_below, bucket_known, with_in_hand, hold_with}
 use Rattle.place_table.proofs.Came.{came_among}
 use Rattle.place_table.proofs.Going.{given_turn, goes_of_table, goes_begun, same_head}
 use Rattle.place_table.proofs.StoredHashes.{stored_is_in}
 use Rattle.place_table.proofs.Worlds.{some_is, true_false}
 use Rattle.local_lists.specs.LocalLists.{LocalView, local_told}
 use Rattle.local_lists.proofs.ToldLemmas.{top_is_head, popped_numbers}
-use Rattle.lru_ops.specs.Evictions.{hold_with}
 use Rattle.lru_ops.specs.Lists.{Acquired}
 use Rattle.lru_ops.specs.LocalWork.{CanMakePending, MadePending}
 use Rattle.lru_ops.specs.Shared.{CanTakeShared}

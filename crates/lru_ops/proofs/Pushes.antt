@@ -10,12 +10,13 @@ use Rattle.map_types.specs.declared.row.Row.{Row}
 use Rattle.map_types.specs.Kind.{is_lru}
 use Rattle.map_types.specs.Listed.{elements_of}
 use Rattle.map_types.specs.Shape.{HasBounds}
-use Rattle.map_types.specs.Stored.{Stored}
+use Rattle.map_types.specs.Stored.{Stored, IsSized}
 use Rattle.map_types.specs.ElementLists.{one, times, without, IsIn}
+use Rattle.map_types.proofs.RowLemmas.{times_append, by_test}
 use Rattle.row_list.specs.RowWords as row_words
 use Rattle.row_list.specs.RowWords.{row_of, AreRows}
 use Rattle.row_list.proofs.RowLemmas.{gone_without, kept_without, row_of_absent, room_for}
-use Rattle.lru_lists.specs.Sets.{SetView, IsSet, taken_off, with_free, pushed}
+use Rattle.lru_lists.specs.Sets.{SetView, IsSet, taken_off, with_free}
 use Rattle.place_words.specs.declared.history.Entry.{Entry}
 use Rattle.place_words.specs.declared.history.Part.{Part}
 use Rattle.place_words.specs.declared.history.Part.TheVariants as parts
@@ -29,11 +30,12 @@ use Rattle.place_words.specs.Sets.{ListSet, has_row, is_listed, own_after, pushe
 use Rattle.place_words.specs.Takings.{set_of, Frees, FreesPending, FreesFlushed, freed_globally}
 use Rattle.place_words.specs.Turns.{TurnAt, Turn, on_lock, turns_of}
 use Rattle.place_words.proofs.LockLemmas.{named_by_number}
+use Rattle.place_words.proofs.OwnDone.{either_true}
 use Rattle.place_core.specs.declared.step.Lists.{Lists}
 use Rattle.place_core.specs.State.{rows, is_bucket}
 use Rattle.place_core.specs.Steps as steps
 use Rattle.place_core.specs.Wholeness.{all_of}
-use Rattle.place_core.proofs.ElementLemmas.{by_test, times_append, times_without_same, times_without_other}
+use Rattle.place_core.proofs.ElementLemmas.{times_without_same, times_without_other}
 use Rattle.place_core.proofs.OpeningLemmas.{its_cpu_is, its_quotient}
 use Rattle.place_table.specs.declared.content.Content.{Content}
 use Rattle.place_table.specs.declared.content.Content.TheVariants as contents
@@ -42,22 +44,22 @@ use Rattle.place_table.specs.declared.view.Hold.{Hold}
 use Rattle.place_table.specs.declared.view.Notes.{Notes}
 use Rattle.place_table.specs.declared.view.Turned.{Turned}
 use Rattle.place_table.specs.Calls.{clears_bit, bits_of_part, finds_moved_on}
-use Rattle.place_table.specs.Contents.{content_told, set_told, set_under, lists_of, lists_of_set, FitsLock, FitsSet, IsSized}
+use Rattle.place_table.specs.Contents.{content_told, set_told, set_under, lists_of, lists_of_set, FitsLock, FitsSet}
 use Rattle.place_table.specs.Flushes.{flushes}
 use Rattle.place_table.specs.Known.{BitTouch, Learns, KnowsAll, SeesBit, turn_of, turn_at, IsBy}
 use Rattle.place_table.specs.Passes.{PassView, TableView, TookLock, CanGive, CanSettle, Gave, Goes, Cleared, Settled, entry_of}
 use Rattle.place_table.specs.StoredHashes.{stored_in}
 use Rattle.place_table.specs.TurnNotes.{NotesFit, WasRead, AreCleared, FlushedFit, clears_noted, given_out_by, ProbeFits, CameToHand}
-use Rattle.place_table.specs.Views.{hold_at, is_in_hand_of, now_under, without_in_hand, with_clear, bits_with, bit_seen, touching, no_notes, notes_below, holds_below, with_now, learned, passed_on}
+use Rattle.place_table.specs.Views.{hold_at, is_in_hand_of, now_under, without_in_hand, with_clear, bits_with, bit_seen, touching, no_notes, notes_below, holds_below, with_now, learned, passed_on, hold_with}
 use Rattle.place_table.specs.Words.{owner_word, bit_word}
 use Rattle.place_table.proofs.Entries.{append_nil}
 use Rattle.place_table.proofs.Going.{goes_on, goes_took, goes_moved, goes_noted, goes_gave, goes_of_table, goes_begun, given_turn, same_head, learns_on, learns_after, learns_took, learns_moved, learns_cleared, learns_gave}
 use Rattle.place_table.proofs.Hands.{now_at_is}
 use Rattle.place_table.proofs.StoredHashes.{stored_listed}
 use Rattle.place_table.proofs.Worlds.{some_is, none_some, hold_at_first}
-use Rattle.lru_ops.specs.Evictions.{hold_with}
 use Rattle.lru_ops.specs.Lists.{Changed, CanFree, Freed}
 use Rattle.lru_ops.specs.Shared.{FreedBy}
+use Rattle.percpu_values.specs.BodyList.{pushed}
 
 -- The set in which an element lives
 
@@ -79,11 +81,6 @@ pub has_row_in : (e : ℕ) (rows : List Row) → IsIn e (elements_of rows) → h
 has_row_in e [] is = absurd (omega arith)
 has_row_in e (row ∷ rows) is =
     by_test row.element e (λ b. 0 < cond b (suc (times e (elements_of rows))) (times e (elements_of rows)) → (b || has_row e rows) ≡ true) (λ _ _. refl) (λ _ later. has_row_in e rows later) is
-
-either_true : (a b : Bool) → (a ≡ true) ⊎ (b ≡ true) → (a || b) ≡ true
-either_true true b is = refl
-either_true false b (inl is) = absurd cc
-either_true false b (inr is) = is
 
 -- each stands there as often as without it in the list of elements
 pub left_times : (x e : ℕ) (rows : List Row) → times e (elements_of rows) ≤ 1 → times x (elements_of (row_words.without_row e rows)) ≡ times x (without e (elements_of rows))

@@ -5,8 +5,9 @@ use Rattle.map_types.specs.declared.attr.Shape.{Shape}
 use Rattle.map_types.specs.declared.kind.DomainId.TheVariants.{Bucket}
 use Rattle.map_types.specs.declared.kind.Side.{Side}
 use Rattle.map_types.specs.Kind.{is_lru, is_percpu}
-use Rattle.map_types.specs.Stored.{Stored}
+use Rattle.map_types.specs.Stored.{Stored, IsSized}
 use Rattle.map_types.specs.ElementLists.{times, without, IsIn}
+use Rattle.map_types.proofs.RowLemmas.{by_test}
 use Rattle.percpu_values.specs.BodyList.{BodyList}
 use Rattle.bucket_chain.specs.Turns.{IsTurn}
 use Rattle.place_words.specs.declared.bucket_part.BucketPart.{BucketPart}
@@ -23,9 +24,8 @@ use Rattle.place_words.proofs.BucketLaws.{present_is_in}
 use Rattle.place_core.specs.declared.step.Lists.{Lists}
 use Rattle.place_core.specs.State.{rows}
 use Rattle.place_core.specs.Steps.{with_row, without_row}
-use Rattle.place_core.proofs.ElementLemmas.{by_test, times_cons_same, times_cons_other, times_without_same, times_without_other}
+use Rattle.place_core.proofs.ElementLemmas.{times_cons_same, times_cons_other, times_without_same, times_without_other}
 use Rattle.place_table.specs.declared.content.Content.TheVariants as contents
-use Rattle.place_table.specs.Contents.{IsSized}
 use Rattle.place_table.specs.InBucket.{InBucket, IsAt}
 use Rattle.place_table.specs.Passes.{PassView, TableView, CanMark, CanGive, MayGiveBack, GaveBack, Attached, Detached, Marked}
 use Rattle.place_table.specs.Views.{with_in_hand, without_in_hand}

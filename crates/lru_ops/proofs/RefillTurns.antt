@@ -11,6 +11,7 @@ use Rattle.map_types.specs.ElementLists.{times, IsIn}
 use Rattle.map_types.specs.Kind.{is_lru}
 use Rattle.map_types.specs.Listed.{elements_of}
 use Rattle.map_types.specs.Stored.{Stored}
+use Rattle.map_types.proofs.RowLemmas.{by_test}
 use Rattle.place_words.specs.declared.history.Part.{Part}
 use Rattle.place_words.specs.declared.history.Part.TheVariants as parts
 use Rattle.place_words.specs.declared.list_part.LocalPart.{LocalPart}
@@ -26,7 +27,7 @@ use Rattle.place_words.specs.Rotation.{visited_elements}
 use Rattle.place_words.specs.Takings.{Refills, TakesByRefill, TakesFree, TakesOwn, freed_by, stored_hash}
 use Rattle.place_core.specs.declared.step.Lists.{Lists}
 use Rattle.place_core.specs.State.{rows}
-use Rattle.place_core.proofs.ElementLemmas.{by_test, times_cons_same}
+use Rattle.place_core.proofs.ElementLemmas.{times_cons_same}
 use Rattle.place_table.specs.declared.content.Content.{Content as Slot}
 use Rattle.place_table.specs.declared.content.Content.TheVariants as contents
 use Rattle.place_table.specs.declared.view.BitAsked.{BitAsked}
@@ -38,7 +39,7 @@ use Rattle.place_table.specs.Flushes.{is_visited}
 use Rattle.place_table.specs.Known.{Learns, turn_at}
 use Rattle.place_table.specs.Passes.{PassView, TableView, CanGive, Gave, GaveBack, Goes, MayGiveBack, TookLock}
 use Rattle.place_table.specs.TurnNotes.{WasRead, ProbeFits, CameToHand, clears_among}
-use Rattle.place_table.specs.Views.{is_among, is_in_hand_of, notes_below, bucket_known, with_in_hand}
+use Rattle.place_table.specs.Views.{is_among, is_in_hand_of, notes_below, bucket_known, with_in_hand, hold_with}
 use Rattle.place_table.proofs.Came.{came_among}
 use Rattle.place_table.proofs.Entries.{append_nil}
 use Rattle.place_table.proofs.Going.{AreElsewhere, given_turn, goes_on, goes_of_table, goes_begun, learns_on, same_head}
@@ -49,7 +50,6 @@ use Rattle.row_list.proofs.RowLemmas.{elements_reverse}
 use Rattle.local_lists.specs.LocalLists.{LocalView, local_told}
 use Rattle.local_lists.proofs.ToldLemmas.{popped_numbers}
 use Rattle.lru_ops.specs.declared.refill.Refilled.{Refilled}
-use Rattle.lru_ops.specs.Evictions.{hold_with}
 use Rattle.lru_ops.specs.Refills.{CanRefill, FilledFrom}
 use Rattle.lru_ops.specs.Lists.{Acquired, GaveNone}
 use Rattle.lru_ops.specs.LocalWork.{CanMakePending, MadePending, MakesPending}
@@ -69,7 +69,7 @@ visited_flushed : (flushed : List Flush) → visited_elements (map flush_visit f
 visited_flushed [] = refl
 visited_flushed (flush ∷ flushed) = ap (λ (l : List ℕ). flush.element ∷ l) (visited_flushed flushed)
 
-elements_flushed : (flushed : List Flush) → elements_of (flushed_rows flushed) ≡ flushed_elements flushed
+pub elements_flushed : (flushed : List Flush) → elements_of (flushed_rows flushed) ≡ flushed_elements flushed
 elements_flushed [] = refl
 elements_flushed (flush ∷ flushed) = ap (λ (l : List ℕ). flush.element ∷ l) (elements_flushed flushed)
 

@@ -9,6 +9,7 @@ use Rattle.map_types.specs.declared.kind.DomainId.TheVariants.{CpuLru, Global, L
 use Rattle.map_types.specs.ElementLists.{times, without, IsIn}
 use Rattle.map_types.specs.Stored.{Stored}
 use Rattle.map_types.proofs.CreationLemmas.{bounds_of_shape}
+use Rattle.map_types.proofs.RowLemmas.{times_append, by_test}
 use Rattle.place_words.specs.declared.bucket_part.Seen.TheVariants.{Removed}
 use Rattle.place_words.specs.declared.home.Home.{Home}
 use Rattle.place_words.specs.declared.home.Home.TheVariants as homes
@@ -19,7 +20,7 @@ use Rattle.place_core.specs.declared.step.Lists.{Lists}
 use Rattle.place_core.specs.State.{rows}
 use Rattle.place_core.specs.Steps.{with_free, with_row, without_row}
 use Rattle.place_core.specs.Wholeness.{all_of}
-use Rattle.place_core.proofs.ElementLemmas.{by_test, times_append, times_cons_same}
+use Rattle.place_core.proofs.ElementLemmas.{times_cons_same}
 use Rattle.place_table.specs.declared.view.Hold.{Hold}
 use Rattle.place_table.specs.declared.view.HomeIn.{HomeIn}
 use Rattle.place_table.specs.declared.view.InHand.{InHand}
@@ -28,7 +29,7 @@ use Rattle.place_table.specs.declared.view.WordStep.{WordStep}
 use Rattle.place_table.specs.Known.{Learns}
 use Rattle.place_table.specs.Passes.{PassView, TableView, CanRehome, CanSettle, Goes, Rehomed, Settled, with_view}
 use Rattle.place_table.specs.Plays.{HoldsLock, IsKnownHome}
-use Rattle.place_table.specs.Views.{holds_below, is_in_hand_of, hold_at, now_at, with_now, with_came, with_in_hand, without_in_hand, with_places, settled as settled_view, rehomed as rehomed_view}
+use Rattle.place_table.specs.Views.{holds_below, is_in_hand_of, hold_at, now_at, with_now, with_came, with_in_hand, without_in_hand, with_places, settled as settled_view, rehomed as rehomed_view, hold_with}
 use Rattle.place_table.specs.Words.{home_word, owner_word}
 use Rattle.place_table.proofs.Came.{come_from_other}
 use Rattle.place_table.proofs.Entries.{append_nil}
@@ -39,7 +40,7 @@ use Rattle.lru_lists.specs.declared.bits.Probed.{Probed}
 use Rattle.lru_lists.specs.declared.bits.Probed.TheVariants as answers
 use Rattle.lru_ops.specs.declared.probing.Destination.{Destination}
 use Rattle.lru_ops.specs.declared.probing.Destination.TheVariants.{OwnFree, LocalFree, OwnHand}
-use Rattle.lru_ops.specs.Evictions.{HoldsFor, CanChase, CanPut, PutThere, EvictedWith, Evicted, Chased, ChasedFor, hold_with, came_local, removed_to, noted_to, taken_to, hand_left}
+use Rattle.lru_ops.specs.Evictions.{HoldsFor, CanChase, CanPut, PutThere, EvictedWith, Evicted, Chased, ChasedFor, came_local, removed_to, noted_to, taken_to, hand_left}
 use Rattle.lru_ops.proofs.EvictTurns.{no_bucket, names_apart}
 use Rattle.lru_ops.proofs.Holders.{saw_on_none, saw_none}
 

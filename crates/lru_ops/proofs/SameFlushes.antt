@@ -6,6 +6,7 @@ use Rattle.std.proofs.lemmas.List.Elements.{All-nil, All-cons, All-weaker}
 use Rattle.map_types.specs.declared.attr.Shape.{Shape}
 use Rattle.map_types.specs.ElementLists.{times, IsIn}
 use Rattle.map_types.specs.Listed.{Listed, elements_of}
+use Rattle.map_types.proofs.RowLemmas.{times_append, by_test}
 use Rattle.place_words.specs.declared.history.Part.{Part}
 use Rattle.place_words.specs.declared.history.Part.TheVariants as parts
 use Rattle.place_words.specs.declared.list_part.GlobalPart.{GlobalPart}
@@ -24,11 +25,12 @@ use Rattle.place_words.proofs.KeepLaws.{flushed_in, listed_none, listed_one}
 use Rattle.place_words.proofs.Loses.{in_set, active_loses}
 use Rattle.place_words.proofs.RotationCounts.{rotated_less, visited_few}
 use Rattle.place_words.proofs.RowCounts.{any, rows_any, rows_cut, rows_reverse}
-use Rattle.place_core.proofs.ElementLemmas.{by_test, times_append, times_cons_same}
+use Rattle.place_core.proofs.ElementLemmas.{times_cons_same}
 use Rattle.place_table.specs.declared.view.Notes.{Notes}
 use Rattle.place_table.specs.TurnNotes.{AreCleared, TellsFlush}
 use Rattle.place_table.specs.Views.{passed_on}
 use Rattle.place_table.proofs.Entries.{append_nil}
+use Rattle.lru_ops.proofs.RefillTurns.{elements_flushed}
 
 -- Two lists of visits that begin with flushes
 
@@ -143,10 +145,6 @@ flushes_told (parts.Free part) = []
 flushes_told (parts.Local part) = []
 flushes_told (parts.Global part) = flushes_on part
 flushes_told (parts.Own part) = []
-
-elements_flushed : (flushed : List Flush) → elements_of (flushed_rows flushed) ≡ flushed_elements flushed
-elements_flushed [] = refl
-elements_flushed (flush ∷ flushed) = ap (λ (l : List ℕ). flush.element ∷ l) (elements_flushed flushed)
 
 shrink_listed : (moved : ℕ) (shrink : Option ShrinkNote) (lists : Listed) (active inactive : List Visit) (e : ℕ) → AreRotationVisits global_scans lists active inactive → AllowsGlobalShrink moved shrink (rotated global_scans lists active inactive) → times e (visited_elements (looks_told shrink)) ≤ in_set e any lists
 shrink_listed moved None lists active inactive e visits allowed = omega arith

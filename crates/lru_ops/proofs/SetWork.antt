@@ -9,7 +9,8 @@ use Rattle.map_types.specs.declared.attr.Shape.{Shape}
 use Rattle.map_types.specs.declared.row.Row.{Row}
 use Rattle.map_types.specs.ElementLists.{times, without, IsIn}
 use Rattle.map_types.specs.Listed.{Listed, elements_of}
-use Rattle.map_types.specs.Stored.{Stored}
+use Rattle.map_types.specs.Stored.{Stored, IsSized}
+use Rattle.map_types.proofs.RowLemmas.{times_append, by_test}
 use Rattle.percpu_values.specs.BodyList.{BodyList}
 use Rattle.place_words.specs.declared.bucket_part.Seen.{Seen}
 use Rattle.place_words.specs.declared.bucket_part.Seen.TheVariants.{Removed, Held}
@@ -24,8 +25,8 @@ use Rattle.place_words.specs.Shrinking.{IsShrink, is_removed, look_removed, try_
 use Rattle.place_words.specs.Takings.{look_probes as look_tries, walk_probes, stored_hash}
 use Rattle.place_core.specs.declared.step.Lists.{Lists}
 use Rattle.place_core.specs.State.{rows}
-use Rattle.place_core.proofs.ElementLemmas.{by_test, times_append, times_cons_same, times_without_same, times_without_other}
-use Rattle.place_table.specs.Contents.{set_told, lists_of_set, FitsSet, IsSized}
+use Rattle.place_core.proofs.ElementLemmas.{times_cons_same, times_without_same, times_without_other}
+use Rattle.place_table.specs.Contents.{set_told, lists_of_set, FitsSet}
 use Rattle.place_table.proofs.Entries.{append_nil}
 use Rattle.place_table.proofs.Worlds.{some_is, none_some}
 use Rattle.row_list.specs.RowWords.{is_of, row_of}
@@ -36,7 +37,7 @@ use Rattle.lru_lists.specs.declared.bits.BitCall.TheVariants as calls
 use Rattle.lru_lists.specs.declared.bits.ProbeCall.{ProbeCall}
 use Rattle.lru_lists.specs.declared.notes.RotateNotes.{RotateNotes}
 use Rattle.lru_lists.specs.declared.notes.ShrinkNotes.{ShrinkNotes}
-use Rattle.lru_lists.specs.Sets.{SetView, IsSet, IsListed, listed, numbers_of, row_on, times_listed, with_free}
+use Rattle.lru_lists.specs.Sets.{SetView, IsSet, IsListed, listed, row_on, times_listed, with_free}
 use Rattle.lru_lists.proofs.NoteLemmas.{noted_none}
 use Rattle.lru_lists.proofs.SetLemmas.{listed_present, its_row}
 use Rattle.lru_rotate.specs.Rotating.{Rotation, cleared as cleared_visits}
@@ -49,21 +50,21 @@ use Rattle.lru_ops.proofs.EvictTurns.{found_has}
 
 -- Stacks of bodies
 
-numbers_reverse : (bodies : List Stored) → numbers_of (reverse bodies) ≡ reverse (numbers_of bodies)
+numbers_reverse : (bodies : List Stored) → numbers (reverse bodies) ≡ reverse (numbers bodies)
 numbers_reverse [] = refl
 numbers_reverse (body ∷ bodies) =
-    ap numbers_of (reverse-append (body ∷ []) bodies)
+    ap numbers (reverse-append (body ∷ []) bodies)
     ∙ (map-append (λ (b : Stored). b.element) (reverse bodies) (body ∷ [])
-    ∙ (ap (λ (l : List ℕ). l ++ body.element ∷ []) (numbers_reverse bodies) ∙ sym (reverse-append (body.element ∷ []) (numbers_of bodies))))
+    ∙ (ap (λ (l : List ℕ). l ++ body.element ∷ []) (numbers_reverse bodies) ∙ sym (reverse-append (body.element ∷ []) (numbers bodies))))
 
 -- what came on a stack lies above what lay there, the first deepest
-pub stacked_on : (gives : Stored → Type 0) (elements : List ℕ) (before after : BodyList) → AreStacked gives elements before after → numbers_of after.bodies ≡ reverse elements ++ numbers_of before.bodies
+pub stacked_on : (gives : Stored → Type 0) (elements : List ℕ) (before after : BodyList) → AreStacked gives elements before after → numbers after.bodies ≡ reverse elements ++ numbers before.bodies
 stacked_on gives elements before after s =
-    ap (λ (z : BodyList). numbers_of z.bodies) s.stacked
-    ∙ (map-append (λ (b : Stored). b.element) (reverse s.bodies) before.bodies ∙ ap (λ (l : List ℕ). l ++ numbers_of before.bodies) (numbers_reverse s.bodies ∙ ap reverse s.numbers))
+    ap (λ (z : BodyList). numbers z.bodies) s.stacked
+    ∙ (map-append (λ (b : Stored). b.element) (reverse s.bodies) before.bodies ∙ ap (λ (l : List ℕ). l ++ numbers before.bodies) (numbers_reverse s.bodies ∙ ap reverse s.numbers))
 
-pub stacked_numbers : (gives : Stored → Type 0) (elements : List ℕ) (before after : BodyList) → AreStacked gives elements before after → before.bodies ≡ [] → numbers_of after.bodies ≡ reverse elements
-stacked_numbers gives elements before after s none = stacked_on gives elements before after s ∙ (ap (λ (l : List Stored). reverse elements ++ numbers_of l) none ∙ append_nil (reverse elements))
+pub stacked_numbers : (gives : Stored → Type 0) (elements : List ℕ) (before after : BodyList) → AreStacked gives elements before after → before.bodies ≡ [] → numbers after.bodies ≡ reverse elements
+stacked_numbers gives elements before after s none = stacked_on gives elements before after s ∙ (ap (λ (l : List Stored). reverse elements ++ numbers l) none ∙ append_nil (reverse elements))
 
 pub stacked_all : (P gives : Stored → Type 0) (elements : List ℕ) (before after : BodyList) → AreStacked gives elements before after → ((body : Stored) → gives body → P body) → All P before.bodies → All P after.bodies
 stacked_all P gives elements before after s is all =
@@ -301,16 +302,16 @@ looks_cleared (look ∷ looks) = ap (λ (l : List BitCall). calls.Cleared (look_
 
 module _ {before after : SetView} {calls_before calls_after : List BitCall} {probes probes_after : List ProbeCall} {gives : Stored → Type 0} {out out_after : BodyList} {notes notes_after : ShrinkNotes} {answer : ℕ}
     (s : Shrink own_scans own_target before after calls_before calls_after probes probes_after gives out out_after notes notes_after answer) (whole : IsSet before) (none : out.bodies ≡ []) where
-  freed_times : (e : ℕ) → times e (numbers_of out_after.bodies) ≡ times e (freed s.looks s.forced)
+  freed_times : (e : ℕ) → times e (numbers out_after.bodies) ≡ times e (freed s.looks s.forced)
   freed_times e = ap (times e) (stacked_numbers gives (freed s.looks s.forced) out out_after s.left none) ∙ times_reverse e (freed s.looks s.forced)
 
-  pub freed_below : (e : ℕ) → IsIn e (numbers_of out_after.bodies) → e < after.elements
+  pub freed_below : (e : ℕ) → IsIn e (numbers out_after.bodies) → e < after.elements
   freed_below e some =
       let same = freed_times e in
       let all = s.rows e in
       subst (λ (n : ℕ). e < n) (sym (ap (λ (z : SetView). z.elements) s.set)) (whole.below e (omega (arith, some, same, all)))
 
-  pub freed_absent : (e : ℕ) → times_listed e after + times e (numbers_of out_after.bodies) ≤ 1
+  pub freed_absent : (e : ℕ) → times_listed e after + times e (numbers out_after.bodies) ≤ 1
   freed_absent e =
       let same = freed_times e in
       let all = s.rows e in

@@ -10,13 +10,14 @@ use Rattle.map_types.specs.declared.kind.DomainId.TheVariants.{Local, Global, Cp
 use Rattle.map_types.specs.declared.row.Row.{Row}
 use Rattle.map_types.specs.Kind.{is_lru}
 use Rattle.map_types.specs.Listed.{elements_of}
-use Rattle.map_types.specs.Stored.{Stored}
+use Rattle.map_types.specs.Stored.{Stored, IsSized}
 use Rattle.map_types.specs.ElementLists.{times, without, IsIn}
+use Rattle.map_types.proofs.RowLemmas.{times_append, by_test}
 use Rattle.row_list.specs.RowWords as row_words
 use Rattle.row_list.specs.RowWords.{row_of}
 use Rattle.row_list.proofs.RowLemmas.{without_absent}
 use Rattle.lru_lists.specs.Sets.{SetView}
-use Rattle.local_lists.specs.LocalLists.{LocalView, IsLocal, local_told, without_pending, with_free, pushed}
+use Rattle.local_lists.specs.LocalLists.{LocalView, IsLocal, local_told, without_pending, with_free}
 use Rattle.place_words.specs.declared.history.Entry.{Entry}
 use Rattle.place_words.specs.declared.history.Part.{Part}
 use Rattle.place_words.specs.declared.history.Part.TheVariants as parts
@@ -38,29 +39,28 @@ use Rattle.place_core.specs.declared.step.Lists.{Lists}
 use Rattle.place_core.specs.State.{rows}
 use Rattle.place_core.specs.Steps as steps
 use Rattle.place_core.specs.Wholeness.{all_of}
-use Rattle.place_core.proofs.ElementLemmas.{by_test, times_append}
 use Rattle.place_table.specs.declared.content.Content.TheVariants as contents
 use Rattle.place_table.specs.declared.view.Hold.{Hold}
 use Rattle.place_table.specs.declared.view.HomeIn.{HomeIn}
 use Rattle.place_table.specs.declared.view.InHand.{InHand}
 use Rattle.place_table.specs.declared.view.Turned.{Turned}
 use Rattle.place_table.specs.Calls.{finds_moved_on}
-use Rattle.place_table.specs.Contents.{content_told, lists_of, FitsLocal, IsSized}
+use Rattle.place_table.specs.Contents.{content_told, lists_of, FitsLocal}
 use Rattle.place_table.specs.Known.{BitTouch, Learns, KnowsAll, turn_at, IsBy}
 use Rattle.place_table.specs.Passes.{PassView, TableView, TookLock, CanSettle, CanGive, Gave, Cleared, Settled, SawHome, with_view}
 use Rattle.place_table.specs.Plays.{MayBeHome}
 use Rattle.place_table.specs.StoredHashes.{stored_in}
-use Rattle.place_table.specs.Views.{hold_at, is_in_hand_of, home_known, with_reading, home_then, readings_then, without_in_hand, with_home_read, home_read, touching, no_notes}
+use Rattle.place_table.specs.Views.{hold_at, is_in_hand_of, home_known, with_reading, home_then, readings_then, without_in_hand, with_home_read, home_read, touching, no_notes, hold_with}
 use Rattle.place_table.specs.Words.{home_word}
 use Rattle.place_table.proofs.Entries.{append_nil}
 use Rattle.place_table.proofs.FlushedLast.{flushed_told}
 use Rattle.place_table.proofs.Going.{goes_noted, goes_of_table, goes_begun, learns_nothing}
 use Rattle.place_table.proofs.Worlds.{true_false, by_bool, some_is, both_true}
-use Rattle.lru_ops.specs.Evictions.{hold_with}
 use Rattle.lru_ops.specs.Lists.{Changed, CanFree, Freed}
 use Rattle.lru_ops.specs.Shared.{CanPushAt, LiesUnder, FreedBy, FoundMoved}
 use Rattle.lru_ops.proofs.Ends.{changed_on}
 use Rattle.lru_ops.proofs.Pushes.{Leads, TurnMade, IsPush, OnSet, Pushing, with_clear_of, fits_with, has_row_in, left_times, left_hash, none_lost, room_left, underway_taken, can_settle_listed, can_give_under, turn_made, can_give_pushed, freed, frees_on, freed_once}
+use Rattle.percpu_values.specs.BodyList.{pushed}
 
 -- Homes that were read
 

@@ -8,7 +8,8 @@ use Rattle.map_types.specs.Creation.{IsShape}
 use Rattle.map_types.specs.ElementLists.{times, without, IsHead, IsIn}
 use Rattle.map_types.specs.Kind.{is_lru}
 use Rattle.map_types.specs.Listed.{elements_of}
-use Rattle.map_types.specs.Stored.{Stored}
+use Rattle.map_types.specs.Stored.{Stored, IsSized}
+use Rattle.map_types.proofs.RowLemmas.{times_append}
 use Rattle.place_words.specs.declared.history.Part.{Part}
 use Rattle.place_words.specs.declared.history.Part.TheVariants as parts
 use Rattle.place_words.specs.declared.home.Home.TheVariants as homes
@@ -24,31 +25,30 @@ use Rattle.place_core.specs.declared.step.Lists.{Lists}
 use Rattle.place_core.specs.State.{rows}
 use Rattle.place_core.specs.Steps.{with_row, without_free, without_row}
 use Rattle.place_core.specs.Wholeness.{all_of}
-use Rattle.place_core.proofs.ElementLemmas.{times_append, times_cons_same}
+use Rattle.place_core.proofs.ElementLemmas.{times_cons_same}
 use Rattle.place_table.specs.declared.content.Content.{Content as Slot}
 use Rattle.place_table.specs.declared.content.Content.TheVariants as contents
 use Rattle.place_table.specs.declared.view.Hold.{Hold}
 use Rattle.place_table.specs.declared.view.Notes.{Notes}
-use Rattle.place_table.specs.Contents.{IsSized}
 use Rattle.place_table.specs.Flushes.{flushes}
 use Rattle.place_table.specs.Passes.{PassView, TableView, CanGive, CanRehome, Claimed, Gave, Goes, Rehomed, TookLock, with_view}
 use Rattle.place_table.specs.Plays.{HoldsLock}
 use Rattle.place_table.specs.TurnNotes.{WasRead, ProbeFits, CameToHand}
-use Rattle.place_table.specs.Views.{is_in_hand_of, hold_at, no_notes, notes_below, now_at, now_under, with_came, with_in_hand, with_now, rehomed as rehomed_view}
+use Rattle.place_table.specs.Views.{is_in_hand_of, hold_at, no_notes, notes_below, now_at, now_under, with_came, with_in_hand, with_now, rehomed as rehomed_view, hold_with}
 use Rattle.place_table.proofs.Entries.{append_nil}
 use Rattle.place_table.proofs.Going.{given_turn, goes_on, goes_of_table, goes_begun, learns_on, same_head}
 use Rattle.place_table.proofs.Hands.{in_hand_more, now_at_is}
 use Rattle.place_table.proofs.StoredHashes.{stored_is_in}
 use Rattle.place_table.proofs.Worlds.{hand_is, hold_at_first, some_is}
-use Rattle.local_lists.specs.LocalLists.{LocalView, IsLocal, local_told, popped, with_free}
+use Rattle.local_lists.specs.LocalLists.{LocalView, IsLocal, local_told, with_free}
 use Rattle.local_lists.proofs.ToldLemmas.{top_is_head, popped_numbers, popped_room}
-use Rattle.lru_ops.specs.Evictions.{hold_with}
 use Rattle.lru_ops.specs.Shared.{CanSteal, StoleFrom}
 use Rattle.lru_ops.proofs.GivingOut.{came_first, popped_sized, first_of, head_number, without_head}
 use Rattle.lru_ops.proofs.Holders.{saw_on_none, saw_none}
 use Rattle.lru_ops.proofs.LocalTurns.{OnLocal, ReadyLocal, local_there, to_q, taken_held, taken_noted, can_give_local, changed_local, chased_local, saw_local}
 use Rattle.lru_ops.proofs.OwnTurns.{GaveAs, gave_as}
 use Rattle.lru_ops.proofs.Removed.{changed_first, goes_placed, learns_placed, now_first, row_passes, without_gone}
+use Rattle.percpu_values.specs.BodyList.{popped}
 
 -- The lists were taken, and these bodies were free, the first of which is to be stolen.
 module _ {t : TableView} {from : ℕ} {lists : LocalView} {p q : PassView} {body : Stored} (can : CanSteal t p) (b : OnLocal t from lists p q) (top : Some body ≡ slice_get lists.free.bodies 0) where

@@ -10,8 +10,9 @@ use Rattle.map_types.specs.Creation.{IsShape}
 use Rattle.map_types.specs.ElementLists.{times, IsIn}
 use Rattle.map_types.specs.Kind.{is_lru}
 use Rattle.map_types.specs.Listed.{elements_of}
-use Rattle.map_types.specs.Stored.{Stored}
-use Rattle.percpu_values.specs.BodyList.{BodyList}
+use Rattle.map_types.specs.Stored.{Stored, IsSized}
+use Rattle.map_types.proofs.RowLemmas.{times_append, by_test}
+use Rattle.percpu_values.specs.BodyList.{BodyList, popped_from, popped}
 use Rattle.place_words.specs.declared.history.Part.{Part}
 use Rattle.place_words.specs.declared.history.Part.TheVariants as parts
 use Rattle.place_words.specs.declared.list_part.LocalPart.TheVariants as local
@@ -27,7 +28,6 @@ use Rattle.place_words.specs.Takings.{stored_hash, stolen_element, walk_probes}
 use Rattle.place_core.specs.declared.step.Lists.{Lists}
 use Rattle.place_core.specs.State.{rows}
 use Rattle.place_core.specs.Wholeness.{all_of}
-use Rattle.place_core.proofs.ElementLemmas.{by_test, times_append}
 use Rattle.place_table.specs.declared.content.Content.{Content as Slot}
 use Rattle.place_table.specs.declared.content.Content.TheVariants as contents
 use Rattle.place_table.specs.declared.view.BitAsked.{BitAsked}
@@ -36,12 +36,12 @@ use Rattle.place_table.specs.declared.view.InHand.{InHand}
 use Rattle.place_table.specs.declared.view.Notes.{Notes}
 use Rattle.place_table.specs.declared.view.Turned.{Turned}
 use Rattle.place_table.specs.Calls.{reads_bit}
-use Rattle.place_table.specs.Contents.{FitsLocal, IsSized}
+use Rattle.place_table.specs.Contents.{FitsLocal}
 use Rattle.place_table.specs.Flushes.{flushes}
 use Rattle.place_table.specs.Known.{BitTouch, Learns}
 use Rattle.place_table.specs.Passes.{PassView, TableView, CanGive, Gave, GaveBack, MayGiveBack, TookLock}
 use Rattle.place_table.specs.TurnNotes.{WasRead, ProbeFits, CameToHand, clears_among}
-use Rattle.place_table.specs.Views.{is_among, is_in_hand_of, no_notes, notes_below, with_in_hand}
+use Rattle.place_table.specs.Views.{is_among, is_in_hand_of, no_notes, notes_below, with_in_hand, hold_with}
 use Rattle.place_table.proofs.Entries.{append_nil}
 use Rattle.place_table.proofs.Going.{given_turn, goes_of_table, goes_begun, same_head}
 use Rattle.place_table.proofs.Hands.{in_hand_more}
@@ -49,7 +49,7 @@ use Rattle.place_table.proofs.StoredHashes.{stored_is_in}
 use Rattle.place_table.proofs.Worlds.{none_some, some_is}
 use Rattle.row_list.specs.RowWords.{row_of, without_row}
 use Rattle.row_list.proofs.RowLemmas.{gone_without, kept_without, row_of_absent}
-use Rattle.local_lists.specs.LocalLists.{LocalView, local_told, popped, popped_from, with_free}
+use Rattle.local_lists.specs.LocalLists.{LocalView, local_told, with_free}
 use Rattle.local_lists.proofs.LocalLemmas.{without_is_local}
 use Rattle.lru_lists.specs.declared.bits.BitCall.{BitCall}
 use Rattle.lru_lists.specs.declared.notes.Noted.{Noted}
@@ -57,7 +57,6 @@ use Rattle.lru_lists.specs.declared.notes.Noted.TheVariants as noted
 use Rattle.lru_shrink.specs.Searches.{bits_read, IsFound}
 use Rattle.lru_ops.specs.declared.probing.Destination.TheVariants.{OwnHand}
 use Rattle.lru_ops.specs.Askings.{asked_by, asked_after, notes_after, held_after, owners_after, touch_by}
-use Rattle.lru_ops.specs.Evictions.{hold_with}
 use Rattle.lru_ops.specs.Lists.{StoleNone, IsHeldByOther}
 use Rattle.lru_ops.specs.OwnTurns.{try_of}
 use Rattle.lru_ops.specs.Shared.{CanSteal, StoleFrom}

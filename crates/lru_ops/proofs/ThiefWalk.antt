@@ -8,7 +8,8 @@ use Rattle.map_types.specs.declared.kind.DomainId.TheVariants.{Local}
 use Rattle.map_types.specs.declared.row.Row.{Row}
 use Rattle.map_types.specs.ElementLists.{times, IsIn}
 use Rattle.map_types.specs.Listed.{elements_of}
-use Rattle.map_types.specs.Stored.{Stored}
+use Rattle.map_types.specs.Stored.{Stored, IsSized}
+use Rattle.map_types.proofs.RowLemmas.{times_append}
 use Rattle.place_words.specs.declared.bucket_part.Seen.{Seen}
 use Rattle.place_words.specs.declared.bucket_part.Seen.TheVariants.{Removed, Held}
 use Rattle.place_words.specs.declared.visits.Look.{Look}
@@ -23,15 +24,13 @@ use Rattle.place_words.proofs.LockLemmas.{named_by_number}
 use Rattle.place_core.specs.declared.step.Lists.{Lists}
 use Rattle.place_core.specs.State.{rows}
 use Rattle.place_core.specs.Wholeness.{all_of}
-use Rattle.place_core.proofs.ElementLemmas.{times_append}
 use Rattle.place_table.specs.declared.view.Hold.{Hold}
 use Rattle.place_table.specs.declared.view.InHand.{InHand}
 use Rattle.place_table.specs.declared.view.Notes.{Notes}
-use Rattle.place_table.specs.Contents.{IsSized}
 use Rattle.place_table.specs.Passes.{PassView, TableView}
 use Rattle.place_table.specs.Plays.{HoldsLock}
 use Rattle.place_table.specs.StoredHashes.{stored_in}
-use Rattle.place_table.specs.Views.{is_among, is_in_hand_of, hold_at, with_in_hand}
+use Rattle.place_table.specs.Views.{is_among, is_in_hand_of, hold_at, with_in_hand, hold_with}
 use Rattle.place_table.proofs.Entries.{append_nil}
 use Rattle.place_table.proofs.Going.{goes_of_table, goes_begun}
 use Rattle.place_table.proofs.Worlds.{hold_at_first, some_is}
@@ -47,7 +46,7 @@ use Rattle.lru_shrink.specs.Shrunk.{probes_of_looks, probes_of_tries, removed_by
 use Rattle.lru_ops.specs.declared.probing.Destination.{Destination}
 use Rattle.lru_ops.specs.declared.probing.Destination.TheVariants.{LocalFree, OwnHand}
 use Rattle.lru_ops.specs.Askings.{calls_noted, probes_made, hash_in, notes_after, came_after, held_after, taken_after, Does, Since, MayAsk, MayChase}
-use Rattle.lru_ops.specs.Evictions.{hold_with, held_with, taken_with}
+use Rattle.lru_ops.specs.Evictions.{held_with, taken_with}
 use Rattle.lru_ops.specs.Thefts.{last_lock, CanSearch, SearchedSparing, SearchedAll, Walked}
 use Rattle.lru_ops.proofs.Asked.{now_with, same_table, since_start}
 use Rattle.lru_ops.proofs.DoesOn.{does_on}

@@ -9,6 +9,7 @@ use Rattle.map_types.specs.declared.kind.DomainId.TheVariants.{Bucket, Local}
 use Rattle.map_types.specs.Kind.{is_lru}
 use Rattle.map_types.specs.Stored.{Stored}
 use Rattle.map_types.specs.ElementLists.{times, IsIn}
+use Rattle.map_types.proofs.RowLemmas.{by_test}
 use Rattle.percpu_values.specs.BodyList.{BodyList}
 use Rattle.place_words.specs.declared.bucket_part.BucketPart.{BucketPart}
 use Rattle.place_words.specs.declared.bucket_part.BucketPart.TheVariants.{Lookup, Update, Delete, Take, Next, First, Walk, Evict}
@@ -25,7 +26,6 @@ use Rattle.place_words.proofs.LockLemmas.{named_by_number}
 use Rattle.place_core.specs.declared.step.Lists.{Lists}
 use Rattle.place_core.specs.State.{rows}
 use Rattle.place_core.specs.Steps.{with_row, without_row}
-use Rattle.place_core.proofs.ElementLemmas.{by_test}
 use Rattle.place_table.specs.declared.content.Content.{Content}
 use Rattle.place_table.specs.declared.content.Content.TheVariants as contents
 use Rattle.place_table.specs.declared.view.View.{View}
@@ -44,7 +44,7 @@ use Rattle.place_table.specs.Plays.{IsApartFromHands}
 use Rattle.place_table.specs.StoredHashes.{stored_in}
 use Rattle.place_table.specs.Flushes.{flushes}
 use Rattle.place_table.specs.TurnNotes.{WasRead, ProbeFits, CameToHand}
-use Rattle.place_table.specs.Views.{hold_at, now_at, now_under, with_in_hand, without_in_hand, bits_with, with_mark, touching, known_log, holding, given, with_lost, moved, with_hashes, with_now, notes_below, holds_below, passed_on, passed_on_by_bucket}
+use Rattle.place_table.specs.Views.{hold_at, now_at, now_under, with_in_hand, without_in_hand, bits_with, with_mark, touching, known_log, holding, given, with_lost, moved, with_hashes, with_now, notes_below, holds_below, passed_on, passed_on_by_bucket, hold_with}
 use Rattle.place_table.specs.Words.{owner_word, bit_word}
 use Rattle.place_table.proofs.BucketTurns.{IsTurnWith}
 use Rattle.place_table.proofs.Entries.{append_nil}
@@ -126,9 +126,6 @@ told_bits shape told part is lru =
     ∙ (ap (λ (p : Part). bits_of_part shape p ++ []) is ∙ ap (λ (l : List BitTouch). l ++ []) (append_nil (map sets_bit (marks shape (parts.Bucket part)) ++ []) ∙ append_nil (map sets_bit (marks shape (parts.Bucket part)))))
 
 -- Under the bucket
-
-abbrev pub hold_with : Hold → Lists → Hold
-hold_with hold now = record { lock = hold.lock; cpu = hold.cpu; log = hold.log; now = now; lost = hold.lost }
 
 abbrev pub with_marks : List ℕ → Notes
 with_marks marks = record { came = []; marks = marks; asked = []; owners = []; homes = []; flushed = []; off = [] }

@@ -7,7 +7,7 @@ use Rattle.map_types.specs.declared.row.Row.{Row}
 use Rattle.map_types.specs.Creation.{IsShape}
 use Rattle.map_types.specs.ElementLists.{IsIn}
 use Rattle.map_types.specs.Kind.{is_lru}
-use Rattle.map_types.specs.Stored.{Stored}
+use Rattle.map_types.specs.Stored.{Stored, IsSized}
 use Rattle.key_hash.specs.Bucket.{bucket_number}
 use Rattle.place_words.specs.declared.bucket_part.BucketPart.TheVariants.{Evict}
 use Rattle.place_words.specs.declared.bucket_part.Seen.{Seen}
@@ -26,12 +26,12 @@ use Rattle.place_table.specs.declared.view.InHand.{InHand}
 use Rattle.place_table.specs.declared.view.Notes.{Notes}
 use Rattle.place_table.specs.declared.view.Turned.{Turned}
 use Rattle.place_table.specs.declared.view.WordStep.{WordStep}
-use Rattle.place_table.specs.Contents.{lists_of, IsSized}
+use Rattle.place_table.specs.Contents.{lists_of}
 use Rattle.place_table.specs.Known.{Learns}
 use Rattle.place_table.specs.Passes.{PassView, TableView, IsPassOf, HasBegun, Goes}
 use Rattle.place_table.specs.Rules.{owner_step, HasStep, IsAboveAll}
 use Rattle.place_table.specs.TurnNotes.{HasOnlyHash}
-use Rattle.place_table.specs.Views.{is_among, is_in_hand_of, known_log, no_notes, with_in_hand, without_in_hand, holds_below, notes_below, owners_probed}
+use Rattle.place_table.specs.Views.{is_among, is_in_hand_of, known_log, no_notes, with_in_hand, without_in_hand, holds_below, notes_below, owners_probed, hold_with}
 use Rattle.lru_ops.specs.declared.probing.Destination.{Destination}
 use Rattle.lru_ops.specs.declared.probing.Destination.TheVariants.{OwnFree, LocalFree, OwnHand}
 use Rattle.lru_lists.specs.declared.bits.Probed.{Probed}
@@ -170,10 +170,6 @@ pub record EvictedWith (t : TableView) (bucket e : ℕ) (p s : PassView) (seen :
 pub record Evicted (t : TableView) (bucket e : ℕ) (p s : PassView) (answer : Probed) : Type 0 where
   pub evicted : EvictedWith t bucket e p s (seen_of answer)
   pub body : IfRemoved answer (λ body. (body.element ≡ e) × IsSized t.shape body)
-
--- a hold with other lists
-abbrev pub hold_with : Hold → Lists → Hold
-hold_with hold now = record { lock = hold.lock; cpu = hold.cpu; log = hold.log; now = now; lost = hold.lost }
 
 -- what a probe leaves under the own set's lock once its element is settled: what it removed is at the head of the free list
 abbrev pub lists_with : ℕ → Seen → Lists → Lists

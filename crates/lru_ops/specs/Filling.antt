@@ -25,8 +25,8 @@ use Rattle.place_table.specs.Contents.{FitsLocal, set_told, FitsSet}
 use Rattle.place_table.specs.Known.{Learns}
 use Rattle.place_table.specs.Passes.{PassView, TableView, Goes}
 use Rattle.place_table.specs.TurnNotes.{HasOnlyHash}
-use Rattle.place_table.specs.Views.{is_among, is_in_hand_of, no_notes}
-use Rattle.local_lists.specs.LocalLists.{LocalView, times_on, without_pending, pushed, with_free as with_local_free}
+use Rattle.place_table.specs.Views.{is_among, is_in_hand_of, no_notes, hold_with}
+use Rattle.local_lists.specs.LocalLists.{LocalView, times_on, without_pending, with_free as with_local_free}
 use Rattle.lru_lists.specs.declared.bits.BitCall.TheVariants as calls
 use Rattle.lru_lists.specs.declared.name.ListName.{ListName}
 use Rattle.lru_lists.specs.declared.name.ListName.TheVariants.{Active, Inactive}
@@ -35,9 +35,9 @@ use Rattle.lru_lists.specs.declared.notes.Noted.TheVariants.{Kept, Lost}
 use Rattle.lru_lists.specs.declared.notes.RotateNotes.{RotateNotes}
 use Rattle.lru_lists.specs.declared.notes.ShrinkNotes.{ShrinkNotes}
 use Rattle.lru_lists.specs.Notes.{AreNoted}
-use Rattle.lru_lists.specs.Sets.{SetView, moved_in, times_on as times_on_set, popped, row_on, times_listed, with_free}
+use Rattle.lru_lists.specs.Sets.{SetView, moved_in, times_on as times_on_set, row_on, times_listed, with_free}
 use Rattle.lru_ops.specs.Askings.{asked_after, AreEvicts, owners_after}
-use Rattle.lru_ops.specs.Evictions.{SawHolders, hold_with}
+use Rattle.lru_ops.specs.Evictions.{SawHolders}
 use Rattle.lru_ops.specs.GlobalWork.{CanWalk, ShrunkInto}
 use Rattle.map_types.specs.Stored.{Stored}
 use Rattle.place_words.specs.declared.list_part.GlobalPart.{GlobalPart}
@@ -45,6 +45,7 @@ use Rattle.place_words.specs.Histories.{bits_cleared}
 use Rattle.place_table.specs.declared.view.Turned.{Turned}
 use Rattle.lru_lists.specs.declared.bits.ProbeCall.{ProbeCall}
 use Rattle.lru_ops.specs.OwnTurns.{try_of}
+use Rattle.percpu_values.specs.BodyList.{pushed, popped}
 
 -- What is pending is flushed
 

@@ -4,14 +4,14 @@ use Rattle.std.specs.Prelude.{◌≡◌, ℕ, ◌+◌, ◌≤◌, true, false, I
 use Rattle.map_types.specs.declared.kind.DomainId.TheVariants.{Global, Local}
 use Rattle.map_types.specs.declared.row.Row.{Row}
 use Rattle.map_types.specs.ElementLists.{times}
-use Rattle.map_types.specs.Stored.{Stored}
+use Rattle.map_types.specs.Stored.{Stored, IsSized}
 use Rattle.percpu_values.specs.BodyList.{BodyList}
 use Rattle.place_words.specs.Bodies.{numbers}
 use Rattle.place_words.specs.Globals.{global_scans}
 use Rattle.place_words.specs.Locks.{is_lock, lock_number}
 use Rattle.place_core.specs.State.{rows}
 use Rattle.place_table.specs.declared.view.Hold.{Hold}
-use Rattle.place_table.specs.Contents.{FitsSet, IsSized}
+use Rattle.place_table.specs.Contents.{FitsSet}
 use Rattle.place_table.specs.Passes.{PassView, TableView}
 use Rattle.place_table.specs.TurnNotes.{HasOnlyHash}
 use Rattle.place_table.specs.Views.{is_among, is_in_hand_of}

@@ -4,7 +4,7 @@ use Rattle.key_hash.specs.Bucket.{bucket_number}
 use Rattle.map_types.specs.declared.attr.Shape.{Shape}
 use Rattle.map_types.specs.declared.kind.DomainId.TheVariants.{Local, Global, CpuLru}
 use Rattle.map_types.specs.Listed.{elements_of}
-use Rattle.map_types.specs.Stored.{Stored}
+use Rattle.map_types.specs.Stored.{Stored, IsSized}
 use Rattle.place_words.specs.declared.bucket_part.Seen.TheVariants.{Held}
 use Rattle.place_words.specs.declared.history.Part.TheVariants as parts
 use Rattle.place_words.specs.declared.list_part.GlobalPart.TheVariants as global
@@ -23,7 +23,6 @@ use Rattle.place_words.specs.Takings.{Acquires, Frees, walk_probes}
 use Rattle.place_words.specs.Turns.{found, on_lock, ring}
 use Rattle.place_table.specs.declared.view.Turned.{Turned}
 use Rattle.place_table.specs.Calls.{AreTold, FindNoneMoved, bits_of_turns}
-use Rattle.place_table.specs.Contents.{IsSized}
 use Rattle.place_table.specs.Known.{Learns, turn_of, turn_at, IsBy}
 use Rattle.place_table.specs.Passes.{PassView, TableView, IsPassOf, HasBegun, Made}
 use Rattle.place_table.specs.Views.{is_in_hand_of, bucket_known, with_in_hand, without_in_hand}

@@ -1,13 +1,14 @@
 -- What is done to the local lists of a CPU under their lock: the head of their free list is given out.
 use Rattle.std.specs.Prelude.{◌≡◌, ℕ, ◌<◌, Bool, IsTrue, [], ◌∷◌, slice_get, Option, None, Some}
 use Rattle.map_types.specs.declared.kind.DomainId.TheVariants.{Local}
-use Rattle.map_types.specs.Stored.{Stored}
+use Rattle.map_types.specs.Stored.{Stored, IsSized}
 use Rattle.place_words.specs.Bodies.{numbers}
 use Rattle.place_words.specs.Locks.{is_lock, lock_number}
 use Rattle.place_table.specs.declared.view.Hold.{Hold}
-use Rattle.place_table.specs.Contents.{FitsLocal, IsSized}
+use Rattle.place_table.specs.Contents.{FitsLocal}
 use Rattle.place_table.specs.Passes.{PassView, TableView, IsPassOf, HasBegun, Claimed, Cleared}
-use Rattle.local_lists.specs.LocalLists.{LocalView, popped, with_free, with_pending_row}
+use Rattle.local_lists.specs.LocalLists.{LocalView, with_free, with_pending_row}
+use Rattle.percpu_values.specs.BodyList.{popped}
 
 -- The pass holds the lock of its CPU's local lists and no other, and knows their free list.
 pub record CanMakePending (t : TableView) (lists : LocalView) (p : PassView) : Type 0 where

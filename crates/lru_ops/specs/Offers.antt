@@ -6,7 +6,7 @@ use Rattle.map_types.specs.declared.kind.Side.{Side}
 use Rattle.map_types.specs.declared.refusal.Errno.TheVariants as errnos
 use Rattle.map_types.specs.declared.reply.Reply.{Reply}
 use Rattle.map_types.specs.declared.reply.Reply.TheVariants.{Done, Refused}
-use Rattle.map_types.specs.Stored.{Stored}
+use Rattle.map_types.specs.Stored.{Stored, IsSized}
 use Rattle.map_types.specs.ValueLen.{value_len_of}
 use Rattle.place_words.specs.declared.bucket_part.BucketPart.TheVariants.{Update}
 use Rattle.place_words.specs.declared.bucket_part.Put.{Put}
@@ -18,7 +18,6 @@ use Rattle.place_words.specs.PlainTraces.{reply_of_put}
 use Rattle.place_words.specs.Turns.{bucket_of_key}
 use Rattle.place_table.specs.declared.view.InHand.{InHand}
 use Rattle.place_table.specs.declared.view.Turned.{Turned}
-use Rattle.place_table.specs.Contents.{IsSized}
 use Rattle.place_table.specs.Known.{turn_at}
 use Rattle.place_table.specs.Passes.{PassView, TableView, IsPassOf, HasBegun}
 use Rattle.place_table.specs.Views.{is_in_hand_of, bucket_known, with_in_hand, without_in_hand}

@@ -4,8 +4,8 @@ use Rattle.map_types.specs.declared.attr.Shape.{Shape}
 use Rattle.map_types.specs.declared.kind.DomainId.TheVariants.{CpuLru}
 use Rattle.map_types.specs.declared.row.Row.{Row}
 use Rattle.map_types.specs.ElementLists.{times}
-use Rattle.map_types.specs.Stored.{Stored}
-use Rattle.percpu_values.specs.BodyList.{BodyList}
+use Rattle.map_types.specs.Stored.{Stored, IsSized}
+use Rattle.percpu_values.specs.BodyList.{BodyList, popped}
 use Rattle.place_words.specs.declared.history.Part.{Part}
 use Rattle.place_words.specs.declared.history.Part.TheVariants as parts
 use Rattle.place_words.specs.declared.list_part.OwnPart.TheVariants as own
@@ -20,7 +20,7 @@ use Rattle.place_words.specs.Sets.{own_scans, own_target, rotated_set, shrunk_in
 use Rattle.place_words.specs.Takings.{shrink_probes, stored_hash}
 use Rattle.place_core.specs.State.{rows}
 use Rattle.place_table.specs.Views.{is_among, is_in_hand_of}
-use Rattle.place_table.specs.Contents.{set_told, lists_of_set, FitsSet, IsSized}
+use Rattle.place_table.specs.Contents.{set_told, lists_of_set, FitsSet}
 use Rattle.place_table.specs.Passes.{PassView, TableView, Claimed, Cleared}
 use Rattle.lru_lists.specs.declared.bits.BitCall.{BitCall}
 use Rattle.lru_lists.specs.declared.bits.BitCall.TheVariants as calls
@@ -30,7 +30,7 @@ use Rattle.lru_lists.specs.declared.notes.Noted.TheVariants as noted
 use Rattle.lru_lists.specs.declared.notes.RotateNotes.{RotateNotes}
 use Rattle.lru_lists.specs.declared.notes.ShrinkNotes.{ShrinkNotes}
 use Rattle.lru_lists.specs.Notes.{AreNoted}
-use Rattle.lru_lists.specs.Sets.{SetView, listed, moved_in, popped, with_free}
+use Rattle.lru_lists.specs.Sets.{SetView, listed, moved_in, with_free}
 use Rattle.lru_shrink.specs.Shrunk.{Shrink}
 use Rattle.lru_ops.specs.declared.probing.Destination.TheVariants.{OwnFree}
 use Rattle.lru_ops.specs.Askings.{Does, lists_after}

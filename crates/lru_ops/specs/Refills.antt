@@ -21,14 +21,14 @@ use Rattle.place_table.specs.Contents.{FitsLocal, lists_of}
 use Rattle.place_table.specs.Known.{Learns, IsBy, turn_at}
 use Rattle.place_table.specs.Passes.{PassView, TableView, Goes, IsPassOf, HasBegun}
 use Rattle.place_table.specs.TurnNotes.{TellsFlush}
-use Rattle.place_table.specs.Views.{is_among, is_in_hand_of, no_notes}
+use Rattle.place_table.specs.Views.{is_among, is_in_hand_of, no_notes, hold_with}
 use Rattle.local_lists.specs.LocalLists.{LocalView, local_told}
 use Rattle.lru_lists.specs.declared.notes.Noted.{Noted}
 use Rattle.lru_lists.specs.declared.notes.Noted.TheVariants.{Kept}
 use Rattle.lru_lists.specs.declared.notes.ShrinkNotes.{ShrinkNotes}
 use Rattle.lru_lists.specs.Notes.{AreNoted}
 use Rattle.lru_ops.specs.declared.refill.Refilled.{Refilled}
-use Rattle.lru_ops.specs.Evictions.{SawHolders, hold_with}
+use Rattle.lru_ops.specs.Evictions.{SawHolders}
 use Rattle.map_types.specs.declared.kind.DomainId.TheVariants.{Global, Local}
 use Rattle.map_types.specs.Creation.{IsShape}
 use Rattle.map_types.specs.Kind.{is_lru}

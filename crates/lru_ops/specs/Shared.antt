@@ -4,7 +4,7 @@ use Rattle.map_types.specs.declared.kind.DomainId.{DomainId}
 use Rattle.map_types.specs.declared.kind.DomainId.TheVariants.{Local, Global}
 use Rattle.map_types.specs.ElementLists.{IsIn}
 use Rattle.map_types.specs.Kind.{is_lru}
-use Rattle.map_types.specs.Stored.{Stored}
+use Rattle.map_types.specs.Stored.{Stored, IsSized}
 use Rattle.place_words.specs.declared.history.Entry.{Entry}
 use Rattle.place_words.specs.declared.history.Part.{Part}
 use Rattle.place_words.specs.declared.history.Part.TheVariants as parts
@@ -22,7 +22,7 @@ use Rattle.place_words.specs.Turns.{Turn, found, on_lock}
 use Rattle.place_core.specs.Wholeness.{all_of}
 use Rattle.place_table.specs.declared.view.Turned.{Turned}
 use Rattle.place_table.specs.Calls.{CanCall, FindNoneMoved, AreTold, bits_of_turns}
-use Rattle.place_table.specs.Contents.{lists_of, IsSized}
+use Rattle.place_table.specs.Contents.{lists_of}
 use Rattle.place_table.specs.Known.{Learns, KnowsAll, turn_at, turn_of, IsBy}
 use Rattle.place_table.specs.Passes.{PassView, TableView, IsPassOf, HasBegun, Made}
 use Rattle.place_table.specs.Views.{is_among, is_in_hand_of, home_known, with_in_hand, without_in_hand}

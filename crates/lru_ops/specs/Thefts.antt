@@ -6,7 +6,7 @@ use Rattle.map_types.specs.declared.kind.DomainId.TheVariants.{Local, Global}
 use Rattle.map_types.specs.declared.row.Row.{Row}
 use Rattle.map_types.specs.ElementLists.{IsIn}
 use Rattle.map_types.specs.Listed.{elements_of}
-use Rattle.map_types.specs.Stored.{Stored}
+use Rattle.map_types.specs.Stored.{Stored, IsSized}
 use Rattle.place_words.specs.declared.history.Part.{Part}
 use Rattle.place_words.specs.declared.history.Part.TheVariants as parts
 use Rattle.place_words.specs.declared.list_part.LocalPart.TheVariants as local
@@ -19,7 +19,7 @@ use Rattle.place_words.specs.Locals.{IsSearch}
 use Rattle.place_words.specs.Locks.{lock_named}
 use Rattle.place_words.specs.Shrinking.{freed}
 use Rattle.place_table.specs.declared.view.Hold.{Hold}
-use Rattle.place_table.specs.Contents.{FitsLocal, IsSized, lists_of}
+use Rattle.place_table.specs.Contents.{FitsLocal, lists_of}
 use Rattle.place_table.specs.Passes.{PassView, TableView}
 use Rattle.place_table.specs.Views.{is_among, is_in_hand_of}
 use Rattle.local_lists.specs.LocalLists.{LocalView, local_told, without_pending}

@@ -5,7 +5,7 @@ use Rattle.map_types.specs.declared.kind.Side.{Side}
 use Rattle.map_types.specs.declared.kind.Side.TheVariants.{Prog, Sys}
 use Rattle.map_types.specs.declared.reply.Reply.{Reply}
 use Rattle.map_types.specs.Kind.{is_lru}
-use Rattle.map_types.specs.Stored.{Stored}
+use Rattle.map_types.specs.Stored.{Stored, IsSized}
 use Rattle.percpu_values.specs.BodyList.{BodyList}
 use Rattle.place_words.specs.declared.bucket_part.BucketPart.TheVariants.{Lookup, Delete, Take}
 use Rattle.place_words.specs.declared.history.Part.{Part}
@@ -16,7 +16,6 @@ use Rattle.place_table.specs.declared.content.Content.TheVariants as contents
 use Rattle.place_table.specs.declared.view.InHand.{InHand}
 use Rattle.place_table.specs.declared.view.Turned.{Turned}
 use Rattle.place_table.specs.Calls.{IsTold, bits_of_turns}
-use Rattle.place_table.specs.Contents.{IsSized}
 use Rattle.place_table.specs.InBucket.{InBucket}
 use Rattle.place_table.specs.Known.{Learns, turn_of, IsBy}
 use Rattle.place_table.specs.Passes.{PassView, TableView, IsPassOf, HasBegun, TookLock, Goes, Marked}

@@ -104,7 +104,7 @@ pub(crate) struct Probing<'a, R, G, K> {
 impl<'a, R: Wait, G: Points, K: Begun> Bits for Probing<'a, R, G, K> {
     ghost use Rattle.std.specs.Prelude.{◌≡◌};
     ghost use Rattle.lru_ops.specs.Askings.{calls_noted, probes_made, hash_in, Since, MayAsk, MayChase};
-    ghost use Rattle.place_table.specs.Contents.{IsSized};
+    ghost use Rattle.map_types.specs.Stored.{IsSized};
 
     ghost calls = { λ s. calls_noted s.pass.now.view.notes };
 

@@ -11,6 +11,7 @@ use Rattle.place_words.specs.Rotation.{was_set, visited_elements, active_visited
 use Rattle.map_types.proofs.RowLemmas.{AreOnce, times_rows-append, times_rows-reverse, times_rows-filter}
 use Rattle.place_words.proofs.VisitLemmas.{visit_of}
 use Rattle.row_list.specs.RowWords.{tail_row}
+use Rattle.row_list.proofs.PlainLemmas.{some_row}
 use Rattle.lru_lists.specs.declared.name.ListName.TheVariants.{Active, Inactive}
 use Rattle.lru_lists.specs.declared.bits.BitCall.{BitCall}
 use Rattle.lru_lists.specs.declared.bits.BitCall.TheVariants.{Cleared}
@@ -21,10 +22,6 @@ use Rattle.lru_rotate.specs.Rotating.{cleared, ActivePart}
 use Rattle.lru_rotate.proofs.ActiveWalk.{active_at, inactive_at, next_is_tail, active_set, active_clear, inactive_set, inactive_clear}
 use Rattle.lru_lists.proofs.NoteLemmas.{noted_none, noted_more}
 use Rattle.lru_rotate.proofs.MoveLemmas.{moved_active}
-
--- any row, where a list needs one to be read
-abbrev pub some_row : Row
-some_row = record { element = 0; hash = 0 }
 
 -- the rows of active in the order in which they are visited
 abbrev pub order_of : SetView → List Row

@@ -21,7 +21,7 @@ inactive_at inactive visited visits = reverse (without_those (was_set visits) vi
 reverse_cons : (row : Row) (rows : List Row) → reverse (row ∷ rows) ≡ reverse rows ++ row ∷ []
 reverse_cons row rows = reverse-append (row ∷ []) rows
 
-reverse_push : (rows : List Row) (row : Row) → reverse (rows ++ row ∷ []) ≡ row ∷ reverse rows
+pub reverse_push : (rows : List Row) (row : Row) → reverse (rows ++ row ∷ []) ≡ row ∷ reverse rows
 reverse_push rows row = reverse-append rows (row ∷ [])
 
 -- the next one to visit is the tail

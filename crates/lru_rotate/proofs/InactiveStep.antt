@@ -1,7 +1,7 @@
 -- One visit of the second part of a rotation.
 use Rattle.std.proofs.Common.{◌≡◌, ◌≢◌, ℕ, ◌+◌, ◌-◌, ◌<◌, ◌≤◌, Bool, true, false, not, cond, List, [], ◌∷◌, ◌++◌, reverse, length, take, drop, min, refl, ap, ◌∙◌, sym, subst, arith}
 use Rattle.std.specs.Prelude.{Option, None, Some, option_map, MatchOption}
-use Rattle.std.proofs.lemmas.List.{append_assoc, append-nil, reverse-append, length-take, take_min, take-append-drop}
+use Rattle.std.proofs.lemmas.List.{append_assoc, append-nil, length-take, take_min, take-append-drop}
 use Rattle.std.proofs.lemmas.List.Elements.{filter-append}
 use Rattle.map_types.specs.ElementLists.{times, IsIn}
 use Rattle.map_types.specs.declared.row.Row.{Row}
@@ -11,6 +11,7 @@ use Rattle.place_words.specs.Rotation.{was_set, visited_elements, inactive_visit
 use Rattle.map_types.proofs.RowLemmas.{IsAbsent, AreOnce, alone, times_rows-filter}
 use Rattle.place_words.proofs.VisitLemmas.{visit_of, was_set_other, was_set_absent, those_push, goes_on_push, stays_push}
 use Rattle.row_list.specs.RowWords.{row_before, without_row}
+use Rattle.row_list.proofs.PlainLemmas.{some_row}
 use Rattle.lru_lists.specs.declared.name.ListName.TheVariants.{Active}
 use Rattle.lru_lists.specs.declared.bits.BitCall.{BitCall}
 use Rattle.lru_lists.specs.declared.bits.BitCall.TheVariants.{Cleared}
@@ -21,15 +22,13 @@ use Rattle.lru_rotate.specs.Rotating.{cleared, stands_at, InactivePart}
 use Rattle.lru_lists.proofs.NoteLemmas.{noted_more}
 use Rattle.lru_rotate.proofs.MoveLemmas.{moved_inactive}
 use Rattle.lru_rotate.proofs.InactiveWalk.{stands_at_next, neighbour_is_nearest}
-use Rattle.lru_rotate.proofs.ActiveSteps.{some_row, next_of, cleared_push, visited_push, elements_push, inactive_once, visit_is, calls_made}
+use Rattle.lru_rotate.proofs.ActiveSteps.{next_of, cleared_push, visited_push, elements_push, inactive_once, visit_is, calls_made}
 use Rattle.lru_rotate.proofs.InactiveSteps.{order_splits, order_long, order_once, Stands, stands_there, nearest_agrees, nearest_stays, walk_of, stop_after, InactiveSoFar}
+use Rattle.lru_rotate.proofs.ActiveWalk.{reverse_push}
 
 -- a list that is read up to k, one more, and the rest
 split_at : (xs : List Row) (k : ℕ) (row : Row) → drop k xs ≡ row ∷ drop (k + 1) xs → xs ≡ take k xs ++ row ∷ drop (k + 1) xs
 split_at xs k row left = sym (take-append-drop k xs) ∙ ap (λ (ys : List Row). take k xs ++ ys) left
-
-reverse_push : (rows : List Row) (row : Row) → reverse (rows ++ row ∷ []) ≡ row ∷ reverse rows
-reverse_push rows row = reverse-append rows (row ∷ [])
 
 left_split : (gone : ℕ → Bool) (rows front back : List Row) (row : Row) → rows ≡ front ++ row ∷ back → gone row.element ≡ false → without_those gone rows ≡ without_those gone front ++ row ∷ without_those gone back
 left_split gone rows front back row split stays = rw (split, filter-append (λ r. not (gone r.element)) front (row ∷ back), stays) refl

@@ -16,7 +16,8 @@ use Rattle.lru_lists.specs.Notes.{AreNoted}
 use Rattle.lru_lists.specs.Sets.{SetView, IsSet, IsPlace, with_cursor}
 use Rattle.lru_rotate.specs.Rotating.{cleared, stands_at}
 use Rattle.lru_lists.proofs.NoteLemmas.{noted_none}
-use Rattle.lru_rotate.proofs.InactiveWalk.{in_first, in_second, falls, turned_split}
+use Rattle.lru_rotate.proofs.InactiveWalk.{in_first, in_second, falls}
+use Rattle.row_list.proofs.RowLemmas.{turned_split}
 
 -- The order of the walk, in two: what is before the cursor and with it, and what is after it.
 pub order_splits : (cursor : Option ℕ) (rows : List Row) → (first : List Row) × (second : List Row) × (first ++ second ≡ rows) × (inactive_order cursor rows ≡ reverse first ++ reverse second)

@@ -10,7 +10,7 @@ use Rattle.map_types.specs.Listed.{without_those, nearest_before}
 use Rattle.map_types.proofs.RowLemmas.{IsAbsent, AreOnce, alone, before_around, absent-filter}
 use Rattle.row_list.specs.RowWords.{row_before}
 use Rattle.lru_rotate.specs.Rotating.{stands_at}
-use Rattle.row_list.proofs.RowLemmas.{last_from, row_before_split}
+use Rattle.row_list.proofs.RowLemmas.{last_from, row_before_split, turned_split}
 
 -- where a list that is joined of two falls into what is before an item, that item, and what is after it
 pub data Falls {A : Type 0} (first second before : List A) (item : A) (after : List A) : Type 0 where
@@ -25,13 +25,6 @@ falls (x ∷ first) second (y ∷ before) item after is =
       | in_first rest in_it then ↦ in_first rest (cc) then
       | in_second rest before_it then ↦ in_second rest (cc) then
     ]
-
--- a list that reads so backwards
-pub turned_split : {A : Type 0} (xs before : List A) (item : A) (after : List A) → reverse xs ≡ before ++ item ∷ after → xs ≡ reverse after ++ item ∷ reverse before
-turned_split {A = A} xs before item after is =
-    sym (reverse-reverse xs) ∙ ap reverse is ∙ reverse-append before (item ∷ after)
-    ∙ ap (λ (ys : List A). ys ++ reverse before) (reverse-append (item ∷ []) after)
-    ∙ append_assoc (reverse after) (item ∷ []) (reverse before)
 
 module _ (gone : ℕ → Bool) where
   stays : Row → Bool

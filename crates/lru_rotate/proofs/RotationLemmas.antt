@@ -7,14 +7,15 @@ use Rattle.map_types.specs.declared.row.Row.{Row}
 use Rattle.place_words.specs.declared.visits.Visit.{Visit}
 use Rattle.map_types.specs.Listed.{Listed, elements_of}
 use Rattle.place_words.specs.Rotation.{visited_elements, active_visited, active_rotated, inactive_order, inactive_visited, inactive_rotated, rotated}
+use Rattle.place_words.proofs.CostLemmas.{few_inactive}
 use Rattle.map_types.proofs.RowLemmas.{by_test, times_rows-append}
 use Rattle.lru_lists.specs.declared.bits.BitCall.{BitCall}
 use Rattle.lru_lists.specs.declared.bits.BitCall.TheVariants.{Cleared}
 use Rattle.lru_lists.specs.declared.notes.Noted.{Noted}
 use Rattle.lru_lists.specs.declared.notes.RotateNotes.{RotateNotes}
-use Rattle.lru_lists.specs.Sets.{SetView, IsSet, IsListed, listed}
+use Rattle.lru_lists.specs.Sets.{SetView, IsSet, IsListed, listed, with_listed}
 use Rattle.lru_rotate.specs.Asking.{bit_after}
-use Rattle.lru_rotate.specs.Rotating.{cleared, with_listed, ActivePart, InactivePart, Rotation}
+use Rattle.lru_rotate.specs.Rotating.{cleared, ActivePart, InactivePart, Rotation}
 use Rattle.lru_rotate.proofs.ActiveSteps.{inactive_once}
 use Rattle.lru_rotate.proofs.ActiveSteps as first
 use Rattle.lru_rotate.proofs.InactiveStep as second
@@ -40,10 +41,6 @@ active_few : (scans : ℕ) (set : Listed) → length (active_visited scans set) 
 unfolding active_visited
 active_few scans set = short_part (ltb (length set.inactive) (length set.active)) scans (reverse set.active)
 
-inactive_few : (scans : ℕ) (set : Listed) → length (inactive_visited scans set) ≤ scans
-unfolding inactive_visited
-inactive_few scans set = omega (arith, length-take scans (inactive_order set.cursor set.inactive))
-
 -- as many visits as rows
 many_visits : (visits : List Visit) (rows : List Row) → visited_elements visits ≡ elements_of rows → length visits ≡ length rows
 many_visits visits rows seen = omega (arith, ap length seen, length-map visits (λ v. v.element), length-map rows (λ r. r.element))
@@ -53,7 +50,7 @@ module _ (scans : ℕ) (before after : SetView) (calls calls_after : List BitCal
   active_part_few part = omega (arith, many_visits part.visits (active_visited scans (listed before)) part.visited, active_few scans (listed before))
 
   pub inactive_part_few : (part : InactivePart scans before after calls calls_after notes notes_after) → length part.visits ≤ scans
-  inactive_part_few part = omega (arith, many_visits part.visits (inactive_visited scans (listed before)) part.visited, inactive_few scans (listed before))
+  inactive_part_few part = omega (arith, many_visits part.visits (inactive_visited scans (listed before)) part.visited, few_inactive scans (listed before))
 
   pub active_part_rows : ActivePart scans before after calls calls_after notes notes_after → IsPermutation (before.active ++ before.inactive) (after.active ++ after.inactive)
   active_part_rows part =

@@ -1,22 +1,18 @@
 -- What a rotation does to a list set and tells of it.
 use Rattle.std.specs.Prelude.{◌≡◌, ◌+◌, ◌*◌, ◌≤◌, ℕ, Bool, false, List, ◌++◌, map, length, Option, None, Some, option_map}
 use Rattle.map_types.specs.ElementLists.{IsIn, times}
-use Rattle.map_types.specs.Listed.{Listed, elements_of}
+use Rattle.map_types.specs.Listed.{elements_of}
 use Rattle.place_words.specs.Rotation.{active_visited, active_rotated, inactive_visited, inactive_rotated, rotated, visited_elements, AreRotationVisits}
 use Rattle.map_types.specs.declared.row.Row.{Row}
 use Rattle.place_words.specs.declared.visits.Visit.{Visit}
 use Rattle.row_list.specs.RowWords.{tail_row}
 use Rattle.lru_lists.specs.Notes.{AreNoted}
-use Rattle.lru_lists.specs.Sets.{SetView, listed}
+use Rattle.lru_lists.specs.Sets.{SetView, listed, with_listed}
 use Rattle.lru_lists.specs.declared.bits.BitCall.{BitCall}
 use Rattle.lru_lists.specs.declared.bits.BitCall.TheVariants.{Cleared}
 use Rattle.lru_lists.specs.declared.notes.Noted.{Noted}
 use Rattle.lru_lists.specs.declared.notes.RotateNotes.{RotateNotes}
 use Rattle.lru_rotate.specs.Asking.{bit_after}
-
--- a set with these active and inactive rows and this cursor, its free list as it was
-abbrev pub with_listed : Listed → SetView → SetView
-with_listed rows set = record set { active = rows.active; inactive = rows.inactive; cursor = rows.cursor }
 
 -- the calls that clear a bit, one for each visit
 abbrev pub cleared : List Visit → List BitCall

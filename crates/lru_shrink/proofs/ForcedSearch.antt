@@ -7,7 +7,7 @@ use Rattle.std.proofs.Math.Path.{fun_ext}
 use Rattle.std.proofs.lemmas.List.{take-append-drop}
 use Rattle.std.proofs.lemmas.Bool.{eq-eqb, cases_Bool}
 use Rattle.map_types.specs.Stored.{Stored}
-use Rattle.percpu_values.specs.BodyList.{BodyList}
+use Rattle.percpu_values.specs.BodyList.{BodyList, pushed}
 use Rattle.map_types.specs.ElementLists.{times, IsIn}
 use Rattle.map_types.specs.Listed.{Listed, elements_of, without_those, cursor_without}
 use Rattle.map_types.specs.declared.row.Row.{Row}
@@ -17,11 +17,11 @@ use Rattle.place_words.specs.declared.visits.Try.{Try}
 use Rattle.row_list.specs.RowWords.{row_of}
 use Rattle.row_list.proofs.ElementLemmas.{times_here}
 use Rattle.row_list.proofs.RowLemmas.{length_without, row_present, row_of_absent, row_of_left, row_of_right, row_of_split, splits}
-use Rattle.lru_lists.specs.Sets.{SetView, IsSet, listed, row_on, times_listed, taken_off, pushed}
+use Rattle.lru_lists.specs.Sets.{SetView, IsSet, listed, row_on, times_listed, taken_off, with_listed}
 use Rattle.lru_lists.specs.declared.bits.ProbeCall.{ProbeCall}
 use Rattle.lru_lists.specs.declared.notes.Noted.{Noted}
 use Rattle.lru_shrink.specs.Searches.{IsFound, UnsparingSearch}
-use Rattle.lru_shrink.specs.Shrunk.{AreStacked, TriesPart, probe_on, probes_of_tries, try_probes, removed_by_tries, with_listed}
+use Rattle.lru_shrink.specs.Shrunk.{AreStacked, TriesPart, probe_on, probes_of_tries, try_probes, removed_by_tries}
 use Rattle.lru_shrink.proofs.LookLoop.{cursor_none}
 use Rattle.lru_shrink.proofs.LookWalk.{same_listed, at_true, at_false}
 use Rattle.lru_shrink.proofs.Marks.{or_false, and_true, and_false, unmarked_stay}

@@ -16,12 +16,12 @@ use Rattle.map_types.specs.Listed.{elements_of, cursor_without}
 use Rattle.place_words.specs.Shrinking.{AreLooks, look_removed, after_looks}
 use Rattle.row_list.specs.RowWords.{row_of, head_row, tail_row, row_before}
 use Rattle.lru_lists.specs.Notes.{AreNoted}
-use Rattle.lru_lists.specs.Sets.{SetView, IsSet, IsListed, listed, row_on, times_listed}
+use Rattle.lru_lists.specs.Sets.{SetView, IsSet, IsListed, listed, row_on, times_listed, with_listed}
 use Rattle.lru_lists.specs.declared.bits.BitCall.{BitCall}
 use Rattle.lru_lists.specs.declared.bits.ProbeCall.{ProbeCall}
 use Rattle.lru_lists.specs.declared.notes.Noted.{Noted}
 use Rattle.lru_shrink.specs.Asking.{LeavesBut}
-use Rattle.lru_shrink.specs.Shrunk.{AreStacked, LooksPart, after_look, cleared, probe_by, probe_on, probes_of_looks, look_probes, removed_by_looks, with_listed}
+use Rattle.lru_shrink.specs.Shrunk.{AreStacked, LooksPart, after_look, cleared, probe_by, probe_on, probes_of_looks, look_probes, removed_by_looks}
 use Rattle.lru_shrink.proofs.AskingLemmas.{leaves_all, leaves_more, leaves_as}
 use Rattle.lru_shrink.proofs.Marks.{unmarked_stay}
 use Rattle.lru_shrink.proofs.LookWalk as walk

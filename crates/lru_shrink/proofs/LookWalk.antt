@@ -2,7 +2,7 @@
 use Rattle.std.proofs.Common.{◌≡◌, ℕ, ◌+◌, Bool, true, false, not, cond, ◌||◌, eqb, List, [], ◌∷◌, ◌++◌, map, reverse, length, take, refl, ap, ◌∙◌, sym, arith, inl, inr}
 use Rattle.std.specs.Prelude.{Some}
 use Rattle.std.proofs.lemmas.Bool.{cases_Bool}
-use Rattle.std.proofs.lemmas.List.{reverse-append, reverse-reverse, append_assoc, length-map, length-append, take_at}
+use Rattle.std.proofs.lemmas.List.{reverse-append, append_assoc, length-map, length-append, take_at}
 use Rattle.std.proofs.lemmas.List.Elements.{filter-append}
 use Rattle.map_types.specs.ElementLists.{times}
 use Rattle.map_types.specs.declared.row.Row.{Row}
@@ -11,10 +11,10 @@ use Rattle.map_types.specs.Listed.{Listed, elements_of, those, without_those, cu
 use Rattle.place_words.specs.Shrinking.{look_removed, found_set, taken_off as leave, after_looks}
 use Rattle.map_types.proofs.RowLemmas.{IsAbsent, AreOnce, alone, absent-append, absent-filter, absent-reverse, times_rows-append, times_rows-cons, times_rows-reverse}
 use Rattle.row_list.specs.RowWords.{row_of, without_row, head_row, row_before}
-use Rattle.row_list.proofs.RowLemmas.{row_of_split, without_absent, last_of_reverse, row_before_split}
-use Rattle.lru_lists.specs.Sets.{SetView, IsSet, IsListed, listed, row_on, moved_to, taken_off}
+use Rattle.row_list.proofs.RowLemmas.{row_of_split, without_absent, last_of_reverse, row_before_split, turned_split}
+use Rattle.lru_lists.specs.Sets.{SetView, IsSet, IsListed, listed, row_on, moved_to, taken_off, with_listed}
 use Rattle.lru_lists.specs.declared.name.ListName.TheVariants.{Active}
-use Rattle.lru_shrink.specs.Shrunk.{with_listed, after_look}
+use Rattle.lru_shrink.specs.Shrunk.{after_look}
 use Rattle.lru_shrink.proofs.Marks.{and_one, marked_more, marked_same, unmarked, unmarked_stay, without_one, those_one, those_same, cursor_one}
 
 abbrev pub look_element : Look → ℕ
@@ -29,13 +29,6 @@ leaves look = look.bit || look_removed look
 
 reverse_push : {A : Type 0} (xs : List A) (x : A) → reverse (xs ++ x ∷ []) ≡ x ∷ reverse xs
 reverse_push xs x = reverse-append xs (x ∷ [])
-
--- a list that reads so backwards
-pub turned_split : {A : Type 0} (xs before : List A) (item : A) (after : List A) → reverse xs ≡ before ++ item ∷ after → xs ≡ reverse after ++ item ∷ reverse before
-turned_split {A = A} xs before item after is =
-    sym (reverse-reverse xs) ∙ ap reverse is ∙ reverse-append before (item ∷ after)
-    ∙ ap (λ (ys : List A). ys ++ reverse before) (reverse-append (item ∷ []) after)
-    ∙ append_assoc (reverse after) (item ∷ []) (reverse before)
 
 pub at_true : {X : Type 0} (b : Bool) (x y : X) → b ≡ true → cond b x y ≡ x
 at_true b x y is = rw is refl

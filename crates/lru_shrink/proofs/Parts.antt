@@ -12,13 +12,13 @@ use Rattle.place_words.specs.declared.visits.Look.{Look}
 use Rattle.place_words.specs.declared.visits.Try.{Try}
 use Rattle.place_words.specs.Shrinking.{AreTries, IsShrink, look_removed, try_removed, after_looks, after_tries, shrunk, forced_rows, freed}
 use Rattle.map_types.proofs.RowLemmas.{times_append}
-use Rattle.lru_lists.specs.Sets.{SetView, listed, row_on, times_listed}
+use Rattle.lru_lists.specs.Sets.{SetView, listed, row_on, times_listed, with_listed}
 use Rattle.lru_lists.specs.declared.bits.BitCall.{BitCall}
 use Rattle.lru_lists.specs.declared.bits.ProbeCall.{ProbeCall}
 use Rattle.lru_lists.specs.declared.notes.Noted.{Noted}
 use Rattle.lru_lists.specs.declared.notes.ShrinkNotes.{ShrinkNotes}
 use Rattle.lru_shrink.specs.Asking.{LeavesBut}
-use Rattle.lru_shrink.specs.Shrunk.{AreStacked, LooksPart, TriesPart, Shrink, cleared, look_probes, try_probes, removed_by_looks, removed_by_tries, with_listed}
+use Rattle.lru_shrink.specs.Shrunk.{AreStacked, LooksPart, TriesPart, Shrink, cleared, look_probes, try_probes, removed_by_looks, removed_by_tries}
 use Rattle.lru_shrink.proofs.AskingLemmas.{leaves_more}
 use Rattle.lru_shrink.proofs.LookLoop.{few_probes}
 use Rattle.lru_shrink.proofs.LookWalk.{look_element}

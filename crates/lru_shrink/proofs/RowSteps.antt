@@ -8,9 +8,10 @@ use Rattle.place_words.specs.declared.bucket_part.Seen.{Seen}
 use Rattle.map_types.specs.declared.row.Row.{Row}
 use Rattle.place_words.specs.declared.visits.Look.{Look}
 use Rattle.map_types.specs.Listed.{elements_of}
+use Rattle.map_types.proofs.RowLemmas.{by_test}
 use Rattle.place_words.specs.Shrinking.{look_removed}
 use Rattle.row_list.specs.RowWords.{row_of, without_row}
-use Rattle.row_list.proofs.ElementLemmas.{by_test, times_here}
+use Rattle.row_list.proofs.ElementLemmas.{times_here}
 use Rattle.row_list.proofs.RowLemmas.{gone_without, kept_without, length_without}
 use Rattle.lru_lists.specs.Sets.{SetView, IsSet, IsListed, row_on, times_listed, moved_to, taken_off}
 use Rattle.lru_lists.specs.declared.name.ListName.TheVariants.{Active}

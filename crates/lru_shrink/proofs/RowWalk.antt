@@ -7,8 +7,7 @@ use Rattle.map_types.specs.Listed.{elements_of}
 use Rattle.map_types.specs.declared.row.Row.{Row}
 use Rattle.map_types.proofs.RowLemmas.{IsAbsent, AreOnce, alone, times_rows-append, times_rows-cons}
 use Rattle.row_list.specs.RowWords.{row_of, head_row, tail_row, row_before}
-use Rattle.row_list.proofs.RowLemmas.{row_of_split, last_of_reverse, row_before_split}
-use Rattle.lru_shrink.proofs.LookWalk.{turned_split}
+use Rattle.row_list.proofs.RowLemmas.{row_of_split, last_of_reverse, row_before_split, turned_split}
 
 pub first_of : (left : List Row) (row : Row) → head_row left ≡ Some row → (rest : List Row) × (left ≡ row ∷ rest)
 first_of [] row is = absurd cc

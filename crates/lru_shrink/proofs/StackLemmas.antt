@@ -5,8 +5,8 @@ use Rattle.std.proofs.lemmas.List.{reverse-append, map-append, length-append}
 use Rattle.std.proofs.lemmas.List.Elements.{All-append, All-weaker, All-nil, All-cons}
 use Rattle.map_types.specs.Stored.{Stored}
 use Rattle.percpu_values.specs.BodyList.{BodyList}
-use Rattle.lru_lists.specs.Sets.{numbers_of}
 use Rattle.lru_shrink.specs.Shrunk.{AreStacked}
+use Rattle.place_words.specs.Bodies.{numbers}
 
 pub stacked_none : (gives : Stored → Type 0) (out : BodyList) → AreStacked gives [] out out
 stacked_none gives out = record { bodies = []; numbers = refl; given = All-nil gives; fits = omega arith; stacked = ap (λ (n : ℕ). record { bodies = out.bodies; spare = n }) (let same : out.spare ≡ out.spare - 0 = omega arith in same) }
@@ -24,7 +24,7 @@ stacked_one gives e body before after is given room pushed = record {
 pub stacked_nothing : (gives : Stored → Type 0) (elements : List ℕ) (before after : BodyList) → elements ≡ [] → AreStacked gives elements before after → after ≡ before
 stacked_nothing gives elements before after none stacked = from stacked.bodies (stacked.numbers ∙ none) stacked.stacked
   where
-    from : (bodies : List Stored) → numbers_of bodies ≡ [] → after ≡ record { bodies = reverse bodies ++ before.bodies; spare = before.spare - length bodies } → after ≡ before
+    from : (bodies : List Stored) → numbers bodies ≡ [] → after ≡ record { bodies = reverse bodies ++ before.bodies; spare = before.spare - length bodies } → after ≡ before
     from [] empty is = is ∙ ap (λ (n : ℕ). let stack : BodyList = record { bodies = before.bodies; spare = n } in stack) (let same : before.spare - 0 ≡ before.spare = omega arith in same)
     from (body ∷ bodies) empty is = absurd cc
 
@@ -42,7 +42,7 @@ joined a b c one two first second =
 pub stacked_more : (gives then : Stored → Type 0) (one two : List ℕ) (a b c : BodyList) → ((body : Stored) → gives body → then body) → AreStacked gives one a b → AreStacked then two b c → AreStacked then (one ++ two) a c
 stacked_more gives then one two a b c keeps first second = record {
   bodies = first.bodies ++ second.bodies;
-  numbers = map-append (λ (body : Stored). body.element) first.bodies second.bodies ∙ ap (λ (xs : List ℕ). xs ++ numbers_of second.bodies) first.numbers ∙ ap (λ (ys : List ℕ). one ++ ys) second.numbers;
+  numbers = map-append (λ (body : Stored). body.element) first.bodies second.bodies ∙ ap (λ (xs : List ℕ). xs ++ numbers second.bodies) first.numbers ∙ ap (λ (ys : List ℕ). one ++ ys) second.numbers;
   given = All-append then first.bodies second.bodies (All-weaker gives then keeps first.bodies first.given) second.given;
   fits =
       let left = ap (λ (s : BodyList). s.spare) first.stacked in

@@ -8,20 +8,17 @@ use Rattle.place_words.specs.Shrinking.{AreLooks, AreTries, IsShrink, look_remov
 use Rattle.place_words.specs.declared.bucket_part.Seen.{Seen}
 use Rattle.place_words.specs.declared.visits.Look.{Look}
 use Rattle.place_words.specs.declared.visits.Try.{Try}
+use Rattle.place_words.specs.Bodies.{numbers}
 use Rattle.map_types.specs.declared.row.Row.{Row}
 use Rattle.row_list.specs.RowWords.{row_of}
 use Rattle.lru_lists.specs.Notes.{AreNoted}
-use Rattle.lru_lists.specs.Sets.{SetView, listed, moved_to, taken_off, numbers_of, row_on, times_listed}
+use Rattle.lru_lists.specs.Sets.{SetView, listed, moved_to, taken_off, row_on, times_listed, with_listed}
 use Rattle.lru_lists.specs.declared.bits.BitCall.{BitCall}
 use Rattle.lru_lists.specs.declared.bits.BitCall.TheVariants.{Cleared}
 use Rattle.lru_lists.specs.declared.bits.ProbeCall.{ProbeCall}
 use Rattle.lru_lists.specs.declared.name.ListName.TheVariants.{Active}
 use Rattle.lru_lists.specs.declared.notes.Noted.{Noted}
 use Rattle.lru_lists.specs.declared.notes.ShrinkNotes.{ShrinkNotes}
-
--- a set with these active and inactive rows and this cursor, its free list as it was
-abbrev pub with_listed : Listed → SetView → SetView
-with_listed rows set = record set { active = rows.active; inactive = rows.inactive; cursor = rows.cursor }
 
 -- the calls that clear a bit, one for each look
 abbrev pub cleared : List Look → List BitCall
@@ -63,7 +60,7 @@ removed_by_tries tries = map (λ try. try.element) (filter try_removed tries)
 -- known of each.
 pub record AreStacked (gives : Stored → Type 0) (elements : List ℕ) (before after : BodyList) : Type 0 where
   pub bodies : List Stored
-  pub numbers : numbers_of bodies ≡ elements
+  pub numbers : numbers bodies ≡ elements
   pub given : All gives bodies
   pub fits : length bodies ≤ before.spare
   pub stacked : after ≡ record { bodies = reverse bodies ++ before.bodies; spare = before.spare - length bodies }

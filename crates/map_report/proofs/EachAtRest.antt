@@ -36,7 +36,7 @@ use Rattle.map_report.specs.Serial.{has_spares}
 use Rattle.map_report.proofs.ListedAtRest.{all_to, ascends, no_spares_told, run_holds}
 
 -- each once, by the lists alone
-each_once_from : (n : ℕ) (lists : Finals) → IsPermutation (range_with_len 0 n) (elements_of lists) → EachOnce n lists
+pub each_once_from : (n : ℕ) (lists : Finals) → IsPermutation (range_with_len 0 n) (elements_of lists) → EachOnce n lists
 each_once_from n lists permutes =
     let long : length (elements_of lists) ≡ length (range_with_len 0 n) = length_permutation (range_with_len 0 n) (elements_of lists) permutes in
     let parts : length (elements_of lists) ≡ length (in_buckets lists) + length (on_freelists lists) + length lists.spares =

@@ -4,7 +4,7 @@ use Rattle.std.specs.List.{flat_map}
 use Rattle.map_types.specs.declared.refusal.Errno.{Errno}
 use Rattle.map_types.specs.declared.refusal.Errno.TheVariants.{Enoent, E2big, Enomem, Eexist, Einval, Enospc}
 use Rattle.map_types.specs.declared.reply.Reply.{Reply}
-use Rattle.map_types.specs.declared.reply.Reply.TheVariants.{Done, Value, Refused, Batch, Count}
+use Rattle.map_types.specs.Replies.{error_of}
 use Rattle.map_script.specs.declared.script.Script.{Script}
 use Rattle.place_words.specs.declared.bucket_part.BucketPart.TheVariants.{Evict}
 use Rattle.place_words.specs.declared.bucket_part.Seen.TheVariants.{Removed}
@@ -17,14 +17,6 @@ use Rattle.map_report.specs.Dump.{dump_lines}
 use Rattle.map_report.specs.History.{history_lines}
 use Rattle.map_report.specs.Text.{ended, map_line, stop_name}
 use Rattle.map_report.specs.Words.{number_text}
-
--- the error that a reply names: that of a refusal, or that at which a batch stopped
-abbrev pub error_of : Reply → Option Errno
-error_of Done = None
-error_of (Value bytes) = None
-error_of (Refused errno) = Some errno
-error_of (Batch stop taken next) = stop
-error_of (Count stop done) = stop
 
 -- the kernel's number of an error, and 0 for none
 abbrev pub error_number : Option Errno → ℕ

@@ -12,7 +12,6 @@ use Rattle.map_types.specs.declared.kind.Side.TheVariants.{Sys}
 use Rattle.map_types.specs.declared.refusal.Errno.{Errno}
 use Rattle.map_types.specs.declared.reply.Reply.{Reply}
 use Rattle.map_types.specs.Kind.{is_percpu}
-use Rattle.map_types.specs.Sides.{value_read}
 use Rattle.map_types.specs.Stored.{Stored}
 use Rattle.place_words.specs.declared.bucket_part.BucketPart.TheVariants.{Lookup, Update, Delete, Take, Next, First, Walk}
 use Rattle.place_words.specs.declared.bucket_part.NextFound.{NextFound}
@@ -33,7 +32,7 @@ use Rattle.place_words.specs.Histories.{Content, in_bucket, on_freelist, in_loca
 use Rattle.place_words.specs.Locals.{new_locals}
 use Rattle.place_words.specs.Sets.{new_set}
 use Rattle.place_words.specs.Locks.{is_lock, is_same_lock, lock_named, lock_count}
-use Rattle.place_words.specs.Logs.{found_next}
+use Rattle.place_words.specs.Logs.{found_next, got_by}
 use Rattle.place_words.specs.Traces.{Turn, ring, on_bucket_of, on_freelist_of, found_empty, pushes, element_gone}
 use Rattle.place_words.specs.Turns.{on_lock}
 use Rattle.place_words.specs.Walks.{buckets_from, refused_with}
@@ -59,11 +58,6 @@ pop_turns cpu stacks None = found_empty (ring cpu (length stacks))
 pop_turns cpu stacks (Some giver) =
     found_empty (before_first (λ c. not (length (stack_at stacks c) == 0)) (ring cpu (length stacks)))
     ++ on_freelist_of giver (Popped (slice_index (stack_at stacks giver) 0)) ∷ []
-
--- what a lookup got of the key's element
-abbrev pub got_of : Shape → Side → ℕ → Option Stored → Option (ℕ × List ℕ)
-got_of shape side cpu None = None
-got_of shape side cpu (Some stored) = Some (stored.element, value_read shape side cpu stored.values)
 
 -- what an update puts where the key's element is there, and where it isn't: what was popped says whether the map is full
 abbrev pub put_present : Shape → ℕ → ℕ → Finals → Stored → Put
@@ -147,11 +141,11 @@ each_turns one turns (entry ∷ entries) lists =
 -- the turns of a call on a CPU, in the order in which their locks are given back
 unfoldable pub call_turns : Shape → ℕ → Verb → Finals → List Turn
 call_turns shape cpu (verbs.Lookup side key) lists =
-    on_bucket_of shape key (Lookup side key (got_of shape side cpu (present key (bucket_at shape lists key)))) ∷ []
+    on_bucket_of shape key (Lookup side key (got_by shape side cpu (present key (bucket_at shape lists key)))) ∷ []
 call_turns shape cpu (verbs.Update side flags key value) lists = turns_of_update shape side cpu flags key value lists
 call_turns shape cpu (verbs.Delete key) lists = turns_of_delete shape cpu key lists
 call_turns shape cpu (verbs.Take key) lists =
-    let gone = got_of shape Sys cpu (present key (bucket_at shape lists key)) in
+    let gone = got_by shape Sys cpu (present key (bucket_at shape lists key)) in
     pushes cpu (element_gone gone) ++ on_bucket_of shape key (Take key gone) ∷ []
 call_turns shape cpu (verbs.Next key) lists = next_turns shape key lists
 call_turns shape cpu (verbs.BatchRead remove count start flags) lists =

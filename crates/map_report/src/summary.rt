@@ -2,7 +2,8 @@
 
 ghost use Rattle.std.specs.Prelude.{◌≡◌, ◌++◌, IfOk, OnOk, codes, count_by, length, map};
 ghost use Rattle.std.specs.List.{flat_map};
-ghost use Rattle.map_report.specs.Summary.{error_of, element_lines, error_number, names, evicts, evicted, outcome_line, outcomes, present, summary_lines, summary, total_line};
+ghost use Rattle.map_report.specs.Summary.{element_lines, error_number, names, evicts, evicted, outcome_line, outcomes, present, summary_lines, summary, total_line};
+ghost use Rattle.map_types.specs.Replies.{error_of};
 
 use crate::lines::Lines;
 use crate::piece::{Piece, push_number};

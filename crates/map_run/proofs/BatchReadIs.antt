@@ -32,10 +32,11 @@ use Rattle.place_words.proofs.PlacedLaws.{lies_after}
 use Rattle.place_words.proofs.PlainLaws.{second_chosen}
 use Rattle.place_words.proofs.Settled.{IsSettled, settled_anywhere}
 use Rattle.place_words.proofs.Supplies.{Supplies}
+use Rattle.place_words.proofs.BatchesDone.{walk_takes}
 use Rattle.map_run.proofs.CallIs.{first_of, in_bucket_there, one_there}
 use Rattle.map_run.proofs.Decides.{Decides}
 use Rattle.map_run.proofs.KeyCalls.{IsAs}
-use Rattle.map_run.proofs.LooksTold.{not_nil, heads, tails}
+use Rattle.map_run.proofs.LooksTold.{heads, tails, not_nil}
 use Rattle.map_run.proofs.TurnsMade.{AreMade, EachTurn, made_both, each_both}
 
 abbrev pub walk_on : ℕ → Bool → ℕ → Walked → Turn
@@ -157,11 +158,6 @@ plain_walks Fact shape cpu plain = record {
 }
 
 -- On a map that evicts
-
-walk_takes : (remove : Bool) (room : ℕ) (result : Walked) (x : ℕ) → times x (brought_to_bucket (Walk remove room result)) + times x (walked_out remove result) ≡ times x (taken_from_bucket (Walk remove room result)) + times x []
-walk_takes remove room (Over n) x = refl
-walk_takes true room (Taken all) x = omega arith
-walk_takes false room (Taken all) x = refl
 
 module _ (Fact : State → Turn → Type 0) (shape : Shape) (cpu : ℕ) (supplies : Supplies shape cpu) (decides : Decides Fact shape cpu) (lru : is_lru shape.kind ≡ true) where
   -- elements that were in hand are freed one after another

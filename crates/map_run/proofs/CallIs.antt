@@ -34,6 +34,7 @@ use Rattle.place_words.proofs.EvictingDone.{IsAtRest, IsOffered, offered_put, de
 use Rattle.place_words.proofs.PlacedContents.{lies_after_all}
 use Rattle.place_words.proofs.Settled.{IsSettled, settled_anywhere}
 use Rattle.place_words.proofs.Supplies.{Supplies}
+use Rattle.place_words.proofs.PlainLaws.{second_chosen}
 use Rattle.map_run.proofs.Decides.{Decides}
 use Rattle.map_run.proofs.FoundIn.{lookup_gets, take_gets, delete_gets, offered_puts, alone_puts}
 use Rattle.map_run.proofs.KeyCalls.{IsAs}
@@ -42,10 +43,6 @@ use Rattle.map_run.proofs.TurnsMade.{IsMade, AreMade, EachTurn, made_both, each_
 pub first_of : (b : Bool) (A B : Type 0) → b ≡ true → MatchBool b A B → A
 first_of true A B is it = it
 first_of false A B is it = absurd cc
-
-second_of : (b : Bool) (A B : Type 0) → b ≡ false → MatchBool b A B → B
-second_of true A B is it = absurd cc
-second_of false A B is it = it
 
 -- a turn of a bucket is allowed on what lies there
 pub in_bucket_there : (shape : Shape) (cpu : ℕ) (state : State) (bucket : ℕ) (part : BucketPart) (at : TurnAt) → at.turn ≡ on_lock (Bucket bucket) (parts.Bucket part) → IsMade shape cpu at state → AllowsInBucket shape cpu part (bucket_at shape state bucket)
@@ -198,7 +195,7 @@ module _ (Fact : State → Turn → Type 0) (shape : Shape) (cpu number : ℕ) (
       evicting_is true both trace =
           subst (λ (did : Does). IsAs did turns reply) (sym (cond-true (is_percpu shape.kind && eqb flags 2) _ _ both)) (write_is (first_of (is_percpu shape.kind && eqb flags 2) _ _ both trace))
       evicting_is false many trace =
-          subst (λ (did : Does). IsAs did turns reply) (sym (cond-false (is_percpu shape.kind && eqb flags 2) _ _ many)) (offer_is (second_of (is_percpu shape.kind && eqb flags 2) _ _ many trace))
+          subst (λ (did : Does). IsAs did turns reply) (sym (cond-false (is_percpu shape.kind && eqb flags 2) _ _ many)) (offer_is (second_chosen (is_percpu shape.kind && eqb flags 2) _ _ many trace))
 
       update_is : IsEvictingUpdate shape cpu side flags key value turns reply → IsAs (key_does shape cpu number state (verbs.Update side flags key value)) turns reply
       unfolding key_does

@@ -12,6 +12,7 @@ use Rattle.map_types.specs.declared.call.Verb.{Verb}
 use Rattle.map_types.specs.declared.reply.Reply.{Reply}
 use Rattle.map_types.specs.Kind.{is_lru}
 use Rattle.map_types.proofs.CreationLemmas.{bounds_of_shape}
+use Rattle.map_types.proofs.RowLemmas.{by_test}
 use Rattle.place_words.specs.declared.history.Entry.{Entry}
 use Rattle.place_words.specs.declared.history.StrandStep.{StrandStep}
 use Rattle.place_words.specs.Locks.{lock_named}
@@ -19,7 +20,6 @@ use Rattle.place_words.specs.Logs.{State, turned, all_turned, Does, does, after_
 use Rattle.place_words.specs.Traces.{IsTrace}
 use Rattle.place_words.specs.Turns.{Turn, TurnAt, turns_of}
 use Rattle.place_words.specs.Walks.{spare_left}
-use Rattle.place_core.proofs.ElementLemmas.{by_test}
 use Rattle.place_table.specs.declared.view.Turned.{Turned}
 use Rattle.place_table.specs.Calls.{bits_of_turns, finds_moved_on, IsTold, AreTold, Called, element_of, spare_element}
 use Rattle.place_table.specs.Known.{AreAllowedAt, BitTouch, Learns, KnowsAll, logs_after, turn_of, turn_at}

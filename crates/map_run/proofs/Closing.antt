@@ -6,17 +6,18 @@ use Rattle.std.proofs.lemmas.List.Elements.{All-head, All-tail}
 use Rattle.map_types.specs.declared.attr.Shape.{Shape}
 use Rattle.map_types.specs.declared.kind.DomainId.{DomainId}
 use Rattle.map_types.specs.Stored.{Stored}
+use Rattle.map_types.proofs.RowLemmas.{by_test}
 use Rattle.place_words.specs.declared.history.Entry.{Entry}
 use Rattle.place_words.specs.declared.history.StrandStep.{StrandStep}
 use Rattle.place_words.specs.Locks.{is_lock, is_same_lock, lock_named, lock_count}
 use Rattle.place_words.specs.Strands.{places_on}
 use Rattle.place_words.proofs.LockLemmas.{one_number, same_lock, other_lock}
-use Rattle.place_core.proofs.ElementLemmas.{by_test}
 use Rattle.place_table.specs.declared.view.Turned.{Turned}
 use Rattle.place_table.specs.Passes.{IsKeptOf}
 use Rattle.place_table.specs.Rules.{turns_on, indexes}
 use Rattle.place_table.specs.Views.{place_of, kept_step}
 use Rattle.map_report.specs.Serial.{has_spares, spare_count}
+use Rattle.map_run.specs.ByLogs.{IsOfMap}
 
 -- Recorded steps
 
@@ -71,16 +72,13 @@ kept_few shape k (step ∷ steps) before after (inr more) =
     let places = kept_more shape k step before in
     omega arith
 
-abbrev pub IsReal : Shape → Turned → Type 0
-IsReal shape step = (step.lock < lock_count shape) × IsTrue (is_lock shape (lock_named shape step.lock))
-
 -- so where on each lock as much is recorded, every step is
-pub kept_all : (shape : Shape) (steps : List Turned) (before after : List StrandStep) → IsKeptOf shape steps before after → All (IsReal shape) steps
+pub kept_all : (shape : Shape) (steps : List Turned) (before after : List StrandStep) → IsKeptOf shape steps before after → All (IsOfMap shape) steps
     → ((k : ℕ) → k < lock_count shape → IsTrue (is_lock shape (lock_named shape k)) → length (places_on (lock_named shape k) before) + length (turns_on k steps) ≤ length (places_on (lock_named shape k) after))
     → after ≡ before ++ map (λ (step : Turned). kept_step shape step.lock (place_of step)) steps
 kept_all shape [] before after kept real enough = kept ∙ sym (append-nil before)
 kept_all shape (step ∷ steps) before after (inl dropped) real enough =
-    let here = All-head (IsReal shape) step steps real in
+    let here = All-head (IsOfMap shape) step steps real in
     let few = kept_few shape step.lock steps before after dropped in
     let many = enough step.lock here.0 here.1 in
     let turns = turns_more step.lock step steps in
@@ -88,7 +86,7 @@ kept_all shape (step ∷ steps) before after (inl dropped) real enough =
     absurd (omega arith)
 kept_all shape (step ∷ steps) before after (inr more) real enough =
     let first : StrandStep = kept_step shape step.lock (place_of step) in
-    kept_all shape steps (before ++ first ∷ []) after more (All-tail (IsReal shape) step steps real)
+    kept_all shape steps (before ++ first ∷ []) after more (All-tail (IsOfMap shape) step steps real)
     (λ k below there.
     let many = enough k below there in
     let turns = turns_more k step steps in

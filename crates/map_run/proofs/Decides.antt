@@ -1,6 +1,6 @@
 -- What the turns of a taking and of a freeing are is determined by their traces, on a map whose CPUs have list sets of their own.
-use Rattle.std.proofs.Common.{◌≡◌, ℕ, ◌<◌, Bool, true, false, List, [], ◌∷◌, ap, ◌∙◌, sym, subst}
-use Rattle.std.specs.Prelude.{Option, MatchBool}
+use Rattle.std.proofs.Common.{◌≡◌, ℕ, ◌<◌, false, List, [], ◌∷◌, ap, ◌∙◌, sym, subst}
+use Rattle.std.specs.Prelude.{Option}
 use Rattle.std.proofs.lemmas.Bool.{cond-false}
 use Rattle.map_types.specs.declared.attr.Shape.{Shape}
 use Rattle.key_hash.specs.Bucket.{bucket_number}
@@ -8,6 +8,7 @@ use Rattle.place_words.specs.Logs.{State, Taking, lies_in, acquired, freeing}
 use Rattle.place_words.specs.Takings.{Acquires, Frees}
 use Rattle.place_words.specs.Turns.{Turn, TurnAt, turns_of}
 use Rattle.place_words.proofs.Settled.{IsSettled}
+use Rattle.place_words.proofs.PlainLaws.{second_chosen}
 use Rattle.map_run.proofs.OwnTakes.{takes_own_is}
 use Rattle.map_run.proofs.TurnsMade.{AreMade, EachTurn}
 
@@ -23,16 +24,12 @@ pub record Decides (Fact : State → Turn → Type 0) (shape : Shape) (cpu : ℕ
   pub frees : (number : ℕ) (state : State) (home e : ℕ) (others : List ℕ) (turns : List TurnAt) → IsSettled shape (lies_in shape state) home (e ∷ others)
       → Frees shape e turns → AreMade shape cpu number turns state → EachTurn Fact shape cpu number turns state → turns_of turns ≡ freeing shape state e ∷ []
 
-second_of_two : (b : Bool) (A B : Type 0) → b ≡ false → MatchBool b A B → B
-second_of_two true A B is it = absurd cc
-second_of_two false A B is it = it
-
 pub own_decides : (Fact : State → Turn → Type 0) (shape : Shape) (cpu : ℕ) → shape.common ≡ false → cpu < shape.cpus → Decides Fact shape cpu
 unfolding acquired freeing
 own_decides Fact shape cpu apart within = record {
   takes = λ number key_hash state got turns settled acquires made each.
-      let is = takes_own_is shape cpu number key_hash state apart within settled got turns (second_of_two shape.common _ _ apart acquires) made in
+      let is = takes_own_is shape cpu number key_hash state apart within settled got turns (second_chosen shape.common _ _ apart acquires) made in
       subst (λ (taking : Taking). IsTakenAs taking got turns) (sym (cond-false shape.common _ _ apart)) (record { turns_are = is.0; got_is = is.1 });
   frees = λ number state home e others turns settled frees made each.
-      second_of_two shape.common _ _ apart frees ∙ ap (λ (turn : Turn). turn ∷ []) (sym (cond-false shape.common _ _ apart));
+      second_chosen shape.common _ _ apart frees ∙ ap (λ (turn : Turn). turn ∷ []) (sym (cond-false shape.common _ _ apart));
 }

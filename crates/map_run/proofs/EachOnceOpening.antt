@@ -2,7 +2,7 @@
 use Rattle.std.proofs.Common.{◌≡◌, ℕ, zero, suc, ◌+◌, ◌-◌, ◌*◌, ◌/◌, ◌%◌, ◌<◌, ◌≤◌, Bool, false, not, eqb, cond, List, [], ◌∷◌, ◌++◌, length, map, reverse, get_or, Option, Some, None, IsPermutation, refl, sym, ap, ◌∙◌, subst, inl, inr, arith, append-nil}
 use Rattle.std.specs.Prelude.{find, replicate, option_map, unwrap_or}
 use Rattle.std.specs.List.{concat, flat_map, range_with_len}
-use Rattle.std.proofs.Math.Nat.{suc-mul, zero-mul, div-add-mod}
+use Rattle.std.proofs.Math.Nat.{suc-mul, zero-mul}
 use Rattle.std.proofs.lemmas.Bool.{cases_lt, lt-ltb, le-ltb}
 use Rattle.std.proofs.lemmas.List.{length-append, length-replicate}
 use Rattle.std.proofs.lemmas.List.FromFn.{length-range_with_len, length-map-range_with_len, get_or-range_with_len}
@@ -14,22 +14,17 @@ use Rattle.map_types.specs.declared.kind.MapKind.{MapKind}
 use Rattle.map_types.specs.declared.kind.MapKind.TheVariants.{Hash, PercpuHash, LruHash, LruPercpuHash}
 use Rattle.map_types.specs.Kind.{is_lru}
 use Rattle.place_words.specs.declared.finals.Finals.{Finals}
-use Rattle.map_report.specs.EachOnce.{EachOnce, elements_of, in_buckets, on_freelists}
+use Rattle.map_report.specs.EachOnce.{EachOnce, elements_of}
 use Rattle.place_words.specs.Shares.{share_first, share_count}
 use Rattle.map_report.specs.Freelists.{opening_stack, opening_stacks, stack_at, ring, first_not_empty, popped_at, popped, spares_popped}
 use Rattle.map_report.specs.Serial.{has_spares, spare_count, opening}
 use Rattle.map_report.specs.Soundness.{HasLists}
+use Rattle.map_report.proofs.EachAtRest.{each_once_from}
 use Rattle.map_run.proofs.EachOnceSteps.{permutes_same, numbers, IsPop, popped_is, none_there}
 use Rattle.place_words.proofs.Splits.{find_misses}
+use Rattle.place_words.proofs.OpeningSettled.{share_all}
 
 -- Each once, by the lists alone
-
-pub each_once_from : (n : ℕ) (lists : Finals) → IsPermutation (range_with_len 0 n) (elements_of lists) → EachOnce n lists
-each_once_from n lists permutes =
-    let long : length (elements_of lists) ≡ length (range_with_len 0 n) = length_permutation (range_with_len 0 n) (elements_of lists) permutes in
-    let parts : length (elements_of lists) ≡ length (in_buckets lists) + length (on_freelists lists) + length lists.spares =
-    length-append (in_buckets lists ++ on_freelists lists) lists.spares ∙ ap (λ k. k + length lists.spares) (length-append (in_buckets lists) (on_freelists lists)) in
-    record { each = permutes; total = sym parts ∙ long ∙ length-range_with_len 0 n }
 
 pub each_once_moved : (n : ℕ) (before after : Finals) → EachOnce n before → IsPermutation (elements_of before) (elements_of after) → EachOnce n after
 each_once_moved n before after once moved =
@@ -83,12 +78,6 @@ share_next elements cpus c =
       | inr past ↦ rw (le-ltb c (elements % cpus) past) (omega arith)
     ]
 
-pub share_all : (elements cpus : ℕ) → 1 ≤ cpus → share_first elements cpus cpus ≡ elements
-share_all elements cpus some =
-    let parts = div-add-mod elements cpus in
-    let below : elements % cpus < cpus = omega arith in
-    omega arith
-
 pub share_none : (elements cpus : ℕ) → share_first elements cpus 0 ≡ 0
 share_none elements cpus = let none = zero-mul (elements / cpus) in omega arith
 
@@ -119,7 +108,7 @@ option_map_none : {A B : Type 0} (f : A → B) (found : Option A) → option_map
 option_map_none f None none = refl
 option_map_none f (Some x) none = absurd (none-some (f x) (sym none))
 
-ring_whole : (n : ℕ) → ring 0 n ≡ range_with_len 0 n
+pub ring_whole : (n : ℕ) → ring 0 n ≡ range_with_len 0 n
 ring_whole n = append-nil (range_with_len 0 (n - 0)) ∙ ap (range_with_len 0) (let same : n - 0 ≡ n = omega arith in same)
 
 abbrev not_empty_at : List (List ℕ) → ℕ → Bool

@@ -23,10 +23,10 @@ use Rattle.map_script.specs.declared.script.Script.{Script}
 use Rattle.map_script.specs.Grammar.{lookup_places, update_places, delete_places, take_places, next_places, batch_read_places, pairs_to_end, keys_to_end, batch_update_places, batch_delete_places, verb_line, call_on, call_line, reply_bytes, map_line, version_line}
 use Rattle.map_script.specs.Lines.{Line, is_line_feed, is_blank, is_hash, is_allowed, before_comment, tokens_of, said_by, is_nothing, numbered, lines_of, end_number}
 use Rattle.map_script.specs.Places.{◌>>=◌, Tokens, at_end, number, cpu, bytes_in, bytes}
-use Rattle.map_script.specs.Reading.{or_fault, of_line, at_line, or_create, call_within, calls_of, spec_of, script_of, body_of, map_of, version_of, read_as}
+use Rattle.map_script.specs.Reading.{of_line, at_line, or_create, call_within, calls_of, spec_of, script_of, body_of, map_of, version_of, read_as}
 use Rattle.map_script.proofs.CallLines.{within_has}
 use Rattle.map_script.proofs.PlaceLemmas.{step_found, chosen, same_ok}
-use Rattle.map_script.proofs.WellFormedLemmas.{IsWellFormed-read_as}
+use Rattle.map_script.proofs.WellFormedLemmas.{IsWellFormed-read_as, at_found}
 use Rattle.workload_gen.specs.Draws.{draw}
 use Rattle.workload_gen.specs.Generated.{update_of, lookup_of, delete_of, round_verb, round_call, drawn_verb, drawn_call, call_of, calls_generated, generated_script}
 use Rattle.map_run.specs.Served.{entry_count, HasFewEntries, IsScript}
@@ -215,10 +215,6 @@ lines_short text =
     kept_short (length text) (λ line. not (is_nothing line.says)) (numbered 1 (slice_split is_line_feed text)) (numbered_short (length text) 1 (slice_split is_line_feed text) (parts_short is_line_feed text))
 
 -- Scripts
-
-at_found : {A : Type 0} (number : ℕ) (read : Result A Cause) (x : A) → or_fault number read ≡ Ok x → read ≡ Ok x
-at_found number (Ok found) x is = cc
-at_found number (Err cause) x is = absurd cc
 
 module _ (n : ℕ) where
   abbrev IsFew : Call → Type 0

@@ -10,7 +10,8 @@ use Rattle.map_types.specs.declared.reply.Reply.{Reply}
 use Rattle.map_types.specs.Stored.{Stored}
 use Rattle.place_words.specs.declared.history.StrandStep.{StrandStep}
 use Rattle.map_types.specs.ElementLists.{put}
-use Rattle.place_core.proofs.ElementLemmas.{by_test, put_here, put_else}
+use Rattle.map_types.proofs.RowLemmas.{by_test}
+use Rattle.place_core.proofs.ElementLemmas.{put_here, put_else}
 use Rattle.place_table.specs.declared.view.Turned.{Turned}
 use Rattle.place_table.specs.declared.view.WordStep.{WordStep}
 use Rattle.place_table.specs.declared.view.Ended.{Ended}

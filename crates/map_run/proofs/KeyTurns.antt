@@ -35,11 +35,14 @@ use Rattle.map_report.specs.Buckets.{bucket_of_key, with_in_place}
 use Rattle.map_report.specs.Freelists.{stack_at, first_not_empty, popped_at, popped, pushed}
 use Rattle.map_report.specs.Serial.{has_spares, bucket_at, value_or_absent, new_stored, replaced, written, added, updated, deleted, after_call}
 use Rattle.place_words.proofs.DoneLaws.{IsKeyVerb}
+use Rattle.place_words.specs.Logs.{got_by}
+use Rattle.place_words.proofs.PlacedContents.{after_both}
 use Rattle.map_report.specs.Soundness.{IsSound}
-use Rattle.map_report.specs.Turns.{content_under, spare_at, pop_turns, got_of, put_popped, update_turns, call_turns}
+use Rattle.map_report.specs.Turns.{content_under, spare_at, pop_turns, put_popped, update_turns, call_turns}
 use Rattle.map_run.proofs.EachOnceRun.{bucket_within, spares_unless_percpu}
 use Rattle.map_run.proofs.RingTurns.{lists_popped, pop_traced, none_traced, pop_allowed, pop_leaves, pop_spare}
-use Rattle.map_run.proofs.TurnSteps.{after_more, allowed_more, spare_more, bucket_leaves, bucket_stays, freelist_leaves}
+use Rattle.map_run.proofs.TurnSteps.{allowed_more, bucket_leaves, bucket_stays, freelist_leaves}
+use Rattle.bucket_walks.proofs.TakenOn.{spare_append}
 
 -- Tests and spares
 
@@ -118,8 +121,8 @@ module _ (shape : Shape) (cpu : ℕ) (lists : Finals) where
     trace = trace;
     allowed = allowed_more shape cpu (content_under lists) looks (on_bucket_of shape key part ∷ []) looks_allowed
         (subst (λ contents. AreAllowed shape cpu contents (on_bucket_of shape key part ∷ [])) (sym looked) (allowed, tt));
-    leaves = after_more shape cpu (content_under lists) looks (on_bucket_of shape key part ∷ []) ∙ ap (λ contents. after_turn shape cpu contents (on_bucket_of shape key part)) looked ∙ left;
-    spare = spare_more (spare_at lists cpu) looks (on_bucket_of shape key part ∷ []) ∙ spare;
+    leaves = after_both shape cpu (content_under lists) looks (on_bucket_of shape key part ∷ []) ∙ ap (λ contents. after_turn shape cpu contents (on_bucket_of shape key part)) looked ∙ left;
+    spare = spare_append (spare_at lists cpu) looks (on_bucket_of shape key part ∷ []) ∙ spare;
     other_spares = others;
   }
 
@@ -148,11 +151,11 @@ module _ (shape : Shape) (cpu : ℕ) (lists : Finals) where
       (bucket_leaves shape cpu (record lists { freelists = stacks }) key part (without_key key (bucket_at shape lists key)) here leaves) spare (λ other apart. refl)
 
   -- a lookup
-  lookup_replies : (side : Side) (found : Option Stored) → value_or_absent shape side cpu found ≡ reply_of_got (got_of shape side cpu found)
+  lookup_replies : (side : Side) (found : Option Stored) → value_or_absent shape side cpu found ≡ reply_of_got (got_by shape side cpu found)
   lookup_replies side None = refl
   lookup_replies side (Some old) = refl
 
-  lookup_allowed : (side : Side) (key : List ℕ) (bucket : List Stored) (found : Option Stored) → present key bucket ≡ found → AllowsInBucket shape cpu (Lookup side key (got_of shape side cpu found)) bucket
+  lookup_allowed : (side : Side) (key : List ℕ) (bucket : List Stored) (found : Option Stored) → present key bucket ≡ found → AllowsInBucket shape cpu (Lookup side key (got_by shape side cpu found)) bucket
   unfolding AllowsInBucket
   lookup_allowed side key bucket None is = is
   lookup_allowed side key bucket (Some old) is = present_with key bucket old _ is (refl, refl)
@@ -162,9 +165,9 @@ module _ (shape : Shape) (cpu : ℕ) (lists : Finals) where
   unfolding call_turns after_call bucket_after
   lookup_does side key =
       let found = present key (bucket_at shape lists key) in
-      let part = Lookup side key (got_of shape side cpu found) in
+      let part = Lookup side key (got_by shape side cpu found) in
       stays_does (verbs.Lookup side key) (value_or_absent shape side cpu found) key part
-      (record { got = got_of shape side cpu found; turns_are = refl; reply_is = lookup_replies side found })
+      (record { got = got_by shape side cpu found; turns_are = refl; reply_is = lookup_replies side found })
       (lookup_allowed side key (bucket_at shape lists key) found refl) refl refl
 
   -- a delete
@@ -185,7 +188,7 @@ module _ (shape : Shape) (cpu : ℕ) (lists : Finals) where
 
   -- a take
   take_found : (key : List ℕ) (found : Option Stored) → present key (bucket_at shape lists key) ≡ found → bucket_of_key shape key < length lists.buckets → cpu < length lists.freelists
-      → Does shape cpu (verbs.Take key) lists (pushes cpu (element_gone (got_of shape Sys cpu found)) ++ on_bucket_of shape key (Take key (got_of shape Sys cpu found)) ∷ [])
+      → Does shape cpu (verbs.Take key) lists (pushes cpu (element_gone (got_by shape Sys cpu found)) ++ on_bucket_of shape key (Take key (got_by shape Sys cpu found)) ∷ [])
       (deleted shape cpu key lists (value_or_absent shape Sys cpu found) found)
   unfolding AllowsInBucket bucket_after
   take_found key None is here within =

@@ -17,11 +17,13 @@ use Rattle.place_words.specs.Locks.{is_lock, is_same_lock}
 use Rattle.place_words.specs.PlainTraces.{spare_after_bucket_part}
 use Rattle.place_words.specs.Traces.{Turn, on_freelist_of, after_turn, after_turns, spare_after_part, spare_after}
 use Rattle.place_words.specs.Turns.{on_lock}
+use Rattle.place_words.proofs.PlacedContents.{after_both}
 use Rattle.map_report.specs.Freelists.{stack_at, pushed}
 use Rattle.map_report.specs.Serial.{in_bucket_at, all_pushed}
 use Rattle.map_report.specs.Turns.{content_under, spare_at}
 use Rattle.map_run.proofs.TurnLocks.{OnLock, OnLocks, all_append}
-use Rattle.map_run.proofs.TurnSteps.{after_more, spare_more, with_content, after_is, after_same, lies_bucket, freelist_leaves}
+use Rattle.map_run.proofs.TurnSteps.{with_content, after_is, after_same, lies_bucket, freelist_leaves}
+use Rattle.bucket_walks.proofs.TakenOn.{spare_append}
 
 -- Turns of a CPU lead from lists to others: they are of locks of the map, they leave under each lock what lies there then, and
 -- they leave the CPU the spare that it has then. The other CPUs keep theirs.
@@ -46,9 +48,9 @@ module _ (shape : Shape) (cpu : ℕ) where
   leads_both first second lists middle after one two = record {
     on_locks = all_append (OnLock shape) first second one.on_locks two.on_locks;
     leaves = λ lock real.
-        ap (λ (contents : DomainId → Content). contents lock) (after_more shape cpu (content_under lists) first second)
+        ap (λ (contents : DomainId → Content). contents lock) (after_both shape cpu (content_under lists) first second)
         ∙ after_alike second (after_turns shape cpu (content_under lists) first) (content_under middle) lock (one.leaves lock real) ∙ two.leaves lock real;
-    spare = spare_more (spare_at lists cpu) first second ∙ ap (λ (s : Option ℕ). spare_after s second) one.spare ∙ two.spare;
+    spare = spare_append (spare_at lists cpu) first second ∙ ap (λ (s : Option ℕ). spare_after s second) one.spare ∙ two.spare;
     other_spares = λ other apart. two.other_spares other apart ∙ one.other_spares other apart;
   }
 

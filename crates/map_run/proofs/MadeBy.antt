@@ -5,6 +5,7 @@ use Rattle.std.specs.List.{flat_map}
 use Rattle.std.proofs.lemmas.List.Elements.{All-head, All-tail}
 use Rattle.map_types.specs.declared.attr.Shape.{Shape}
 use Rattle.map_types.specs.declared.kind.DomainId.{DomainId}
+use Rattle.map_types.proofs.RowLemmas.{by_test}
 use Rattle.place_words.specs.declared.history.Entry.{Entry}
 use Rattle.place_words.specs.declared.history.Part.{Part}
 use Rattle.place_words.specs.declared.history.Part.TheVariants as parts
@@ -15,11 +16,12 @@ use Rattle.place_words.specs.Locks.{is_same_lock, lock_named}
 use Rattle.place_words.specs.Logs.{State, turned, all_turned}
 use Rattle.place_words.specs.Rotation.{visited_elements}
 use Rattle.place_words.proofs.LockLemmas.{one_number, same_lock, other_lock}
-use Rattle.place_core.proofs.ElementLemmas.{at_put, by_test}
+use Rattle.place_core.proofs.ElementLemmas.{at_put}
 use Rattle.place_table.specs.declared.view.Turned.{Turned}
 use Rattle.place_table.specs.Calls.{reads_bit, sets_bit, clears_found, clears_bit, bits_of_part}
 use Rattle.place_table.specs.Known.{BitTouch, bit_then, bit_after_all, SeesBit, SeesOn, SeeOn, log_after, logs_after, FollowOn, turn_of, turn_at, IsBy}
 use Rattle.place_table.specs.Views.{place_of, kept_step}
+use Rattle.place_table.proofs.Going.{bit_append}
 use Rattle.map_report.specs.Runs.{steps_of_turns}
 use Rattle.map_run.proofs.BitsRead.{ReadBits, ReadsBits}
 use Rattle.map_run.proofs.TurnsMade.{FindBits, AreMade, EachTurn, cleared_both}
@@ -29,10 +31,6 @@ use Rattle.map_run.proofs.TurnsMade.{FindBits, AreMade, EachTurn, cleared_both}
 -- what is known of some elements
 abbrev pub BitsAre : ℕ → (ℕ → Option Bool) → (ℕ → Bool) → Type 0
 BitsAre n known bits = (e : ℕ) → e < n → known e ≡ Some (bits e)
-
-bits_both : (e : ℕ) (known : Option Bool) (first second : List BitTouch) → bit_after_all e known (first ++ second) ≡ bit_after_all e (bit_after_all e known first) second
-bits_both e known [] second = refl
-bits_both e known (touch ∷ touches) second = bits_both e (bit_then e known touch) touches second
 
 see_both : (e : ℕ) (known : Option Bool) (first second : List BitTouch) → SeeOn e known (first ++ second) → SeeOn e known first × SeeOn e (bit_after_all e known first) second
 see_both e known [] second see = (tt, see)
@@ -72,11 +70,11 @@ after_clears es e b = after_these clears_bit (λ x. x) false (λ x. refl) (λ x.
 
 -- after marks alone, and after clears alone
 after_only_marks : (es : List ℕ) (e : ℕ) (b : Bool) → bit_after_all e (Some b) ((map sets_bit es ++ map clears_found []) ++ map clears_bit []) ≡ Some (cond (among es e) true b)
-after_only_marks es e b = bits_both e (Some b) (map sets_bit es ++ []) [] ∙ bits_both e (Some b) (map sets_bit es) [] ∙ after_marks es e b
+after_only_marks es e b = bit_append e (Some b) (map sets_bit es ++ []) [] ∙ bit_append e (Some b) (map sets_bit es) [] ∙ after_marks es e b
 
 after_only_clears : (visits : List Visit) (es : List ℕ) (e : ℕ) (b : Bool) → bit_after_all e (Some b) (map clears_found visits ++ map clears_bit es) ≡ Some (cond (among (visited_elements visits ++ es) e) false b)
 after_only_clears visits es e b =
-    bits_both e (Some b) (map clears_found visits) (map clears_bit es)
+    bit_append e (Some b) (map clears_found visits) (map clears_bit es)
     ∙ ap (λ (o : Option Bool). bit_after_all e o (map clears_bit es)) (after_found visits e b)
     ∙ after_clears es e (cond (among (visited_elements visits) e) false b)
     ∙ ap Some (cleared_both e (visited_elements visits) es b)
@@ -97,7 +95,7 @@ reads_of visits es = ap (λ (l : List BitTouch). l ++ map clears_bit es) (append
 
 after_reads_and_clears : (visits : List Visit) (es : List ℕ) (e : ℕ) (b : Bool) → SeeOn e (Some b) (map reads_bit visits ++ map clears_bit es) → bit_after_all e (Some b) (map reads_bit visits ++ map clears_bit es) ≡ Some (cond (among es e) false b)
 after_reads_and_clears visits es e b see =
-    bits_both e (Some b) (map reads_bit visits) (map clears_bit es)
+    bit_append e (Some b) (map reads_bit visits) (map clears_bit es)
     ∙ ap (λ (o : Option Bool). bit_after_all e o (map clears_bit es)) (after_reads visits e b (see_both e (Some b) (map reads_bit visits) (map clears_bit es) see).0)
     ∙ after_clears es e b
 
@@ -219,6 +217,6 @@ module _ (shape : Shape) (cpu number : ℕ) where
         made = (record { there = follow.0.there; earlier = earlier; allowed = allowed; bits = part_finds shape part shape.elements known state.bits bits (λ e. (apart e).0) }, rest.made);
         read = (part_reads shape part shape.elements known state.bits bits (λ e. (apart e).0), rest.read);
         logs_are = rest.logs_are;
-        bits_are = λ e real. bits_both e (known e) (bits_of_part shape part) (touches_of steps) ∙ rest.bits_are e real;
+        bits_are = λ e real. bit_append e (known e) (bits_of_part shape part) (touches_of steps) ∙ rest.bits_are e real;
         steps_are = (λ i. record { lock = lock; index = length (earlier i) } ∷ rest.steps_are i);
       }

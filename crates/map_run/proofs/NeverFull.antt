@@ -16,6 +16,7 @@ use Rattle.map_types.specs.declared.reply.Reply.{Reply}
 use Rattle.map_types.specs.declared.reply.Reply.TheVariants.{Done, Value, Refused, Batch, Count}
 use Rattle.map_types.specs.Kind.{is_lru, is_percpu}
 use Rattle.map_types.specs.Stored.{Stored}
+use Rattle.map_types.specs.Replies.{error_of}
 use Rattle.key_hash.specs.Jhash.{hash}
 use Rattle.map_script.specs.declared.script.Script.{Script}
 use Rattle.place_words.specs.declared.bucket_part.BucketPart.TheVariants.{Walk}
@@ -28,13 +29,12 @@ use Rattle.place_words.specs.declared.history.Part.TheVariants as parts
 use Rattle.place_words.specs.Bodies.{first_key}
 use Rattle.place_words.specs.Logs.{State, new_state, all_turned, taken_out, bucket_at, present_in, acquired, Does, first_does, put_offered, put_alone, puts_in, offered, evicting_does, plain_does, got_by, key_does, first_or, firsts, found_next, goes_on, next_does, walked, after_walk, walks, read_does, counted_or, writes, write_does, does, after_one, answers}
 use Rattle.place_words.specs.PlainTraces.{reply_of_put, reply_of_got, reply_of_gone}
-use Rattle.place_words.specs.SerialOrder.{error_told}
 use Rattle.place_words.specs.Turns.{on_lock, bucket_of_key}
 use Rattle.place_words.specs.Walks.{buckets_from, stopped_at, pair_of, walked_out, refused_with, updates_of, deletes_of}
 use Rattle.map_report.specs.Runs.{serial}
 
 abbrev IsOther : Reply → Type 0
-IsOther reply = error_told reply ≢ Some E2big
+IsOther reply = error_of reply ≢ Some E2big
 
 got_other : (got : Option (ℕ × List ℕ)) → IsOther (reply_of_got got)
 got_other None = λ is. absurd cc
@@ -189,12 +189,12 @@ module _ (shape : Shape) (lru : is_lru shape.kind ≡ true) (cpu number : ℕ) w
   call_other state (verbs.BatchUpdate flags pairs) = write_other state flags (updates_of pairs)
   call_other state (verbs.BatchDelete flags keys) = write_other state flags (deletes_of keys)
 
-none_too_big : (shape : Shape) → is_lru shape.kind ≡ true → (number : ℕ) (calls : List Call) (state : State) → All (λ (reply : Reply). error_told reply ≢ Some E2big) (answers shape number calls state)
-none_too_big shape lru number [] state = All-nil (λ (reply : Reply). error_told reply ≢ Some E2big)
+none_too_big : (shape : Shape) → is_lru shape.kind ≡ true → (number : ℕ) (calls : List Call) (state : State) → All (λ (reply : Reply). error_of reply ≢ Some E2big) (answers shape number calls state)
+none_too_big shape lru number [] state = All-nil (λ (reply : Reply). error_of reply ≢ Some E2big)
 none_too_big shape lru number (call ∷ calls) state =
-    All-cons (λ (reply : Reply). error_told reply ≢ Some E2big) (does shape call.cpu number state call.verb).reply (answers shape (suc number) calls (after_one shape number call state)) (call_other shape lru call.cpu number state call.verb)
+    All-cons (λ (reply : Reply). error_of reply ≢ Some E2big) (does shape call.cpu number state call.verb).reply (answers shape (suc number) calls (after_one shape number call state)) (call_other shape lru call.cpu number state call.verb)
     (none_too_big shape lru (suc number) calls (after_one shape number call state))
 
-pub never_full : (script : Script) → is_lru script.shape.kind ≡ true → All (λ (reply : Reply). error_told reply ≢ Some E2big) (serial script).replies
+pub never_full : (script : Script) → is_lru script.shape.kind ≡ true → All (λ (reply : Reply). error_of reply ≢ Some E2big) (serial script).replies
 unfolding serial
 never_full script lru = none_too_big script.shape lru 1 script.calls (new_state script.shape)

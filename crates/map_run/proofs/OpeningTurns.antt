@@ -1,7 +1,7 @@
 -- A new map, as a serial run opens it and as histories begin: the same lies under each lock, and the spares are the same.
 -- The one takes the spares off the stacks one after another. The other takes the first elements of all stacks for spares,
 -- and leaves on each stack what is no spare.
-use Rattle.std.proofs.Common.{◌≡◌, ℕ, zero, suc, ◌+◌, ◌-◌, ◌<◌, ◌≤◌, Bool, true, false, not, cond, eqb, List, [], ◌∷◌, ◌++◌, length, map, take, drop, reverse, get_or, Option, Some, None, refl, ap, sym, ◌∙◌, arith, append-nil}
+use Rattle.std.proofs.Common.{◌≡◌, ℕ, zero, suc, ◌+◌, ◌-◌, ◌<◌, ◌≤◌, Bool, true, false, not, cond, eqb, List, [], ◌∷◌, ◌++◌, length, map, take, drop, reverse, get_or, Option, Some, None, refl, ap, sym, ◌∙◌, arith}
 use Rattle.std.specs.Prelude.{◌&&◌, nat_lt, IsTrue, find, filter, option_map, replicate, sum_by}
 use Rattle.std.specs.List.{concat, flat_map, range_with_len, position_from}
 use Rattle.std.proofs.lemmas.Bool.{and_parts, ltb-true, ne_eqb}
@@ -20,17 +20,18 @@ use Rattle.map_types.specs.Kind.{is_lru}
 use Rattle.map_types.specs.Shape.{HasBounds}
 use Rattle.map_types.specs.Stored.{Stored}
 use Rattle.map_types.specs.ElementLists.{one, times, IsIn}
+use Rattle.map_types.proofs.RowLemmas.{times_append, by_test}
 use Rattle.place_words.specs.Histories.{in_bucket, on_freelist, opening_content}
 use Rattle.place_words.specs.Locks.{is_lock}
 use Rattle.place_words.specs.Openings.{opening_stack, opening_spares, opening_owner, opening_free, spare_owner, is_free}
 use Rattle.place_words.specs.Shares.{share_first, share_count, pushed_from}
-use Rattle.place_core.proofs.ElementLemmas.{by_test, times_append, times_cons_same}
+use Rattle.place_core.proofs.ElementLemmas.{times_cons_same}
 use Rattle.place_table.proofs.FirstSlots.{no_local, not_common}
-use Rattle.map_report.specs.Freelists.{stack_at, ring, first_not_empty, popped_at, popped, spares_popped}
+use Rattle.map_report.specs.Freelists.{stack_at, first_not_empty, popped_at, popped, spares_popped}
 use Rattle.map_report.specs.Freelists as lists
 use Rattle.map_report.specs.Serial.{has_spares, opening}
 use Rattle.map_report.specs.Turns.{content_under}
-use Rattle.map_run.proofs.EachOnceOpening.{opening_stacks_permute}
+use Rattle.map_run.proofs.EachOnceOpening.{opening_stacks_permute, ring_whole}
 use Rattle.map_run.proofs.StackLemmas.{has_top, with_spare, spares_next, spares_end}
 
 -- Pops one after another
@@ -43,9 +44,6 @@ dropped n (stack ∷ stacks) = drop n stack ∷ dropped (n - length stack) stack
 -- these elements, and the stacks without them
 abbrev pub split_at : ℕ → List (List ℕ) → List ℕ × List (List ℕ)
 split_at n stacks = (take n (concat stacks), dropped n stacks)
-
-ring_from_0 : (n : ℕ) → ring 0 n ≡ range_with_len 0 n
-ring_from_0 n = append-nil (range_with_len 0 (n - 0)) ∙ ap (range_with_len 0) (let same : n - 0 ≡ n = omega arith in same)
 
 range_up : (a n : ℕ) → range_with_len (suc a) n ≡ map suc (range_with_len a n)
 range_up a zero = refl
@@ -65,10 +63,10 @@ find_up test (x ∷ xs) = by (test (suc x)) (find_up test xs)
 -- an empty stack in front is passed
 found_behind : (stacks : List (List ℕ)) → first_not_empty 0 ([] ∷ stacks) ≡ option_map suc (first_not_empty 0 stacks)
 found_behind stacks =
-    ap (find (has_top ([] ∷ stacks))) (ring_from_0 (length ([] ∷ stacks)))
+    ap (find (has_top ([] ∷ stacks))) (ring_whole (length ([] ∷ stacks)))
     ∙ (ap (find (has_top ([] ∷ stacks))) (range_up 0 (length stacks))
     ∙ (find_up (has_top ([] ∷ stacks)) (range_with_len 0 (length stacks))
-    ∙ ap (λ l. option_map suc (find (has_top stacks) l)) (sym (ring_from_0 (length stacks)))))
+    ∙ ap (λ l. option_map suc (find (has_top stacks) l)) (sym (ring_whole (length stacks)))))
 
 abbrev behind_empty : ℕ × List (List ℕ) → ℕ × List (List ℕ)
 behind_empty top = (top.0, [] ∷ top.1)
@@ -84,7 +82,7 @@ popped_behind stacks = ap (option_map (popped_at ([] ∷ stacks))) (found_behind
 popped_first : (x : ℕ) (xs : List ℕ) (stacks : List (List ℕ)) → popped 0 ((x ∷ xs) ∷ stacks) ≡ Some (x, xs ∷ stacks)
 popped_first x xs stacks =
     let all : List (List ℕ) = (x ∷ xs) ∷ stacks in
-    ap (λ l. option_map (popped_at all) (find (has_top all) l)) (ring_from_0 (length all))
+    ap (λ l. option_map (popped_at all) (find (has_top all) l)) (ring_whole (length all))
     ∙ ap (λ b. option_map (popped_at all) (cond (not b) (Some 0) (find (has_top all) (range_with_len 1 (length stacks))))) (ne_eqb (suc (length xs)) 0 (λ is. omega arith))
 
 abbrev with_empty : List ℕ × List (List ℕ) → List ℕ × List (List ℕ)

@@ -19,8 +19,8 @@ use Rattle.place_words.specs.Turns.{TurnAt, turns_of}
 use Rattle.place_words.specs.Walks.{spare_left}
 use Rattle.place_words.proofs.Balances.{trace_balances}
 use Rattle.place_words.proofs.PlainLaws.{plain_spare}
-use Rattle.place_core.proofs.ElementLemmas.{by_test, put_here}
-use Rattle.map_types.proofs.RowLemmas.{eqb_turned}
+use Rattle.place_core.proofs.ElementLemmas.{put_here}
+use Rattle.map_types.proofs.RowLemmas.{eqb_turned, by_test}
 use Rattle.place_table.specs.declared.view.Turned.{Turned}
 use Rattle.place_table.specs.Known.{turn_at, IsBy}
 use Rattle.place_table.specs.Rules.{StandsIn}
@@ -28,10 +28,10 @@ use Rattle.place_table.proofs.Stands.{entry_is, earlier_is}
 use Rattle.map_report.specs.Record.{MayAnswer, EachAnswered, has_cpu, entries_of, IsConcatenation}
 use Rattle.map_run.specs.Served.{IsServedCall}
 use Rattle.map_run.specs.Work.{replies_of, IsCallBy, AreCallsBy}
-use Rattle.map_run.proofs.Closing.{IsReal}
 use Rattle.map_run.proofs.HistoryTurns.{by_bool, matched}
 use Rattle.map_run.proofs.RaceKept.{steps_of}
 use Rattle.map_run.proofs.TurnLocks.{all_parts}
+use Rattle.map_run.specs.ByLogs.{IsOfMap}
 
 -- The first of some calls
 
@@ -68,14 +68,14 @@ module _ (shape : Shape) (cpu : ℕ) where
 module _ (shape : Shape) (cpu : ℕ) where
   -- the turns of a CPU's calls are on locks of the map
   pub calls_real : (calls : List Call) (replies : List Reply) (number : ℕ) (spare last : Option ℕ) (steps : List Turned) → length replies ≡ length calls
-      → AreCallsBy shape cpu number calls spare last (replies_of cpu calls replies) steps → All (IsReal shape) steps
-  calls_real [] replies number spare last steps count are = subst (All (IsReal shape)) (sym are.1) (All-nil (IsReal shape))
+      → AreCallsBy shape cpu number calls spare last (replies_of cpu calls replies) steps → All (IsOfMap shape) steps
+  calls_real [] replies number spare last steps count are = subst (All (IsOfMap shape)) (sym are.1) (All-nil (IsOfMap shape))
   calls_real (call ∷ calls) [] number spare last steps count are = absurd (omega arith)
   calls_real (call ∷ calls) (reply ∷ replies) number spare last steps count are =
-      first_call shape cpu (All (IsReal shape) steps) number call calls spare last reply replies steps are
+      first_call shape cpu (All (IsOfMap shape) steps) number call calls spare last reply replies steps are
       (λ is mine rest split made more.
-      subst (All (IsReal shape)) (sym split)
-      (All-append (IsReal shape) mine rest made.of_map (calls_real calls replies (suc number) (spare_left shape spare (map (turn_at shape) mine)) last rest (omega arith) more)))
+      subst (All (IsOfMap shape)) (sym split)
+      (All-append (IsOfMap shape) mine rest made.of_map (calls_real calls replies (suc number) (spare_left shape spare (map (turn_at shape) mine)) last rest (omega arith) more)))
       (λ is more. calls_real calls replies (suc number) spare last steps (omega arith) more)
 
 -- a call leaves a CPU without a spare without one

@@ -19,6 +19,7 @@ use Rattle.place_words.specs.declared.owner.Owner.{Owner}
 use Rattle.place_words.specs.declared.owner.Owner.TheVariants as owners
 use Rattle.place_words.specs.Bodies.{numbers}
 use Rattle.map_types.specs.ElementLists.{one, times}
+use Rattle.map_types.proofs.RowLemmas.{times_append}
 use Rattle.place_words.specs.Histories as histories
 use Rattle.place_words.specs.Histories.{content}
 use Rattle.place_words.specs.Locks.{is_lock, lock_named, lock_number, first_freelist}
@@ -27,7 +28,6 @@ use Rattle.place_words.proofs.LockLemmas.{named_by_number, number_of_named, numb
 use Rattle.place_core.specs.declared.step.Lists.{Lists}
 use Rattle.place_core.specs.Places.{ElementPlace, under_lock, carried, lies_at, is_in_bucket, MayLie, MayLieUnder, MayOwn}
 use Rattle.place_core.specs.Totals.{sum_below}
-use Rattle.place_core.proofs.ElementLemmas.{times_append}
 use Rattle.place_core.proofs.TotalLemmas.{sum_same, sum_zero, sum_hit, bucket_list}
 use Rattle.place_table.specs.Closing.{ClosedView, IsClosed}
 use Rattle.place_table.specs.Contents.{lists_of}
@@ -39,8 +39,8 @@ use Rattle.place_table.proofs.MapLeft as map_left
 use Rattle.map_report.specs.EachOnce.{elements_of, in_buckets, on_freelists}
 use Rattle.map_report.specs.Record.{Ascend, HasElements}
 use Rattle.map_report.specs.Serial.{has_spares, spare_count}
+use Rattle.map_report.proofs.EachAtRest.{each_once_from}
 use Rattle.map_run.proofs.Closing.{number_in, few_spares}
-use Rattle.map_run.proofs.EachOnceOpening.{each_once_from}
 use Rattle.map_run.proofs.HistoryTurns.{by_bool}
 use Rattle.map_run.proofs.TurnLocks.{range_below}
 use Rattle.map_run.proofs.RaceLists.{made_there, counts_permute, times_range, times_past, times_flat_map, times_concat, times_made}

@@ -5,21 +5,22 @@ use Rattle.std.specs.List.{AllByRecursion, range_with_len}
 use Rattle.std.proofs.lemmas.List.Elements.{All-from_recursion}
 use Rattle.map_types.specs.declared.attr.Shape.{Shape}
 use Rattle.map_types.specs.declared.kind.DomainId.{DomainId}
+use Rattle.map_types.proofs.RowLemmas.{by_test}
 use Rattle.place_words.specs.declared.history.Entry.{Entry}
 use Rattle.place_words.specs.declared.history.LockHistory.{LockHistory}
 use Rattle.place_words.specs.Histories.{IsLegal}
 use Rattle.place_words.specs.Locks.{is_lock, is_same_lock, lock_named, lock_number, lock_count}
 use Rattle.place_words.proofs.LockLemmas.{named_by_number, number_within}
-use Rattle.place_core.proofs.ElementLemmas.{by_test}
 use Rattle.place_table.specs.declared.view.Turned.{Turned}
 use Rattle.place_table.specs.Closing.{ClosedView, IsClosed, has_lock, all_locks, history_of}
 use Rattle.place_table.specs.Passes.{PassView}
 use Rattle.place_table.specs.Rules.{StandsIn, StandIn}
 use Rattle.map_report.specs.Record.{entries_of, locks_of}
-use Rattle.map_run.proofs.Closing.{IsReal, made_of_all, same_number}
+use Rattle.map_run.proofs.Closing.{made_of_all, same_number}
 use Rattle.map_run.proofs.HistoryTurns.{by_bool}
 use Rattle.map_run.proofs.RaceCalls.{StandsThere}
 use Rattle.map_run.proofs.Whole.{none_lost}
+use Rattle.map_run.specs.ByLogs.{IsOfMap}
 
 -- The history of a lock among those of all locks
 
@@ -84,7 +85,7 @@ module _ (shape : Shape) (p : PassView) (closed : ClosedView) (ends : IsClosed s
       (λ k. All-from_recursion (λ (entry : Entry). entry.cpu < shape.cpus) (ends.log k) (all_standing (λ (entry : Entry). entry.cpu < shape.cpus) (ends.log k) (holds k))) (all_locks shape)))
 
   -- the turns of a strand stand in the histories, where each is on a lock of the map
-  pub turns_stand : (steps : List Turned) → AllByRecursion (IsReal shape) steps → StandIn ends.log steps → AllByRecursion (StandsThere shape closed.histories) steps
+  pub turns_stand : (steps : List Turned) → AllByRecursion (IsOfMap shape) steps → StandIn ends.log steps → AllByRecursion (StandsThere shape closed.histories) steps
   turns_stand [] real stand = tt
   turns_stand (step ∷ steps) real stand = (
     subst (λ (l : List Entry). StandsIn l step) (sym (entries_at step.lock real.0.0 real.0.1)) stand.0,

@@ -5,11 +5,11 @@ use Rattle.std.specs.List.{range_with_len}
 use Rattle.std.proofs.lemmas.Bool.{cases_eq, ne_eqb, eq-eqb}
 use Rattle.map_types.specs.declared.attr.Shape.{Shape}
 use Rattle.map_types.specs.Shape.{HasBounds}
+use Rattle.map_types.proofs.RowLemmas.{by_test}
 use Rattle.place_words.specs.declared.history.Strand.{Strand}
 use Rattle.place_words.specs.declared.history.StrandStep.{StrandStep}
 use Rattle.place_words.specs.Locks.{is_lock, lock_named, lock_count}
 use Rattle.place_words.specs.Strands.{places_on}
-use Rattle.place_core.proofs.ElementLemmas.{by_test}
 use Rattle.place_table.specs.declared.view.Ended.{Ended}
 use Rattle.place_table.specs.declared.view.Turned.{Turned}
 use Rattle.place_table.specs.declared.view.WordStep.{WordStep}
@@ -19,11 +19,12 @@ use Rattle.place_table.specs.Rules.{turns_on, indexes}
 use Rattle.place_table.specs.Views.{is_among, is_recorded, all_strands, place_of, kept_step}
 use Rattle.map_run.specs.Copies.{has_step}
 use Rattle.map_run.specs.Work.{has_turn, strand_of_cpu}
-use Rattle.map_run.proofs.Closing.{IsReal, kept_all, length_indexes, same_number}
+use Rattle.map_run.proofs.Closing.{kept_all, length_indexes, same_number}
 use Rattle.map_run.proofs.HistoryTurns.{by_bool}
 use Rattle.map_run.proofs.RaceLists.{filter_through, made_same, one_passes}
 use Rattle.map_run.proofs.RaceStrands.{worker, no_turn, worker_stands}
 use Rattle.map_run.proofs.Whole.{none_lost, strands_are_told}
+use Rattle.map_run.specs.ByLogs.{IsOfMap}
 
 -- turns as steps that name their places
 abbrev pub steps_of : Shape → List Turned → List StrandStep
@@ -127,7 +128,7 @@ module _ (shape : Shape) (p : PassView) (closed : ClosedView) (ends : IsClosed s
       ∙ told_by_cpu shape steps kept touched 0 shape.cpus (omega arith)
 
   -- every turn of a CPU is recorded
-  pub kept_is : (cpu : ℕ) → cpu < shape.cpus → IsKeptOf shape (steps cpu) [] (kept cpu) → All (IsReal shape) (steps cpu) → kept cpu ≡ steps_of shape (steps cpu)
+  pub kept_is : (cpu : ℕ) → cpu < shape.cpus → IsKeptOf shape (steps cpu) [] (kept cpu) → All (IsOfMap shape) (steps cpu) → kept cpu ≡ steps_of shape (steps cpu)
   kept_is cpu real is_kept on_locks =
       kept_all shape (steps cpu) [] (kept cpu) is_kept on_locks
       (λ k below there.

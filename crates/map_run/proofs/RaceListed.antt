@@ -10,6 +10,7 @@ use Rattle.map_types.specs.declared.kind.DomainId.TheVariants.{Local, Global, Cp
 use Rattle.map_types.specs.ElementLists.{one, times}
 use Rattle.map_types.specs.Kind.{is_lru}
 use Rattle.map_types.specs.Listed.{elements_of}
+use Rattle.map_types.proofs.RowLemmas.{times_append}
 use Rattle.place_words.specs.declared.finals.Finals.{Finals}
 use Rattle.place_words.specs.declared.owner.Owner.{Owner}
 use Rattle.place_words.specs.declared.owner.Owner.TheVariants as owners
@@ -27,7 +28,6 @@ use Rattle.place_core.specs.declared.step.Lists.{Lists}
 use Rattle.place_core.specs.Places.{ElementPlace, under_lock, carried, lies_at, is_in_bucket, has_row, MayLie, MayLieUnder, MayOwn}
 use Rattle.place_core.specs.State.{rows}
 use Rattle.place_core.specs.Totals.{sum_below}
-use Rattle.place_core.proofs.ElementLemmas.{times_append}
 use Rattle.place_core.proofs.TotalLemmas.{sum_zero, sum_hit}
 use Rattle.place_table.specs.Closing.{ClosedView, IsClosed, state_left}
 use Rattle.place_table.specs.Contents.{lists_of}

@@ -7,8 +7,9 @@ use Rattle.std.proofs.lemmas.List.FromFn.{length-map-range_with_len, get_or-map-
 use Rattle.std.proofs.lemmas.List.Sorted.{IsPermutation-refl, IsPermutation-trans, IsPermutation-cons, IsPermutation-middle, IsPermutation-sym}
 use Rattle.std.proofs.lemmas.Option.{none-some, same_Some, slice_get-get_or, slice_get_within, get_or_from_slice_get}
 use Rattle.map_types.specs.ElementLists.{one, times}
+use Rattle.map_types.proofs.RowLemmas.{times_append, by_test}
 use Rattle.place_core.specs.Totals.{sum_below}
-use Rattle.place_core.proofs.ElementLemmas.{by_test, times_append, times_cons_same}
+use Rattle.place_core.proofs.ElementLemmas.{times_cons_same}
 use Rattle.place_core.proofs.TotalLemmas.{sum_same}
 use Rattle.map_run.proofs.HistoryTurns.{by_bool}
 use Rattle.map_run.proofs.Whole.{none_pass}

@@ -36,7 +36,6 @@ use Rattle.map_run.specs.Copies.{has_step, IsCopyOf}
 use Rattle.map_run.specs.Served.{IsServedCall, IsServed}
 use Rattle.map_run.specs.Work.{has_turn, replies_of, AreCallsBy, HaveRaced, strand_of_cpu, race_left, IsRaceRecord}
 use Rattle.map_run.proofs.AnyRecord.{evicting_none}
-use Rattle.map_run.proofs.Closing.{IsReal}
 use Rattle.map_run.proofs.HistoryTurns.{by_bool}
 use Rattle.map_run.proofs.OpeningTurns.{no_opening_spares}
 use Rattle.map_run.proofs.RaceCalls.{StandsThere, calls_real, calls_spare, concatenation, each_call_answered}
@@ -48,6 +47,7 @@ use Rattle.map_run.proofs.RaceLists.{made_at, one_passes}
 use Rattle.map_run.proofs.RaceStrands.{worker, is_of, places_are, no_turn, worker_stands, owner, turns_of_cpu}
 use Rattle.map_run.proofs.SerialRun.{element_is}
 use Rattle.map_run.proofs.Whole.{no_losses}
+use Rattle.map_run.specs.ByLogs.{IsOfMap}
 
 no_spare : (spare : Option Stored) → element_of spare ≡ None → spare ≡ None
 no_spare None none = refl
@@ -83,7 +83,7 @@ module _ (script : Script) (t : TableView) (p : PassView) (replies : List Reply)
   calls_of : (cpu : ℕ) → cpu < shape.cpus → AreCallsBy shape cpu 1 script.calls (spare_at (opening shape) cpu) (element_of (spare_of cpu p.spares)) (replies_of cpu script.calls replies) (raced.steps cpu)
   calls_of = raced.calls_are (no_losses shape p closed ends whole)
 
-  on_locks : (cpu : ℕ) → cpu < shape.cpus → All (IsReal shape) (raced.steps cpu)
+  on_locks : (cpu : ℕ) → cpu < shape.cpus → All (IsOfMap shape) (raced.steps cpu)
   on_locks cpu real =
       calls_real shape cpu script.calls replies 1 (spare_at (opening shape) cpu) (element_of (spare_of cpu p.spares)) (raced.steps cpu) raced.counted (calls_of cpu real)
 
@@ -144,7 +144,7 @@ module _ (script : Script) (t : TableView) (p : PassView) (replies : List Reply)
       refl
 
   stand : (cpu : ℕ) → cpu < shape.cpus → AllByRecursion (StandsThere shape closed.histories) (raced.steps cpu)
-  stand cpu real = turns_stand shape p closed ends whole (raced.steps cpu) (recursion_from_All (IsReal shape) (raced.steps cpu) (on_locks cpu real)) (stand_in cpu real)
+  stand cpu real = turns_stand shape p closed ends whole (raced.steps cpu) (recursion_from_All (IsOfMap shape) (raced.steps cpu) (on_locks cpu real)) (stand_in cpu real)
 
   answered : EachAnswered shape script.calls replies
   answered = each_call_answered shape script.calls replies 1 (λ cpu. element_of (spare_of cpu p.spares)) raced.counted calls_served (λ cpu real. (spare_at (opening shape) cpu, raced.steps cpu, calls_of cpu real))

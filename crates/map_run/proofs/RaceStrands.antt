@@ -6,7 +6,6 @@ use Rattle.std.proofs.lemmas.Bool.{cases_eq, ne_eqb, eq-eqb}
 use Rattle.std.proofs.lemmas.Option.{same_Some, slice_get_within}
 use Rattle.place_words.specs.declared.history.Entry.{Entry}
 use Rattle.place_words.specs.declared.history.StrandStep.{StrandStep}
-use Rattle.place_core.proofs.ElementLemmas.{by_test}
 use Rattle.place_table.specs.declared.view.Ended.{Ended}
 use Rattle.place_table.specs.declared.view.Turned.{Turned}
 use Rattle.place_table.specs.declared.view.WordStep.{WordStep}
@@ -17,6 +16,7 @@ use Rattle.map_report.specs.Record.{has_cpu, places_by}
 use Rattle.map_run.specs.Work.{has_turn}
 use Rattle.map_run.proofs.HistoryTurns.{by_bool}
 use Rattle.map_run.proofs.RaceLists.{stands, kept_stands, passing_kept, made_at, made_there}
+use Rattle.map_types.proofs.RowLemmas.{by_test}
 
 -- the strand of a worker
 abbrev pub worker : (ℕ → List Turned) → (ℕ → List StrandStep) → (ℕ → List WordStep) → ℕ → Ended

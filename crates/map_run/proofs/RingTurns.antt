@@ -9,16 +9,18 @@ use Rattle.map_types.specs.declared.kind.DomainId.{DomainId}
 use Rattle.map_types.specs.declared.kind.DomainId.TheVariants.{Freelist}
 use Rattle.place_words.specs.declared.finals.Finals.{Finals}
 use Rattle.place_words.specs.declared.free_part.FreePart.TheVariants.{Popped, FoundEmpty}
-use Rattle.place_words.specs.declared.history.Part.TheVariants as parts
 use Rattle.map_types.specs.ElementLists.{IsHead}
 use Rattle.place_words.specs.Freelists.{without_top}
-use Rattle.place_words.specs.Histories.{Content, in_bucket, on_freelist, in_locals, in_global, in_own, content_after}
+use Rattle.place_words.specs.Histories.{Content}
 use Rattle.place_words.specs.Traces.{Pops, ring, on_freelist_of, found_empty, after_turn, after_turns, AreAllowed, spare_after}
 use Rattle.place_words.proofs.Splits.{find_passes, find_splits}
+use Rattle.place_words.proofs.PlacedContents.{after_both}
 use Rattle.map_report.specs.Freelists.{stack_at, first_not_empty, popped_at}
 use Rattle.map_report.specs.Turns.{content_under, pop_turns}
 use Rattle.map_run.proofs.EachOnceSteps.{some_there, none_there, stack_within}
-use Rattle.map_run.proofs.TurnSteps.{after_more, allowed_more, spare_more, after_same, freelist_leaves}
+use Rattle.map_run.proofs.TurnSteps.{allowed_more, after_same, freelist_leaves}
+use Rattle.map_run.proofs.TurnLemmas.{empty_leaves}
+use Rattle.bucket_walks.proofs.TakenOn.{spare_append}
 
 -- What doesn't pass a test
 
@@ -48,17 +50,9 @@ all_fail test (x ∷ xs) none = by (test x) refl none (all_fail test xs)
 
 -- Empty freelists
 
--- what is found empty is left as it is
-empty_same : (shape : Shape) (cpu : ℕ) (content : Content) → content_after shape cpu (parts.Free FoundEmpty) content ≡ content
-empty_same shape cpu (in_bucket bodies) = refl
-empty_same shape cpu (on_freelist stack) = refl
-empty_same shape cpu (in_locals lists) = refl
-empty_same shape cpu (in_global set) = refl
-empty_same shape cpu (in_own set) = refl
-
 empty_stays : (shape : Shape) (cpu : ℕ) (contents : DomainId → Content) (owner : ℕ) → after_turn shape cpu contents (on_freelist_of owner FoundEmpty) ≡ contents
 empty_stays shape cpu contents owner =
-    after_same shape cpu contents (on_freelist_of owner FoundEmpty) (empty_same shape cpu (contents (Freelist owner)))
+    after_same shape cpu contents (on_freelist_of owner FoundEmpty) (empty_leaves shape cpu (contents (Freelist owner)))
 
 after_empty : (shape : Shape) (cpu : ℕ) (contents : DomainId → Content) (owners : List ℕ) → after_turns shape cpu contents (found_empty owners) ≡ contents
 after_empty shape cpu contents [] = refl
@@ -134,7 +128,7 @@ module _ (shape : Shape) (cpu : ℕ) (lists : Finals) where
       let passed : List ℕ = before_first (has_top lists.freelists) (ring cpu (length lists.freelists)) in
       let stack : List ℕ = stack_at lists.freelists giver in
       let last = on_freelist_of giver (Popped (get_or stack 0 0)) in
-      after_more shape cpu (content_under lists) (found_empty passed) (last ∷ [])
+      after_both shape cpu (content_under lists) (found_empty passed) (last ∷ [])
       ∙ ap (λ contents. after_turn shape cpu contents last) (after_empty shape cpu (content_under lists) passed)
       ∙ freelist_leaves shape cpu lists giver (Popped (get_or stack 0 0)) (drop 1 stack) (stack_within lists.freelists giver (giver_full giver is)) (rest_is stack)
 
@@ -143,4 +137,4 @@ module _ (shape : Shape) (cpu : ℕ) (lists : Finals) where
   pop_spare spare None = spare_empty spare (ring cpu (length lists.freelists))
   pop_spare spare (Some giver) =
       let passed : List ℕ = before_first (has_top lists.freelists) (ring cpu (length lists.freelists)) in
-      spare_more spare (found_empty passed) (on_freelist_of giver (Popped (get_or (stack_at lists.freelists giver) 0 0)) ∷ []) ∙ spare_empty spare passed
+      spare_append spare (found_empty passed) (on_freelist_of giver (Popped (get_or (stack_at lists.freelists giver) 0 0)) ∷ []) ∙ spare_empty spare passed

@@ -15,13 +15,14 @@ use Rattle.map_types.specs.Shape.{HasBounds}
 use Rattle.place_words.specs.declared.finals.Finals.{Finals}
 use Rattle.place_words.specs.declared.history.Entry.{Entry}
 use Rattle.map_types.specs.ElementLists.{put}
+use Rattle.map_types.proofs.RowLemmas.{by_test}
 use Rattle.place_words.specs.Histories.{Content, Allows, content, content_after, opening_content, replayed}
 use Rattle.place_words.specs.Locks.{is_lock, is_same_lock}
 use Rattle.place_words.specs.Logs.{State, Does, first_does, lies_in, turned, all_turned, key_does}
 use Rattle.place_words.specs.PlainTraces.{IsPlainTrace, spare_after_part, spare_after}
 use Rattle.place_words.specs.Turns.{Turn, after_turn, AreAllowed}
 use Rattle.place_words.proofs.DoneLaws.{IsKeyVerb, key_done}
-use Rattle.place_core.proofs.ElementLemmas.{by_test, put_here}
+use Rattle.place_core.proofs.ElementLemmas.{put_here}
 use Rattle.map_report.specs.Runs.{steps_of_turns}
 use Rattle.map_report.specs.Serial.{after_call, has_spares}
 use Rattle.map_report.specs.Soundness.{IsSound}

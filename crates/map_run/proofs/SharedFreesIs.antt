@@ -1,8 +1,8 @@
 -- On a map whose CPUs share lists, the turn that frees an element is determined where no push finds its element moved. A trace alone
 -- leaves two ways to free an element that a refill flushed: by the global lists, or by a push on local lists that finds it moved, and
 -- then by the global lists.
-use Rattle.std.proofs.Common.{◌≡◌, ◌⊎◌, ℕ, ◌<◌, ◌≤◌, Bool, true, false, List, [], ◌∷◌, ◌++◌, Option, None, Some, refl, ap, ◌∙◌, sym, subst, inl, inr, ⊎_elim, arith}
-use Rattle.std.specs.Prelude.{MatchBool, IsTrue, IsFalse, find, nat_lt}
+use Rattle.std.proofs.Common.{◌≡◌, ◌⊎◌, ℕ, ◌<◌, ◌≤◌, Bool, true, List, [], ◌∷◌, ◌++◌, Option, None, Some, refl, ap, ◌∙◌, sym, subst, inl, inr, ⊎_elim, arith}
+use Rattle.std.specs.Prelude.{IsTrue, IsFalse, find, nat_lt}
 use Rattle.std.specs.List.{range_with_len}
 use Rattle.std.proofs.lemmas.Bool.{both_ways, cases_eq, cond-true, ltb-true, and_parts, ne_eqb}
 use Rattle.map_types.specs.declared.attr.Shape.{Shape}
@@ -31,14 +31,11 @@ use Rattle.map_run.proofs.Decides.{Decides}
 use Rattle.map_run.proofs.LooksTold.{heads}
 use Rattle.map_run.proofs.SharedTakesIs.{takes_shared_is}
 use Rattle.map_run.proofs.TurnsMade.{AreMade, EachTurn, each_weaker}
+use Rattle.map_run.proofs.CallIs.{first_of}
 
 -- what is asked of each turn of a call where CPUs share lists, beside that it may be made there and tells what it clears
 abbrev pub TellsShared : Shape → State → Turn → Type 0
 TellsShared shape state turn = ReadsBits shape state turn × IsFalse (finds_moved_on turn.part)
-
-first_of : (b : Bool) (A B : Type 0) → b ≡ true → MatchBool b A B → A
-first_of true A B is it = it
-first_of false A B is it = absurd cc
 
 module _ (shape : Shape) (cpu number : ℕ) (state : State) (home e : ℕ) (hand : List ℕ) (shared : shape.common ≡ true) (settled : IsSettled shape (lies_in shape state) home (e ∷ hand)) where
   abbrev is_pending : ℕ → Bool

@@ -42,7 +42,7 @@ pub below_real : (n e : ℕ) (b : Bool) → nat_lt e n ≡ b → 1 ≤ one b →
 below_real n e true is there = ltb-true e n is
 below_real n e false is there = absurd (omega (arith, there))
 
-none_held : (b : Bool) → cond b 0 0 ≡ zero
+pub none_held : (b : Bool) → cond b 0 0 ≡ zero
 none_held true = refl
 none_held false = refl
 

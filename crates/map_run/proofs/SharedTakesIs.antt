@@ -1,7 +1,7 @@
 -- On a map whose CPUs share lists, the turns that take an element are determined by their trace and by the bits that they tell and
 -- read.
-use Rattle.std.proofs.Common.{◌≡◌, ◌⊎◌, ℕ, zero, ◌+◌, ◌<◌, ◌≤◌, Bool, true, false, cond, eqb, List, [], ◌∷◌, ◌++◌, map, reverse, Option, None, Some, refl, ap, ◌∙◌, sym, subst, inl, inr, arith}
-use Rattle.std.specs.Prelude.{MatchBool, MatchOption, nat_lt, unwrap_or, option_to_list}
+use Rattle.std.proofs.Common.{◌≡◌, ◌⊎◌, ℕ, ◌+◌, ◌<◌, ◌≤◌, Bool, true, eqb, List, [], ◌∷◌, ◌++◌, map, reverse, Option, None, Some, refl, ap, ◌∙◌, sym, subst, inl, inr, arith}
+use Rattle.std.specs.Prelude.{MatchOption, nat_lt, unwrap_or, option_to_list}
 use Rattle.std.proofs.lemmas.Bool.{cond-true}
 use Rattle.std.proofs.lemmas.List.{map-append}
 use Rattle.map_types.specs.declared.attr.Shape.{Shape}
@@ -38,16 +38,9 @@ use Rattle.map_run.proofs.ChasedIs.{probing, chase_there, may_there, told_there,
 use Rattle.map_run.proofs.Decides.{IsTakenAs}
 use Rattle.map_run.proofs.GlobalTurnIs.{global_turn_is}
 use Rattle.map_run.proofs.ProbesRemoved.{CanOnlyRemove}
-use Rattle.map_run.proofs.SharedRoundIs.{below_real, round_is}
+use Rattle.map_run.proofs.SharedRoundIs.{below_real, round_is, none_held}
 use Rattle.map_run.proofs.TurnsMade.{AreMade, made_both, made_allowed, EachTurn, each_both}
-
-none_held : (b : Bool) → cond b 0 0 ≡ zero
-none_held true = refl
-none_held false = refl
-
-first_of : (b : Bool) (A B : Type 0) → b ≡ true → MatchBool b A B → A
-first_of true A B is it = it
-first_of false A B is it = absurd cc
+use Rattle.map_run.proofs.CallIs.{first_of}
 
 module _ (shape : Shape) (cpu number key_hash : ℕ) (state : State) (shared : shape.common ≡ true) (within : cpu < shape.cpus) (settled : IsSettled shape (lies_in shape state) (bucket_number key_hash shape.buckets) []) where
   abbrev lists : LocalLists

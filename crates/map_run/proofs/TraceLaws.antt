@@ -27,7 +27,9 @@ use Rattle.place_words.specs.Buckets.{AllowsPut, AllowsInBucket, ReadsValue}
 use Rattle.place_words.specs.Histories.{Content, in_bucket, on_freelist, in_locals, in_global, in_own, Allows}
 use Rattle.place_words.specs.Traces.{Turn, bucket_of_key, ring, on_bucket_of, on_freelist_of, found_empty, Pops, pushes, reply_of_got, IsLookupTrace, LooksFor, reply_of_put, IsPutTrace, IsUpdateTrace, reply_of_gone, IsDeleteTrace, element_gone, IsTakeTrace, IsPlainTrace, after_turns, AreAllowed}
 use Rattle.place_words.proofs.Splits.{there}
-use Rattle.map_run.proofs.TurnLemmas.{allowed_both, after_both, after_empty, after_empty_one}
+use Rattle.place_words.proofs.PlacedContents.{after_both}
+use Rattle.place_words.proofs.DoneLaws.{after_empty as after_empty_one}
+use Rattle.map_run.proofs.TurnLemmas.{allowed_both, after_empty}
 
 -- The bucket's turn
 

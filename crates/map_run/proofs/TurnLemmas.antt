@@ -1,14 +1,12 @@
 -- Rows of turns: parts of a row, contents that are alike, and freelists that are found empty.
-use Rattle.std.proofs.Common.{◌≡◌, ℕ, Bool, true, false, cond, List, [], ◌∷◌, ◌++◌, refl, ap, ◌∙◌}
-use Rattle.std.proofs.Math.Path.{fun_ext}
+use Rattle.std.proofs.Common.{◌≡◌, ℕ, List, [], ◌∷◌, ◌++◌, refl, ap, ◌∙◌}
 use Rattle.map_types.specs.declared.attr.Shape.{Shape}
 use Rattle.map_types.specs.declared.kind.DomainId.{DomainId}
-use Rattle.map_types.specs.declared.kind.DomainId.TheVariants.{Freelist}
 use Rattle.place_words.specs.declared.free_part.FreePart.TheVariants.{FoundEmpty}
 use Rattle.place_words.specs.declared.history.Part.TheVariants as parts
 use Rattle.place_words.specs.Histories.{Content, in_bucket, on_freelist, in_locals, in_global, in_own, content_after}
-use Rattle.place_words.specs.Locks.{is_same_lock}
 use Rattle.place_words.specs.Traces.{Turn, on_freelist_of, found_empty, after_turn, after_turns, AreAllowed}
+use Rattle.place_words.proofs.DoneLaws.{after_empty as after_empty_one}
 
 -- Parts of a row
 
@@ -20,32 +18,17 @@ allowed_both shape cpu contents (turn ∷ first) second allowed =
     let later = allowed_both shape cpu (after_turn shape cpu contents turn) first second allowed.1 in
     ((allowed.0, later.0), later.1)
 
--- and what they leave is what the others leave after the first
-pub after_both : (shape : Shape) (cpu : ℕ) (contents : DomainId → Content) (first second : List Turn)
-    → after_turns shape cpu contents (first ++ second) ≡ after_turns shape cpu (after_turns shape cpu contents first) second
-after_both shape cpu contents [] second = refl
-after_both shape cpu contents (turn ∷ first) second = after_both shape cpu (after_turn shape cpu contents turn) first second
-
 -- Contents that are alike
 
 -- Freelists that are found empty
 
 -- such a turn leaves what lies there
-empty_leaves : (shape : Shape) (cpu : ℕ) (content : Content) → content_after shape cpu (parts.Free FoundEmpty) content ≡ content
+pub empty_leaves : (shape : Shape) (cpu : ℕ) (content : Content) → content_after shape cpu (parts.Free FoundEmpty) content ≡ content
 empty_leaves shape cpu (in_bucket bodies) = refl
 empty_leaves shape cpu (on_freelist stack) = refl
 empty_leaves shape cpu (in_locals lists) = refl
 empty_leaves shape cpu (in_global set) = refl
 empty_leaves shape cpu (in_own set) = refl
-
-either_same : (b : Bool) (x y : Content) → x ≡ y → cond b x y ≡ y
-either_same true x y same = same
-either_same false x y same = refl
-
-pub after_empty_one : (shape : Shape) (cpu giver : ℕ) (contents : DomainId → Content)
-    → after_turn shape cpu contents (on_freelist_of giver FoundEmpty) ≡ contents
-after_empty_one shape cpu giver contents =
-    fun_ext (λ lock. either_same (is_same_lock (Freelist giver) lock) _ _ (empty_leaves shape cpu (contents lock)))
 
 after_empties : (shape : Shape) (cpu : ℕ) (cpus : List ℕ) (contents : DomainId → Content)
     → after_turns shape cpu contents (found_empty cpus) ≡ contents

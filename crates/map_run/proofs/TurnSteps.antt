@@ -1,5 +1,5 @@
 -- What turns leave under the locks of a map that doesn't evict, and where each of several turns may be made.
-use Rattle.std.proofs.Common.{◌≡◌, ℕ, ◌<◌, Bool, true, false, List, [], ◌∷◌, ◌++◌, length, get_or, set, Option, refl, ap, sym, ◌∙◌}
+use Rattle.std.proofs.Common.{◌≡◌, ℕ, ◌<◌, Bool, true, false, List, [], ◌∷◌, ◌++◌, length, get_or, set, refl, ap, sym, ◌∙◌}
 use Rattle.std.specs.Prelude.{if◌then◌else◌}
 use Rattle.std.proofs.Math.Path.{fun_ext}
 use Rattle.std.proofs.lemmas.List.{get_or-set_same, get_or-set_other}
@@ -14,7 +14,7 @@ use Rattle.place_words.specs.Buckets.{bucket_after}
 use Rattle.place_words.specs.Freelists.{freelist_after}
 use Rattle.place_words.specs.Histories.{Content, in_bucket, on_freelist, content_after}
 use Rattle.place_words.specs.Locks.{is_same_lock}
-use Rattle.place_words.specs.Traces.{Turn, on_bucket_of, on_freelist_of, after_turn, after_turns, AreAllowed, spare_after_part, spare_after}
+use Rattle.place_words.specs.Traces.{Turn, on_bucket_of, on_freelist_of, after_turn, after_turns, AreAllowed}
 use Rattle.place_words.proofs.LockLemmas.{one_lock}
 use Rattle.map_types.proofs.RowLemmas.{by_test}
 use Rattle.map_report.specs.Buckets.{bucket_of_key}
@@ -24,20 +24,11 @@ use Rattle.map_report.specs.Turns.{content_under}
 
 -- Turns and then others
 
-pub after_more : (shape : Shape) (cpu : ℕ) (contents : DomainId → Content) (first second : List Turn)
-    → after_turns shape cpu contents (first ++ second) ≡ after_turns shape cpu (after_turns shape cpu contents first) second
-after_more shape cpu contents [] second = refl
-after_more shape cpu contents (turn ∷ first) second = after_more shape cpu (after_turn shape cpu contents turn) first second
-
 pub allowed_more : (shape : Shape) (cpu : ℕ) (contents : DomainId → Content) (first second : List Turn)
     → AreAllowed shape cpu contents first → AreAllowed shape cpu (after_turns shape cpu contents first) second → AreAllowed shape cpu contents (first ++ second)
 allowed_more shape cpu contents [] second before after = after
 allowed_more shape cpu contents (turn ∷ first) second before after =
     (before.0, allowed_more shape cpu (after_turn shape cpu contents turn) first second before.1 after)
-
-pub spare_more : (spare : Option ℕ) (first second : List Turn) → spare_after spare (first ++ second) ≡ spare_after (spare_after spare first) second
-spare_more spare [] second = refl
-spare_more spare (turn ∷ first) second = spare_more (spare_after_part spare turn.part) first second
 
 -- A turn
 

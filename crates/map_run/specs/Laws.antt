@@ -10,10 +10,11 @@ use Rattle.map_types.specs.declared.refusal.Errno.TheVariants.{E2big}
 use Rattle.map_types.specs.declared.reply.Reply.{Reply}
 use Rattle.map_types.specs.declared.reply.Reply.TheVariants.{Refused}
 use Rattle.map_types.specs.Stored.{Stored}
+use Rattle.map_types.specs.Replies.{error_of}
 use Rattle.map_script.specs.declared.script.Script.{Script}
 use Rattle.place_words.specs.declared.finals.Finals.{Finals}
 use Rattle.place_words.specs.Bodies.{present}
-use Rattle.place_words.specs.SerialOrder.{AlwaysGets, AlwaysRemoves, error_told}
+use Rattle.place_words.specs.SerialOrder.{AlwaysGets, AlwaysRemoves}
 use Rattle.map_report.specs.EachOnce.{in_buckets}
 use Rattle.map_run.specs.WalkLaws.{buckets_before, WalkLaws}
 use Rattle.map_run.specs.Entries.{Entry, entry_of, answers_from, entries_after, TellsThere}
@@ -99,7 +100,7 @@ pub record SerialLaws (script : Script) : Type 0 where
   pub one_each : length (serial script).replies ≡ length script.calls
   -- no reply is ENOMEM, and none is E2BIG where the map evicts
   pub always_gets : AlwaysGets script.shape script.calls
-  pub never_full : IsTrue (is_lru script.shape.kind) → All (λ (reply : Reply). error_told reply ≢ Some E2big) (serial script).replies
+  pub never_full : IsTrue (is_lru script.shape.kind) → All (λ (reply : Reply). error_of reply ≢ Some E2big) (serial script).replies
   -- No probe finds its element in a CPU's hand. Of this run that is so by its definition; that each element that a probe takes out
   -- lies in its bucket then is part of `is_record`, whose histories replay by the kernel's rules.
   pub always_removes : AlwaysRemoves script.shape script.calls

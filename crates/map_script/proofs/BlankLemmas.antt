@@ -1,5 +1,5 @@
 -- What a line says changes neither with its comment nor with its blanks.
-use Rattle.std.proofs.Common.{◌≡◌, ℕ, suc, ◌+◌, ◌==◌, ◌&&◌, ◌||◌, nat_le, Bool, true, false, not, cond, List, [], ◌∷◌, ◌++◌, length, take, filter, count_by, Result, Ok, Err, refl, sym, ap, ◌∙◌, append-nil, arith}
+use Rattle.std.proofs.Common.{◌≡◌, ℕ, suc, ◌+◌, ◌&&◌, ◌||◌, nat_le, Bool, true, false, not, cond, List, [], ◌∷◌, ◌++◌, length, take, filter, count_by, Result, Ok, Err, refl, sym, ap, ◌∙◌, append-nil, arith}
 use Rattle.std.specs.List.{slice_split, onto_first, list_all, prefix_len}
 use Rattle.std.proofs.lemmas.Bool.{cond-false}
 use Rattle.std.proofs.lemmas.List.Splits.{slice_split-cons_yes, length-slice_split}
@@ -7,6 +7,7 @@ use Rattle.std.proofs.lemmas.List.Folds.{list_all-append}
 use Rattle.map_script.specs.declared.refusal.Cause.{Cause}
 use Rattle.map_script.specs.declared.refusal.Cause.TheVariants.{Byte}
 use Rattle.map_script.specs.Lines.{is_blank, is_hash, is_allowed, before_comment, tokens_of, said_by}
+use Rattle.map_script.proofs.TokenLines.{is_some_token}
 
 -- ---- a line without its comment, byte by byte
 
@@ -84,9 +85,6 @@ split_blank [] b line h = slice_split-cons_yes is_blank b line h
 split_blank (byte ∷ q) b line h =
     ap (λ (parts : List (List ℕ)). cond (is_blank byte) ([] ∷ parts) (onto_first byte parts)) (split_blank q b line h)
     ∙ step_append (is_blank byte) byte (count_by is_blank q) (slice_split is_blank q) (slice_split is_blank line) (some_part q)
-
-abbrev is_some_token : List ℕ → Bool
-is_some_token token = not (length token == 0)
 
 kept_step : (keep : Bool) (token : List ℕ) (a b : List (List ℕ)) → cond keep (token ∷ (a ++ b)) (a ++ b) ≡ cond keep (token ∷ a) a ++ b
 kept_step true token a b = refl

@@ -61,7 +61,7 @@ split_joined token (next ∷ tokens) h =
 pub some_length : (n : ℕ) → not (suc n == 0) ≡ true
 some_length n = not_from_false (suc n == 0) (ne_eqb (suc n) 0 (λ same. omega arith))
 
-abbrev is_some_token : List ℕ → Bool
+abbrev pub is_some_token : List ℕ → Bool
 is_some_token token = not (length token == 0)
 
 some_token : (token : List ℕ) → is_token token ≡ true → is_some_token token ≡ true

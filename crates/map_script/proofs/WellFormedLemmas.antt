@@ -23,7 +23,7 @@ use Rattle.map_script.proofs.CallLines.{line_within}
 use Rattle.map_script.proofs.CallSizes.{call_has}
 use Rattle.map_script.proofs.PlaceLemmas.{step_found, same_ok}
 
-at_found : {A : Type 0} (number : ℕ) (read : Result A Cause) (x : A) → or_fault number read ≡ Ok x → read ≡ Ok x
+pub at_found : {A : Type 0} (number : ℕ) (read : Result A Cause) (x : A) → or_fault number read ≡ Ok x → read ≡ Ok x
 at_found number (Ok found) x is = cc
 at_found number (Err cause) x is = absurd cc
 

@@ -10,12 +10,12 @@ length-pairs_of (suc n) key_size value_size keys values =
     ap suc (length-pairs_of n key_size value_size (drop key_size keys) (drop value_size values))
 
 -- one more piece to go over
-piece_more : (i size : ℕ) (bytes : List ℕ) → take size (drop (i * size) (drop size bytes)) ≡ take size (drop (suc i * size) bytes)
+pub piece_more : (i size : ℕ) (bytes : List ℕ) → take size (drop (i * size) (drop size bytes)) ≡ take size (drop (suc i * size) bytes)
 piece_more i size bytes =
     let along : size + i * size ≡ suc i * size = omega (arith, suc-mul i size) in
     ap (take size) (drop-drop (i * size) size bytes ∙ ap (λ k. drop k bytes) along)
 
-piece_first : (size : ℕ) (bytes : List ℕ) → take size bytes ≡ take size (drop (zero * size) bytes)
+pub piece_first : (size : ℕ) (bytes : List ℕ) → take size bytes ≡ take size (drop (zero * size) bytes)
 piece_first size bytes = rw zero-mul refl
 
 pub key_at : (n key_size value_size i : ℕ) (keys values : List ℕ) → i < n → (pair_at (pairs_of n key_size value_size keys values) i).0 ≡ take key_size (drop (i * key_size) keys)
@@ -31,7 +31,7 @@ value_at (suc n) key_size value_size (suc i) keys values within =
     value_at n key_size value_size i (drop key_size keys) (drop value_size values) (omega arith) ∙ piece_more i value_size values
 
 -- what follows the first piece is as long as the other pieces
-rest_fills : (n size : ℕ) (bytes : List ℕ) → length bytes ≡ suc n * size → length (drop size bytes) ≡ n * size
+pub rest_fills : (n size : ℕ) (bytes : List ℕ) → length bytes ≡ suc n * size → length (drop size bytes) ≡ n * size
 rest_fills n size bytes fill = omega (arith, length-drop size bytes, suc-mul n size)
 
 none_left : (size : ℕ) (bytes : List ℕ) → length bytes ≡ zero * size → [] ≡ bytes
@@ -51,7 +51,7 @@ joined_values-pairs_of (suc n) key_size value_size keys values fill =
     ap (λ bytes. take value_size values ++ bytes) rest ∙ take-append-drop value_size values
 
 -- n pieces and no more: the sizes of pairs that are taken from buffers
-take_fills : (n size : ℕ) (bytes : List ℕ) → length bytes ≡ suc n * size → length (take size bytes) ≡ size
+pub take_fills : (n size : ℕ) (bytes : List ℕ) → length bytes ≡ suc n * size → length (take size bytes) ≡ size
 take_fills n size bytes fill = length-take-le size bytes (omega (arith, suc-mul n size))
 
 pub HaveSizes-pairs_of : (n key_size value_size : ℕ) (keys values : List ℕ) → length keys ≡ n * key_size → length values ≡ n * value_size → HaveSizes key_size value_size (pairs_of n key_size value_size keys values)

@@ -1,6 +1,6 @@
 //! Lists that contracts see as lists.
 
-ghost use Rattle.std.specs.Prelude.{◌≡◌, ◌==◌, ◌++◌, ◌∷◌, [], length, IfOk, IfSome, OnOk};
+ghost use Rattle.std.specs.Prelude.{◌≡◌, ◌==◌, ◌++◌, ◌∷◌, [], length, IfOk, IfSome, OnErr, OnOk};
 ghost use Rattle.map_types.specs.Lists.{items_of};
 
 use crate::NoMemory;
@@ -102,7 +102,8 @@ impl<T: Drop> List<T> {
 
     /// Adds an element. A list that is shared, or for which memory isn't found, stays as it is.
     pub fn push(&mut self, item: T) -> Result<(), NoMemory>
-        ensures { OnOk result (self.new ≡ self.old ++ item ∷ []) }
+        ensures added { OnOk result (self.new ≡ self.old ++ item ∷ []) }
+        ensures same { OnErr result (self.new ≡ self.old) }
     {
         match &mut self.items {
             Items::Own(items) => Ok(items.push(item)?),

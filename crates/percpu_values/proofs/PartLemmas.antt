@@ -5,6 +5,7 @@ use Rattle.std.specs.List.{concat}
 use Rattle.std.proofs.Math.Nat.{suc-mul, zero-mul}
 use Rattle.std.proofs.lemmas.List.{length-replicate, drop-drop, take_at, drop_at, length-take-le, take-append-le, drop-append-le, take-take, drop-take, take-replicate, drop-replicate}
 use Rattle.map_types.specs.Parts.{zeros, zero_parts, AreOfSize, part_size, part_at}
+use Rattle.map_types.proofs.PairLemmas.{piece_more, piece_first, rest_fills, take_fills}
 use Rattle.percpu_values.specs.Layout.{parts_of}
 
 -- a part lies inside
@@ -17,27 +18,11 @@ pub length-parts_of : (n size : ℕ) (bytes : List ℕ) → length (parts_of n s
 length-parts_of zero size bytes = refl
 length-parts_of (suc n) size bytes = ap suc (length-parts_of n size (drop size bytes))
 
--- one more part to go over
-piece_more : (i size : ℕ) (bytes : List ℕ) → take size (drop (i * size) (drop size bytes)) ≡ take size (drop (suc i * size) bytes)
-piece_more i size bytes =
-    let along : size + i * size ≡ suc i * size = omega (arith, suc-mul i size) in
-    ap (take size) (drop-drop (i * size) size bytes ∙ ap (λ k. drop k bytes) along)
-
-piece_first : (size : ℕ) (bytes : List ℕ) → take size bytes ≡ take size (drop (zero * size) bytes)
-piece_first size bytes = rw zero-mul refl
-
 pub part_at-parts_of : (n size i : ℕ) (bytes : List ℕ) → i < n → part_at i (parts_of n size bytes) ≡ take size (drop (i * size) bytes)
 part_at-parts_of zero size i bytes within = absurd (omega arith)
 part_at-parts_of (suc n) size zero bytes within = piece_first size bytes
 part_at-parts_of (suc n) size (suc i) bytes within =
     part_at-parts_of n size i (drop size bytes) (omega arith) ∙ piece_more i size bytes
-
--- what follows the first part is as long as the other parts
-rest_fills : (n size : ℕ) (bytes : List ℕ) → length bytes ≡ suc n * size → length (drop size bytes) ≡ n * size
-rest_fills n size bytes fill = omega (arith, length-drop size bytes, suc-mul n size)
-
-take_fills : (n size : ℕ) (bytes : List ℕ) → length bytes ≡ suc n * size → length (take size bytes) ≡ size
-take_fills n size bytes fill = length-take-le size bytes (omega (arith, suc-mul n size))
 
 pub sizes-parts_of : (n size : ℕ) (bytes : List ℕ) → length bytes ≡ n * size → AreOfSize size (parts_of n size bytes)
 sizes-parts_of zero size bytes fill = tt

@@ -13,10 +13,11 @@ use Rattle.map_types.specs.ElementLists.{put, one, times, IsIn, IsHead}
 use Rattle.place_core.specs.State.{no_lists, rows, is_bucket}
 use Rattle.std.specs.Prelude.{IsTrue}
 use Rattle.map_types.specs.Kind.{is_lru}
+use Rattle.map_types.proofs.RowLemmas.{times_append}
 use Rattle.place_core.specs.Steps.{IsEnabled, after, Holds, with_owner, with_bit, with_free, without_free, with_row, without_row, CanClaim, IsLockHome, IsInHeldBucket}
 use Rattle.place_core.specs.CoreView.{CoreView, state_of, IsCore}
 use Rattle.place_core.specs.Answers.{Does}
-use Rattle.place_core.proofs.ElementLemmas.{at_put, times_append}
+use Rattle.place_core.proofs.ElementLemmas.{at_put}
 use Rattle.place_core.proofs.RowLemmas.{stands_where, head_is_in}
 
 -- a list that is set at one place, as a function

@@ -1,11 +1,7 @@
 -- How often an element stands in a list that changed.
-use Rattle.std.proofs.Common.{◌≡◌, ◌≢◌, ℕ, suc, ◌+◌, ◌-◌, ◌<◌, Bool, true, false, cond, eqb, List, [], ◌∷◌, ◌++◌, Option, Some, refl, ap, ◌∙◌, sym, subst, ⊎_elim, arith}
-use Rattle.std.proofs.lemmas.Bool.Decides.{eqb_tells}
+use Rattle.std.proofs.Common.{◌≡◌, ◌≢◌, ℕ, suc, ◌-◌, ◌<◌, cond, eqb, List, [], ◌∷◌, Option, Some, refl, ap, ◌∙◌, sym, subst, arith}
 use Rattle.map_types.specs.ElementLists.{put, times, without, before_from}
-
--- a Boolean test of two numbers, by cases
-pub by_test : (x y : ℕ) (F : Bool → Type 0) → (x ≡ y → F true) → (x ≢ y → F false) → F (eqb x y)
-by_test x y F hit miss = ⊎_elim (λ t. subst F (sym t.0) (hit t.1)) (λ t. subst F (sym t.0) (miss t.1)) (eqb_tells x y)
+use Rattle.map_types.proofs.RowLemmas.{by_test}
 
 module _ {A : Type 0} where
   -- what holds of the new value at i, and of each other value, holds after
@@ -27,14 +23,6 @@ times_cons_same e xs =
 pub times_cons_other : (x e : ℕ) (xs : List ℕ) → x ≢ e → times x (e ∷ xs) ≡ times x xs
 times_cons_other x e xs other =
     by_test e x (λ b. cond b (suc (times x xs)) (times x xs) ≡ times x xs) (λ is. absurd (other (sym is))) (λ _. refl)
-
-pub times_append : (e : ℕ) (xs ys : List ℕ) → times e (xs ++ ys) ≡ times e xs + times e ys
-times_append e [] ys = omega arith
-times_append e (x ∷ xs) ys =
-    let rest = times_append e xs ys in
-    by_test x e (λ b. cond b (suc (times e (xs ++ ys))) (times e (xs ++ ys)) ≡ cond b (suc (times e xs)) (times e xs) + times e ys)
-    (λ _. omega arith)
-    (λ _. rest)
 
 pub times_without_same : (e : ℕ) (xs : List ℕ) → times e (without e xs) ≡ times e xs - 1
 times_without_same e [] = refl

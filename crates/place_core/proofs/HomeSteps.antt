@@ -1,5 +1,5 @@
 -- The step that moves an element from one lock's lists to another's keeps the places.
-use Rattle.std.proofs.Common.{◌≡◌, ◌≢◌, ℕ, suc, ◌+◌, ◌<◌, ◌≤◌, Bool, true, false, ◌&&◌, cond, ltb, refl, ap, ◌∙◌, sym, subst, ⊎_elim, arith}
+use Rattle.std.proofs.Common.{◌≡◌, ◌≢◌, ℕ, suc, ◌+◌, ◌<◌, Bool, true, false, ◌&&◌, cond, ltb, refl, ap, ◌∙◌, sym, subst, ⊎_elim, arith}
 use Rattle.std.specs.Prelude.{IsTrue}
 use Rattle.std.proofs.lemmas.Bool.{cases_eq, and_right}
 use Rattle.map_types.specs.declared.attr.Shape.{Shape}
@@ -23,6 +23,7 @@ use Rattle.place_core.proofs.ElementLemmas.{at_put, put_here, put_else, times_co
 use Rattle.place_core.proofs.FrameLemmas.{counted, MovesAt, DiffersAt, differs_put, differs_not, all_but_one, free_moved, rows_moved, fit_put, cursors_put}
 use Rattle.place_core.proofs.RowLemmas.{lies_here, lies_elsewhere, rows_with_row_other, is_listing, rows_with_row_same, free_with_row, rows_without_row_other, rows_without_row_same, no_row_free, no_row_away, row_of_lying, lock_listing, fit_with_row, fit_with_free, fit_without_free, fit_without_row, cursor_with_row, cursor_without_row}
 use Rattle.place_core.proofs.OwnerSteps.{no_bucket_under}
+use Rattle.place_core.proofs.CoreLemmas.{at_most_one}
 
 -- What is right of lists, owners and places while an element is on its way.
 pub record Counted (shape : Shape) (lists : ℕ → Lists) (owner : ℕ → Owner) (place : ℕ → ElementPlace) : Type 0 where
@@ -36,10 +37,6 @@ free_count shape lists owner place j e real free = free j e ∙ counted shape.el
 
 row_count : (shape : Shape) (lists : ℕ → Lists) (owner : ℕ → Owner) (place : ℕ → ElementPlace) (j e : ℕ) → e < shape.elements → RowsPlaced shape lists owner place → times e (rows (lists j)) ≡ one (has_row (is_lru shape.kind) (lock_named shape j) (owner e) (lies_at j (place e)))
 row_count shape lists owner place j e real rows = rows j e ∙ counted shape.elements e _ real
-
-one_at_most : (b : Bool) → one b ≤ 1
-one_at_most true = omega arith
-one_at_most false = omega arith
 
 -- the lists under a lock whose element e leaves or comes
 fit_left : (lock : DomainId) (o : Owner) (e : ℕ) (l : Lists) → HasOnlyItsLists lock l → HasOnlyItsLists lock (left_by o e l)
@@ -84,14 +81,14 @@ others_joined_rows lock (owners.Hand cpu) x e l other = rows_with_row_other lock
 
 -- an element that leaves stands in none of the lock's lists
 left_free : (o : Owner) (e k : ℕ) (p : ElementPlace) (l : Lists) → times e l.free ≡ one (is_free o && lies_at k p) → times e (left_by o e l).free ≡ 0
-left_free owners.Free e k p l was = let few = one_at_most (lies_at k p) in let less = times_without_same e l.free in omega arith
+left_free owners.Free e k p l was = let few = at_most_one (lies_at k p) in let less = times_without_same e l.free in omega arith
 left_free (owners.Bucket bucket) e k p l was = was
 left_free (owners.Hand cpu) e k p l was = was
 
 left_rows : (lru : Bool) (lock : DomainId) (o : Owner) (here : Bool) (e : ℕ) (l : Lists) → times e (rows l) ≡ one (has_row lru lock o here) → times e (rows (left_by o e l)) ≡ 0
 left_rows lru lock owners.Free here e l was = was ∙ ap one (no_row_free lru lock here)
-left_rows lru lock (owners.Bucket bucket) here e l was = let few = one_at_most (has_row lru lock (owners.Bucket bucket) here) in rows_without_row_same e l (omega arith)
-left_rows lru lock (owners.Hand cpu) here e l was = let few = one_at_most (has_row lru lock (owners.Hand cpu) here) in rows_without_row_same e l (omega arith)
+left_rows lru lock (owners.Bucket bucket) here e l was = let few = at_most_one (has_row lru lock (owners.Bucket bucket) here) in rows_without_row_same e l (omega arith)
+left_rows lru lock (owners.Hand cpu) here e l was = let few = at_most_one (has_row lru lock (owners.Hand cpu) here) in rows_without_row_same e l (omega arith)
 
 -- and one that comes stands in one of them
 joined_free : (lock : DomainId) (o : Owner) (e k : ℕ) (l : Lists) → times e l.free ≡ 0 → times e (joined_by lock o e l).free ≡ one (is_free o && lies_at k (under_lock k))

@@ -13,11 +13,12 @@ use Rattle.place_words.specs.declared.home.Home.TheVariants as homes
 use Rattle.place_words.specs.Locks.{is_lock, lock_number, lock_named}
 use Rattle.place_words.proofs.LockLemmas.{named_by_number, one_number}
 use Rattle.map_types.specs.ElementLists.{put, one, times}
+use Rattle.map_types.proofs.RowLemmas.{times_append}
 use Rattle.place_words.specs.Openings.{is_free}
 use Rattle.place_core.specs.State.{State, rows, is_bucket, HasOnlyItsLists}
 use Rattle.place_core.specs.Places.{ElementPlace, under_lock, carried, lies_at, is_in_bucket, has_row, home_of_place, MayLie, MayLieUnder, PlacedAt, Placed}
 use Rattle.place_core.specs.Steps.{lists_under, with_free, without_free, with_row, without_row, CanClaim, claimed, CanSettle, settled, IsLockHome, CanAttach, attached, IsInHeldBucket, detached}
-use Rattle.place_core.proofs.ElementLemmas.{times_cons_same, times_cons_other, times_append, times_without_same, times_without_other}
+use Rattle.place_core.proofs.ElementLemmas.{times_cons_same, times_cons_other, times_without_same, times_without_other}
 use Rattle.place_core.proofs.FrameLemmas.{counted, MovesAt, differs_put, differs_not, all_but_one, placed_moved}
 use Rattle.place_core.proofs.RowLemmas.{Stands, stands_where, lies_is, lies_here, lies_elsewhere, free_is, bucket_is, head_is_in, rows_with_row_other, is_listing, rows_with_row_same, free_with_row, rows_without_row_other, rows_without_row_same, no_row_free, same_row, no_row_hand_away, no_row_hand_plain, row_lies, row_of_lying, lock_listing, fit_with_row, fit_with_free, fit_without_free, fit_without_row, cursor_with_row, cursor_without_row}
 

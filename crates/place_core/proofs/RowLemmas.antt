@@ -12,11 +12,12 @@ use Rattle.place_words.specs.declared.owner.Owner.TheVariants as owners
 use Rattle.place_words.specs.Locks.{is_lock}
 use Rattle.place_core.specs.declared.step.Lists.{Lists}
 use Rattle.map_types.specs.ElementLists.{one, times, IsIn, IsHead, without, neighbour}
+use Rattle.map_types.proofs.RowLemmas.{times_append, by_test}
 use Rattle.place_words.specs.Openings.{is_free}
 use Rattle.place_core.specs.State.{rows, is_bucket, HasOnlyItsLists, HasCursorInside}
 use Rattle.place_core.specs.Places.{ElementPlace, under_lock, carried, lies_at, is_in_bucket, has_row}
 use Rattle.place_core.specs.Steps.{with_free, without_free, with_row, without_row, cursor_without}
-use Rattle.place_core.proofs.ElementLemmas.{by_test, times_cons_same, times_cons_other, times_append, times_without_same, times_without_other, before_stays}
+use Rattle.place_core.proofs.ElementLemmas.{times_cons_same, times_cons_other, times_without_same, times_without_other, before_stays}
 
 -- what a count of one tells
 pub one_tells : (b : Bool) (n : ℕ) → n ≡ one b → 0 < n → b ≡ true

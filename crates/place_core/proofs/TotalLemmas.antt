@@ -11,11 +11,12 @@ use Rattle.place_words.specs.declared.owner.Owner.TheVariants as owners
 use Rattle.place_words.specs.Locks.{is_lock, lock_number, lock_named, lock_count}
 use Rattle.place_words.proofs.LockLemmas.{named_by_number, number_of_named, number_within}
 use Rattle.map_types.specs.ElementLists.{one, times}
+use Rattle.map_types.proofs.RowLemmas.{by_test}
 use Rattle.place_words.specs.Openings.{is_free}
 use Rattle.place_core.specs.State.{State, rows, HasOnlyItsLists}
 use Rattle.place_core.specs.Places.{ElementPlace, under_lock, carried, lies_at, is_in_bucket, has_row, MayOwn, MayLie, MayLieUnder, Placed}
 use Rattle.place_core.specs.Totals.{sum_below, is_in_hand, free_total, bucket_total, hand_total}
-use Rattle.place_core.proofs.ElementLemmas.{by_test, times_cons_same}
+use Rattle.place_core.proofs.ElementLemmas.{times_cons_same}
 use Rattle.place_core.proofs.FrameLemmas.{counted}
 
 -- Sums

@@ -13,12 +13,12 @@ use Rattle.place_words.specs.declared.owner.Owner.TheVariants as owners
 use Rattle.place_words.specs.Locks.{is_lock, lock_number, lock_named}
 use Rattle.place_words.proofs.LockLemmas.{named_by_number, number_of_named}
 use Rattle.map_types.specs.ElementLists.{IsIn, one, times}
+use Rattle.map_types.proofs.RowLemmas.{times_append}
 use Rattle.place_words.specs.Openings.{is_free}
 use Rattle.place_core.specs.State.{State, rows, is_bucket}
 use Rattle.place_core.specs.Places.{ElementPlace, under_lock, carried, lies_at, home_of_place, is_in_bucket, has_row, MayOwn, MayLie, MayLieUnder, Placed}
 use Rattle.place_core.specs.Wholeness.{StandsOnce, OnceWhere, all_of, EachInOnePlace}
 use Rattle.place_core.specs.Steps.{lists_under}
-use Rattle.place_core.proofs.ElementLemmas.{times_append}
 use Rattle.place_core.proofs.FrameLemmas.{counted}
 use Rattle.place_core.proofs.RowLemmas.{Stands, stands_where, lies_is, lies_here, lies_elsewhere, free_is, bucket_is, no_row_free, no_row_hand_away, row_lies}
 use Rattle.place_core.proofs.TotalLemmas.{bucket_list}

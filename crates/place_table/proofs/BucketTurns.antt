@@ -9,16 +9,16 @@ use Rattle.map_types.specs.declared.kind.Side.{Side}
 use Rattle.map_types.specs.declared.kind.Side.TheVariants.{Sys}
 use Rattle.map_types.specs.Kind.{is_lru, is_percpu}
 use Rattle.map_types.specs.Sides.{value_read}
-use Rattle.map_types.specs.Stored.{Stored}
+use Rattle.map_types.specs.Stored.{Stored, IsSized}
 use Rattle.place_words.specs.declared.bucket_part.BucketPart.{BucketPart}
 use Rattle.place_words.specs.declared.bucket_part.BucketPart.TheVariants.{Lookup, Update, Delete, Take}
 use Rattle.place_words.specs.declared.bucket_part.Put.TheVariants as puts
 use Rattle.place_words.specs.Bodies.{present, without_key, numbers}
 use Rattle.place_words.specs.Buckets.{AllowsInBucket, bucket_after, new_stored, written_over}
 use Rattle.map_types.specs.ElementLists.{times, without}
+use Rattle.map_types.proofs.RowLemmas.{by_test}
 use Rattle.place_words.proofs.BucketLaws.{key_taken, numbers_written}
-use Rattle.place_core.proofs.ElementLemmas.{by_test, times_cons_same, times_cons_other, times_without_same, times_without_other}
-use Rattle.place_table.specs.Contents.{IsSized}
+use Rattle.place_core.proofs.ElementLemmas.{times_cons_same, times_cons_other, times_without_same, times_without_other}
 use Rattle.bucket_chain.specs.Turns.{IsTurn}
 use Rattle.bucket_chain.proofs.SizeLaws.{sizes_stay}
 use Rattle.bucket_chain.proofs.Turns.{found_body, found_key, lookup_misses, lookup_finds, update_exists, update_absent, update_full, update_adds, update_replaces, delete_misses, delete_takes, take_misses, take_takes}
@@ -30,7 +30,7 @@ pub record IsTurnWith (shape : Shape) (cpu : ℕ) (part : BucketPart) (before af
   pub counts : (x : ℕ) → times x (numbers after) ≡ times x elements
 
 -- an element and what is left are all that there were
-left_is : (e : ℕ) (left all : List ℕ) → ((x : ℕ) → times x (e ∷ left) ≡ times x all) → (x : ℕ) → times x left ≡ times x (without e all)
+pub left_is : (e : ℕ) (left all : List ℕ) → ((x : ℕ) → times x (e ∷ left) ≡ times x all) → (x : ℕ) → times x left ≡ times x (without e all)
 left_is e left all out x =
     let here : times e left ≡ times e (without e all) = omega (arith, out e, times_cons_same e left, times_without_same e all) in
     by_test x e (λ _. times x left ≡ times x (without e all))

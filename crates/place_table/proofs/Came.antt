@@ -13,11 +13,11 @@ use Rattle.place_words.specs.Locks.{lock_number}
 use Rattle.place_words.specs.declared.owner.Owner.{Owner}
 use Rattle.place_words.specs.declared.owner.Owner.TheVariants as owners
 use Rattle.place_core.specs.declared.step.Lists.{Lists}
-use Rattle.place_core.proofs.ElementLemmas.{by_test}
 use Rattle.map_types.specs.declared.attr.Shape.{Shape}
 use Rattle.map_types.specs.declared.kind.DomainId.{DomainId}
 use Rattle.map_types.specs.declared.kind.DomainId.TheVariants.{Local, Global, CpuLru, Bucket, Freelist}
 use Rattle.map_types.specs.ElementLists.{times, IsIn}
+use Rattle.map_types.proofs.RowLemmas.{by_test}
 use Rattle.place_table.specs.declared.view.Hold.{Hold}
 use Rattle.place_table.specs.declared.view.Notes.{Notes}
 use Rattle.place_table.specs.declared.view.WordStep.{WordStep}

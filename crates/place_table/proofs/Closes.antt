@@ -7,7 +7,8 @@ use Rattle.atomic_table.specs.Table.{State, Final, Seen}
 use Rattle.map_types.specs.declared.attr.Shape.{Shape}
 use Rattle.map_types.specs.declared.kind.DomainId.{DomainId}
 use Rattle.map_types.specs.declared.kind.DomainId.TheVariants as named
-use Rattle.map_types.specs.Stored.{Stored}
+use Rattle.map_types.specs.Stored.{Stored, IsSized}
+use Rattle.map_types.proofs.RowLemmas.{by_test}
 use Rattle.place_words.specs.declared.history.Entry.{Entry}
 use Rattle.place_words.specs.declared.history.Strand.{Strand}
 use Rattle.place_words.specs.Histories as histories
@@ -18,13 +19,12 @@ use Rattle.place_words.specs.Strands.{places_on, AreSharedOut}
 use Rattle.place_words.proofs.LockLemmas.{named_by_number, number_within}
 use Rattle.place_core.specs.State as cores
 use Rattle.place_core.specs.Places.{Placed}
-use Rattle.place_core.proofs.ElementLemmas.{by_test}
 use Rattle.place_table.specs.declared.content.Behind.{Behind}
 use Rattle.place_table.specs.declared.content.Content.{Content}
 use Rattle.place_table.specs.declared.content.Content.TheVariants as lying
 use Rattle.place_table.specs.declared.view.View.{View}
 use Rattle.place_table.specs.declared.view.Ended.{Ended}
-use Rattle.place_table.specs.Contents.{content_told, lists_of, FitsLock, IsSized}
+use Rattle.place_table.specs.Contents.{content_told, lists_of, FitsLock}
 use Rattle.place_table.specs.Views.{is_among, hold_at, is_in_hand_of, known_log, bit_seen, current_strand, all_strands}
 use Rattle.place_table.specs.Rules.{World, Rule, PassKnows, entries, hold_of, is_hand_of, turns_on, turns_of, indexes, StandIn, ArePast, HaveNoSteps, touches_of, IsOfStrand, AreReads}
 use Rattle.place_table.specs.Passes.{PassView, HasCpusOf, HandsReal}

@@ -1,11 +1,11 @@
 -- Histories and strands that have one turn more.
 use Rattle.std.proofs.Common.{◌≡◌, ◌≢◌, ℕ, suc, ◌+◌, cond, Bool, true, false, List, [], ◌∷◌, ◌++◌, length, sym, refl, ap, ◌∙◌, subst, arith}
 use Rattle.map_types.specs.declared.kind.DomainId.{DomainId}
+use Rattle.map_types.proofs.RowLemmas.{by_test}
 use Rattle.place_words.specs.declared.history.Entry.{Entry}
 use Rattle.place_words.specs.declared.history.StrandStep.{StrandStep}
 use Rattle.place_words.specs.Locks.{is_same_lock}
 use Rattle.place_words.specs.Strands.{places_on}
-use Rattle.place_core.proofs.ElementLemmas.{by_test}
 use Rattle.place_table.specs.declared.view.WordStep.{WordStep}
 use Rattle.place_table.specs.declared.view.Turned.{Turned}
 use Rattle.place_table.specs.Views.{turned, place_of}

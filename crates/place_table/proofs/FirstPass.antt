@@ -8,14 +8,13 @@ use Rattle.map_types.specs.declared.attr.Shape.{Shape}
 use Rattle.map_types.specs.declared.kind.MapKind.{MapKind}
 use Rattle.map_types.specs.declared.kind.MapKind.TheVariants.{Hash, PercpuHash, LruHash, LruPercpuHash}
 use Rattle.map_types.specs.Shape.{HasBounds}
-use Rattle.map_types.specs.Stored.{Stored}
+use Rattle.map_types.specs.Stored.{Stored, IsSized}
 use Rattle.place_words.specs.declared.history.StrandStep.{StrandStep}
 use Rattle.place_words.specs.Openings.{opening_spares, first_spares}
 use Rattle.place_table.specs.declared.content.Behind.{Behind}
 use Rattle.place_table.specs.declared.strands.FinishedStrand.{FinishedStrand}
 use Rattle.place_table.specs.declared.view.View.{View}
 use Rattle.place_table.specs.declared.view.InHand.{InHand}
-use Rattle.place_table.specs.Contents.{IsSized}
 use Rattle.place_table.specs.Views.{is_among, is_in_hand_of, numbers_below, spares_from, first_hand, first_view}
 use Rattle.place_table.specs.Passes.{PassView, TableView, spare_of, flags_of, SparesFit, HasCpusOf, IsPass, IsInNoCall, IsFirstPass}
 use Rattle.place_table.specs.Opening.{AreBodiesOf}

@@ -9,18 +9,20 @@ use Rattle.map_types.specs.declared.kind.DomainId.{DomainId}
 use Rattle.map_types.specs.declared.kind.DomainId.TheVariants.{Local, Global, CpuLru}
 use Rattle.map_types.specs.ElementLists.{times, IsIn}
 use Rattle.map_types.specs.Listed.{elements_of}
-use Rattle.map_types.specs.Stored.{Stored}
+use Rattle.map_types.specs.Stored.{Stored, IsSized}
+use Rattle.map_types.proofs.RowLemmas.{by_test}
 use Rattle.place_words.specs.Bodies.{numbers}
 use Rattle.place_words.specs.Histories.{in_locals, in_global, in_own}
 use Rattle.place_words.specs.Locks.{is_lock}
 use Rattle.place_words.specs.Openings.{opening_free}
 use Rattle.place_words.specs.Sets.{ListSet, new_set}
 use Rattle.local_lists.specs.LocalLists.{LocalView, IsLocal, local_told, empty_local}
-use Rattle.lru_lists.specs.Sets.{SetView, IsSet, times_on, with_free, pushed}
-use Rattle.place_core.proofs.ElementLemmas.{by_test, times_cons_same}
+use Rattle.lru_lists.specs.Sets.{SetView, IsSet, times_on, with_free}
+use Rattle.place_core.proofs.ElementLemmas.{times_cons_same}
 use Rattle.place_table.specs.declared.content.Content.TheVariants as lying
-use Rattle.place_table.specs.Contents.{set_told, IsSized, FitsSet}
+use Rattle.place_table.specs.Contents.{set_told, FitsSet}
 use Rattle.place_table.specs.Opening.{IsFirstContent}
+use Rattle.percpu_values.specs.BodyList.{pushed}
 
 -- nothing is listed, and of these elements those from a place on are free
 pub record IsFilled (shape : Shape) (elements : List ℕ) (from : ℕ) (set : SetView) : Type 0 where

@@ -4,12 +4,12 @@ use Rattle.std.specs.Prelude.{replicate, nat_lt, ◌&&◌, ◌||◌}
 use Rattle.std.proofs.lemmas.Bool.{lt-ltb, le-ltb, cases_lt}
 use Rattle.std.proofs.lemmas.List.{same_lists, get_or_default}
 use Rattle.std.proofs.lemmas.List.FromFn.{get_or-map-range_with_len, length-map-range_with_len}
-use Rattle.place_core.proofs.ElementLemmas.{by_test}
 use Rattle.place_table.specs.Views.{is_among, without_cpu}
 use Rattle.place_table.specs.Passes.{flags_of}
 use Rattle.place_table.proofs.Splits.{among_without_same, among_without_other}
 use Rattle.place_table.proofs.StrandMoves.{among_append}
 use Rattle.place_table.proofs.Worlds.{among_first}
+use Rattle.map_types.proofs.RowLemmas.{by_test}
 
 pub length_flags : (cpus : List ℕ) → length (flags_of cpus) ≡ 16
 unfolding flags_of

@@ -6,6 +6,7 @@ use Rattle.map_types.specs.declared.kind.DomainId.TheVariants.{Local}
 use Rattle.map_types.specs.declared.row.Row.{Row}
 use Rattle.map_types.specs.ElementLists.{times}
 use Rattle.map_types.specs.Listed.{elements_of}
+use Rattle.map_types.proofs.RowLemmas.{by_test}
 use Rattle.place_words.specs.declared.history.Entry.{Entry}
 use Rattle.place_words.specs.declared.history.Part.{Part}
 use Rattle.place_words.specs.declared.history.Part.TheVariants as parts
@@ -21,7 +22,6 @@ use Rattle.place_words.specs.Takings.{stored_hash, is_one, has_visit, flushed_by
 use Rattle.place_words.proofs.KeepLaws.{has_one, stolen_there}
 use Rattle.place_words.proofs.RowCounts.{any, rows_any}
 use Rattle.place_words.proofs.ShrinkProbes.{stored_there}
-use Rattle.place_core.proofs.ElementLemmas.{by_test}
 use Rattle.place_table.specs.Flushes.{is_visited, local_flushes, flushes, flushed_then, flushed_from, flushed_last}
 use Rattle.place_table.specs.StoredHashes.{stored_in}
 use Rattle.place_table.proofs.Worlds.{by_bool, true_false, none_some}

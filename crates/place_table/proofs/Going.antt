@@ -3,6 +3,7 @@ use Rattle.std.proofs.Common.{◌≡◌, ◌≢◌, ℕ, ◌<◌, inl, inr, ⊎_
 use Rattle.std.specs.Prelude.{IsTrue}
 use Rattle.map_types.specs.declared.attr.Shape.{Shape}
 use Rattle.map_types.specs.declared.kind.DomainId.{DomainId}
+use Rattle.map_types.proofs.RowLemmas.{by_test}
 use Rattle.place_words.specs.declared.history.Entry.{Entry}
 use Rattle.place_words.specs.declared.history.Part.{Part}
 use Rattle.place_words.specs.declared.history.StrandStep.{StrandStep}
@@ -10,7 +11,7 @@ use Rattle.place_words.specs.Histories.{content, Allows, IsLegal}
 use Rattle.place_words.specs.Locks.{is_lock, lock_named, lock_number, lock_count}
 use Rattle.place_words.proofs.LockLemmas.{named_by_number, number_within}
 use Rattle.place_core.specs.declared.step.Lists.{Lists}
-use Rattle.place_core.proofs.ElementLemmas.{by_test, at_put}
+use Rattle.place_core.proofs.ElementLemmas.{at_put}
 use Rattle.place_table.specs.declared.content.Content.{Content}
 use Rattle.place_table.specs.declared.view.View.{View}
 use Rattle.place_table.specs.declared.view.Hold.{Hold}
@@ -194,7 +195,7 @@ go_append : (k : ℕ) (known : Option (List Entry)) (first second : List Turned)
 go_append k known [] second one other = other
 go_append k known (step ∷ steps) second one other = (one.0, go_append k (log_then k known step) steps second one.1 other)
 
-bit_append : (e : ℕ) (known : Option Bool) (first second : List BitTouch) → bit_after_all e known (first ++ second) ≡ bit_after_all e (bit_after_all e known first) second
+pub bit_append : (e : ℕ) (known : Option Bool) (first second : List BitTouch) → bit_after_all e known (first ++ second) ≡ bit_after_all e (bit_after_all e known first) second
 bit_append e known [] second = refl
 bit_append e known (touch ∷ touches) second = bit_append e (bit_then e known touch) touches second
 

@@ -10,13 +10,14 @@ use Rattle.place_words.specs.declared.home.Home.TheVariants as homes
 use Rattle.place_words.specs.declared.owner.Owner.{Owner}
 use Rattle.place_words.specs.declared.owner.Owner.TheVariants as owners
 use Rattle.map_types.specs.ElementLists.{put}
+use Rattle.map_types.proofs.RowLemmas.{by_test}
 use Rattle.place_words.specs.Locks.{lock_named, lock_number}
 use Rattle.place_words.specs.Openings.{is_free}
 use Rattle.place_words.proofs.LockLemmas.{number_of_named}
 use Rattle.place_core.specs.declared.step.Lists.{Lists}
 use Rattle.place_core.specs.State.{is_bucket}
 use Rattle.place_core.specs.Places.{PlacedAt, ElementPlace, under_lock, carried, home_of_place, MayLieUnder, MayLie}
-use Rattle.place_core.proofs.ElementLemmas.{by_test, put_else}
+use Rattle.place_core.proofs.ElementLemmas.{put_else}
 use Rattle.place_table.specs.declared.view.View.{View}
 use Rattle.place_table.specs.declared.view.Hold.{Hold}
 use Rattle.place_table.specs.declared.view.InHand.{InHand}

@@ -1,7 +1,7 @@
 -- The step on a home word: an element goes from the lists of a lock, or from a hand that carries it, to others.
 use Rattle.std.proofs.Common.{◌≡◌, ◌≢◌, ℕ, ◌+◌, ◌<◌, ◌⊎◌, inl, inr, ⊎_elim, eqb, cond, Bool, true, false, List, [], ◌∷◌, get_or, set, sym, refl, ap, ◌∙◌, subst, arith, get_or-set_other, get_or-set_same, None, Some, Option}
 use Rattle.std.specs.Prelude.{◌&&◌, IsTrue, IsFalse}
-use Rattle.std.proofs.lemmas.Bool.{and_parts, eqb-true, eq-eqb}
+use Rattle.std.proofs.lemmas.Bool.{and_parts, eq-eqb}
 use mathlib.Core.Option.{some}
 use lib.ListN.{get_elem?}
 use Rattle.atomic_table.specs.Table.{State, Allows, keeps, stepped}
@@ -17,6 +17,7 @@ use Rattle.place_words.specs.declared.owner.Owner.{Owner}
 use Rattle.place_words.specs.declared.owner.Owner.TheVariants as owners
 use Rattle.place_words.specs.Codes.{home_code, HasHomeCode}
 use Rattle.map_types.specs.ElementLists.{put, times, IsIn}
+use Rattle.map_types.proofs.RowLemmas.{times_append, by_test}
 use Rattle.place_words.specs.declared.history.Entry.{Entry}
 use Rattle.place_words.specs.Histories.{content}
 use Rattle.place_words.specs.Locks.{is_lock, lock_named, lock_number}
@@ -29,7 +30,7 @@ use Rattle.place_core.specs.Places.{ElementPlace, under_lock, carried, lies_at, 
 use Rattle.place_core.specs.Steps.{Holds, left_by, joined_by, MayLeave, MayEnter, IsFreeOrInHand, CanRehome, after_leaving, after_joining, CanClear, IsHeldHome}
 use Rattle.place_core.specs.Steps as steps
 use Rattle.place_core.specs.Wholeness.{all_of, EachInOnePlace}
-use Rattle.place_core.proofs.ElementLemmas.{by_test, at_put, put_here, put_else, times_append}
+use Rattle.place_core.proofs.ElementLemmas.{at_put, put_here, put_else}
 use Rattle.place_core.proofs.RowLemmas.{stands_where, free_is, lies_is, row_lies}
 use Rattle.place_core.proofs.StepLaws.{step_keeps_places, step_keeps_ranks}
 use Rattle.place_core.proofs.WholeLemmas.{each_in_one_place}
@@ -52,7 +53,7 @@ use Rattle.place_table.proofs.PlaceSteps.{IsHeldByPass, AreHeld, now_is, held_mo
 use Rattle.place_table.proofs.WordSteps.{clears_by, look_rule}
 use Rattle.place_table.proofs.OwnersSeen.{owner_fits}
 use Rattle.place_table.proofs.Worlds.{true_false, by_bool, none_some, both_true, some_is, has_mine, hand_is, in_hand_is, hold_of_mine, hashed_stands, hashed_away, IsAway}
-use Rattle.place_table.proofs.Readings.{without_home, still_flushed, still_is, IsNew, read_home_known}
+use Rattle.place_table.proofs.Readings.{without_home, still_flushed, still_is, IsNew, read_home_known, home_is_hand}
 use Rattle.place_table.proofs.Rehomes.{hashes_rehomed}
 use Rattle.place_table.proofs.NotesDone.{noted_with, noted_without, noted_home_come, noted_left_home, noted_home, word_off}
 use Rattle.place_table.proofs.Came.{came_home_read, came_with, came_without, came_home, came_left_home, come_from_other, came_here}
@@ -148,11 +149,6 @@ abbrev notes_then : Shape → Home → Home → ℕ → View → List Notes
 notes_then shape from to e v = with_come_home shape from to e v.held (with_left_home shape from to e v.held v.notes)
 
 -- What the pass knows, as it is so
-
-home_is_hand : (c : ℕ) (home : Home) → is_home_of c home ≡ true → home ≡ homes.Hand c
-home_is_hand c homes.Unlisted is = absurd cc
-home_is_hand c (homes.In lock) is = absurd cc
-home_is_hand c (homes.Hand d) is = ap homes.Hand (eqb-true d c is)
 
 module _ (shape : Shape) (s : State Behind View) (r : Rule shape s) (pass : ℕ) (v : View) (at_pass : get_elem? s.views pass ≡ some v) (c e : ℕ) (has : is_among c v.cpus ≡ true) (real : e < shape.elements) where
   holds_known : (lock : DomainId) → HoldsLock shape v c lock → Holds shape r.world.core c lock

@@ -3,7 +3,7 @@ use Rattle.std.proofs.Common.{◌≡◌, ◌≢◌, ℕ, ◌+◌, ◌<◌, ◌�
 use Rattle.std.proofs.lemmas.Bool.{cases_lt}
 use Rattle.std.proofs.lemmas.List.{get_or_past}
 use Rattle.map_types.specs.Stored.{Stored}
-use Rattle.place_core.proofs.ElementLemmas.{by_test}
+use Rattle.map_types.proofs.RowLemmas.{by_test}
 use Rattle.place_table.specs.Passes.{spare_of, SparesDiffer, either_spare}
 
 -- up to a CPU those of both are kept, and from there on each is where it was

@@ -32,10 +32,11 @@ use Rattle.place_words.specs.declared.owner.Owner.TheVariants as owners
 use Rattle.place_words.specs.Openings.{is_free}
 use Rattle.place_core.specs.Places.{lies_at, has_row, home_of_place}
 use Rattle.map_types.specs.Kind.{is_lru}
+use Rattle.map_types.proofs.RowLemmas.{by_test}
 use Rattle.place_core.specs.State as cores
 use Rattle.place_core.specs.State.{rows, is_bucket, HasOnlyItsLists, HasCursorInside}
 use Rattle.place_core.specs.Steps.{CanTake, taken, CanGive, given}
-use Rattle.place_core.proofs.ElementLemmas.{by_test, at_put, put_here}
+use Rattle.place_core.proofs.ElementLemmas.{at_put, put_here}
 use Rattle.place_core.proofs.StepLaws.{step_keeps_places, step_keeps_ranks}
 use Rattle.place_table.specs.declared.content.Behind.{Behind}
 use Rattle.place_table.specs.declared.content.Content.{Content}

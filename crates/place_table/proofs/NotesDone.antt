@@ -3,6 +3,7 @@ use Rattle.std.proofs.Common.{◌≡◌, ℕ, ◌<◌, ◌≤◌, arith, inl, in
 use Rattle.std.proofs.lemmas.List.Elements.{All-head}
 use Rattle.map_types.specs.declared.attr.Shape.{Shape}
 use Rattle.map_types.specs.declared.kind.DomainId.TheVariants.{Local, Global, CpuLru, Bucket, Freelist}
+use Rattle.map_types.proofs.RowLemmas.{by_test}
 use Rattle.place_words.specs.declared.bucket_part.BucketPart.TheVariants.{Lookup, Update, Delete, Take, Next, First, Walk, Evict}
 use Rattle.place_words.specs.declared.bucket_part.Seen.TheVariants.{Removed, Held}
 use Rattle.place_words.specs.declared.history.Part.{Part}
@@ -17,7 +18,6 @@ use Rattle.place_words.specs.declared.owner.Owner.TheVariants as owners
 use Rattle.place_words.specs.Locks.{lock_number, lock_count, lock_named, rank_of}
 use Rattle.place_core.specs.declared.step.Lists.{Lists}
 use Rattle.place_core.specs.Steps.{left_by, joined_by}
-use Rattle.place_core.proofs.ElementLemmas.{by_test}
 use Rattle.place_table.specs.declared.view.Hold.{Hold}
 use Rattle.place_table.specs.declared.view.View.{View}
 use Rattle.place_table.specs.declared.view.Notes.{Notes}
@@ -29,11 +29,11 @@ use Rattle.place_table.specs.Rules.{IsAboveAll, AreOff, AreOffHeld, take_step, H
 
 -- Steps among others
 
-has_more : (x : ℕ → WordStep) (xs more : List WordStep) → HasStep x xs → HasStep x (xs ++ more)
+pub has_more : (x : ℕ → WordStep) (xs more : List WordStep) → HasStep x xs → HasStep x (xs ++ more)
 has_more x [] more has = absurd has
 has_more x (y ∷ ys) more has = ⊎_elim (λ (same : y ≡ x y.at). inl same) (λ (later : HasStep x ys). inr (has_more x ys more later)) has
 
-has_behind : (x : ℕ → WordStep) (xs more : List WordStep) → HasStep x more → HasStep x (xs ++ more)
+pub has_behind : (x : ℕ → WordStep) (xs more : List WordStep) → HasStep x more → HasStep x (xs ++ more)
 has_behind x [] more has = has
 has_behind x (y ∷ ys) more has = inr (has_behind x ys more has)
 

@@ -16,6 +16,7 @@ use Rattle.map_types.specs.Creation.{IsShape}
 use Rattle.map_types.specs.Shape.{HasBounds}
 use Rattle.map_types.specs.Kind.{is_lru}
 use Rattle.map_types.proofs.CreationLemmas.{bounds_of_shape}
+use Rattle.map_types.proofs.RowLemmas.{by_test}
 use Rattle.place_words.specs.declared.history.Entry.{Entry}
 use Rattle.place_words.specs.declared.home.Home.TheVariants as homes
 use Rattle.place_words.specs.declared.owner.Owner.TheVariants as owners
@@ -26,7 +27,6 @@ use Rattle.place_words.specs.Openings.{spare_owner, opening_owner, opening_spare
 use Rattle.place_core.specs.declared.step.Lists.{Lists}
 use Rattle.place_core.specs.Opening.{opening, opening_home, opening_lists}
 use Rattle.place_core.proofs.OpeningLaws.{opening_placed, opening_ranked}
-use Rattle.place_core.proofs.ElementLemmas.{by_test}
 use Rattle.place_core.proofs.StartLemmas.{free_local, free_bucket}
 use Rattle.place_table.specs.declared.content.Behind.{Behind}
 use Rattle.place_table.specs.declared.content.Content.{Content}

@@ -16,6 +16,7 @@ use Rattle.place_words.specs.declared.owner.Owner.TheVariants as owners
 use Rattle.place_words.specs.declared.home.Home.TheVariants as homes
 use Rattle.place_words.specs.Codes.{owner_code}
 use Rattle.map_types.specs.ElementLists.{put, IsIn, IsHead}
+use Rattle.map_types.proofs.RowLemmas.{by_test}
 use Rattle.place_words.specs.Locks.{is_lock, lock_number}
 use Rattle.place_words.specs.Openings.{is_free}
 use Rattle.place_core.specs.declared.step.Lists.{Lists}
@@ -25,7 +26,7 @@ use Rattle.place_core.specs.State.{rows, is_bucket}
 use Rattle.place_core.specs.Places.{Placed, ElementPlace, under_lock, carried, lies_at, home_of_place, MayLie}
 use Rattle.place_core.specs.Ranks.{Ranked}
 use Rattle.place_core.specs.Steps.{lists_under, with_free, without_free, with_row, without_row, with_owner, CanClaim, CanSettle, CanAttach, IsLockHome, IsInHeldBucket, IsEnabled, after, CoreStep}
-use Rattle.place_core.proofs.ElementLemmas.{at_put, put_here, put_else, by_test}
+use Rattle.place_core.proofs.ElementLemmas.{at_put, put_here, put_else}
 use Rattle.place_core.proofs.OwnerSteps.{was_inside}
 use Rattle.place_core.proofs.RowLemmas.{stands_where, free_is, head_is_in, lies_is}
 use Rattle.place_core.proofs.StepLaws.{step_keeps_places, step_keeps_ranks}

@@ -6,16 +6,15 @@ use Rattle.std.proofs.lemmas.List.Elements.{All-append, All-cons, All-nil}
 use Rattle.atomic_table.specs.Seated.{TableId}
 use Rattle.map_types.specs.declared.attr.Shape.{Shape}
 use Rattle.map_types.specs.declared.kind.MapKind.TheVariants.{Hash}
-use Rattle.map_types.specs.Stored.{Stored}
+use Rattle.map_types.specs.Stored.{Stored, IsSized}
 use Rattle.map_types.specs.Creation.{IsShape}
 use Rattle.map_types.proofs.CreationLemmas.{bounds_of_shape}
+use Rattle.map_types.proofs.RowLemmas.{by_test}
 use Rattle.place_words.specs.declared.history.StrandStep.{StrandStep}
-use Rattle.place_core.proofs.ElementLemmas.{by_test}
 use Rattle.place_table.specs.declared.content.Behind.{Behind}
 use Rattle.place_table.specs.declared.strands.FinishedStrand.{FinishedStrand}
 use Rattle.place_table.specs.declared.view.View.{View}
 use Rattle.place_table.specs.declared.view.Hold.{Hold}
-use Rattle.place_table.specs.Contents.{IsSized}
 use Rattle.place_table.specs.Views.{is_among, is_in_hand_of, without_cpu, in_hand_of, in_other_hands, current_strand, all_strands, split_from, split_off, joined}
 use Rattle.place_table.specs.Plays.{Seated}
 use Rattle.place_table.specs.Passes.{PassView, TableView, Carries, HasCpusOf, IsPass, IsPassOf, IsInNoCall, AreFinished, flags_of, spare_of, SparesDiffer, with_view, with_spares, CanSplit, Split, AreApart, CanJoin, either_spare, Joined}

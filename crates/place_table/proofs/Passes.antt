@@ -3,13 +3,14 @@ use Rattle.std.proofs.Common.{◌≡◌, ℕ, Bool, true, false, List, [], ◌�
 use Rattle.std.specs.Prelude.{◌<◌, Vec, IfSome, IsTrue}
 use Rattle.std.specs.Global.{Global}
 use Rattle.atomic_table.specs.Table.{rest}
-use Rattle.map_types.specs.Stored.{Stored}
+use Rattle.map_types.specs.Stored.{Stored, IsSized}
 use Rattle.map_types.specs.declared.attr.Shape.{Shape}
 use Rattle.map_types.specs.declared.kind.DomainId.{DomainId}
 use Rattle.map_types.specs.declared.kind.DomainId.TheVariants.{CpuLru}
 use Rattle.map_types.specs.Kind.{is_lru}
 use Rattle.map_types.specs.Creation.{IsShape}
 use Rattle.map_types.proofs.CreationLemmas.{bounds_of_shape}
+use Rattle.map_types.proofs.RowLemmas.{by_test}
 use Rattle.place_words.specs.declared.history.Entry.{Entry}
 use Rattle.place_words.specs.declared.history.Part.{Part}
 use Rattle.place_words.specs.declared.history.StrandStep.{StrandStep}
@@ -30,8 +31,7 @@ use Rattle.place_table.specs.declared.view.Hold.{Hold}
 use Rattle.place_table.specs.declared.view.Notes.{Notes}
 use Rattle.place_table.specs.declared.view.BitSeen.{BitSeen}
 use Rattle.place_table.specs.Rules.{KeptAs}
-use Rattle.place_core.proofs.ElementLemmas.{by_test}
-use Rattle.place_table.specs.Contents.{content_told, lists_of, FitsLock, IsSized}
+use Rattle.place_table.specs.Contents.{content_told, lists_of, FitsLock}
 use Rattle.place_table.specs.Flushes.{flushed_last}
 use Rattle.place_table.specs.Views.{is_among, is_in_hand_of, hold_at, known_log, home_known, holding, given, with_lost, losing, holds_below, noted, owner_read}
 use Rattle.place_table.specs.Recording.{IsLost, RecordsIn, Records, recorded_step, last_from, last_in, entry_given, no_entry}

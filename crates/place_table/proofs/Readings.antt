@@ -12,6 +12,7 @@ use Rattle.place_words.specs.declared.home.Home.TheVariants as homes
 use Rattle.place_words.specs.declared.owner.Owner.{Owner}
 use Rattle.place_words.specs.declared.owner.Owner.TheVariants as owners
 use Rattle.map_types.specs.ElementLists.{put, times, one, IsIn}
+use Rattle.map_types.proofs.RowLemmas.{by_test}
 use Rattle.place_words.specs.Histories.{content, content_after, opening_content, replayed}
 use Rattle.place_words.specs.Histories as histories
 use Rattle.place_words.specs.Locks.{is_lock, lock_named, lock_number, rank_of}
@@ -25,7 +26,7 @@ use Rattle.place_core.specs.State.{rows, is_bucket}
 use Rattle.place_core.specs.Places.{Placed, PlacedAt, ElementPlace, under_lock, carried, lies_at, has_row, home_of_place, MayLieUnder, MayLie}
 use Rattle.place_core.specs.Steps.{Holds, MayLeave, MayEnter, IsFreeOrInHand, CanRehome}
 use Rattle.place_core.specs.Wholeness.{all_of}
-use Rattle.place_core.proofs.ElementLemmas.{by_test, at_put, put_here, put_else}
+use Rattle.place_core.proofs.ElementLemmas.{at_put, put_here, put_else}
 use Rattle.place_core.proofs.RowLemmas.{lies_here}
 use Rattle.place_table.specs.declared.content.Content.{Content}
 use Rattle.place_table.specs.declared.view.InHand.{InHand}

@@ -7,8 +7,8 @@ use Rattle.atomic_table.specs.Table.{State, Allows, Act, stepped}
 use Rattle.atomic_table.proofs.Lists.{at_set, set_here, set_else}
 use Rattle.map_types.specs.declared.attr.Shape.{Shape}
 use Rattle.map_types.specs.ElementLists.{one}
+use Rattle.map_types.proofs.RowLemmas.{by_test}
 use Rattle.place_words.specs.declared.owner.Owner.TheVariants as owners
-use Rattle.place_core.proofs.ElementLemmas.{by_test}
 use Rattle.place_table.specs.declared.content.Behind.{Behind}
 use Rattle.place_table.specs.declared.view.View.{View}
 use Rattle.place_table.specs.declared.view.Ended.{Ended}

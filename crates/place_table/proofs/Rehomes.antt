@@ -11,6 +11,7 @@ use Rattle.place_words.specs.declared.home.Home.TheVariants as homes
 use Rattle.place_words.specs.declared.owner.Owner.{Owner}
 use Rattle.place_words.specs.declared.owner.Owner.TheVariants as owners
 use Rattle.map_types.specs.ElementLists.{put, times, IsIn}
+use Rattle.map_types.proofs.RowLemmas.{by_test}
 use Rattle.place_words.specs.Locks.{lock_named, lock_number, rank_of}
 use Rattle.place_words.specs.Openings.{is_free}
 use Rattle.place_words.proofs.LockLemmas.{named_by_number, number_of_named}
@@ -20,7 +21,7 @@ use Rattle.place_core.specs.State.{rows, is_bucket}
 use Rattle.place_core.specs.Places.{Placed, ElementPlace, under_lock, carried, lies_at, has_row, home_of_place, MayLieUnder, MayLie}
 use Rattle.place_core.specs.Steps.{Holds, left_by, joined_by, MayLeave, MayEnter, IsFreeOrInHand, CanRehome, after_leaving, after_joining}
 use Rattle.place_core.specs.Steps as steps
-use Rattle.place_core.proofs.ElementLemmas.{by_test, at_put, put_here}
+use Rattle.place_core.proofs.ElementLemmas.{at_put, put_here}
 use Rattle.place_core.proofs.RowLemmas.{stands_where, rows_with_row_other, rows_without_row_other, no_row_free}
 use Rattle.place_table.specs.Rules.{Tagged, HashesRight, HasRow, IsFresh, IsBrought}
 use Rattle.place_table.proofs.StoredHashes.{in_all, lies_on}

@@ -4,7 +4,7 @@ use Rattle.std.specs.Prelude.{MatchBool, ◌&&◌}
 use Rattle.std.proofs.lemmas.Bool.{eqb-true}
 use Rattle.atomic_table.specs.Table.{State}
 use Rattle.map_types.specs.declared.attr.Shape.{Shape}
-use Rattle.place_core.proofs.ElementLemmas.{by_test}
+use Rattle.map_types.proofs.RowLemmas.{by_test}
 use Rattle.place_table.specs.declared.content.Behind.{Behind}
 use Rattle.place_table.specs.declared.view.View.{View}
 use Rattle.place_table.specs.declared.view.WordStep.{WordStep}

@@ -1,10 +1,10 @@
 -- Steps on words in the order in which they were made, as their numbers fix it.
 use Rattle.std.proofs.Common.{◌≡◌, ℕ, suc, ◌+◌, ◌<◌, ◌≤◌, ◌⊎◌, inl, inr, ⊎_elim, cond, List, [], ◌∷◌, ◌++◌, length, sym, refl, ap, ◌∙◌, subst, arith}
 use Rattle.std.specs.Prelude.{MatchBool}
-use Rattle.place_core.proofs.ElementLemmas.{by_test}
 use Rattle.place_table.specs.declared.view.WordStep.{WordStep}
 use Rattle.place_table.specs.Rules.{World, Touch, AreInTime, touches_of, IsSeen, LeadTo, IsOfStrand, AreOfStrands}
 use Rattle.place_table.proofs.StrandNumbers.{cons_nil}
+use Rattle.map_types.proofs.RowLemmas.{by_test}
 
 abbrev pub Has : WordStep → List WordStep → Type 0
 Has x [] = ⊥

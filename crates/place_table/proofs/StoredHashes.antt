@@ -24,8 +24,9 @@ use Rattle.place_core.specs.State.{rows, is_bucket}
 use Rattle.place_core.specs.Places.{PlacedAt, ElementPlace, under_lock, lies_at}
 use Rattle.place_core.specs.Wholeness.{all_of}
 use Rattle.map_types.specs.ElementLists.{IsHead}
+use Rattle.map_types.proofs.RowLemmas.{times_append, by_test}
 use Rattle.place_core.specs.Steps.{with_row, without_row, with_free, without_free}
-use Rattle.place_core.proofs.ElementLemmas.{by_test, at_put, put_here, put_else, times_append}
+use Rattle.place_core.proofs.ElementLemmas.{at_put, put_here, put_else}
 use Rattle.place_core.proofs.RowLemmas.{stands_where, lies_is, row_lies, head_is_in, free_is, rows_with_row_other, rows_without_row_other, rows_without_row_same}
 use Rattle.place_table.specs.declared.content.Content.{Content}
 use Rattle.place_table.specs.declared.content.Content.TheVariants as contents

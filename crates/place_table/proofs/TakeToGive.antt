@@ -9,6 +9,7 @@ use Rattle.place_words.specs.declared.bucket_part.BucketPart.TheVariants.{Lookup
 use Rattle.place_words.specs.declared.history.Part.{Part}
 use Rattle.place_words.specs.declared.history.Part.TheVariants as parts
 use Rattle.map_types.specs.ElementLists.{times}
+use Rattle.map_types.proofs.RowLemmas.{times_append, by_test}
 use Rattle.place_words.specs.Histories as histories
 use Rattle.place_words.specs.Histories.{content, content_after, Allows, in_bucket, on_freelist, in_locals, in_global, in_own}
 use Rattle.place_words.specs.declared.list_part.GlobalPart.{GlobalPart}
@@ -22,7 +23,6 @@ use Rattle.place_table.specs.declared.content.Content.{Content}
 use Rattle.place_table.specs.declared.content.Content.TheVariants as contents
 use Rattle.place_table.specs.StoredHashes.{stored_in}
 use Rattle.place_table.specs.Contents.{content_told, lists_of, FitsLock}
-use Rattle.place_core.proofs.ElementLemmas.{by_test, times_append}
 use Rattle.place_table.specs.declared.view.View.{View}
 use Rattle.place_table.specs.declared.view.Notes.{Notes}
 use Rattle.place_table.specs.declared.view.Turned.{Turned}

@@ -2,7 +2,7 @@
 use Rattle.std.proofs.Common.{◌≡◌, ℕ, suc, ◌<◌, ◌≤◌, arith, eqb, cond, Bool, true, false, List, [], ◌∷◌, length, get_or, sym, refl, ap, ◌∙◌, subst, Some}
 use Rattle.std.specs.Prelude.{MatchBool}
 use Rattle.map_types.specs.declared.attr.Shape.{Shape}
-use Rattle.place_core.proofs.ElementLemmas.{by_test}
+use Rattle.map_types.proofs.RowLemmas.{by_test}
 use Rattle.place_table.specs.declared.view.Ended.{Ended}
 use Rattle.place_table.specs.declared.view.WordStep.{WordStep}
 use Rattle.place_table.specs.Views.{is_among}

@@ -3,11 +3,11 @@ use Rattle.std.proofs.Common.{◌+◌, ◌≡◌, ℕ, suc, cond, Bool, true, fa
 use Rattle.std.proofs.lemmas.List.{map-append}
 use Rattle.map_types.specs.declared.attr.Shape.{Shape}
 use Rattle.map_types.specs.ElementLists.{times}
+use Rattle.map_types.proofs.RowLemmas.{times_append}
 use Rattle.place_words.specs.declared.history.Part.{Part}
 use Rattle.place_words.specs.declared.visits.Visit.{Visit}
 use Rattle.place_words.specs.Histories.{bits_cleared, also_cleared, clears}
 use Rattle.place_words.specs.Rotation.{visited_elements}
-use Rattle.place_core.proofs.ElementLemmas.{times_append}
 use Rattle.place_table.specs.declared.view.View.{View}
 use Rattle.place_table.specs.declared.view.Hold.{Hold}
 use Rattle.place_table.specs.declared.view.Notes.{Notes}

@@ -14,6 +14,7 @@ use Rattle.place_words.specs.declared.owner.Owner.TheVariants as owners
 use Rattle.place_words.specs.declared.home.Home.{Home}
 use Rattle.place_words.specs.Codes.{owner_code}
 use Rattle.map_types.specs.ElementLists.{put, one, IsIn}
+use Rattle.map_types.proofs.RowLemmas.{times_append, by_test}
 use Rattle.place_words.specs.Locks.{is_lock, lock_count, lock_number}
 use Rattle.place_core.specs.declared.step.Step.TheVariants.{Mark, Clear, Glance}
 use Rattle.place_core.specs.State.{rows}
@@ -21,7 +22,7 @@ use Rattle.place_core.specs.State as cores
 use Rattle.place_core.specs.Places.{Placed, MayOwn}
 use Rattle.place_core.specs.Ranks.{Ranked}
 use Rattle.place_core.specs.Steps.{IsInHeldBucket, CanClear, IsHeldHome}
-use Rattle.place_core.proofs.ElementLemmas.{by_test, times_append, put_here, put_else}
+use Rattle.place_core.proofs.ElementLemmas.{put_here, put_else}
 use Rattle.place_core.proofs.StepLaws.{step_keeps_places, step_keeps_ranks}
 use Rattle.place_table.specs.declared.content.Behind.{Behind}
 use Rattle.place_table.specs.declared.view.View.{View}

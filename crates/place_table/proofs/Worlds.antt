@@ -12,7 +12,6 @@ use Rattle.map_types.specs.ElementLists.{put}
 use Rattle.place_words.specs.Histories.{content}
 use Rattle.place_words.specs.Locks.{lock_named, lock_number, rank_of}
 use Rattle.place_core.specs.declared.step.Lists.{Lists}
-use Rattle.place_core.proofs.ElementLemmas.{by_test}
 use Rattle.place_table.specs.declared.view.View.{View}
 use Rattle.place_table.specs.declared.view.Hold.{Hold}
 use Rattle.place_table.specs.declared.view.InHand.{InHand}
@@ -26,6 +25,7 @@ use Rattle.place_table.specs.Rules.{Tagged, entries, World, hold, hold_of, is_ha
 use Rattle.place_words.specs.declared.home.Home.{Home}
 use Rattle.place_words.specs.declared.home.Home.TheVariants as homes
 use Rattle.map_types.specs.declared.kind.DomainId.{DomainId}
+use Rattle.map_types.proofs.RowLemmas.{by_test}
 
 -- the same of four functions that change at one place
 pub at_put4 : {A B C D : Type 0} (f : ℕ → A) (g : ℕ → B) (h : ℕ → C) (l : ℕ → D) (i : ℕ) (x : A) (y : B) (z : C) (u : D) (F : ℕ → A → B → C → D → Type 0) (j : ℕ)

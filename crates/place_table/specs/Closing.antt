@@ -4,7 +4,7 @@ use Rattle.std.specs.List.{range_with_len, list_any}
 use mathlib.Core.Option.{some}
 use lib.ListN.{get_elem?}
 use Rattle.map_types.specs.declared.attr.Shape.{Shape}
-use Rattle.map_types.specs.Stored.{Stored}
+use Rattle.map_types.specs.Stored.{Stored, IsSized}
 use Rattle.place_words.specs.declared.finals.Finals.{Finals}
 use Rattle.place_words.specs.declared.history.Entry.{Entry}
 use Rattle.place_words.specs.declared.history.LockHistory.{LockHistory}
@@ -16,7 +16,7 @@ use Rattle.place_words.specs.Strands.{AreSharedOut, places_on}
 use Rattle.place_core.specs.State as cores
 use Rattle.place_core.specs.Places.{Placed}
 use Rattle.place_table.specs.declared.content.Behind.{Behind}
-use Rattle.place_table.specs.Contents.{lists_of, IsSized}
+use Rattle.place_table.specs.Contents.{lists_of}
 use Rattle.place_table.specs.declared.view.Ended.{Ended}
 use Rattle.place_table.specs.Views.{is_among, is_in_hand_of, known_log, bit_seen, all_strands, is_recorded}
 use Rattle.place_table.specs.Rules.{IsSlotAfter, is_hand_of, turns_on, indexes, StandIn, Touch, touches_of, LeadTo}

@@ -3,8 +3,7 @@ use Rattle.std.specs.Prelude.{◌≡◌, ◌+◌, ◌<◌, [], length, All, None
 use Rattle.map_types.specs.declared.attr.Shape.{Shape}
 use Rattle.map_types.specs.declared.kind.DomainId.{DomainId}
 use Rattle.map_types.specs.declared.kind.DomainId.TheVariants.{Local, Global, CpuLru, Bucket, Freelist}
-use Rattle.map_types.specs.Stored.{Stored, HasSizes}
-use Rattle.map_types.specs.Sides.{part_count}
+use Rattle.map_types.specs.Stored.{IsSized}
 use Rattle.place_words.specs.Bodies.{numbers}
 use Rattle.place_words.specs.Histories as histories
 use Rattle.place_words.specs.Histories.{in_bucket, on_freelist, in_locals, in_global, in_own}
@@ -50,10 +49,6 @@ lists_of (on_freelist stack) = record { free = stack; first = []; second = []; c
 lists_of (in_locals lists) = record { free = lists.free; first = elements_of lists.pending; second = []; cursor = None }
 lists_of (in_global set) = lists_of_set set
 lists_of (in_own set) = lists_of_set set
-
--- the keys and values have the sizes of the map
-abbrev pub IsSized : Shape → Stored → Type 0
-IsSized shape body = HasSizes shape.key_size (part_count shape) shape.value_size body
 
 -- a list set as it was created, with room for every element: no element stands on two of its lists
 pub record FitsSet (shape : Shape) (set : SetView) : Type 0 where

@@ -1,7 +1,7 @@
 -- A pass that holds one bucket alone, and where a key stands in it.
 use Rattle.std.specs.Prelude.{◌≡◌, ℕ, ◌<◌, List, [], ◌∷◌, length, slice_get, All, Some}
 use Rattle.map_types.specs.declared.kind.DomainId.TheVariants.{Bucket}
-use Rattle.map_types.specs.Stored.{Stored}
+use Rattle.map_types.specs.Stored.{Stored, IsSized}
 use Rattle.bucket_chain.specs.Places.{place_of_key, key_at}
 use Rattle.place_words.specs.declared.history.Entry.{Entry}
 use Rattle.place_words.specs.Bodies.{present}
@@ -9,7 +9,7 @@ use Rattle.place_words.specs.Histories.{in_bucket, content, IsLegal}
 use Rattle.place_words.specs.Locks.{lock_number}
 use Rattle.place_table.specs.declared.view.Hold.{Hold}
 use Rattle.place_table.specs.declared.view.Notes.{Notes}
-use Rattle.place_table.specs.Contents.{lists_of, IsSized}
+use Rattle.place_table.specs.Contents.{lists_of}
 use Rattle.place_table.specs.Passes.{PassView, TableView, IsPassOf, HasBegun}
 use Rattle.place_table.specs.Plays.{AreElements, IsApartFromHands}
 use Rattle.place_table.specs.Views.{known_log, no_notes}

@@ -5,8 +5,7 @@ use Rattle.std.specs.List.{flat_map, range_with_len, list_any}
 use Rattle.map_types.specs.declared.attr.Shape.{Shape}
 use Rattle.map_types.specs.declared.kind.DomainId.TheVariants as named
 use Rattle.map_types.specs.Kind.{is_lru}
-use Rattle.map_types.specs.Stored.{Stored}
-use Rattle.cpu_freelist.specs.Stack.{numbers}
+use Rattle.map_types.specs.Stored.{Stored, IsSized}
 use Rattle.place_words.specs.declared.finals.LocalFinal.{LocalFinal}
 use Rattle.place_words.specs.declared.finals.SetFinal.{SetFinal}
 use Rattle.place_words.specs.declared.history.Entry.{Entry}
@@ -17,10 +16,11 @@ use Rattle.place_words.specs.Locks.{lock_named, lock_number, lock_count, first_s
 use Rattle.place_words.specs.Locals.{new_locals}
 use Rattle.place_words.specs.Logs.{final_set, final_local}
 use Rattle.place_words.specs.Sets.{new_set}
+use Rattle.place_words.specs.Bodies.{numbers}
 use Rattle.local_lists.specs.LocalLists.{local_told}
 use Rattle.place_table.specs.declared.content.Content.{Content}
 use Rattle.place_table.specs.declared.content.Content.TheVariants.{Bucket, Freelist, Local, Set}
-use Rattle.place_table.specs.Contents.{content_told, set_told, FitsLock, IsSized}
+use Rattle.place_table.specs.Contents.{content_told, set_told, FitsLock}
 use Rattle.place_table.specs.declared.strands.FinishedStrand.{FinishedStrand}
 use Rattle.place_table.specs.declared.view.Ended.{Ended}
 use Rattle.place_table.specs.Passes.{spare_of}
@@ -41,7 +41,7 @@ bodies_in (Some (Set set)) = []
 abbrev pub numbers_in : Option Content → List ℕ
 numbers_in None = []
 numbers_in (Some (Bucket chain)) = []
-numbers_in (Some (Freelist freelist)) = numbers freelist
+numbers_in (Some (Freelist freelist)) = numbers freelist.bodies
 numbers_in (Some (Local lists)) = []
 numbers_in (Some (Set set)) = []
 

@@ -4,12 +4,12 @@ use mathlib.Core.Option.{some}
 use lib.ListN.{get_elem?}
 use Rattle.map_types.specs.declared.attr.Shape.{Shape}
 use Rattle.map_types.specs.declared.kind.DomainId.{DomainId}
-use Rattle.map_types.specs.Stored.{Stored}
+use Rattle.map_types.specs.Stored.{Stored, IsSized}
 use Rattle.place_words.specs.Histories.{opening_content}
 use Rattle.place_words.specs.Locks.{is_lock, lock_named}
 use Rattle.place_table.specs.declared.content.Content.{Content}
 use Rattle.place_table.specs.declared.content.Behind.{Behind}
-use Rattle.place_table.specs.Contents.{content_told, FitsLock, IsSized}
+use Rattle.place_table.specs.Contents.{content_told, FitsLock}
 use Rattle.place_table.specs.Rules.{KeptAs}
 use Rattle.place_table.specs.Passes.{spare_of}
 

@@ -182,6 +182,10 @@ no_notes = record { came = []; marks = []; asked = []; owners = []; homes = []; 
 abbrev pub touching : ℕ → ℕ → Option ℕ → ℕ → View → List WordStep
 touching at word seen left v = v.touched ++ record { at = at; word = word; seen = seen; left = left } ∷ []
 
+-- a hold with other lists
+abbrev pub hold_with : Hold → Lists → Hold
+hold_with hold now = record { lock = hold.lock; cpu = hold.cpu; log = hold.log; now = now; lost = hold.lost }
+
 -- one lock more is held
 abbrev pub holding : ℕ → Hold → View → View
 holding at hold v = record {

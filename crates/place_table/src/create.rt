@@ -3,13 +3,14 @@
 ghost use Rattle.std.specs.Prelude.{◌≡◌, ◌+◌, ◌<◌, ◌≤◌, ◌++◌, ℕ, false, [], length, map, replicate, All, IfOk, OnOk};
 ghost use Rattle.map_types.specs.Creation.{IsShape};
 ghost use Rattle.map_types.specs.ElementLists.{times, IsIn};
+ghost use Rattle.map_types.specs.Stored.{IsSized};
 ghost use Rattle.place_words.specs.Bodies.{numbers};
 ghost use Rattle.place_words.specs.Codes.{owner_code, HasOwnerCode};
 ghost use Rattle.place_words.specs.Locks.{lock_count};
 ghost use Rattle.place_words.specs.Openings.{first_spares};
 ghost use Rattle.place_words.specs.Sets.{new_set};
 ghost use Rattle.place_core.specs.OpeningView.{AreOpeningOwners};
-ghost use Rattle.place_table.specs.Contents.{IsSized, FitsSet, set_told};
+ghost use Rattle.place_table.specs.Contents.{FitsSet, set_told};
 ghost use Rattle.place_table.specs.Opening.{IsFirstContent, IsFirstSlot, AreFirstSlots, AreBodiesOf};
 ghost use Rattle.place_table.specs.Words.{opening_words, opening_home_codes};
 ghost use Rattle.place_table.specs.Passes.{IsFirstPass};

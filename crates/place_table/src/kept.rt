@@ -3,8 +3,7 @@
 ghost use Rattle.std.specs.Prelude.{◌≡◌, ◌<◌, All, IfOk, length};
 ghost use Rattle.map_types.specs.Parts.{part_size, part_at};
 ghost use Rattle.map_types.specs.Sides.{part_count};
-ghost use Rattle.map_types.specs.Stored.{HasSizes};
-ghost use Rattle.place_table.specs.Contents.{IsSized};
+ghost use Rattle.map_types.specs.Stored.{HasSizes, IsSized};
 
 use bucket_chain::Chain;
 use map_types::{Bytes, List, NoMemory, Shape};

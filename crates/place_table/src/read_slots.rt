@@ -2,14 +2,13 @@
 
 ghost use Rattle.std.specs.Prelude.{◌≡◌, ◌<◌, ◌≤◌, ℕ, ◌+◌, Bool, List, [], ◌∷◌, None, true, false, All, IfOk, OnOk, drop, filter, length, map, slice_index_or, slice_range, take};
 ghost use Rattle.std.specs.List.{range_with_len};
-ghost use Rattle.cpu_freelist.specs.Stack.{numbers};
-ghost use Rattle.lru_lists.specs.Sets.{numbers_of};
 ghost use Rattle.map_types.specs.Creation.{IsShape};
 ghost use Rattle.place_words.specs.Locks.{lock_count, first_bucket, first_freelist};
 ghost use Rattle.place_words.specs.Logs.{final_set, final_local};
 ghost use Rattle.local_lists.specs.LocalLists.{local_told};
 ghost use Rattle.place_words.specs.Locals.{new_locals};
 ghost use Rattle.place_words.specs.Sets.{new_set};
+ghost use Rattle.place_words.specs.Bodies.{numbers};
 ghost use Rattle.place_table.specs.declared.view.Ended.{Ended};
 ghost use Rattle.place_table.specs.Closing.{has_lock};
 ghost use Rattle.place_table.specs.Contents.{set_told};
@@ -294,7 +293,7 @@ fn lists_of_cpu(alloc: Global, lists: LocalSet<Listing>) -> Result<LocalFinal, N
 
 /// The free elements of local lists, head first.
 fn local_free_left(alloc: Global, mut lists: LocalSet<Listing>) -> Result<Numbers, NoMemory>
-    ensures { IfOk result (λ elements. elements ≡ numbers_of lists.free.bodies) }
+    ensures { IfOk result (λ elements. elements ≡ numbers lists.free.bodies) }
 {
     let mut elements = Vec::new(alloc);
     while let Some(body) = lists.pop_free() {
@@ -357,7 +356,7 @@ fn own_left(alloc: Global, set: ListSet<Listing>) -> Result<SetFinal, NoMemory>
 
 /// The free elements of a list set, head first.
 fn free_left(alloc: Global, mut set: ListSet<Listing>) -> Result<Numbers, NoMemory>
-    ensures { IfOk result (λ elements. elements ≡ numbers_of set.free.bodies) }
+    ensures { IfOk result (λ elements. elements ≡ numbers set.free.bodies) }
 {
     let mut elements = Vec::new(alloc);
     while let Some(body) = set.free_pop() {
@@ -394,7 +393,7 @@ fn freelist_left(alloc: Global, content: Option<Content>) -> Result<Numbers, NoM
 
 /// The elements of a freelist, top first.
 fn numbers_left(alloc: Global, mut freelist: Freelist) -> Result<Numbers, NoMemory>
-    ensures { IfOk result (λ elements. elements ≡ numbers freelist) }
+    ensures { IfOk result (λ elements. elements ≡ numbers freelist.bodies) }
 {
     let mut elements = Vec::new(alloc);
     while let Some(body) = freelist.pop() {

@@ -19,13 +19,14 @@ use Rattle.place_words.specs.Histories.{replayed}
 use Rattle.place_words.specs.Locks.{is_lock}
 use Rattle.place_words.specs.Logs.{State, new_state, answers}
 use Rattle.place_words.specs.Openings.{is_free, opening_owner, opening_stack, opening_pushed, opening_free}
-use Rattle.place_words.specs.SerialOrder.{AlwaysGets, HasEnough, error_told}
+use Rattle.place_words.specs.SerialOrder.{AlwaysGets, HasEnough}
 use Rattle.place_words.specs.Shares.{share_first, share_count, pushed_from}
 use Rattle.place_words.proofs.EachTurn.{TurnLaw}
 use Rattle.place_words.proofs.Giving.{never_enomem}
 use Rattle.place_words.proofs.OwnGets.{EachOwn, own_law}
 use Rattle.place_words.proofs.SharedGets.{SomeShared, shared_law}
 use Rattle.map_types.proofs.CreationLemmas.{bounds_of_shape}
+use Rattle.map_types.specs.Replies.{error_of}
 
 -- The opening
 
@@ -88,7 +89,7 @@ plain_law shape cpu number plain = record {
 pub always_gets : (shape : Shape) → HasEnough shape → (calls : List Call) → All (λ (call : Call). call.cpu < shape.cpus) calls → AlwaysGets shape calls
 always_gets shape enough calls served = by (is_lru shape.kind) shape.common refl refl
   where
-    by : (lru common : Bool) → is_lru shape.kind ≡ lru → shape.common ≡ common → All (λ (reply : Reply). error_told reply ≢ Some Enomem) (answers shape 1 calls (new_state shape))
+    by : (lru common : Bool) → is_lru shape.kind ≡ lru → shape.common ≡ common → All (λ (reply : Reply). error_of reply ≢ Some Enomem) (answers shape 1 calls (new_state shape))
     by false common plain is = never_enomem shape (λ state. Unit {0}) (λ cpu number within. plain_law shape cpu number plain) 1 calls (new_state shape) served tt
     by true true lru common = never_enomem shape (SomeShared shape) (shared_law shape common) 1 calls (new_state shape) served
         (global_first shape lru common (MatchBool-at_true (1 ≤ shape.elements) (shape.cpus ≤ shape.elements) common (enough lru)))

@@ -91,7 +91,7 @@ walk_allowed shape cpu room bodies = by (ltb room (length bodies)) refl
     by true is = (refl, ltb-true room (length bodies) is)
     by false is = (ltb-false room (length bodies) is, refl)
 
-walk_takes : (remove : Bool) (room : ℕ) (result : Walked) (x : ℕ) → times x (brought_to_bucket (Walk remove room result)) + times x (walked_out remove result) ≡ times x (taken_from_bucket (Walk remove room result)) + times x []
+pub walk_takes : (remove : Bool) (room : ℕ) (result : Walked) (x : ℕ) → times x (brought_to_bucket (Walk remove room result)) + times x (walked_out remove result) ≡ times x (taken_from_bucket (Walk remove room result)) + times x []
 walk_takes remove room (Over n) x = refl
 walk_takes true room (Taken all) x = omega arith
 walk_takes false room (Taken all) x = refl

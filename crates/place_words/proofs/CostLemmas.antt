@@ -137,7 +137,7 @@ few_active : (scans : ℕ) (set : Listed) → length (active_visited scans set) 
 unfolding active_visited
 few_active scans set = few_where _ scans (reverse set.active)
 
-few_inactive : (scans : ℕ) (set : Listed) → length (inactive_visited scans set) ≤ scans
+pub few_inactive : (scans : ℕ) (set : Listed) → length (inactive_visited scans set) ≤ scans
 unfolding inactive_visited
 few_inactive scans set = omega (arith, length-take scans (inactive_order set.cursor set.inactive))
 

@@ -136,11 +136,11 @@ empty_leaves shape cpu (in_locals lists) = refl
 empty_leaves shape cpu (in_global set) = refl
 empty_leaves shape cpu (in_own set) = refl
 
-either_same : (b : Bool) (x y : Content) → x ≡ y → cond b x y ≡ y
+pub either_same : (b : Bool) (x y : Content) → x ≡ y → cond b x y ≡ y
 either_same true x y same = same
 either_same false x y same = refl
 
-after_empty : (shape : Shape) (cpu giver : ℕ) (contents : DomainId → Content) → after_turn shape cpu contents (on_freelist_of giver FoundEmpty) ≡ contents
+pub after_empty : (shape : Shape) (cpu giver : ℕ) (contents : DomainId → Content) → after_turn shape cpu contents (on_freelist_of giver FoundEmpty) ≡ contents
 after_empty shape cpu giver contents =
     fun_ext (λ lock. either_same (is_same_lock (Freelist giver) lock) _ _ (empty_leaves shape cpu (contents lock)))
 
@@ -265,7 +265,7 @@ pushed_as : (cpu : ℕ) (gone : Option ℕ) → map (λ e. on_freelist_of cpu (P
 pushed_as cpu None = refl
 pushed_as cpu (Some e) = refl
 
-second_of : (b : Bool) (x y : List Turn) → b ≡ false → cond b x y ≡ y
+pub second_of : (b : Bool) (x y : List Turn) → b ≡ false → cond b x y ≡ y
 second_of true x y is = absurd cc
 second_of false x y is = refl
 

@@ -18,6 +18,7 @@ use Rattle.map_types.specs.ElementLists.{times}
 use Rattle.map_types.specs.Kind.{is_lru, is_percpu}
 use Rattle.map_types.specs.Stored.{Stored}
 use Rattle.map_types.proofs.RowLemmas.{by_test}
+use Rattle.map_types.specs.Replies.{error_of}
 use Rattle.key_hash.specs.Jhash.{hash}
 use Rattle.place_words.specs.declared.bucket_part.BucketPart.{BucketPart}
 use Rattle.place_words.specs.declared.bucket_part.BucketPart.TheVariants.{Lookup, Update, Delete, Take, Next, First, Walk, Evict}
@@ -33,7 +34,6 @@ use Rattle.place_words.specs.declared.history.Part.TheVariants as parts
 use Rattle.place_words.specs.Evicting.{left_over}
 use Rattle.place_words.specs.Logs.{State, turned, all_turned, bucket_at, freelist_at, present_in, Taking, acquired, freeing, all_freed, taken_out, popped, popped_or, Does, first_does, put_offered, put_alone, puts_in, offered, evicting_does, put_popped, put_present, plain_does, got_by, key_does, first_or, firsts, found_next, goes_on, next_does, walked, after_walk, walks, read_does, counted_or, writes, write_does, does}
 use Rattle.place_words.specs.PlainTraces.{element_gone, reply_of_put, reply_of_got, reply_of_gone}
-use Rattle.place_words.specs.SerialOrder.{error_told}
 use Rattle.place_words.specs.Turns.{Turn, ring, on_lock, on_bucket_of, on_freelist_of, bucket_of_key}
 use Rattle.place_words.specs.Walks.{buckets_from, stopped_at, pair_of, walked_out, refused_with, updates_of, deletes_of}
 
@@ -149,7 +149,7 @@ other_error : {X : Type 0} (told : Option Errno) → is_enomem told ≡ false �
 unfolding is_enomem
 other_error told other is = absurd (true≢false (sym (ap is_enomem is) ∙ other))
 
-put_error : (put : Put) → is_enomem (error_told (reply_of_put put)) ≡ false
+put_error : (put : Put) → is_enomem (error_of (reply_of_put put)) ≡ false
 unfolding is_enomem
 put_error (puts.Added e) = refl
 put_error (puts.Replaced new old) = refl
@@ -158,12 +158,12 @@ put_error puts.Exists = refl
 put_error puts.Absent = refl
 put_error puts.Full = refl
 
-got_error : (got : Option (ℕ × List ℕ)) → is_enomem (error_told (reply_of_got got)) ≡ false
+got_error : (got : Option (ℕ × List ℕ)) → is_enomem (error_of (reply_of_got got)) ≡ false
 unfolding is_enomem
 got_error None = refl
 got_error (Some got) = refl
 
-gone_error : (gone : Option ℕ) → is_enomem (error_told (reply_of_gone gone)) ≡ false
+gone_error : (gone : Option ℕ) → is_enomem (error_of (reply_of_gone gone)) ≡ false
 unfolding is_enomem
 gone_error None = refl
 gone_error (Some e) = refl
@@ -173,7 +173,7 @@ unfolding is_enomem
 stopped_error [] = refl
 stopped_error (pair ∷ pairs) = refl
 
-refused_error : (reply : Reply) (errno : Errno) → refused_with reply ≡ Some errno → error_told reply ≡ Some errno
+refused_error : (reply : Reply) (errno : Errno) → refused_with reply ≡ Some errno → error_of reply ≡ Some errno
 refused_error Done errno is = is
 refused_error (Value bytes) errno is = is
 refused_error (Refused other) errno is = is
@@ -183,14 +183,14 @@ refused_error (Count stop done) errno is = absurd (Rattle.std.proofs.lemmas.Opti
 -- A call's turns fit, and it answers ENOMEM only where nothing was found.
 pub record IsRightly (Fits : List Turn → Type 0) (Lacks : Type 0) (did : Does) : Type 0 where
   pub fits : Fits did.turns
-  pub lacks : error_told did.reply ≡ Some Enomem → Lacks
+  pub lacks : error_of did.reply ≡ Some Enomem → Lacks
 
 module _ {shape : Shape} {cpu number : ℕ} {Passes : Side → List ℕ → List ℕ → Type 0} {Kept : State → Type 0} {Fits : List Turn → Type 0} {Lacks : Type 0} (law : TurnLaw shape cpu number Passes Kept Fits Lacks) where
   abbrev IsRight : Does → Type 0
   IsRight did = IsRightly Fits Lacks did
 
-  other_reply : (turns : List Turn) (reply : Reply) → Fits turns → is_enomem (error_told reply) ≡ false → IsRight (record { turns = turns; reply = reply })
-  other_reply turns reply fits other = record { fits = fits; lacks = λ is. other_error (error_told reply) other is }
+  other_reply : (turns : List Turn) (reply : Reply) → Fits turns → is_enomem (error_of reply) ≡ false → IsRight (record { turns = turns; reply = reply })
+  other_reply turns reply fits other = record { fits = fits; lacks = λ is. other_error (error_of reply) other is }
 
   first_right : (turns : List Turn) (later : Does) → Fits turns → IsRight later → IsRight (first_does turns later)
   first_right turns later fits rest = record { fits = law.both turns later.turns fits rest.fits; lacks = rest.lacks }

@@ -10,6 +10,7 @@ use Rattle.map_types.specs.declared.kind.DomainId.TheVariants.{Bucket}
 use Rattle.map_types.specs.declared.refusal.Errno.TheVariants.{Enomem}
 use Rattle.map_types.specs.declared.reply.Reply.{Reply}
 use Rattle.map_types.specs.declared.row.Row.{Row}
+use Rattle.map_types.specs.Replies.{error_of}
 use Rattle.place_words.specs.declared.history.Part.{Part}
 use Rattle.place_words.specs.declared.list_part.GlobalPart.TheVariants as global
 use Rattle.place_words.specs.declared.list_part.LocalPart.{LocalPart}
@@ -22,7 +23,6 @@ use Rattle.place_words.specs.Globals.{global_after}
 use Rattle.place_words.specs.Locals.{LocalLists, local_after}
 use Rattle.place_words.specs.Locks.{is_same_lock}
 use Rattle.place_words.specs.Logs.{State, all_turned, lies_in, stolen, does, after_one, answers}
-use Rattle.place_words.specs.SerialOrder.{error_told}
 use Rattle.place_words.specs.Sets.{ListSet, own_after}
 use Rattle.place_words.specs.Takings.{probes_of, stored_hash, evicts, listed_rows, rows_brought}
 use Rattle.place_words.specs.Turns.{Turn}
@@ -110,10 +110,10 @@ module _ (shape : Shape) (Kept : State → Type 0) where
       subst Kept (sym (all_turned-append shape cpu number xs ys state)) (second (all_turned shape cpu number xs state) (first state kept))
 
   pub never_enomem : ((cpu number : ℕ) → cpu < shape.cpus → TurnLaw shape cpu number (λ side key value. Unit {0}) Kept (λ turns. (state : State) → Kept state → Kept (all_turned shape cpu number turns state)) ⊥)
-      → (number : ℕ) (calls : List Call) (state : State) → All (λ (call : Call). call.cpu < shape.cpus) calls → Kept state → All (λ (reply : Reply). error_told reply ≢ Some Enomem) (answers shape number calls state)
-  never_enomem law number [] state served kept = All-nil (λ (reply : Reply). error_told reply ≢ Some Enomem)
+      → (number : ℕ) (calls : List Call) (state : State) → All (λ (call : Call). call.cpu < shape.cpus) calls → Kept state → All (λ (reply : Reply). error_of reply ≢ Some Enomem) (answers shape number calls state)
+  never_enomem law number [] state served kept = All-nil (λ (reply : Reply). error_of reply ≢ Some Enomem)
   never_enomem law number (call ∷ calls) state served kept =
       let within : call.cpu < shape.cpus = All-head (λ (one : Call). one.cpu < shape.cpus) call calls served in
       let right = does_right (law call.cpu number within) state kept call.verb (verb_passes call.verb) in
-      All-cons (λ (reply : Reply). error_told reply ≢ Some Enomem) (does shape call.cpu number state call.verb).reply _ right.lacks
+      All-cons (λ (reply : Reply). error_of reply ≢ Some Enomem) (does shape call.cpu number state call.verb).reply _ right.lacks
       (never_enomem law (suc number) calls (after_one shape number call state) (All-tail (λ (one : Call). one.cpu < shape.cpus) call calls served) (right.fits state kept))

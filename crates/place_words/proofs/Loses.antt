@@ -152,7 +152,7 @@ rotation_loses scans set active inactive once visits =
 abbrev names : List Look → List ℕ
 names looks = map (λ (look : Look). look.element) looks
 
-abbrev removed_ones : List Look → List ℕ
+abbrev pub removed_ones : List Look → List ℕ
 removed_ones looks = map (λ (look : Look). look.element) (filter look_removed looks)
 
 abbrev AreToldBy : List Look → ℕ → Type 0
@@ -268,7 +268,7 @@ module _ (set : Listed) (looks : List Look) (once : AreOnceIn set) (from_tail : 
 abbrev tried_names : List Try → List ℕ
 tried_names tries = map (λ (try : Try). try.element) tries
 
-abbrev removed_by_force : List Try → List ℕ
+abbrev pub removed_by_force : List Try → List ℕ
 removed_by_force tries = map (λ (try : Try). try.element) (filter try_removed tries)
 
 abbrev AreForced : List Try → ℕ → Type 0

@@ -22,9 +22,6 @@ use Rattle.place_words.specs.Globals.{with_flushed, global_after}
 use Rattle.place_words.specs.Histories.{in_bucket, in_locals, in_global, content, IsLegal, replayed, AllAllowed}
 use Rattle.place_words.proofs.Worked.{entry, look, attempt, row, lru_hash, probed0, probed_more, end0, end1}
 
-not_nil : {A : Type 0} {x : A} {xs : List A} → x ∷ xs ≡ [] → ⊥
-not_nil same = grind (arith, same)
-
 unfoldable pub shape : Shape
 shape = lru_hash 1 2 true
 

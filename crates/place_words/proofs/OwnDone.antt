@@ -161,7 +161,7 @@ has_listed e of (row ∷ rows) some =
     (λ other is. has_listed e of rows is)
     some
 
-either_true : (a b : Bool) → (a ≡ true) ⊎ (b ≡ true) → (a || b) ≡ true
+pub either_true : (a b : Bool) → (a ≡ true) ⊎ (b ≡ true) → (a || b) ≡ true
 either_true true b is = refl
 either_true false b (inl is) = absurd cc
 either_true false b (inr is) = is

@@ -1,5 +1,4 @@
--- What a rotation leaves of any lists, also of such in which an element has several rows: of each element as many rows at
--- most, and one where there was one.
+-- What a rotation leaves of any lists, also of such in which an element has several rows: of each element as many rows at most.
 use Rattle.std.proofs.Common.{◌≡◌, ℕ, ◌+◌, ◌≤◌, Bool, true, false, cond, List, reverse, arith}
 use Rattle.map_types.specs.declared.row.Row.{Row}
 use Rattle.map_types.specs.Listed.{Listed, those}

@@ -1,6 +1,6 @@
 -- A serial run worked whole: own set, a shrink that spares a set bit.
-use Rattle.std.proofs.Common.{◌≡◌, true, false, List, [], ◌∷◌, refl}
-use Rattle.std.specs.Prelude.{None, Some}
+use Rattle.std.proofs.Common.{◌≡◌, false, List, [], ◌∷◌, refl}
+use Rattle.std.specs.Prelude.{None}
 use Rattle.map_types.specs.declared.attr.Shape.{Shape}
 use Rattle.map_types.specs.declared.kind.MapKind.TheVariants.{LruHash}
 use Rattle.map_types.specs.declared.call.Call.{Call}
@@ -11,12 +11,6 @@ use Rattle.map_types.specs.declared.refusal.Errno.TheVariants.{Enoent}
 use Rattle.map_types.specs.declared.reply.Reply.TheVariants.{Done, Value, Refused}
 use Rattle.key_hash.specs.Jhash.{hash, absorb, start, add_block, mix, finish, finish_a, finish_b, finish_c, mix_a, mix_b, mix_c}
 use Rattle.key_hash.specs.Bucket.{bucket_number}
-use Rattle.place_words.specs.declared.bucket_part.BucketPart.TheVariants.{Lookup, Update, Evict}
-use Rattle.place_words.specs.declared.bucket_part.Put.TheVariants as puts
-use Rattle.place_words.specs.declared.bucket_part.Seen.TheVariants.{Removed}
-use Rattle.place_words.specs.declared.history.Entry.{Entry}
-use Rattle.place_words.specs.declared.history.Part.TheVariants as parts
-use Rattle.place_words.specs.declared.list_part.OwnPart.TheVariants as own
 use Rattle.place_words.specs.Rotation.{rotated, active_visited, active_rotated, inactive_order, inactive_visited, inactive_rotated}
 use Rattle.place_words.specs.Shrinking.{after_looks, after_tries, shrunk}
 use Rattle.place_words.specs.Openings.{opening_stack, opening_spares, opening_owner, opening_free}
@@ -28,7 +22,7 @@ use Rattle.place_words.specs.Histories.{replayed}
 use Rattle.map_types.specs.ElementLists.{put}
 use Rattle.place_words.specs.Choices.{own_turn, shrink_of, global_turn}
 use Rattle.place_words.specs.Logs.{State, does, key_does, taken_own, refilled, acquired, freeing, run, answers, finals_of, new_state}
-use Rattle.place_words.proofs.Worked.{entry, visit, look}
+use Rattle.place_words.proofs.SparedOnOwn.{lru_0, bucket_2, bucket_3}
 
 shape : Shape
 shape = record {
@@ -65,44 +59,13 @@ replies_are : answers shape 1 calls (new_state shape) ≡ Done ∷ Done ∷ Done
 unfolding finals_of put does key_does own_turn shrink_of global_turn taken_own refilled acquired freeing replayed rotated active_visited active_rotated inactive_order inactive_visited inactive_rotated after_looks after_tries shrunk with_flushed own_after local_after global_after bucket_after opening_stack opening_spares opening_owner opening_free hash absorb start add_block mix finish finish_a finish_b finish_c mix_a mix_b mix_c bucket_number shape calls
 replies_are = refl
 
-lru_0 : List Entry
-lru_0 =
-    entry 0 1 (parts.Own (own.Turn 82610235 ([]) ([]) None (Some 3)))
-    ∷ entry 0 2 (parts.Own (own.Turn 3750671035 ([]) ((visit 3 false) ∷ []) None (Some 2)))
-    ∷ entry 0 3 (parts.Own (own.Turn 3143674318 ([]) ((visit 3 false) ∷ (visit 2 false) ∷ []) None (Some 1)))
-    ∷ entry 0 4 (parts.Own (own.Turn 494459842 ([]) ((visit 3 false) ∷ (visit 2 false) ∷ (visit 1 false) ∷ []) None (Some 0)))
-    ∷ entry 0 7 (parts.Own (own.Turn 882461803 ([]) ((visit 3 true) ∷ (visit 2 false) ∷ (visit 1 false) ∷ (visit 0 false) ∷ []) (Some (record { target = 4; looks = (look 2 false (Some Removed)) ∷ (look 1 false (Some Removed)) ∷ (look 0 false (Some Removed)) ∷ []; forced = [] })) (Some 0)))
-    ∷ []
-
 lru_0_is : end.logs (CpuLru 0) ≡ lru_0
 unfolding finals_of put does key_does own_turn shrink_of global_turn taken_own refilled acquired freeing replayed rotated active_visited active_rotated inactive_order inactive_visited inactive_rotated after_looks after_tries shrunk with_flushed own_after local_after global_after bucket_after opening_stack opening_spares opening_owner opening_free hash absorb start add_block mix finish finish_a finish_b finish_c mix_a mix_b mix_c bucket_number shape calls end lru_0
 lru_0_is = refl
 
-bucket_2 : List Entry
-bucket_2 =
-    entry 0 3 (parts.Bucket (Update Prog 0 (3 ∷ []) (163 ∷ []) (Some 1) (puts.Added 1)))
-    ∷ entry 0 4 (parts.Bucket (Update Prog 0 (4 ∷ []) (164 ∷ []) (Some 0) (puts.Added 0)))
-    ∷ entry 0 7 (parts.Bucket (Evict 1 Removed))
-    ∷ entry 0 7 (parts.Bucket (Evict 0 Removed))
-    ∷ entry 0 10 (parts.Bucket (Lookup Prog (3 ∷ []) None))
-    ∷ []
-
 bucket_2_is : end.logs (Bucket 2) ≡ bucket_2
 unfolding finals_of put does key_does own_turn shrink_of global_turn taken_own refilled acquired freeing replayed rotated active_visited active_rotated inactive_order inactive_visited inactive_rotated after_looks after_tries shrunk with_flushed own_after local_after global_after bucket_after opening_stack opening_spares opening_owner opening_free hash absorb start add_block mix finish finish_a finish_b finish_c mix_a mix_b mix_c bucket_number shape calls end bucket_2
 bucket_2_is = refl
-
-bucket_3 : List Entry
-bucket_3 =
-    entry 0 1 (parts.Bucket (Update Prog 0 (1 ∷ []) (161 ∷ []) (Some 3) (puts.Added 3)))
-    ∷ entry 0 2 (parts.Bucket (Update Prog 0 (2 ∷ []) (162 ∷ []) (Some 2) (puts.Added 2)))
-    ∷ entry 0 5 (parts.Bucket (Lookup Prog (1 ∷ []) (Some (3, 161 ∷ []))))
-    ∷ entry 0 6 (parts.Bucket (Lookup Sys (2 ∷ []) (Some (2, 162 ∷ []))))
-    ∷ entry 0 7 (parts.Bucket (Evict 2 Removed))
-    ∷ entry 0 7 (parts.Bucket (Update Prog 0 (5 ∷ []) (165 ∷ []) (Some 0) (puts.Added 0)))
-    ∷ entry 0 8 (parts.Bucket (Lookup Prog (1 ∷ []) (Some (3, 161 ∷ []))))
-    ∷ entry 0 9 (parts.Bucket (Lookup Prog (2 ∷ []) None))
-    ∷ entry 0 11 (parts.Bucket (Lookup Prog (5 ∷ []) (Some (0, 165 ∷ []))))
-    ∷ []
 
 bucket_3_is : end.logs (Bucket 3) ≡ bucket_3
 unfolding finals_of put does key_does own_turn shrink_of global_turn taken_own refilled acquired freeing replayed rotated active_visited active_rotated inactive_order inactive_visited inactive_rotated after_looks after_tries shrunk with_flushed own_after local_after global_after bucket_after opening_stack opening_spares opening_owner opening_free hash absorb start add_block mix finish finish_a finish_b finish_c mix_a mix_b mix_c bucket_number shape calls end bucket_3

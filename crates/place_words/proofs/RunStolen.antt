@@ -1,6 +1,6 @@
 -- A serial run worked whole: a theft.
-use Rattle.std.proofs.Common.{◌≡◌, true, false, List, [], ◌∷◌, refl}
-use Rattle.std.specs.Prelude.{None, Some}
+use Rattle.std.proofs.Common.{◌≡◌, true, List, [], ◌∷◌, refl}
+use Rattle.std.specs.Prelude.{None}
 use Rattle.map_types.specs.declared.attr.Shape.{Shape}
 use Rattle.map_types.specs.declared.kind.MapKind.TheVariants.{LruHash}
 use Rattle.map_types.specs.declared.call.Call.{Call}
@@ -11,14 +11,6 @@ use Rattle.map_types.specs.declared.refusal.Errno.TheVariants.{Enoent}
 use Rattle.map_types.specs.declared.reply.Reply.TheVariants.{Done, Value, Refused}
 use Rattle.key_hash.specs.Jhash.{hash, absorb, start, add_block, mix, finish, finish_a, finish_b, finish_c, mix_a, mix_b, mix_c}
 use Rattle.key_hash.specs.Bucket.{bucket_number}
-use Rattle.place_words.specs.declared.bucket_part.BucketPart.TheVariants.{Lookup, Update, Evict}
-use Rattle.place_words.specs.declared.bucket_part.Put.TheVariants as puts
-use Rattle.place_words.specs.declared.bucket_part.Seen.TheVariants.{Removed}
-use Rattle.place_words.specs.declared.history.Entry.{Entry}
-use Rattle.place_words.specs.declared.history.Part.TheVariants as parts
-use Rattle.place_words.specs.declared.list_part.GlobalPart.TheVariants as global
-use Rattle.place_words.specs.declared.list_part.LocalPart.TheVariants as local
-use Rattle.place_words.specs.declared.list_part.Stolen.TheVariants.{Pending, Nothing}
 use Rattle.place_words.specs.Rotation.{rotated, active_visited, active_rotated, inactive_order, inactive_visited, inactive_rotated}
 use Rattle.place_words.specs.Shrinking.{after_looks, after_tries, shrunk}
 use Rattle.place_words.specs.Openings.{opening_stack, opening_spares, opening_owner, opening_free}
@@ -30,7 +22,7 @@ use Rattle.place_words.specs.Histories.{replayed}
 use Rattle.map_types.specs.ElementLists.{put}
 use Rattle.place_words.specs.Choices.{own_turn, shrink_of, global_turn}
 use Rattle.place_words.specs.Logs.{State, does, key_does, taken_own, refilled, acquired, freeing, run, answers, finals_of, new_state}
-use Rattle.place_words.proofs.Worked.{entry, look}
+use Rattle.place_words.proofs.StolenPending.{local_0, local_1, bucket_0, global_lists}
 
 shape : Shape
 shape = record {
@@ -60,45 +52,17 @@ replies_are : answers shape 1 calls (new_state shape) ≡ Done ∷ Done ∷ (Ref
 unfolding finals_of put does key_does own_turn shrink_of global_turn taken_own refilled acquired freeing replayed rotated active_visited active_rotated inactive_order inactive_visited inactive_rotated after_looks after_tries shrunk with_flushed own_after local_after global_after bucket_after opening_stack opening_spares opening_owner opening_free hash absorb start add_block mix finish finish_a finish_b finish_c mix_a mix_b mix_c bucket_number shape calls
 replies_are = refl
 
-local_0 : List Entry
-local_0 =
-    entry 0 1 (parts.Local (local.Refill 82610235 ([]) (0 ∷ []) (Some 0)))
-    ∷ entry 1 2 (parts.Local (local.Steal (Pending 0) ((look 0 false (Some Removed)) ∷ []) ([])))
-    ∷ []
-
 local_0_is : end.logs (Local 0) ≡ local_0
 unfolding finals_of put does key_does own_turn shrink_of global_turn taken_own refilled acquired freeing replayed rotated active_visited active_rotated inactive_order inactive_visited inactive_rotated after_looks after_tries shrunk with_flushed own_after local_after global_after bucket_after opening_stack opening_spares opening_owner opening_free hash absorb start add_block mix finish finish_a finish_b finish_c mix_a mix_b mix_c bucket_number shape calls end local_0
 local_0_is = refl
-
-local_1 : List Entry
-local_1 =
-    entry 1 2 (parts.Local (local.Refill 3750671035 ([]) ([]) None))
-    ∷ entry 1 2 (parts.Local (local.Steal Nothing ([]) ([])))
-    ∷ entry 1 2 (parts.Local (local.Add 3750671035 0 1))
-    ∷ []
 
 local_1_is : end.logs (Local 1) ≡ local_1
 unfolding finals_of put does key_does own_turn shrink_of global_turn taken_own refilled acquired freeing replayed rotated active_visited active_rotated inactive_order inactive_visited inactive_rotated after_looks after_tries shrunk with_flushed own_after local_after global_after bucket_after opening_stack opening_spares opening_owner opening_free hash absorb start add_block mix finish finish_a finish_b finish_c mix_a mix_b mix_c bucket_number shape calls end local_1
 local_1_is = refl
 
-global_lists : List Entry
-global_lists =
-    entry 0 1 (parts.Global (global.Turn ([]) ([]) ([]) (0 ∷ []) (Some (record { target = 127; looks = []; forced = [] }))))
-    ∷ entry 1 2 (parts.Global (global.Turn ([]) ([]) ([]) ([]) (Some (record { target = 128; looks = []; forced = [] }))))
-    ∷ []
-
 global_lists_is : end.logs Global ≡ global_lists
 unfolding finals_of put does key_does own_turn shrink_of global_turn taken_own refilled acquired freeing replayed rotated active_visited active_rotated inactive_order inactive_visited inactive_rotated after_looks after_tries shrunk with_flushed own_after local_after global_after bucket_after opening_stack opening_spares opening_owner opening_free hash absorb start add_block mix finish finish_a finish_b finish_c mix_a mix_b mix_c bucket_number shape calls end global_lists
 global_lists_is = refl
-
-bucket_0 : List Entry
-bucket_0 =
-    entry 0 1 (parts.Bucket (Update Prog 0 (1 ∷ []) (161 ∷ []) (Some 0) (puts.Added 0)))
-    ∷ entry 1 2 (parts.Bucket (Evict 0 Removed))
-    ∷ entry 1 2 (parts.Bucket (Update Prog 0 (2 ∷ []) (178 ∷ []) (Some 0) (puts.Added 0)))
-    ∷ entry 0 3 (parts.Bucket (Lookup Prog (1 ∷ []) None))
-    ∷ entry 0 4 (parts.Bucket (Lookup Prog (2 ∷ []) (Some (0, 178 ∷ []))))
-    ∷ []
 
 bucket_0_is : end.logs (Bucket 0) ≡ bucket_0
 unfolding finals_of put does key_does own_turn shrink_of global_turn taken_own refilled acquired freeing replayed rotated active_visited active_rotated inactive_order inactive_visited inactive_rotated after_looks after_tries shrunk with_flushed own_after local_after global_after bucket_after opening_stack opening_spares opening_owner opening_free hash absorb start add_block mix finish finish_a finish_b finish_c mix_a mix_b mix_c bucket_number shape calls end bucket_0

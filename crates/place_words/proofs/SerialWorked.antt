@@ -26,9 +26,10 @@ use Rattle.place_words.specs.Buckets.{bucket_after}
 use Rattle.place_words.specs.Sets.{own_after}
 use Rattle.place_words.specs.Histories.{replayed}
 use Rattle.map_types.specs.ElementLists.{put}
+use Rattle.map_types.specs.Replies.{error_of}
 use Rattle.place_words.specs.Choices.{own_turn, shrink_of}
 use Rattle.place_words.specs.Logs.{does, key_does, taken_own, acquired, freeing, answers, new_state}
-use Rattle.place_words.specs.SerialOrder.{FindsNoneHeld, error_told}
+use Rattle.place_words.specs.SerialOrder.{FindsNoneHeld}
 use Rattle.place_words.proofs.Worked.{look}
 
 -- one element for two CPUs with list sets of their own: no attributes give this shape
@@ -60,8 +61,8 @@ look_held : FindsNoneHeld (parts.Local (local.Steal Nothing (look 3 false (Some 
 look_held all = true≢false (sym (All-head (λ (probe : Try). try_removed probe ≡ true) (record { element = 3; probed = Held 1 }) [] all))
 
 -- a batch that stopped
-told_by_count : error_told (Count (Some Enomem) 2) ≡ Some Enomem
+told_by_count : error_of (Count (Some Enomem) 2) ≡ Some Enomem
 told_by_count = refl
 
-told_by_batch : error_told (Batch (Some Enomem) [] 0) ≡ Some Enomem
+told_by_batch : error_of (Batch (Some Enomem) [] 0) ≡ Some Enomem
 told_by_batch = refl

@@ -1,5 +1,5 @@
 -- A round of thefts in serial order does what the rules say, and brings home what it stole.
-use Rattle.std.proofs.Common.{◌≡◌, ◌≢◌, ℕ, zero, suc, ◌+◌, ◌-◌, ◌<◌, ◌≤◌, Bool, true, false, cond, List, [], ◌∷◌, ◌++◌, refl, ap, ◌∙◌, sym, subst, arith}
+use Rattle.std.proofs.Common.{◌≡◌, ◌≢◌, ℕ, zero, suc, ◌+◌, ◌-◌, ◌<◌, ◌≤◌, Bool, true, List, [], ◌∷◌, ◌++◌, refl, ap, ◌∙◌, sym, subst, arith}
 use Rattle.std.proofs.Math.Path.{fun_ext}
 use Rattle.std.specs.Prelude.{Option, None, Some, MatchOption, option_to_list}
 use Rattle.std.specs.List.{range_with_len}
@@ -33,6 +33,7 @@ use Rattle.place_words.proofs.SharedFrees.{locals_there}
 use Rattle.place_words.proofs.SharedTakes.{steal_chases, steal_settles, steal_all_allowed}
 use Rattle.place_words.proofs.StealChoices.{steal_allowed, steal_none, none_stolen, ring_next_below}
 use Rattle.place_words.proofs.Supplies.{is_chased}
+use Rattle.place_words.proofs.DoneLaws.{either_same}
 
 -- CPUs that the map has
 abbrev pub AreBelow : ℕ → List ℕ → Type 0
@@ -71,10 +72,6 @@ nothing_leaves shape cpu (on_freelist stack) = refl
 nothing_leaves shape cpu (in_locals lists) = refl
 nothing_leaves shape cpu (in_global set) = refl
 nothing_leaves shape cpu (in_own set) = refl
-
-either_same : (b : Bool) (x y : Content) → x ≡ y → cond b x y ≡ y
-either_same true x y same = same
-either_same false x y same = refl
 
 pub after_nothing : (shape : Shape) (cpu from : ℕ) (contents : DomainId → Content) → after_turn shape cpu contents (on_lock (Local from) (parts.Local (local.Steal Nothing [] []))) ≡ contents
 after_nothing shape cpu from contents = fun_ext (λ lock. either_same (is_same_lock (Local from) lock) _ _ (nothing_leaves shape cpu (contents lock)))

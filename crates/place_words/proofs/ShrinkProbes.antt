@@ -21,7 +21,7 @@ use Rattle.place_words.proofs.BucketLaws.{times_more}
 use Rattle.place_words.proofs.CostLemmas.{freed_count}
 use Rattle.place_words.proofs.LookLaws.{spared, removed}
 use Rattle.place_words.proofs.Worked.{not_nil}
-use Rattle.place_words.proofs.Loses.{in_set}
+use Rattle.place_words.proofs.Loses.{in_set, removed_ones, removed_by_force}
 use Rattle.place_words.proofs.RowCounts.{any, rows_append, rows_reverse, rows_cut, rows_any, rows_those, rows_without}
 
 -- a probe that takes the element out of its bucket
@@ -35,17 +35,11 @@ pub removed_names : (es : List ℕ) → map (λ (try : Try). try.element) (remov
 removed_names [] = refl
 removed_names (e ∷ es) = ap (λ (rest : List ℕ). e ∷ rest) (removed_names es)
 
-abbrev pub looked_off : List Look → List ℕ
-looked_off looks = map (λ (look : Look). look.element) (filter look_removed looks)
-
-abbrev pub tried_off : List Try → List ℕ
-tried_off tries = map (λ (try : Try). try.element) (filter try_removed tries)
-
 -- Probes
 
 -- each probe of these looks removes, and they are what the looks freed
 abbrev pub AreProbesOf : List Look → Type 0
-AreProbesOf looks = flat_map look_probes looks ≡ removed_tries (looked_off looks)
+AreProbesOf looks = flat_map look_probes looks ≡ removed_tries (removed_ones looks)
 
 pub probes_step : (bit : Bool) (row : Row) (if_set if_not : List Look) → AreProbesOf if_set → AreProbesOf if_not → AreProbesOf (if bit then spared row ∷ if_set else removed row ∷ if_not)
 probes_step true row if_set if_not a b = a
@@ -59,21 +53,21 @@ looks_probe bits (suc scans) (suc target) (row ∷ rows) =
     probes_step (bits row.element) row (looks_over bits scans (suc target) rows) (looks_over bits scans target rows)
     (looks_probe bits scans (suc target) rows) (looks_probe bits scans target rows)
 
-forced_probe : (rows : List Row) → forced_over rows ≡ removed_tries (tried_off (forced_over rows))
+forced_probe : (rows : List Row) → forced_over rows ≡ removed_tries (removed_by_force (forced_over rows))
 forced_probe [] = refl
 forced_probe (row ∷ rows) = refl
 
-pub after_probe : (looks : List Look) (rows : List Row) → forced_after looks rows ≡ removed_tries (tried_off (forced_after looks rows))
+pub after_probe : (looks : List Look) (rows : List Row) → forced_after looks rows ≡ removed_tries (removed_by_force (forced_after looks rows))
 after_probe looks rows = by (eqb (count_by look_removed looks) 0)
   where
-    by : (none : Bool) → cond none (forced_over rows) [] ≡ removed_tries (tried_off (cond none (forced_over rows) []))
+    by : (none : Bool) → cond none (forced_over rows) [] ≡ removed_tries (removed_by_force (cond none (forced_over rows) []))
     by true = forced_probe rows
     by false = refl
 
-pub walks_probe : (looks : List Look) (tries : List Try) → AreProbesOf looks → tries ≡ removed_tries (tried_off tries) → walk_probes looks tries ≡ removed_tries (freed looks tries)
+pub walks_probe : (looks : List Look) (tries : List Try) → AreProbesOf looks → tries ≡ removed_tries (removed_by_force tries) → walk_probes looks tries ≡ removed_tries (freed looks tries)
 walks_probe looks tries a b =
-    ap (λ (first : List Try). first ++ tries) a ∙ ap (λ (second : List Try). removed_tries (looked_off looks) ++ second) b
-    ∙ sym (map-append (λ (e : ℕ). removed_try e) (looked_off looks) (tried_off tries))
+    ap (λ (first : List Try). first ++ tries) a ∙ ap (λ (second : List Try). removed_tries (removed_ones looks) ++ second) b
+    ∙ sym (map-append (λ (e : ℕ). removed_try e) (removed_ones looks) (removed_by_force tries))
 
 -- the probes of a shrink are tries of exactly the elements that it frees, in order, and each removes
 pub shrink_probed : (scans target : ℕ) (bits : ℕ → Bool) (lists : Listed)
@@ -85,12 +79,12 @@ shrink_probed scans target bits lists =
 
 -- What is freed was listed
 
-pub off_step : (e : ℕ) (bit : Bool) (row : Row) (rows : List Row) (if_set if_not : List Look) → times e (looked_off if_set) ≤ times e (elements_of rows) → times e (looked_off if_not) ≤ times e (elements_of rows)
-    → times e (looked_off (if bit then spared row ∷ if_set else removed row ∷ if_not)) ≤ times e (elements_of (row ∷ rows))
+pub off_step : (e : ℕ) (bit : Bool) (row : Row) (rows : List Row) (if_set if_not : List Look) → times e (removed_ones if_set) ≤ times e (elements_of rows) → times e (removed_ones if_not) ≤ times e (elements_of rows)
+    → times e (removed_ones (if bit then spared row ∷ if_set else removed row ∷ if_not)) ≤ times e (elements_of (row ∷ rows))
 off_step e true row rows if_set if_not a b = omega (arith, a, times_more e row.element (elements_of rows))
-off_step e false row rows if_set if_not a b = omega (arith, b, times_more e row.element (elements_of rows), times_more e row.element (looked_off if_not))
+off_step e false row rows if_set if_not a b = omega (arith, b, times_more e row.element (elements_of rows), times_more e row.element (removed_ones if_not))
 
-looked_there : (bits : ℕ → Bool) (scans target : ℕ) (rows : List Row) (e : ℕ) → times e (looked_off (looks_over bits scans target rows)) ≤ times e (elements_of rows)
+looked_there : (bits : ℕ → Bool) (scans target : ℕ) (rows : List Row) (e : ℕ) → times e (removed_ones (looks_over bits scans target rows)) ≤ times e (elements_of rows)
 looked_there bits scans target [] e = omega arith
 looked_there bits zero target (row ∷ rows) e = omega arith
 looked_there bits (suc scans) zero (row ∷ rows) e = omega arith
@@ -98,11 +92,11 @@ looked_there bits (suc scans) (suc target) (row ∷ rows) e =
     off_step e (bits row.element) row rows (looks_over bits scans (suc target) rows) (looks_over bits scans target rows)
     (looked_there bits scans (suc target) rows e) (looked_there bits scans target rows e)
 
-pub forced_one : (rows : List Row) (e : ℕ) → times e (tried_off (forced_over rows)) ≤ times e (elements_of rows)
+pub forced_one : (rows : List Row) (e : ℕ) → times e (removed_by_force (forced_over rows)) ≤ times e (elements_of rows)
 forced_one [] e = omega arith
 forced_one (row ∷ rows) e = omega (arith, times_more e row.element (elements_of rows), times_more e row.element [])
 
-pub forced_few : (rows : List Row) (e : ℕ) → times e (tried_off (forced_over rows)) ≤ 1
+pub forced_few : (rows : List Row) (e : ℕ) → times e (removed_by_force (forced_over rows)) ≤ 1
 forced_few [] e = omega arith
 forced_few (row ∷ rows) e = omega (arith, times_more e row.element [], by (eqb row.element e))
   where
@@ -110,23 +104,23 @@ forced_few (row ∷ rows) e = omega (arith, times_more e row.element [], by (eqb
     by true = omega arith
     by false = omega arith
 
-looked_none : (looks : List Look) → count_by look_removed looks ≡ 0 → looked_off looks ≡ []
+looked_none : (looks : List Look) → count_by look_removed looks ≡ 0 → removed_ones looks ≡ []
 looked_none looks none =
-    nil_from_length (looked_off looks) (length-map (filter look_removed looks) (λ (look : Look). look.element) ∙ length-filter look_removed looks ∙ none)
+    nil_from_length (removed_ones looks) (length-map (filter look_removed looks) (λ (look : Look). look.element) ∙ length-filter look_removed looks ∙ none)
 
 -- what looks and a forced walk after them free of an element
-pub freed_bound : (looks : List Look) (rows : List Row) (e n : ℕ) → times e (looked_off looks) ≤ n → (1 ≤ times e (elements_of rows) → 1 ≤ n) → times e (freed looks (forced_after looks rows)) ≤ n
+pub freed_bound : (looks : List Look) (rows : List Row) (e n : ℕ) → times e (removed_ones looks) ≤ n → (1 ≤ times e (elements_of rows) → 1 ≤ n) → times e (freed looks (forced_after looks rows)) ≤ n
 freed_bound looks rows e n few there = by (eqb (count_by look_removed looks) 0) refl
   where
     by : (none : Bool) → eqb (count_by look_removed looks) 0 ≡ none → times e (freed looks (cond none (forced_over rows) [])) ≤ n
     by true is =
-        let empty : times e (looked_off looks) ≡ 0 = ap (times e) (looked_none looks (eqb-true (count_by look_removed looks) 0 is)) in
-        let whole = times_append e (looked_off looks) (tried_off (forced_over rows)) in
+        let empty : times e (removed_ones looks) ≡ 0 = ap (times e) (looked_none looks (eqb-true (count_by look_removed looks) 0 is)) in
+        let whole = times_append e (removed_ones looks) (removed_by_force (forced_over rows)) in
         ⊎_elim
         (λ some. omega (arith, whole, empty, forced_few rows e, there some))
         (λ none. omega (arith, whole, empty, forced_one rows e, none))
         (cases_lt 0 (times e (elements_of rows)))
-    by false is = omega (arith, times_append e (looked_off looks) [], few)
+    by false is = omega (arith, times_append e (removed_ones looks) [], few)
 
 chosen_less : (b : Bool) (n : ℕ) → cond b n 0 ≤ n
 chosen_less true n = omega arith

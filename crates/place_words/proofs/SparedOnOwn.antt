@@ -18,10 +18,7 @@ use Rattle.place_words.specs.Sets.{own_after}
 use Rattle.place_words.specs.Locals.{local_after}
 use Rattle.place_words.specs.Globals.{with_flushed, global_after}
 use Rattle.place_words.specs.Histories.{in_bucket, in_own, content, IsLegal, replayed, AllAllowed}
-use Rattle.place_words.proofs.Worked.{entry, visit, look, row, lru_hash, probed0, probed_more, end3}
-
-not_nil : {A : Type 0} {x : A} {xs : List A} → x ∷ xs ≡ [] → ⊥
-not_nil same = grind (arith, same)
+use Rattle.place_words.proofs.Worked.{entry, visit, look, row, lru_hash, probed0, probed_more, end3, not_nil}
 
 unfoldable pub shape : Shape
 shape = lru_hash 4 1 false

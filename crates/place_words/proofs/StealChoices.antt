@@ -21,8 +21,9 @@ use Rattle.map_types.proofs.RowLemmas.{times_rows-reverse}
 use Rattle.place_words.proofs.CostLemmas.{freed_count}
 use Rattle.place_words.proofs.GlobalChoices.{not_there}
 use Rattle.place_words.proofs.LookLaws.{spared, removed, ElementsFrom, elements_step, probed_step, tries_until, tries_name}
-use Rattle.place_words.proofs.ShrinkProbes.{removed_tries, AreProbesOf, probes_step, after_probe, walks_probe, looked_off, off_step, freed_bound, off_none, reverse_empty}
+use Rattle.place_words.proofs.ShrinkProbes.{removed_tries, AreProbesOf, probes_step, after_probe, walks_probe, off_step, freed_bound, off_none, reverse_empty}
 use Rattle.place_words.proofs.Worked.{AreProbed, probed0, not_nil}
+use Rattle.place_words.proofs.Loses.{removed_ones}
 
 -- The walk that spares set bits
 
@@ -185,7 +186,7 @@ steal_probed bits [] pending =
     ∙ ap removed_tries (taken_named (freed first second) first second (one_taken first (reverse pending) (one_spared bits (reverse pending))))
 steal_probed bits (e ∷ free) pending = refl
 
-spared_there : (bits : ℕ → Bool) (rows : List Row) (e : ℕ) → times e (looked_off (sparing_over bits rows)) ≤ times e (elements_of rows)
+spared_there : (bits : ℕ → Bool) (rows : List Row) (e : ℕ) → times e (removed_ones (sparing_over bits rows)) ≤ times e (elements_of rows)
 spared_there bits [] e = omega arith
 spared_there bits (row ∷ rows) e = off_step e (bits row.element) row rows (sparing_over bits rows) [] (spared_there bits rows e) (omega arith)
 

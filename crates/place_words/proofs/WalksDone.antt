@@ -25,7 +25,7 @@ use Rattle.place_words.specs.Locks.{is_same_lock}
 use Rattle.place_words.specs.Logs.{State, turned, all_turned, lies_in, bucket_at, present_in, taken_out, Does, first_does, first_or, firsts, following, found_next, goes_on, next_does, walked, after_walk, walks, read_does, placed}
 use Rattle.place_words.specs.Turns.{Turn, on_lock, on_freelist_of, bucket_of_key, after_turn, AreAllowed}
 use Rattle.place_words.specs.Walks.{buckets_from, Firsts, GoesOn, IsNextTrace, IsFreedAfter, TakesOut, walked_out, pair_of, AfterWalk, Walks, IsReadTrace}
-use Rattle.place_words.proofs.DoneLaws.{lies_a_bucket, lies_a_freelist}
+use Rattle.place_words.proofs.DoneLaws.{lies_a_bucket, lies_a_freelist, second_of, either_same}
 use Rattle.place_words.proofs.ListContents.{AreElsewhere, log_stays}
 use Rattle.place_words.proofs.PlacedLaws.{AreLegal, GoLegally, legally_none, legally_one, legally_both, placed-append, placed_turns}
 use Rattle.place_words.proofs.PlainLaws.{chosen_second}
@@ -42,10 +42,6 @@ look_leaves shape cpu part leaves (on_freelist stack) = refl
 look_leaves shape cpu part leaves (in_locals lists) = refl
 look_leaves shape cpu part leaves (in_global set) = refl
 look_leaves shape cpu part leaves (in_own set) = refl
-
-either_same : (b : Bool) (x y : Content) → x ≡ y → cond b x y ≡ y
-either_same true x y same = same
-either_same false x y same = refl
 
 pub after_look : (shape : Shape) (cpu bucket : ℕ) (part : BucketPart) (contents : DomainId → Content) → LeavesBucket shape cpu part → after_turn shape cpu contents (on_lock (Bucket bucket) (parts.Bucket part)) ≡ contents
 after_look shape cpu bucket part contents leaves = fun_ext (λ lock. either_same (is_same_lock (Bucket bucket) lock) _ _ (look_leaves shape cpu part leaves (contents lock)))
@@ -116,10 +112,6 @@ module _ (shape : Shape) (cpu : ℕ) (state : State) where
       )
 
 -- Batch reads
-
-second_of : (b : Bool) (x y : List Turn) → b ≡ false → cond b x y ≡ y
-second_of true x y is = absurd cc
-second_of false x y is = refl
 
 module _ (shape : Shape) (cpu number : ℕ) (plain : is_lru shape.kind ≡ false) where
   -- what a bucket's turn took out is pushed before its turn ends

@@ -1,16 +1,15 @@
 -- What holds of every run of a map of any kind in serial order. On a map that evicts no element is in the hand of a CPU between
 -- calls: each lies on a list, and in a bucket unless it is free. So a walk finds each element that it probes in its bucket, as
 -- the kernel's `htab_lru_map_delete_node` then does, and an update finds one that it can take.
-use Rattle.std.specs.Prelude.{◌≡◌, ◌≢◌, ℕ, suc, ◌<◌, ◌≤◌, MatchBool, List, [], ◌∷◌, All, Option, None, Some, IsSome, IsTrue}
+use Rattle.std.specs.Prelude.{◌≡◌, ◌≢◌, ℕ, suc, ◌<◌, ◌≤◌, MatchBool, List, [], ◌∷◌, All, Some, IsSome, IsTrue}
 use Rattle.map_types.specs.declared.attr.Shape.{Shape}
 use Rattle.map_types.specs.declared.call.Call.{Call}
 use Rattle.map_types.specs.declared.kind.DomainId.{DomainId}
 use Rattle.map_types.specs.declared.kind.MapKind.TheVariants.{Hash}
-use Rattle.map_types.specs.declared.refusal.Errno.{Errno}
 use Rattle.map_types.specs.declared.refusal.Errno.TheVariants.{Enomem}
 use Rattle.map_types.specs.declared.reply.Reply.{Reply}
-use Rattle.map_types.specs.declared.reply.Reply.TheVariants.{Done, Value, Refused, Batch, Count}
 use Rattle.map_types.specs.Kind.{is_lru}
+use Rattle.map_types.specs.Replies.{error_of}
 use Rattle.place_words.specs.declared.bucket_part.BucketPart.{BucketPart}
 use Rattle.place_words.specs.declared.bucket_part.BucketPart.TheVariants.{Lookup, Update, Delete, Take, Next, First, Walk, Evict}
 use Rattle.place_words.specs.declared.history.Entry.{Entry}
@@ -22,17 +21,9 @@ use Rattle.place_words.specs.Logs.{State, IsDone, new_state, after_one, run, ans
 use Rattle.place_words.specs.Shrinking.{try_removed}
 use Rattle.place_words.specs.Takings.{local_probes, global_probes, own_probes}
 
--- the error that a reply tells: that with which a call was refused, or a batch stopped
-abbrev pub error_told : Reply → Option Errno
-error_told Done = None
-error_told (Value bytes) = None
-error_told (Refused errno) = Some errno
-error_told (Batch stop taken next) = stop
-error_told (Count stop done) = stop
-
 -- No reply is ENOMEM: each update finds an element to take.
 abbrev pub AlwaysGets : Shape → List Call → Type 0
-AlwaysGets shape calls = All (λ (reply : Reply). error_told reply ≢ Some Enomem) (answers shape 1 calls (new_state shape))
+AlwaysGets shape calls = All (λ (reply : Reply). error_of reply ≢ Some Enomem) (answers shape 1 calls (new_state shape))
 
 -- the probes of a turn: that of a bucket's turn that evicts, and those of a list's walks
 abbrev pub bucket_probes : BucketPart → List Try

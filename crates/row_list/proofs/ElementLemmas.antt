@@ -1,13 +1,9 @@
 -- How often an element stands in a list.
-use Rattle.std.proofs.Common.{◌≡◌, ◌≢◌, ℕ, suc, ◌+◌, Bool, true, false, cond, eqb, List, [], ◌∷◌, ◌++◌, refl, ap, sym, subst, ⊎_elim, arith}
+use Rattle.std.proofs.Common.{◌≡◌, ◌≢◌, ℕ, suc, cond, List, [], ◌∷◌, refl, ap, arith}
 use Rattle.std.specs.Prelude.{reverse}
-use Rattle.std.proofs.lemmas.Bool.Decides.{eqb_tells}
 use Rattle.std.proofs.lemmas.Grind.{reverse_onto}
 use Rattle.map_types.specs.ElementLists.{times, IsIn, IsHead}
-
--- a test of two numbers, by cases
-pub by_test : (x y : ℕ) (F : Bool → Type 0) → (x ≡ y → F true) → (x ≢ y → F false) → F (eqb x y)
-by_test x y F hit miss = ⊎_elim (λ t. subst F (sym t.0) (hit t.1)) (λ t. subst F (sym t.0) (miss t.1)) (eqb_tells x y)
+use Rattle.map_types.proofs.RowLemmas.{times_append, by_test}
 
 pub times_here : (x e : ℕ) (xs : List ℕ) → x ≡ e → times e (x ∷ xs) ≡ suc (times e xs)
 times_here x e xs is =
@@ -21,14 +17,6 @@ times_elsewhere x e xs other =
 pub absent_parts : (x e : ℕ) (xs : List ℕ) → times e (x ∷ xs) ≡ 0 → (x ≢ e) × (times e xs ≡ 0)
 absent_parts x e xs =
     by_test x e (λ b. cond b (suc (times e xs)) (times e xs) ≡ 0 → (x ≢ e) × (times e xs ≡ 0)) (λ _ none. absurd (omega arith)) (λ other none. (other, none))
-
-pub times_append : (e : ℕ) (xs ys : List ℕ) → times e (xs ++ ys) ≡ times e xs + times e ys
-times_append e [] ys = omega arith
-times_append e (x ∷ xs) ys =
-    let rest = times_append e xs ys in
-    by_test x e (λ b. cond b (suc (times e (xs ++ ys))) (times e (xs ++ ys)) ≡ cond b (suc (times e xs)) (times e xs) + times e ys)
-    (λ _. omega arith)
-    (λ _. rest)
 
 pub times_reverse : (e : ℕ) (xs : List ℕ) → times e (reverse xs) ≡ times e xs
 times_reverse e [] = refl

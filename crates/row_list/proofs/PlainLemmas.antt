@@ -10,8 +10,9 @@ use Rattle.std.proofs.lemmas.Grind.{reverse_onto}
 use Rattle.map_types.specs.ElementLists.{times}
 use Rattle.map_types.specs.declared.row.Row.{Row}
 use Rattle.map_types.specs.Listed.{elements_of}
+use Rattle.map_types.proofs.RowLemmas.{times_append, by_test}
 use Rattle.row_list.specs.RowWords.{is_of, row_of, without_row, head_row, row_before, row_after}
-use Rattle.row_list.proofs.ElementLemmas.{by_test, times_here, times_append}
+use Rattle.row_list.proofs.ElementLemmas.{times_here}
 use Rattle.row_list.proofs.RowLemmas.{elements_append, times_rows_reverse, row_of_split, without_split, last_of_reverse, row_before_split, row_after_split}
 
 pub around : (front back : List Row) (row : Row) → reverse (front ++ row ∷ back) ≡ reverse back ++ (row ∷ reverse front)

@@ -3,15 +3,16 @@ use Rattle.std.proofs.Common.{◌≡◌, ◌≢◌, ℕ, suc, ◌+◌, ◌<◌, 
 use Rattle.std.specs.Prelude.{reverse, find, IsSome, ◌↔◌}
 use Rattle.std.specs.List.{list_any, IsDistinct, AllByRecursion}
 use Rattle.std.proofs.lemmas.Bool.{eqb-true, ne_eqb}
-use Rattle.std.proofs.lemmas.List.{map-append, length-map}
+use Rattle.std.proofs.lemmas.List.{map-append, length-map, reverse-reverse, reverse-append, append_assoc}
 use Rattle.std.proofs.lemmas.Map.Steps.{length-le_from_distinct_below}
 use Rattle.std.proofs.lemmas.Option.{same_Some}
 use Rattle.std.proofs.lemmas.Grind.{reverse_onto}
 use Rattle.map_types.specs.ElementLists.{times, IsIn, IsHead}
 use Rattle.map_types.specs.declared.row.Row.{Row}
 use Rattle.map_types.specs.Listed.{elements_of}
+use Rattle.map_types.proofs.RowLemmas.{by_test}
 use Rattle.row_list.specs.RowWords.{is_of, row_of, without_row, head_row, tail_row, row_before_from, row_before, row_after, AreRows, spare_of}
-use Rattle.row_list.proofs.ElementLemmas.{by_test, times_here, times_elsewhere, absent_parts, times_reverse, head_is_in}
+use Rattle.row_list.proofs.ElementLemmas.{times_here, times_elsewhere, absent_parts, times_reverse, head_is_in}
 
 pub elements_append : (xs ys : List Row) → elements_of (xs ++ ys) ≡ elements_of xs ++ elements_of ys
 elements_append xs ys = map-append (λ (row : Row). row.element) xs ys
@@ -25,6 +26,13 @@ elements_reverse (row ∷ rows) =
 
 pub times_rows_reverse : (e : ℕ) (rows : List Row) → times e (elements_of (reverse rows)) ≡ times e (elements_of rows)
 times_rows_reverse e rows = ap (times e) (elements_reverse rows) ∙ times_reverse e (elements_of rows)
+
+-- a list that reads so backwards
+pub turned_split : {A : Type 0} (xs before : List A) (item : A) (after : List A) → reverse xs ≡ before ++ item ∷ after → xs ≡ reverse after ++ item ∷ reverse before
+turned_split {A = A} xs before item after is =
+    sym (reverse-reverse xs) ∙ ap reverse is ∙ reverse-append before (item ∷ after)
+    ∙ ap (λ (ys : List A). ys ++ reverse before) (reverse-append (item ∷ []) after)
+    ∙ append_assoc (reverse after) (item ∷ []) (reverse before)
 
 -- Around the row of an element
 

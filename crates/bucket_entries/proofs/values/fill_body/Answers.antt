@@ -1,7 +1,6 @@
 use Rattle.std.proofs.Common.{◌≡◌, subst, sym, rules}
-use Rattle.map_types.specs.Stored.{Stored}
+use Rattle.map_types.specs.Stored.{Stored, IsSized}
 use Rattle.place_words.specs.Buckets.{new_stored}
-use Rattle.bucket_entries.specs.Sized.{IsSized}
 use Rattle.bucket_chain.proofs.SizeLaws.{new_sized}
 use Rattle.bucket_entries.proofs.values.fill_body.Goals as goal
 

@@ -4,10 +4,9 @@ use Rattle.std.proofs.lemmas.List.Elements.{All-map, All-weaker}
 use Rattle.map_types.specs.declared.attr.Shape.{Shape}
 use Rattle.map_types.specs.declared.kind.Side.{Side}
 use Rattle.map_types.specs.Parts.{part_size, values_in, written_own}
-use Rattle.map_types.specs.Stored.{Stored}
+use Rattle.map_types.specs.Stored.{Stored, IsSized}
 use Rattle.map_types.specs.ValueLen.{value_len_of}
 use Rattle.place_words.specs.Buckets.{written_over}
-use Rattle.bucket_entries.specs.Sized.{IsSized}
 use Rattle.bucket_chain.specs.Places.{rewritten}
 use Rattle.bucket_chain.proofs.Found.{key_found}
 use Rattle.bucket_chain.proofs.SizeLaws.{written_sized}

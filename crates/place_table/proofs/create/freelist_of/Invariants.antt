@@ -1,7 +1,7 @@
 use Rattle.std.proofs.Common.{◌≡◌, ◌≤◌, length, drop, All}
 use Rattle.place_words.specs.Bodies.{numbers}
-use Rattle.place_table.specs.Contents.{IsSized}
 use Rattle.place_table.proofs.create.freelist_of.Given as goal
+use Rattle.map_types.specs.Stored.{IsSized}
 
 abbrev pub invariant-loop-left : goal.invariant-loop-left
 invariant-loop-left l = record {

@@ -3,13 +3,12 @@ use Rattle.map_types.proofs.CreationLemmas.{bounds_of_shape}
 use Rattle.map_types.specs.declared.attr.Shape.{Shape}
 use Rattle.map_types.specs.declared.kind.DomainId.TheVariants as locks
 use Rattle.map_types.specs.Shape.{HasBounds}
-use Rattle.map_types.specs.Stored.{Stored}
+use Rattle.map_types.specs.Stored.{Stored, IsSized}
 use Rattle.bucket_chain.specs.Places.{place_of_key}
 use Rattle.place_words.specs.declared.bucket_part.BucketPart.TheVariants.{Update}
 use Rattle.place_words.specs.declared.bucket_part.Put.TheVariants as puts
 use Rattle.place_words.specs.declared.history.Part.TheVariants as parts
 use Rattle.place_words.specs.Buckets.{new_stored}
-use Rattle.place_table.specs.Contents.{IsSized}
 use Rattle.place_table.specs.declared.content.Content.TheVariants as contents
 use Rattle.place_table.specs.Passes.{TableView, CanAttach, MayGiveBack, GaveBack}
 use Rattle.hash_ops.specs.Free.{Popped}

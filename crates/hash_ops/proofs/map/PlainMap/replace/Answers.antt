@@ -6,7 +6,7 @@ use Rattle.map_types.specs.declared.kind.MapKind.{MapKind}
 use Rattle.map_types.specs.declared.kind.MapKind.TheVariants.{Hash, PercpuHash, LruHash, LruPercpuHash}
 use Rattle.map_types.specs.Kind.{is_lru, is_percpu}
 use Rattle.map_types.specs.Shape.{HasBounds}
-use Rattle.map_types.specs.Stored.{Stored}
+use Rattle.map_types.specs.Stored.{Stored, IsSized}
 use Rattle.place_words.specs.declared.bucket_part.BucketPart.TheVariants.{Update}
 use Rattle.place_words.specs.declared.bucket_part.Put.TheVariants as puts
 use Rattle.place_words.specs.declared.history.Part.TheVariants as parts
@@ -14,7 +14,6 @@ use Rattle.map_types.specs.ElementLists.{IsIn}
 use Rattle.place_words.specs.Buckets.{new_stored}
 use Rattle.place_words.specs.Bodies.{numbers}
 use Rattle.place_core.specs.Steps.{with_row}
-use Rattle.place_table.specs.Contents.{IsSized}
 use Rattle.place_table.specs.declared.content.Content.TheVariants as contents
 use Rattle.place_table.specs.Passes.{PassView, TableView, MayGiveBack, GaveBack, CanMark, CanKeepSpare, spare_of}
 use Rattle.place_table.specs.Views.{is_among, is_in_hand_of, with_in_hand, without_in_hand}

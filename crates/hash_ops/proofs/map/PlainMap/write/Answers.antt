@@ -4,10 +4,10 @@ use Rattle.map_types.proofs.CreationLemmas.{bounds_of_shape}
 use Rattle.map_types.specs.declared.attr.Shape.{Shape}
 use Rattle.map_types.specs.declared.kind.DomainId.TheVariants as locks
 use Rattle.map_types.specs.Shape.{HasBounds}
+use Rattle.map_types.specs.Stored.{IsSized}
 use Rattle.place_words.specs.declared.bucket_part.BucketPart.TheVariants.{Update}
 use Rattle.place_words.specs.declared.bucket_part.Put.TheVariants as puts
 use Rattle.place_words.specs.Buckets.{written_over}
-use Rattle.place_table.specs.Contents.{IsSized}
 use Rattle.place_table.specs.declared.content.Content.TheVariants as contents
 use Rattle.place_table.specs.Passes.{TableView, MayGiveBack, GaveBack}
 use Rattle.place_table.proofs.BucketTurns.{written_turn}

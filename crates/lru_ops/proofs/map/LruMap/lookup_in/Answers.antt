@@ -4,9 +4,9 @@ use Rattle.map_types.specs.declared.attr.Shape.{Shape}
 use Rattle.map_types.specs.declared.kind.DomainId.TheVariants as locks
 use Rattle.map_types.specs.Shape.{HasBounds}
 use Rattle.map_types.specs.Sides.{value_read}
+use Rattle.map_types.specs.Stored.{IsSized}
 use Rattle.place_words.specs.declared.bucket_part.BucketPart.TheVariants.{Lookup}
 use Rattle.place_words.specs.Bodies.{numbers}
-use Rattle.place_table.specs.Contents.{IsSized}
 use Rattle.place_table.specs.declared.content.Content.TheVariants as contents
 use Rattle.place_table.specs.Passes.{TableView, MayGiveBack, GaveBack}
 use Rattle.place_table.proofs.BucketTurns.{lookup_missed_turn, lookup_got_turn}

@@ -6,10 +6,9 @@ use Rattle.map_types.specs.declared.kind.Side.TheVariants.{Sys}
 use Rattle.map_types.specs.ElementLists.{without}
 use Rattle.map_types.specs.Shape.{HasBounds}
 use Rattle.map_types.specs.Sides.{value_read}
-use Rattle.map_types.specs.Stored.{Stored}
+use Rattle.map_types.specs.Stored.{Stored, IsSized}
 use Rattle.place_words.specs.declared.bucket_part.BucketPart.TheVariants.{Take}
 use Rattle.place_words.specs.Bodies.{numbers}
-use Rattle.place_table.specs.Contents.{IsSized}
 use Rattle.place_table.specs.declared.content.Content.TheVariants as contents
 use Rattle.place_table.specs.Passes.{TableView, CanMark, MayGiveBack, GaveBack}
 use Rattle.place_table.proofs.BucketTurns.{take_missed_turn, taken_turn}

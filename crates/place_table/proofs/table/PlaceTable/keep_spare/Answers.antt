@@ -1,7 +1,7 @@
 use Rattle.std.proofs.Common.{ap, sym, subst, ◌∙◌}
 use Rattle.map_types.specs.declared.attr.Shape.{Shape}
 use Rattle.map_types.specs.Creation.{IsShape}
-use Rattle.place_table.specs.Contents.{IsSized}
+use Rattle.map_types.specs.Stored.{IsSized}
 use Rattle.place_table.specs.Passes.{PassView, TableView}
 use Rattle.place_table.proofs.Passes.{cpu_is_few, is_pass_spared}
 use Rattle.place_table.proofs.table.PlaceTable.keep_spare.Goals as goal
