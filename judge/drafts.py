@@ -1,13 +1,14 @@
 """Reports that are edited, so that mistakes can be made in them on purpose."""
+import collections
+
 from reports import LOCKS
 
 
 class Draft:
-    """The lines of a report in its parts."""
+    """The lines of a report in its parts. An entry is its ticket and the rest of its line."""
 
     def __init__(self, text):
         self.head, self.histories, self.strands, self.dump = [], {}, [], []
-        part = self.head
         for line in text.splitlines():
             name, *words = line.split(" ")
             if name == "lock":
@@ -17,15 +18,18 @@ class Draft:
                 self.strands.append((words[0], part))
             elif name == "at":
                 part.append((" ".join(words[:-1]), int(words[-1])))
+            elif self.strands:
+                self.dump.append(line)
+            elif self.histories:
+                part.append((int(name), " ".join(words)))
             else:
-                part = self.dump if self.strands else part
-                part.append(line)
+                self.head.append(line)
 
     def text(self):
         lines = list(self.head)
         for lock, entries in sorted(self.histories.items(), key=lambda history: in_order(history[0])):
             if entries:
-                lines += [f"lock {lock} {len(entries)}", *entries]
+                lines += [f"lock {lock} {len(entries)}", *(f"{ticket} {line}" for ticket, line in entries)]
         for cpus, steps in self.strands:
             lines += [f"strand {cpus} {len(steps)}", *(f"at {lock} {index}" for lock, index in steps)]
         return "\n".join(lines + self.dump) + "\n"
@@ -36,22 +40,39 @@ class Draft:
             numbered = [(name, number(index) if name == lock else index) for name, index in steps]
             steps[:] = [step for step in numbered if step[1] is not None]
 
+    def draw(self):
+        """Gives the entries tickets anew, in an order that fits all histories and strands: of the turns that may come next
+        the one whose ticket was the least. Where no order fits they stay."""
+        waiting = [steps[::-1] for _, steps in self.strands]
+        heads, order = collections.Counter(), []
+        while ready := [steps for steps in waiting if steps and heads[steps[-1][0]] == steps[-1][1]]:
+            lock, index = min(ready, key=lambda steps: self.entry(*steps[-1])[0]).pop()
+            heads[lock] += 1
+            order.append((lock, index))
+        if len(order) == sum(map(len, self.histories.values())):
+            for number, (lock, index) in enumerate(order):
+                self.histories[lock][index] = number, self.entry(lock, index)[1]
+
+    def entry(self, lock, index):
+        return self.histories[lock][index]
+
 
 def in_order(lock):
     name, *number = lock.split(" ")
     return LOCKS.index(name), list(map(int, number))
 
 
-# Edits, each of which is a function on drafts.
+# Edits, each of which is a function on drafts. Where turns come or go or stand in another order, tickets are drawn anew, so
+# that the mistake stands alone.
 
 
 def entry(lock, index, old, new):
     """In an entry one text becomes another."""
 
     def edit(draft):
-        line = draft.histories[lock][index]
+        ticket, line = draft.entry(lock, index)
         assert line.count(old) == 1, line
-        draft.histories[lock][index] = line.replace(old, new)
+        draft.histories[lock][index] = ticket, line.replace(old, new)
 
     return edit
 
@@ -62,6 +83,7 @@ def drop(lock, index):
     def edit(draft):
         del draft.histories[lock][index]
         draft.renumber(lock, lambda other: None if other == index else other - (other > index))
+        draft.draw()
 
     return edit
 
@@ -77,6 +99,7 @@ def move(lock, index, other, to):
             if at is not None:
                 named[at] = (other, to)
         draft.renumber(lock, lambda number: number - (number > index))
+        draft.draw()
 
     return edit
 
@@ -88,6 +111,7 @@ def swap(lock, index):
         entries = draft.histories[lock]
         entries[index : index + 2] = entries[index : index + 2][::-1]
         draft.renumber(lock, lambda other: {index: index + 1, index + 1: index}.get(other, other))
+        draft.draw()
 
     return edit
 
@@ -98,17 +122,39 @@ def steps(strand, at):
     def edit(draft):
         named = draft.strands[strand][1]
         named[at : at + 2] = named[at : at + 2][::-1]
+        draft.draw()
 
     return edit
 
 
-def line(old, new):
-    """A line of the replies or of the lists at the end becomes another."""
+def ticket(lock, index, number):
+    """An entry has another ticket."""
+
+    def edit(draft):
+        draft.histories[lock][index] = number, draft.entry(lock, index)[1]
+
+    return edit
+
+
+def exchange(lock, index, other, at):
+    """Two entries have the ticket of each other."""
+
+    def edit(draft):
+        (one, line), (two, beside) = draft.entry(lock, index), draft.entry(other, at)
+        draft.histories[lock][index] = two, line
+        draft.histories[other][at] = one, beside
+
+    return edit
+
+
+def line(old, *new):
+    """A line before the histories or behind the strands becomes another, or goes."""
 
     def edit(draft):
         (part,) = [part for part in (draft.head, draft.dump) if old in part]
         assert part.count(old) == 1, old
-        part[part.index(old)] = new
+        at = part.index(old)
+        part[at : at + 1] = new
 
     return edit
 

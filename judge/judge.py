@@ -15,7 +15,8 @@ def judge(script, text, is_race=False):
     need(report.head == head, "the map")
     locks, spares = opening(made)
     replay(locks, report)
-    check_order(made, report)
+    check_strands(made, report)
+    check_tickets(report)
     need(not is_race or [cpus for cpus, _ in report.strands] == [[cpu] for cpu in range(made.cpus)], "the strands of a race")
     counts = collections.Counter(calls=len(calls))
     callers = {}
@@ -47,8 +48,8 @@ def replay(locks, report):
                 raise Unlawful(f"entry {index} of {' '.join(map(str, lock))}: {why}") from None
 
 
-def check_order(made, report):
-    """Each CPU is in one strand, which names the entries of its CPUs, each once and in order, and one order fits all."""
+def check_strands(made, report):
+    """Each CPU is in one strand, which names the entries of its CPUs, each once and in order."""
     need(sorted(cpu for cpus, _ in report.strands for cpu in cpus) == list(range(made.cpus)), "a strand for each CPU")
     for cpus, steps in report.strands:
         named = collections.defaultdict(list)
@@ -57,23 +58,20 @@ def check_order(made, report):
         for lock in report.histories.keys() | named.keys():
             own = [index for index, entry in enumerate(report.histories.get(lock, ())) if entry.cpu in cpus]
             need(named[lock] == own, f"the steps of the CPUs {cpus} on {lock}")
-    check_acyclic(report)
 
 
-def check_acyclic(report):
-    """All turns were made in some order, in which those of each lock and those of each strand stand in their own."""
-    heads = {lock: 0 for lock in report.histories}
-    waiting = [iter(steps) for _, steps in report.strands]
-    firsts = [next(steps, None) for steps in waiting]
-    moved = True
-    while moved:
-        moved = False
-        for strand, steps in enumerate(waiting):
-            while firsts[strand] is not None and heads[firsts[strand][0]] == firsts[strand][1]:
-                heads[firsts[strand][0]] += 1
-                firsts[strand] = next(steps, None)
-                moved = True
-    need(firsts == [None] * len(firsts), "no order of all turns fits")
+def check_tickets(report):
+    """All turns were made in the order of their tickets, in which those of each lock and those of each strand stand."""
+    tickets = {lock: [entry.ticket for entry in entries] for lock, entries in report.histories.items()}
+    drawn = sorted(ticket for own in tickets.values() for ticket in own)
+    for ticket, found in enumerate(drawn):
+        need(found >= ticket, f"the ticket {found} stands twice")
+        need(found <= ticket, f"no entry has the ticket {ticket}")
+    for lock, own in tickets.items():
+        need(own == sorted(own), f"the order of the tickets of {' '.join(map(str, lock))}")
+    for cpus, steps in report.strands:
+        own = [tickets[lock][index] for lock, index in steps]
+        need(own == sorted(own), f"the order of the tickets of the CPUs {cpus}")
 
 
 def check_lists(made, locks, spares, dump):

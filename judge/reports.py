@@ -2,6 +2,8 @@
 import dataclasses
 
 LOCKS = ("local", "global", "lru", "bucket", "freelist")
+# The first line of a history, which tells what stands in its lines.
+RECORD = "record 2"
 
 
 class Unlawful(Exception):
@@ -156,6 +158,8 @@ class Turn:
 
 @dataclasses.dataclass
 class Entry:
+    # The turn's place among all turns of the run, from 0.
+    ticket: int
     cpu: int
     call: int
     part: object
@@ -354,7 +358,7 @@ def set_part(words, is_global):
 
 def read_entry(lock, line):
     words = Words(line)
-    cpu, call = words.number(), words.number()
+    ticket, cpu, call = words.number(), words.number(), words.number()
     if lock[0] == "bucket":
         part = bucket_part(words)
     elif lock[0] == "freelist":
@@ -364,7 +368,7 @@ def read_entry(lock, line):
     else:
         part = set_part(words, lock[0] == "global")
     words.end()
-    return Entry(cpu, call, part)
+    return Entry(ticket, cpu, call, part)
 
 
 @dataclasses.dataclass
@@ -395,7 +399,9 @@ def read_report(text, calls):
         count, _, reply = lines[index].partition(" ")
         need(count == str(index + 1), f"the number of reply {index + 1}")
         replies.append(reply)
-    at, histories, strands = calls, {}, []
+    need(calls < len(lines) and lines[calls].startswith("record "), "no line of the record")
+    need(lines[calls] == RECORD, "another record")
+    at, histories, strands = calls + 1, {}, []
     while at < len(lines) and lines[at].startswith("lock "):
         words = Words(lines[at].removeprefix("lock "))
         lock, count = read_lock(words), words.number()

@@ -1,7 +1,7 @@
 """Shows that the judge refuses wrong reports: lawful ones with mistakes, and with each word and each line changed."""
 import pathlib
 
-from drafts import Draft, drop, entry, line, line_changes, move, steps, swap, word_changes
+from drafts import Draft, drop, entry, exchange, line, line_changes, move, steps, swap, ticket, word_changes
 from judge import judge
 from reports import Unlawful
 
@@ -165,6 +165,31 @@ WRONG = [
     ("batches", "ENOSPC for a bucket that fits", entry("bucket 0", 0, "taken 0", "over 0")),
     ("spare", "an element in two places", line("spare 1 3", "spare 1 2")),
 ]
+# The same of tickets and of the record's line, each with what has to refuse it.
+REFUSED = [
+    ("moved", "a ticket twice", "the ticket 3 stands twice", ticket("local 0", 1, 3)),
+    ("moved", "a number left out", "no entry has the ticket 12", ticket("global", 2, 13)),
+    (
+        "own",
+        "two tickets of one history exchanged",
+        "the order of the tickets of lru 0",
+        exchange("lru 0", 1, "lru 0", 2),
+    ),
+    (
+        "moved",
+        "two tickets of two locks exchanged, of one CPU",
+        "the order of the tickets of the CPUs [0]",
+        exchange("global", 0, "local 0", 0),
+    ),
+    (
+        "spare",
+        "two tickets of two locks exchanged, of two CPUs of a serial run",
+        "the order of the tickets of the CPUs [0, 1]",
+        exchange("bucket 1", 3, "freelist 0", 3),
+    ),
+    ("moved", "a record of another form", "another record", line("record 2", "record 1")),
+    ("moved", "no line that tells which record it is", "no line of the record", line("record 2")),
+]
 # The same with edits that leave a lawful report, and why they do.
 LAWFUL_EDITS = [
     (
@@ -180,6 +205,12 @@ LAWFUL_EDITS = [
         swap("bucket 1", 1),
     ),
     (
+        "moved",
+        "two tickets of two locks exchanged, of two CPUs",
+        "neither turn waits for the other, so either may come first",
+        exchange("bucket 1", 1, "local 0", 1),
+    ),
+    (
         "held",
         "another CPU that holds an element",
         "no entry tells in whose hand an element is, but that it is another's",
@@ -191,7 +222,7 @@ LAWFUL_EDITS = [
 # Lines in which a word can be changed alone, and why.
 LAWFUL_CHANGES = {
     "marked": "no entry tells which bits the last lookups left",
-    "0 10 turn": "a bit that is read moves the element to active, from which it is pushed free as well as from inactive",
+    "20 0 10 turn": "a bit that is read moves the element to active, from which it is pushed free as well as from inactive",
 }
 
 
@@ -225,6 +256,11 @@ def self_test():
         why = refusal(script, edited(report, edits))
         print(f"{name}, {what}:", "PASSES" if why is None else f"refused: {why}")
         failed += why is None
+    for name, what, wanted, *edits in REFUSED:
+        script, report = texts[name]
+        why = refusal(script, edited(report, edits))
+        print(f"{name}, {what}:", f"refused: {why}" if str(why) == wanted else f"IS NOT REFUSED BY {wanted!r}: {why}")
+        failed += str(why) != wanted
     for name, what, reason, *edits in LAWFUL_EDITS:
         script, report = texts[name]
         why = refusal(script, edited(report, edits))

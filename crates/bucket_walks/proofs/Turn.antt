@@ -28,10 +28,10 @@ use Rattle.place_table.specs.Contents.{content_told, FitsLock}
 use Rattle.place_table.specs.Flushes.{flushes}
 use Rattle.place_table.specs.InBucket.{InBucket}
 use Rattle.place_table.specs.Known.{IsBy, Learns}
-use Rattle.place_table.specs.Passes.{PassView, TableView, TookLock, CanGive, GaveBack, MayGiveBack, Goes, with_view, entry_of}
+use Rattle.place_table.specs.Passes.{PassView, TableView, TookLock, CanGive, GaveBack, MayGiveBack, Goes, with_view, entry_of, ready, TookTicket}
 use Rattle.place_table.specs.Plays.{IsApartFromHands}
 use Rattle.place_table.specs.TurnNotes.{NotesFit, WasRead, ProbeFits, CameToHand}
-use Rattle.place_table.specs.Views.{known_log, holding, given, with_lost, no_notes, notes_below, holds_below}
+use Rattle.place_table.specs.Views.{known_log, holding, given, with_lost, no_notes, notes_below, holds_below, ticket_of}
 use Rattle.place_table.proofs.BucketBodies.{rows_taken}
 use Rattle.place_table.proofs.Entries.{append_nil}
 use Rattle.place_table.proofs.TakeToGive.{none_passed}
@@ -131,8 +131,8 @@ module _ {t : TableView} {bucket : ℕ} {q : PassView} (chain : BodyList) (b : I
   may_give (Some x) same = subst (CanGive t (Bucket bucket) q (contents.Bucket chain)) (sym same) can_give
 
   -- two parts that could be given at once: the turn of the one could be that of the other
-  could_be : (stands : Part) (other : CanGive t (Bucket bucket) q (contents.Bucket chain) stands) → CouldBe t.shape (given_turn q other.hold stands) (given_turn q can_give.hold (parts.Bucket part))
-  could_be stands other =
+  could_be : (n : ℕ) (stands : Part) (other : CanGive t (Bucket bucket) q (contents.Bucket chain) stands) → CouldBe t.shape (given_turn q n other.hold stands) (given_turn q n can_give.hold (parts.Bucket part))
+  could_be n stands other =
       let same : can_give.hold ≡ other.hold = same_head (sym can_give.innermost ∙ other.innermost) in
       let notes : can_give.notes ≡ other.notes = same_head (sym can_give.notes_are ∙ other.notes_are) in
       record {
@@ -147,19 +147,19 @@ module _ {t : TableView} {bucket : ℕ} {q : PassView} (chain : BodyList) (b : I
       }
 
   module _ {p s : PassView} (none_held : p.view.held ≡ []) (took : TookLock t (Bucket bucket) p q (contents.Bucket chain)) where
-    looks_by : (stands : Part) (lost : List ℕ) (at : ℕ) (kept : List StrandStep) (can : CanGive t (Bucket bucket) q (contents.Bucket chain) stands) → Goes q s (given_turn q can.hold stands ∷ []) lost
-        → s ≡ with_view q (with_lost (lost ++ q.view.lost) (given at can.hold (entry_of q stands) kept q.view)) → IsTold t.shape lost (given_turn q can.hold stands) (given_turn q can_give.hold (parts.Bucket part)) → LooksInto t bucket p s part
-    looks_by stands lost at kept can goes s_is is_told =
+    looks_by : (stands : Part) (lost : List ℕ) (n : ℕ) (taken : TookTicket q.view) (at : ℕ) (kept : List StrandStep) (can : CanGive t (Bucket bucket) q (contents.Bucket chain) stands) → Goes q s (given_turn q n can.hold stands ∷ []) lost
+        → s ≡ with_view q (with_lost (lost ++ q.view.lost) (given at can.hold (entry_of q n stands) kept (ready q.view taken))) → IsTold t.shape lost (given_turn q n can.hold stands) (given_turn q n can_give.hold (parts.Bucket part)) → LooksInto t bucket p s part
+    looks_by stands lost n taken at kept can goes s_is is_told =
         let hold_is : can.hold ≡ b.hold = same_head (sym can.innermost ∙ b.held) in
-        let step : Turned = given_turn q can.hold stands in
+        let step : Turned = given_turn q n can.hold stands in
         let gave : Learns t.shape q.view s.view (step ∷ []) [] =
-        learns_gave t (Bucket bucket) q (contents.Bucket chain) stands s.view can
+        learns_gave t (Bucket bucket) q (contents.Bucket chain) n stands s.view can
         (subst (λ (h : Hold). IsLegal t.shape (Bucket bucket) h.log) (sym hold_is) b.legal)
         (λ has log known. ap (λ (h : Hold). h.log) hold_is ∙ b.known log (ap (λ (k : ℕ). known_log k q.view.known) b.lock_is ∙ known))
         (ap (λ (z : PassView). z.view.known) s_is) (ap (λ (z : PassView). z.view.bits) s_is) (ap (λ (z : PassView). z.view.cpus) s_is) (ap (λ (z : PassView). z.view.shape) s_is) in
         record {
           step = step;
-          told = given_turn q can_give.hold (parts.Bucket part);
+          told = given_turn q n can_give.hold (parts.Bucket part);
           lost = lost;
           looked = record {
             told_are = (is_told, tt);
@@ -189,9 +189,9 @@ module _ {t : TableView} {bucket : ℕ} {q : PassView} (chain : BodyList) (b : I
     -- whether memory for the entry was found or not
     pub looks : (found : Option Part) → IfSome found (λ x. x ≡ parts.Bucket part) → GaveBack t (Bucket bucket) q s (contents.Bucket chain) found → LooksInto t bucket p s part
     looks None same gave =
-        looks_by gave.part (gave.can.hold.lock ∷ []) gave.at q.view.kept gave.can (goes_gave_some t (Bucket bucket) q s (contents.Bucket chain) gave) gave.after_is
-        (inr (among_first gave.can.hold.lock [], could_be gave.part gave.can))
+        looks_by gave.part (gave.can.hold.lock ∷ []) (ticket_of (ready q.view gave.took)) gave.took gave.at q.view.kept gave.can (goes_gave_some t (Bucket bucket) q s (contents.Bucket chain) gave) gave.after_is
+        (inr (among_first gave.can.hold.lock [], could_be (ticket_of (ready q.view gave.took)) gave.part gave.can))
     looks (Some x) same gave =
         let hold_is : gave.hold ≡ can_give.hold = same_head (sym gave.innermost ∙ can_give.innermost) in
-        let recorded : Goes q s (given_turn q can_give.hold (parts.Bucket part) ∷ []) [] = subst (λ (z : Hold × Part). Goes q s (given_turn q z.0 z.1 ∷ []) []) (λ i. (hold_is i, same i)) (goes_gave q s x gave) in
-        looks_by (parts.Bucket part) [] gave.at gave.kept can_give recorded (gave.after_is ∙ (λ i. with_view q (given gave.at (hold_is i) (entry_of q (same i)) gave.kept q.view))) (inl refl)
+        let recorded : Goes q s (given_turn q gave.ticket can_give.hold (parts.Bucket part) ∷ []) [] = subst (λ (z : Hold × Part). Goes q s (given_turn q gave.ticket z.0 z.1 ∷ []) []) (λ i. (hold_is i, same i)) (goes_gave q s x gave) in
+        looks_by (parts.Bucket part) [] gave.ticket gave.took gave.at gave.kept can_give recorded (gave.after_is ∙ (λ i. with_view q (given gave.at (hold_is i) (entry_of q gave.ticket (same i)) gave.kept (ready q.view gave.took)))) (inl refl)

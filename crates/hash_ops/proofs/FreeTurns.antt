@@ -95,7 +95,7 @@ IsOnFreelist shape step = (c : ℕ) × (c < shape.cpus) × (step.lock ≡ lock_n
 
 -- the turn of a freelist, with what changes in hand, leaves a pass that has reached it
 pub reached_once : (t : TableView) (cpu : ℕ) (p q r s : PassView) (here back : Content) (part : Part) (now : Lists) (notes : Notes) (took : TookLock t (Freelist cpu) p q here) → IsQuiet notes → cpu < t.shape.cpus → Goes q r [] [] → r.spares ≡ q.spares → r.view.bits ≡ q.view.bits → r.view.carried ≡ q.view.carried → Learns t.shape q.view r.view [] []
-    → IsUnder p r took.hold now notes → CanGive t (Freelist cpu) r back part → (gave : Gave r s part) → Reached t p s (given_turn r gave.hold part ∷ [])
+    → IsUnder p r took.hold now notes → CanGive t (Freelist cpu) r back part → (gave : Gave r s part) → Reached t p s (given_turn r gave.ticket gave.hold part ∷ [])
 reached_once t cpu p q r s here back part now notes took quiet within goes spares bits carried learns under can gave =
     let made = turn_made t (Freelist cpu) p q r s here [] [] part now notes took goes under (λ below. none_passed t (Freelist cpu) r back part below (λ is. cc) can (ap (λ (z : Notes). z.owners) (same_head (sym can.notes_are ∙ under.notes_are)) ∙ quiet.owners)) gave in
     let same_cpu : r.cpu ≡ p.cpu = goes.cpu ∙ ap (λ (z : PassView). z.cpu) took.after_is in
@@ -107,14 +107,14 @@ reached_once t cpu p q r s here back part now notes took quiet within goes spare
       spares = ap (λ (z : PassView). z.spares) gave.after_is ∙ (spares ∙ ap (λ (z : PassView). z.spares) took.after_is);
       bits = ap (λ (z : PassView). z.view.bits) gave.after_is ∙ (bits ∙ ap (λ (z : PassView). z.view.bits) took.after_is);
       carried = ap (λ (z : PassView). z.view.carried) gave.after_is ∙ (carried ∙ ap (λ (z : PassView). z.view.carried) took.after_is);
-      by_call = All-cons (IsBy p.cpu p.call) (given_turn r gave.hold part) [] (same_cpu, same_call) (All-nil (IsBy p.cpu p.call));
-      on_freelists = All-cons (IsOnFreelist t.shape) (given_turn r gave.hold part) [] (cpu, within, lock_is) (All-nil (IsOnFreelist t.shape));
+      by_call = All-cons (IsBy p.cpu p.call) (given_turn r gave.ticket gave.hold part) [] (same_cpu, same_call) (All-nil (IsBy p.cpu p.call));
+      on_freelists = All-cons (IsOnFreelist t.shape) (given_turn r gave.ticket gave.hold part) [] (cpu, within, lock_is) (All-nil (IsOnFreelist t.shape));
       learns = turn_learns t (Freelist cpu) p q r s here back [] part now notes took under can tt learns gave;
     }
 
 -- and the turn is one of this freelist
 pub turn_is : (t : TableView) (cpu : ℕ) (p q r s : PassView) (here : Content) (part : FreePart) (now : Lists) (notes : Notes) (took : TookLock t (Freelist cpu) p q here) → IsTrue (is_lock t.shape (Freelist cpu)) → IsUnder p r took.hold now notes → (gave : Gave r s (parts.Free part))
-    → turn_of t.shape (given_turn r gave.hold (parts.Free part)) ≡ on_freelist_of cpu part
+    → turn_of t.shape (given_turn r gave.ticket gave.hold (parts.Free part)) ≡ on_freelist_of cpu part
 turn_is t cpu p q r s here part now notes took is_there under gave =
     let lock_is : gave.hold.lock ≡ lock_number t.shape (Freelist cpu) = ap (λ (h : Hold). h.lock) (given_hold p r s took.hold now notes (parts.Free part) gave under) ∙ took.lock_is in
     ap (λ (d : DomainId). record { lock = d; part = parts.Free part }) (ap (lock_named t.shape) lock_is ∙ named_by_number t.shape (Freelist cpu) is_there)

@@ -87,22 +87,22 @@ given_hold p r s hold now notes part gave under = same_head (sym gave.innermost 
 
 -- from the take to the give, with these turns between them
 pub turn_made : (t : TableView) (lock : DomainId) (p q r s : PassView) (here : Content) (inner : List Turned) (lost : List ℕ) (part : Part) (now : Lists) (notes : Notes) (took : TookLock t lock p q here) → Goes q r inner lost
-    → IsUnder p r took.hold now notes → ((below : List Notes) → passed_on part below ≡ below) → (gave : Gave r s part) → Made p s (inner ++ given_turn r gave.hold part ∷ []) lost
+    → IsUnder p r took.hold now notes → ((below : List Notes) → passed_on part below ≡ below) → (gave : Gave r s part) → Made p s (inner ++ given_turn r gave.ticket gave.hold part ∷ []) lost
 turn_made t lock p q r s here inner lost part now notes took goes under passes gave = record {
-  goes = goes_on p r s inner (given_turn r gave.hold part ∷ []) lost [] (subst (Goes p r inner) (append_nil lost) (goes_on p q r [] inner [] lost (goes_took t lock p q here took) goes)) (goes_gave r s part gave);
+  goes = goes_on p r s inner (given_turn r gave.ticket gave.hold part ∷ []) lost [] (subst (Goes p r inner) (append_nil lost) (goes_on p q r [] inner [] lost (goes_took t lock p q here took) goes)) (goes_gave r s part gave);
   held = ap (λ (z : PassView). z.view.held) gave.after_is ∙ ap holds_below under.held;
   notes = ap (λ (z : PassView). z.view.notes) gave.after_is ∙ (passes (notes_below r.view.notes) ∙ ap notes_below under.notes_are);
 }
 
 pub turn_learns : (t : TableView) (lock : DomainId) (p q r s : PassView) (here back : Content) (inner : List Turned) (part : Part) (now : Lists) (notes : Notes) (took : TookLock t lock p q here) → IsUnder p r took.hold now notes
-    → CanGive t lock r back part → AreElsewhere (lock_number t.shape lock) inner → Learns t.shape q.view r.view inner [] → (gave : Gave r s part) → Learns t.shape p.view s.view (inner ++ given_turn r gave.hold part ∷ []) []
+    → CanGive t lock r back part → AreElsewhere (lock_number t.shape lock) inner → Learns t.shape q.view r.view inner [] → (gave : Gave r s part) → Learns t.shape p.view s.view (inner ++ given_turn r gave.ticket gave.hold part ∷ []) []
 turn_learns t lock p q r s here back inner part now notes took under can apart learns gave =
     let taken : can.hold ≡ with_lists now took.hold = same_head (sym can.innermost ∙ under.held) in
     let same : can.hold ≡ gave.hold = taken ∙ sym (given_hold p r s took.hold now notes part gave under) in
-    subst (λ (h : Hold). Learns t.shape p.view s.view (inner ++ given_turn r h part ∷ []) []) same
-    (learns_turn t lock p q r here back inner part s.view took can
+    subst (λ (h : Hold). Learns t.shape p.view s.view (inner ++ given_turn r gave.ticket h part ∷ []) []) same
+    (learns_turn t lock p q r here back inner gave.ticket part s.view took can
     (subst (λ (h : Hold). IsLegal t.shape lock h.log) (sym taken) took.legal)
     (λ log known. ap (λ (h : Hold). h.log) taken ∙ took.known log known) apart learns
-    (ap (λ (z : PassView). z.view.known) gave.after_is ∙ ap (λ (h : Hold). learned h (entry_of r part) r.view) (sym same))
+    (ap (λ (z : PassView). z.view.known) gave.after_is ∙ ap (λ (h : Hold). learned h (entry_of r gave.ticket part) r.view) (sym same))
     (ap (λ (z : PassView). z.view.bits) gave.after_is)
     (ap (λ (z : PassView). z.view.cpus) gave.after_is) (ap (λ (z : PassView). z.view.shape) gave.after_is))

@@ -49,11 +49,11 @@ use Rattle.place_table.specs.declared.view.Turned.{Turned}
 use Rattle.place_table.specs.Contents.{content_told, FitsLock}
 use Rattle.place_table.specs.Flushes.{flushes}
 use Rattle.place_table.specs.Known.{Learns, turn_of, turn_at, IsBy}
-use Rattle.place_table.specs.Passes.{PassView, TableView, IsInNoCall, SparesDiffer, CanAttach, Attached, CanMark, Detached, TookLock, CanGive, GaveBack, MayGiveBack, Goes, spare_of, with_view, with_spares, entry_of}
+use Rattle.place_table.specs.Passes.{PassView, TableView, IsInNoCall, SparesDiffer, CanAttach, Attached, CanMark, Detached, TookLock, CanGive, GaveBack, MayGiveBack, Goes, spare_of, with_view, with_spares, entry_of, TookTicket, ready}
 use Rattle.place_table.specs.Plays.{IsApartFromHands}
 use Rattle.place_table.specs.Rules.{IsAboveAll}
 use Rattle.place_table.specs.TurnNotes.{NotesFit, WasRead, ProbeFits, CameToHand}
-use Rattle.place_table.specs.Views.{is_among, hold_at, now_at, now_under, with_in_hand, without_in_hand, is_in_hand_of, known_log, holding, given, with_lost, moved, with_hashes, with_now, no_notes, notes_below, holds_below, hold_with}
+use Rattle.place_table.specs.Views.{is_among, hold_at, now_at, now_under, with_in_hand, without_in_hand, is_in_hand_of, known_log, holding, given, with_lost, moved, with_hashes, with_now, no_notes, notes_below, holds_below, hold_with, ticket_of}
 use Rattle.place_table.proofs.Going.{goes_on, goes_nowhere, goes_took, goes_moved, goes_spared, goes_gave, goes_gave_some, goes_of_table, goes_begun, given_turn, same_head, learns_on, learns_after, learns_before, learns_none, learns_moved, learns_took, learns_given, AreElsewhere}
 use Rattle.place_table.proofs.Entries.{append_nil}
 use Rattle.place_table.proofs.Worlds.{among_first, by_bool, some_is, none_some, hold_at_first}
@@ -270,8 +270,8 @@ pub record Left (t : TableView) (bucket : ℕ) (q r s : PassView) (inner : List 
   pub told_is : turn_of t.shape told ≡ record { lock = Bucket bucket; part = part }
 
 -- Two parts that could be given at once: the turn of the one could be that of the other.
-could_be : (t : TableView) (lock : DomainId) (r : PassView) (back : Content) (part stands : Part) (can : CanGive t lock r back part) (other : CanGive t lock r back stands) → CouldBe t.shape (given_turn r other.hold stands) (given_turn r can.hold part)
-could_be t lock r back part stands can other =
+could_be : (t : TableView) (lock : DomainId) (r : PassView) (n : ℕ) (back : Content) (part stands : Part) (can : CanGive t lock r back part) (other : CanGive t lock r back stands) → CouldBe t.shape (given_turn r n other.hold stands) (given_turn r n can.hold part)
+could_be t lock r n back part stands can other =
     let same : can.hold ≡ other.hold = same_head (sym can.innermost ∙ other.innermost) in
     let notes : can.notes ≡ other.notes = same_head (sym can.notes_are ∙ other.notes_are) in
     record {
@@ -298,12 +298,12 @@ told_whole shape (step ∷ steps) (told ∷ others) are =
     let first : told ≡ step = ⊎_elim (λ (same : told ≡ step). same) (λ (x : (false ≡ true) × CouldBe shape step told). true_false (sym x.0)) are.0 in
     (λ i. first i ∷ told_whole shape steps others are.1 i)
 
-left_by : (t : TableView) (bucket : ℕ) (q r s : PassView) (bodies : List Stored) (b : InBucket t bucket q bodies) (now : Lists) (inner : List Turned) (back : Content) (part stands : Part) (lost : List ℕ) (at : ℕ) (kept : List StrandStep) → Under t b.hold b.below q r now inner
-    → (can : CanGive t (Bucket bucket) r back stands) → (meant : CanGive t (Bucket bucket) r back part) → Goes r s (given_turn r can.hold stands ∷ []) lost → s ≡ with_view r (with_lost (lost ++ r.view.lost) (given at can.hold (entry_of r stands) kept r.view))
-    → IsTold t.shape lost (given_turn r can.hold stands) (given_turn r meant.hold part) → Left t bucket q r s inner part
-left_by t bucket q r s bodies b now inner back part stands lost at kept u can meant goes is is_told =
+left_by : (t : TableView) (bucket : ℕ) (q r s : PassView) (bodies : List Stored) (b : InBucket t bucket q bodies) (now : Lists) (inner : List Turned) (back : Content) (part stands : Part) (lost : List ℕ) (ticket : ℕ) (took : TookTicket r.view) (at : ℕ) (kept : List StrandStep) → Under t b.hold b.below q r now inner
+    → (can : CanGive t (Bucket bucket) r back stands) → (meant : CanGive t (Bucket bucket) r back part) → Goes r s (given_turn r ticket can.hold stands ∷ []) lost → s ≡ with_view r (with_lost (lost ++ r.view.lost) (given at can.hold (entry_of r ticket stands) kept (ready r.view took)))
+    → IsTold t.shape lost (given_turn r ticket can.hold stands) (given_turn r ticket meant.hold part) → Left t bucket q r s inner part
+left_by t bucket q r s bodies b now inner back part stands lost ticket took at kept u can meant goes is is_told =
     let hold_is : can.hold ≡ hold_with b.hold now = same_head (sym can.innermost ∙ u.held) in
-    let last : Turned = given_turn r can.hold stands in
+    let last : Turned = given_turn r ticket can.hold stands in
     record {
       last = last;
       lost = lost;
@@ -313,14 +313,14 @@ left_by t bucket q r s bodies b now inner back part stands lost at kept u can me
       bits = ap (λ (z : PassView). z.view.bits) is ∙ u.bits;
       carried = ap (λ (z : PassView). z.view.carried) is ∙ u.carried;
       by_call = All-append (IsBy q.cpu q.call) inner (last ∷ []) u.by_call (All-cons (IsBy q.cpu q.call) last [] (u.goes.cpu, u.goes.call) (All-nil (IsBy q.cpu q.call)));
-      learns = learns_given t (Bucket bucket) q r back inner stands s.view can
+      learns = learns_given t (Bucket bucket) q r back inner ticket stands s.view can
           (subst (λ (h : Hold). IsLegal t.shape (Bucket bucket) h.log) (sym hold_is) b.legal)
           (λ log known. ap (λ (h : Hold). h.log) hold_is ∙ b.known log (ap (λ (n : ℕ). known_log n q.view.known) b.lock_is ∙ known))
           (subst (λ (n : ℕ). AreElsewhere n inner) b.lock_is u.elsewhere) u.learns
           (ap (λ (z : PassView). z.view.known) is) (ap (λ (z : PassView). z.view.bits) is) (ap (λ (z : PassView). z.view.cpus) is) (ap (λ (z : PassView). z.view.shape) is);
       hand = ap (λ (z : PassView). z.view.hand) is;
       spares = ap (λ (z : PassView). z.spares) is;
-      told = given_turn r meant.hold part;
+      told = given_turn r ticket meant.hold part;
       is_told = is_told;
       told_is = (λ i. record { lock = named i; part = part });
     }
@@ -331,12 +331,12 @@ left_by t bucket q r s bodies b now inner back part stands lost at kept u can me
 pub left : (t : TableView) (bucket : ℕ) (q r s : PassView) (bodies : List Stored) (b : InBucket t bucket q bodies) (now : Lists) (inner : List Turned) (back : Content) (part : Part) (found : Option Part) → Under t b.hold b.below q r now inner
     → CanGive t (Bucket bucket) r back part → IfSome found (λ x. x ≡ part) → GaveBack t (Bucket bucket) r s back found → Left t bucket q r s inner part
 left t bucket q r s bodies b now inner back part None u can is gave =
-    left_by t bucket q r s bodies b now inner back part gave.part (gave.can.hold.lock ∷ []) gave.at r.view.kept u gave.can can (goes_gave_some t (Bucket bucket) r s back gave) gave.after_is
-    (inr (among_first gave.can.hold.lock [], could_be t (Bucket bucket) r back part gave.part can gave.can))
+    left_by t bucket q r s bodies b now inner back part gave.part (gave.can.hold.lock ∷ []) (ticket_of (ready r.view gave.took)) gave.took gave.at r.view.kept u gave.can can (goes_gave_some t (Bucket bucket) r s back gave) gave.after_is
+    (inr (among_first gave.can.hold.lock [], could_be t (Bucket bucket) r (ticket_of (ready r.view gave.took)) back part gave.part can gave.can))
 left t bucket q r s bodies b now inner back part (Some x) u can is gave =
     let hold_is : gave.hold ≡ can.hold = same_head (sym gave.innermost ∙ can.innermost) in
-    let recorded : Goes r s (given_turn r can.hold part ∷ []) [] = subst (λ (z : Hold × Part). Goes r s (given_turn r z.0 z.1 ∷ []) []) (λ i. (hold_is i, is i)) (goes_gave r s x gave) in
-    left_by t bucket q r s bodies b now inner back part part [] gave.at gave.kept u can can recorded (gave.after_is ∙ (λ i. with_view r (given gave.at (hold_is i) (entry_of r (is i)) gave.kept r.view))) (inl refl)
+    let recorded : Goes r s (given_turn r gave.ticket can.hold part ∷ []) [] = subst (λ (z : Hold × Part). Goes r s (given_turn r gave.ticket z.0 z.1 ∷ []) []) (λ i. (hold_is i, is i)) (goes_gave r s x gave) in
+    left_by t bucket q r s bodies b now inner back part part [] gave.ticket gave.took gave.at gave.kept u can can recorded (gave.after_is ∙ (λ i. with_view r (given gave.at (hold_is i) (entry_of r gave.ticket (is i)) gave.kept (ready r.view gave.took)))) (inl refl)
 
 -- no other lock was given back without a part
 pub left_at : (t : TableView) (bucket : ℕ) (q r s : PassView) (bodies : List Stored) (b : InBucket t bucket q bodies) (now : Lists) (inner : List Turned) (back : Content) (part : Part) (found : Option Part) → Under t b.hold b.below q r now inner

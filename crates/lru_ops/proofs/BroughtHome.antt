@@ -281,7 +281,7 @@ module _ {t : TableView} {e : ℕ} {lists : LocalView} {p q : PassView} (can : C
             let g : GaveAs t s u meant.hold part [] = subst (λ (h : Hold). GaveAs t s u h part []) one (gave_as t s u part gave) in
             let cpu_is : u.cpu ≡ p.cpu = g.goes.cpu ∙ (to_s.cpu ∙ (to_r.cpu ∙ (to_q b).cpu)) in
             record {
-              step = given_turn s meant.hold part;
+              step = given_turn s g.ticket meant.hold part;
               changed = changed_local b ready_brought part meant g (inl refl);
               turn_is = (λ i. record { lock = named_there b ready_brought part meant g (inl refl) i; part = parts.Local (local.Add hash e (cursor_is i)) });
               hand = g.hand ∙ hand_s;

@@ -1,5 +1,6 @@
 -- The turn of a bucket that a probe makes, from its take to its give.
-use Rattle.std.proofs.Common.{◌≡◌, ◌≢◌, ℕ, ◌<◌, ◌≤◌, ◌+◌, inl, cond, true, false, Bool, List, [], ◌∷◌, ◌++◌, sym, refl, ap, ◌∙◌, subst, arith, Option, Some, None}
+use Rattle.place_table.proofs.TicketsTaken.{took_touched}
+use Rattle.std.proofs.Common.{◌≡◌, ◌≢◌, ℕ, ◌<◌, ◌≤◌, ◌+◌, inl, cond, true, false, Bool, List, [], ◌∷◌, ◌++◌, sym, refl, ap, ◌∙◌, subst, arith, Option, Some, None, append_assoc}
 use Rattle.std.proofs.lemmas.List.Elements.{recursion_from_All, All-nil, All-cons}
 use Rattle.std.specs.List.{AllByRecursion}
 use Rattle.std.specs.Prelude.{◌==◌, find, reverse, IsTrue, IsFalse, is_some, All, suc}
@@ -44,7 +45,7 @@ use Rattle.place_table.specs.declared.view.Turned.{Turned}
 use Rattle.place_table.specs.declared.view.WordStep.{WordStep}
 use Rattle.place_table.specs.Contents.{lists_of, FitsLock}
 use Rattle.place_table.specs.Known.{Learns}
-use Rattle.place_table.specs.Passes.{PassView, TableView, CanTake, CanMark, TookLock, CanGive, Gave, Goes, with_view, entry_of}
+use Rattle.place_table.specs.Passes.{PassView, TableView, CanTake, CanMark, TookLock, CanGive, Gave, Goes, with_view, entry_of, ready}
 use Rattle.place_table.specs.Plays.{OwnerFits, IsListedHere}
 use Rattle.place_table.specs.Rules.{IsAboveAll, is_hand_of}
 use Rattle.place_table.specs.Flushes.{flushes}
@@ -379,11 +380,14 @@ module _ {t : TableView} {bucket e : ℕ} {q : PassView} {bodies : List Stored} 
       let part : Part = parts.Bucket (Evict e seen) in
       let can_is : can.hold ≡ hold_with b.hold now = same_head (sym can.innermost ∙ w.held) in
       let gave_is : gave.hold ≡ can.hold = same_head (sym gave.innermost ∙ can.innermost) in
-      let turn : Turned = given_turn r can.hold part in
-      let after : s ≡ with_view r (given gave.at can.hold (entry_of r part) gave.kept r.view) = gave.after_is ∙ ap (λ (h : Hold). with_view r (given gave.at h (entry_of r part) gave.kept r.view)) gave_is in
+      let turn : Turned = given_turn r gave.ticket can.hold part in
+      let given_back : WordStep = record { at = gave.at; word = can.hold.lock; seen = None; left = 0 } in
+      let made = took_touched r.view gave.took.drawn gave.took.ticket gave.took.reached gave.took.touched gave.took.takes in
+      let touched_by : s.view.touched ≡ gave.took.touched ++ given_back ∷ [] → s.view.touched ≡ r.view.touched ++ (made.more ++ given_back ∷ []) = λ is. is ∙ (ap (λ (l : List WordStep). l ++ given_back ∷ []) made.are ∙ append_assoc r.view.touched made.more (given_back ∷ [])) in
+      let after : s ≡ with_view r (given gave.at can.hold (entry_of r gave.ticket part) gave.kept (ready r.view gave.took)) = gave.after_is ∙ ap (λ (h : Hold). with_view r (given gave.at h (entry_of r gave.ticket part) gave.kept (ready r.view gave.took))) gave_is in
       record {
         turn = turn;
-        goes = goes_on q r s [] (turn ∷ []) [] [] w.goes (subst (λ (h : Hold). Goes r s (given_turn r h part ∷ []) []) gave_is (goes_gave r s part gave));
+        goes = goes_on q r s [] (turn ∷ []) [] [] w.goes (subst (λ (h : Hold). Goes r s (given_turn r gave.ticket h part ∷ []) []) gave_is (goes_gave r s part gave));
         held = ap (λ (z : PassView). z.view.held) after ∙ (ap holds_below w.held ∙ sym (ap holds_below b.held));
         notes = ap (λ (z : PassView). z.view.notes) after ∙ (λ i. owners_probed e seen (notes_below ((w.notes_are ∙ sym (ap (λ (l : List Notes). notes ∷ notes_below l) b.notes)) i)));
         carried = ap (λ (z : PassView). z.view.carried) after ∙ w.carried;
@@ -391,10 +395,10 @@ module _ {t : TableView} {bucket e : ℕ} {q : PassView} {bodies : List Stored} 
         spares = ap (λ (z : PassView). z.spares) after ∙ w.spares;
         is_evict = record {
           lock = ap (λ (h : Hold). h.lock) can_is ∙ b.lock_is;
-          entry = λ i. record { cpu = w.goes.cpu i; call = w.goes.call i; part = part };
+          entry = λ i. record { ticket = gave.ticket; cpu = w.goes.cpu i; call = w.goes.call i; part = part };
         };
-        saw = saw_probe t.shape q r s w.touched _ e seen turn w.touched_are saw (ap (λ (z : PassView). z.view.touched) after) refl;
-        learns = learns_given t (Bucket bucket) q r (contents.Bucket back) [] part s.view can
+        saw = saw_probe t.shape q r s w.touched _ e seen turn w.touched_are saw (touched_by (ap (λ (z : PassView). z.view.touched) after)) refl;
+        learns = learns_given t (Bucket bucket) q r (contents.Bucket back) [] gave.ticket part s.view can
             (subst (λ (h : Hold). IsLegal t.shape (Bucket bucket) h.log) (sym can_is) b.legal)
             (λ log known. ap (λ (h : Hold). h.log) can_is ∙ b.known log known) tt
             w.knows

@@ -205,10 +205,10 @@ module _ {t : TableView} {lists : LocalView} {p q : PassView} {set : SetView} (r
       notes_there = same_head (sym can.notes_are ∙ y.noted)
 
       abbrev step : Turned
-      step = given_turn s can.hold actual
+      step = given_turn s g.ticket can.hold actual
 
       abbrev told : Turned
-      told = given_turn s can.hold part
+      told = given_turn s g.ticket can.hold part
 
       abbrev content_there : Content
       content_there = content t.shape (lock_named t.shape can.hold.lock) can.hold.log
@@ -238,7 +238,7 @@ module _ {t : TableView} {lists : LocalView} {p q : PassView} {set : SetView} (r
       }
 
       is_told : IsTold t.shape lost step told
-      is_told = ⊎_elim (λ (same : actual ≡ part). inl (ap (given_turn s can.hold) (sym same))) (λ (gone : is_among can.hold.lock lost ≡ true). inr (gone, could_be)) told_as
+      is_told = ⊎_elim (λ (same : actual ≡ part). inl (ap (given_turn s g.ticket can.hold) (sym same))) (λ (gone : is_among can.hold.lock lost ≡ true). inr (gone, could_be)) told_as
 
       abbrev bits : List BitTouch
       bits = map clears_found (bits_cleared part)
@@ -260,7 +260,7 @@ module _ {t : TableView} {lists : LocalView} {p q : PassView} {set : SetView} (r
       learns_it =
           let k : ℕ = lock_number t.shape Global in
           let last : Learns t.shape s.view u.view (step ∷ []) [] =
-          learns_gave t Global s (contents.Set out) actual u.view can (subst (IsLegal t.shape Global) (sym log_is) took.legal)
+          learns_gave t Global s (contents.Set out) g.ticket actual u.view can (subst (IsLegal t.shape Global) (sym log_is) took.legal)
           (λ has log is. log_is ∙ took.known log (ap (λ (z : PassView). known_log k z.view.known) (sym took.after_is) ∙ (sym ((y.learns.logs (sym y.learns.all ∙ has) k).known_is ∙ log_elsewhere k y.turns (known_log k q.view.known) apart) ∙ is)))
           g.known g.bits g.goes.cpus g.goes.shape in
           subst (Learns t.shape p.view u.view (y.turns ++ step ∷ [])) (append_nil bits ∙ bits_are)

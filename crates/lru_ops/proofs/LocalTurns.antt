@@ -238,10 +238,10 @@ module _ {t : TableView} {c : ℕ} {lists : LocalView} {p q : PassView} (b : OnL
       notes_there = same_head (sym can.notes_are ∙ y.noted)
 
       abbrev step : Turned
-      step = given_turn s can.hold actual
+      step = given_turn s g.ticket can.hold actual
 
       abbrev told : Turned
-      told = given_turn s can.hold entry_part
+      told = given_turn s g.ticket can.hold entry_part
 
       abbrev content_there : Content
       content_there = content t.shape (lock_named t.shape can.hold.lock) can.hold.log
@@ -265,7 +265,7 @@ module _ {t : TableView} {c : ℕ} {lists : LocalView} {p q : PassView} (b : OnL
       }
 
       is_told : IsTold t.shape lost step told
-      is_told = ⊎_elim (λ (same : actual ≡ entry_part). inl (ap (given_turn s can.hold) (sym same))) (λ (gone : is_among can.hold.lock lost ≡ true). inr (gone, could_be)) told_as
+      is_told = ⊎_elim (λ (same : actual ≡ entry_part). inl (ap (given_turn s g.ticket can.hold) (sym same))) (λ (gone : is_among can.hold.lock lost ≡ true). inr (gone, could_be)) told_as
 
       abbrev bits : List BitTouch
       bits = map reads_bit (local_reads part) ++ map clears_bit (local_also part)
@@ -288,7 +288,7 @@ module _ {t : TableView} {c : ℕ} {lists : LocalView} {p q : PassView} (b : OnL
       learns_it =
           let k : ℕ = lock_number t.shape (Local c) in
           let last : Learns t.shape s.view u.view (step ∷ []) [] =
-          learns_gave t (Local c) s (contents.Local out) actual u.view can (subst (IsLegal t.shape (Local c)) (sym log_is) b.took.legal)
+          learns_gave t (Local c) s (contents.Local out) g.ticket actual u.view can (subst (IsLegal t.shape (Local c)) (sym log_is) b.took.legal)
           (λ has log is. log_is ∙ b.took.known log (ap (λ (z : PassView). known_log k z.view.known) (sym b.took.after_is) ∙ (sym ((y.learns.logs (sym y.learns.all ∙ has) k).known_is ∙ log_elsewhere k y.steps (known_log k q.view.known) elsewhere) ∙ is)))
           g.known g.bits g.goes.cpus g.goes.shape in
           let before : List BitTouch = bits_of_turns t.shape y.inner ++ bits in
@@ -379,10 +379,10 @@ module _ {t : TableView} {c : ℕ} {lists : LocalView} {p q : PassView} (b : OnL
 
     module _ {u : PassView} {lost : List ℕ} (actual : Part) (can : CanGive t (Local c) s (contents.Local out) actual) (g : GaveAs t s u can.hold actual lost) (told_as : (actual ≡ parts.Local part) ⊎ (is_among can.hold.lock lost ≡ true)) where
       abbrev step_made : Turned
-      step_made = given_turn s can.hold actual
+      step_made = given_turn s g.ticket can.hold actual
 
       abbrev step_told : Turned
-      step_told = given_turn s can.hold (parts.Local part)
+      step_told = given_turn s g.ticket can.hold (parts.Local part)
 
       pub lists_there : in_locals (local_told lists) ≡ content t.shape (lock_named t.shape can.hold.lock) can.hold.log
       lists_there = lists_around around actual can g told_as

@@ -1,5 +1,6 @@
 -- A turn of the own set that gives out an element, from its take to its give.
-use Rattle.std.proofs.Common.{inl, inr, ⊎_elim, ◌≡◌, ℕ, ◌<◌, cond, true, false, Bool, List, [], ◌∷◌, ◌++◌, map, sym, refl, ap, ◌∙◌, subst, Option, Some, None, arith}
+use Rattle.place_table.proofs.TicketsTaken.{took_touched}
+use Rattle.std.proofs.Common.{inl, inr, ⊎_elim, ◌≡◌, ℕ, ◌<◌, cond, true, false, Bool, List, [], ◌∷◌, ◌++◌, map, sym, refl, ap, ◌∙◌, subst, Option, Some, None, arith, append_assoc}
 use Rattle.std.specs.Prelude.{◌⊎◌, ◌==◌, ◌&&◌, not, option_map, option_to_list, MatchOption, MatchBool, IfSome, IsTrue, All, suc}
 use Rattle.std.specs.List.{flat_map}
 use Rattle.std.proofs.lemmas.Bool.{lt-ltb}
@@ -46,11 +47,11 @@ use Rattle.place_table.specs.Calls.{CanCall, CouldBe, IsTold, AreTold, sets_bit,
 use Rattle.place_table.specs.Contents.{set_told, set_under, lists_of, FitsLock}
 use Rattle.place_table.specs.Flushes.{flushes}
 use Rattle.place_table.specs.Known.{BitTouch, Learns, turn_of, turn_at, IsBy}
-use Rattle.place_table.specs.Passes.{PassView, TableView, TookLock, CanGive, Gave, GaveSome, GaveBack, MayGiveBack, Goes, entry_of}
+use Rattle.place_table.specs.Passes.{PassView, TableView, TookLock, CanGive, Gave, GaveSome, GaveBack, MayGiveBack, Goes, entry_of, ready as taken_view}
 use Rattle.place_table.specs.StoredHashes.{stored_in}
 use Rattle.place_table.specs.TurnNotes.{WasRead, AreCleared, CameToHand, clears_noted}
 use Rattle.place_table.proofs.Came.{came_among}
-use Rattle.place_table.specs.Views.{is_among, is_in_hand_of, hold_at, known_log, bucket_known, hash_given, hashes_given, came_last, learned, holding, holds_below, notes_below, passed_on, no_notes, with_in_hand, hold_with}
+use Rattle.place_table.specs.Views.{is_among, is_in_hand_of, hold_at, known_log, bucket_known, hash_given, hashes_given, came_last, learned, holding, holds_below, notes_below, passed_on, no_notes, with_in_hand, hold_with, ticket_of}
 use Rattle.place_table.proofs.Entries.{append_nil}
 use Rattle.place_table.proofs.Going.{AreElsewhere, log_elsewhere, given_turn, goes_on, goes_took, goes_gave, goes_gave_some, goes_of_table, goes_begun, same_head, learns_on, learns_after, learns_gave, learns_took}
 use Rattle.place_table.proofs.Worlds.{true_false}
@@ -223,20 +224,22 @@ set_no_local c d e = cc
 
 -- what a give leaves, with an entry or without
 pub record GaveAs (t : TableView) (s u : PassView) (hold : Hold) (part : Part) (lost : List ℕ) : Type 0 where
-  pub goes : Goes s u (given_turn s hold part ∷ []) lost
+  pub ticket : ℕ
+  pub goes : Goes s u (given_turn s ticket hold part ∷ []) lost
   pub held : u.view.held ≡ holds_below s.view.held
   pub notes : u.view.notes ≡ passed_on part (notes_below s.view.notes)
   pub hand : u.view.hand ≡ s.view.hand
   pub carried : u.view.carried ≡ s.view.carried
   pub spares : u.spares ≡ s.spares
   pub hashes : u.view.hashes ≡ cond (is_lru s.view.shape.kind) (hashes_given hold.cpu s.view.shape.buckets (content_after s.view.shape s.cpu part (content s.view.shape (lock_named s.view.shape hold.lock) hold.log)) (came_last s.view.notes) s.view.hand s.view.hashes) s.view.hashes
-  pub known : u.view.known ≡ learned hold (entry_of s part) s.view
+  pub known : u.view.known ≡ learned hold (entry_of s ticket part) s.view
   pub bits : u.view.bits ≡ s.view.bits
   pub touched : List WordStep
   pub touched_are : u.view.touched ≡ s.view.touched ++ touched
 
 pub gave_as : (t : TableView) (s u : PassView) (part : Part) (gave : Gave s u part) → GaveAs t s u gave.hold part []
 gave_as t s u part gave = record {
+  ticket = gave.ticket;
   goes = goes_gave s u part gave;
   held = ap (λ (z : PassView). z.view.held) gave.after_is;
   notes = ap (λ (z : PassView). z.view.notes) gave.after_is;
@@ -246,12 +249,14 @@ gave_as t s u part gave = record {
   hashes = ap (λ (z : PassView). z.view.hashes) gave.after_is;
   known = ap (λ (z : PassView). z.view.known) gave.after_is;
   bits = ap (λ (z : PassView). z.view.bits) gave.after_is;
-  touched = record { at = gave.at; word = gave.hold.lock; seen = None; left = 0 } ∷ [];
-  touched_are = ap (λ (z : PassView). z.view.touched) gave.after_is;
+  touched = (took_touched s.view gave.took.drawn gave.took.ticket gave.took.reached gave.took.touched gave.took.takes).more ++ record { at = gave.at; word = gave.hold.lock; seen = None; left = 0 } ∷ [];
+  touched_are = let are = took_touched s.view gave.took.drawn gave.took.ticket gave.took.reached gave.took.touched gave.took.takes in
+      ap (λ (z : PassView). z.view.touched) gave.after_is ∙ (ap (λ (l : List WordStep). l ++ record { at = gave.at; word = gave.hold.lock; seen = None; left = 0 } ∷ []) are.are ∙ append_assoc s.view.touched are.more (record { at = gave.at; word = gave.hold.lock; seen = None; left = 0 } ∷ []));
 }
 
 pub gave_some_as : (t : TableView) (lock : DomainId) (s u : PassView) (here : _) (gave : GaveSome t lock s u here) → GaveAs t s u gave.can.hold gave.part (gave.can.hold.lock ∷ [])
 gave_some_as t lock s u here gave = record {
+  ticket = ticket_of (taken_view s.view gave.took);
   goes = goes_gave_some t lock s u here gave;
   held = ap (λ (z : PassView). z.view.held) gave.after_is;
   notes = ap (λ (z : PassView). z.view.notes) gave.after_is;
@@ -261,8 +266,9 @@ gave_some_as t lock s u here gave = record {
   hashes = ap (λ (z : PassView). z.view.hashes) gave.after_is;
   known = ap (λ (z : PassView). z.view.known) gave.after_is;
   bits = ap (λ (z : PassView). z.view.bits) gave.after_is;
-  touched = record { at = gave.at; word = gave.can.hold.lock; seen = None; left = 0 } ∷ [];
-  touched_are = ap (λ (z : PassView). z.view.touched) gave.after_is;
+  touched = (took_touched s.view gave.took.drawn gave.took.ticket gave.took.reached gave.took.touched gave.took.takes).more ++ record { at = gave.at; word = gave.can.hold.lock; seen = None; left = 0 } ∷ [];
+  touched_are = let are = took_touched s.view gave.took.drawn gave.took.ticket gave.took.reached gave.took.touched gave.took.takes in
+      ap (λ (z : PassView). z.view.touched) gave.after_is ∙ (ap (λ (l : List WordStep). l ++ record { at = gave.at; word = gave.can.hold.lock; seen = None; left = 0 } ∷ []) are.are ∙ append_assoc s.view.touched are.more (record { at = gave.at; word = gave.can.hold.lock; seen = None; left = 0 } ∷ []));
 }
 
 module _ {t : TableView} {p q s : PassView} {set out : SetView} {hash : ℕ} {turning turning_after : RotateNotes} {shrinking shrinking_after : ShrinkNotes} {shrunk : Bool} {got : Option ℕ}
@@ -350,10 +356,10 @@ module _ {t : TableView} {p q s : PassView} {set out : SetView} {hash : ℕ} {tu
     notes_there = same_head (sym can.notes_are ∙ y.noted)
 
     abbrev step : Turned
-    step = given_turn s can.hold actual
+    step = given_turn s g.ticket can.hold actual
 
     abbrev told : Turned
-    told = given_turn s can.hold part
+    told = given_turn s g.ticket can.hold part
 
     abbrev content_there : Content
     content_there = content t.shape (lock_named t.shape can.hold.lock) can.hold.log
@@ -383,7 +389,7 @@ module _ {t : TableView} {p q s : PassView} {set out : SetView} {hash : ℕ} {tu
     }
 
     is_told : IsTold t.shape lost step told
-    is_told = ⊎_elim (λ (same : actual ≡ part). inl (ap (given_turn s can.hold) (sym same))) (λ (gone : is_among can.hold.lock lost ≡ true). inr (gone, could_be)) told_as
+    is_told = ⊎_elim (λ (same : actual ≡ part). inl (ap (given_turn s g.ticket can.hold) (sym same))) (λ (gone : is_among can.hold.lock lost ≡ true). inr (gone, could_be)) told_as
 
     bits_told : map clears_found (y.active ++ (y.inactive ++ looks_told (note_of shrunk y.looks y.forced))) ++ map clears_bit (got_cleared got) ≡ bits_of_turns t.shape (y.turns ++ told ∷ [])
     bits_told =
@@ -405,7 +411,7 @@ module _ {t : TableView} {p q s : PassView} {set out : SetView} {hash : ℕ} {tu
     learns_it =
         let k : ℕ = lock_number t.shape lock in
         let last : Learns t.shape s.view u.view (step ∷ []) [] =
-        learns_gave t lock s (contents.Set out) actual u.view can (subst (IsLegal t.shape lock) (sym log_is) took.legal)
+        learns_gave t lock s (contents.Set out) g.ticket actual u.view can (subst (IsLegal t.shape lock) (sym log_is) took.legal)
         (λ has log is. log_is ∙ took.known log (ap (λ (z : PassView). known_log k z.view.known) (sym took.after_is) ∙ (sym ((y.learns.logs (sym y.learns.all ∙ has) k).known_is ∙ log_elsewhere k y.turns (known_log k q.view.known) elsewhere) ∙ is)))
         g.known g.bits g.goes.cpus g.goes.shape in
         let touches : List BitTouch = map clears_found (y.active ++ (y.inactive ++ looks_told (note_of shrunk y.looks y.forced))) ++ map clears_bit (got_cleared got) in
@@ -506,14 +512,14 @@ module _ {t : TableView} {p q s u : PassView} {set out : SetView} {hash : ℕ} {
     (begins : CanCall t p) (took : TookLock t (CpuLru p.cpu) p q (contents.Set set)) (y : Ready t hash turning turning_after shrinking shrinking_after shrunk set out q s (option_map (λ (body : Stored). body.element) found)) (gives : GivesOut t hash worked out r s found) where
   acquired_by : (actual : Part) (can : CanGive t (CpuLru p.cpu) s (contents.Set out) actual) {lost : List ℕ} (g : GaveAs t s u can.hold actual lost) → (actual ≡ part is_shape evicts apart there begins took y) ⊎ (is_among can.hold.lock lost ≡ true) → Acquired t hash p u found
   acquired_by actual can {lost} g told_as = record {
-    steps = y.turns ++ given_turn s can.hold actual ∷ [];
-    told = y.turns ++ given_turn s can.hold (part is_shape evicts apart there begins took y) ∷ [];
+    steps = y.turns ++ given_turn s g.ticket can.hold actual ∷ [];
+    told = y.turns ++ given_turn s g.ticket can.hold (part is_shape evicts apart there begins took y) ∷ [];
     lost = lost;
     changed = changed is_shape evicts apart there begins took y actual can g told_as;
     trace = trace is_shape evicts apart there begins took y actual can g told_as;
     hand = hand_for found (hand_left is_shape evicts apart there begins took y actual can g told_as);
     taken = taken_for found gives y.came (hashes_left is_shape evicts apart there begins took y actual can g told_as);
-    none = none_for (y.turns ++ given_turn s can.hold (part is_shape evicts apart there begins took y) ∷ []) found (found_none is_shape evicts apart there begins took y actual can g told_as);
+    none = none_for (y.turns ++ given_turn s g.ticket can.hold (part is_shape evicts apart there begins took y) ∷ []) found (found_none is_shape evicts apart there begins took y actual can g told_as);
     saw = saw is_shape evicts apart there begins took y actual can g told_as;
   }
     where

@@ -139,7 +139,7 @@ module _ {t : TableView} {lists : LocalView} {p q : PassView} (b : OnLocal t p.c
         let one : gave.hold ≡ meant.hold = same_head (sym gave.innermost ∙ meant.innermost) in
         let a : GaveAs t s u meant.hold part [] = subst (λ (h : Hold). GaveAs t s u h part []) one (gave_as t s u part gave) in
         let cpu_is : u.cpu ≡ p.cpu = a.goes.cpu ∙ ((to_given can g).cpu ∙ (to_q b).cpu) in
-        let told : List Turned = given_turn s meant.hold part ∷ [] in
+        let told : List Turned = given_turn s a.ticket meant.hold part ∷ [] in
         let hand_s : s.view.hand ≡ with_in_hand e p.cpu p.view.hand = hand_given can g ∙ ap (λ (z : PassView). with_in_hand e z.cpu z.view.hand) b.took.after_is in
         let in_hand : is_in_hand_of e p.cpu s.view.hand ≡ true = ap (λ (c : ℕ). is_in_hand_of e c s.view.hand) (sym b.took.cpu_is) ∙ in_hand_given can g in
         record {

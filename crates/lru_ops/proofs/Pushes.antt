@@ -337,13 +337,13 @@ module _ {t : TableView} {lock : DomainId} {p q : PassView} {body : Stored} {her
     turn_made z lru meant gave bits hands_on moved =
         let hold_is : meant.hold ≡ hold_with took.hold now = same_head (sym meant.innermost ∙ u.held) in
         let gave_is : gave.hold ≡ meant.hold = same_head (sym gave.innermost ∙ meant.innermost) in
-        let step : Turned = given_turn s meant.hold part in
-        let made : Goes s z (step ∷ []) [] = subst (λ (h : Hold). Goes s z (given_turn s h part ∷ []) []) gave_is (goes_gave s z part gave) in
+        let step : Turned = given_turn s gave.ticket meant.hold part in
+        let made : Goes s z (step ∷ []) [] = subst (λ (h : Hold). Goes s z (given_turn s gave.ticket h part ∷ []) []) gave_is (goes_gave s z part gave) in
         let gives : Learns t.shape s.view z.view (step ∷ []) [] =
-        learns_gave t lock s back part z.view meant
+        learns_gave t lock s back gave.ticket part z.view meant
         (subst (λ (h : Hold). IsLegal t.shape lock h.log) (sym hold_is) took.legal)
         (λ has log known. ap (λ (h : Hold). h.log) hold_is ∙ took.known log (sym (u.learns.logs (sym u.learns.all ∙ has) (lock_number t.shape lock)).known_is ∙ known))
-        (ap (λ (x : PassView). x.view.known) gave.after_is ∙ ap (λ (h : Hold). learned h (entry_of s part) s.view) gave_is) (ap (λ (x : PassView). x.view.bits) gave.after_is) (ap (λ (x : PassView). x.view.cpus) gave.after_is) (ap (λ (x : PassView). x.view.shape) gave.after_is) in
+        (ap (λ (x : PassView). x.view.known) gave.after_is ∙ ap (λ (h : Hold). learned h (entry_of s gave.ticket part) s.view) gave_is) (ap (λ (x : PassView). x.view.bits) gave.after_is) (ap (λ (x : PassView). x.view.cpus) gave.after_is) (ap (λ (x : PassView). x.view.shape) gave.after_is) in
         record {
           step = step;
           changed = record {

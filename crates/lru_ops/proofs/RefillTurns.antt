@@ -305,7 +305,7 @@ module _ {t : TableView} {lists : LocalView} {p q : PassView} (b : OnLocal t p.c
     module _ {hash : ℕ} {got : Option ℕ} {out : LocalView} {s u : PassView} {lost : List ℕ} (y : ReadyAround t (refill_told hash got) lists out hold q s) (actual : Part)
         (meant : CanGive t (Local p.cpu) s (contents.Local out) actual) (a : GaveAs t s u meant.hold actual lost) (told_as : (actual ≡ parts.Local (refill_told hash got)) ⊎ (is_among meant.hold.lock lost ≡ true)) where
       abbrev told_end : Turned
-      told_end = given_turn s meant.hold (parts.Local (refill_told hash got))
+      told_end = given_turn s a.ticket meant.hold (parts.Local (refill_told hash got))
 
       pub refills_told : Refills t.shape p.cpu hash (local_told lists) got (map (turn_at t.shape) (f.told_steps ++ told_end ∷ []))
       refills_told = record {
@@ -332,13 +332,13 @@ module _ {t : TableView} {lists : LocalView} {p q : PassView} (b : OnLocal t p.c
           let e : ℕ = body.element in
           let can : CanMakePending t filled r = can_make_filled in
           let y = ready_given g in
-          let told : List Turned = f.told_steps ++ given_turn s meant.hold (parts.Local (refill_told hash (Some e))) ∷ [] in
+          let told : List Turned = f.told_steps ++ given_turn s a.ticket meant.hold (parts.Local (refill_told hash (Some e))) ∷ [] in
           let cpu_is : u.cpu ≡ p.cpu = a.goes.cpu ∙ ((to_given can g).cpu ∙ to_r.cpu) in
           let hand_r : r.view.hand ≡ p.view.hand = f.hand ∙ ap (λ (z : PassView). z.view.hand) b.took.after_is in
           let hand_s : s.view.hand ≡ with_in_hand e p.cpu p.view.hand = hand_given can g ∙ (λ i. with_in_hand e (to_r.cpu i) (hand_r i)) in
           let in_hand : is_in_hand_of e p.cpu s.view.hand ≡ true = ap (λ (c : ℕ). is_in_hand_of e c s.view.hand) (sym b.took.cpu_is) ∙ in_hand_given can g in
           record {
-            steps = f.steps ++ given_turn s meant.hold actual ∷ [];
+            steps = f.steps ++ given_turn s a.ticket meant.hold actual ∷ [];
             told = told;
             lost = lost ++ f.lost;
             changed = changed_all (changed_around b y actual meant a told_as) (a.carried ∙ (carried_given can g ∙ (f.carried ∙ ap (λ (z : PassView). z.view.carried) b.took.after_is)));
@@ -371,10 +371,10 @@ module _ {t : TableView} {lists : LocalView} {p q : PassView} (b : OnLocal t p.c
       unfolding ready_nothing
       filled_none =
           let y = ready_nothing hash none in
-          let last : Turned = given_turn r meant.hold (parts.Local (refill_told hash None)) in
+          let last : Turned = given_turn r a.ticket meant.hold (parts.Local (refill_told hash None)) in
           let nothing : gained ≡ [] = empty_reverse gained (sym (ap numbers none) ∙ f.free_is) in
           record {
-            steps = f.steps ++ given_turn r meant.hold actual ∷ [];
+            steps = f.steps ++ given_turn r a.ticket meant.hold actual ∷ [];
             told = f.told_steps ++ last ∷ [];
             lost = lost ++ f.lost;
             changed = changed_all (changed_around b y actual meant a told_as) (a.carried ∙ (f.carried ∙ ap (λ (z : PassView). z.view.carried) b.took.after_is));

@@ -243,8 +243,8 @@ module _ {t : TableView} {from : ℕ} {lists : LocalView} {p q : PassView} {body
           let one : gave.hold ≡ meant.hold = same_head (sym gave.innermost ∙ meant.innermost) in
           let g : GaveAs t s u meant.hold part [] = subst (λ (h : Hold). GaveAs t s u h part []) one (gave_as t s u part gave) in
           record {
-            steps = given_turn s meant.hold part ∷ [];
-            told = given_turn s meant.hold part ∷ [];
+            steps = given_turn s g.ticket meant.hold part ∷ [];
+            told = given_turn s g.ticket meant.hold part ∷ [];
             lost = [];
             changed = changed_local b y part meant g (inl refl);
             stolen = Free e;

@@ -295,7 +295,7 @@ module _ {t : TableView} {from : ℕ} {lists : LocalView} {p q : PassView} (can 
     -- once they are given back
     module _ {u : PassView} {lost : List ℕ} (actual : Part) (meant : CanGive t (Local from) s (contents.Local out) actual) (g : GaveAs t s u meant.hold actual lost) (told_as : (actual ≡ part_made) ⊎ (is_among meant.hold.lock lost ≡ true)) where
       abbrev told_last : Turned
-      told_last = given_turn s meant.hold part_made
+      told_last = given_turn s g.ticket meant.hold part_made
 
       none_by : (found_is : found ≡ None) → StoleNone t.shape p.cpu from (w.does.turns ++ told_last ∷ [])
       unfolding ready_search
@@ -325,7 +325,7 @@ module _ {t : TableView} {from : ℕ} {lists : LocalView} {p q : PassView} (can 
       stole_by : StoleFrom t from p u found
       unfolding ready_search
       stole_by = record {
-        steps = w.does.turns ++ given_turn s meant.hold actual ∷ [];
+        steps = w.does.turns ++ given_turn s g.ticket meant.hold actual ∷ [];
         told = w.does.turns ++ told_last ∷ [];
         lost = lost;
         changed = changed_local b ready_search actual meant g told_as;

@@ -39,12 +39,12 @@ use Rattle.place_table.specs.Calls.{CouldBe, IsTold, sets_bit, bits_of_part, bit
 use Rattle.place_table.specs.Contents.{content_told, FitsLock}
 use Rattle.place_table.specs.InBucket.{InBucket}
 use Rattle.place_table.specs.Known.{Learns, BitTouch}
-use Rattle.place_table.specs.Passes.{PassView, TableView, CanMark, TookLock, CanGive, GaveBack, MayGiveBack, Goes, Marked, Attached, Detached, with_view, entry_of}
+use Rattle.place_table.specs.Passes.{PassView, TableView, CanMark, TookLock, CanGive, GaveBack, MayGiveBack, Goes, Marked, Attached, Detached, with_view, entry_of, ready, TookTicket}
 use Rattle.place_table.specs.Plays.{IsApartFromHands}
 use Rattle.place_table.specs.StoredHashes.{stored_in}
 use Rattle.place_table.specs.Flushes.{flushes}
 use Rattle.place_table.specs.TurnNotes.{WasRead, ProbeFits, CameToHand}
-use Rattle.place_table.specs.Views.{hold_at, now_at, now_under, with_in_hand, without_in_hand, bits_with, with_mark, touching, known_log, holding, given, with_lost, moved, with_hashes, with_now, notes_below, holds_below, passed_on, passed_on_by_bucket, hold_with}
+use Rattle.place_table.specs.Views.{hold_at, now_at, now_under, with_in_hand, without_in_hand, bits_with, with_mark, touching, known_log, holding, given, with_lost, moved, with_hashes, with_now, notes_below, holds_below, passed_on, passed_on_by_bucket, hold_with, ticket_of}
 use Rattle.place_table.specs.Words.{owner_word, bit_word}
 use Rattle.place_table.proofs.BucketTurns.{IsTurnWith}
 use Rattle.place_table.proofs.Entries.{append_nil}
@@ -273,17 +273,17 @@ module _ {t : TableView} {bucket : ℕ} {q r : PassView} {bodies : List Stored} 
       is_bucket_part t.shape r.cpu stands bodies (subst (Allows t.shape r.cpu stands) (sym (b.content_is ∙ ap (λ (d : DomainId). content t.shape d b.hold.log) (sym named))) allowed)
 
   -- The bucket's turn was made, or is lost, and is told as one with this part.
-  given_by : (back : Content) (part : BucketPart) (stands : Part) (lost : List ℕ) (at : ℕ) (kept : List StrandStep) (s : PassView) → IsTrue (is_lru t.shape.kind) → set ≡ marks t.shape (parts.Bucket part)
-      → (can : CanGive t (Bucket bucket) r back stands) → (meant : CanGive t (Bucket bucket) r back (parts.Bucket part)) → Goes r s (given_turn r can.hold stands ∷ []) lost
-      → s ≡ with_view r (with_lost (lost ++ r.view.lost) (given at can.hold (entry_of r stands) kept r.view)) → IsTold t.shape lost (given_turn r can.hold stands) (given_turn r meant.hold (parts.Bucket part)) → GivenBack t bucket q s (parts.Bucket part) hand
-  given_by back part stands lost at kept s lru set_is can meant goes is is_told =
+  given_by : (back : Content) (part : BucketPart) (stands : Part) (lost : List ℕ) (n : ℕ) (taken : TookTicket r.view) (at : ℕ) (kept : List StrandStep) (s : PassView) → IsTrue (is_lru t.shape.kind) → set ≡ marks t.shape (parts.Bucket part)
+      → (can : CanGive t (Bucket bucket) r back stands) → (meant : CanGive t (Bucket bucket) r back (parts.Bucket part)) → Goes r s (given_turn r n can.hold stands ∷ []) lost
+      → s ≡ with_view r (with_lost (lost ++ r.view.lost) (given at can.hold (entry_of r n stands) kept (ready r.view taken))) → IsTold t.shape lost (given_turn r n can.hold stands) (given_turn r n meant.hold (parts.Bucket part)) → GivenBack t bucket q s (parts.Bucket part) hand
+  given_by back part stands lost n taken at kept s lru set_is can meant goes is is_told =
       let hold_is : can.hold ≡ hold_with b.hold now = same_head (sym can.innermost ∙ u.held) in
       let owners_is : can.notes.owners ≡ [] = ap (λ (z : Notes). z.owners) (same_head (sym can.notes_are ∙ u.notes)) in
       let stands_is = part_here stands (subst (λ (h : Hold). Allows t.shape r.cpu stands (content t.shape (lock_named t.shape h.lock) h.log)) hold_is can.may_put.allowed) in
-      let step : Turned = given_turn r can.hold stands in
-      let made : Turned = given_turn r meant.hold (parts.Bucket part) in
+      let step : Turned = given_turn r n can.hold stands in
+      let made : Turned = given_turn r n meant.hold (parts.Bucket part) in
       let gave : Learns t.shape r.view s.view (step ∷ []) [] =
-      learns_gave t (Bucket bucket) r back stands s.view can
+      learns_gave t (Bucket bucket) r back n stands s.view can
       (subst (λ (h : Hold). IsLegal t.shape (Bucket bucket) h.log) (sym hold_is) b.legal)
       (λ has log known. ap (λ (h : Hold). h.log) hold_is ∙ b.known log (ap (λ (k : ℕ). known_log k q.view.known) b.lock_is ∙ (sym (u.learns.logs (sym u.learns.all ∙ has) (lock_number t.shape (Bucket bucket))).known_is ∙ known)))
       (ap (λ (z : PassView). z.view.known) is) (ap (λ (z : PassView). z.view.bits) is) (ap (λ (z : PassView). z.view.cpus) is) (ap (λ (z : PassView). z.view.shape) is) in
@@ -308,8 +308,8 @@ module _ {t : TableView} {bucket : ℕ} {q r : PassView} {bodies : List Stored} 
       named_by meant = ap (lock_named t.shape) meant.lock_is ∙ named_by_number t.shape (Bucket bucket) (bucket_there t.shape bucket b.there)
 
   -- two parts that could be given at once: the turn of the one could be that of the other
-  could_be : (back : Content) (part : BucketPart) (stands : Part) (can : CanGive t (Bucket bucket) r back (parts.Bucket part)) (other : CanGive t (Bucket bucket) r back stands) → CouldBe t.shape (given_turn r other.hold stands) (given_turn r can.hold (parts.Bucket part))
-  could_be back part stands can other =
+  could_be : (n : ℕ) (back : Content) (part : BucketPart) (stands : Part) (can : CanGive t (Bucket bucket) r back (parts.Bucket part)) (other : CanGive t (Bucket bucket) r back stands) → CouldBe t.shape (given_turn r n other.hold stands) (given_turn r n can.hold (parts.Bucket part))
+  could_be n back part stands can other =
       let same : can.hold ≡ other.hold = same_head (sym can.innermost ∙ other.innermost) in
       let notes : can.notes ≡ other.notes = same_head (sym can.notes_are ∙ other.notes_are) in
       let hold_is : other.hold ≡ hold_with b.hold now = same_head (sym other.innermost ∙ u.held) in
@@ -333,9 +333,9 @@ module _ {t : TableView} {bucket : ℕ} {q r : PassView} {bodies : List Stored} 
   pub given_back : (back : BodyList) (part : BucketPart) (found : Option Part) (s : PassView) → IsTrue (is_lru t.shape.kind) → set ≡ marks t.shape (parts.Bucket part) → CanGive t (Bucket bucket) r (contents.Bucket back) (parts.Bucket part)
       → IfSome found (λ x. x ≡ parts.Bucket part) → GaveBack t (Bucket bucket) r s (contents.Bucket back) found → GivenBack t bucket q s (parts.Bucket part) hand
   given_back back part None s lru set_is can is gave =
-      given_by (contents.Bucket back) part gave.part (gave.can.hold.lock ∷ []) gave.at r.view.kept s lru set_is gave.can can (goes_gave_some t (Bucket bucket) r s (contents.Bucket back) gave) gave.after_is
-      (inr (among_first gave.can.hold.lock [], could_be (contents.Bucket back) part gave.part can gave.can))
+      given_by (contents.Bucket back) part gave.part (gave.can.hold.lock ∷ []) (ticket_of (ready r.view gave.took)) gave.took gave.at r.view.kept s lru set_is gave.can can (goes_gave_some t (Bucket bucket) r s (contents.Bucket back) gave) gave.after_is
+      (inr (among_first gave.can.hold.lock [], could_be (ticket_of (ready r.view gave.took)) (contents.Bucket back) part gave.part can gave.can))
   given_back back part (Some x) s lru set_is can is gave =
       let hold_is : gave.hold ≡ can.hold = same_head (sym gave.innermost ∙ can.innermost) in
-      let recorded : Goes r s (given_turn r can.hold (parts.Bucket part) ∷ []) [] = subst (λ (z : Hold × Part). Goes r s (given_turn r z.0 z.1 ∷ []) []) (λ i. (hold_is i, is i)) (goes_gave r s x gave) in
-      given_by (contents.Bucket back) part (parts.Bucket part) [] gave.at gave.kept s lru set_is can can recorded (gave.after_is ∙ (λ i. with_view r (given gave.at (hold_is i) (entry_of r (is i)) gave.kept r.view))) (inl refl)
+      let recorded : Goes r s (given_turn r gave.ticket can.hold (parts.Bucket part) ∷ []) [] = subst (λ (z : Hold × Part). Goes r s (given_turn r gave.ticket z.0 z.1 ∷ []) []) (λ i. (hold_is i, is i)) (goes_gave r s x gave) in
+      given_by (contents.Bucket back) part (parts.Bucket part) [] gave.ticket gave.took gave.at gave.kept s lru set_is can can recorded (gave.after_is ∙ (λ i. with_view r (given gave.at (hold_is i) (entry_of r gave.ticket (is i)) gave.kept (ready r.view gave.took)))) (inl refl)

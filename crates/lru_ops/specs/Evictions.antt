@@ -117,7 +117,7 @@ pub record TakenOut (t : TableView) (bucket e : ℕ) (q : PassView) (left : List
 -- the turn is a probe of this bucket for this element, by this CPU in this call, with this answer
 pub record IsEvict (shape : Shape) (cpu call bucket e : ℕ) (seen : Seen) (turn : Turned) : Type 0 where
   pub lock : turn.lock ≡ lock_number shape (Bucket bucket)
-  pub entry : turn.entry ≡ record { cpu = cpu; call = call; part = parts.Bucket (Evict e seen) }
+  pub entry : turn.entry ≡ record { ticket = turn.entry.ticket; cpu = cpu; call = call; part = parts.Bucket (Evict e seen) }
 
 -- Where the turn is a probe that found its element in the hand of a CPU, one of these steps on words read the owner of the element
 -- so.

@@ -1,4 +1,6 @@
 -- The values that are written as JSON, and what they are seen as.
+use Rattle.map_report.specs.Text.{map_line}
+use Rattle.map_report.specs.History.{history_lines}
 use Rattle.std.proofs.Common.{◌≡◌, ℕ, List, [], ◌∷◌, map, Bool, true, false, Option, Some, None, String, Vec, Global, string_bytes, refl, ap, ◌∙◌, rules}
 use Rattle.std.specs.List.{flat_map}
 use Rattle.std.specs.Prelude.{codes}
@@ -44,7 +46,7 @@ answers_without script kept (Some spec) = rw (no_floats _) refl
 
 pub object_without : (script : Script) (kept : RunRecord) (options : Options) → has_float (json_object script kept options) ≡ false
 object_without script kept options =
-    asked_without options.dump _ _ _ (asked_without options.history _ _ _ (answers_without script kept script.spec))
+    asked_without options.dump _ _ _ (asked_without options.history (codes "history") (history_lines kept) (member (codes "map") (string (map_line script.shape)) (answers script kept script.spec)) (answers_without script kept script.spec))
 
 -- the map's line comes before the answers
 pub map_is_first : (script : Script) (kept : RunRecord) (spec : Option GenSpec) (line : List ℕ) → put (codes "map") (string line) (answers script kept spec) ≡ member (codes "map") (string line) (answers script kept spec)

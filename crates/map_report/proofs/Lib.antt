@@ -1,10 +1,12 @@
 mod JsonLemmas
 mod SummaryLemmas
 mod WorkedRecord
+mod TicketsWorked
 pub mod LogGrowth
 pub mod LogNames
 pub mod LogSteps
 pub mod LogContents
+pub mod LogTickets
 pub mod LogRecord
 pub mod ListedAtRest
 pub mod LogAnswers

@@ -31,8 +31,8 @@ module _ (shape : Shape) where
   pub grows_turned : (cpu number : ℕ) (turn : Turn) (state : State) → Grows state (turned shape cpu number turn state)
   grows_turned cpu number turn state lock = by (is_same_lock turn.lock lock)
     where
-      by : (b : Bool) → (more : List Entry) × (cond b (state.logs lock ++ (record { cpu = cpu; call = number; part = turn.part }) ∷ []) (state.logs lock) ≡ state.logs lock ++ more)
-      by true = ((record { cpu = cpu; call = number; part = turn.part }) ∷ [], refl)
+      by : (b : Bool) → (more : List Entry) × (cond b (state.logs lock ++ (record { ticket = state.next_ticket; cpu = cpu; call = number; part = turn.part }) ∷ []) (state.logs lock) ≡ state.logs lock ++ more)
+      by true = ((record { ticket = state.next_ticket; cpu = cpu; call = number; part = turn.part }) ∷ [], refl)
       by false = ([], sym (append-nil (state.logs lock)))
 
   pub grows_all : (cpu number : ℕ) (turns : List Turn) (state : State) → Grows state (all_turned shape cpu number turns state)
@@ -54,9 +54,9 @@ module _ (shape : Shape) where
   turned_on_cpus : (cpu number : ℕ) → cpu < shape.cpus → (turn : Turn) (state : State) → AreOnCpus state → AreOnCpus (turned shape cpu number turn state)
   turned_on_cpus cpu number within turn state on lock = by (is_same_lock turn.lock lock)
     where
-      by : (b : Bool) → All (λ (entry : Entry). entry.cpu < shape.cpus) (cond b (state.logs lock ++ (record { cpu = cpu; call = number; part = turn.part }) ∷ []) (state.logs lock))
+      by : (b : Bool) → All (λ (entry : Entry). entry.cpu < shape.cpus) (cond b (state.logs lock ++ (record { ticket = state.next_ticket; cpu = cpu; call = number; part = turn.part }) ∷ []) (state.logs lock))
       by true = All-append (λ (entry : Entry). entry.cpu < shape.cpus) (state.logs lock) _ (on lock)
-          (All-cons (λ (entry : Entry). entry.cpu < shape.cpus) (record { cpu = cpu; call = number; part = turn.part }) [] within (All-nil (λ (entry : Entry). entry.cpu < shape.cpus)))
+          (All-cons (λ (entry : Entry). entry.cpu < shape.cpus) (record { ticket = state.next_ticket; cpu = cpu; call = number; part = turn.part }) [] within (All-nil (λ (entry : Entry). entry.cpu < shape.cpus)))
       by false = on lock
 
   all_on_cpus : (cpu number : ℕ) → cpu < shape.cpus → (turns : List Turn) (state : State) → AreOnCpus state → AreOnCpus (all_turned shape cpu number turns state)

@@ -94,7 +94,7 @@ module _ (shape : Shape) (end : State) (ours : (lock : DomainId) → is_lock sha
     step_names : (turn : Turn) (state : State) → Grows (turned shape cpu number turn state) end
         → Names histories cpu number (record { lock = turn.lock; index = length (state.logs turn.lock) }) (record { turn = turn; earlier = state.logs turn.lock })
     step_names turn state grows =
-        let entry : Entry = record { cpu = cpu; call = number; part = turn.part } in
+        let entry : Entry = record { ticket = state.next_ticket; cpu = cpu; call = number; part = turn.part } in
         let before : List Entry = state.logs turn.lock in
         let more : List Entry = (grows turn.lock).0 in
         let whole : entries_of histories turn.lock ≡ before ++ entry ∷ more =
@@ -102,6 +102,7 @@ module _ (shape : Shape) (end : State) (ours : (lock : DomainId) → is_lock sha
         ∙ ap (λ (entries : List Entry). entries ++ more) (choice (is_same_lock turn.lock turn.lock) (before ++ entry ∷ []) before (same_lock turn.lock)) ∙ append_assoc before (entry ∷ []) more in
         record {
           lock = refl;
+          ticket = state.next_ticket;
           entry = ap (λ (entries : List Entry). slice_get entries (length before)) whole ∙ at_end before entry more;
           earlier = sym (ap (take (length before)) whole ∙ all_before before (entry ∷ more));
         }

@@ -37,6 +37,7 @@ use Rattle.map_report.proofs.LogContents.{tells, spares_told}
 use Rattle.map_report.proofs.LogGrowth.{Grows, grows_none, grows_both, grows_run, AreOnCpus, run_on_cpus, legal_run, legal_first}
 use Rattle.map_report.proofs.LogNames.{histories, entries_are, names_all}
 use Rattle.map_report.proofs.LogSteps.{has_within, within_has, run_places}
+use Rattle.map_report.proofs.LogTickets.{all_of, tickets_by_logs}
 
 chosen_first : (b : Bool) (A B : Type 0) → b ≡ true → A → MatchBool b A B
 chosen_first true A B is it = it
@@ -106,10 +107,6 @@ locks_told : (state : State) (locks : List DomainId) → map (λ (history : Lock
 locks_told state [] = refl
 locks_told state (lock ∷ locks) = ap (λ (l : List DomainId). lock ∷ l) (locks_told state locks)
 
-all_of : (xs : List DomainId) (P : DomainId → Type 0) → ((lock : DomainId) → P lock) → All P xs
-all_of [] P all = All-nil P
-all_of (x ∷ xs) P all = Rattle.std.proofs.lemmas.List.Elements.All-cons P x xs (all x) (all_of xs P all)
-
 same_all : (n : ℕ) (xs : List ℕ) → n ≡ 0 → xs ≡ filter (λ (cpu : ℕ). eqb 0 n) xs
 same_all n [] none = refl
 same_all n (x ∷ xs) none = by (eqb 0 n) (eq-eqb 0 n (sym none)) (same_all n xs none)
@@ -155,6 +152,7 @@ record_by_logs script served done ours spares answered holds =
           let one = only_one the_strand strand n is in
           subst (λ (s : Strand). IsConcatenation shape (histories shape end ours) s.cpus 1 calls (answers shape 1 calls first) (spare_at (opening shape)) (spare_at (finals_of shape end)) s.steps) one.1
           (strand_is shape end ours (spare_at (finals_of shape end)) 1 calls first (spare_at (opening shape)) served done spares (grows_none end) (λ c below. spares_told shape end c holds below));
+      tickets = tickets_by_logs shape calls ours the_strand refl;
       replies = answered;
       contents = λ lock there. subst (λ (entries : List Entry). Tells (finals_of shape end) lock (content shape lock entries)) (sym (entries_are shape end ours lock)) (tells shape end lock there);
       finals = holds;

@@ -59,10 +59,10 @@ module _ (shape : Shape) (lock : DomainId) where
   one_place : (cpu number : ℕ) (turn : Turn) (state : State) → places_in state lock ++ places_on lock ((record { lock = turn.lock; index = length (state.logs turn.lock) }) ∷ []) ≡ places_in (turned shape cpu number turn state) lock
   one_place cpu number turn state = by (is_same_lock turn.lock lock) refl
     where
-      by : (b : Bool) → is_same_lock turn.lock lock ≡ b → places_in state lock ++ cond b (length (state.logs turn.lock) ∷ []) [] ≡ range_with_len 0 (length (cond b (state.logs lock ++ (record { cpu = cpu; call = number; part = turn.part }) ∷ []) (state.logs lock)))
+      by : (b : Bool) → is_same_lock turn.lock lock ≡ b → places_in state lock ++ cond b (length (state.logs turn.lock) ∷ []) [] ≡ range_with_len 0 (length (cond b (state.logs lock ++ (record { ticket = state.next_ticket; cpu = cpu; call = number; part = turn.part }) ∷ []) (state.logs lock)))
       by true same =
           let place : length (state.logs turn.lock) ≡ 0 + length (state.logs lock) = omega (arith, ap (λ (l : DomainId). length (state.logs l)) (one_lock turn.lock lock same)) in
-          let entry : Entry = record { cpu = cpu; call = number; part = turn.part } in
+          let entry : Entry = record { ticket = state.next_ticket; cpu = cpu; call = number; part = turn.part } in
           let longer : suc (length (state.logs lock)) ≡ length (state.logs lock ++ entry ∷ []) = omega (arith, length-append (state.logs lock) (entry ∷ [])) in
           ap (λ (n : ℕ). places_in state lock ++ n ∷ []) place ∙ range_more 0 (length (state.logs lock)) ∙ ap (range_with_len 0) longer
       by false other = append-nil (places_in state lock)

@@ -8,6 +8,7 @@ use Rattle.place_words.specs.declared.history.Part.TheVariants as parts
 use Rattle.place_words.specs.declared.history.Strand.{Strand}
 use Rattle.place_words.specs.declared.history.StrandStep.{StrandStep}
 use Rattle.map_report.specs.declared.record.RunRecord.{RunRecord}
+use Rattle.map_report.specs.declared.history.RecordVersion.{RecordVersion}
 use Rattle.map_report.specs.BucketParts.{bucket_part_text, free_part_text}
 use Rattle.map_report.specs.ListParts.{local_part_text, global_part_text, own_part_text}
 use Rattle.map_report.specs.Words.{lock_name, number_text}
@@ -19,9 +20,9 @@ part_text (parts.Local part) = local_part_text part
 part_text (parts.Global part) = global_part_text part
 part_text (parts.Own part) = own_part_text part
 
--- `CPU CALL PART`
+-- `TICKET CPU CALL PART`
 abbrev pub entry_line : Entry → List ℕ
-entry_line entry = decimal entry.cpu ++ number_text entry.call ++ codes " " ++ part_text entry.part
+entry_line entry = decimal entry.ticket ++ number_text entry.cpu ++ number_text entry.call ++ codes " " ++ part_text entry.part
 
 -- `lock NAME N` and its entries, of a lock that has an entry
 abbrev pub lock_line : LockHistory → List ℕ
@@ -47,5 +48,9 @@ strand_line strand = codes "strand " ++ joined strand.cpus ++ number_text (lengt
 abbrev pub strand_lines : Strand → List (List ℕ)
 strand_lines strand = strand_line strand ∷ map step_line strand.steps
 
+-- `record 2`, the first line
+abbrev pub record_line : RecordVersion → List ℕ
+record_line version = codes "record" ++ number_text version.number
+
 abbrev pub history_lines : RunRecord → List (List ℕ)
-history_lines kept = flat_map lock_lines kept.histories ++ flat_map strand_lines kept.strands
+history_lines kept = record_line (record { number = 2 }) ∷ flat_map lock_lines kept.histories ++ flat_map strand_lines kept.strands

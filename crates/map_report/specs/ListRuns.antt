@@ -8,7 +8,7 @@ use Rattle.map_report.specs.Turns.{Happened, turns_from, histories_of_turns, str
 
 -- all turns of a script's calls, which are numbered from 1
 abbrev pub turns_of_script : Script → List Happened
-turns_of_script script = turns_from script.shape (opening script.shape) 1 script.calls
+turns_of_script script = turns_from script.shape (opening script.shape) 0 1 script.calls
 
 unfoldable pub serial_on_lists : Script → RunRecord
 serial_on_lists script = record {

@@ -31,6 +31,7 @@ use Rattle.place_words.specs.Logs.{final_set, final_local}
 use Rattle.place_words.specs.Named.{NameAll}
 pub use Rattle.place_words.specs.Named.{entries_of}
 use Rattle.place_words.specs.Traces.{IsTrace}
+use Rattle.place_words.specs.Tickets.{AreTicketed}
 use Rattle.place_words.specs.Turns.{TurnAt}
 use Rattle.place_words.specs.Walks.{spare_left}
 use Rattle.map_report.specs.declared.record.RunRecord.{RunRecord}
@@ -196,7 +197,7 @@ Tells lists (CpuLru cpu) content = MatchOption (own_in content) ⊥ (λ set. sli
 Tells lists (Bucket bucket) content = in_bucket (slice_index_or lists.buckets bucket []) ≡ content
 Tells lists (Freelist cpu) content = on_freelist (slice_index_or lists.freelists cpu []) ≡ content
 
--- A record of a run of the script, in whatever order its CPUs ran. Turns of two locks have no order in it, but along a strand.
+-- A record of a run of the script, in whatever order its CPUs ran.
 pub record IsRecord (script : Script) (kept : RunRecord) : Type 0 where
   -- each lock of the map has one history, in the order of their numbers, and each replays by the kernel's rules
   pub locks : map (λ (history : LockHistory). history.lock) kept.histories ≡ locks_of script.shape
@@ -212,6 +213,8 @@ pub record IsRecord (script : Script) (kept : RunRecord) : Type 0 where
   -- a strand is the calls of its CPUs in the script's order, each with its turns and its reply
   pub calls : (n : ℕ) (strand : Strand) → slice_get kept.strands n ≡ Some strand
       → IsConcatenation script.shape kept.histories strand.cpus 1 script.calls kept.replies (spare_at (opening script.shape)) (spare_at kept.finals) strand.steps
+  -- by their tickets all entries stand in one order
+  pub tickets : AreTicketed kept.histories kept.strands
   pub replies : EachAnswered script.shape script.calls kept.replies
   -- what the map holds at the end is what the histories lead to, and each element is in one place, once
   pub contents : (lock : DomainId) → IsTrue (is_lock script.shape lock) → Tells kept.finals lock (content script.shape lock (entries_of kept.histories lock))

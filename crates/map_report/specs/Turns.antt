@@ -159,15 +159,21 @@ call_turns shape cpu (verbs.BatchDelete flags keys) lists =
 abbrev pub Happened : Type 0
 Happened = DomainId × Entry
 
-abbrev pub happened : ℕ → ℕ → Turn → Happened
-happened cpu call turn = (turn.lock, record { cpu = cpu; call = call; part = turn.part })
+abbrev pub happened : ℕ → ℕ → ℕ → Turn → Happened
+happened cpu call ticket turn = (turn.lock, record { ticket = ticket; cpu = cpu; call = call; part = turn.part })
 
--- the turns of calls in their order, from a state of the map on, where the first call has this number
-abbrev pub turns_from : Shape → Finals → ℕ → List Call → List Happened
-turns_from shape lists number [] = []
-turns_from shape lists number (call ∷ calls) =
-    map (happened call.cpu number) (call_turns shape call.cpu call.verb lists)
-    ++ turns_from shape (after_call shape call.cpu call.verb lists).0 (suc number) calls
+-- those of a call, the first of which has this ticket
+abbrev pub all_happened : ℕ → ℕ → ℕ → List Turn → List Happened
+all_happened cpu call ticket [] = []
+all_happened cpu call ticket (turn ∷ turns) = happened cpu call ticket turn ∷ all_happened cpu call (suc ticket) turns
+
+-- the turns of calls in their order, from a state of the map on, where the first turn has this ticket and the first call this number
+abbrev pub turns_from : Shape → Finals → ℕ → ℕ → List Call → List Happened
+turns_from shape lists ticket number [] = []
+turns_from shape lists ticket number (call ∷ calls) =
+    let turns : List Turn = call_turns shape call.cpu call.verb lists in
+    all_happened call.cpu number ticket turns
+    ++ turns_from shape (after_call shape call.cpu call.verb lists).0 (ticket + length turns) (suc number) calls
 
 -- those on one lock are its history
 abbrev pub entries_on : DomainId → List Happened → List Entry

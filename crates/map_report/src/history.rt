@@ -2,7 +2,7 @@
 
 ghost use Rattle.std.specs.Prelude.{◌≡◌, ◌++◌, OnOk, codes, decimal, string_bytes};
 ghost use Rattle.std.specs.List.{flat_map};
-ghost use Rattle.map_report.specs.History.{entry_line, history_lines, joined, lock_line, lock_lines, part_text, step_line, strand_line, strand_lines};
+ghost use Rattle.map_report.specs.History.{entry_line, history_lines, joined, lock_line, lock_lines, part_text, record_line, step_line, strand_line, strand_lines};
 
 use crate::RunRecord;
 use crate::lines::{Lines, add_each};
@@ -16,6 +16,7 @@ pub(crate) fn add_history<L: Lines>(lines: &mut L, kept: &RunRecord) -> Result<(
     ensures { OnOk result (L.written lines.new
         ≡ L.written lines.old ++ flat_map L.line (history_lines kept.now)) }
 {
+    lines.add(&RecordVersion { number: 2 })?;
     add_locks(lines, kept.histories.as_slice())?;
     add_strands(lines, kept.strands.as_slice())
 }
@@ -43,6 +44,21 @@ fn add_lock<L: Lines>(lines: &mut L, history: &LockHistory) -> Result<(), AllocE
     add_each(lines, history.entries.as_slice())
 }
 
+/// Which lines the text of a record has.
+pub(crate) struct RecordVersion {
+    pub(crate) number: u32,
+}
+
+/// `record 2`, the first line.
+impl Piece for RecordVersion {
+    ghost shown = { record_line };
+
+    fn push_to(&self, text: &mut String) -> Result<(), AllocError> {
+        text.push_str("record")?;
+        self.number.push_to(text)
+    }
+}
+
 /// `lock NAME N`, the line above its entries.
 impl Piece for LockHistory {
     ghost shown = { lock_line };
@@ -54,12 +70,13 @@ impl Piece for LockHistory {
     }
 }
 
-/// `CPU CALL PART`
+/// `TICKET CPU CALL PART`
 impl Piece for Entry {
     ghost shown = { entry_line };
 
     fn push_to(&self, text: &mut String) -> Result<(), AllocError> {
-        push_decimal(text, self.cpu as u64)?;
+        push_decimal(text, self.ticket)?;
+        self.cpu.push_to(text)?;
         self.call.push_to(text)?;
         text.push_str(" ")?;
         self.part.push_to(text)

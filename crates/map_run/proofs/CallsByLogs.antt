@@ -23,8 +23,8 @@ use Rattle.place_words.specs.Walks.{spare_left}
 use Rattle.place_table.specs.declared.view.Turned.{Turned}
 use Rattle.place_table.specs.Calls.{bits_of_turns, finds_moved_on, IsTold, AreTold, Called, element_of, spare_element}
 use Rattle.place_table.specs.Known.{AreAllowedAt, BitTouch, Learns, KnowsAll, logs_after, turn_of, turn_at}
-use Rattle.place_table.specs.Passes.{PassView, TableView, begun, spare_of}
-use Rattle.place_table.specs.Views.{bit_seen, place_of, kept_step}
+use Rattle.place_table.specs.Passes.{PassView, TableView, begun, spare_of, AreCounted}
+use Rattle.place_table.specs.Views.{bit_seen, place_of, kept_step, next}
 use Rattle.place_table.proofs.Going.{learns_all}
 use Rattle.map_report.specs.Runs.{steps_of_turns, steps_of_calls}
 use Rattle.map_run.specs.ByLogs.{IsOfMap, KnowsState}
@@ -95,9 +95,9 @@ module _ (t : TableView) (state : State) (strand : List StrandStep) (p q : PassV
   after_is : KnowsAll t.shape (logs_after logs called.steps) q.view
   after_is = (learns_all t.shape p.view q.view logs called.steps (touches_of t.shape call.cpu number called.steps) learns knows.knows).1
 
-  goes : GoOnBy t.shape call.cpu number called.steps state logs known
+  goes : GoOnBy t.shape call.cpu number called.steps state logs known (next q.view)
   goes =
-      made_by t.shape call.cpu number called.steps state logs known (λ k. refl) knows.bits
+      made_by t.shape call.cpu number called.steps state logs known (next q.view) (subst (λ (n : ℕ). AreCounted n called.steps (next q.view)) knows.counted (called.leaves.made.goes.numbers.exact knows.knows.all)) (λ k. refl) knows.bits
       (learns_all t.shape p.view q.view logs called.steps (touches_of t.shape call.cpu number called.steps) learns knows.knows).0
       (λ e. (learns.bits knows.knows.all e).see_on) called.leaves.by_call
 
@@ -119,7 +119,7 @@ module _ (Fact : State → Turn → Type 0) (t : TableView) (state : State) (str
   abbrev did : Does
   did = does t.shape call.cpu number state call.verb
 
-  abbrev made_from : GoOnBy t.shape call.cpu number called.steps state (logs t state strand p q call number reply shape_is knows called none) (known t state strand p q call number reply shape_is knows called none)
+  abbrev made_from : GoOnBy t.shape call.cpu number called.steps state (logs t state strand p q call number reply shape_is knows called none) (known t state strand p q call number reply shape_is knows called none) (next q.view)
   made_from = goes t state strand p q call number reply shape_is knows called none
 
   abbrev learned : Learns t.shape p.view q.view called.steps (touches_of t.shape call.cpu number called.steps)
@@ -153,6 +153,7 @@ module _ (Fact : State → Turn → Type 0) (t : TableView) (state : State) (str
       each = λ k below there. (after_is t state strand p q call number reply shape_is knows called none).each k below there ∙ ap Some (made_from.logs_are k ∙ ap (λ (turns : List Turn). (all_turned t.shape call.cpu number turns state).logs (lock_named t.shape k)) turns_then);
     };
     bits = λ e real. (learned.bits knows.knows.all e).known_is ∙ made_from.bits_are e real ∙ ap (λ (turns : List Turn). Some ((all_turned t.shape call.cpu number turns state).bits e)) turns_then;
+    counted = made_from.counted ∙ ap (λ (turns : List Turn). (all_turned t.shape call.cpu number turns state).next_ticket) turns_then;
     steps_are = strand_then;
     real = subst (All (IsOfMap t.shape)) (sym called.leaves.made.goes.steps)
         (All-append (IsOfMap t.shape) p.view.steps called.steps knows.real (all_real t.shape called.steps learned.allowed));

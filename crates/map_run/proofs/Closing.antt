@@ -16,17 +16,11 @@ use Rattle.place_table.specs.declared.view.Turned.{Turned}
 use Rattle.place_table.specs.Passes.{IsKeptOf}
 use Rattle.place_table.specs.Rules.{turns_on, indexes}
 use Rattle.place_table.specs.Views.{place_of, kept_step}
+use Rattle.map_report.proofs.LogTickets.{same_number}
 use Rattle.map_report.specs.Serial.{has_spares, spare_count}
 use Rattle.map_run.specs.ByLogs.{IsOfMap}
 
 -- Recorded steps
-
--- two numbers name one lock where they are one
-pub same_number : (shape : Shape) (j k : ℕ) → is_same_lock (lock_named shape j) (lock_named shape k) ≡ eqb j k
-same_number shape j k =
-    by_test j k (λ b. is_same_lock (lock_named shape j) (lock_named shape k) ≡ b)
-    (λ is. ap (λ (m : ℕ). is_same_lock (lock_named shape m) (lock_named shape k)) is ∙ same_lock (lock_named shape k))
-    (λ other. other_lock (lock_named shape j) (lock_named shape k) (λ is. other (one_number shape j k is)))
 
 places_more : (lock : DomainId) (before : List StrandStep) (step : StrandStep) → length (places_on lock (before ++ step ∷ [])) ≡ length (places_on lock before) + cond (is_same_lock step.lock lock) 1 0
 places_more lock [] step = by (is_same_lock step.lock lock)

@@ -1,5 +1,5 @@
 -- Turns as entries of their locks' histories, and what these lead to.
-use Rattle.std.proofs.Common.{◌≡◌, ℕ, Bool, true, false, List, [], ◌∷◌, ◌++◌, map, refl, ap}
+use Rattle.std.proofs.Common.{◌≡◌, ℕ, Bool, true, false, List, [], ◌∷◌, ◌++◌, map, refl, ap, suc}
 use Rattle.std.specs.Prelude.{MatchBool, if◌then◌else◌}
 use Rattle.map_types.specs.declared.attr.Shape.{Shape}
 use Rattle.map_types.specs.declared.kind.DomainId.{DomainId}
@@ -7,7 +7,7 @@ use Rattle.place_words.specs.declared.history.Entry.{Entry}
 use Rattle.place_words.specs.Histories.{Content, content_after, replayed}
 use Rattle.place_words.specs.Locks.{is_same_lock}
 use Rattle.place_words.specs.Traces.{Turn, after_turn, after_turns}
-use Rattle.map_report.specs.Turns.{Happened, happened, entries_on}
+use Rattle.map_report.specs.Turns.{Happened, happened, all_happened, entries_on}
 
 -- a test, by cases
 pub by_bool : (b : Bool) (F : Bool → Type 0) → (b ≡ true → F true) → (b ≡ false → F false) → F b
@@ -35,14 +35,14 @@ replayed_append shape content (entry ∷ first) second = replayed_append shape (
 
 -- Turns of one call that may be made where something lies under each lock, on one lock.
 module _ (shape : Shape) (cpu number : ℕ) (lock : DomainId) where
-  pub call_replayed : (contents : DomainId → Content) (turns : List Turn)
-      → replayed shape (contents lock) (entries_on lock (map (happened cpu number) turns)) ≡ after_turns shape cpu contents turns lock
+  pub call_replayed : (contents : DomainId → Content) (ticket : ℕ) (turns : List Turn)
+      → replayed shape (contents lock) (entries_on lock (all_happened cpu number ticket turns)) ≡ after_turns shape cpu contents turns lock
   unfolding replayed
-  call_replayed contents [] = refl
-  call_replayed contents (turn ∷ turns) =
-      let rest = call_replayed (after_turn shape cpu contents turn) turns in
-      let later : List Entry = entries_on lock (map (happened cpu number) turns) in
+  call_replayed contents ticket [] = refl
+  call_replayed contents ticket (turn ∷ turns) =
+      let rest = call_replayed (after_turn shape cpu contents turn) (suc ticket) turns in
+      let later : List Entry = entries_on lock (all_happened cpu number (suc ticket) turns) in
       by_bool (is_same_lock turn.lock lock)
       (λ b. replayed shape (if b then content_after shape cpu turn.part (contents lock) else contents lock) later ≡ after_turns shape cpu (after_turn shape cpu contents turn) turns lock
-      → replayed shape (contents lock) (if b then (happened cpu number turn).1 ∷ later else later) ≡ after_turns shape cpu (after_turn shape cpu contents turn) turns lock)
+      → replayed shape (contents lock) (if b then (happened cpu number ticket turn).1 ∷ later else later) ≡ after_turns shape cpu (after_turn shape cpu contents turn) turns lock)
       (λ same is. is) (λ other is. is) rest

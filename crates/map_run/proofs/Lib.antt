@@ -74,6 +74,7 @@ pub mod RaceCalls
 pub mod RaceFinals
 pub mod RaceListed
 pub mod RaceHistories
+pub mod RaceTickets
 pub mod RaceRecord
 pub mod Joining
 pub mod Workers

@@ -1,6 +1,6 @@
 -- On a map that doesn't evict a serial run by logs is the run on plain lists: it has the same replies, the same turns under each
 -- lock, and the same steps, and what lies under the locks at the end is what the lists are then.
-use Rattle.std.proofs.Common.{◌≡◌, ℕ, suc, ◌<◌, false, List, [], ◌∷◌, ◌++◌, length, map, take, All, refl, ap, sym, ◌∙◌, subst, append_assoc}
+use Rattle.std.proofs.Common.{◌≡◌, ℕ, suc, ◌<◌, false, List, [], ◌∷◌, ◌++◌, length, map, take, All, refl, ap, sym, ◌∙◌, subst, append_assoc, ◌+◌, arith}
 use Rattle.std.specs.Prelude.{slice_get, unwrap_or}
 use Rattle.std.specs.List.{AllByRecursion}
 use Rattle.std.proofs.lemmas.Bool.{lt-ltb}
@@ -19,13 +19,13 @@ use Rattle.map_script.specs.declared.script.Script.{Script}
 use Rattle.place_words.specs.declared.finals.Finals.{Finals}
 use Rattle.place_words.specs.declared.history.StrandStep.{StrandStep}
 use Rattle.place_words.specs.Histories.{Content, bucket_in, replayed}
-use Rattle.place_words.specs.Logs.{State, all_turned, after_one, new_state, run, answers}
+use Rattle.place_words.specs.Logs.{State, all_turned, after_one, new_state, run, answers, turned}
 use Rattle.place_words.specs.Openings.{first_spares}
 use Rattle.place_words.specs.Turns.{Turn}
 use Rattle.map_report.specs.Runs.{steps_of_turns, steps_of_calls}
 use Rattle.map_report.specs.Serial.{opening, in_bucket_at, after_call, replies_from, lists_after}
 use Rattle.map_report.specs.Soundness.{IsSound}
-use Rattle.map_report.specs.Turns.{Happened, happened, call_turns, turns_from, entries_on, steps_from}
+use Rattle.map_report.specs.Turns.{Happened, all_happened, call_turns, turns_from, entries_on, steps_from}
 use Rattle.map_run.specs.Laws.{lists_before}
 use Rattle.map_run.specs.WalkLaws.{buckets_before}
 use Rattle.map_run.proofs.OpeningTurns.{opening_lies, opening_spares_are, no_opening_spares}
@@ -41,12 +41,17 @@ steps_append before (turn ∷ first) second =
     ap (λ (l : List StrandStep). step ∷ l) (steps_append (before ++ turn ∷ []) first second
     ∙ ap (λ (l : List Happened). steps_from (before ++ turn ∷ []) first ++ steps_from l second) (append_assoc before (turn ∷ []) first))
 
+-- how many turns were made
+tickets_after : (shape : Shape) (cpu number : ℕ) (turns : List Turn) (state : State) → (all_turned shape cpu number turns state).next_ticket ≡ state.next_ticket + length turns
+tickets_after shape cpu number [] state = omega arith
+tickets_after shape cpu number (turn ∷ turns) state = let rest : (all_turned shape cpu number turns (turned shape cpu number turn state)).next_ticket ≡ suc state.next_ticket + length turns = tickets_after shape cpu number turns (turned shape cpu number turn state) in rest ∙ omega arith
+
 module _ (shape : Shape) (bounds : HasBounds shape) (built : is_lru shape.kind ≡ false) where
   -- What a run by logs is, from some point on.
   pub record IsSameRun (lists : Finals) (before : List Happened) (number : ℕ) (calls : List Call) (state : State) : Type 0 where
     pub replies : answers shape number calls state ≡ replies_from shape lists calls
-    pub steps : steps_of_calls shape number calls state ≡ steps_from before (turns_from shape lists number calls)
-    pub follows : Follows shape (lists_after shape lists calls) (before ++ turns_from shape lists number calls) (run shape number calls state)
+    pub steps : steps_of_calls shape number calls state ≡ steps_from before (turns_from shape lists state.next_ticket number calls)
+    pub follows : Follows shape (lists_after shape lists calls) (before ++ turns_from shape lists state.next_ticket number calls) (run shape number calls state)
 
   pub same_run : (calls : List Call) (lists : Finals) (before : List Happened) (number : ℕ) (state : State) → AllByRecursion (IsCallOn shape) calls → IsSound shape lists → Follows shape lists before state → IsSameRun lists before number calls state
   same_run [] lists before number state are sound follows = record { replies = refl; steps = refl; follows = subst (λ (turns : List Happened). Follows shape lists turns state) (sym (append-nil before)) follows }
@@ -54,18 +59,19 @@ module _ (shape : Shape) (bounds : HasBounds shape) (built : is_lru shape.kind �
       let same = call_same shape bounds built call.cpu number are.0.cpu lists before state call.verb are.0.sizes follows sound in
       let turns : List Turn = call_turns shape call.cpu call.verb lists in
       let next : Finals = (after_call shape call.cpu call.verb lists).0 in
-      let mine : List Happened = map (happened call.cpu number) turns in
-      let others : List Happened = turns_from shape next (suc number) calls in
+      let mine : List Happened = all_happened call.cpu number state.next_ticket turns in
+      let others : List Happened = turns_from shape next (state.next_ticket + length turns) (suc number) calls in
+      let counted = tickets_after shape call.cpu number turns state in
       let goes : after_one shape number call state ≡ all_turned shape call.cpu number turns state = ap (λ (ts : List Turn). all_turned shape call.cpu number ts state) same.turns_are in
       let rest = same_run calls next (before ++ mine) (suc number) (all_turned shape call.cpu number turns state) are.1 (sound_step shape call lists bounds built are.0 sound)
       (follows_on shape bounds built lists next before state number call.cpu turns follows same.leads) in
       record {
         replies = (λ i. same.reply_is i ∷ answers shape (suc number) calls (goes i)) ∙ ap (λ (rs : List Reply). (after_call shape call.cpu call.verb lists).1 ∷ rs) rest.replies;
         steps = (λ i. steps_of_turns shape call.cpu number (same.turns_are i) state ++ steps_of_calls shape (suc number) calls (goes i))
-            ∙ (λ i. all_steps shape bounds built call.cpu number turns state before same.leads.on_locks follows.logs i ++ rest.steps i)
+            ∙ (λ i. all_steps shape bounds built call.cpu number turns state before same.leads.on_locks follows.logs i ++ (rest.steps ∙ ap (λ (n : ℕ). steps_from (before ++ mine) (turns_from shape next n (suc number) calls)) counted) i)
             ∙ sym (steps_append before mine others);
         follows = subst (λ (s : State). Follows shape (lists_after shape next calls) (before ++ (mine ++ others)) (run shape (suc number) calls s)) (sym goes)
-            (subst (λ (ts : List Happened). Follows shape (lists_after shape next calls) ts (run shape (suc number) calls (all_turned shape call.cpu number turns state))) (append_assoc before mine others) rest.follows);
+            (subst (λ (ts : List Happened). Follows shape (lists_after shape next calls) ts (run shape (suc number) calls (all_turned shape call.cpu number turns state))) (append_assoc before mine others) (subst (λ (n : ℕ). Follows shape (lists_after shape next calls) ((before ++ mine) ++ turns_from shape next n (suc number) calls) (run shape (suc number) calls (all_turned shape call.cpu number turns state))) counted rest.follows));
       }
 
   -- a new map

@@ -79,9 +79,9 @@ module _ (shape : Shape) (cpu number : ℕ) where
   turn_leaves : (turn : Turn) → IsLook turn.part → (state : State) (bucket : ℕ) → bucket_at shape (turned shape cpu number turn state) bucket ≡ bucket_at shape state bucket
   turn_leaves turn look state bucket = by (is_same_lock turn.lock (Bucket bucket))
     where
-      by : (b : Bool) → unwrap_or (bucket_in (content shape (Bucket bucket) (cond b (state.logs (Bucket bucket) ++ record { cpu = cpu; call = number; part = turn.part } ∷ []) (state.logs (Bucket bucket))))) [] ≡ bucket_at shape state bucket
+      by : (b : Bool) → unwrap_or (bucket_in (content shape (Bucket bucket) (cond b (state.logs (Bucket bucket) ++ record { ticket = state.next_ticket; cpu = cpu; call = number; part = turn.part } ∷ []) (state.logs (Bucket bucket))))) [] ≡ bucket_at shape state bucket
       by true =
-          ap (λ (c : Content). unwrap_or (bucket_in c) []) (content_more shape (Bucket bucket) (state.logs (Bucket bucket)) (record { cpu = cpu; call = number; part = turn.part })
+          ap (λ (c : Content). unwrap_or (bucket_in c) []) (content_more shape (Bucket bucket) (state.logs (Bucket bucket)) (record { ticket = state.next_ticket; cpu = cpu; call = number; part = turn.part })
           ∙ ap (content_after shape cpu turn.part) (lies_a_bucket shape state bucket))
           ∙ part_leaves turn.part look (bucket_at shape state bucket)
       by false = refl

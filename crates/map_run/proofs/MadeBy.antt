@@ -1,4 +1,5 @@
 -- The turns that a pass made in one call, from what it knew where a run in serial order had come to a state: they go on from there.
+use Rattle.place_table.specs.Passes.{AreCounted}
 use Rattle.std.proofs.Common.{◌≡◌, ℕ, ◌<◌, Bool, true, false, cond, ◌||◌, eqb, List, [], ◌∷◌, ◌++◌, length, map, Option, Some, refl, ap, ◌∙◌, sym, subst, append-nil}
 use Rattle.std.specs.Prelude.{All, MatchOption}
 use Rattle.std.specs.List.{flat_map}
@@ -168,8 +169,8 @@ abbrev pub AllBy : ℕ → ℕ → List Turned → Type 0
 AllBy cpu number steps = All (IsBy cpu number) steps
 
 module _ (shape : Shape) (cpu number : ℕ) where
-  logs_more : (logs : ℕ → List Entry) (state : State) (step : Turned) → IsBy cpu number step → LogsAre shape logs state → LogsAre shape (log_after logs step) (turned shape cpu number (turn_of shape step) state)
-  logs_more logs state step by are k =
+  logs_more : (logs : ℕ → List Entry) (state : State) (step : Turned) → IsBy cpu number step → step.entry.ticket ≡ state.next_ticket → LogsAre shape logs state → LogsAre shape (log_after logs step) (turned shape cpu number (turn_of shape step) state)
+  logs_more logs state step by its are k =
       at_put logs step.lock (logs step.lock ++ step.entry ∷ []) (λ j l. l ≡ cond (is_same_lock (lock_named shape step.lock) (lock_named shape j)) (state.logs (lock_named shape j) ++ entry_then ∷ []) (state.logs (lock_named shape j))) k
       ((λ i. are step.lock i ++ entry_is i ∷ []) ∙ sym (ap (λ (b : Bool). cond b (state.logs (lock_named shape step.lock) ++ entry_then ∷ []) (state.logs (lock_named shape step.lock))) (same_lock (lock_named shape step.lock))))
       (λ other.
@@ -177,10 +178,10 @@ module _ (shape : Shape) (cpu number : ℕ) where
       (other_lock (lock_named shape step.lock) (lock_named shape k) (λ same. other (sym (one_number shape step.lock k same))))))
     where
       entry_then : Entry
-      entry_then = record { cpu = cpu; call = number; part = step.entry.part }
+      entry_then = record { ticket = state.next_ticket; cpu = cpu; call = number; part = step.entry.part }
 
       entry_is : step.entry ≡ entry_then
-      entry_is = (λ i. record { cpu = by.0 i; call = by.1 i; part = step.entry.part })
+      entry_is = (λ i. record { ticket = its i; cpu = by.0 i; call = by.1 i; part = step.entry.part })
 
   abbrev pub touches_of : List Turned → List BitTouch
   touches_of steps = flat_map (λ (step : Turned). bits_of_part shape step.entry.part) steps
@@ -189,17 +190,18 @@ module _ (shape : Shape) (cpu number : ℕ) where
   state_then steps state = all_turned shape cpu number (map (turn_of shape) steps) state
 
   -- these turns were made from this state on, and lead to what is known then
-  pub record GoOnBy (steps : List Turned) (state : State) (logs : ℕ → List Entry) (known : ℕ → Option Bool) : Type 0 where
+  pub record GoOnBy (steps : List Turned) (state : State) (logs : ℕ → List Entry) (known : ℕ → Option Bool) (last : ℕ) : Type 0 where
+    pub counted : last ≡ (state_then steps state).next_ticket
     pub made : AreMade shape cpu number (map (turn_at shape) steps) state
     pub read : EachTurn (ReadsBits shape) shape cpu number (map (turn_at shape) steps) state
     pub logs_are : LogsAre shape (logs_after logs steps) (state_then steps state)
     pub bits_are : BitsAre shape.elements (λ e. bit_after_all e (known e) (touches_of steps)) (state_then steps state).bits
     pub steps_are : map (λ (step : Turned). kept_step shape step.lock (place_of step)) steps ≡ steps_of_turns shape cpu number (map (turn_of shape) steps) state
 
-  pub made_by : (steps : List Turned) (state : State) (logs : ℕ → List Entry) (known : ℕ → Option Bool) → LogsAre shape logs state → BitsAre shape.elements known state.bits → FollowOn shape logs steps
-      → ((e : ℕ) → SeeOn e (known e) (touches_of steps)) → AllBy cpu number steps → GoOnBy steps state logs known
-  made_by [] state logs known are bits follow see by = record { made = tt; read = tt; logs_are = are; bits_are = bits; steps_are = refl }
-  made_by (step ∷ steps) state logs known are bits follow see by =
+  pub made_by : (steps : List Turned) (state : State) (logs : ℕ → List Entry) (known : ℕ → Option Bool) (last : ℕ) → AreCounted state.next_ticket steps last → LogsAre shape logs state → BitsAre shape.elements known state.bits → FollowOn shape logs steps
+      → ((e : ℕ) → SeeOn e (known e) (touches_of steps)) → AllBy cpu number steps → GoOnBy steps state logs known last
+  made_by [] state logs known last count are bits follow see by = record { counted = count; made = tt; read = tt; logs_are = are; bits_are = bits; steps_are = refl }
+  made_by (step ∷ steps) state logs known last count are bits follow see by =
       let by_here : IsBy cpu number step = All-head (IsBy cpu number) step steps by in
       let part : Part = step.entry.part in
       let lock : DomainId = lock_named shape step.lock in
@@ -212,8 +214,9 @@ module _ (shape : Shape) (cpu number : ℕ) where
       let bits_next : BitsAre shape.elements (λ e. bit_after_all e (known e) (bits_of_part shape part)) next.bits =
       (λ e real. ap (λ (o : Option Bool). bit_after_all e o (bits_of_part shape part)) (bits e real)
       ∙ part_bits shape part state.bits e (subst (λ (o : Option Bool). SeeOn e o (bits_of_part shape part)) (bits e real) (apart e).0)) in
-      let rest = made_by steps next (log_after logs step) (λ e. bit_after_all e (known e) (bits_of_part shape part)) (logs_more logs state step by_here are) bits_next follow.1 (λ e. (apart e).1) (All-tail (IsBy cpu number) step steps by) in
+      let rest = made_by steps next (log_after logs step) (λ e. bit_after_all e (known e) (bits_of_part shape part)) last count.1 (logs_more logs state step by_here count.0 are) bits_next follow.1 (λ e. (apart e).1) (All-tail (IsBy cpu number) step steps by) in
       record {
+        counted = rest.counted;
         made = (record { there = follow.0.there; earlier = earlier; allowed = allowed; bits = part_finds shape part shape.elements known state.bits bits (λ e. (apart e).0) }, rest.made);
         read = (part_reads shape part shape.elements known state.bits bits (λ e. (apart e).0), rest.read);
         logs_are = rest.logs_are;

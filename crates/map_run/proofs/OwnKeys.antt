@@ -182,9 +182,9 @@ module _ (shape : Shape) where
   turned_keeps : (cpu number : ℕ) (turn : Turn) (state : State) → IsOwn shape turn.lock turn.part → AreOwned state → AreOwned (turned shape cpu number turn state)
   turned_keeps cpu number turn state own are bucket =
       elim (is_same_lock turn.lock (Bucket bucket)) as (λ b. is_same_lock turn.lock (Bucket bucket) ≡ b
-      → All (OwnOf bucket) (unwrap_or (bucket_in (content shape (Bucket bucket) (cond b (state.logs (Bucket bucket) ++ (record { cpu = cpu; call = number; part = turn.part }) ∷ []) (state.logs (Bucket bucket))))) [])) [
+      → All (OwnOf bucket) (unwrap_or (bucket_in (content shape (Bucket bucket) (cond b (state.logs (Bucket bucket) ++ (record { ticket = state.next_ticket; cpu = cpu; call = number; part = turn.part }) ∷ []) (state.logs (Bucket bucket))))) [])) [
         | true ↦ λ same.
-            let lies = content_more shape (Bucket bucket) (state.logs (Bucket bucket)) (record { cpu = cpu; call = number; part = turn.part }) ∙ ap (content_after shape cpu turn.part) (lies_a_bucket shape state bucket) in
+            let lies = content_more shape (Bucket bucket) (state.logs (Bucket bucket)) (record { ticket = state.next_ticket; cpu = cpu; call = number; part = turn.part }) ∙ ap (content_after shape cpu turn.part) (lies_a_bucket shape state bucket) in
             subst (λ (here : Content). All (OwnOf bucket) (unwrap_or (bucket_in here) [])) (sym lies) (content_keeps cpu turn.lock bucket same turn.part own (bucket_at shape state bucket) (are bucket))
         | false ↦ λ other. are bucket
       ] refl

@@ -29,7 +29,7 @@ module _ (shape : Shape) (bounds : HasBounds shape) (plain : is_lru shape.kind �
   IsPlain lies = ((bodies : List Stored) × (lies ≡ in_bucket bodies)) ⊎ ((stack : List ℕ) × (lies ≡ on_freelist stack))
 
   abbrev with_log : List Entry → State
-  with_log entries = record { logs = λ lock. entries; bits = λ e. false; spares = λ cpu. None }
+  with_log entries = record { next_ticket = 0; logs = λ lock. entries; bits = λ e. false; spares = λ cpu. None }
 
   plainly_lies : (lock : DomainId) (entries : List Entry) → IsTrue (is_lock shape lock) → IsPlain (content shape lock entries)
   plainly_lies (Local c) entries there = absurd (both_ways (is_lock shape (Local c)) (no_local shape c (not_common shape bounds plain)) there)

@@ -112,7 +112,8 @@ names_all shape histories cpu number [] by_call stand = tt
 names_all shape histories cpu number (step ∷ steps) by_call stand = (
   record {
     lock = refl;
-    entry = entry_is (entries_of histories (lock_named shape step.lock)) step stand.0 ∙ (λ i. Some record { cpu = by_call.0.0 i; call = by_call.0.1 i; part = step.entry.part });
+    ticket = step.entry.ticket;
+    entry = entry_is (entries_of histories (lock_named shape step.lock)) step stand.0 ∙ (λ i. Some record { ticket = step.entry.ticket; cpu = by_call.0.0 i; call = by_call.0.1 i; part = step.entry.part });
     earlier = earlier_is (entries_of histories (lock_named shape step.lock)) step stand.0;
   },
   names_all shape histories cpu number steps by_call.1 stand.1,

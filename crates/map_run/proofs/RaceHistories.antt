@@ -16,7 +16,8 @@ use Rattle.place_table.specs.Closing.{ClosedView, IsClosed, has_lock, all_locks,
 use Rattle.place_table.specs.Passes.{PassView}
 use Rattle.place_table.specs.Rules.{StandsIn, StandIn}
 use Rattle.map_report.specs.Record.{entries_of, locks_of}
-use Rattle.map_run.proofs.Closing.{made_of_all, same_number}
+use Rattle.map_run.proofs.Closing.{made_of_all}
+use Rattle.map_report.proofs.LogTickets.{same_number}
 use Rattle.map_run.proofs.HistoryTurns.{by_bool}
 use Rattle.map_run.proofs.RaceCalls.{StandsThere}
 use Rattle.map_run.proofs.Whole.{none_lost}
@@ -54,7 +55,7 @@ all_standing P [] holds = tt
 all_standing P (x ∷ xs) holds = (holds 0 x refl, all_standing P xs (λ i y is. holds (suc i) y is))
 
 module _ (shape : Shape) (p : PassView) (closed : ClosedView) (ends : IsClosed shape p closed) (whole : closed.lost ≡ false) where
-  histories_are : closed.histories ≡ map (history_of shape ends.log) (all_locks shape)
+  pub histories_are : closed.histories ≡ map (history_of shape ends.log) (all_locks shape)
   histories_are =
       ends.left.histories_are
       ∙ made_of_all (has_lock shape) ends.lost (history_of shape ends.log) (history_of shape ends.log) 0 (lock_count shape)

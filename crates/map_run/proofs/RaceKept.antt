@@ -19,7 +19,8 @@ use Rattle.place_table.specs.Rules.{turns_on, indexes}
 use Rattle.place_table.specs.Views.{is_among, is_recorded, all_strands, place_of, kept_step}
 use Rattle.map_run.specs.Copies.{has_step}
 use Rattle.map_run.specs.Work.{has_turn, strand_of_cpu}
-use Rattle.map_run.proofs.Closing.{kept_all, length_indexes, same_number}
+use Rattle.map_run.proofs.Closing.{kept_all, length_indexes}
+use Rattle.map_report.proofs.LogTickets.{same_number}
 use Rattle.map_run.proofs.HistoryTurns.{by_bool}
 use Rattle.map_run.proofs.RaceLists.{filter_through, made_same, one_passes}
 use Rattle.map_run.proofs.RaceStrands.{worker, no_turn, worker_stands}

@@ -1,9 +1,9 @@
 -- What is kept of a race whose closed table lost no record is a record of its script.
-use Rattle.std.proofs.Common.{◌≡◌, ◌≢◌, ℕ, ◌<◌, true, false, List, [], ◌∷◌, map, Option, Some, None, All, refl, ap, sym, ◌∙◌, subst, arith}
+use Rattle.std.proofs.Common.{◌≡◌, ◌≢◌, ℕ, ◌<◌, true, false, List, [], ◌∷◌, length, map, Option, Some, None, All, refl, ap, sym, ◌∙◌, subst, arith}
 use Rattle.std.specs.Prelude.{◌==◌, IsTrue, MatchBool, filter, slice_get}
 use Rattle.std.specs.List.{AllByRecursion, range_with_len}
 use Rattle.std.proofs.lemmas.Bool.{both_ways, eq-eqb, ne_eqb}
-use Rattle.std.proofs.lemmas.List.Elements.{recursion_from_All}
+use Rattle.std.proofs.lemmas.List.Elements.{recursion_from_All, All-from_recursion}
 use Rattle.std.proofs.lemmas.List.FromFn.{length-map-range_with_len}
 use Rattle.std.proofs.lemmas.Option.{none-some}
 use Rattle.map_types.specs.declared.attr.Shape.{Shape}
@@ -21,10 +21,13 @@ use Rattle.place_words.specs.declared.history.StrandStep.{StrandStep}
 use Rattle.place_words.specs.Histories.{content}
 use Rattle.place_words.specs.Locks.{is_lock, lock_number}
 use Rattle.place_words.specs.Strands.{places_on}
+use Rattle.place_words.specs.Tickets.{AscendIn, all_entries, ticket_at, AreTicketed}
 use Rattle.place_words.proofs.LockLemmas.{named_by_number}
+use Rattle.place_table.specs.declared.view.Turned.{Turned}
 use Rattle.place_table.specs.Closing.{ClosedView, IsClosed, numbered, state_left}
 use Rattle.place_table.specs.Passes.{PassView, TableView, spare_of}
 use Rattle.place_table.specs.Rules.{turns_on, indexes, StandIn}
+use Rattle.place_table.specs.Tickets.{turn_tickets}
 use Rattle.place_table.specs.Views.{all_strands}
 use Rattle.hash_ops.specs.Calls.{element_of}
 use Rattle.map_report.specs.declared.record.RunRecord.{RunRecord}
@@ -41,10 +44,11 @@ use Rattle.map_run.proofs.OpeningTurns.{no_opening_spares}
 use Rattle.map_run.proofs.RaceCalls.{StandsThere, calls_real, calls_spare, concatenation, each_call_answered}
 use Rattle.map_run.proofs.RaceFinals.{spares_by, spares_are, spare_is, nothing_in_hand, elements_left}
 use Rattle.map_run.proofs.RaceListed.{listed_left}
-use Rattle.map_run.proofs.RaceHistories.{entries_told, locks_are, are_legal, on_cpus, turns_stand}
+use Rattle.map_run.proofs.RaceHistories.{all_standing, entries_told, locks_are, are_legal, on_cpus, turns_stand}
 use Rattle.map_run.proofs.RaceKept.{steps_of, places_of_steps, strand_by, steps_there, own_strands, with_steps, strands_by_cpu, kept_is}
 use Rattle.map_run.proofs.RaceLists.{made_at, one_passes}
 use Rattle.map_run.proofs.RaceStrands.{worker, is_of, places_are, no_turn, worker_stands, owner, turns_of_cpu}
+use Rattle.map_run.proofs.RaceTickets.{each_once, in_histories, strand_ascends, ended_ascends}
 use Rattle.map_run.proofs.SerialRun.{element_is}
 use Rattle.map_run.proofs.Whole.{no_losses}
 use Rattle.map_run.specs.ByLogs.{IsOfMap}
@@ -146,6 +150,27 @@ module _ (script : Script) (t : TableView) (p : PassView) (replies : List Reply)
   stand : (cpu : ℕ) → cpu < shape.cpus → AllByRecursion (StandsThere shape closed.histories) (raced.steps cpu)
   stand cpu real = turns_stand shape p closed ends whole (raced.steps cpu) (recursion_from_All (IsOfMap shape) (raced.steps cpu) (on_locks cpu real)) (stand_in cpu real)
 
+  -- a CPU's tickets
+  turns_ascend : (cpu : ℕ) → cpu < shape.cpus → AscendIn 0 (turn_tickets (raced.steps cpu)) ends.drawn
+  turns_ascend cpu real =
+      by_bool (has_turn (worker raced.steps raced.kept raced.touched cpu)) (λ b. has_turn (worker raced.steps raced.kept raced.touched cpu) ≡ b → AscendIn 0 (turn_tickets (raced.steps cpu)) ends.drawn)
+      (λ _ some.
+      let at = worker_stands shape.cpus raced.steps raced.kept raced.touched (all_strands p.view) raced.strands cpu real some in
+      ended_ascends shape p closed ends whole at.0 (worker raced.steps raced.kept raced.touched cpu) at.1)
+      (λ _ none. subst (λ (steps : List Turned). AscendIn 0 (turn_tickets steps) ends.drawn) (sym (no_turn (worker raced.steps raced.kept raced.touched cpu) none).0) (omega arith))
+      refl
+
+  abbrev AscendsAlong : Strand → Type 0
+  AscendsAlong strand = AscendIn 0 (map (ticket_at closed.histories) strand.steps) (length (all_entries closed.histories))
+
+  ticketed : AreTicketed left.histories left.strands
+  ticketed = record {
+    each_once = each_once shape p closed ends whole;
+    in_histories = in_histories shape p closed ends whole;
+    in_strands = All-from_recursion AscendsAlong left.strands
+        (all_standing AscendsAlong left.strands (each_strand (λ n strand. AscendsAlong strand) (λ cpu real. strand_ascends shape p closed ends whole (raced.steps cpu) (stand cpu real) (turns_ascend cpu real))));
+  }
+
   answered : EachAnswered shape script.calls replies
   answered = each_call_answered shape script.calls replies 1 (λ cpu. element_of (spare_of cpu p.spares)) raced.counted calls_served (λ cpu real. (spare_at (opening shape) cpu, raced.steps cpu, calls_of cpu real))
 
@@ -186,6 +211,7 @@ module _ (script : Script) (t : TableView) (p : PassView) (replies : List Reply)
     steps = each_strand (λ n strand. (lock : DomainId) → IsTrue (is_lock shape lock) → places_on lock strand.steps ≡ places_by strand.cpus 0 (entries_of closed.histories lock)) places_are_its;
     calls = each_strand (λ n strand. IsConcatenation shape closed.histories strand.cpus 1 script.calls replies (spare_at (opening shape)) (spare_at closed.finals) strand.steps)
         (λ cpu real. concatenation shape closed.histories cpu script.calls replies 1 (spare_at (opening shape)) (spare_at closed.finals) (spare_at (opening shape) cpu) (raced.steps cpu) raced.counted refl (stand cpu real) (ended cpu real));
+    tickets = ticketed;
     replies = answered;
     contents = told;
     finals = holds;

@@ -29,7 +29,7 @@ use Rattle.place_table.specs.Closing.{ClosedView, IsClosed, has_lock, history_of
 use Rattle.place_table.specs.Known.{turn_at}
 use Rattle.place_table.specs.Passes.{PassView, TableView, begun, spare_of, IsFirstPass, IsKeptOf}
 use Rattle.place_table.specs.Rules.{turns_on}
-use Rattle.place_table.specs.Views.{is_among, known_log, bit_seen, numbers_below, no_turns, no_bits, has_all, all_strands, current_strand, place_of, kept_step}
+use Rattle.place_table.specs.Views.{is_among, known_log, bit_seen, numbers_below, no_turns, no_bits, has_all, all_strands, current_strand, place_of, kept_step, next}
 use Rattle.place_table.proofs.TakeToGive.{first_has}
 use Rattle.place_table.proofs.Going.{goes_of_table, kept_on}
 use Rattle.place_table.proofs.Opens.{among}
@@ -76,6 +76,7 @@ first_by_logs t p first =
           each = λ k below there. ap (λ (v : View). known_log k v.known) view ∙ nothing_known k (lock_count t.shape) below;
         };
         bits = λ e real. ap (λ (v : View). bit_seen e v.bits) view ∙ no_bit_set e t.shape.elements real;
+        counted = ap next view;
         steps_are = ap (map (λ (step : Turned). kept_step t.shape step.lock (place_of step))) no_steps;
         real = subst (All (IsOfMap t.shape)) (sym no_steps) (All-nil (IsOfMap t.shape));
       };

@@ -21,7 +21,7 @@ use Rattle.place_words.proofs.DoneLaws.{IsKeyVerb}
 use Rattle.place_words.proofs.EachTurn.{buckets_within}
 use Rattle.map_report.specs.Serial.{unless_stopped, each_done, after_call}
 use Rattle.map_report.specs.Soundness.{IsSound}
-use Rattle.map_report.specs.Turns.{Happened, happened, unless_refused, each_turns, call_turns}
+use Rattle.map_report.specs.Turns.{Happened, all_happened, unless_refused, each_turns, call_turns}
 use Rattle.map_run.proofs.EachCall.{updates_fit, deletes_fit}
 use Rattle.map_run.proofs.Leads.{leads_none}
 use Rattle.map_run.proofs.SameCalls.{Follows, IsSame, same_first, key_same, follows_on}
@@ -65,7 +65,7 @@ module _ (shape : Shape) (bounds : HasBounds shape) (plain : is_lru shape.kind �
         let same = key_same shape bounds plain lists before state number cpu verb follows few (on_key entry) sound in
         let rest_turns : List Turn = each_turns one_after one_turns entries next in
         let rest_after : Finals × Reply = each_done one_after entries (suc done) next in
-        let rest = entries_same entries fit.1 (suc done) next (before ++ map (happened cpu number) turns) (all_turned shape cpu number turns state)
+        let rest = entries_same entries fit.1 (suc done) next (before ++ all_happened cpu number state.next_ticket turns) (all_turned shape cpu number turns state)
         (sound_key shape cpu verb lists bounds plain few (on_key entry) fit.0 sound) (follows_on shape bounds plain lists next before state number cpu turns follows same.leads) in
         let moved = subst (λ (ts : List Turn). IsSame shape cpu next (writes shape cpu number (all_turned shape cpu number ts state) (map verb_of entries) (suc done)) rest_turns rest_after) (sym same.turns_are) rest in
         let later : Does = writes shape cpu number (all_turned shape cpu number did.turns state) (map verb_of entries) (suc done) in

@@ -26,7 +26,7 @@ use Rattle.place_core.proofs.ElementLemmas.{put_here}
 use Rattle.map_report.specs.Runs.{steps_of_turns}
 use Rattle.map_report.specs.Serial.{after_call, has_spares}
 use Rattle.map_report.specs.Soundness.{IsSound}
-use Rattle.map_report.specs.Turns.{Happened, happened, content_under, spare_at, call_turns, entries_on, steps_from}
+use Rattle.map_report.specs.Turns.{Happened, happened, all_happened, content_under, spare_at, call_turns, entries_on, steps_from}
 use Rattle.map_run.proofs.HistoryTurns.{entries_append, replayed_append, call_replayed}
 use Rattle.map_run.proofs.KeyTurns.{DoesTurns, does_turns}
 use Rattle.map_run.proofs.Leads.{Leads, leads_both}
@@ -109,29 +109,29 @@ module _ (shape : Shape) (bounds : HasBounds shape) (built : is_lru shape.kind �
       }
 
   -- the logs after turns
-  one_log : (cpu number : ℕ) (turn : Turn) (state : State) (before : List Happened) (lock : DomainId) → state.logs lock ≡ entries_on lock before → (turned shape cpu number turn state).logs lock ≡ entries_on lock (before ++ happened cpu number turn ∷ [])
-  one_log cpu number turn state before lock same = by (is_same_lock turn.lock lock) ∙ sym (entries_append lock before (happened cpu number turn ∷ []))
+  one_log : (cpu number : ℕ) (turn : Turn) (state : State) (before : List Happened) (lock : DomainId) → state.logs lock ≡ entries_on lock before → (turned shape cpu number turn state).logs lock ≡ entries_on lock (before ++ happened cpu number state.next_ticket turn ∷ [])
+  one_log cpu number turn state before lock same = by (is_same_lock turn.lock lock) ∙ sym (entries_append lock before (happened cpu number state.next_ticket turn ∷ []))
     where
       entry : Entry
-      entry = record { cpu = cpu; call = number; part = turn.part }
+      entry = record { ticket = state.next_ticket; cpu = cpu; call = number; part = turn.part }
 
-      by : (b : Bool) → cond b (state.logs lock ++ record { cpu = cpu; call = number; part = turn.part } ∷ []) (state.logs lock) ≡ entries_on lock before ++ cond b (record { cpu = cpu; call = number; part = turn.part } ∷ []) []
-      by true = ap (λ (xs : List Entry). xs ++ record { cpu = cpu; call = number; part = turn.part } ∷ []) same
+      by : (b : Bool) → cond b (state.logs lock ++ record { ticket = state.next_ticket; cpu = cpu; call = number; part = turn.part } ∷ []) (state.logs lock) ≡ entries_on lock before ++ cond b (record { ticket = state.next_ticket; cpu = cpu; call = number; part = turn.part } ∷ []) []
+      by true = ap (λ (xs : List Entry). xs ++ record { ticket = state.next_ticket; cpu = cpu; call = number; part = turn.part } ∷ []) same
       by false = same ∙ sym (append-nil (entries_on lock before))
 
   all_logs : (cpu number : ℕ) (turns : List Turn) (state : State) (before : List Happened) → ((lock : DomainId) → IsTrue (is_lock shape lock) → state.logs lock ≡ entries_on lock before)
-      → (lock : DomainId) → IsTrue (is_lock shape lock) → (all_turned shape cpu number turns state).logs lock ≡ entries_on lock (before ++ map (happened cpu number) turns)
+      → (lock : DomainId) → IsTrue (is_lock shape lock) → (all_turned shape cpu number turns state).logs lock ≡ entries_on lock (before ++ all_happened cpu number state.next_ticket turns)
   all_logs cpu number [] state before are lock real = are lock real ∙ ap (entries_on lock) (sym (append-nil before))
   all_logs cpu number (turn ∷ turns) state before are lock real =
-      all_logs cpu number turns (turned shape cpu number turn state) (before ++ happened cpu number turn ∷ []) (λ other is. one_log cpu number turn state before other (are other is)) lock real
-      ∙ ap (entries_on lock) (append_assoc before (happened cpu number turn ∷ []) (map (happened cpu number) turns))
+      all_logs cpu number turns (turned shape cpu number turn state) (before ++ happened cpu number state.next_ticket turn ∷ []) (λ other is. one_log cpu number turn state before other (are other is)) lock real
+      ∙ ap (entries_on lock) (append_assoc before (happened cpu number state.next_ticket turn ∷ []) (all_happened cpu number (suc state.next_ticket) turns))
 
   -- each turn names the end of its lock's log
   pub all_steps : (cpu number : ℕ) (turns : List Turn) (state : State) (before : List Happened) → OnLocks shape turns → ((lock : DomainId) → IsTrue (is_lock shape lock) → state.logs lock ≡ entries_on lock before)
-      → steps_of_turns shape cpu number turns state ≡ steps_from before (map (happened cpu number) turns)
+      → steps_of_turns shape cpu number turns state ≡ steps_from before (all_happened cpu number state.next_ticket turns)
   all_steps cpu number [] state before real are = refl
   all_steps cpu number (turn ∷ turns) state before real are =
-      let rest = all_steps cpu number turns (turned shape cpu number turn state) (before ++ happened cpu number turn ∷ []) real.1 (λ other is. one_log cpu number turn state before other (are other is)) in
+      let rest = all_steps cpu number turns (turned shape cpu number turn state) (before ++ happened cpu number state.next_ticket turn ∷ []) real.1 (λ other is. one_log cpu number turn state before other (are other is)) in
       (λ i. record { lock = turn.lock; index = length (are turn.lock real.0 i) } ∷ rest i)
 
   -- the spares
@@ -160,9 +160,9 @@ module _ (shape : Shape) (bounds : HasBounds shape) (built : is_lru shape.kind �
 
   -- after turns that lead from lists to others
   pub follows_on : (lists after : Finals) (before : List Happened) (state : State) (number cpu : ℕ) (turns : List Turn) → Follows shape lists before state → Leads shape cpu turns lists after
-      → Follows shape after (before ++ map (happened cpu number) turns) (all_turned shape cpu number turns state)
+      → Follows shape after (before ++ all_happened cpu number state.next_ticket turns) (all_turned shape cpu number turns state)
   follows_on lists after before state number cpu turns follows leads =
-      let mine : List Happened = map (happened cpu number) turns in
+      let mine : List Happened = all_happened cpu number state.next_ticket turns in
       let logs = all_logs cpu number turns state before follows.logs in
       record {
         logs = logs;
@@ -170,7 +170,7 @@ module _ (shape : Shape) (bounds : HasBounds shape) (built : is_lru shape.kind �
             ap (content shape lock) (logs lock real ∙ entries_append lock before mine)
             ∙ replayed_append shape (opening_content shape lock) (entries_on lock before) (entries_on lock mine)
             ∙ ap (λ (c : Content). replayed shape c (entries_on lock mine)) (ap (content shape lock) (sym (follows.logs lock real)) ∙ follows.contents lock real)
-            ∙ call_replayed shape cpu number lock (content_under lists) turns ∙ leads.leaves lock real;
+            ∙ call_replayed shape cpu number lock (content_under lists) state.next_ticket turns ∙ leads.leaves lock real;
         spares = λ c.
             by_test c cpu (λ b. (all_turned shape cpu number turns state).spares c ≡ spare_at after c)
             (λ same. ap (all_turned shape cpu number turns state).spares same ∙ own_spare cpu number turns state ∙ ap (λ (s : Option ℕ). spare_after s turns) (follows.spares cpu) ∙ leads.spare ∙ ap (spare_at after) (sym same))

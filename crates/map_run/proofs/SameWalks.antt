@@ -30,7 +30,7 @@ use Rattle.place_words.proofs.BucketLaws.{numbers_read}
 use Rattle.place_words.proofs.EachTurn.{AreWithin, first_within, others_within, buckets_within}
 use Rattle.map_report.specs.Serial.{in_bucket_at, all_pushed, in_order, key_after, key_or_absent, pair_read, emptied, if_emptied, read_on}
 use Rattle.map_report.specs.Soundness.{IsSound}
-use Rattle.map_report.specs.Turns.{Happened, happened, unless_found, first_turns, turns_behind, next_turns, pushing_turns, read_turns}
+use Rattle.map_report.specs.Turns.{Happened, all_happened, unless_found, first_turns, turns_behind, next_turns, pushing_turns, read_turns}
 use Rattle.map_run.proofs.Emptied.{sound_emptied}
 use Rattle.map_run.proofs.Leads.{Leads, leads_none, leads_both, bucket_leads, look_leads, pushes_lead}
 use Rattle.map_run.proofs.NextKey.{AreOwn, next_reply}
@@ -202,7 +202,7 @@ module _ (shape : Shape) (bounds : HasBounds shape) (plain : is_lru shape.kind �
         let below : bucket < shape.buckets = first_within (λ b. b < shape.buckets) bucket buckets within in
         let next : Finals = if_emptied remove cpu bucket lists in
         let turns : List Turn = taken_turns lists bucket taken in
-        let rest = walks_same buckets (others_within (λ b. b < shape.buckets) bucket buckets within) (taken_now lists bucket taken) next (before ++ map (happened cpu number) turns) (all_turned shape cpu number turns state)
+        let rest = walks_same buckets (others_within (λ b. b < shape.buckets) bucket buckets within) (taken_now lists bucket taken) next (before ++ all_happened cpu number state.next_ticket turns) (all_turned shape cpu number turns state)
         (sound_left remove bucket lists below sound) (follows_on shape bounds plain lists next before state number cpu turns follows (taken_leads remove bucket room lists below sound)) in
         subst (λ (b : List Stored). IsSame shape cpu lists (walk_does state bucket buckets taken (walked shape cpu room b)) (read_turns shape cpu remove limit (bucket ∷ buckets) taken lists) (read_on shape cpu remove limit (bucket ∷ buckets) taken lists))
         (sym (bucket_same shape lists before state follows bucket below))

@@ -11,7 +11,7 @@ use Rattle.place_table.specs.declared.view.View.{View}
 use Rattle.place_table.specs.Calls.{element_of}
 use Rattle.place_table.specs.Known.{KnowsAll}
 use Rattle.place_table.specs.Passes.{PassView, TableView, spare_of, IsInNoCall, IsKeptOf, IsPassOf}
-use Rattle.place_table.specs.Views.{is_among, bit_seen, place_of, kept_step}
+use Rattle.place_table.specs.Views.{is_among, bit_seen, place_of, kept_step, next}
 use Rattle.map_report.specs.Runs.{steps_of_calls}
 
 -- a turn of a lock of the map
@@ -23,6 +23,8 @@ IsOfMap shape step = (step.lock < lock_count shape) × IsTrue (is_lock shape (lo
 pub record KnowsState (shape : Shape) (state : State) (steps : List StrandStep) (v : View) : Type 0 where
   pub knows : KnowsAll shape (λ k. state.logs (lock_named shape k)) v
   pub bits : (e : ℕ) → e < shape.elements → bit_seen e v.bits ≡ Some (state.bits e)
+  -- the number of its next turn is how many turns were made
+  pub counted : next v ≡ state.next_ticket
   pub steps_are : map (λ (step : Turned). kept_step shape step.lock (place_of step)) v.steps ≡ steps
   pub real : All (IsOfMap shape) v.steps
 

@@ -1,5 +1,5 @@
 -- The last state of a table whose one pass has all CPUs and holds no lock.
-use Rattle.std.proofs.Common.{◌≡◌, ◌≢◌, ℕ, ◌<◌, cond, Bool, true, false, List, [], ◌∷◌, length, sym, refl, ap, ◌∙◌, subst, Option, Some, None}
+use Rattle.std.proofs.Common.{◌≡◌, ◌≢◌, ℕ, ◌<◌, cond, Bool, true, false, List, [], ◌∷◌, length, sym, refl, ap, ◌∙◌, subst, Option, Some, None, get_or, ◌≤◌, arith}
 use Rattle.std.specs.Prelude.{◌||◌, IsTrue, All, slice_get, unwrap_or, Result, Ok, Err, IfOk}
 use mathlib.Core.Option.{some}
 use lib.ListN.{get_elem?}
@@ -25,12 +25,18 @@ use Rattle.place_table.specs.declared.content.Content.TheVariants as lying
 use Rattle.place_table.specs.declared.view.View.{View}
 use Rattle.place_table.specs.declared.view.Ended.{Ended}
 use Rattle.place_table.specs.Contents.{content_told, lists_of, FitsLock}
-use Rattle.place_table.specs.Views.{is_among, hold_at, is_in_hand_of, known_log, bit_seen, current_strand, all_strands}
-use Rattle.place_table.specs.Rules.{World, Rule, PassKnows, entries, hold_of, is_hand_of, turns_on, turns_of, indexes, StandIn, ArePast, HaveNoSteps, touches_of, IsOfStrand, AreReads}
+use Rattle.place_table.specs.Views.{is_among, hold_at, is_in_hand_of, known_log, bit_seen, current_strand, all_strands, next}
+use Rattle.place_table.specs.Words.{ticket_word}
+use Rattle.place_table.specs.Tickets.{NoneLost, turn_tickets}
+use Rattle.place_table.proofs.TicketLemmas.{each_append, each_to, exact_there, first_there, inner_there}
+use Rattle.place_table.proofs.TicketsShared.{idle_reached}
+use Rattle.place_words.proofs.Ascending.{ascend_to}
+use Rattle.place_table.proofs.TicketsClosed.{each_once}
+use Rattle.place_table.specs.Rules.{World, Rule, PassKnows, entries, hold_of, is_hand_of, turns_on, turns_of, indexes, StandIn, ArePast, HaveNoSteps, touches_of, IsOfStrand, AreReads, logs_of}
 use Rattle.place_table.specs.Passes.{PassView, HasCpusOf, HandsReal}
-use Rattle.place_table.specs.Closing.{ClosedView, AreSlots, has_lock, strands_told, state_left, AreTurnsOf, IsClosed, AreTouchesOf, AreWordsOf}
+use Rattle.place_table.specs.Closing.{ClosedView, AreSlots, has_lock, strands_told, state_left, AreTurnsOf, IsClosed, AreTouchesOf, AreWordsOf, HaveTickets}
 use Rattle.place_table.specs.Leaving.{WasLeft}
-use Rattle.place_table.proofs.Worlds.{true_false, none_some, hold_of_mine, has_mine, own_hand}
+use Rattle.place_table.proofs.Worlds.{true_false, none_some, hold_of_mine, has_mine, own_hand, by_bool}
 use Rattle.place_table.proofs.Locks.{free_home, seat_at}
 use Rattle.place_table.proofs.Leaves.{passes_below, any_of}
 use Rattle.place_table.proofs.MapLeft.{bucket_left}
@@ -59,6 +65,10 @@ pub record AtEnd (shape : Shape) (v : View) (words : List ℕ) (slots : List Beh
   pub touches : AreTouchesOf shape (all_strands v) words
   pub recorded : (n : ℕ) (strand : Ended) → slice_get (all_strands v) n ≡ Some strand
       → (k : ℕ) → k < lock_count shape → IsTrue (has_lock shape k) → lost k ≡ false → places_on (lock_named shape k) strand.kept ≡ indexes (turns_on k strand.steps)
+  pub drawn : ℕ
+  pub drawn_is : drawn ≡ v.reached
+  pub ticketed : NoneLost shape lost → HaveTickets shape log (all_strands v) drawn
+  pub all_drawn : NoneLost shape lost → v.refused ≡ 0
   pub losses : (k : ℕ) → is_among k v.lost ≡ true → (k < lock_count shape) × IsTrue (has_lock shape k) × (lost k ≡ true)
   pub slots_are : AreSlots shape log lost slots
 
@@ -163,6 +173,21 @@ module _ (shape : Shape) (s : State Behind View) (r : Rule shape s) (pass : ℕ)
         turns = λ k. are_turns_of shape w pass (length s.views) k (done w pass) (all_strands v) strands (r.tagged k) (listed k);
         stand = λ n strand at_n. (strand_here shape w pass (done w pass) (all_strands v) n strand strands at_n).is.stand;
         recorded = λ n strand at_n. (strand_here shape w pass (done w pass) (all_strands v) n strand strands at_n).is.kept_are;
+        drawn = get_or s.words (ticket_word shape) 0;
+        drawn_is =
+            exact_there shape (get_or s.words (ticket_word shape) 0) (logs_of w) w.lost w.pass_of_cpu s.views pass v at_pass (λ c less. has_mine shape w pass v c kn (all c less)) r.tickets
+            ∙ idle_reached (get_or s.words (ticket_word shape) 0) r.tickets.drawing r.tickets.stand v v.ticket no_lock (r.tickets.known pass v at_pass).ticket;
+        all_drawn = λ none. (r.tickets.known pass v at_pass).all_drawn none;
+        ticketed = λ none.
+            let mine = r.tickets.known pass v at_pass in
+            let drawn : ℕ = get_or s.words (ticket_word shape) 0 in record {
+              each_once = each_once shape drawn (logs_of w) w.lost w.pass_of_cpu s.views r.tickets none
+                  (λ t c out. let found = inner_there out.view.held out.inner out.inner_is in none_some (sym (nobody found.0.lock) ∙ (first_there shape s r (w.pass_of_cpu c) out.view out.seat found.0 found.1 found.2).holder_is));
+              in_histories = λ k below there. r.tickets.ascend k (none k below there);
+              in_strands =
+                  let low : next v ≤ drawn = (let a = mine.reached in let b = mine.all_drawn none in omega arith) in
+                  each_append v.ended (current_strand v ∷ []) drawn (each_to v.ended (next v) drawn low mine.ended) (ascend_to 0 (turn_tickets v.steps) (next v) drawn low mine.strand, tt);
+            };
         losses = λ k among. let is = kn.losses k among in (is.below, is.there, is.lost);
         slots_are = record {
           counted = sym counted ∙ r.slots;
@@ -208,6 +233,11 @@ bodies_sized shape v words slots e bit spares bucket less =
     passes_named lock k same there = ap (is_lock shape) same ∙ there
 
 module _ (shape : Shape) (p : PassView) (words : List ℕ) (slots : List Behind) (closed : ClosedView) (e : AtEnd shape p.view words slots) (hands : HandsReal shape p.view.cpus p.view.hand) (mine : HasCpusOf shape (current_strand p.view)) (within : All (HasCpusOf shape) (all_strands p.view)) (was : WasLeft shape e.log e.lost e.core.bit (all_strands p.view) p.spares closed) where
+  none_lost_of : closed.lost ≡ false → NoneLost shape e.lost
+  none_lost_of kept k below there =
+      by_bool (e.lost k) (λ b. e.lost k ≡ b → b ≡ false)
+      (λ _ is. true_false (sym (was.left.lost_is ∙ any_of shape (λ i. was.strands_lost || e.lost i) k below there (or_right was.strands_lost (e.lost k) is)) ∙ kept)) (λ _ _. refl) refl
+
   pub closed_is : IsClosed shape p closed
   closed_is = record {
     log = e.log;
@@ -230,6 +260,10 @@ module _ (shape : Shape) (p : PassView) (words : List ℕ) (slots : List Behind)
     recorded = λ n strand at_n k below there lo. e.recorded n strand at_n k below there (neither was.strands_lost (e.lost k) lo).1;
     strands_lost = was.strands_lost;
     all_lost = λ all k. ap (λ (b : Bool). b || e.lost k) all;
+    drawn = e.drawn;
+    drawn_is = e.drawn_is;
+    ticketed = λ kept. e.ticketed (none_lost_of kept);
+    all_drawn = λ kept. e.all_drawn (none_lost_of kept);
     losses = λ k among. let is = e.losses k among in
         was.left.lost_is ∙ any_of shape (λ i. was.strands_lost || e.lost i) k is.0 is.1 (or_right was.strands_lost (e.lost k) is.2);
     left = was.left;

@@ -102,7 +102,7 @@ pub first_is_pass : (shape : Shape) → HasBounds shape → (v : View) (slots : 
 first_is_pass shape bounds v slots strand spares flags ended is none no_steps are all_cpus none_ended =
     subst (λ (w : View). IsPass w slots strand spares flags (Some ended)) (sym is)
     (subst (λ (xs : List (ℕ × Behind)). IsPass (first_view shape) xs strand spares flags (Some ended)) (sym none)
-    record { carries = tt; strand_is = no_steps; cpus_are = all_cpus; ended_are = none_ended; spares_fit = first_spares_fit shape spares are; within = λ cpu has. among_below cpu shape.cpus has; ended_within = All-nil (HasCpusOf shape); hands_real = λ e cpu in_hand. (first_real shape bounds e cpu in_hand, among cpu shape.cpus (first_mine shape bounds e cpu in_hand)) })
+    record { carries = tt; strand_is = no_steps; cpus_are = all_cpus; ended_are = none_ended; spares_fit = first_spares_fit shape spares are; within = λ cpu has. among_below cpu shape.cpus has; ended_within = All-nil (HasCpusOf shape); hands_real = λ e cpu in_hand. (first_real shape bounds e cpu in_hand, among cpu shape.cpus (first_mine shape bounds e cpu in_hand)); unread = refl })
 
 pub is_first_pass : (t : TableView) (p : PassView) → HasBounds t.shape → p.table ≡ t.id → p.view ≡ first_view t.shape → AreBodiesOf t.shape (first_spares t.shape t.shape.kind) p.spares → IsFirstPass t p
 is_first_pass t p bounds of_table is are =

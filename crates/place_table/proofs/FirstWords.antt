@@ -56,7 +56,7 @@ homes_next shape n code home first list now list_is home_is code_is now_is =
     ap (map home_code) (map-range_with_len_more (opening_home shape) 0 n n (omega arith)) ∙ map-append home_code (map (opening_home shape) (range_with_len 0 n)) (opening_home shape n ∷ []) in
     now_is ∙ ((λ i. list_is i ++ (code_is ∙ ap home_code home_is) i ∷ []) ∙ (append_assoc first (codes_of_homes shape n) (home_code (opening_home shape n) ∷ []) ∙ ap (λ (xs : List ℕ). first ++ xs) (sym one)))
 
-pub words_are : (shape : Shape) (held : List Owner) (first locks owned homed whole : List ℕ) (n m : ℕ) → AreOpeningOwners shape held → first ≡ [] → n ≡ lock_count shape → m ≡ shape.elements
+pub words_are : (shape : Shape) (held : List Owner) (first locks owned homed whole : List ℕ) (n m : ℕ) → AreOpeningOwners shape held → first ≡ [] → n ≡ lock_count shape → m ≡ shape.elements + 1
     → locks ≡ first ++ replicate n 0 → owned ≡ locks ++ map owner_code held → homed ≡ owned ++ opening_home_codes shape → whole ≡ homed ++ replicate m 0 → whole ≡ opening_words shape
 unfolding opening_words
 words_are shape held first locks owned homed whole n m are first_is n_is m_is locks_are owned_are homed_are whole_is =
@@ -101,8 +101,8 @@ pub length_words : (shape : Shape) → length (opening_words shape) ≡ word_cou
 unfolding opening_words
 length_words shape =
     let homed = length_with_homes shape in
-    let rest : length (replicate {A = ℕ} shape.elements 0) ≡ shape.elements = length-replicate shape.elements 0 in
-    length-append (words_with_homes shape) (replicate {A = ℕ} shape.elements 0) ∙ omega arith
+    let rest : length (replicate {A = ℕ} (shape.elements + 1) 0) ≡ shape.elements + 1 = length-replicate (shape.elements + 1) 0 in
+    length-append (words_with_homes shape) (replicate {A = ℕ} (shape.elements + 1) 0) ∙ omega arith
 
 -- a word of a lock or an owner, and one of a home
 at_owners : (shape : Shape) (i : ℕ) → i < lock_count shape + shape.elements → get_or (opening_words shape) i 0 ≡ get_or (words_with_owners shape) i 0
@@ -110,7 +110,7 @@ unfolding opening_words
 at_owners shape i within =
     let owned = length_with_owners shape in
     let homed = length_with_homes shape in
-    get_or_append_left (words_with_homes shape) (replicate {A = ℕ} shape.elements 0) 0 i (omega arith)
+    get_or_append_left (words_with_homes shape) (replicate {A = ℕ} (shape.elements + 1) 0) 0 i (omega arith)
     ∙ get_or_append_left (words_with_owners shape) (opening_home_codes shape) 0 i (omega arith)
 
 pub first_lock_word : (shape : Shape) (k : ℕ) → k < lock_count shape → get_or (opening_words shape) k 0 ≡ 0
@@ -135,7 +135,7 @@ first_home_word shape e real =
     let homed = length_with_homes shape in
     let back : lock_count shape + shape.elements + e - (lock_count shape + shape.elements) ≡ e = omega arith in
     let count : length (map (opening_home shape) (range_with_len 0 shape.elements)) ≡ shape.elements = length-map-range_with_len (opening_home shape) 0 shape.elements in
-    get_or_append_left (words_with_homes shape) (replicate {A = ℕ} shape.elements 0) 0 (lock_count shape + shape.elements + e) (omega arith)
+    get_or_append_left (words_with_homes shape) (replicate {A = ℕ} (shape.elements + 1) 0) 0 (lock_count shape + shape.elements + e) (omega arith)
     ∙ (get_or-append_right (words_with_owners shape) (opening_home_codes shape) (lock_count shape + shape.elements) (lock_count shape + shape.elements + e) 0 (length_with_owners shape) (omega arith)
     ∙ (ap (λ (i : ℕ). get_or (opening_home_codes shape) i 0) back
     ∙ (get_or-map home_code (map (opening_home shape) (range_with_len 0 shape.elements)) e homes.Unlisted 0 (omega arith)
@@ -144,4 +144,4 @@ first_home_word shape e real =
 pub first_bit_word : (shape : Shape) (i : ℕ) → lock_count shape + 2 * shape.elements ≤ i → get_or (opening_words shape) i 0 ≡ 0
 unfolding opening_words
 first_bit_word shape i past =
-    get_or-append_right (words_with_homes shape) (replicate {A = ℕ} shape.elements 0) (lock_count shape + 2 * shape.elements) i 0 (length_with_homes shape) past ∙ at_zeros shape.elements (i - (lock_count shape + 2 * shape.elements))
+    get_or-append_right (words_with_homes shape) (replicate {A = ℕ} (shape.elements + 1) 0) (lock_count shape + 2 * shape.elements) i 0 (length_with_homes shape) past ∙ at_zeros (shape.elements + 1) (i - (lock_count shape + 2 * shape.elements))

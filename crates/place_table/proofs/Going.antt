@@ -1,5 +1,7 @@
 -- What is left of a pass after each call on the table, and after some calls in their order.
-use Rattle.std.proofs.Common.{◌≡◌, ◌≢◌, ℕ, ◌<◌, inl, inr, ⊎_elim, cond, Bool, true, false, List, [], ◌∷◌, ◌++◌, sym, refl, ap, ◌∙◌, subst, append_assoc, Option, None, Some, MatchOption}
+use Rattle.place_words.specs.Tickets.{AscendIn}
+use Rattle.place_table.specs.Tickets.{turn_tickets}
+use Rattle.std.proofs.Common.{◌≡◌, ◌≢◌, ℕ, ◌<◌, inl, inr, ⊎_elim, cond, Bool, true, false, List, [], ◌∷◌, ◌++◌, sym, refl, ap, ◌∙◌, subst, append_assoc, Option, None, Some, MatchOption, suc, arith}
 use Rattle.std.specs.Prelude.{IsTrue}
 use Rattle.map_types.specs.declared.attr.Shape.{Shape}
 use Rattle.map_types.specs.declared.kind.DomainId.{DomainId}
@@ -22,8 +24,9 @@ use Rattle.place_table.specs.declared.view.BitSeen.{BitSeen}
 use Rattle.place_table.specs.declared.view.Turned.{Turned}
 use Rattle.place_table.specs.Known.{AreAllowedAt, log_then, log_after_all, GoOn, bit_then, bit_after_all, BitTouch, SeesBit, SeeOn, Learns, KnowsAll, FollowOn, log_after, logs_after}
 use Rattle.place_table.specs.Plays.{IsKnownBit}
-use Rattle.place_table.specs.Passes.{PassView, TableView, IsPassOf, HasBegun, TookLock, CanGive, Gave, GaveSome, IsKeptOf, Goes, Made, with_view, with_spares, entry_of}
-use Rattle.place_table.specs.Views.{has_all, has_all_below, known_log, bit_seen, bits_with, marked, cleared, bit_read, learned, moved, noted, turned, place_of, kept_step, holding, is_among, with_hashes}
+use Rattle.place_table.specs.Passes.{PassView, TableView, IsPassOf, HasBegun, TookLock, CanGive, Gave, GaveSome, IsKeptOf, Goes, Made, with_view, with_spares, entry_of, ready, AreNumbered, AreCounted, IsNumbered}
+use Rattle.place_table.specs.Views.{has_all, has_all_below, known_log, bit_seen, bits_with, marked, cleared, bit_read, learned, moved, noted, turned, place_of, kept_step, holding, is_among, with_hashes, ticket_of, next}
+use Rattle.place_words.proofs.Ascending.{ascend_on}
 use Rattle.place_table.proofs.Entries.{append_nil}
 use Rattle.place_table.specs.declared.view.WordStep.{WordStep}
 use Rattle.place_table.specs.declared.view.HomeIn.{HomeIn}
@@ -41,6 +44,22 @@ kept_on shape (step ∷ steps) second a b c one other =
     (λ (more : IsKeptOf shape steps (a ++ kept_step shape step.lock (place_of step) ∷ []) b). inr (kept_on shape steps second (a ++ kept_step shape step.lock (place_of step) ∷ []) b c more other))
     one
 
+-- Numbers of turns, one after the other
+
+turn_tickets_append : (xs ys : List Turned) → turn_tickets (xs ++ ys) ≡ turn_tickets xs ++ turn_tickets ys
+turn_tickets_append [] ys = refl
+turn_tickets_append (x ∷ xs) ys = ap (λ (l : List ℕ). x.entry.ticket ∷ l) (turn_tickets_append xs ys)
+
+counted_on : (n middle to : ℕ) (xs ys : List Turned) → AreCounted n xs middle → AreCounted middle ys to → AreCounted n (xs ++ ys) to
+counted_on n middle to [] ys are more = subst (λ (z : ℕ). AreCounted z ys to) are more
+counted_on n middle to (x ∷ xs) ys are more = (are.0, counted_on (suc n) middle to xs ys are.1 more)
+
+numbered_on : (u v w : View) (first second : List Turned) → has_all v ≡ has_all u → AreNumbered u v first → AreNumbered v w second → AreNumbered u w (first ++ second)
+numbered_on u v w first second all a b = record {
+  ascend = subst (λ (l : List ℕ). AscendIn (next u) l (next w)) (sym (turn_tickets_append first second)) (ascend_on (next u) (next v) (next w) (turn_tickets first) (turn_tickets second) a.ascend b.ascend);
+  exact = λ has. counted_on (next u) (next v) (next w) first second (a.exact has) (b.exact (all ∙ has));
+}
+
 -- Goes
 
 -- one after the other
@@ -53,6 +72,7 @@ goes_on p q r first second lost more_lost a b = record {
   shape = b.shape ∙ a.shape;
   cpus = b.cpus ∙ a.cpus;
   steps = b.steps ∙ (ap (λ (l : List Turned). l ++ second) a.steps ∙ append_assoc p.view.steps first second);
+  numbers = numbered_on p.view q.view r.view first second (λ i. has_all_below ((a.shape i).cpus) (a.cpus i)) a.numbers b.numbers;
   kept = kept_on p.view.shape first second p.view.kept q.view.kept r.view.kept a.kept (subst (λ (s : Shape). IsKeptOf s second q.view.kept r.view.kept) a.shape b.kept);
   ended = b.ended ∙ a.ended;
   lost_is = b.lost_is ∙ (ap (λ (l : List ℕ). more_lost ++ l) a.lost_is ∙ sym (append_assoc more_lost lost p.view.lost));
@@ -67,6 +87,7 @@ goes_nowhere p = record {
   shape = refl;
   cpus = refl;
   steps = sym (append_nil p.view.steps);
+  numbers = record { ascend = omega arith; exact = λ _. refl };
   kept = refl;
   ended = refl;
   lost_is = refl;
@@ -82,6 +103,7 @@ goes_took t lock p q here took =
       shape = refl;
       cpus = refl;
       steps = sym (append_nil p.view.steps);
+      numbers = record { ascend = omega arith; exact = λ _. refl };
       kept = refl;
       ended = refl;
       lost_is = refl;
@@ -97,6 +119,7 @@ goes_moved {hashes} at k now hand notes word left p q is =
       shape = refl;
       cpus = refl;
       steps = sym (append_nil p.view.steps);
+      numbers = record { ascend = omega arith; exact = λ _. refl };
       kept = refl;
       ended = refl;
       lost_is = refl;
@@ -112,6 +135,7 @@ goes_noted notes bits touched readings p q is =
       shape = refl;
       cpus = refl;
       steps = sym (append_nil p.view.steps);
+      numbers = record { ascend = omega arith; exact = λ _. refl };
       kept = refl;
       ended = refl;
       lost_is = refl;
@@ -127,19 +151,27 @@ goes_spared p q is =
       shape = refl;
       cpus = refl;
       steps = sym (append_nil p.view.steps);
+      numbers = record { ascend = omega arith; exact = λ _. refl };
       kept = refl;
       ended = refl;
       lost_is = refl;
     }
 
 -- the turn of a give
-abbrev pub given_turn : PassView → Hold → Part → Turned
-given_turn p hold part = turned hold.lock hold.log (entry_of p part)
+abbrev pub given_turn : PassView → ℕ → Hold → Part → Turned
+given_turn p ticket hold part = turned hold.lock hold.log (entry_of p ticket part)
 
-pub goes_gave : (p q : PassView) (part : Part) (gave : Gave p q part) → Goes p q (given_turn p gave.hold part ∷ []) []
+-- its number
+one_numbered : (p q : PassView) {z : PassView} (n : ℕ) (hold : Hold) (part : Part) → IsNumbered p.view n q.view → q ≡ z → AreNumbered p.view z.view (given_turn p n hold part ∷ [])
+one_numbered p q n hold part is same = subst (λ (x : PassView). AreNumbered p.view x.view (given_turn p n hold part ∷ [])) same record {
+  ascend = (is.ascends, let next_is = is.next_is in omega arith);
+  exact = λ all. (is.exact all, is.next_is ∙ ap suc (is.exact all));
+}
+
+pub goes_gave : (p q : PassView) (part : Part) (gave : Gave p q part) → Goes p q (given_turn p gave.ticket gave.hold part ∷ []) []
 goes_gave p q part gave =
-    let kept : IsKeptOf p.view.shape (given_turn p gave.hold part ∷ []) p.view.kept gave.kept = ⊎_elim (λ same. inl same) (λ more. inr more) gave.kept_is in
-    subst (λ (z : PassView). Goes p z (given_turn p gave.hold part ∷ []) []) (sym gave.after_is) record {
+    let kept : IsKeptOf p.view.shape (given_turn p gave.ticket gave.hold part ∷ []) p.view.kept gave.kept = ⊎_elim (λ same. inl same) (λ more. inr more) gave.kept_is in
+    subst (λ (z : PassView). Goes p z (given_turn p gave.ticket gave.hold part ∷ []) []) (sym gave.after_is) record {
       table = refl;
       seat = refl;
       cpu = refl;
@@ -147,14 +179,15 @@ goes_gave p q part gave =
       shape = refl;
       cpus = refl;
       steps = refl;
+      numbers = one_numbered p q gave.ticket gave.hold part gave.numbered gave.after_is;
       kept = kept;
       ended = refl;
       lost_is = refl;
     }
 
-pub goes_gave_some : (t : TableView) (lock : DomainId) (p q : PassView) (here : Content) (gave : GaveSome t lock p q here) → Goes p q (given_turn p gave.can.hold gave.part ∷ []) (gave.can.hold.lock ∷ [])
+pub goes_gave_some : (t : TableView) (lock : DomainId) (p q : PassView) (here : Content) (gave : GaveSome t lock p q here) → Goes p q (given_turn p (ticket_of (ready p.view gave.took)) gave.can.hold gave.part ∷ []) (gave.can.hold.lock ∷ [])
 goes_gave_some t lock p q here gave =
-    subst (λ (z : PassView). Goes p z (given_turn p gave.can.hold gave.part ∷ []) (gave.can.hold.lock ∷ [])) (sym gave.after_is) record {
+    subst (λ (z : PassView). Goes p z (given_turn p (ticket_of (ready p.view gave.took)) gave.can.hold gave.part ∷ []) (gave.can.hold.lock ∷ [])) (sym gave.after_is) record {
       table = refl;
       seat = refl;
       cpu = refl;
@@ -162,6 +195,7 @@ goes_gave_some t lock p q here gave =
       shape = refl;
       cpus = refl;
       steps = refl;
+      numbers = one_numbered p q (ticket_of (ready p.view gave.took)) gave.can.hold gave.part gave.numbered gave.after_is;
       kept = inl refl;
       ended = refl;
       lost_is = refl;
@@ -290,10 +324,10 @@ log_elsewhere k (step ∷ steps) known apart =
     ∙ log_elsewhere k steps known apart.1
 
 -- A lock is given back. Where the pass has all CPUs it knows the turns of the lock from then on.
-pub learns_gave : (t : TableView) (lock : DomainId) (r : PassView) (back : Content) (part : Part) (w : View) → (can : CanGive t lock r back part)
+pub learns_gave : (t : TableView) (lock : DomainId) (r : PassView) (back : Content) (ticket : ℕ) (part : Part) (w : View) → (can : CanGive t lock r back part)
     → IsLegal t.shape lock can.hold.log → (has_all r.view ≡ true → (log : List Entry) → known_log (lock_number t.shape lock) r.view.known ≡ Some log → can.hold.log ≡ log)
-    → w.known ≡ learned can.hold (entry_of r part) r.view → w.bits ≡ r.view.bits → w.cpus ≡ r.view.cpus → w.shape ≡ r.view.shape → Learns t.shape r.view w (given_turn r can.hold part ∷ []) []
-learns_gave t lock r back part w can legal told known bits cpus same =
+    → w.known ≡ learned can.hold (entry_of r ticket part) r.view → w.bits ≡ r.view.bits → w.cpus ≡ r.view.cpus → w.shape ≡ r.view.shape → Learns t.shape r.view w (given_turn r ticket can.hold part ∷ []) []
+learns_gave t lock r back ticket part w can legal told known bits cpus same =
     let real : lock_number t.shape lock < lock_count t.shape = number_within t.shape lock can.there in
     let named : lock_named t.shape can.hold.lock ≡ lock = ap (lock_named t.shape) can.lock_is ∙ named_by_number t.shape lock can.there in record {
       allowed = (
@@ -308,7 +342,7 @@ learns_gave t lock r back part w can legal told known bits cpus same =
       all = has_all_same r.view w cpus same;
       logs = λ has k. record {
         go_on = ((λ is. subst (λ (n : ℕ). MatchOption (known_log n r.view.known) (Unit {0}) (λ log. can.hold.log ≡ log)) (sym can.lock_is ∙ is) (by_known (known_log (lock_number t.shape lock) r.view.known) (told has))), tt);
-        known_is = ap (known_log k) (known ∙ ap (λ (b : Bool). cond b (record { lock = can.hold.lock; log = can.hold.log ++ entry_of r part ∷ [] } ∷ r.view.known) r.view.known) has);
+        known_is = ap (known_log k) (known ∙ ap (λ (b : Bool). cond b (record { lock = can.hold.lock; log = can.hold.log ++ entry_of r ticket part ∷ [] } ∷ r.view.known) r.view.known) has);
       };
       bits = λ has e. record { see_on = tt; known_is = ap (bit_seen e) bits };
     }
@@ -318,13 +352,13 @@ learns_gave t lock r back part w can legal told known bits cpus same =
     by_known (Some log) told = told log refl
 
 -- A turn with turns of other locks inside it, from where its lock is held to its give.
-pub learns_given : (t : TableView) (lock : DomainId) (q r : PassView) (back : Content) (inner : List Turned) (part : Part) (w : View) → (can : CanGive t lock r back part)
+pub learns_given : (t : TableView) (lock : DomainId) (q r : PassView) (back : Content) (inner : List Turned) (ticket : ℕ) (part : Part) (w : View) → (can : CanGive t lock r back part)
     → IsLegal t.shape lock can.hold.log → ((log : List Entry) → known_log (lock_number t.shape lock) q.view.known ≡ Some log → can.hold.log ≡ log) → AreElsewhere (lock_number t.shape lock) inner → Learns t.shape q.view r.view inner []
-    → w.known ≡ learned can.hold (entry_of r part) r.view → w.bits ≡ r.view.bits → w.cpus ≡ r.view.cpus → w.shape ≡ r.view.shape → Learns t.shape q.view w (inner ++ given_turn r can.hold part ∷ []) []
-learns_given t lock q r back inner part w can legal told apart knows known bits cpus same =
+    → w.known ≡ learned can.hold (entry_of r ticket part) r.view → w.bits ≡ r.view.bits → w.cpus ≡ r.view.cpus → w.shape ≡ r.view.shape → Learns t.shape q.view w (inner ++ given_turn r ticket can.hold part ∷ []) []
+learns_given t lock q r back inner ticket part w can legal told apart knows known bits cpus same =
     let k : ℕ = lock_number t.shape lock in
-    learns_on t.shape q.view r.view w inner (given_turn r can.hold part ∷ []) [] [] knows
-    (learns_gave t lock r back part w can legal (λ has log is. told log (sym ((knows.logs (sym knows.all ∙ has) k).known_is ∙ log_elsewhere k inner (known_log k q.view.known) apart) ∙ is)) known bits cpus same)
+    learns_on t.shape q.view r.view w inner (given_turn r ticket can.hold part ∷ []) [] [] knows
+    (learns_gave t lock r back ticket part w can legal (λ has log is. told log (sym ((knows.logs (sym knows.all ∙ has) k).known_is ∙ log_elsewhere k inner (known_log k q.view.known) apart) ∙ is)) known bits cpus same)
 
 -- a take tells nothing of turns
 pub learns_took : (t : TableView) (lock : DomainId) (p q : PassView) (here : Content) → TookLock t lock p q here → Learns t.shape p.view q.view [] []
@@ -332,12 +366,12 @@ learns_took t lock p q here took =
     subst (λ (z : PassView). Learns t.shape p.view z.view [] []) (sym took.after_is) (learns_nothing t.shape p.view (holding took.at took.hold p.view) refl refl refl refl)
 
 -- the same from its take
-pub learns_turn : (t : TableView) (lock : DomainId) (p q r : PassView) (here back : Content) (inner : List Turned) (part : Part) (w : View) → TookLock t lock p q here → (can : CanGive t lock r back part)
+pub learns_turn : (t : TableView) (lock : DomainId) (p q r : PassView) (here back : Content) (inner : List Turned) (ticket : ℕ) (part : Part) (w : View) → TookLock t lock p q here → (can : CanGive t lock r back part)
     → IsLegal t.shape lock can.hold.log → ((log : List Entry) → known_log (lock_number t.shape lock) p.view.known ≡ Some log → can.hold.log ≡ log) → AreElsewhere (lock_number t.shape lock) inner → Learns t.shape q.view r.view inner []
-    → w.known ≡ learned can.hold (entry_of r part) r.view → w.bits ≡ r.view.bits → w.cpus ≡ r.view.cpus → w.shape ≡ r.view.shape → Learns t.shape p.view w (inner ++ given_turn r can.hold part ∷ []) []
-learns_turn t lock p q r here back inner part w took can legal told apart knows known bits cpus same =
-    learns_after t.shape p.view q.view w (inner ++ given_turn r can.hold part ∷ []) [] (learns_took t lock p q here took)
-    (learns_given t lock q r back inner part w can legal (λ log is. told log (ap (λ (z : PassView). known_log (lock_number t.shape lock) z.view.known) (sym took.after_is) ∙ is)) apart knows known bits cpus same)
+    → w.known ≡ learned can.hold (entry_of r ticket part) r.view → w.bits ≡ r.view.bits → w.cpus ≡ r.view.cpus → w.shape ≡ r.view.shape → Learns t.shape p.view w (inner ++ given_turn r ticket can.hold part ∷ []) []
+learns_turn t lock p q r here back inner ticket part w took can legal told apart knows known bits cpus same =
+    learns_after t.shape p.view q.view w (inner ++ given_turn r ticket can.hold part ∷ []) [] (learns_took t lock p q here took)
+    (learns_given t lock q r back inner ticket part w can legal (λ log is. told log (ap (λ (z : PassView). known_log (lock_number t.shape lock) z.view.known) (sym took.after_is) ∙ is)) apart knows known bits cpus same)
 
 -- All locks at once
 

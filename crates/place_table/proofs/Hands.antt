@@ -230,4 +230,5 @@ is_pass_moved {flags} {ended} v slots strand spares held hand carried readings n
       within = pass.within;
       ended_within = pass.ended_within;
       hands_real = real;
+      unread = pass.unread;
     }

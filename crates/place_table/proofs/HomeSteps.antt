@@ -49,6 +49,7 @@ use Rattle.place_table.specs.Passes.{PassView, TableView, Carries, IsPassOf, Has
 use Rattle.place_table.specs.Plays.{Seated, HoldsLock, IsKnownHome, IsKnownFree, MayBeHome, MayGoHome, OwnerFits, HomeFits, Rehomes, Clears, MayClear, SeesHome}
 use Rattle.place_table.proofs.Hands.{ascends_now, carries_now, AreInHands, comes_to_hand, leaves_hand, stays_in_hand, IsHomeOfPass}
 use Rattle.place_table.proofs.Locks.{allows_of}
+use Rattle.place_table.proofs.TicketLemmas.{inner_with, inner_without}
 use Rattle.place_table.proofs.PlaceSteps.{IsHeldByPass, AreHeld, now_is, held_moved, place_rule, hashes_kept, now_there, holds_there}
 use Rattle.place_table.proofs.WordSteps.{clears_by, look_rule}
 use Rattle.place_table.proofs.OwnersSeen.{owner_fits}
@@ -353,6 +354,7 @@ module _ (shape : Shape) (s : State Behind View) (r : Rule shape s) (pass : ℕ)
       (λ _. get_or-set_same s.words i code 0 (omega (arith, r.words)))
       (λ ne below. get_or-set_other s.words i (home_word shape x) code 0 (λ y. ne (omega arith)) ∙ r.home_words x below) below)
       (let notes = notes_then v.shape from to e v in noted_with shape v.touched to owner e (held_without shape from owner e v.held) notes (noted_without shape v.touched from owner e v.held notes (noted_home_come shape v.shape v.touched from to e v.held (with_left_home v.shape from to e v.held v.notes) (noted_left_home shape v.shape v.touched from to e v.held v.notes kn.noted))))
+      (inner_with shape to owner e (held_without shape from owner e v.held) ∙ inner_without shape from owner e v.held)
       record {
         under = λ k. ⊎_elim
             (λ (stays : lists k ≡ away k). ⊎_elim

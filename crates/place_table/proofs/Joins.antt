@@ -1,5 +1,5 @@
 -- A pass takes in another.
-use Rattle.std.proofs.Common.{◌≡◌, ◌≢◌, ℕ, suc, ◌<◌, ◌⊎◌, ⊎_elim, inl, inr, eqb, cond, Bool, true, false, List, [], ◌∷◌, ◌++◌, length, set, sym, refl, ap, ◌∙◌, subst, arith, Option, Some, None, length-set}
+use Rattle.std.proofs.Common.{◌≡◌, ◌≢◌, ℕ, suc, ◌<◌, ◌⊎◌, ⊎_elim, inl, inr, eqb, cond, Bool, true, false, List, [], ◌∷◌, ◌++◌, length, set, sym, refl, ap, ◌∙◌, subst, arith, Option, Some, None, length-set, get_or}
 use Rattle.std.specs.Prelude.{◌&&◌}
 use lib.ListN.{get_elem?}
 use mathlib.Core.Option.{some}
@@ -18,7 +18,9 @@ use Rattle.place_table.specs.declared.view.Hold.{Hold}
 use Rattle.place_table.specs.declared.view.Notes.{Notes}
 use Rattle.place_words.specs.Locks.{lock_number}
 use Rattle.place_table.specs.Views.{is_among, hold_at, is_in_hand_of, hash_known, came_at, current_strand, all_strands, joined, spent, home_known}
-use Rattle.place_table.specs.Rules.{Tagged, World, hold, hold_of, is_hand_of, is_home_of, IsStrand, ArePast, IsLostLock, IsHashed, HasHash, HasCome, HasRow, IsBrought, PassKnows, Rule}
+use Rattle.place_table.specs.Words.{ticket_word}
+use Rattle.place_table.proofs.TicketsShared.{tickets_joined}
+use Rattle.place_table.specs.Rules.{Tagged, World, hold, hold_of, is_hand_of, is_home_of, IsStrand, ArePast, IsLostLock, IsHashed, HasHash, HasCome, HasRow, IsBrought, PassKnows, Rule, logs_of}
 use Rattle.place_table.proofs.Worlds.{true_false, by_bool, none_some, lock_still_lost}
 use Rattle.place_table.proofs.Locks.{there}
 use Rattle.place_table.proofs.Splits.{and_false}
@@ -358,7 +360,7 @@ module _ (shape : Shape) (id other : ℕ) (v u : View) (apart : other ≢ id) (n
       )))
 
   pub joins : Joins (Rule shape) id v other u (joined v u) (spent u.shape)
-  unfolding merged
+  unfolding merged fold_in
   joins s r at_id _ at_there =
       let w : World = r.world in let w' : World = merged w in let both : View = joined v u in let gone : View = spent u.shape in
       let at_other : get_elem? s.views other ≡ some u = ⊎_elim (λ t. absurd (apart t.0)) (λ t. t.1) (at_set s.views id other both u at_there) in
@@ -383,6 +385,10 @@ module _ (shape : Shape) (id other : ℕ) (v u : View) (apart : other ≢ id) (n
         in_time = r.in_time;
         gave_back = r.gave_back;
         lead = r.lead;
+        tickets = tickets_joined shape (get_or s.words (ticket_word shape) 0) (logs_of w) w.lost w.pass_of_cpu (λ d. fold_in (w.pass_of_cpu d)) s.views id other v u at_id at_other no_lock nor_lock
+            (λ d not_id not_other. by_test (w.pass_of_cpu d) other (λ b. cond b id (w.pass_of_cpu d) ≡ w.pass_of_cpu d) (λ same. absurd (not_other same)) (λ _. refl))
+            (λ d which. by_test (w.pass_of_cpu d) other (λ b. cond b id (w.pass_of_cpu d) ≡ id) (λ _. refl)
+            (λ not_other. ⊎_elim (λ (mine : w.pass_of_cpu d ≡ id). mine) (λ (theirs : w.pass_of_cpu d ≡ other). absurd (not_other theirs)) which)) apart r.tickets;
         of_strands = of_strands_move w w' (length s.views) (length (set (set s.views id both) other gone)) w.touches
             (λ t below old among. subst (λ (z : ℕ). StaysListed w w' z t) (sym long) (listed_on w (length s.views) t here below old among)) r.of_strands;
         knows = λ j x f. ⊎_elim

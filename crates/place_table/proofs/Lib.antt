@@ -13,6 +13,7 @@ pub mod FirstWords
 pub mod Flags
 pub mod FlushedLast
 pub mod TakeToGive
+pub mod GivenBack
 pub mod Going
 pub mod Hands
 pub mod HashSteps
@@ -41,6 +42,12 @@ pub mod StepOrder
 pub mod StrandMoves
 pub mod StrandNumbers
 pub mod StrandsLeft
+pub mod TicketLemmas
+pub mod TicketChanges
+pub mod TicketsShared
+pub mod TicketSteps
+pub mod TicketsTaken
+pub mod TicketsClosed
 pub mod Touches
 pub mod TurnClears
 pub mod WordSteps

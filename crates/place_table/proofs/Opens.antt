@@ -1,5 +1,5 @@
 -- A table at its opening keeps the rule, and its first pass is in no call.
-use Rattle.std.proofs.Common.{◌≡◌, ℕ, zero, suc, ◌<◌, ◌/◌, Bool, true, false, ◌&&◌, cond, eqb, ltb, List, [], ◌∷◌, map, Option, None, Some, refl, ap, ◌∙◌, sym, subst, inr, arith}
+use Rattle.std.proofs.Common.{◌≡◌, ℕ, zero, suc, ◌<◌, ◌/◌, Bool, true, false, ◌&&◌, cond, eqb, ltb, List, [], ◌∷◌, map, Option, None, Some, refl, ap, ◌∙◌, sym, subst, inr, arith, get_or, inl}
 use Rattle.std.specs.Prelude.{position, IsTrue}
 use Rattle.std.proofs.lemmas.Bool.{lt-ltb}
 use Rattle.std.proofs.lemmas.List.{length-map}
@@ -35,7 +35,8 @@ use Rattle.place_table.specs.Contents.{lists_of}
 use Rattle.place_table.proofs.Worlds.{none_some, true_false}
 use Rattle.place_table.specs.Views.{is_among, is_in_hand_of, first_hand, known_log, bit_seen, numbers_below, no_turns, no_bits, first_view}
 use Rattle.place_table.specs.Rules.{World, Rule, PassKnows, IsSlotAfter, AtHome, Tagged, HashesRight, is_hand_of, is_home_of}
-use Rattle.place_table.specs.Words.{bit_word}
+use Rattle.place_table.specs.Words.{bit_word, ticket_word}
+use Rattle.place_table.specs.Tickets.{Tickets, KnowsTickets, count_drawing, with_cpu}
 use Rattle.place_table.specs.Opening.{IsFirstContent, IsFirstSlot, AreFirstSlots}
 use Rattle.place_table.specs.Words.{opening_words}
 use Rattle.place_table.proofs.FirstSpares.{hand_at_first}
@@ -192,6 +193,30 @@ first_knows shape bounds = record {
   idle = λ _. ((refl, tt), tt);
 }
 
+first_ticket_word : (shape : Shape) → get_or (opening_words shape) (ticket_word shape) 0 ≡ 0
+first_ticket_word shape = first_bit_word shape (ticket_word shape) (omega arith)
+
+-- no ticket was drawn
+first_tickets : (shape : Shape) → HasBounds shape → Tickets shape 0 (λ k. []) (λ k. false) (λ c. 0) (first_view shape ∷ [])
+first_tickets shape bounds = record {
+  drawing = λ c. false;
+  stand = λ t. with_cpu 0;
+  bounded = let none = none_near shape.cpus in omega arith;
+  stands = λ k place entry kept got. absurd (none_some got);
+  ascend = λ k kept. omega arith;
+  filled = λ none t less. absurd (omega arith);
+  known = known;
+  newest = record { cpu = 0; within = bounds.some_cpu; view = first_view shape; seat = refl; reached = refl };
+}
+  where
+    none_near : (n : ℕ) → count_drawing (λ c. false) n ≡ 0
+    none_near zero = refl
+    none_near (suc n) = let rest = none_near n in omega arith
+
+    known : (pass : ℕ) (v : View) → get_elem? (first_view shape ∷ []) pass ≡ some v → KnowsTickets shape 0 (λ k. false) (λ c. false) (λ t. with_cpu 0) v
+    known zero v at = subst (KnowsTickets shape 0 (λ k. false) (λ c. false) (λ t. with_cpu 0)) (some-injective (first_view shape) v at) record { reached = omega arith; refused = inl refl; all_drawn = λ _. refl; strand = omega arith; ended = tt; ticket = tt }
+    known (suc pass) v at = absurd (some-ne-none v (sym at))
+
 opens_at : (shape : Shape) (slots : List Behind) → IsShape shape → AreFirstSlots shape (lock_count shape) slots → Rule shape (table.opening (opening_words shape) slots (first_view shape))
 unfolding opening AllAllowed
 opens_at shape slots is_one are =
@@ -214,6 +239,7 @@ opens_at shape slots is_one are =
       tagged = λ k. tt;
       in_time = tt;
       lead = λ i below. refl;
+      tickets = subst (λ (z : ℕ). Tickets shape z (λ k. []) (λ k. false) (λ c. 0) (first_view shape ∷ [])) (sym (first_ticket_word shape)) (first_tickets shape bounds);
       of_strands = tt;
       gave_back = λ k below. refl;
       knows = λ pass v at. first_seat bounds pass v at;

@@ -45,6 +45,7 @@ use Rattle.place_table.specs.Words.{owner_word, home_word}
 use Rattle.place_table.specs.Plays.{Seated, Claims, Settles, Attaches, Detaches}
 use Rattle.place_table.proofs.Hands.{ascends_now, AreInHands, comes_to_hand, leaves_hand, was_in_hand, IsOwnerOfPass}
 use Rattle.place_table.proofs.Locks.{allows_of}
+use Rattle.place_table.proofs.TicketLemmas.{inner_now}
 use Rattle.place_table.proofs.PlaceSteps.{IsHeldByPass, AreHashes, now_is, held_moved, place_rule, held_there, by_pass_there, now_there, holds_there, readings_kept, hashes_kept}
 use Rattle.place_table.proofs.Came.{came_now, came_more, came_here}
 use Rattle.place_table.proofs.HashSteps.{lies_home, row_of_bucket, hashed_kept}
@@ -77,7 +78,7 @@ module _ (shape : Shape) (s : State Behind View) (r : Rule shape s) (pass : ℕ)
       (λ _. get_or-set_same s.words i code 0 (omega (arith, r.words)))
       (λ ne below. get_or-set_other s.words i (owner_word shape x) code 0 (λ y. ne (omega arith)) ∙ r.owner_words x below) below)
       (λ x below. get_or-set_other s.words i (home_word shape x) code 0 (λ y. omega arith) ∙ r.home_words x below)
-      (noted_now shape v.touched k now v.held notes are_noted)
+      (noted_now shape v.touched k now v.held notes are_noted) (inner_now k now v.held)
       record {
         under = λ m. at_put w.core.lists k now (λ j l. (l ≡ w.core.lists j) ⊎ IsHeldByPass w pass j) m (inr by_pass) (λ _. inl refl);
         owners = λ x. at_put w.core.owner e owner (λ j o. (o ≡ w.core.owner j) ⊎ (IsOwnerOfPass w.pass_of_cpu pass (w.core.owner j) × IsOwnerOfPass w.pass_of_cpu pass o)) x (inr (was, is)) (λ _. inl refl);

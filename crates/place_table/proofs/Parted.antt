@@ -50,6 +50,7 @@ module _ {v : View} {slots : List (ℕ × Behind)} {strand : List StrandStep} {s
             (λ other. pass.spares_fit c body (sym (stay c other) ∙ here));
         ended_within = All-nil (HasCpusOf v.shape);
         within = λ c among. let other = other_than c cpu (λ z. is_among z (without_cpu cpu v.cpus)) (among_without_same cpu v.cpus) among in pass.within c (sym (among_without_other c cpu v.cpus other) ∙ among);
+        unread = refl;
         hands_real = λ e c in_hand.
             let other = other_than c cpu (λ z. is_in_hand_of e z (in_other_hands cpu v.hand)) (others_same e cpu v.hand) in_hand in
             let real = pass.hands_real e c (sym (others_other e c cpu v.hand other) ∙ in_hand) in
@@ -70,6 +71,7 @@ module _ {v : View} {slots : List (ℕ × Behind)} {strand : List StrandStep} {s
             (λ other. absurd (none_some (sym (no_others c other) ∙ here)));
         ended_within = all_within v pass.ended_within pass.within;
         within = λ c among. subst (λ (z : ℕ). z < v.shape.cpus) (sym (alone c cpu among)) (pass.within cpu has);
+        unread = refl;
         hands_real = λ e c in_hand. by_test c cpu (λ _. (e < v.shape.elements) × (is_among c (cpu ∷ []) ≡ true))
             (λ same. (
               (pass.hands_real e cpu (sym (own_same e cpu v.hand) ∙ (ap (λ (z : ℕ). is_in_hand_of e z (in_hand_of cpu v.hand)) (sym same) ∙ in_hand))).0,
@@ -175,6 +177,7 @@ is_pass_joined v u slots others strand steps now spares theirs all flags more bo
       ended_within = All-append (HasCpusOf v.shape) (all_strands v) (all_strands u) (all_within v pass.ended_within pass.within)
           (subst (λ (z : Shape). All (HasCpusOf z) (all_strands u)) same_shape (all_within u other.ended_within other.within));
       within = λ c among. in_either (is_among c v.cpus) (is_among c u.cpus) (c < v.shape.cpus) (pass.within c) (λ is. subst (λ (z : Shape). c < z.cpus) same_shape (other.within c is)) (sym (among_append c v.cpus u.cpus) ∙ among);
+      unread = refl;
       hands_real = λ e c in_hand. in_either (is_in_hand_of e c v.hand) (is_in_hand_of e c u.hand) ((e < v.shape.elements) × (is_among c (v.cpus ++ u.cpus) ≡ true))
           (λ ours. let real = pass.hands_real e c ours in (real.0, among_append c v.cpus u.cpus ∙ ap (λ b. cond b true (is_among c u.cpus)) real.1))
           (λ is. let real = other.hands_real e c is in (subst (λ (z : Shape). e < z.elements) same_shape real.0, among_append c v.cpus u.cpus ∙ either_true (is_among c v.cpus) (is_among c u.cpus) real.1))

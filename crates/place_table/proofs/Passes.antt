@@ -1,5 +1,5 @@
 -- From what the steps of a seat tell to what a caller with a pass knows.
-use Rattle.std.proofs.Common.{◌≡◌, ℕ, Bool, true, false, List, [], ◌∷◌, ◌++◌, length, Option, Some, None, MatchOption, sym, refl, ap, ◌∙◌, subst, ⊎_elim, arith}
+use Rattle.std.proofs.Common.{◌≡◌, ℕ, Bool, true, false, List, [], ◌∷◌, ◌++◌, length, Option, Some, None, MatchOption, sym, refl, ap, ◌∙◌, subst, ⊎_elim, arith, inl, inr}
 use Rattle.std.specs.Prelude.{◌<◌, Vec, IfSome, IsTrue}
 use Rattle.std.specs.Global.{Global}
 use Rattle.atomic_table.specs.Table.{rest}
@@ -34,7 +34,13 @@ use Rattle.place_table.specs.Rules.{KeptAs}
 use Rattle.place_table.specs.Contents.{content_told, lists_of, FitsLock}
 use Rattle.place_table.specs.Flushes.{flushed_last}
 use Rattle.place_table.specs.Views.{is_among, is_in_hand_of, hold_at, known_log, home_known, holding, given, with_lost, losing, holds_below, noted, owner_read}
-use Rattle.place_table.specs.Recording.{IsLost, RecordsIn, Records, recorded_step, last_from, last_in, entry_given, no_entry}
+use Rattle.place_table.specs.declared.view.Ticket.{Ticket}
+use Rattle.place_table.specs.declared.view.Ticket.TheVariants.{Unread, Drawn}
+use Rattle.place_table.specs.Views.{ticketed, ticket_of, number_by, next, numbered_entry, reached_by, refused_by}
+use Rattle.place_table.specs.Tickets.{IsTaken}
+use Rattle.place_table.specs.Plays.{TakesTicket}
+use Rattle.place_table.proofs.TicketsTaken.{IsTicketed, put_unticketed, notes_unticketed, numbered_by}
+use Rattle.place_table.specs.Recording.{IsLost, RecordsIn, Records, recorded_step, last_from, last_in, entry_given, no_entry, history_with}
 use Rattle.place_table.specs.Plays.{Seated, Took, AreElements, IsApartFromHands, GivesBack, GivesSome, entry_by, IsKeptOrLost, MayPut, MayGive, OwnerFits, SeesOwner}
 use Rattle.place_table.specs.TurnNotes.{NotesFit, InnermostFits}
 use Rattle.place_table.specs.Passes.{PassView, TableView, Carries, HandsReal, IsPass, IsPassOf, with_view, without_content, entry_of, HasBegun, SparesDiffer, TookLock, CanGive, Gave, GaveSome, SawOwner, spare_of}
@@ -67,6 +73,7 @@ is_pass_taken {flags} {ended} v slots strand spares k cpu taken out pass took b 
       within = pass.within;
       ended_within = pass.ended_within;
       hands_real = pass.hands_real;
+      unread = pass.unread;
     }
 
 -- what a caller with a pass knows then
@@ -164,7 +171,7 @@ entry_given_is history lock entry before after recorded k here slots below recor
 
 -- a history that is that of the hold has the entry more, and the strand the step, or nothing is recorded
 kept_in : (history now : Option (Vec Entry Global)) (lock : DomainId) (entry : Entry) (before after : List StrandStep) (recorded : Recorded) (lost : Bool) (log : List Entry)
-    → MatchOption history (lost ≡ true) (λ u. (lost ≡ false) × (u.items ≡ log)) → RecordsIn history now lock entry before after recorded
+    → MatchOption history (Unit {0}) (λ u. (lost ≡ false) × (u.items ≡ log)) → RecordsIn history now lock entry before after recorded
     → MatchOption now (after ≡ before) (λ u. (lost ≡ false) × (u.items ≡ log ++ entry ∷ []) × (after ≡ before ++ recorded_step lock (length log) ∷ []))
 kept_in None now lock entry before after recorded lost log was records = absurd records
 kept_in (Some history) None lock entry before after recorded lost log was records = absurd records
@@ -172,7 +179,7 @@ kept_in (Some history) (Some now) lock entry before after recorded lost log was 
     (was.0, records.0 ∙ ap (λ l. l ++ entry ∷ []) was.1, records.2 ∙ ap (λ l. before ++ recorded_step lock (length l) ∷ []) was.1)
 
 one_more : (history : Option (Vec Entry Global)) (lock : DomainId) (entry : Entry) (before after : List StrandStep) (recorded : Recorded) (lost : Bool) (log : List Entry)
-    → MatchOption history (lost ≡ true) (λ u. (lost ≡ false) × (u.items ≡ log)) → Records history lock entry before after recorded
+    → MatchOption history (Unit {0}) (λ u. (lost ≡ false) × (u.items ≡ log)) → Records history lock entry before after recorded
     → MatchOption recorded.history (after ≡ before) (λ u. (lost ≡ false) × (u.items ≡ log ++ entry ∷ []) × (after ≡ before ++ recorded_step lock (length log) ∷ []))
 one_more history lock entry before after recorded lost log was records =
     ⊎_elim
@@ -182,43 +189,84 @@ one_more history lock entry before after recorded lost log was records =
     records
 
 -- what is put back, at the seat
-may_put_at : (shape key : Shape) (v w : View) (hold : Hold) (entry e : Entry) (here : Content) → key ≡ shape → w ≡ v → e ≡ entry → MayPut shape v hold entry here → MayPut key w hold e here
+may_put_at : (shape key : Shape) (v w : View) (hold : Hold) (entry e : Entry) (here : Content) → key ≡ shape → w ≡ v → e ≡ entry → MayPut shape v hold entry.cpu entry.part here → MayPut key w hold e.cpu e.part here
 may_put_at shape key v w hold entry e here key_is w_is e_is may =
-    subst (λ (z : Shape × View × Entry). MayPut z.0 z.1 hold z.2 here) (λ i. (sym key_is i, sym w_is i, sym e_is i)) may
+    subst (λ (z : Shape × View × Entry). MayPut z.0 z.1 hold z.2.cpu z.2.part here) (λ i. (sym key_is i, sym w_is i, sym e_is i)) may
+
+-- what is in a history that is kept
+pub kept_if : (drawn : Option ℕ) (lost : Bool) (log : List Entry) (found : Behind) → KeptAs lost log found → MatchOption (history_with drawn found.history) (Unit {0}) (λ u. (lost ≡ false) × (u.items ≡ log))
+kept_if None lost log found kept = tt
+kept_if (Some t) lost log found kept = go found.history kept
+  where
+    go : (history : Option (Vec Entry Global)) → MatchOption history (lost ≡ true) (λ u. (lost ≡ false) × (u.items ≡ log)) → MatchOption history (Unit {0}) (λ u. (lost ≡ false) × (u.items ≡ log))
+    go None kept = tt
+    go (Some u) kept = kept
+
+-- where there is an entry, it has the ticket that was drawn
+ticket_in : (history now : Option (Vec Entry Global)) (lock : DomainId) (entry : Entry) (before after : List StrandStep) (recorded : Recorded) (A : Type 0) → MatchOption history (Unit {0}) (λ _. A) → RecordsIn history now lock entry before after recorded → MatchOption now (Unit {0}) (λ _. A)
+ticket_in None now lock entry before after recorded A is records = absurd records
+ticket_in (Some history) None lock entry before after recorded A is records = absurd records
+ticket_in (Some history) (Some now) lock entry before after recorded A is records = is
+
+its_ticket : (history : Option (Vec Entry Global)) (lock : DomainId) (entry : Entry) (before after : List StrandStep) (recorded : Recorded) (A : Type 0) → MatchOption history (Unit {0}) (λ _. A) → Records history lock entry before after recorded → MatchOption recorded.history (Unit {0}) (λ _. A)
+its_ticket history lock entry before after recorded A is records =
+    ⊎_elim
+    (λ (gone : IsLost entry before after recorded). subst (λ (o : Option (Vec Entry Global)). MatchOption o (Unit {0}) (λ _. A)) (sym gone.0) tt)
+    (λ (kept : RecordsIn history recorded.history lock entry before after recorded). ticket_in history recorded.history lock entry before after recorded A is kept)
+    records
+
+only_if : (history : Option (Vec Entry Global)) (A B : Type 0) → (A → B) → MatchOption history (Unit {0}) (λ _. A) → MatchOption history (Unit {0}) (λ _. B)
+only_if None A B f is = tt
+only_if (Some u) A B f is = f is
+
+-- an entry that has its ticket has its number
+renumbered : (history : Option (Vec Entry Global)) (v : View) (entry : Entry) (A : Type 0) (F : Vec Entry Global → Entry → Type 0) → MatchOption history (Unit {0}) (λ _. v.ticket ≡ Drawn entry.ticket) → MatchOption history A (λ u. F u entry) → MatchOption history A (λ u. F u (numbered_entry v entry))
+renumbered None v entry A F drawn is = is
+renumbered (Some u) v entry A F drawn is = subst (λ (n : ℕ). F u (record { ticket = n; cpu = entry.cpu; call = entry.call; part = entry.part })) (sym (ap (λ (x : Ticket). number_by x (next v)) drawn)) is
 
 -- the lock may be given back with what was recorded
-pub may_give : (t : TableView) (lock : DomainId) (p : PassView) (here : Content) (part : Part) (can : CanGive t lock p here part) (key : Shape) (v : View) (found : Behind) (entry e : Entry) (strand now : List StrandStep) (recorded : Recorded)
-    → key ≡ t.shape → v ≡ p.view → entry ≡ entry_of p part → e ≡ entry → strand ≡ p.view.kept → KeptAs can.hold.lost can.hold.log found → Records found.history lock entry strand now recorded
+pub may_give : (t : TableView) (lock : DomainId) (p : PassView) (here : Content) (ticket : ℕ) (part : Part) (can : CanGive t lock p here part) (key : Shape) (v : View) (history : Option (Vec Entry Global)) (entry e : Entry) (strand now : List StrandStep) (recorded : Recorded)
+    → key ≡ t.shape → v ≡ p.view → entry ≡ entry_of p ticket part → e ≡ numbered_entry v entry → IsTaken v.ticket → strand ≡ p.view.kept → MatchOption history (Unit {0}) (λ u. (can.hold.lost ≡ false) × (u.items ≡ can.hold.log)) → MatchOption history (Unit {0}) (λ _. v.ticket ≡ Drawn entry.ticket)
+    → Records history lock entry strand now recorded
     → MayGive key v can.hold e now record { content = Some here; history = recorded.history }
-may_give t lock p here part can key v found entry e strand now recorded key_is v_is entry_is e_is strand_is kept records =
+may_give t lock p here ticket part can key v history entry e strand now recorded key_is v_is entry_is e_is taken strand_is kept drawn records =
     let hold : Hold = can.hold in
     let named : lock_named key hold.lock ≡ lock = (λ i. lock_named (key_is i) (can.lock_is i)) ∙ named_by_number t.shape lock can.there in
     let strand_kept : strand ≡ v.kept = strand_is ∙ sym (ap (λ (z : View). z.kept) v_is) in
     record {
       here = here;
       content_is = refl;
-      may_put = may_put_at t.shape key p.view v hold (entry_of p part) e here key_is v_is (e_is ∙ entry_is) can.may_put;
+      may_put = may_put_at t.shape key p.view v hold (numbered_entry v (entry_of p ticket part)) e here key_is v_is (e_is ∙ ap (numbered_entry v) entry_is) can.may_put;
+      taken = taken;
+      numbered = ap (λ (z : Entry). z.ticket) e_is;
+      ticketed = only_if recorded.history (v.ticket ≡ Drawn entry.ticket) (v.ticket ≡ Drawn e.ticket) (λ is. is ∙ ap Drawn (sym (ap (λ (z : Entry). z.ticket) e_is ∙ ap (λ (x : Ticket). number_by x (next v)) is)))
+          (its_ticket history lock entry strand now recorded (v.ticket ≡ Drawn entry.ticket) drawn records);
       records = subst (λ (z : List StrandStep × DomainId × Entry). MatchOption recorded.history (now ≡ z.0) (λ u. (hold.lost ≡ false) × (u.items ≡ hold.log ++ z.2 ∷ []) × (now ≡ z.0 ++ recorded_step z.1 (length hold.log) ∷ [])))
-          (λ i. (strand_kept i, sym named i, sym e_is i)) (one_more found.history lock entry strand now recorded hold.lost hold.log kept records);
+          (λ i. (strand_kept i, sym named i, sym e_is i))
+          (renumbered recorded.history v entry (now ≡ strand) (λ u (z : Entry). (hold.lost ≡ false) × (u.items ≡ hold.log ++ z ∷ []) × (now ≡ strand ++ recorded_step lock (length hold.log) ∷ []))
+          (its_ticket history lock entry strand now recorded (v.ticket ≡ Drawn entry.ticket) drawn records) (one_more history lock entry strand now recorded hold.lost hold.log kept records));
       noted = subst (λ (z : Shape × View × Part × List Notes). InnermostFits z.0 z.1 hold z.2 z.3)
-          (λ i. (sym key_is i, sym v_is i, ap (λ (y : Entry). y.part) (sym (e_is ∙ entry_is)) i, sym (ap (λ (z : View). z.notes) v_is ∙ can.notes_are) i)) can.notes_fit;
+          (λ i. (sym key_is i, sym v_is i, ap (λ (y : Entry). y.part) (sym (e_is ∙ ap (numbered_entry v) entry_is)) i, sym (ap (λ (z : View). z.notes) v_is ∙ can.notes_are) i)) can.notes_fit;
     }
 
 -- and with nothing recorded
 pub may_lose : (t : TableView) (lock : DomainId) (p : PassView) (here : Content) (part : Part) (can : CanGive t lock p here part) (key : Shape) (v : View) → key ≡ t.shape → v ≡ p.view
-    → MayGive key v can.hold (entry_of p part) v.kept record { content = Some here; history = None }
-may_lose t lock p here part can key v key_is v_is = record {
+    → IsTaken v.ticket → MayGive key v can.hold (entry_of p (ticket_of v) part) v.kept record { content = Some here; history = None }
+may_lose t lock p here part can key v key_is v_is taken = record {
   here = here;
   content_is = refl;
-  may_put = may_put_at t.shape key p.view v can.hold (entry_of p part) (entry_of p part) here key_is v_is refl can.may_put;
+  may_put = may_put_at t.shape key p.view v can.hold (entry_of p 0 part) (entry_of p 0 part) here key_is v_is refl can.may_put;
+  taken = taken;
+  numbered = refl;
+  ticketed = tt;
   records = refl;
   noted = subst (λ (z : Shape × View × List Notes). InnermostFits z.0 z.1 can.hold part z.2) (λ i. (sym key_is i, sym v_is i, sym (ap (λ (z : View). z.notes) v_is ∙ can.notes_are) i)) can.notes_fit;
 }
 
 -- a pass once its lock is given back
-is_pass_back : {flags : List Bool} {ended : Option (Vec FinishedStrand Global)} (v : View) (slots : List (ℕ × Behind)) (strand now : List StrandStep) (spares : List (Option Stored)) (at : ℕ) (hold : Hold) (entry : Entry) (kept : List StrandStep) (lost : List ℕ) (after : Seated) → IsPass v slots strand spares flags ended
-    → after ≡ (with_lost lost (given at hold entry kept v), rest slots) → now ≡ kept → IsPass after.0 after.1 now spares flags ended
-is_pass_back {flags} {ended} v slots strand now spares at hold entry kept lost after pass after_is now_is =
+is_pass_back : {flags : List Bool} {ended : Option (Vec FinishedStrand Global)} (v : View) (x : Ticket) (n : ℕ) (xs : List WordStep) (slots : List (ℕ × Behind)) (strand now : List StrandStep) (spares : List (Option Stored)) (at : ℕ) (hold : Hold) (entry : Entry) (kept : List StrandStep) (lost : List ℕ) (after : Seated) → IsPass v slots strand spares flags ended
+    → after ≡ (with_lost lost (given at hold entry kept (ticketed x n xs v)), rest slots) → now ≡ kept → IsPass after.0 after.1 now spares flags ended
+is_pass_back {flags} {ended} v x n xs slots strand now spares at hold entry kept lost after pass after_is now_is =
     subst (λ (z : Seated). IsPass z.0 z.1 now spares flags ended) (sym after_is) record {
       carries = carries_below v.held slots pass.carries;
       strand_is = now_is;
@@ -228,42 +276,56 @@ is_pass_back {flags} {ended} v slots strand now spares at hold entry kept lost a
       within = pass.within;
       ended_within = pass.ended_within;
       hands_real = pass.hands_real;
+      unread = refl;
     }
 
-pub is_pass_given : {flags : List Bool} {ended : Option (Vec FinishedStrand Global)} (v : View) (slots : List (ℕ × Behind)) (strand now : List StrandStep) (spares : List (Option Stored)) (entry : Entry) (kept : List StrandStep) (put after : Seated) → IsPass v slots strand spares flags ended
-    → put.0 ≡ v → rest put.1 ≡ rest slots → GivesBack entry kept put after → now ≡ kept → IsPass after.0 after.1 now spares flags ended
-is_pass_given v slots strand now spares entry kept put after pass put_is below_is gives now_is =
-    let after_is : after ≡ (given gives.at gives.hold entry kept v, rest slots) = gives.after_is ∙ (λ i. (given gives.at gives.hold entry kept (put_is i), below_is i)) in
-    is_pass_back v slots strand now spares gives.at gives.hold entry kept v.lost after pass after_is now_is
+pub is_pass_given : {flags : List Bool} {ended : Option (Vec FinishedStrand Global)} (v : View) (x : Ticket) (n : ℕ) (xs : List WordStep) (slots : List (ℕ × Behind)) (strand now : List StrandStep) (spares : List (Option Stored)) (entry : Entry) (kept : List StrandStep) (put after : Seated) → IsPass v slots strand spares flags ended
+    → put.0 ≡ ticketed x n xs v → rest put.1 ≡ rest slots → GivesBack entry kept put after → now ≡ kept → IsPass after.0 after.1 now spares flags ended
+is_pass_given v x n xs slots strand now spares entry kept put after pass put_is below_is gives now_is =
+    let after_is : after ≡ (given gives.at gives.hold entry kept (ticketed x n xs v), rest slots) = gives.after_is ∙ (λ i. (given gives.at gives.hold entry kept (put_is i), below_is i)) in
+    is_pass_back v x n xs slots strand now spares gives.at gives.hold entry kept v.lost after pass after_is now_is
 
 -- and the same without a part
-pub is_pass_lost : {flags : List Bool} {ended : Option (Vec FinishedStrand Global)} (v : View) (slots : List (ℕ × Behind)) (strand : List StrandStep) (spares : List (Option Stored)) (cpu call : ℕ) (put after : Seated) → IsPass v slots strand spares flags ended
-    → put.0 ≡ v → rest put.1 ≡ rest slots → GivesSome cpu call put after → IsPass after.0 after.1 strand spares flags ended
-is_pass_lost v slots strand spares cpu call put after pass put_is below_is gives =
-    let after_is : after ≡ (losing gives.at gives.hold (entry_by cpu call gives.part) v, rest slots) = gives.after_is ∙ (λ i. (losing gives.at gives.hold (entry_by cpu call gives.part) (put_is i), below_is i)) in
-    is_pass_back v slots strand strand spares gives.at gives.hold (entry_by cpu call gives.part) v.kept (gives.hold.lock ∷ v.lost) after pass after_is pass.strand_is
+pub is_pass_lost : {flags : List Bool} {ended : Option (Vec FinishedStrand Global)} (v : View) (x : Ticket) (n : ℕ) (xs : List WordStep) (slots : List (ℕ × Behind)) (strand : List StrandStep) (spares : List (Option Stored)) (cpu call : ℕ) (put after : Seated) → IsPass v slots strand spares flags ended
+    → put.0 ≡ ticketed x n xs v → rest put.1 ≡ rest slots → GivesSome cpu call put after → IsPass after.0 after.1 strand spares flags ended
+is_pass_lost v x n xs slots strand spares cpu call put after pass put_is below_is gives =
+    let after_is : after ≡ (losing gives.at gives.hold (entry_by (ticket_of (ticketed x n xs v)) cpu call gives.part) (ticketed x n xs v), rest slots) = gives.after_is ∙ (λ i. (losing gives.at gives.hold (entry_by (ticket_of (put_is i)) cpu call gives.part) (put_is i), below_is i)) in
+    is_pass_back v x n xs slots strand strand spares gives.at gives.hold (entry_by (ticket_of (ticketed x n xs v)) cpu call gives.part) v.kept (gives.hold.lock ∷ v.lost) after pass after_is pass.strand_is
 
-pub gave_of : (before after : PassView) (part : Part) (entry : Entry) (kept : List StrandStep) (put given_seat : Seated) → put.0 ≡ before.view → entry ≡ entry_of before part → GivesBack entry kept put given_seat → after ≡ with_view before given_seat.0 → Gave before after part
-gave_of before after part entry kept put given_seat put_is entry_is gives after_is = record {
+pub gave_of : (before after : PassView) (ticket : ℕ) (part : Part) (drawn : Option ℕ) (ready : View) (is : IsTicketed (before.view, []) drawn (ready, [])) (entry : Entry) (kept : List StrandStep) (put given_seat : Seated) → TakesTicket (before.view, []) drawn (ready, []) → put.0 ≡ ready → entry ≡ numbered_entry ready (entry_of before ticket part) → GivesBack entry kept put given_seat
+    → before.view.ticket ≡ Unread → after ≡ with_view before given_seat.0 → Gave before after part
+gave_of before after ticket part drawn ready is entry kept put given_seat takes put_is entry_is gives unread after_is = record {
   hold = gives.hold;
   below = gives.below;
-  innermost = ap (λ (z : View). z.held) (sym put_is) ∙ gives.innermost;
+  innermost = sym (ap (λ (z : Seated). z.0.held) is.after_is) ∙ (ap (λ (z : View). z.held) (sym put_is) ∙ gives.innermost);
   kept = kept;
-  kept_is = subst (λ (z : View). IsKeptOrLost z gives.hold kept) put_is gives.kept_is;
+  kept_is = subst (λ (z : View). IsKeptOrLost z gives.hold kept) (ap (λ (z : Seated). z.0) is.after_is) (subst (λ (z : View). IsKeptOrLost z gives.hold kept) put_is gives.kept_is);
+  took = record { drawn = drawn; ticket = is.ticket; reached = is.reached; touched = is.touched; takes = subst (TakesTicket (before.view, []) drawn) is.after_is takes };
+  ticket = ticket_of (ticketed is.ticket is.reached is.touched before.view);
+  numbered = let view_is = ap (λ (z : PassView). z.view) after_is ∙ ap (λ (z : Seated). z.0) gives.after_is in
+      numbered_by before.view drawn is.ticket is.reached is.touched (subst (TakesTicket (before.view, []) drawn) is.after_is takes) unread after.view
+      (ap (λ (z : View). z.reached) view_is ∙ ap (λ (z : View). reached_by z.ticket z.reached) (put_is ∙ ap (λ (z : Seated). z.0) is.after_is))
+      (ap (λ (z : View). z.refused) view_is ∙ ap (λ (z : View). refused_by z.ticket z.refused) (put_is ∙ ap (λ (z : Seated). z.0) is.after_is));
+  ticket_is = ⊎_elim
+      (λ (stays : kept ≡ put.0.kept). inl (stays ∙ (ap (λ (z : View). z.kept) put_is ∙ ap (λ (z : Seated). z.0.kept) is.after_is)))
+      (λ (has : put.0.ticket ≡ Drawn entry.ticket). inr (is.drawn_by (ticket_of (ticketed is.ticket is.reached is.touched before.view)) (ap (λ (z : View). z.ticket) (sym put_is) ∙ (has ∙ (ap (λ (z : Entry). Drawn z.ticket) entry_is ∙ ap (λ (z : Seated). Drawn (ticket_of z.0)) is.after_is)))))
+      gives.ticket_is;
   at = gives.at;
-  after_is = after_is ∙ (ap (λ (z : Seated). with_view before z.0) gives.after_is ∙ (λ i. with_view before (given gives.at gives.hold (entry_is i) kept (put_is i))));
+  after_is = after_is ∙ (ap (λ (z : Seated). with_view before z.0) gives.after_is ∙ (λ i. with_view before (given gives.at gives.hold ((entry_is ∙ ap (λ (z : Seated). numbered_entry z.0 (entry_of before ticket part)) is.after_is) i) kept ((put_is ∙ ap (λ (z : Seated). z.0) is.after_is) i))));
 }
 
 -- a lock was given back with nothing recorded, by a part that could be given
-pub gave_some_of : (t : TableView) (lock : DomainId) (before after : PassView) (here : Content) (part : Part) (can : CanGive t lock before here part) (put given_seat : Seated) (behind : Behind) (k : ℕ) → put.0 ≡ before.view → put.1 ≡ (k, behind) ∷ rest put.1 → behind.content ≡ Some here
-    → GivesSome before.cpu before.call put given_seat → after ≡ with_view before given_seat.0 → GaveSome t lock before after here
-gave_some_of t lock before after here part can put given_seat behind k put_is slot content_is some after_is =
+pub gave_some_of : (t : TableView) (lock : DomainId) (before after : PassView) (here : Content) (part : Part) (can : CanGive t lock before here part) (drawn : Option ℕ) (ready : View) (is : IsTicketed (before.view, []) drawn (ready, [])) (put given_seat : Seated) (behind : Behind) (k : ℕ) → TakesTicket (before.view, []) drawn (ready, []) → put.0 ≡ ready → put.1 ≡ (k, behind) ∷ rest put.1 → behind.content ≡ Some here
+    → GivesSome before.cpu before.call put given_seat → before.view.ticket ≡ Unread → after ≡ with_view before given_seat.0 → GaveSome t lock before after here
+gave_some_of t lock before after here part can drawn ready is put given_seat behind k takes put_is_ready slot content_is some unread after_is =
+    let ready_is : ready ≡ ticketed is.ticket is.reached is.touched before.view = ap (λ (z : Seated). z.0) is.after_is in
+    let put_is : put.0 ≡ ticketed is.ticket is.reached is.touched before.view = put_is_ready ∙ ready_is in
     let shape_is : put.0.shape ≡ t.shape = ap (λ (z : View). z.shape) put_is ∙ can.of_table.1 in
     let same_hold : some.hold ≡ can.hold = same_head (sym some.innermost ∙ (ap (λ (z : View). z.held) put_is ∙ can.innermost)) in
     let same_slot : some.behind ≡ behind = ap (λ (z : ℕ × Behind). z.1) (same_head (sym some.slot ∙ slot)) in
     let same_here : some.may.here ≡ here = some_is (sym some.may.content_is ∙ (ap (λ (z : Behind). z.content) same_slot ∙ content_is)) in
-    let may : MayPut t.shape before.view some.hold (entry_of before some.part) here =
-    subst (λ (z : Shape × View × Content). MayPut z.0 z.1 some.hold (entry_of before some.part) z.2) (λ i. (shape_is i, put_is i, same_here i)) some.may.may_put in record {
+    let may : MayPut t.shape (ticketed is.ticket is.reached is.touched before.view) some.hold before.cpu some.part here =
+    subst (λ (z : Shape × View × Content). MayPut z.0 z.1 some.hold before.cpu some.part z.2) (λ i. (shape_is i, put_is i, same_here i)) some.may.may_put in record {
       part = some.part;
       can = record {
         of_table = can.of_table;
@@ -276,11 +338,16 @@ gave_some_of t lock before after here part can put given_seat behind k put_is sl
         notes_are = ap (λ (z : View). z.notes) (sym put_is) ∙ some.notes_are;
         there = can.there;
         lock_is = ap (λ (z : Hold). z.lock) same_hold ∙ can.lock_is;
-        may_put = may;
-        notes_fit = subst (λ (z : Shape × View). NotesFit z.0 z.1 some.hold some.part some.notes) (λ i. (shape_is i, put_is i)) some.notes_fit;
+        may_put = put_unticketed t.shape before.view is.ticket is.reached is.touched some.hold before.cpu some.part here may;
+        notes_fit = notes_unticketed t.shape before.view is.ticket is.reached is.touched some.hold some.part some.notes (subst (λ (z : Shape × View). NotesFit z.0 z.1 some.hold some.part some.notes) (λ i. (shape_is i, put_is i)) some.notes_fit);
       };
+      took = record { drawn = drawn; ticket = is.ticket; reached = is.reached; touched = is.touched; takes = subst (TakesTicket (before.view, []) drawn) is.after_is takes };
+      numbered = let view_is = ap (λ (z : PassView). z.view) after_is ∙ ap (λ (z : Seated). z.0) some.after_is in
+          numbered_by before.view drawn is.ticket is.reached is.touched (subst (TakesTicket (before.view, []) drawn) is.after_is takes) unread after.view
+          (ap (λ (z : View). z.reached) view_is ∙ ap (λ (z : View). reached_by z.ticket z.reached) put_is)
+          (ap (λ (z : View). z.refused) view_is ∙ ap (λ (z : View). refused_by z.ticket z.refused) put_is);
       at = some.at;
-      after_is = after_is ∙ (ap (λ (z : Seated). with_view before z.0) some.after_is ∙ ap (λ (z : View). with_view before (losing some.at some.hold (entry_of before some.part) z)) put_is);
+      after_is = after_is ∙ (ap (λ (z : Seated). with_view before z.0) some.after_is ∙ ap (λ (z : View). with_view before (losing some.at some.hold (entry_of before (ticket_of z) some.part) z)) put_is);
     }
   where
     same_head : {A : Type 0} {x y : A} {xs ys : List A} → x ∷ xs ≡ y ∷ ys → x ≡ y
@@ -289,7 +356,7 @@ gave_some_of t lock before after here part can put given_seat behind k put_is sl
 -- a pass that has made a note
 pub is_pass_noted : {flags : List Bool} {ended : Option (Vec FinishedStrand Global)} (v : View) (slots : List (ℕ × Behind)) (strand : List StrandStep) (spares : List (Option Stored)) (notes : List Notes) (bits : List BitSeen) (touched : List WordStep) (readings : List HomeIn) (after : Seated) → IsPass v slots strand spares flags ended → after ≡ (noted notes bits touched readings v, slots) → IsPass after.0 after.1 strand spares flags ended
 is_pass_noted {flags} {ended} v slots strand spares notes bits touched readings after pass after_is =
-    subst (λ (z : Seated). IsPass z.0 z.1 strand spares flags ended) (sym after_is) record { carries = pass.carries; strand_is = pass.strand_is; cpus_are = pass.cpus_are; ended_are = pass.ended_are; spares_fit = pass.spares_fit; within = pass.within; ended_within = pass.ended_within; hands_real = pass.hands_real }
+    subst (λ (z : Seated). IsPass z.0 z.1 strand spares flags ended) (sym after_is) record { carries = pass.carries; strand_is = pass.strand_is; cpus_are = pass.cpus_are; ended_are = pass.ended_are; spares_fit = pass.spares_fit; within = pass.within; ended_within = pass.ended_within; hands_real = pass.hands_real; unread = pass.unread }
 
 -- the owner that was read has a code
 pub read_has_code : (t : TableView) (e : ℕ) (before : PassView) (old new : Seated) (found : ℕ) → IsShape t.shape → IsPassOf t before → old.0 ≡ before.view → (sees : SeesOwner e old found new) → HasOwnerCode sees.owner
@@ -331,4 +398,5 @@ is_pass_spared v slots strand cpu spares now found pass here sized others = reco
   within = pass.within;
   ended_within = pass.ended_within;
   hands_real = pass.hands_real;
+  unread = pass.unread;
 }

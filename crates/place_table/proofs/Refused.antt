@@ -1,6 +1,6 @@
 -- What a pass tells of its steps on words is so, and what the rule refuses: a step on a word that leaves it otherwise than the
 -- step tells, and a word read otherwise than it is.
-use Rattle.std.proofs.Common.{◌≡◌, ◌≢◌, ℕ, ◌<◌, ◌⊎◌, inl, inr, ⊎_elim, cond, true, List, [], ◌∷◌, ◌++◌, length, get_or, set, sym, refl, ap, ◌∙◌, subst, arith, Some, None, get_or-set_same}
+use Rattle.std.proofs.Common.{◌≡◌, ◌≢◌, ℕ, ◌+◌, ◌<◌, ◌⊎◌, inl, inr, ⊎_elim, cond, true, List, [], ◌∷◌, ◌++◌, length, get_or, set, sym, refl, ap, ◌∙◌, subst, arith, Some, None, get_or-set_same, get_or-set_other}
 use mathlib.Core.Option.{some, some-injective}
 use lib.ListN.{get_elem?}
 use Rattle.atomic_table.specs.Table.{State, Allows, Act, stepped}
@@ -8,16 +8,19 @@ use Rattle.atomic_table.proofs.Lists.{at_set, set_here, set_else}
 use Rattle.map_types.specs.declared.attr.Shape.{Shape}
 use Rattle.map_types.specs.ElementLists.{one}
 use Rattle.map_types.proofs.RowLemmas.{by_test}
+use Rattle.place_words.specs.declared.history.Entry.{Entry}
+use Rattle.place_words.specs.declared.history.StrandStep.{StrandStep}
 use Rattle.place_words.specs.declared.owner.Owner.TheVariants as owners
 use Rattle.place_table.specs.declared.content.Behind.{Behind}
 use Rattle.place_table.specs.declared.view.View.{View}
+use Rattle.place_table.specs.declared.view.Ticket.TheVariants.{Drawn}
 use Rattle.place_table.specs.declared.view.Ended.{Ended}
 use Rattle.place_table.specs.declared.view.WordStep.{WordStep}
-use Rattle.place_table.specs.Views.{is_among, marked, cleared, bit_read, owner_read}
-use Rattle.place_table.specs.Words.{word_count, owner_word, bit_word, opening_words}
+use Rattle.place_table.specs.Views.{is_among, ticket_drawn, marked, cleared, bit_read, owner_read}
+use Rattle.place_table.specs.Words.{word_count, owner_word, bit_word, ticket_word, opening_words}
 use Rattle.place_table.specs.Refusals.{IsToldTrue}
 use Rattle.place_table.specs.Rules.{World, Rule, ArePast}
-use Rattle.place_table.specs.Plays.{Seated, Marks, Clears, SeesBit}
+use Rattle.place_table.specs.Plays.{Seated, GivesBack, DrawsTicket, Marks, Clears, SeesBit}
 use Rattle.place_table.proofs.Locks.{there, seat_at}
 use Rattle.place_table.proofs.StepOrder.{Has, HasBy, steps_of, has_last, has_first, has_split, touches_by, by_touches, by_steps, some_by, strand_by, one_strand_by, Ascend, ascends, before_last, order_is, number_is, lead_last}
 use Rattle.place_table.proofs.Worlds.{true_false}
@@ -242,3 +245,36 @@ owner_looks shape slots pass e j f me s r wide seated real apart small taken all
     let told = tells_true shape s pass j (f (get_or s.words j 0)) me.0 got.0 me.1 got.1 x r seated got.3 (omega (arith, on)) (ap (λ (z : View). z.touched) v_is) (ap (λ (z : View). z.ended) v_is) in
     let none : get_or s.words i 0 ≡ 0 = ap (get_or_in s.words) (sym on) ∙ sym told.saw in
     omega (arith, none, taken)
+
+-- A draw that adds another number than 1 is refused.
+pub draws_one : (shape : Shape) (slots pass : ℕ) (f : ℕ → ℕ) (me : Seated) (s : State Behind View) → Rule shape s → length s.homes ≡ slots → get_elem? s.views pass ≡ some me.0 → get_or s.words (ticket_word shape) 0 < 18446744073709551616
+    → f (get_or s.words (ticket_word shape) 0) ≢ 1 + get_or s.words (ticket_word shape) 0 → Allows (Rule shape) slots pass me (ticket_word shape) f (DrawsTicket me) → ⊥
+draws_one shape slots pass f me s r wide seated small other allows =
+    let i : ℕ = ticket_word shape in let n : ℕ = get_or s.words i 0 in let shape_is = (r.knows pass me.0 seated).shape_is in
+    let got = allows s r wide seated small in
+    let v_is : got.0 ≡ ticket_drawn got.4.at n me.0 = ap (λ (z : Seated). z.0) got.4.after_is in
+    let x : WordStep = record { at = got.4.at; word = ticket_word me.0.shape; seen = Some n; left = 1 + n } in
+    let on : x.word ≡ i = ap ticket_word shape_is in
+    let told = tells_true shape s pass i (f n) me.0 got.0 me.1 got.1 x r seated got.3 (omega (arith, on)) (ap (λ (z : View). z.touched) v_is) (ap (λ (z : View). z.ended) v_is) in
+    let stays = get_or-set_same s.words i (f n) 0 (omega (arith, r.words)) in
+    other (sym stays ∙ (ap (get_or_in (set s.words i (f n))) (sym on) ∙ told.left))
+
+-- So is one from another word: the ticket word would be one more than it is.
+pub draws_there : (shape : Shape) (slots pass i : ℕ) (f : ℕ → ℕ) (me : Seated) (s : State Behind View) → Rule shape s → length s.homes ≡ slots → get_elem? s.views pass ≡ some me.0 → ticket_word shape ≢ i → get_or s.words i 0 < 18446744073709551616
+    → Allows (Rule shape) slots pass me i f (DrawsTicket me) → ⊥
+draws_there shape slots pass i f me s r wide seated apart small allows =
+    let j : ℕ = ticket_word shape in let n : ℕ = get_or s.words i 0 in let shape_is = (r.knows pass me.0 seated).shape_is in
+    let got = allows s r wide seated small in
+    let v_is : got.0 ≡ ticket_drawn got.4.at n me.0 = ap (λ (z : Seated). z.0) got.4.after_is in
+    let x : WordStep = record { at = got.4.at; word = ticket_word me.0.shape; seen = Some n; left = 1 + n } in
+    let on : x.word ≡ j = ap ticket_word shape_is in
+    let told = tells_true shape s pass i (f n) me.0 got.0 me.1 got.1 x r seated got.3 (omega (arith, on)) (ap (λ (z : View). z.touched) v_is) (ap (λ (z : View). z.ended) v_is) in
+    let stays = get_or-set_other s.words i j (f n) 0 (λ z. apart z) in
+    let was : n ≡ get_or s.words j 0 = told.saw ∙ ap (get_or_in s.words) on in
+    let now : get_or s.words j 0 ≡ 1 + n = sym stays ∙ (ap (get_or_in (set s.words i (f n))) (sym on) ∙ told.left) in
+    omega (arith, was, now)
+
+-- A turn that is recorded with another ticket than the one drawn is refused.
+pub gives_drawn : (shape : Shape) (slots pass i : ℕ) (f : ℕ → ℕ) (me : Seated) (entry : Entry) (kept : List StrandStep) (s : State Behind View) → Rule shape s → length s.homes ≡ slots → get_elem? s.views pass ≡ some me.0
+    → get_or s.words i 0 < 18446744073709551616 → kept ≢ me.0.kept → me.0.ticket ≢ Drawn entry.ticket → Allows (Rule shape) slots pass me i f (λ _. GivesBack entry kept me) → ⊥
+gives_drawn shape slots pass i f me entry kept s r wide seated small more other allows = ⊎_elim more other (allows s r wide seated small).4.ticket_is

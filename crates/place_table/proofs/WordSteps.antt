@@ -31,8 +31,10 @@ use Rattle.place_table.specs.declared.view.Notes.{Notes}
 use Rattle.place_table.specs.declared.view.BitSeen.{BitSeen}
 use Rattle.place_table.specs.Laws.{StepsAs, goes_by}
 use Rattle.place_table.specs.Views.{is_among, hold_at, bit_seen, has_all, noted, with_mark, with_clear, with_bit_read, with_owner_read, bits_with, touching, home_known, came_at}
-use Rattle.place_table.specs.Rules.{World, Rule, PassKnows, IsFresh, IsSeen, LeadTo, IsReading, HasRow, IsBrought, AreNoted}
-use Rattle.place_table.specs.Words.{owner_word, home_word, bit_word, opening_words}
+use Rattle.place_table.specs.Tickets.{Tickets}
+use Rattle.place_table.proofs.TicketLemmas.{tickets_stay}
+use Rattle.place_table.specs.Rules.{World, Rule, PassKnows, IsFresh, IsSeen, LeadTo, IsReading, HasRow, IsBrought, AreNoted, logs_of}
+use Rattle.place_table.specs.Words.{owner_word, home_word, bit_word, ticket_word, opening_words}
 use Rattle.place_table.specs.Plays.{Seated, Marks, Clears, SeesBit, SeesOwner, OwnerFits}
 use Rattle.place_table.proofs.Came.{came_marked, came_cleared, came_bit_read, came_owner_read}
 use Rattle.place_table.proofs.Locks.{allows_of, found_at, elements_there, there}
@@ -150,6 +152,8 @@ module _ (shape : Shape) (s : State Behind View) (r : Rule shape s) (pass : ℕ)
         seated = λ c h. subst (λ (z : ℕ). w.pass_of_cpu c < z) (sym (length-set s.views pass nv)) (r.seated c h);
         tagged = λ k. tagged_stays w w' (length s.views) (length (set s.views pass nv)) (w.log k) (sym (length-set s.views pass nv)) same (r.tagged k);
         in_time = time_more w.touches (w.current pass, x) r.in_time refl;
+        tickets = subst (λ (z : ℕ). Tickets shape z (logs_of w) w.lost w.pass_of_cpu (set s.views pass nv)) (sym (get_or-set_other s.words i (ticket_word shape) n 0 (λ y. omega arith)))
+            (tickets_stay shape (get_or s.words (ticket_word shape) 0) (logs_of w) w.lost w.pass_of_cpu s.views pass v nv at_pass record { reached = refl; refused = refl; steps = refl; ended = refl; ticket = inl (refl, refl) } r.tickets);
         gave_back = λ m below. givers_other m w.touches (w.current pass, x) (λ at _. omega arith) ∙ r.gave_back m below;
         lead = λ m below. subst (λ (z : ℕ). LeadTo m (get_or (opening_words shape) m 0) (touches_with w pass x) (get_or (set s.words i z) m 0)) (sym n_is)
             (lead_with shape s r (w.current pass) x (omega (arith, r.words)) (subst (IsSeen seen) (sym (r.bit_words e real)) seen_is) m below);
@@ -213,6 +217,8 @@ module _ (shape : Shape) (s : State Behind View) (r : Rule shape s) (pass : ℕ)
           seated = λ y h. subst (λ (z : ℕ). w.pass_of_cpu y < z) (sym (length-set s.views pass nv)) (r.seated y h);
           tagged = λ k. tagged_stays w w' (length s.views) (length (set s.views pass nv)) (w.log k) (sym (length-set s.views pass nv)) same (r.tagged k);
           in_time = time_more w.touches (w.current pass, x) r.in_time refl;
+          tickets = subst (λ (l : List ℕ). Tickets shape (get_or l (ticket_word shape) 0) (logs_of w) w.lost w.pass_of_cpu (set s.views pass nv)) (sym back)
+              (tickets_stay shape (get_or s.words (ticket_word shape) 0) (logs_of w) w.lost w.pass_of_cpu s.views pass v nv at_pass record { reached = refl; refused = refl; steps = refl; ended = refl; ticket = inl (refl, refl) } r.tickets);
           gave_back = λ m below. givers_other m w.touches (w.current pass, x) (λ at _. omega arith) ∙ r.gave_back m below;
           lead = λ m below. subst (λ (z : ℕ). LeadTo m (get_or (opening_words shape) m 0) (touches_with w pass x) (get_or (set s.words i z) m 0)) (sym found_is)
               (lead_with shape s r (w.current pass) x inside (sym found_is) m below);

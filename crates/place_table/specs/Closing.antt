@@ -1,6 +1,6 @@
 -- What a closed table leaves: each history leads to what lay under its lock, and each turn is a step of one strand.
-use Rattle.std.specs.Prelude.{◌≡◌, ℕ, suc, ◌<◌, ◌≤◌, ◌==◌, Bool, true, false, not, All, List, [], ◌∷◌, length, map, filter, Option, None, Some, slice_get, slice_index_or, option_map, IsTrue, if◌then◌else◌}
-use Rattle.std.specs.List.{range_with_len, list_any}
+use Rattle.std.specs.Prelude.{◌≡◌, ℕ, suc, ◌<◌, ◌≤◌, ◌==◌, Bool, true, false, not, All, List, [], ◌∷◌, length, map, filter, Option, None, Some, slice_get, slice_index_or, option_map, IsTrue, nat_lt, if◌then◌else◌}
+use Rattle.std.specs.List.{range_with_len, list_any, flat_map}
 use mathlib.Core.Option.{some}
 use lib.ListN.{get_elem?}
 use Rattle.map_types.specs.declared.attr.Shape.{Shape}
@@ -23,7 +23,9 @@ use Rattle.place_table.specs.Rules.{IsSlotAfter, is_hand_of, turns_on, indexes, 
 use Rattle.place_table.specs.Passes.{PassView, spare_of}
 use Rattle.place_table.specs.Words.{word_count, owner_word, home_word, bit_word, opening_words, lock_code}
 use Rattle.place_words.specs.Codes.{owner_code, home_code}
-use Rattle.map_types.specs.ElementLists.{one}
+use Rattle.map_types.specs.ElementLists.{one, times}
+use Rattle.place_words.specs.Tickets.{tickets_of, AscendIn}
+use Rattle.place_table.specs.Tickets.{EachAscends}
 
 -- what is handed out
 pub record ClosedView : Type 0 where
@@ -58,9 +60,11 @@ strand_told shape strand = record { cpus = filter (λ cpu. is_among cpu strand.c
 abbrev pub strands_told : Shape → List Ended → List Strand
 strands_told shape strands = map (strand_told shape) (filter is_recorded strands)
 
--- what is known of the map once the turns of its locks were made, with these bits and the spares that are kept
+-- what is known of the map once the turns of its locks were made, with these bits and the spares that are kept; the next ticket counts
+-- for nothing in it
 abbrev pub state_left : Shape → (ℕ → List Entry) → (ℕ → Bool) → List (Option Stored) → State
 state_left shape log bit spares = record {
+  next_ticket = 0;
   logs = λ lock. log (lock_number shape lock);
   bits = bit;
   spares = λ cpu. option_map (λ (body : Stored). body.element) (spare_of cpu spares);
@@ -115,6 +119,16 @@ pub record AreTouchesOf (shape : Shape) (strands : List Ended) (words : List ℕ
   pub of_strands : (n : ℕ) (strand : Ended) → slice_get strands n ≡ Some strand → strand.touched ≡ touches_of n touches
   pub within : AreBelow (length strands) touches
 
+-- the turns of all locks of the map
+abbrev pub all_turns : Shape → (ℕ → List Entry) → List Entry
+all_turns shape log = flat_map log (all_locks shape)
+
+-- The tickets of the turns are the numbers below `drawn`, each once. They ascend in each history and in each strand.
+pub record HaveTickets (shape : Shape) (log : ℕ → List Entry) (strands : List Ended) (drawn : ℕ) : Type 0 where
+  pub each_once : (t : ℕ) → times t (tickets_of (all_turns shape log)) ≡ one (nat_lt t drawn)
+  pub in_histories : (k : ℕ) → k < lock_count shape → IsTrue (has_lock shape k) → AscendIn 0 (tickets_of (log k)) drawn
+  pub in_strands : EachAscends strands drawn
+
 -- words tell who holds each lock, owners, homes and bits
 pub record AreWordsOf (shape : Shape) (core : cores.State) (words : List ℕ) : Type 0 where
   pub locks : (k : ℕ) → k < lock_count shape → slice_index_or words k 0 ≡ lock_code (core.holder k)
@@ -152,6 +166,12 @@ pub record IsClosed (shape : Shape) (pass : PassView) (closed : ClosedView) : Ty
   -- whether strands that had ended are lost, and with them the record of every lock
   pub strands_lost : Bool
   pub all_lost : strands_lost ≡ true → (k : ℕ) → lost k ≡ true
+  -- how many tickets were drawn, which is what the pass knows the ticket word to have reached; where no record is lost each turn has
+  -- one
+  pub drawn : ℕ
+  pub drawn_is : drawn ≡ pass.view.reached
+  pub ticketed : closed.lost ≡ false → HaveTickets shape log (all_strands pass.view) drawn
+  pub all_drawn : closed.lost ≡ false → pass.view.refused ≡ 0
   -- where the pass gave a lock back without a part, a record is lost
   pub losses : (k : ℕ) → is_among k pass.view.lost ≡ true → closed.lost ≡ true
   -- what is handed out is this, and the turns that are recorded are shared out among the strands

@@ -23,11 +23,12 @@ use Rattle.place_core.specs.Steps.{CoreStep}
 use Rattle.place_table.specs.declared.content.Behind.{Behind}
 use Rattle.place_table.specs.declared.view.View.{View}
 use Rattle.place_table.specs.declared.view.Hold.{Hold}
+use Rattle.place_table.specs.declared.view.Ticket.TheVariants.{Unread, Drawing}
 use Rattle.place_table.specs.Contents.{content_told, lists_of}
 use Rattle.place_table.specs.Views.{is_among, hold_at, bucket_known, is_in_hand_of, split_from, split_off, joined, spent}
 use Rattle.place_table.specs.Rules.{Rule, IsAboveAll}
-use Rattle.place_table.specs.Words.{owner_word, home_word, bit_word}
-use Rattle.place_table.specs.Plays.{Seated, MayGive, Tries, GivesBack, Claims, Settles, Attaches, Detaches, Marks, Clears, SeesBit, SeesOwner, SeesHome, IsKnownHome, MayGoHome, Rehomes, MayClear}
+use Rattle.place_table.specs.Words.{owner_word, home_word, bit_word, ticket_word}
+use Rattle.place_table.specs.Plays.{Seated, MayGive, Tries, GivesBack, ReadsTicket, DrawsTicket, SeesTicket, Claims, Settles, Attaches, Detaches, Marks, Clears, SeesBit, SeesOwner, SeesHome, IsKnownHome, MayGoHome, Rehomes, MayClear}
 
 -- A step on the word i, which becomes f of what it was, by a pass with this seat: whatever the table is then, if the rule
 -- holds, there are a view and an act of the seat after which the rule holds again, the core has gone on as it may, and this
@@ -51,7 +52,7 @@ goes_if shape wanted step found before after =
 -- a lock is taken by the swap of its word from 0 to 1 and the CPU
 abbrev pub TakeIsStep : Type 0
 TakeIsStep =
-    (shape : Shape) (slots pass : ℕ) (me : Seated) (lock : DomainId) (c : ℕ) → is_among c me.0.cpus ≡ true → IsTrue (is_lock shape lock) → IsAboveAll shape (rank_of lock) me.0.held
+    (shape : Shape) (slots pass : ℕ) (me : Seated) (lock : DomainId) (c : ℕ) → is_among c me.0.cpus ≡ true → IsTrue (is_lock shape lock) → IsAboveAll shape (rank_of lock) me.0.held → me.0.ticket ≡ Unread
     → StepsAs shape slots pass me (lock_number shape lock) (λ n. either (n == 0) (1 + c) n) (goes_if shape 0 (Take c lock)) (Tries (step slots (lock_number shape lock) 0 (1 + c) none) me)
 
 -- it is given back by a store of 0, with its slot, in which stands what an allowed entry leads to
@@ -115,6 +116,18 @@ abbrev pub RehomeIsStep : Type 0
 RehomeIsStep =
     (shape : Shape) (slots pass : ℕ) (me : Seated) (c e : ℕ) (from to : Home) → IsTrue shape.common → e < shape.elements → is_among c me.0.cpus ≡ true → IsKnownHome shape me.0 c e from → MayGoHome shape me.0 c e to
     → StepsAs shape slots pass me (home_word shape e) (λ _. home_code to) (goes_by shape (Rehome c e to)) (λ _. Rehomes e to me)
+
+-- The ticket word is read by a load: by a pass that holds a lock, before a ticket is drawn for the turn, and by one that draws none. A
+-- ticket is drawn by a pass that is about to, by an addition of 1. None is a step of the core.
+abbrev pub stays : ℕ → cores.State → cores.State → Type 0
+stays found before after = after ≡ before
+
+abbrev pub TicketIsNoStep : Type 0
+TicketIsNoStep =
+    (shape : Shape) (slots pass : ℕ) (me : Seated)
+    → ((hold : Hold) (below : List Hold) → me.0.held ≡ hold ∷ below → me.0.ticket ≡ Unread → StepsAs shape slots pass me (ticket_word shape) (λ n. n) stays (ReadsTicket me))
+    × (me.0.ticket ≡ Drawing → StepsAs shape slots pass me (ticket_word shape) (λ n. 1 + n) stays (DrawsTicket me))
+    × (me.0.ticket ≡ Unread → StepsAs shape slots pass me (ticket_word shape) (λ n. n) stays (SeesTicket me))
 
 -- A CPU is split off, and passes are joined: no step of the core is made, and the rule holds again.
 abbrev pub SplitIsNoStep : Type 0

@@ -13,6 +13,7 @@ pub mod Recording
 pub mod Refusals
 pub mod Rules
 pub mod StoredHashes
+pub mod Tickets
 pub mod TurnNotes
 pub mod Views
 pub mod Words

@@ -1,6 +1,6 @@
 -- What a caller of the table knows of its pass: what each call asks, and what it leaves. The number of a call's step on a word,
 -- `at`, is how many steps on words had been made before it.
-use Rattle.std.specs.Prelude.{◌≡◌, ◌≢◌, ◌⊎◌, ℕ, ◌<◌, Bool, true, false, List, [], ◌∷◌, ◌++◌, map, filter, Option, None, Some, MatchOption, IfSome, IsTrue, IsFalse, All, Vec, slice_index_or}
+use Rattle.std.specs.Prelude.{◌≡◌, ◌≢◌, ◌⊎◌, ℕ, suc, ◌<◌, ◌≤◌, Bool, true, false, List, [], ◌∷◌, ◌++◌, map, filter, Option, None, Some, MatchOption, IfSome, IsTrue, IsFalse, All, Vec, slice_index_or}
 use Rattle.std.specs.Global.{Global}
 use Rattle.std.specs.List.{range_with_len}
 use Rattle.atomic_table.specs.Seated.{TableId}
@@ -35,9 +35,15 @@ use Rattle.place_table.specs.declared.view.Notes.{Notes}
 use Rattle.place_table.specs.declared.view.Turned.{Turned}
 use Rattle.place_table.specs.declared.view.Ended.{Ended}
 use Rattle.place_table.specs.Contents.{content_told, lists_of, FitsLock}
-use Rattle.place_table.specs.Views.{is_among, hold_at, is_in_hand_of, known_log, first_view, place_of, kept_step, holding, given, losing, claimed, settled, attached, detached, marked, cleared, bit_read, owner_read, home_read, rehomed, is_recorded, split_from, split_off, joined, bucket_known, home_known}
+use Rattle.place_table.specs.Views.{is_among, hold_at, is_in_hand_of, known_log, first_view, place_of, kept_step, holding, given, losing, claimed, settled, attached, detached, marked, cleared, bit_read, owner_read, home_read, ticket_seen, rehomed, is_recorded, split_from, split_off, joined, bucket_known, home_known}
 use Rattle.place_table.specs.Rules.{KeptAs, IsAboveAll}
-use Rattle.place_table.specs.Plays.{AreElements, IsApartFromHands, MayPut, IsInnermost, IsKeptOrLost, IsKnownBit, OwnerFits, IsKnownHome, HomeFits, MayGoHome, MayClear}
+use Rattle.place_table.specs.Plays.{AreElements, IsApartFromHands, MayPut, IsInnermost, IsKeptOrLost, IsKnownBit, OwnerFits, IsKnownHome, HomeFits, MayGoHome, MayClear, TakesTicket}
+use Rattle.place_table.specs.declared.view.Ticket.{Ticket}
+use Rattle.place_table.specs.declared.view.Ticket.TheVariants.{Unread}
+use Rattle.place_table.specs.declared.view.WordStep.{WordStep}
+use Rattle.place_table.specs.Views.{ticketed, ticket_of, next, has_all}
+use Rattle.place_words.specs.Tickets.{AscendIn}
+use Rattle.place_table.specs.Tickets.{turn_tickets}
 use Rattle.place_table.specs.TurnNotes.{NotesFit}
 
 -- What a pass is seen as: the table that it is of, its place among the table's passes, the CPU and the call of its last
@@ -105,6 +111,8 @@ pub record IsPass (v : View) (slots : List (ℕ × Behind)) (strand : List Stran
   pub within : (cpu : ℕ) → is_among cpu v.cpus ≡ true → cpu < v.shape.cpus
   pub ended_within : All (HasCpusOf v.shape) v.ended
   pub hands_real : HandsReal v.shape v.cpus v.hand
+  -- between two calls no ticket is about to be drawn, nor is one drawn
+  pub unread : v.ticket ≡ Unread
 
 abbrev pub IsPassOf : TableView → PassView → Type 0
 IsPassOf t p = (p.table ≡ t.id) × (p.view.shape ≡ t.shape)
@@ -185,8 +193,8 @@ pub record TookLock (t : TableView) (lock : DomainId) (before after : PassView) 
   -- where each CPU has a list set of its own, what is in the hand of a CPU of the pass is listed in the set where it lives
   pub lives : IsTrue (is_lru t.shape.kind) → t.shape.common ≡ false → (e c : ℕ) → is_among c before.view.cpus ≡ true → is_in_hand_of e c before.view.hand ≡ true → lock ≡ CpuLru (set_of t.shape e) → IsIn e (rows hold.now)
 
-abbrev pub entry_of : PassView → Part → Entry
-entry_of p part = record { cpu = p.cpu; call = p.call; part = part }
+abbrev pub entry_of : PassView → ℕ → Part → Entry
+entry_of p ticket part = record { ticket = ticket; cpu = p.cpu; call = p.call; part = part }
 
 -- What give asks: the lock is the last one taken, the part is allowed on what lay there at the take and leads to what is
 -- put back; this has the elements that lie there at this step; and the part tells what was done and read in the turn.
@@ -201,8 +209,26 @@ pub record CanGive (t : TableView) (lock : DomainId) (p : PassView) (here : Cont
   pub notes_are : p.view.notes ≡ notes ∷ notes_below
   pub there : IsTrue (is_lock t.shape lock)
   pub lock_is : hold.lock ≡ lock_number t.shape lock
-  pub may_put : MayPut t.shape p.view hold (entry_of p part) here
+  pub may_put : MayPut t.shape p.view hold p.cpu part here
   pub notes_fit : NotesFit t.shape p.view hold part notes
+
+-- The ticket word was read, and a ticket was drawn where it was low enough.
+pub record TookTicket (before : View) : Type 0 where
+  pub drawn : Option ℕ
+  pub ticket : Ticket
+  pub reached : ℕ
+  pub touched : List WordStep
+  pub takes : TakesTicket (before, []) drawn (ticketed ticket reached touched before, [])
+
+-- The number of a turn that is given back: at least the next number before, and exactly that where the pass has all CPUs. The next
+-- number is then one more than it.
+pub record IsNumbered (before : View) (number : ℕ) (after : View) : Type 0 where
+  pub ascends : next before ≤ number
+  pub next_is : next after ≡ suc number
+  pub exact : has_all before ≡ true → number ≡ next before
+
+abbrev pub ready : (v : View) → TookTicket v → View
+ready v took = ticketed took.ticket took.reached took.touched v
 
 -- what give leaves: the strand has one step more, which is recorded, or lost with the history of the lock
 pub record Gave (before after : PassView) (part : Part) : Type 0 where
@@ -211,8 +237,13 @@ pub record Gave (before after : PassView) (part : Part) : Type 0 where
   pub innermost : IsInnermost before.view hold below
   pub kept : List StrandStep
   pub kept_is : IsKeptOrLost before.view hold kept
+  pub took : TookTicket before.view
+  -- its number, which is the ticket that was drawn where the step is recorded
+  pub ticket : ℕ
+  pub numbered : IsNumbered before.view ticket after.view
+  pub ticket_is : (kept ≡ before.view.kept) ⊎ (took.drawn ≡ Some ticket)
   pub at : ℕ
-  pub after_is : after ≡ with_view before (given at hold (entry_of before part) kept before.view)
+  pub after_is : after ≡ with_view before (given at hold (entry_of before ticket part) kept (ready before.view took))
 
 -- where there is no part, some part could be given
 abbrev pub CanGiveSome : TableView → DomainId → PassView → Content → Type 0
@@ -225,12 +256,20 @@ MayGiveBack t lock p here part = MatchOption part (CanGiveSome t lock p here) (�
 pub record GaveSome (t : TableView) (lock : DomainId) (before after : PassView) (here : Content) : Type 0 where
   pub part : Part
   pub can : CanGive t lock before here part
+  pub took : TookTicket before.view
   pub at : ℕ
-  pub after_is : after ≡ with_view before (losing at can.hold (entry_of before part) before.view)
+  pub numbered : IsNumbered before.view (ticket_of (ready before.view took)) after.view
+  pub after_is : after ≡ with_view before (losing at can.hold (entry_of before (ticket_of (ready before.view took)) part) (ready before.view took))
 
 abbrev pub GaveBack : TableView → DomainId → PassView → PassView → Content → Option Part → Type 0
 GaveBack t lock before after here part =
     MatchOption part (GaveSome t lock before after here) (λ given_part. Gave before after given_part)
+
+-- the ticket word: the pass has all CPUs, so it is what the pass knows it to be
+pub record SawTicket (before after : PassView) (found : ℕ) : Type 0 where
+  pub exact : found ≡ before.view.reached
+  pub at : ℕ
+  pub after_is : after ≡ with_view before (ticket_seen at found before.view)
 
 -- mark and detach ask for an element of a bucket that the CPU holds
 pub record CanMark (t : TableView) (e bucket : ℕ) (p : PassView) : Type 0 where
@@ -391,6 +430,17 @@ IsKeptOf shape [] before after = after ≡ before
 IsKeptOf shape (step ∷ steps) before after =
     IsKeptOf shape steps before after ⊎ IsKeptOf shape steps (before ++ kept_step shape step.lock (place_of step) ∷ []) after
 
+-- the numbers of these turns are n and those that follow it, up to m
+abbrev pub AreCounted : ℕ → List Turned → ℕ → Type 0
+AreCounted n [] m = m ≡ n
+AreCounted n (step ∷ steps) m = (step.entry.ticket ≡ n) × AreCounted (suc n) steps m
+
+-- The numbers of these turns: they ascend, from what was next before to what is next then, and where the pass has all CPUs each is one
+-- more than the one before it.
+pub record AreNumbered (before after : View) (more : List Turned) : Type 0 where
+  pub ascend : AscendIn (next before) (turn_tickets more) (next after)
+  pub exact : has_all before ≡ true → AreCounted (next before) more (next after)
+
 -- What is left of a pass after calls: it is of its table, in its call and has its CPUs as before; its strand has these turns
 -- more, of which all or some are recorded; and it gave these locks back without a part.
 pub record Goes (before after : PassView) (more : List Turned) (lost : List ℕ) : Type 0 where
@@ -401,6 +451,7 @@ pub record Goes (before after : PassView) (more : List Turned) (lost : List ℕ)
   pub shape : after.view.shape ≡ before.view.shape
   pub cpus : after.view.cpus ≡ before.view.cpus
   pub steps : after.view.steps ≡ before.view.steps ++ more
+  pub numbers : AreNumbered before.view after.view more
   pub kept : IsKeptOf before.view.shape more before.view.kept after.view.kept
   pub ended : after.view.ended ≡ before.view.ended
   pub lost_is : after.view.lost ≡ lost ++ before.view.lost

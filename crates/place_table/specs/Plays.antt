@@ -1,6 +1,6 @@
 -- What each step on a word tells of the pass that makes it. Its number, `at`, is how many steps on words had been made before it.
 -- A pass doesn't know it: the rule ties it to the order of all steps.
-use Rattle.std.specs.Prelude.{◌≡◌, ◌≢◌, ◌⊎◌, ◌&&◌, ℕ, ◌<◌, ◌≤◌, ◌-◌, Bool, true, false, List, [], ◌∷◌, ◌++◌, length, None, Some, MatchOption, IsTrue, IsFalse}
+use Rattle.std.specs.Prelude.{◌≡◌, ◌≢◌, ◌⊎◌, ◌&&◌, ℕ, ◌<◌, ◌≤◌, ◌-◌, Bool, true, false, List, [], ◌∷◌, ◌++◌, length, Option, None, Some, MatchOption, IsTrue, IsFalse}
 use Rattle.atomic_table.specs.Table as table
 use Rattle.atomic_table.specs.Table.{Me, rest}
 use Rattle.map_types.specs.declared.attr.Shape.{Shape}
@@ -32,8 +32,11 @@ use Rattle.place_table.specs.declared.view.Hold.{Hold}
 use Rattle.place_table.specs.declared.view.InHand.{InHand}
 use Rattle.place_table.specs.declared.view.HashIn.{HashIn}
 use Rattle.place_table.specs.declared.view.Notes.{Notes}
+use Rattle.place_table.specs.declared.view.Ticket.TheVariants.{Drawn}
+use Rattle.place_table.specs.Words.{ticket_bound}
+use Rattle.place_table.specs.Tickets.{IsTaken}
 use Rattle.place_table.specs.Contents.{content_told, lists_of, FitsLock}
-use Rattle.place_table.specs.Views.{is_among, hold_at, is_in_hand_of, known_log, bit_seen, holding, given, losing, kept_step, moved, with_hashes, claimed, settled, attached, detached, marked, cleared, bit_read, owner_read, home_read, rehomed, home_known, came_last}
+use Rattle.place_table.specs.Views.{is_among, hold_at, is_in_hand_of, known_log, bit_seen, holding, given, losing, ticket_read, ticket_drawn, ticket_seen, has_all, reached_by, ticket_of, kept_step, moved, with_hashes, claimed, settled, attached, detached, marked, cleared, bit_read, owner_read, home_read, rehomed, home_known, came_last}
 use Rattle.place_table.specs.Rules.{IsSlotAfter, is_hand_of}
 use Rattle.place_table.specs.TurnNotes.{HasOnlyHash, NotesFit, InnermostFits}
 use Rattle.place_table.specs.StoredHashes.{stored_in}
@@ -85,29 +88,36 @@ abbrev pub Tries : table.Step Behind → Seated → ℕ → Seated → Type 0
 Tries step before found after =
     (found ≡ step.first → Took step.word (step.second - 1) before after) × (found ≢ step.first → after ≡ before)
 
--- What is put back: an entry that is allowed leads to it, and it has the elements that lie there at this step.
-pub record MayPut (shape : Shape) (v : View) (hold : Hold) (entry : Entry) (here : Content) : Type 0 where
-  pub cpu : is_among entry.cpu v.cpus ≡ true
-  pub told_is : content_told (lock_named shape hold.lock) here ≡ content_after shape entry.cpu entry.part (content shape (lock_named shape hold.lock) hold.log)
+-- What is put back: a part of a CPU that is allowed leads to it, and it has the elements that lie there at this step.
+pub record MayPut (shape : Shape) (v : View) (hold : Hold) (by : ℕ) (part : Part) (here : Content) : Type 0 where
+  pub cpu : is_among by v.cpus ≡ true
+  pub told_is : content_told (lock_named shape hold.lock) here ≡ content_after shape by part (content shape (lock_named shape hold.lock) hold.log)
   pub fits : FitsLock shape (lock_named shape hold.lock) here
-  pub allowed : Allows shape entry.cpu entry.part (content shape (lock_named shape hold.lock) hold.log)
+  pub allowed : Allows shape by part (content shape (lock_named shape hold.lock) hold.log)
   pub same_free : (e : ℕ) → times e (lists_of (content_told (lock_named shape hold.lock) here)).free ≡ times e hold.now.free
   pub same_rows : (e : ℕ) → times e (rows (lists_of (content_told (lock_named shape hold.lock) here))) ≡ times e (rows hold.now)
   -- on a map that evicts a row has a new hash only where its element came in this turn and is in the CPU's hand: else it is that
   -- of the row that the element had when this lock was taken, or another one that the pass holds
   pub rows_kept : IsTrue (is_lru shape.kind) → (j e h n : ℕ) (other : Hold) → hold_at j v.held ≡ Some other → (is_in_hand_of e hold.cpu v.hand && is_among e (came_last v.notes)) ≡ false → stored_in (content shape (lock_named shape j) other.log) e ≡ Some h → stored_in (content_told (lock_named shape hold.lock) here) e ≡ Some n → h ≡ n
   -- and what was pending when a local lock was taken, and is on its lists no more, was flushed by the turn, or the CPU carries it
-  pub gone : IsTrue (is_lru shape.kind) → (c e h : ℕ) → lock_named shape hold.lock ≡ Local c → stored_in (content shape (lock_named shape hold.lock) hold.log) e ≡ Some h → times e (all_of hold.now) ≡ 0 → (is_in_hand_of e hold.cpu v.carried ≡ true) ⊎ (flushes e entry.part ≡ true)
+  pub gone : IsTrue (is_lru shape.kind) → (c e h : ℕ) → lock_named shape hold.lock ≡ Local c → stored_in (content shape (lock_named shape hold.lock) hold.log) e ≡ Some h → times e (all_of hold.now) ≡ 0 → (is_in_hand_of e hold.cpu v.carried ≡ true) ⊎ (flushes e part ≡ true)
 
 -- the history has the entry where it isn't lost, and then the strand has its step
 abbrev pub IsRecorded : Shape → View → Hold → Entry → List StrandStep → Behind → Type 0
 IsRecorded shape v hold entry kept behind =
     MatchOption behind.history (kept ≡ v.kept) (λ u. (hold.lost ≡ false) × (u.items ≡ hold.log ++ entry ∷ []) × (kept ≡ v.kept ++ kept_step shape hold.lock (length hold.log) ∷ []))
 
+-- where it has the entry, the entry has the ticket that was drawn
+abbrev pub HasItsTicket : View → Entry → Behind → Type 0
+HasItsTicket v entry behind = MatchOption behind.history (Unit {0}) (λ _. v.ticket ≡ Drawn entry.ticket)
+
 pub record MayGive (shape : Shape) (v : View) (hold : Hold) (entry : Entry) (kept : List StrandStep) (behind : Behind) : Type 0 where
   pub here : Content
   pub content_is : behind.content ≡ Some here
-  pub may_put : MayPut shape v hold entry here
+  pub may_put : MayPut shape v hold entry.cpu entry.part here
+  pub taken : IsTaken v.ticket
+  pub numbered : entry.ticket ≡ ticket_of v
+  pub ticketed : HasItsTicket v entry behind
   pub records : IsRecorded shape v hold entry kept behind
   pub noted : InnermostFits shape v hold entry.part v.notes
 
@@ -125,12 +135,14 @@ pub record GivesBack (entry : Entry) (kept : List StrandStep) (before after : Se
   pub below : List Hold
   pub innermost : IsInnermost before.0 hold below
   pub kept_is : IsKeptOrLost before.0 hold kept
+  pub numbered : entry.ticket ≡ ticket_of before.0
+  pub ticket_is : (kept ≡ before.0.kept) ⊎ (before.0.ticket ≡ Drawn entry.ticket)
   pub at : ℕ
   pub after_is : after ≡ (given at hold entry kept before.0, rest before.1)
 
 -- the entry of a CPU's turn in a call
-abbrev pub entry_by : ℕ → ℕ → Part → Entry
-entry_by cpu call part = record { cpu = cpu; call = call; part = part }
+abbrev pub entry_by : ℕ → ℕ → ℕ → Part → Entry
+entry_by ticket cpu call part = record { ticket = ticket; cpu = cpu; call = call; part = part }
 
 -- the same with nothing recorded, by some part of this CPU and call that leads to what was put back
 pub record GivesSome (cpu call : ℕ) (before after : Seated) : Type 0 where
@@ -140,13 +152,13 @@ pub record GivesSome (cpu call : ℕ) (before after : Seated) : Type 0 where
   pub part : Part
   pub innermost : IsInnermost before.0 hold below
   pub slot : before.1 ≡ (hold.lock, behind) ∷ rest before.1
-  pub may : MayGive before.0.shape before.0 hold (entry_by cpu call part) before.0.kept behind
+  pub may : MayGive before.0.shape before.0 hold (entry_by (ticket_of before.0) cpu call part) before.0.kept behind
   pub notes : Notes
   pub notes_below : List Notes
   pub notes_are : before.0.notes ≡ notes ∷ notes_below
   pub notes_fit : NotesFit before.0.shape before.0 hold part notes
   pub at : ℕ
-  pub after_is : after ≡ (losing at hold (entry_by cpu call part) before.0, rest before.1)
+  pub after_is : after ≡ (losing at hold (entry_by (ticket_of before.0) cpu call part) before.0, rest before.1)
 
 -- other lists lie under a lock that is held, other elements are in hand, with these hashes, and these notes are made
 abbrev pub Moves : ℕ → Lists → List InHand → List HashIn → List Notes → ℕ → ℕ → Seated → Seated → Type 0
@@ -168,6 +180,37 @@ Attaches bucket e cpu before after = (at : ℕ) × (after ≡ (attached at bucke
 -- an element of a bucket came to the hand of a CPU
 abbrev pub Detaches : ℕ → ℕ → ℕ → Seated → Seated → Type 0
 Detaches bucket e cpu before after = (at : ℕ) × (after ≡ (detached at bucket e cpu before.0, before.1))
+
+-- What the ticket word may be, as a pass knows: at least the number that it is known to have reached, and where the pass has all CPUs
+-- exactly what it is known to be. Where a turn got no ticket it is 2^63 or more.
+pub record WordFits (v : View) (found : ℕ) : Type 0 where
+  pub reached : v.reached ≤ found
+  pub exact : has_all v ≡ true → found ≡ reached_by v.ticket v.reached
+  pub refused : (v.refused ≡ 0) ⊎ (ticket_bound ≤ found)
+
+-- the ticket word was read
+pub record ReadsTicket (before : Seated) (found : ℕ) (after : Seated) : Type 0 where
+  pub fits : WordFits before.0 found
+  pub at : ℕ
+  pub after_is : after ≡ (ticket_read at found before.0, before.1)
+
+-- a ticket was drawn
+pub record DrawsTicket (before : Seated) (found : ℕ) (after : Seated) : Type 0 where
+  pub fits : WordFits before.0 found
+  pub at : ℕ
+  pub after_is : after ≡ (ticket_drawn at found before.0, before.1)
+
+-- the ticket word was read by a pass that draws none
+pub record SeesTicket (before : Seated) (found : ℕ) (after : Seated) : Type 0 where
+  pub fits : WordFits before.0 found
+  pub at : ℕ
+  pub after_is : after ≡ (ticket_seen at found before.0, before.1)
+
+-- Both, one after the other: no ticket was drawn where the word was too high.
+abbrev pub TakesTicket : Seated → Option ℕ → Seated → Type 0
+TakesTicket before None after = (found : ℕ) × (at : ℕ) × WordFits before.0 found × (ticket_bound ≤ found) × (after ≡ (ticket_read at found before.0, before.1))
+TakesTicket before (Some t) after =
+    (found : ℕ) × (at : ℕ) × (behind : ℕ) × WordFits before.0 found × (found < ticket_bound) × WordFits (ticket_read at found before.0) t × (after ≡ (ticket_drawn behind t (ticket_read at found before.0), before.1))
 
 -- a bit was set
 abbrev pub Marks : ℕ → Seated → Seated → Type 0

@@ -13,6 +13,11 @@ use Rattle.place_table.specs.declared.steps.Recorded.{Recorded}
 abbrev pub recorded_step : DomainId → ℕ → StrandStep
 recorded_step lock index = record { lock = lock; index = index }
 
+-- without a ticket there is no history any more
+abbrev pub history_with : Option ℕ → Option (Vec Entry Global) → Option (Vec Entry Global)
+history_with None history = None
+history_with (Some ticket) history = history
+
 -- nothing is recorded, and the entry is handed back
 abbrev pub IsLost : Entry → List StrandStep → List StrandStep → Recorded → Type 0
 IsLost entry before after recorded = (recorded.history ≡ None) × (recorded.lost ≡ Some entry) × (after ≡ before)
@@ -31,7 +36,7 @@ Records history lock entry before after recorded =
 -- The entry that a lock is given back with: the last one of the history that stands in the slot taken last, or the one that
 -- was handed back.
 abbrev pub no_entry : Entry
-no_entry = record { cpu = 0; call = 0; part = Free FoundEmpty }
+no_entry = record { ticket = 0; cpu = 0; call = 0; part = Free FoundEmpty }
 
 abbrev pub last_from : Entry → List Entry → Entry
 last_from entry [] = entry

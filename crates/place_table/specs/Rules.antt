@@ -37,7 +37,8 @@ use Rattle.place_table.specs.declared.view.Turned.{Turned}
 use Rattle.place_table.specs.declared.view.Ended.{Ended}
 use Rattle.place_table.specs.Flushes.{flushed_last}
 use Rattle.place_table.specs.declared.view.WordStep.{WordStep}
-use Rattle.place_table.specs.Words.{word_count, owner_word, home_word, bit_word, lock_code, opening_words}
+use Rattle.place_table.specs.Tickets.{Tickets}
+use Rattle.place_table.specs.Words.{word_count, owner_word, home_word, bit_word, ticket_word, lock_code, opening_words}
 use Rattle.place_table.specs.Contents.{content_told, lists_of, FitsLock}
 use Rattle.place_table.specs.Views.{is_among, hold_at, is_in_hand_of, known_log, bit_seen, place_of, hash_known, home_known, came_at}
 use Rattle.place_table.specs.declared.view.Notes.{Notes}
@@ -426,4 +427,6 @@ pub record Rule (shape : Shape) (s : table.State Behind View) : Type 0 where
   pub lead : (i : ℕ) → i < word_count shape → LeadTo i (slice_index_or (opening_words shape) i 0) world.touches (slice_index_or s.words i 0)
   pub of_strands : AreOfStrands world (length s.views) world.touches
   pub gave_back : (k : ℕ) → k < lock_count shape → givers k world.touches ≡ strands_of (world.log k)
+  -- each turn has its ticket
+  pub tickets : Tickets shape (slice_index_or s.words (ticket_word shape) 0) (logs_of world) world.lost world.pass_of_cpu s.views
   pub knows : (pass : ℕ) (v : View) → get_elem? s.views pass ≡ some v → PassKnows shape world pass v

@@ -1,5 +1,5 @@
 -- What a pass knows, and how each step changes it.
-use Rattle.std.specs.Prelude.{ℕ, zero, suc, ◌+◌, ◌==◌, Bool, true, false, not, ◌&&◌, List, [], ◌∷◌, ◌++◌, length, Option, None, Some, if◌then◌else◌}
+use Rattle.std.specs.Prelude.{ℕ, zero, suc, ◌+◌, ◌==◌, nat_lt, max, Bool, true, false, not, ◌&&◌, List, [], ◌∷◌, ◌++◌, length, Option, None, Some, if◌then◌else◌}
 use Rattle.map_types.specs.declared.attr.Shape.{Shape}
 use Rattle.map_types.specs.declared.kind.DomainId.{DomainId}
 use Rattle.map_types.specs.declared.kind.DomainId.TheVariants.{Bucket, Local, Global, CpuLru, Freelist}
@@ -38,7 +38,9 @@ use Rattle.place_table.specs.declared.view.Known.{Known}
 use Rattle.place_table.specs.declared.view.Turned.{Turned}
 use Rattle.place_table.specs.declared.view.BitSeen.{BitSeen}
 use Rattle.place_table.specs.declared.view.WordStep.{WordStep}
-use Rattle.place_table.specs.Words.{owner_word, home_word, bit_word}
+use Rattle.place_table.specs.declared.view.Ticket.{Ticket}
+use Rattle.place_table.specs.declared.view.Ticket.TheVariants as tickets
+use Rattle.place_table.specs.Words.{owner_word, home_word, bit_word, ticket_word, ticket_bound}
 use Rattle.place_words.specs.Codes.{owner_code, home_code}
 use Rattle.place_table.specs.declared.view.Ended.{Ended}
 use Rattle.map_types.specs.ElementLists.{times, one}
@@ -168,6 +170,9 @@ first_view shape = record {
   notes = [];
   known = no_turns (lock_count shape);
   bits = no_bits shape.elements;
+  ticket = tickets.Unread;
+  reached = 0;
+  refused = 0;
   steps = [];
   kept = [];
   touched = [];
@@ -181,6 +186,58 @@ no_notes = record { came = []; marks = []; asked = []; owners = []; homes = []; 
 -- Its strand has one step more on a word. This one and those below are numbered: so many steps on words had been made before.
 abbrev pub touching : ℕ → ℕ → Option ℕ → ℕ → View → List WordStep
 touching at word seen left v = v.touched ++ record { at = at; word = word; seen = seen; left = left } ∷ []
+
+-- Tickets: the ticket word is read, and a ticket is drawn from it.
+
+-- how far the turn is with its ticket once the word was read as n
+abbrev pub found_below : ℕ → Ticket
+found_below n = if nat_lt n ticket_bound then tickets.Drawing else tickets.Refused
+
+abbrev pub ticketed : Ticket → ℕ → List WordStep → View → View
+ticketed ticket reached touched v = record v { ticket = ticket; reached = reached; touched = touched }
+
+abbrev pub ticket_read : ℕ → ℕ → View → View
+ticket_read at n v = ticketed (found_below n) n (touching at (ticket_word v.shape) (Some n) n v) v
+
+abbrev pub ticket_drawn : ℕ → ℕ → View → View
+ticket_drawn at t v = ticketed (tickets.Drawn t) v.reached (touching at (ticket_word v.shape) (Some t) (1 + t) v) v
+
+-- it is read and no ticket is drawn
+abbrev pub ticket_seen : ℕ → ℕ → View → View
+ticket_seen at n v = ticketed v.ticket n (touching at (ticket_word v.shape) (Some n) n v) v
+
+-- what the ticket word is known to have reached once the turn with this ticket is over
+abbrev pub reached_by : Ticket → ℕ → ℕ
+reached_by tickets.Unread n = n
+reached_by tickets.Drawing n = n
+reached_by (tickets.Drawn t) n = suc t
+reached_by tickets.Refused n = n
+
+-- and what `refused` is then
+abbrev pub refused_by : Ticket → ℕ → ℕ
+refused_by tickets.Unread n = suc n
+refused_by tickets.Drawing n = suc n
+refused_by (tickets.Drawn t) n = n
+refused_by tickets.Refused n = suc n
+
+-- No turn that the pass has made has this number or a higher one: a turn that gets no ticket is told with this number, which is above
+-- those of the turns before it.
+abbrev pub next : View → ℕ
+next v = v.reached + v.refused
+
+abbrev pub number_by : Ticket → ℕ → ℕ
+number_by tickets.Unread n = n
+number_by tickets.Drawing n = n
+number_by (tickets.Drawn t) n = t
+number_by tickets.Refused n = n
+
+-- the number of the turn that is given back next: its ticket, where it has one
+abbrev pub ticket_of : View → ℕ
+ticket_of v = number_by v.ticket (next v)
+
+-- the entry with it
+abbrev pub numbered_entry : View → Entry → Entry
+numbered_entry v e = record { ticket = ticket_of v; cpu = e.cpu; call = e.call; part = e.part }
 
 -- a hold with other lists
 abbrev pub hold_with : Hold → Lists → Hold
@@ -199,6 +256,9 @@ holding at hold v = record {
   notes = no_notes ∷ v.notes;
   known = v.known;
   bits = v.bits;
+  ticket = v.ticket;
+  reached = v.reached;
+  refused = v.refused;
   steps = v.steps;
   kept = v.kept;
   touched = touching at hold.lock (Some 0) (1 + hold.cpu) v;
@@ -290,6 +350,9 @@ given at hold entry kept v = record {
   notes = passed_on entry.part (notes_below v.notes);
   known = learned hold entry v;
   bits = v.bits;
+  ticket = tickets.Unread;
+  reached = reached_by v.ticket v.reached;
+  refused = refused_by v.ticket v.refused;
   steps = v.steps ++ turned hold.lock hold.log entry ∷ [];
   kept = kept;
   touched = touching at hold.lock None 0 v;
@@ -310,6 +373,9 @@ with_lost lost v = record {
   notes = v.notes;
   known = v.known;
   bits = v.bits;
+  ticket = v.ticket;
+  reached = v.reached;
+  refused = v.refused;
   steps = v.steps;
   kept = v.kept;
   touched = v.touched;
@@ -333,6 +399,9 @@ noted notes bits touched readings v = record {
   notes = notes;
   known = v.known;
   bits = bits;
+  ticket = v.ticket;
+  reached = v.reached;
+  refused = v.refused;
   steps = v.steps;
   kept = v.kept;
   touched = touched;
@@ -451,6 +520,9 @@ with_places held hand carried readings notes touched v = record {
   notes = notes;
   known = v.known;
   bits = v.bits;
+  ticket = v.ticket;
+  reached = v.reached;
+  refused = v.refused;
   steps = v.steps;
   kept = v.kept;
   touched = touched;
@@ -564,6 +636,9 @@ split_from cpu v = record {
   notes = [];
   known = [];
   bits = [];
+  ticket = tickets.Unread;
+  reached = v.reached;
+  refused = v.refused;
   steps = [];
   kept = [];
   touched = [];
@@ -585,6 +660,9 @@ split_off cpu v = record {
   notes = [];
   known = [];
   bits = [];
+  ticket = tickets.Unread;
+  reached = v.reached;
+  refused = v.refused;
   steps = [];
   kept = [];
   touched = [];
@@ -606,6 +684,9 @@ joined v other = record {
   notes = [];
   known = [];
   bits = [];
+  ticket = tickets.Unread;
+  reached = max v.reached other.reached;
+  refused = v.refused + other.refused;
   steps = [];
   kept = [];
   touched = [];
@@ -626,6 +707,9 @@ spent shape = record {
   notes = [];
   known = [];
   bits = [];
+  ticket = tickets.Unread;
+  reached = 0;
+  refused = 0;
   steps = [];
   kept = [];
   touched = [];

@@ -42,7 +42,7 @@ impl PlaceTable {
             spares,
         } = pass;
         let count = table.slot_count();
-        let first_bit = table.word_count() - shape.elements as usize;
+        let first_bit = table.word_count() - shape.elements as usize - 1;
         let mut contents = Vec::with_capacity(alloc, count)?;
         let mut histories = Vec::with_capacity(alloc, count)?;
         let mut closed = table.close_with(seat);

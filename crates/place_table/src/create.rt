@@ -105,7 +105,7 @@ fn count_locks(shape: &Shape) -> u32
     3 * shape.cpus + 1 + shape.buckets
 }
 
-/// The words of the locks, of the owners, of the homes, and of the bits.
+/// The words of the locks, of the owners, of the homes, and of the bits, and the one that tickets are drawn from.
 fn first_words(alloc: Global, shape: &Shape, owners: &[Owner]) -> Result<Vec<u64>, NoMemory>
     requires shape { IsShape shape.now }
     requires owners { AreOpeningOwners shape.now owners.now }
@@ -115,7 +115,7 @@ fn first_words(alloc: Global, shape: &Shape, owners: &[Owner]) -> Result<Vec<u64
     push_zeros(&mut words, count_locks(shape))?;
     push_codes(&mut words, owners)?;
     push_homes(&mut words, shape)?;
-    push_zeros(&mut words, shape.elements)?;
+    push_zeros(&mut words, shape.elements + 1)?;
     Ok(words)
 }
 

@@ -46,7 +46,7 @@ impl Turn for Brand {
     ghost use Rattle.place_words.specs.declared.history.Part.TheVariants as parts;
     ghost use Rattle.place_words.specs.declared.free_part.FreePart.TheVariants.{FoundEmpty};
 
-    ghost entry = { record { cpu = 0; call = 0; part = parts.Free FoundEmpty } };
+    ghost entry = { record { ticket = 0; cpu = 0; call = 0; part = parts.Free FoundEmpty } };
 
     ghost kept = { [] };
 }
@@ -181,6 +181,33 @@ pub trait About {
 
 impl About for Brand {
     ghost element = { 0 };
+}
+
+/// The ticket word is read, before a ticket is drawn.
+pub struct ReadingTicket;
+
+impl Play<Behind, View> for ReadingTicket {
+    ghost use Rattle.place_table.specs.Plays.{ReadsTicket};
+
+    ghost then = { λ st me n after. ReadsTicket me n after };
+}
+
+/// The ticket word is read, and no ticket is drawn.
+pub struct SeeingTicket;
+
+impl Play<Behind, View> for SeeingTicket {
+    ghost use Rattle.place_table.specs.Plays.{SeesTicket};
+
+    ghost then = { λ st me n after. SeesTicket me n after };
+}
+
+/// A ticket is drawn.
+pub struct DrawingTicket;
+
+impl Play<Behind, View> for DrawingTicket {
+    ghost use Rattle.place_table.specs.Plays.{DrawsTicket};
+
+    ghost then = { λ st me n after. DrawsTicket me n after };
 }
 
 /// A bit is set.

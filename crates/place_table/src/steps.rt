@@ -11,18 +11,20 @@ ghost use Rattle.place_table.specs.declared.content.Content.{Content};
 ghost use Rattle.place_table.specs.declared.view.Hold.{Hold};
 ghost use Rattle.place_words.specs.declared.history.Part as history;
 ghost use Rattle.place_table.specs.declared.view.Notes.{Notes};
-ghost use Rattle.place_table.specs.Views.{is_among, hold_at, is_in_hand_of, kept_step, split_from, split_off, joined};
+ghost use Rattle.place_table.specs.Views.{is_among, hold_at, is_in_hand_of, kept_step, split_from, split_off, joined, numbered_entry, ticket_of};
 ghost use Rattle.place_table.specs.Rules.{IsAboveAll};
-ghost use Rattle.place_table.specs.Words.{word_count, owner_word, home_word, bit_word};
-ghost use Rattle.place_table.specs.Plays.{MayClear, Took, MayGive, IsInnermost, GivesBack, GivesSome, entry_by, Marks, Clears, SeesBit, SeesOwner, SeesHome};
-ghost use Rattle.place_table.specs.Recording.{Records, entry_given};
+ghost use Rattle.place_table.specs.Words.{word_count, owner_word, home_word, bit_word, ticket_word};
+ghost use Rattle.place_table.specs.declared.view.Ticket.TheVariants.{Unread};
+ghost use Rattle.place_table.specs.Plays.{MayClear, Took, MayGive, IsInnermost, GivesBack, GivesSome, entry_by, TakesTicket, SeesTicket, Marks, Clears, SeesBit, SeesOwner, SeesHome};
+ghost use Rattle.place_table.specs.Recording.{Records, entry_given, history_with};
 ghost use Rattle.place_table.specs.Passes.{without_content};
 ghost use Rattle.place_table.specs.TurnNotes.{NotesFit};
 
 use crate::content::{Behind, Content};
 use crate::rule::{
-    About, Caller, Clearing, Cut, Cutting, Giving, Losing, Marking, Merge, Merging, ReadingBit,
-    ReadingHome, ReadingOwner, SharedTable, TableSeat, Trying, Turn,
+    About, Caller, Clearing, Cut, Cutting, DrawingTicket, Giving, Losing, Marking, Merge, Merging,
+    ReadingBit, ReadingHome, ReadingOwner, ReadingTicket, SeeingTicket, SharedTable, TableSeat,
+    Trying, Turn,
 };
 use map_types::DomainId;
 use place_words::{Entry, StrandStep};
@@ -36,6 +38,7 @@ pub(crate) fn try_lock(shared: &SharedTable, seat: &mut TableSeat, lock: u32, cp
     requires lock { (lock < lock_count shared.now.key)
         × IsTrue (is_lock shared.now.key (lock_named shared.now.key lock)) }
     requires cpu { is_among cpu seat.old.me.0.cpus ≡ true }
+    requires unread { seat.old.me.0.ticket ≡ Unread }
     requires above { IsAboveAll shared.now.key (rank_of
         (lock_named shared.now.key lock)) seat.old.me.0.held }
     ensures seat { (seat.new.table_id ≡ seat.old.table_id) × (seat.new.id ≡ seat.old.id) }
@@ -58,6 +61,7 @@ pub(crate) fn take_lock<R: Wait>(
     requires lock { (lock < lock_count shared.now.key)
         × IsTrue (is_lock shared.now.key (lock_named shared.now.key lock)) }
     requires cpu { is_among cpu seat.old.me.0.cpus ≡ true }
+    requires unread { seat.old.me.0.ticket ≡ Unread }
     requires above { IsAboveAll shared.now.key (rank_of
         (lock_named shared.now.key lock)) seat.old.me.0.held }
     ensures seat { (seat.new.table_id ≡ seat.old.table_id) × (seat.new.id ≡ seat.old.id) }
@@ -92,6 +96,16 @@ pub(crate) fn unload(shared: &SharedTable, seat: &mut TableSeat, lock: u32) -> O
         },
     );
     content
+}
+
+/// The history, or none where the turn has no ticket, and so no entry.
+pub(crate) fn kept_with(ticket: &Option<u64>, history: Option<Vec<Entry>>) -> Option<Vec<Entry>>
+    ensures { result ≡ history_with ticket.now history }
+{
+    match ticket {
+        Some(_) => history,
+        None => None,
+    }
 }
 
 /// A history after a turn, and the entry of the turn where there was no memory for it. There is no history then.
@@ -134,6 +148,36 @@ pub(crate) fn record_turn(
     }
 }
 
+/// Draws the ticket of the turn of the lock that was taken last, which is still held. None where the ticket word has 2^63 or
+/// more: at most one draw for each CPU follows a look, so the word never passes 2^63 + 15.
+pub(crate) fn take_ticket(shared: &SharedTable, seat: &mut TableSeat, word: usize) -> Option<u64>
+    requires table { seat.old.table_id ≡ shared.now.table_id }
+    requires words { (shared.now.table_id.words ≡ word_count shared.now.key)
+        × (word ≡ ticket_word shared.now.key) }
+    requires turn { (hold : Hold) × (below : List Hold) × IsInnermost seat.old.me.0 hold below }
+    requires unread { seat.old.me.0.ticket ≡ Unread }
+    ensures seat { (seat.new.table_id ≡ seat.old.table_id) × (seat.new.id ≡ seat.old.id) }
+    ensures took { TakesTicket seat.old.me result seat.new.me }
+{
+    if shared.load::<ReadingTicket>(seat, word) < 1 << 63 {
+        Some(shared.fetch_add::<DrawingTicket>(seat, word, 1))
+    } else {
+        None
+    }
+}
+
+/// What the ticket word is.
+pub(crate) fn read_ticket(shared: &SharedTable, seat: &mut TableSeat, word: usize) -> u64
+    requires table { seat.old.table_id ≡ shared.now.table_id }
+    requires words { (shared.now.table_id.words ≡ word_count shared.now.key)
+        × (word ≡ ticket_word shared.now.key) }
+    requires unread { seat.old.me.0.ticket ≡ Unread }
+    ensures seat { (seat.new.table_id ≡ seat.old.table_id) × (seat.new.id ≡ seat.old.id) }
+    ensures seen { SeesTicket seat.old.me result seat.new.me }
+{
+    shared.load::<SeeingTicket>(seat, word)
+}
+
 /// Gives back the lock that was taken last, with its slot.
 pub(crate) fn give_lock<N: Turn>(
     shared: &SharedTable,
@@ -146,7 +190,9 @@ pub(crate) fn give_lock<N: Turn>(
     requires words { shared.now.table_id.words ≡ word_count shared.now.key }
     requires lock { (lock < lock_count shared.now.key)
         × IsTrue (is_lock shared.now.key (lock_named shared.now.key lock)) }
-    requires turn { (N.entry ≡ entry_given lost.now seat.old.me.1) × (N.kept ≡ strand.now.items) }
+    requires turn { (N.entry
+        ≡ numbered_entry seat.old.me.0 (entry_given lost.now seat.old.me.1))
+        × (N.kept ≡ strand.now.items) }
     requires may { (behind : Behind) × (slots : List (ℕ × Behind)) × (hold : Hold)
         × (below : List Hold) × (seat.old.me.1 ≡ (lock, behind) ∷ slots)
         × IsInnermost seat.old.me.0 hold below × (hold.lock ≡ lock)
@@ -178,7 +224,7 @@ pub(crate) fn lose_lock<N: Caller>(
         × (seat.old.me.1 ≡ (lock, behind) ∷ rest seat.old.me.1)
         × IsInnermost seat.old.me.0 hold below × (hold.lock ≡ lock)
         × MayGive shared.now.key seat.old.me.0 hold
-        (entry_by N.cpu N.call part) seat.old.me.0.kept behind
+        (entry_by (ticket_of seat.old.me.0) N.cpu N.call part) seat.old.me.0.kept behind
         × (seat.old.me.0.notes ≡ notes ∷ notes_below)
         × NotesFit shared.now.key seat.old.me.0 hold part notes }
     ensures seat { (seat.new.table_id ≡ seat.old.table_id) × (seat.new.id ≡ seat.old.id) }

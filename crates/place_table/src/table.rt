@@ -1,11 +1,11 @@
 //! The table that the CPUs of a map share.
 
-ghost use Rattle.std.specs.Prelude.{◌≡◌, ◌+◌, ◌*◌, ◌<◌, ◌^◌, true, [], MatchOption, IsTrue, if◌then◌else◌};
+ghost use Rattle.std.specs.Prelude.{ℕ, ◌≡◌, ◌+◌, ◌*◌, ◌<◌, ◌^◌, true, [], MatchOption, IsTrue, if◌then◌else◌};
 ghost use Rattle.map_types.specs.Kind.{is_lru};
 ghost use Rattle.place_words.specs.Locks.{lock_number, lock_count, is_lock};
 ghost use Rattle.place_table.specs.Views.{is_among};
-ghost use Rattle.place_table.specs.Words.{word_count, owner_word, home_word, bit_word};
-ghost use Rattle.place_table.specs.Passes.{IsPassOf, HasBegun, HasOnlySpares, begun, CanTake, TookLock, CanGive, CanGiveSome, MayGiveBack, Gave, GaveSome, GaveBack, CanClaim, Claimed, CanSettle, Settled, CanAttach, Attached, Detached, CanMark, Marked, CanRehome, Rehomed, CanClear, CanLook, Cleared, SawBit, SawOwner, SawHome};
+ghost use Rattle.place_table.specs.Words.{word_count, owner_word, home_word, bit_word, ticket_word};
+ghost use Rattle.place_table.specs.Passes.{IsPassOf, HasBegun, HasOnlySpares, begun, CanTake, TookLock, CanGive, CanGiveSome, MayGiveBack, Gave, GaveSome, GaveBack, CanClaim, Claimed, CanSettle, Settled, CanAttach, Attached, Detached, CanMark, Marked, CanRehome, Rehomed, CanClear, CanLook, Cleared, SawBit, SawOwner, SawHome, SawTicket, IsInNoCall};
 
 use crate::content::{Behind, Content};
 use crate::homes::rehome_word;
@@ -14,8 +14,8 @@ use crate::pass::Pass;
 use crate::points::{At, Points};
 use crate::rule::Law;
 use crate::steps::{
-    Recorded, clear_bit, give_lock, lose_lock, read_bit, read_home, read_owner, record_turn,
-    set_bit, take_lock, unload,
+    Recorded, clear_bit, give_lock, kept_with, lose_lock, read_bit, read_home, read_owner,
+    read_ticket, record_turn, set_bit, take_lock, take_ticket, unload,
 };
 use crate::view::View;
 use atomic_table::Table;
@@ -114,8 +114,9 @@ impl PlaceTable {
         }
     }
 
-    /// Gives back the lock that the pass took last, with a content to which an allowed part leads. The part is recorded
-    /// where there is memory for it. Where there is none, or no part, the record of this lock's turns is lost for good.
+    /// Gives back the lock that the pass took last, with a content to which an allowed part leads. A ticket is drawn for the
+    /// turn first, and the part is recorded with it where there is memory for that. Where there is none, or no part, or the
+    /// ticket word is found at 2^63 or more, the record of this lock's turns is lost for good.
     pub fn give<G: Gate>(
         &self,
         pass: &mut Pass,
@@ -156,7 +157,9 @@ impl PlaceTable {
     {
         let shared = &self.table.shared;
         let number = lock_number(&self.shape, lock);
+        let ticket = take_ticket(shared, &mut pass.seat, self.ticket_word());
         let entry = Entry {
+            ticket: ticket.unwrap_or(0),
             cpu: pass.cpu,
             call: pass.call,
             part,
@@ -166,6 +169,7 @@ impl PlaceTable {
             number as usize,
             Behind::nothing(),
         );
+        let history = kept_with(&ticket, history);
         let Recorded { history, lost } = record_turn(&mut pass.strand, history, lock, entry);
         // What comes out is the empty slot from above.
         let _ = shared.exchange(
@@ -186,6 +190,7 @@ impl PlaceTable {
     {
         let shared = &self.table.shared;
         let number = lock_number(&self.shape, lock);
+        let _ = take_ticket(shared, &mut pass.seat, self.ticket_word());
         // What comes out has no content, and its history is given up.
         let _ = shared.exchange(
             &mut pass.seat,
@@ -310,6 +315,16 @@ impl PlaceTable {
         }
     }
 
+    /// What the ticket word is, by one load: what the pass knows it to have reached. The pass has all CPUs and is in no call.
+    pub fn ticket_now(&self, pass: &mut Pass) -> u64
+        requires table { IsPassOf self.now pass.old }
+        requires all_cpus { (c : ℕ) → c < self.now.shape.cpus → is_among c pass.old.view.cpus ≡ true }
+        requires in_no_call { IsInNoCall pass.old }
+        ensures { SawTicket pass.old pass.new result }
+    {
+        read_ticket(&self.table.shared, &mut pass.seat, self.ticket_word())
+    }
+
     /// How many locks are numbered.
     fn locks(&self) -> usize
         ensures exact { result ≡ lock_count self.now.shape }
@@ -340,5 +355,12 @@ impl PlaceTable {
         ensures { result ≡ bit_word self.now.shape element }
     {
         self.locks() + 2 * self.shape.elements as usize + element as usize
+    }
+
+    /// The word that tickets are drawn from.
+    fn ticket_word(&self) -> usize
+        ensures { result ≡ ticket_word self.now.shape }
+    {
+        self.locks() + 3 * self.shape.elements as usize
     }
 }

@@ -79,6 +79,16 @@ pub struct WordStep {
     pub left: u64,
 }
 
+/// How far the turn of the lock taken last is with its ticket, which is drawn before that lock is given back: the ticket word wasn't
+/// read yet; it was read as less than 2^63, and the pass is about to draw; a ticket was drawn; or it was read as 2^63 or more, and
+/// none is drawn.
+pub enum Ticket {
+    Unread,
+    Drawing,
+    Drawn(u64),
+    Refused,
+}
+
 /// What was done and read while a lock was the last one taken of those that are held, the last first; but what was flushed in the
 /// order in which it was told.
 pub struct Notes {
@@ -128,6 +138,12 @@ pub struct View {
     /// Empty unless the pass has all CPUs. What stands first of a lock or an element counts.
     pub known: LinkedList<Known>,
     pub bits: LinkedList<BitSeen>,
+    /// How far the turn of the lock taken last is with its ticket. `Unread` where no lock is held.
+    pub ticket: Ticket,
+    /// A number that the ticket word has reached.
+    pub reached: u64,
+    /// At least as many as the turns of the pass's strands that got no ticket.
+    pub refused: u64,
     /// The turns of the current strand, and those of them that are recorded.
     pub steps: LinkedList<Turned>,
     pub kept: LinkedList<StrandStep>,

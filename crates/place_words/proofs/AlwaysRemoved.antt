@@ -238,7 +238,7 @@ AreFineLogs state = (lock : DomainId) → All (λ (entry : Entry). FindsNoneHeld
 turned_fine : (shape : Shape) (cpu number : ℕ) (turn : Turn) (state : State) → FindsNoneHeld turn.part → AreFineLogs state → AreFineLogs (turned shape cpu number turn state)
 turned_fine shape cpu number turn state fine logs lock = by (is_same_lock turn.lock lock)
   where
-    by : (same : Bool) → All (λ (entry : Entry). FindsNoneHeld entry.part) (cond same (state.logs lock ++ (record { cpu = cpu; call = number; part = turn.part }) ∷ []) (state.logs lock))
+    by : (same : Bool) → All (λ (entry : Entry). FindsNoneHeld entry.part) (cond same (state.logs lock ++ (record { ticket = state.next_ticket; cpu = cpu; call = number; part = turn.part }) ∷ []) (state.logs lock))
     by true = All-append IsFineEntry (state.logs lock) _ (logs lock) (All-cons IsFineEntry _ [] fine (All-nil IsFineEntry))
     by false = logs lock
 

@@ -208,9 +208,9 @@ module _ (shape : Shape) (Passes : Side → List ℕ → List ℕ → Type 0) wh
     turned_keeps : (cpu number : ℕ) → cpu < shape.cpus → (turn : Turn) (state : State) → Writes Passes turn.part → BucketsAre state → BucketsAre (turned shape cpu number turn state)
     turned_keeps cpu number within turn state pass are bucket = by (is_same_lock turn.lock (Bucket bucket))
       where
-        by : (b : Bool) → All (λ (body : Stored). P body) (unwrap_or (bucket_in (content shape (Bucket bucket) (cond b (state.logs (Bucket bucket) ++ (record { cpu = cpu; call = number; part = turn.part }) ∷ []) (state.logs (Bucket bucket))))) [])
+        by : (b : Bool) → All (λ (body : Stored). P body) (unwrap_or (bucket_in (content shape (Bucket bucket) (cond b (state.logs (Bucket bucket) ++ (record { ticket = state.next_ticket; cpu = cpu; call = number; part = turn.part }) ∷ []) (state.logs (Bucket bucket))))) [])
         by true =
-            let lies = content_more shape (Bucket bucket) (state.logs (Bucket bucket)) (record { cpu = cpu; call = number; part = turn.part }) ∙ ap (content_after shape cpu turn.part) (lies_a_bucket shape state bucket) in
+            let lies = content_more shape (Bucket bucket) (state.logs (Bucket bucket)) (record { ticket = state.next_ticket; cpu = cpu; call = number; part = turn.part }) ∙ ap (content_after shape cpu turn.part) (lies_a_bucket shape state bucket) in
             subst (λ (here : Content). All (λ (body : Stored). P body) (unwrap_or (bucket_in here) [])) (sym lies) (content_keeps cpu within turn.part pass (bucket_at shape state bucket) (are bucket))
         by false = are bucket
 

@@ -1,9 +1,9 @@
 -- On a map that doesn't evict each call on one key does in serial order what the rules say: its turns are a trace of it with its
 -- reply, and each may be made at its place.
-use Rattle.std.proofs.Common.{◌≡◌, ◌≢◌, ◌⊎◌, ℕ, zero, suc, ◌+◌, ◌<◌, ◌≤◌, Bool, true, false, cond, eqb, ltb, List, [], ◌∷◌, ◌++◌, map, refl, ap, ◌∙◌, sym, subst, arith, inl, inr, ⊎_elim}
+use Rattle.std.proofs.Common.{◌≡◌, ◌≢◌, ℕ, ◌≤◌, Bool, true, false, cond, eqb, List, [], ◌∷◌, ◌++◌, map, refl, ap, ◌∙◌, sym, subst, inl, inr}
 use Rattle.std.proofs.Math.Path.{fun_ext}
 use Rattle.std.specs.Prelude.{Option, None, Some, MatchOption, IsTrue, IsFalse, slice_get, unwrap_or, option_map, option_to_list, nat_lt}
-use Rattle.std.proofs.lemmas.Bool.{cases_Bool, eqb-true, eqb-false, ltb-true, ltb-false}
+use Rattle.std.proofs.lemmas.Bool.{eqb-true, eqb-false, ltb-true, ltb-false}
 use Rattle.std.proofs.lemmas.Option.{none-some, same_Some}
 use Rattle.map_types.specs.declared.attr.Shape.{Shape}
 use Rattle.map_types.specs.declared.call.Verb.{Verb}
@@ -13,7 +13,6 @@ use Rattle.map_types.specs.declared.kind.DomainId.TheVariants.{Bucket, Freelist}
 use Rattle.map_types.specs.declared.kind.Side.{Side}
 use Rattle.map_types.specs.declared.kind.Side.TheVariants.{Sys}
 use Rattle.map_types.specs.declared.refusal.Errno.TheVariants.{Einval}
-use Rattle.map_types.specs.declared.reply.Reply.{Reply}
 use Rattle.map_types.specs.declared.reply.Reply.TheVariants.{Refused}
 use Rattle.map_types.specs.Kind.{is_lru, is_percpu}
 use Rattle.map_types.specs.Sides.{value_read}
@@ -29,10 +28,10 @@ use Rattle.place_words.specs.declared.history.Part.TheVariants as parts
 use Rattle.place_words.specs.Bodies.{present}
 use Rattle.place_words.specs.Buckets.{AllowsInBucket, AllowsPut}
 use Rattle.map_types.specs.ElementLists.{IsHead}
-use Rattle.place_words.specs.Histories.{Content, Allows, content, content_after, opening_content, replayed, in_bucket, on_freelist, in_locals, in_global, in_own, bucket_in, freelist_in}
+use Rattle.place_words.specs.Histories.{Content, Allows, content_after, opening_content, replayed, in_bucket, on_freelist, in_locals, in_global, in_own, bucket_in, freelist_in}
 use Rattle.place_words.specs.Locks.{is_same_lock}
 use Rattle.place_words.specs.Logs.{State, lies_in, bucket_at, freelist_at, present_in, Taking, popped, popped_or, Does, first_does, put_present, put_popped, puts_in, plain_does, got_by, taken_out, key_does}
-use Rattle.place_words.specs.PlainTraces.{IsPlainTrace, IsUpdateTrace, IsPutTrace, LooksFor, Pops, found_empty, pushes, element_gone, reply_of_put}
+use Rattle.place_words.specs.PlainTraces.{IsPlainTrace, LooksFor, found_empty, pushes, element_gone}
 use Rattle.place_words.specs.Turns.{Turn, ring, on_bucket_of, on_freelist_of, bucket_of_key, after_turn, after_turns, AreAllowed}
 
 -- What lies under a bucket's lock is a bucket, and under a freelist's a freelist

@@ -26,9 +26,9 @@ shape = lru_hash 2 1 true
 
 unfoldable pub local_0 : List Entry
 local_0 =
-    entry 0 1 (parts.Local (local.Refill 82610235 ([]) (1 ∷ 0 ∷ []) (Some 0)))
-    ∷ entry 0 2 (parts.Local (local.Pop 3750671035 1))
-    ∷ entry 0 4 (parts.Local (local.Refill 3143674318 ((visit 0 true) ∷ (visit 1 false) ∷ []) (1 ∷ []) (Some 1)))
+    entry 1 0 1 (parts.Local (local.Refill 82610235 ([]) (1 ∷ 0 ∷ []) (Some 0)))
+    ∷ entry 3 0 2 (parts.Local (local.Pop 3750671035 1))
+    ∷ entry 8 0 4 (parts.Local (local.Refill 3143674318 ((visit 0 true) ∷ (visit 1 false) ∷ []) (1 ∷ []) (Some 1)))
     ∷ []
 
 local_0_is_legal : IsLegal shape (Local 0) local_0
@@ -41,8 +41,8 @@ local_0_leads = refl
 
 unfoldable pub global_lists : List Entry
 global_lists =
-    entry 0 1 (parts.Global (global.Turn ([]) ([]) ([]) (1 ∷ 0 ∷ []) (Some (record { target = 126; looks = []; forced = [] }))))
-    ∷ entry 0 4 (parts.Global (global.Turn ((flush 0 82610235 true) ∷ (flush 1 3750671035 false) ∷ []) ([]) ((visit 1 false) ∷ []) ([]) (Some (record { target = 128; looks = (look 1 false (Some Removed)) ∷ []; forced = [] }))))
+    entry 0 0 1 (parts.Global (global.Turn ([]) ([]) ([]) (1 ∷ 0 ∷ []) (Some (record { target = 126; looks = []; forced = [] }))))
+    ∷ entry 7 0 4 (parts.Global (global.Turn ((flush 0 82610235 true) ∷ (flush 1 3750671035 false) ∷ []) ([]) ((visit 1 false) ∷ []) ([]) (Some (record { target = 128; looks = (look 1 false (Some Removed)) ∷ []; forced = [] }))))
     ∷ []
 
 global_lists_is_legal : IsLegal shape (Global) global_lists
@@ -55,8 +55,8 @@ global_lists_leads = refl
 
 unfoldable pub bucket_0 : List Entry
 bucket_0 =
-    entry 0 4 (parts.Bucket (Update Prog 0 (3 ∷ []) (195 ∷ []) (Some 1) (puts.Added 1)))
-    ∷ entry 0 7 (parts.Bucket (Lookup Prog (3 ∷ []) (Some (1, 195 ∷ []))))
+    entry 9 0 4 (parts.Bucket (Update Prog 0 (3 ∷ []) (195 ∷ []) (Some 1) (puts.Added 1)))
+    ∷ entry 12 0 7 (parts.Bucket (Lookup Prog (3 ∷ []) (Some (1, 195 ∷ []))))
     ∷ []
 
 bucket_0_is_legal : IsLegal shape (Bucket 0) bucket_0
@@ -69,12 +69,12 @@ bucket_0_leads = refl
 
 unfoldable pub bucket_1 : List Entry
 bucket_1 =
-    entry 0 1 (parts.Bucket (Update Prog 0 (1 ∷ []) (161 ∷ []) (Some 0) (puts.Added 0)))
-    ∷ entry 0 2 (parts.Bucket (Update Prog 0 (2 ∷ []) (178 ∷ []) (Some 1) (puts.Added 1)))
-    ∷ entry 0 3 (parts.Bucket (Lookup Prog (1 ∷ []) (Some (0, 161 ∷ []))))
-    ∷ entry 0 4 (parts.Bucket (Evict 1 Removed))
-    ∷ entry 0 5 (parts.Bucket (Lookup Prog (1 ∷ []) (Some (0, 161 ∷ []))))
-    ∷ entry 0 6 (parts.Bucket (Lookup Prog (2 ∷ []) None))
+    entry 2 0 1 (parts.Bucket (Update Prog 0 (1 ∷ []) (161 ∷ []) (Some 0) (puts.Added 0)))
+    ∷ entry 4 0 2 (parts.Bucket (Update Prog 0 (2 ∷ []) (178 ∷ []) (Some 1) (puts.Added 1)))
+    ∷ entry 5 0 3 (parts.Bucket (Lookup Prog (1 ∷ []) (Some (0, 161 ∷ []))))
+    ∷ entry 6 0 4 (parts.Bucket (Evict 1 Removed))
+    ∷ entry 10 0 5 (parts.Bucket (Lookup Prog (1 ∷ []) (Some (0, 161 ∷ []))))
+    ∷ entry 11 0 6 (parts.Bucket (Lookup Prog (2 ∷ []) None))
     ∷ []
 
 bucket_1_is_legal : IsLegal shape (Bucket 1) bucket_1

@@ -25,9 +25,9 @@ shape = lru_hash 2 1 false
 
 unfoldable pub lru_0 : List Entry
 lru_0 =
-    entry 0 1 (parts.Own (own.Turn 82610235 ([]) ([]) None (Some 1)))
-    ∷ entry 0 2 (parts.Own (own.Turn 3750671035 ([]) ((visit 1 false) ∷ []) None (Some 0)))
-    ∷ entry 0 5 (parts.Own (own.Turn 3143674318 ([]) ((visit 1 true) ∷ (visit 0 true) ∷ []) (Some (record { target = 4; looks = []; forced = (attempt 1 Removed) ∷ [] })) (Some 1)))
+    entry 0 0 1 (parts.Own (own.Turn 82610235 ([]) ([]) None (Some 1)))
+    ∷ entry 2 0 2 (parts.Own (own.Turn 3750671035 ([]) ((visit 1 false) ∷ []) None (Some 0)))
+    ∷ entry 7 0 5 (parts.Own (own.Turn 3143674318 ([]) ((visit 1 true) ∷ (visit 0 true) ∷ []) (Some (record { target = 4; looks = []; forced = (attempt 1 Removed) ∷ [] })) (Some 1)))
     ∷ []
 
 lru_0_is_legal : IsLegal shape (CpuLru 0) lru_0
@@ -40,8 +40,8 @@ lru_0_leads = refl
 
 unfoldable pub bucket_0 : List Entry
 bucket_0 =
-    entry 0 5 (parts.Bucket (Update Prog 0 (3 ∷ []) (195 ∷ []) (Some 1) (puts.Added 1)))
-    ∷ entry 0 8 (parts.Bucket (Lookup Prog (3 ∷ []) (Some (1, 195 ∷ []))))
+    entry 8 0 5 (parts.Bucket (Update Prog 0 (3 ∷ []) (195 ∷ []) (Some 1) (puts.Added 1)))
+    ∷ entry 11 0 8 (parts.Bucket (Lookup Prog (3 ∷ []) (Some (1, 195 ∷ []))))
     ∷ []
 
 bucket_0_is_legal : IsLegal shape (Bucket 0) bucket_0
@@ -54,13 +54,13 @@ bucket_0_leads = refl
 
 unfoldable pub bucket_1 : List Entry
 bucket_1 =
-    entry 0 1 (parts.Bucket (Update Prog 0 (1 ∷ []) (161 ∷ []) (Some 1) (puts.Added 1)))
-    ∷ entry 0 2 (parts.Bucket (Update Prog 0 (2 ∷ []) (178 ∷ []) (Some 0) (puts.Added 0)))
-    ∷ entry 0 3 (parts.Bucket (Lookup Prog (1 ∷ []) (Some (1, 161 ∷ []))))
-    ∷ entry 0 4 (parts.Bucket (Lookup Prog (2 ∷ []) (Some (0, 178 ∷ []))))
-    ∷ entry 0 5 (parts.Bucket (Evict 1 Removed))
-    ∷ entry 0 6 (parts.Bucket (Lookup Prog (1 ∷ []) None))
-    ∷ entry 0 7 (parts.Bucket (Lookup Prog (2 ∷ []) (Some (0, 178 ∷ []))))
+    entry 1 0 1 (parts.Bucket (Update Prog 0 (1 ∷ []) (161 ∷ []) (Some 1) (puts.Added 1)))
+    ∷ entry 3 0 2 (parts.Bucket (Update Prog 0 (2 ∷ []) (178 ∷ []) (Some 0) (puts.Added 0)))
+    ∷ entry 4 0 3 (parts.Bucket (Lookup Prog (1 ∷ []) (Some (1, 161 ∷ []))))
+    ∷ entry 5 0 4 (parts.Bucket (Lookup Prog (2 ∷ []) (Some (0, 178 ∷ []))))
+    ∷ entry 6 0 5 (parts.Bucket (Evict 1 Removed))
+    ∷ entry 9 0 6 (parts.Bucket (Lookup Prog (1 ∷ []) None))
+    ∷ entry 10 0 7 (parts.Bucket (Lookup Prog (2 ∷ []) (Some (0, 178 ∷ []))))
     ∷ []
 
 bucket_1_is_legal : IsLegal shape (Bucket 1) bucket_1

@@ -35,9 +35,9 @@ shape = lru_hash 1 2 true
 
 unfoldable pub local_0 : List Entry
 local_0 =
-    entry 0 1 (parts.Local (local.Refill 82610235 [] (0 ∷ []) (Some 0)))
-    ∷ entry 0 3 (parts.Local (local.Refill 3750671035 (visit 0 false ∷ []) [] None))
-    ∷ entry 0 3 (parts.Local (local.Steal Nothing [] []))
+    entry 1 0 1 (parts.Local (local.Refill 82610235 [] (0 ∷ []) (Some 0)))
+    ∷ entry 7 0 3 (parts.Local (local.Refill 3750671035 (visit 0 false ∷ []) [] None))
+    ∷ entry 8 0 3 (parts.Local (local.Steal Nothing [] []))
     ∷ []
 
 local_0_is_legal : IsLegal shape (Local 0) local_0
@@ -65,7 +65,7 @@ unfolding replayed AllAllowed rotated active_visited active_rotated inactive_ord
 local_0_leads = refl
 
 unfoldable pub local_1 : List Entry
-local_1 = entry 0 3 (parts.Local (local.Steal Nothing [] [])) ∷ []
+local_1 = entry 9 0 3 (parts.Local (local.Steal Nothing [] [])) ∷ []
 
 local_1_is_legal : IsLegal shape (Local 1) local_1
 unfolding replayed AllAllowed rotated active_visited active_rotated inactive_order inactive_visited inactive_rotated after_looks after_tries shrunk with_flushed own_after local_after global_after AllowsInBucket bucket_after opening_stack opening_spares opening_owner opening_free shape local_1
@@ -83,9 +83,9 @@ local_1_is_legal = (
 
 unfoldable pub global_lists : List Entry
 global_lists =
-    entry 0 1 (parts.Global (global.Turn [] [] [] (0 ∷ []) (Some (record { target = 127; looks = []; forced = [] }))))
-    ∷ entry 0 3 (parts.Global (global.Turn (flush 0 82610235 false ∷ []) [] (visit 0 false ∷ []) [] (Some (record { target = 128; looks = look 0 false (Some (Held 1)) ∷ []; forced = attempt 0 (Held 1) ∷ [] }))))
-    ∷ entry 1 2 (parts.Global (global.Push 0))
+    entry 0 0 1 (parts.Global (global.Turn [] [] [] (0 ∷ []) (Some (record { target = 127; looks = []; forced = [] }))))
+    ∷ entry 6 0 3 (parts.Global (global.Turn (flush 0 82610235 false ∷ []) [] (visit 0 false ∷ []) [] (Some (record { target = 128; looks = look 0 false (Some (Held 1)) ∷ []; forced = attempt 0 (Held 1) ∷ [] }))))
+    ∷ entry 10 1 2 (parts.Global (global.Push 0))
     ∷ []
 
 global_lists_is_legal : IsLegal shape Global global_lists
@@ -128,10 +128,10 @@ global_lists_lead = refl
 
 unfoldable pub bucket_0 : List Entry
 bucket_0 =
-    entry 0 1 (parts.Bucket (Update Prog 0 (1 ∷ []) (161 ∷ []) (Some 0) (puts.Added 0)))
-    ∷ entry 1 2 (parts.Bucket (Delete (1 ∷ []) (Some 0)))
-    ∷ entry 0 3 (parts.Bucket (Evict 0 (Held 1)))
-    ∷ entry 0 3 (parts.Bucket (Evict 0 (Held 1)))
+    entry 2 0 1 (parts.Bucket (Update Prog 0 (1 ∷ []) (161 ∷ []) (Some 0) (puts.Added 0)))
+    ∷ entry 3 1 2 (parts.Bucket (Delete (1 ∷ []) (Some 0)))
+    ∷ entry 4 0 3 (parts.Bucket (Evict 0 (Held 1)))
+    ∷ entry 5 0 3 (parts.Bucket (Evict 0 (Held 1)))
     ∷ []
 
 bucket_0_is_legal : IsLegal shape (Bucket 0) bucket_0

@@ -33,9 +33,9 @@ shape = lru_hash 2 2 false
 
 unfoldable pub lru_0 : List Entry
 lru_0 =
-    entry 0 1 (parts.Own (own.Turn 82610235 [] [] None (Some 0)))
-    ∷ entry 0 3 (parts.Own (own.Turn 3750671035 [] (visit 0 false ∷ []) (Some (record { target = 4; looks = look 0 false (Some (Held 1)) ∷ []; forced = attempt 0 (Held 1) ∷ [] })) None))
-    ∷ entry 1 2 (parts.Own (own.Push 0))
+    entry 0 0 1 (parts.Own (own.Turn 82610235 [] [] None (Some 0)))
+    ∷ entry 5 0 3 (parts.Own (own.Turn 3750671035 [] (visit 0 false ∷ []) (Some (record { target = 4; looks = look 0 false (Some (Held 1)) ∷ []; forced = attempt 0 (Held 1) ∷ [] })) None))
+    ∷ entry 6 1 2 (parts.Own (own.Push 0))
     ∷ []
 
 lru_0_is_legal : IsLegal shape (CpuLru 0) lru_0
@@ -65,10 +65,10 @@ lru_0_leads = refl
 
 unfoldable pub bucket_1 : List Entry
 bucket_1 =
-    entry 0 1 (parts.Bucket (Update Prog 0 (1 ∷ []) (161 ∷ []) (Some 0) (puts.Added 0)))
-    ∷ entry 1 2 (parts.Bucket (Delete (1 ∷ []) (Some 0)))
-    ∷ entry 0 3 (parts.Bucket (Evict 0 (Held 1)))
-    ∷ entry 0 3 (parts.Bucket (Evict 0 (Held 1)))
+    entry 1 0 1 (parts.Bucket (Update Prog 0 (1 ∷ []) (161 ∷ []) (Some 0) (puts.Added 0)))
+    ∷ entry 2 1 2 (parts.Bucket (Delete (1 ∷ []) (Some 0)))
+    ∷ entry 3 0 3 (parts.Bucket (Evict 0 (Held 1)))
+    ∷ entry 4 0 3 (parts.Bucket (Evict 0 (Held 1)))
     ∷ []
 
 bucket_1_is_legal : IsLegal shape (Bucket 1) bucket_1

@@ -109,7 +109,7 @@ chosen false x y is = absurd cc
 -- what lies under the lock of the turn
 pub lies_turned : (shape : Shape) (cpu number : ℕ) (turn : Turn) (state : State) → lies_in shape (turned shape cpu number turn state) turn.lock ≡ content_after shape cpu turn.part (lies_in shape state turn.lock)
 lies_turned shape cpu number turn state =
-    let entry : Entry = record { cpu = cpu; call = number; part = turn.part } in
+    let entry : Entry = record { ticket = state.next_ticket; cpu = cpu; call = number; part = turn.part } in
     ap (content shape turn.lock) (chosen (is_same_lock turn.lock turn.lock) (state.logs turn.lock ++ entry ∷ []) (state.logs turn.lock) (same_lock turn.lock))
     ∙ content_more shape turn.lock (state.logs turn.lock) entry
 

@@ -27,8 +27,8 @@ shape = lru_hash 1 2 true
 
 unfoldable pub local_0 : List Entry
 local_0 =
-    entry 0 1 (parts.Local (local.Refill 82610235 ([]) (0 ∷ []) (Some 0)))
-    ∷ entry 1 2 (parts.Local (local.Steal Nothing ((look 0 false (Some (Held 0))) ∷ []) ((attempt 0 (Held 0)) ∷ [])))
+    entry 1 0 1 (parts.Local (local.Refill 82610235 ([]) (0 ∷ []) (Some 0)))
+    ∷ entry 7 1 2 (parts.Local (local.Steal Nothing ((look 0 false (Some (Held 0))) ∷ []) ((attempt 0 (Held 0)) ∷ [])))
     ∷ []
 
 local_0_is_legal : IsLegal shape (Local 0) local_0
@@ -41,8 +41,8 @@ local_0_leads = refl
 
 unfoldable pub local_1 : List Entry
 local_1 =
-    entry 1 2 (parts.Local (local.Refill 3750671035 ([]) ([]) None))
-    ∷ entry 1 2 (parts.Local (local.Steal Nothing ([]) ([])))
+    entry 3 1 2 (parts.Local (local.Refill 3750671035 ([]) ([]) None))
+    ∷ entry 4 1 2 (parts.Local (local.Steal Nothing ([]) ([])))
     ∷ []
 
 local_1_is_legal : IsLegal shape (Local 1) local_1
@@ -55,8 +55,8 @@ local_1_leads = refl
 
 unfoldable pub global_lists : List Entry
 global_lists =
-    entry 0 1 (parts.Global (global.Turn ([]) ([]) ([]) (0 ∷ []) (Some (record { target = 127; looks = []; forced = [] }))))
-    ∷ entry 1 2 (parts.Global (global.Turn ([]) ([]) ([]) ([]) (Some (record { target = 128; looks = []; forced = [] }))))
+    entry 0 0 1 (parts.Global (global.Turn ([]) ([]) ([]) (0 ∷ []) (Some (record { target = 127; looks = []; forced = [] }))))
+    ∷ entry 2 1 2 (parts.Global (global.Turn ([]) ([]) ([]) ([]) (Some (record { target = 128; looks = []; forced = [] }))))
     ∷ []
 
 global_lists_is_legal : IsLegal shape (Global) global_lists
@@ -69,9 +69,9 @@ global_lists_leads = refl
 
 unfoldable pub bucket_0 : List Entry
 bucket_0 =
-    entry 1 2 (parts.Bucket (Evict 0 (Held 0)))
-    ∷ entry 1 2 (parts.Bucket (Evict 0 (Held 0)))
-    ∷ entry 0 1 (parts.Bucket (Update Prog 0 (1 ∷ []) (161 ∷ []) (Some 0) (puts.Added 0)))
+    entry 5 1 2 (parts.Bucket (Evict 0 (Held 0)))
+    ∷ entry 6 1 2 (parts.Bucket (Evict 0 (Held 0)))
+    ∷ entry 8 0 1 (parts.Bucket (Update Prog 0 (1 ∷ []) (161 ∷ []) (Some 0) (puts.Added 0)))
     ∷ []
 
 bucket_0_is_legal : IsLegal shape (Bucket 0) bucket_0

@@ -124,14 +124,14 @@ steps = step Global 1 ∷ step (Local 1) 0 ∷ step (Local 1) 1 ∷ step (Bucket
 second_names : NameAll histories 1 2 steps (refilling ++ stealing)
 unfolding histories step steps shape local_0 local_1 global_lists bucket_0 refilling from_itself evict_at from_other stealing
 second_names = (
-  record { lock = refl; entry = refl; earlier = refl },
+  record { lock = refl; ticket = 2; entry = refl; earlier = refl },
   (
-    record { lock = refl; entry = refl; earlier = refl },
+    record { lock = refl; ticket = 3; entry = refl; earlier = refl },
     (
-      record { lock = refl; entry = refl; earlier = refl },
+      record { lock = refl; ticket = 4; entry = refl; earlier = refl },
       (
-        record { lock = refl; entry = refl; earlier = refl },
-        (record { lock = refl; entry = refl; earlier = refl }, (record { lock = refl; entry = refl; earlier = refl }, tt)),
+        record { lock = refl; ticket = 5; entry = refl; earlier = refl },
+        (record { lock = refl; ticket = 6; entry = refl; earlier = refl }, (record { lock = refl; ticket = 7; entry = refl; earlier = refl }, tt)),
       ),
     ),
   ),

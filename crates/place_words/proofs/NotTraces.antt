@@ -36,7 +36,7 @@ one_turn_more chase = chase
 -- A refill flushes 0 and gets 1. Then 0 may be pushed as one that was flushed, and 1 may not, nor 0 once it is pending again or
 -- was stolen from there. A theft from the free list changes nothing of that.
 flushing : List Entry
-flushing = entry 0 1 (parts.Local (local.Refill 7 (visit 0 false ∷ []) (1 ∷ []) (Some 1))) ∷ entry 1 2 (parts.Local (local.Push 0 false)) ∷ []
+flushing = entry 0 0 1 (parts.Local (local.Refill 7 (visit 0 false ∷ []) (1 ∷ []) (Some 1))) ∷ entry 1 1 2 (parts.Local (local.Push 0 false)) ∷ []
 
 zero_flushed : ends_flushed 0 false flushing ≡ true
 unfolding flushing
@@ -46,14 +46,14 @@ one_not_flushed : ends_flushed 1 false flushing ≡ false
 unfolding flushing
 one_not_flushed = refl
 
-zero_again : ends_flushed 0 false (flushing ++ entry 0 3 (parts.Local (local.Add 8 0 0)) ∷ []) ≡ false
+zero_again : ends_flushed 0 false (flushing ++ entry 2 0 3 (parts.Local (local.Add 8 0 0)) ∷ []) ≡ false
 unfolding flushing
 zero_again = refl
 
-zero_stolen : ends_flushed 0 false (flushing ++ entry 1 3 (parts.Local (local.Steal (Pending 0) [] [])) ∷ []) ≡ false
+zero_stolen : ends_flushed 0 false (flushing ++ entry 2 1 3 (parts.Local (local.Steal (Pending 0) [] [])) ∷ []) ≡ false
 unfolding flushing
 zero_stolen = refl
 
-zero_taken : ends_flushed 0 false (flushing ++ entry 1 3 (parts.Local (local.Steal (Free 0) [] [])) ∷ []) ≡ true
+zero_taken : ends_flushed 0 false (flushing ++ entry 2 1 3 (parts.Local (local.Steal (Free 0) [] [])) ∷ []) ≡ true
 unfolding flushing
 zero_taken = refl

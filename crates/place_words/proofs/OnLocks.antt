@@ -95,9 +95,9 @@ ours_both shape (turn ∷ xs) ys first second = (first.0, ours_both shape xs ys 
 steals_turned : (shape : Shape) (cpu number : ℕ) (turn : Turn) (state : State) → HasCursor shape turn.part → StealsWithin shape state → StealsWithin shape (turned shape cpu number turn state)
 steals_turned shape cpu number turn state has steals on within = by (is_same_lock turn.lock (Local on))
   where
-    by : (b : Bool) → (unwrap_or (locals_in (content shape (Local on) (cond b (state.logs (Local on) ++ (record { cpu = cpu; call = number; part = turn.part }) ∷ []) (state.logs (Local on))))) (new_locals on)).steal < shape.cpus
+    by : (b : Bool) → (unwrap_or (locals_in (content shape (Local on) (cond b (state.logs (Local on) ++ (record { ticket = state.next_ticket; cpu = cpu; call = number; part = turn.part }) ∷ []) (state.logs (Local on))))) (new_locals on)).steal < shape.cpus
     by true =
-        let lies = content_more shape (Local on) (state.logs (Local on)) (record { cpu = cpu; call = number; part = turn.part }) ∙ ap (content_after shape cpu turn.part) (lies_locals shape state on) in
+        let lies = content_more shape (Local on) (state.logs (Local on)) (record { ticket = state.next_ticket; cpu = cpu; call = number; part = turn.part }) ∙ ap (content_after shape cpu turn.part) (lies_locals shape state on) in
         subst (λ (here : Content). (unwrap_or (locals_in here) (new_locals on)).steal < shape.cpus) (sym lies) (steal_after shape cpu turn.part (locals_at shape state on) (new_locals on) has (steals on within))
     by false = steals on within
 
@@ -244,7 +244,7 @@ turned_no_others shape cpu number turn state ours allowed none lock other = by (
         let empty : state.logs (CpuLru on) ≡ [] = none (CpuLru on) (ap (is_lock shape) set ∙ other) in
         never_pushed shape cpu on e (subst (λ (entries : List Entry). Allows shape cpu (parts.Own (own.Push e)) (content shape (CpuLru on) entries)) empty (subst (λ (t : Turn). Allows shape cpu t.part (lies_in shape state t.lock)) is allowed))
 
-    by : (b : Bool) → is_same_lock turn.lock lock ≡ b → cond b (state.logs lock ++ (record { cpu = cpu; call = number; part = turn.part }) ∷ []) (state.logs lock) ≡ []
+    by : (b : Bool) → is_same_lock turn.lock lock ≡ b → cond b (state.logs lock ++ (record { ticket = state.next_ticket; cpu = cpu; call = number; part = turn.part }) ∷ []) (state.logs lock) ≡ []
     by true same = absurd (here (one_lock turn.lock lock same) ours.1)
     by false apart = none lock other
 

@@ -38,9 +38,9 @@ module _ (shape : Shape) (apart : shape.common ≡ false) where
   own_keeps : (cpu number from : ℕ) (part : OwnPart) → ((set : ListSet) → 1 ≤ set_count (own_after part set)) → KeepsOwn cpu number (on_lock (CpuLru from) (parts.Own part) ∷ [])
   own_keeps cpu number from part leaves state kept on within = by (eqb from on)
     where
-      by : (b : Bool) → 1 ≤ set_count (unwrap_or (own_in (content shape (CpuLru on) (cond b (state.logs (CpuLru on) ++ (record { cpu = cpu; call = number; part = parts.Own part }) ∷ []) (state.logs (CpuLru on))))) (new_set []))
+      by : (b : Bool) → 1 ≤ set_count (unwrap_or (own_in (content shape (CpuLru on) (cond b (state.logs (CpuLru on) ++ (record { ticket = state.next_ticket; cpu = cpu; call = number; part = parts.Own part }) ∷ []) (state.logs (CpuLru on))))) (new_set []))
       by true =
-          let lies = content_more shape (CpuLru on) (state.logs (CpuLru on)) (record { cpu = cpu; call = number; part = parts.Own part }) ∙ ap (content_after shape cpu (parts.Own part)) (lies_own shape state on) in
+          let lies = content_more shape (CpuLru on) (state.logs (CpuLru on)) (record { ticket = state.next_ticket; cpu = cpu; call = number; part = parts.Own part }) ∙ ap (content_after shape cpu (parts.Own part)) (lies_own shape state on) in
           subst (λ (here : Content). 1 ≤ set_count (unwrap_or (own_in here) (new_set []))) (sym lies) (leaves (own_at shape state on))
       by false = kept on within
 

@@ -26,16 +26,16 @@ unfoldable pub shape : Shape
 shape = lru_hash 2 2 false
 
 unfoldable pub lru_0 : List Entry
-lru_0 = entry 0 1 (parts.Own (own.Turn 82610235 [] [] None (Some 0))) ∷ []
+lru_0 = entry 0 0 1 (parts.Own (own.Turn 82610235 [] [] None (Some 0))) ∷ []
 
 unfoldable pub lru_1 : List Entry
-lru_1 = entry 1 2 (parts.Own (own.Turn 3143674318 [] [] None (Some 1))) ∷ []
+lru_1 = entry 2 1 2 (parts.Own (own.Turn 3143674318 [] [] None (Some 1))) ∷ []
 
 unfoldable pub bucket_1 : List Entry
-bucket_1 = entry 0 1 (parts.Bucket (Update Prog 0 (1 ∷ []) (161 ∷ []) (Some 0) (puts.Added 0))) ∷ []
+bucket_1 = entry 1 0 1 (parts.Bucket (Update Prog 0 (1 ∷ []) (161 ∷ []) (Some 0) (puts.Added 0))) ∷ []
 
 unfoldable pub bucket_0 : List Entry
-bucket_0 = entry 1 2 (parts.Bucket (Update Prog 0 (3 ∷ []) (179 ∷ []) (Some 1) (puts.Added 1))) ∷ []
+bucket_0 = entry 3 1 2 (parts.Bucket (Update Prog 0 (3 ∷ []) (179 ∷ []) (Some 1) (puts.Added 1))) ∷ []
 
 lru_0_is_legal : IsLegal shape (CpuLru 0) lru_0
 unfolding replayed AllAllowed rotated active_visited active_rotated inactive_order inactive_visited inactive_rotated own_after AllowsInBucket bucket_after opening_stack opening_spares opening_owner opening_free shape lru_0

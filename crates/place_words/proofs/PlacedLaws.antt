@@ -41,15 +41,15 @@ module _ (shape : Shape) (cpu number : ℕ) where
   pub lies_after : (turn : Turn) (state : State) → lies_in shape (turned shape cpu number turn state) ≡ after_turn shape cpu (lies_in shape state) turn
   lies_after turn state = fun_ext (λ lock. by lock (is_same_lock turn.lock lock) refl)
     where
-      by : (lock : DomainId) (b : Bool) → is_same_lock turn.lock lock ≡ b → content shape lock (cond b (state.logs lock ++ (record { cpu = cpu; call = number; part = turn.part }) ∷ []) (state.logs lock)) ≡ cond b (content_after shape cpu turn.part (lies_in shape state lock)) (lies_in shape state lock)
-      by lock true same = content_more shape lock (state.logs lock) (record { cpu = cpu; call = number; part = turn.part })
+      by : (lock : DomainId) (b : Bool) → is_same_lock turn.lock lock ≡ b → content shape lock (cond b (state.logs lock ++ (record { ticket = state.next_ticket; cpu = cpu; call = number; part = turn.part }) ∷ []) (state.logs lock)) ≡ cond b (content_after shape cpu turn.part (lies_in shape state lock)) (lies_in shape state lock)
+      by lock true same = content_more shape lock (state.logs lock) (record { ticket = state.next_ticket; cpu = cpu; call = number; part = turn.part })
       by lock false other = refl
 
   pub turned_legal : (turn : Turn) (state : State) → AreLegal shape state → Allows shape cpu turn.part (lies_in shape state turn.lock) → AreLegal shape (turned shape cpu number turn state)
   turned_legal turn state legal allowed lock = by (is_same_lock turn.lock lock) refl
     where
-      by : (b : Bool) → is_same_lock turn.lock lock ≡ b → IsLegal shape lock (cond b (state.logs lock ++ (record { cpu = cpu; call = number; part = turn.part }) ∷ []) (state.logs lock))
-      by true same = legal_more shape lock (state.logs lock) (record { cpu = cpu; call = number; part = turn.part }) (legal lock)
+      by : (b : Bool) → is_same_lock turn.lock lock ≡ b → IsLegal shape lock (cond b (state.logs lock ++ (record { ticket = state.next_ticket; cpu = cpu; call = number; part = turn.part }) ∷ []) (state.logs lock))
+      by true same = legal_more shape lock (state.logs lock) (record { ticket = state.next_ticket; cpu = cpu; call = number; part = turn.part }) (legal lock)
           (subst (λ (l : DomainId). Allows shape cpu turn.part (lies_in shape state l)) (one_lock turn.lock lock same) allowed)
       by false other = legal lock
 

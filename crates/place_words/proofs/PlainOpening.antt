@@ -1,5 +1,5 @@
 -- In a new map that doesn't evict each element is on one freelist, or the spare of one CPU.
-use Rattle.std.proofs.Common.{◌≡◌, ◌≢◌, ◌⊎◌, ℕ, zero, suc, ◌+◌, ◌/◌, ◌<◌, ◌≤◌, Bool, true, false, cond, not, eqb, ltb, List, [], ◌∷◌, length, take, refl, ap, ◌∙◌, sym, subst, ⊎_elim, arith}
+use Rattle.std.proofs.Common.{◌≡◌, ◌≢◌, ℕ, zero, suc, ◌+◌, ◌/◌, ◌<◌, ◌≤◌, Bool, true, false, cond, not, eqb, ltb, List, [], ◌∷◌, length, take, refl, ap, ◌∙◌, sym, subst, ⊎_elim, arith}
 use Rattle.std.specs.Prelude.{None, Some, filter, option_to_list, slice_get, position}
 use Rattle.std.specs.List.{flat_map, range_with_len, position_or_len}
 use Rattle.std.proofs.Math.Nat.{zero-mul}

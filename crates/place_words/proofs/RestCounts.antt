@@ -1,33 +1,31 @@
 -- Where the elements of a map that evicts are between calls: each is on one list, and each is in a bucket or free, once.
-use Rattle.std.proofs.Common.{◌≡◌, ◌≢◌, ◌⊎◌, ℕ, zero, suc, ◌+◌, ◌<◌, ◌≤◌, Bool, true, false, cond, not, ◌&&◌, eqb, ltb, List, [], ◌∷◌, ◌++◌, map, length, refl, ap, ◌∙◌, sym, subst, ⊎_elim, inl, inr, arith}
-use Rattle.std.specs.Prelude.{Option, None, Some, MatchOption, filter, unwrap_or}
+use Rattle.std.proofs.Common.{◌≡◌, ℕ, zero, suc, ◌+◌, ◌<◌, ◌≤◌, Bool, true, false, cond, ◌&&◌, eqb, ltb, List, [], ◌∷◌, ◌++◌, map, length, refl, ap, ◌∙◌, ⊎_elim, arith}
+use Rattle.std.specs.Prelude.{filter}
 use Rattle.std.specs.List.{flat_map, range_with_len}
-use Rattle.std.proofs.lemmas.Bool.{cases_lt, cases_eq, lt-ltb, ne_eqb, eq-eqb, cond-true, cond-false}
+use Rattle.std.proofs.lemmas.Bool.{cases_eq, lt-ltb, ne_eqb, eq-eqb, cond-true, cond-false}
 use Rattle.std.proofs.lemmas.List.{length-map}
 use Rattle.std.proofs.lemmas.List.FromFn.{length-range_with_len}
 use Rattle.map_types.specs.declared.attr.Shape.{Shape}
 use Rattle.map_types.specs.declared.kind.DomainId.{DomainId}
-use Rattle.map_types.specs.declared.kind.DomainId.TheVariants.{Local, Global, CpuLru, Bucket, Freelist}
+use Rattle.map_types.specs.declared.kind.DomainId.TheVariants.{Local, Global, CpuLru, Bucket}
 use Rattle.map_types.specs.declared.row.Row.{Row}
 use Rattle.map_types.specs.ElementLists.{times, one}
 use Rattle.map_types.specs.Kind.{is_lru}
 use Rattle.map_types.specs.Listed.{elements_of}
 use Rattle.map_types.specs.Shape.{HasBounds}
-use Rattle.map_types.proofs.RowLemmas.{by_test, times_append}
+use Rattle.map_types.proofs.RowLemmas.{times_append}
 use Rattle.key_hash.specs.Bucket.{bucket_number}
 use Rattle.key_hash.proofs.Buckets.{bucket_number-lt}
 use Rattle.place_words.specs.Bodies.{numbers}
 use Rattle.place_words.specs.Histories.{Content, in_bucket, on_freelist, in_locals, in_global, in_own}
-use Rattle.place_words.specs.Locals.{LocalLists, new_locals}
 use Rattle.place_words.specs.Locks.{is_lock}
-use Rattle.place_words.specs.Logs.{State, lies_in, bucket_at, locals_at, globals_at, own_at, where_lock}
+use Rattle.place_words.specs.Logs.{State, lies_in, bucket_at, where_lock}
 use Rattle.place_words.specs.RowMoves.{rows_of}
-use Rattle.place_words.specs.Sets.{ListSet, new_set}
 use Rattle.place_words.specs.Takings.{listed_rows}
 use Rattle.place_words.proofs.EvictingDone.{IsAtRest}
 use Rattle.place_words.proofs.ListSums.{list_locks, locks_below, sum_over}
 use Rattle.place_words.proofs.RowCounts.{any, weight, rows_more, rows_append, rows_any}
-use Rattle.place_words.proofs.Settled.{bodies_at, is_of, elements_on, rows_on, on_lists, listed, IsFit}
+use Rattle.place_words.proofs.Settled.{is_of, elements_on, rows_on, listed}
 
 -- Sums over the first numbers
 

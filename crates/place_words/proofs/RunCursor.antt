@@ -64,13 +64,13 @@ replies_are = refl
 
 lru_0 : List Entry
 lru_0 =
-    entry 0 1 (parts.Own (own.Turn 82610235 ([]) ([]) None (Some 5)))
-    ∷ entry 0 2 (parts.Own (own.Turn 116015543 ([]) ((visit 5 false) ∷ []) None (Some 4)))
-    ∷ entry 0 3 (parts.Own (own.Turn 3116429366 ([]) ((visit 5 false) ∷ (visit 4 false) ∷ []) None (Some 3)))
-    ∷ entry 0 4 (parts.Own (own.Turn 3978532671 ([]) ((visit 5 false) ∷ (visit 4 false) ∷ (visit 3 false) ∷ []) None (Some 2)))
-    ∷ entry 0 5 (parts.Own (own.Turn 1429274276 ([]) ((visit 5 false) ∷ (visit 4 false) ∷ (visit 3 false) ∷ (visit 2 false) ∷ []) None (Some 1)))
-    ∷ entry 0 6 (parts.Own (own.Turn 3750671035 ([]) ((visit 5 false) ∷ (visit 4 false) ∷ (visit 3 false) ∷ (visit 2 false) ∷ []) None (Some 0)))
-    ∷ entry 0 9 (parts.Own (own.Turn 3143674318 ([]) ((visit 1 false) ∷ (visit 0 true) ∷ (visit 5 true) ∷ (visit 4 false) ∷ []) (Some (record { target = 4; looks = (look 4 false (Some Removed)) ∷ (look 3 false (Some Removed)) ∷ (look 2 false (Some Removed)) ∷ (look 1 false (Some Removed)) ∷ []; forced = [] })) (Some 1)))
+    entry 0 0 1 (parts.Own (own.Turn 82610235 ([]) ([]) None (Some 5)))
+    ∷ entry 2 0 2 (parts.Own (own.Turn 116015543 ([]) ((visit 5 false) ∷ []) None (Some 4)))
+    ∷ entry 4 0 3 (parts.Own (own.Turn 3116429366 ([]) ((visit 5 false) ∷ (visit 4 false) ∷ []) None (Some 3)))
+    ∷ entry 6 0 4 (parts.Own (own.Turn 3978532671 ([]) ((visit 5 false) ∷ (visit 4 false) ∷ (visit 3 false) ∷ []) None (Some 2)))
+    ∷ entry 8 0 5 (parts.Own (own.Turn 1429274276 ([]) ((visit 5 false) ∷ (visit 4 false) ∷ (visit 3 false) ∷ (visit 2 false) ∷ []) None (Some 1)))
+    ∷ entry 10 0 6 (parts.Own (own.Turn 3750671035 ([]) ((visit 5 false) ∷ (visit 4 false) ∷ (visit 3 false) ∷ (visit 2 false) ∷ []) None (Some 0)))
+    ∷ entry 18 0 9 (parts.Own (own.Turn 3143674318 ([]) ((visit 1 false) ∷ (visit 0 true) ∷ (visit 5 true) ∷ (visit 4 false) ∷ []) (Some (record { target = 4; looks = (look 4 false (Some Removed)) ∷ (look 3 false (Some Removed)) ∷ (look 2 false (Some Removed)) ∷ (look 1 false (Some Removed)) ∷ []; forced = [] })) (Some 1)))
     ∷ []
 
 lru_0_is : end.logs (CpuLru 0) ≡ lru_0
@@ -79,10 +79,10 @@ lru_0_is = refl
 
 bucket_3 : List Entry
 bucket_3 =
-    entry 0 1 (parts.Bucket (Update Prog 0 (1 ∷ []) (17 ∷ []) (Some 5) (puts.Added 5)))
-    ∷ entry 0 6 (parts.Bucket (Update Prog 0 (2 ∷ []) (22 ∷ []) (Some 0) (puts.Added 0)))
-    ∷ entry 0 7 (parts.Bucket (Lookup Prog (2 ∷ []) (Some (0, 22 ∷ []))))
-    ∷ entry 0 8 (parts.Bucket (Lookup Prog (1 ∷ []) (Some (5, 17 ∷ []))))
+    entry 1 0 1 (parts.Bucket (Update Prog 0 (1 ∷ []) (17 ∷ []) (Some 5) (puts.Added 5)))
+    ∷ entry 11 0 6 (parts.Bucket (Update Prog 0 (2 ∷ []) (22 ∷ []) (Some 0) (puts.Added 0)))
+    ∷ entry 12 0 7 (parts.Bucket (Lookup Prog (2 ∷ []) (Some (0, 22 ∷ []))))
+    ∷ entry 13 0 8 (parts.Bucket (Lookup Prog (1 ∷ []) (Some (5, 17 ∷ []))))
     ∷ []
 
 bucket_3_is : end.logs (Bucket 3) ≡ bucket_3
@@ -91,8 +91,8 @@ bucket_3_is = refl
 
 bucket_4 : List Entry
 bucket_4 =
-    entry 0 5 (parts.Bucket (Update Prog 0 (13 ∷ []) (21 ∷ []) (Some 1) (puts.Added 1)))
-    ∷ entry 0 9 (parts.Bucket (Evict 1 Removed))
+    entry 9 0 5 (parts.Bucket (Update Prog 0 (13 ∷ []) (21 ∷ []) (Some 1) (puts.Added 1)))
+    ∷ entry 17 0 9 (parts.Bucket (Evict 1 Removed))
     ∷ []
 
 bucket_4_is : end.logs (Bucket 4) ≡ bucket_4
@@ -101,9 +101,9 @@ bucket_4_is = refl
 
 bucket_6 : List Entry
 bucket_6 =
-    entry 0 3 (parts.Bucket (Update Prog 0 (11 ∷ []) (19 ∷ []) (Some 3) (puts.Added 3)))
-    ∷ entry 0 9 (parts.Bucket (Evict 3 Removed))
-    ∷ entry 0 9 (parts.Bucket (Update Prog 0 (3 ∷ []) (23 ∷ []) (Some 1) (puts.Added 1)))
+    entry 5 0 3 (parts.Bucket (Update Prog 0 (11 ∷ []) (19 ∷ []) (Some 3) (puts.Added 3)))
+    ∷ entry 15 0 9 (parts.Bucket (Evict 3 Removed))
+    ∷ entry 19 0 9 (parts.Bucket (Update Prog 0 (3 ∷ []) (23 ∷ []) (Some 1) (puts.Added 1)))
     ∷ []
 
 bucket_6_is : end.logs (Bucket 6) ≡ bucket_6
@@ -112,10 +112,10 @@ bucket_6_is = refl
 
 bucket_7 : List Entry
 bucket_7 =
-    entry 0 2 (parts.Bucket (Update Prog 0 (10 ∷ []) (18 ∷ []) (Some 4) (puts.Added 4)))
-    ∷ entry 0 4 (parts.Bucket (Update Prog 0 (12 ∷ []) (20 ∷ []) (Some 2) (puts.Added 2)))
-    ∷ entry 0 9 (parts.Bucket (Evict 4 Removed))
-    ∷ entry 0 9 (parts.Bucket (Evict 2 Removed))
+    entry 3 0 2 (parts.Bucket (Update Prog 0 (10 ∷ []) (18 ∷ []) (Some 4) (puts.Added 4)))
+    ∷ entry 7 0 4 (parts.Bucket (Update Prog 0 (12 ∷ []) (20 ∷ []) (Some 2) (puts.Added 2)))
+    ∷ entry 14 0 9 (parts.Bucket (Evict 4 Removed))
+    ∷ entry 16 0 9 (parts.Bucket (Evict 2 Removed))
     ∷ []
 
 bucket_7_is : end.logs (Bucket 7) ≡ bucket_7

@@ -60,9 +60,9 @@ replies_are = refl
 
 local_0 : List Entry
 local_0 =
-    entry 0 1 (parts.Local (local.Refill 82610235 ([]) (0 ∷ []) (Some 0)))
-    ∷ entry 0 2 (parts.Local (local.Refill 82610235 ((visit 0 false) ∷ []) (0 ∷ []) (Some 0)))
-    ∷ entry 0 2 (parts.Local (local.Push 0 true))
+    entry 1 0 1 (parts.Local (local.Refill 82610235 ([]) (0 ∷ []) (Some 0)))
+    ∷ entry 5 0 2 (parts.Local (local.Refill 82610235 ((visit 0 false) ∷ []) (0 ∷ []) (Some 0)))
+    ∷ entry 7 0 2 (parts.Local (local.Push 0 true))
     ∷ []
 
 local_0_is : end.logs (Local 0) ≡ local_0
@@ -71,8 +71,8 @@ local_0_is = refl
 
 global_lists : List Entry
 global_lists =
-    entry 0 1 (parts.Global (global.Turn ([]) ([]) ([]) (0 ∷ []) (Some (record { target = 127; looks = []; forced = [] }))))
-    ∷ entry 0 2 (parts.Global (global.Turn ((flush 0 82610235 false) ∷ []) ([]) ((visit 0 false) ∷ []) ([]) (Some (record { target = 128; looks = (look 0 false (Some Removed)) ∷ []; forced = [] }))))
+    entry 0 0 1 (parts.Global (global.Turn ([]) ([]) ([]) (0 ∷ []) (Some (record { target = 127; looks = []; forced = [] }))))
+    ∷ entry 4 0 2 (parts.Global (global.Turn ((flush 0 82610235 false) ∷ []) ([]) ((visit 0 false) ∷ []) ([]) (Some (record { target = 128; looks = (look 0 false (Some Removed)) ∷ []; forced = [] }))))
     ∷ []
 
 global_lists_is : end.logs Global ≡ global_lists
@@ -81,10 +81,10 @@ global_lists_is = refl
 
 bucket_0 : List Entry
 bucket_0 =
-    entry 0 1 (parts.Bucket (Update Prog 0 (1 ∷ []) (161 ∷ []) (Some 0) (puts.Added 0)))
-    ∷ entry 0 2 (parts.Bucket (Evict 0 Removed))
-    ∷ entry 0 2 (parts.Bucket (Update Prog 2 (1 ∷ []) (177 ∷ []) (Some 0) puts.Absent))
-    ∷ entry 0 3 (parts.Bucket (Lookup Prog (1 ∷ []) None))
+    entry 2 0 1 (parts.Bucket (Update Prog 0 (1 ∷ []) (161 ∷ []) (Some 0) (puts.Added 0)))
+    ∷ entry 3 0 2 (parts.Bucket (Evict 0 Removed))
+    ∷ entry 6 0 2 (parts.Bucket (Update Prog 2 (1 ∷ []) (177 ∷ []) (Some 0) puts.Absent))
+    ∷ entry 8 0 3 (parts.Bucket (Lookup Prog (1 ∷ []) None))
     ∷ []
 
 bucket_0_is : end.logs (Bucket 0) ≡ bucket_0

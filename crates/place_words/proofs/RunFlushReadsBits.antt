@@ -22,7 +22,6 @@ use Rattle.place_words.specs.Histories.{replayed}
 use Rattle.map_types.specs.ElementLists.{put}
 use Rattle.place_words.specs.Choices.{own_turn, shrink_of, global_turn}
 use Rattle.place_words.specs.Logs.{State, does, key_does, taken_own, refilled, acquired, freeing, run, answers, finals_of, new_state}
-use Rattle.place_words.proofs.Worked.{flush}
 use Rattle.place_words.proofs.FlushReadsBits.{local_0, bucket_0, bucket_1, global_lists}
 
 shape : Shape

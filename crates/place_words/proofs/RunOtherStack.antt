@@ -56,8 +56,8 @@ replies_are = refl
 
 bucket_0 : List Entry
 bucket_0 =
-    entry 0 1 (parts.Bucket (Update Prog 0 (1 ∷ []) (170 ∷ []) None (puts.Added 2)))
-    ∷ entry 0 2 (parts.Bucket (Delete (1 ∷ []) (Some 2)))
+    entry 2 0 1 (parts.Bucket (Update Prog 0 (1 ∷ []) (170 ∷ []) None (puts.Added 2)))
+    ∷ entry 4 0 2 (parts.Bucket (Delete (1 ∷ []) (Some 2)))
     ∷ []
 
 bucket_0_is : end.logs (Bucket 0) ≡ bucket_0
@@ -66,8 +66,8 @@ bucket_0_is = refl
 
 freelist_0 : List Entry
 freelist_0 =
-    entry 0 1 (parts.Free FoundEmpty)
-    ∷ entry 0 2 (parts.Free (Pushed 2))
+    entry 0 0 1 (parts.Free FoundEmpty)
+    ∷ entry 3 0 2 (parts.Free (Pushed 2))
     ∷ []
 
 freelist_0_is : end.logs (Freelist 0) ≡ freelist_0
@@ -76,7 +76,7 @@ freelist_0_is = refl
 
 freelist_1 : List Entry
 freelist_1 =
-    entry 0 1 (parts.Free (Popped 2))
+    entry 1 0 1 (parts.Free (Popped 2))
     ∷ []
 
 freelist_1_is : end.logs (Freelist 1) ≡ freelist_1

@@ -60,9 +60,9 @@ replies_are = refl
 
 local_0 : List Entry
 local_0 =
-    entry 0 1 (parts.Local (local.Refill 82610235 ([]) (1 ∷ 0 ∷ []) (Some 0)))
-    ∷ entry 0 2 (parts.Local (local.Pop 82610235 1))
-    ∷ entry 0 2 (parts.Local (local.Push 1 true))
+    entry 1 0 1 (parts.Local (local.Refill 82610235 ([]) (1 ∷ 0 ∷ []) (Some 0)))
+    ∷ entry 3 0 2 (parts.Local (local.Pop 82610235 1))
+    ∷ entry 5 0 2 (parts.Local (local.Push 1 true))
     ∷ []
 
 local_0_is : end.logs (Local 0) ≡ local_0
@@ -71,7 +71,7 @@ local_0_is = refl
 
 global_lists : List Entry
 global_lists =
-    entry 0 1 (parts.Global (global.Turn ([]) ([]) ([]) (1 ∷ 0 ∷ []) (Some (record { target = 126; looks = []; forced = [] }))))
+    entry 0 0 1 (parts.Global (global.Turn ([]) ([]) ([]) (1 ∷ 0 ∷ []) (Some (record { target = 126; looks = []; forced = [] }))))
     ∷ []
 
 global_lists_is : end.logs Global ≡ global_lists
@@ -80,11 +80,11 @@ global_lists_is = refl
 
 bucket_1 : List Entry
 bucket_1 =
-    entry 0 1 (parts.Bucket (Update Prog 0 (1 ∷ []) (161 ∷ []) (Some 0) (puts.Added 0)))
-    ∷ entry 0 2 (parts.Bucket (Update Prog 0 (1 ∷ []) (162 ∷ []) (Some 1) (puts.Written 0)))
-    ∷ entry 0 3 (parts.Bucket (Lookup Prog (1 ∷ []) (Some (0, 162 ∷ []))))
-    ∷ entry 0 4 (parts.Bucket (Update Prog 2 (1 ∷ []) (163 ∷ []) None (puts.Written 0)))
-    ∷ entry 0 5 (parts.Bucket (Lookup Sys (1 ∷ []) (Some (0, 163 ∷ 0 ∷ 0 ∷ 0 ∷ 0 ∷ 0 ∷ 0 ∷ 0 ∷ []))))
+    entry 2 0 1 (parts.Bucket (Update Prog 0 (1 ∷ []) (161 ∷ []) (Some 0) (puts.Added 0)))
+    ∷ entry 4 0 2 (parts.Bucket (Update Prog 0 (1 ∷ []) (162 ∷ []) (Some 1) (puts.Written 0)))
+    ∷ entry 6 0 3 (parts.Bucket (Lookup Prog (1 ∷ []) (Some (0, 162 ∷ []))))
+    ∷ entry 7 0 4 (parts.Bucket (Update Prog 2 (1 ∷ []) (163 ∷ []) None (puts.Written 0)))
+    ∷ entry 8 0 5 (parts.Bucket (Lookup Sys (1 ∷ []) (Some (0, 163 ∷ 0 ∷ 0 ∷ 0 ∷ 0 ∷ 0 ∷ 0 ∷ 0 ∷ []))))
     ∷ []
 
 bucket_1_is : end.logs (Bucket 1) ≡ bucket_1

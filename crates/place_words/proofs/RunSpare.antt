@@ -59,10 +59,10 @@ replies_are = refl
 
 bucket_0 : List Entry
 bucket_0 =
-    entry 0 1 (parts.Bucket (Update Prog 0 (1 ∷ []) (170 ∷ []) None (puts.Added 0)))
-    ∷ entry 0 2 (parts.Bucket (Update Prog 0 (2 ∷ []) (187 ∷ []) None puts.Full))
-    ∷ entry 0 3 (parts.Bucket (Update Prog 0 (1 ∷ []) (204 ∷ []) None (puts.Replaced 1 0)))
-    ∷ entry 0 4 (parts.Bucket (Lookup Prog (1 ∷ []) (Some (1, 204 ∷ []))))
+    entry 1 0 1 (parts.Bucket (Update Prog 0 (1 ∷ []) (170 ∷ []) None (puts.Added 0)))
+    ∷ entry 3 0 2 (parts.Bucket (Update Prog 0 (2 ∷ []) (187 ∷ []) None puts.Full))
+    ∷ entry 4 0 3 (parts.Bucket (Update Prog 0 (1 ∷ []) (204 ∷ []) None (puts.Replaced 1 0)))
+    ∷ entry 5 0 4 (parts.Bucket (Lookup Prog (1 ∷ []) (Some (1, 204 ∷ []))))
     ∷ []
 
 bucket_0_is : end.logs (Bucket 0) ≡ bucket_0
@@ -71,8 +71,8 @@ bucket_0_is = refl
 
 freelist_0 : List Entry
 freelist_0 =
-    entry 0 1 (parts.Free (Popped 0))
-    ∷ entry 0 2 (parts.Free FoundEmpty)
+    entry 0 0 1 (parts.Free (Popped 0))
+    ∷ entry 2 0 2 (parts.Free FoundEmpty)
     ∷ []
 
 freelist_0_is : end.logs (Freelist 0) ≡ freelist_0

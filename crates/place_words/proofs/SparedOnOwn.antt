@@ -25,11 +25,11 @@ shape = lru_hash 4 1 false
 
 unfoldable pub lru_0 : List Entry
 lru_0 =
-    entry 0 1 (parts.Own (own.Turn 82610235 ([]) ([]) None (Some 3)))
-    ∷ entry 0 2 (parts.Own (own.Turn 3750671035 ([]) ((visit 3 false) ∷ []) None (Some 2)))
-    ∷ entry 0 3 (parts.Own (own.Turn 3143674318 ([]) ((visit 3 false) ∷ (visit 2 false) ∷ []) None (Some 1)))
-    ∷ entry 0 4 (parts.Own (own.Turn 494459842 ([]) ((visit 3 false) ∷ (visit 2 false) ∷ (visit 1 false) ∷ []) None (Some 0)))
-    ∷ entry 0 7 (parts.Own (own.Turn 882461803 ([]) ((visit 3 true) ∷ (visit 2 false) ∷ (visit 1 false) ∷ (visit 0 false) ∷ []) (Some (record { target = 4; looks = (look 2 false (Some Removed)) ∷ (look 1 false (Some Removed)) ∷ (look 0 false (Some Removed)) ∷ []; forced = [] })) (Some 0)))
+    entry 0 0 1 (parts.Own (own.Turn 82610235 ([]) ([]) None (Some 3)))
+    ∷ entry 2 0 2 (parts.Own (own.Turn 3750671035 ([]) ((visit 3 false) ∷ []) None (Some 2)))
+    ∷ entry 4 0 3 (parts.Own (own.Turn 3143674318 ([]) ((visit 3 false) ∷ (visit 2 false) ∷ []) None (Some 1)))
+    ∷ entry 6 0 4 (parts.Own (own.Turn 494459842 ([]) ((visit 3 false) ∷ (visit 2 false) ∷ (visit 1 false) ∷ []) None (Some 0)))
+    ∷ entry 13 0 7 (parts.Own (own.Turn 882461803 ([]) ((visit 3 true) ∷ (visit 2 false) ∷ (visit 1 false) ∷ (visit 0 false) ∷ []) (Some (record { target = 4; looks = (look 2 false (Some Removed)) ∷ (look 1 false (Some Removed)) ∷ (look 0 false (Some Removed)) ∷ []; forced = [] })) (Some 0)))
     ∷ []
 
 lru_0_is_legal : IsLegal shape (CpuLru 0) lru_0
@@ -42,11 +42,11 @@ lru_0_leads = refl
 
 unfoldable pub bucket_2 : List Entry
 bucket_2 =
-    entry 0 3 (parts.Bucket (Update Prog 0 (3 ∷ []) (163 ∷ []) (Some 1) (puts.Added 1)))
-    ∷ entry 0 4 (parts.Bucket (Update Prog 0 (4 ∷ []) (164 ∷ []) (Some 0) (puts.Added 0)))
-    ∷ entry 0 7 (parts.Bucket (Evict 1 Removed))
-    ∷ entry 0 7 (parts.Bucket (Evict 0 Removed))
-    ∷ entry 0 10 (parts.Bucket (Lookup Prog (3 ∷ []) None))
+    entry 5 0 3 (parts.Bucket (Update Prog 0 (3 ∷ []) (163 ∷ []) (Some 1) (puts.Added 1)))
+    ∷ entry 7 0 4 (parts.Bucket (Update Prog 0 (4 ∷ []) (164 ∷ []) (Some 0) (puts.Added 0)))
+    ∷ entry 11 0 7 (parts.Bucket (Evict 1 Removed))
+    ∷ entry 12 0 7 (parts.Bucket (Evict 0 Removed))
+    ∷ entry 17 0 10 (parts.Bucket (Lookup Prog (3 ∷ []) None))
     ∷ []
 
 bucket_2_is_legal : IsLegal shape (Bucket 2) bucket_2
@@ -59,15 +59,15 @@ bucket_2_leads = refl
 
 unfoldable pub bucket_3 : List Entry
 bucket_3 =
-    entry 0 1 (parts.Bucket (Update Prog 0 (1 ∷ []) (161 ∷ []) (Some 3) (puts.Added 3)))
-    ∷ entry 0 2 (parts.Bucket (Update Prog 0 (2 ∷ []) (162 ∷ []) (Some 2) (puts.Added 2)))
-    ∷ entry 0 5 (parts.Bucket (Lookup Prog (1 ∷ []) (Some (3, 161 ∷ []))))
-    ∷ entry 0 6 (parts.Bucket (Lookup Sys (2 ∷ []) (Some (2, 162 ∷ []))))
-    ∷ entry 0 7 (parts.Bucket (Evict 2 Removed))
-    ∷ entry 0 7 (parts.Bucket (Update Prog 0 (5 ∷ []) (165 ∷ []) (Some 0) (puts.Added 0)))
-    ∷ entry 0 8 (parts.Bucket (Lookup Prog (1 ∷ []) (Some (3, 161 ∷ []))))
-    ∷ entry 0 9 (parts.Bucket (Lookup Prog (2 ∷ []) None))
-    ∷ entry 0 11 (parts.Bucket (Lookup Prog (5 ∷ []) (Some (0, 165 ∷ []))))
+    entry 1 0 1 (parts.Bucket (Update Prog 0 (1 ∷ []) (161 ∷ []) (Some 3) (puts.Added 3)))
+    ∷ entry 3 0 2 (parts.Bucket (Update Prog 0 (2 ∷ []) (162 ∷ []) (Some 2) (puts.Added 2)))
+    ∷ entry 8 0 5 (parts.Bucket (Lookup Prog (1 ∷ []) (Some (3, 161 ∷ []))))
+    ∷ entry 9 0 6 (parts.Bucket (Lookup Sys (2 ∷ []) (Some (2, 162 ∷ []))))
+    ∷ entry 10 0 7 (parts.Bucket (Evict 2 Removed))
+    ∷ entry 14 0 7 (parts.Bucket (Update Prog 0 (5 ∷ []) (165 ∷ []) (Some 0) (puts.Added 0)))
+    ∷ entry 15 0 8 (parts.Bucket (Lookup Prog (1 ∷ []) (Some (3, 161 ∷ []))))
+    ∷ entry 16 0 9 (parts.Bucket (Lookup Prog (2 ∷ []) None))
+    ∷ entry 18 0 11 (parts.Bucket (Lookup Prog (5 ∷ []) (Some (0, 165 ∷ []))))
     ∷ []
 
 bucket_3_is_legal : IsLegal shape (Bucket 3) bucket_3

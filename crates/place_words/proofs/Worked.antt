@@ -13,8 +13,8 @@ use Rattle.place_words.specs.declared.visits.Try.{Try}
 use Rattle.place_words.specs.declared.visits.Visit.{Visit}
 use Rattle.place_words.specs.Shrinking.{IsFirstEnd}
 
-abbrev pub entry : ℕ → ℕ → Part → Entry
-entry cpu call part = record { cpu = cpu; call = call; part = part }
+abbrev pub entry : ℕ → ℕ → ℕ → Part → Entry
+entry ticket cpu call part = record { ticket = ticket; cpu = cpu; call = call; part = part }
 
 abbrev pub visit : ℕ → Bool → Visit
 visit e bit = record { element = e; bit = bit }

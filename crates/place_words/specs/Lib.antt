@@ -24,6 +24,7 @@ pub mod Shrinking
 pub mod Sizes
 pub mod Strands
 pub mod Takings
+pub mod Tickets
 pub mod Traces
 pub mod Turns
 pub mod Walks

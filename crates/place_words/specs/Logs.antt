@@ -58,6 +58,8 @@ use Rattle.place_words.specs.Walks.{buckets_from, stopped_at, pair_of, walked_ou
 -- What is known of a map
 
 pub record State : Type 0 where
+  -- the ticket of the next turn, which is how many were made
+  pub next_ticket : ℕ
   pub logs : DomainId → List Entry
   pub bits : ℕ → Bool
   pub spares : ℕ → Option ℕ
@@ -85,11 +87,12 @@ own_at shape state cpu = unwrap_or (own_in (lies_in shape state (CpuLru cpu))) (
 abbrev pub present_in : Shape → State → List ℕ → Option Stored
 present_in shape state key = present key (bucket_at shape state (bucket_of_key shape key))
 
--- A turn of a CPU in the call of some number is the last entry of its lock's log, sets and clears bits, and leaves the
--- CPU its spare.
+-- A turn of a CPU in the call of some number is the last entry of its lock's log, with the next ticket; it sets and clears bits,
+-- and leaves the CPU its spare.
 abbrev pub turned : Shape → ℕ → ℕ → Turn → State → State
 turned shape cpu number turn state = record state {
-  logs = λ lock. if is_same_lock turn.lock lock then state.logs lock ++ (record { cpu = cpu; call = number; part = turn.part }) ∷ [] else state.logs lock;
+  next_ticket = suc state.next_ticket;
+  logs = λ lock. if is_same_lock turn.lock lock then state.logs lock ++ (record { ticket = state.next_ticket; cpu = cpu; call = number; part = turn.part }) ∷ [] else state.logs lock;
   bits = with_bits (marks shape turn.part) (without_bits (clears turn.part) state.bits);
   spares = if is_lru shape.kind then state.spares else put state.spares cpu (spare_after_part (state.spares cpu) turn.part);
 }
@@ -352,7 +355,7 @@ does shape cpu number state (verbs.BatchDelete flags keys) = write_does shape cp
 
 -- a new map: no lock has had a turn, no bit is set, and on HASH each CPU has a spare
 abbrev pub new_state : Shape → State
-new_state shape = record { logs = λ lock. []; bits = λ e. false; spares = slice_get (first_spares shape shape.kind) }
+new_state shape = record { next_ticket = 0; logs = λ lock. []; bits = λ e. false; spares = slice_get (first_spares shape shape.kind) }
 
 -- the map after calls in their order, where the first has this number, and their replies
 abbrev pub after_one : Shape → ℕ → Call → State → State

@@ -17,7 +17,8 @@ entries_of (history ∷ histories) lock =
 -- after the entries before that place.
 pub record Names (histories : List LockHistory) (cpu number : ℕ) (step : StrandStep) (at : TurnAt) : Type 0 where
   pub lock : step.lock ≡ at.turn.lock
-  pub entry : slice_get (entries_of histories step.lock) step.index ≡ Some record { cpu = cpu; call = number; part = at.turn.part }
+  pub ticket : ℕ
+  pub entry : slice_get (entries_of histories step.lock) step.index ≡ Some record { ticket = ticket; cpu = cpu; call = number; part = at.turn.part }
   pub earlier : at.earlier ≡ take step.index (entries_of histories step.lock)
 
 -- each of these steps names each of these turns

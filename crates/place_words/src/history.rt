@@ -17,9 +17,11 @@ pub enum Part {
     Own(PackedOwn),
 }
 
-/// One turn of a lock: the CPU that had it, the call in which it had it, and what it did.
+/// One turn of a lock: its ticket, by which all turns of a run stand in one order, the CPU that had it, the call in which it had
+/// it, and what it did.
 #[derive(Drop)]
 pub struct Entry {
+    pub ticket: u64,
     pub cpu: u32,
     pub call: u32,
     pub part: Part,
@@ -62,6 +64,7 @@ impl EqualCopy for Part {
 impl EqualCopy for Entry {
     fn copy(&self, alloc: Global) -> Result<Entry, NoMemory> {
         Ok(Entry {
+            ticket: self.ticket,
             cpu: self.cpu,
             call: self.call,
             part: self.part.copy(alloc)?,

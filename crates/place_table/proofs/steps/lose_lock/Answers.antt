@@ -1,5 +1,5 @@
 use Rattle.std.proofs.Common.{arith}
-use Rattle.place_table.proofs.Locks.{gives_some}
+use Rattle.place_table.proofs.GivenBack.{gives_some}
 use Rattle.place_table.proofs.steps.lose_lock.Goals as goal
 
 pub store-requires : goal.store-requires
