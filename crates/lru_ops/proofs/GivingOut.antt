@@ -414,7 +414,7 @@ module _ {t : TableView} {set worked : SetView} {turning turning_after : RotateN
           shape = refl;
           cpus = refl;
           steps = sym (append_nil r.view.steps);
-          numbers = record { ascend = omega arith; exact = λ _. refl };
+          numbers = record { reached = omega arith; refused = omega arith; ascend = omega arith; exact = λ _. refl };
           kept = refl;
           ended = refl;
           lost_is = refl;

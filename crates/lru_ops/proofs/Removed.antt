@@ -112,7 +112,7 @@ goes_placed held hand carried readings notes touched p q is =
       shape = refl;
       cpus = refl;
       steps = sym (append_nil p.view.steps);
-      numbers = record { ascend = omega arith; exact = λ _. refl };
+      numbers = record { reached = omega arith; refused = omega arith; ascend = omega arith; exact = λ _. refl };
       kept = refl;
       ended = refl;
       lost_is = refl;

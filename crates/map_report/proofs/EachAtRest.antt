@@ -24,7 +24,7 @@ use Rattle.place_words.specs.Bodies.{numbers}
 use Rattle.place_words.specs.Locks.{is_lock}
 use Rattle.place_words.specs.Logs.{State, new_state, run, bucket_at, freelist_at, locals_at, globals_at, own_at, final_set, final_local, where_lock, finals_of}
 use Rattle.place_words.specs.SerialOrder.{IsOrderly}
-use Rattle.place_words.proofs.EveryRun.{every_run}
+use Rattle.place_words.proofs.AnyStart.{every_run}
 use Rattle.place_words.proofs.Permutes.{counts_permute, numbers_count}
 use Rattle.place_words.proofs.PlainLaws.{chosen_second}
 use Rattle.place_words.proofs.PlainOpening.{first_kept}

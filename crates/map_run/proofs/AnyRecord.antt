@@ -23,7 +23,7 @@ use Rattle.place_words.specs.Buckets.{new_stored}
 use Rattle.place_words.specs.Logs.{new_state, answers}
 use Rattle.place_words.specs.Openings.{first_spares}
 use Rattle.place_words.proofs.EachTurn.{PassAll, VerbPasses}
-use Rattle.place_words.proofs.EveryRun.{every_run}
+use Rattle.place_words.proofs.AnyStart.{every_run}
 use Rattle.map_report.specs.Freelists.{opening_stacks, spares_popped}
 use Rattle.map_report.specs.Record.{IsRecord, EachAnswered}
 use Rattle.map_report.specs.Runs.{serial}

@@ -29,6 +29,7 @@ pub mod EveryCallIs
 pub mod MadeBy
 pub mod CallsByLogs
 pub mod FinalsByLogs
+pub mod PhaseStart
 pub mod RunByLogs
 pub mod WalksTold
 pub mod GlobalTurnIs

@@ -22,6 +22,7 @@ use Rattle.place_words.specs.Histories.{Content, bucket_in, replayed}
 use Rattle.place_words.specs.Logs.{State, all_turned, after_one, new_state, run, answers, turned}
 use Rattle.place_words.specs.Openings.{first_spares}
 use Rattle.place_words.specs.Turns.{Turn}
+use Rattle.place_words.proofs.AnyStart.{tickets_after}
 use Rattle.map_report.specs.Runs.{steps_of_turns, steps_of_calls}
 use Rattle.map_report.specs.Serial.{opening, in_bucket_at, after_call, replies_from, lists_after}
 use Rattle.map_report.specs.Soundness.{IsSound}
@@ -40,11 +41,6 @@ steps_append before (turn ∷ first) second =
     let step : StrandStep = record { lock = turn.0; index = length (entries_on turn.0 before) } in
     ap (λ (l : List StrandStep). step ∷ l) (steps_append (before ++ turn ∷ []) first second
     ∙ ap (λ (l : List Happened). steps_from (before ++ turn ∷ []) first ++ steps_from l second) (append_assoc before (turn ∷ []) first))
-
--- how many turns were made
-tickets_after : (shape : Shape) (cpu number : ℕ) (turns : List Turn) (state : State) → (all_turned shape cpu number turns state).next_ticket ≡ state.next_ticket + length turns
-tickets_after shape cpu number [] state = omega arith
-tickets_after shape cpu number (turn ∷ turns) state = let rest : (all_turned shape cpu number turns (turned shape cpu number turn state)).next_ticket ≡ suc state.next_ticket + length turns = tickets_after shape cpu number turns (turned shape cpu number turn state) in rest ∙ omega arith
 
 module _ (shape : Shape) (bounds : HasBounds shape) (built : is_lru shape.kind ≡ false) where
   -- What a run by logs is, from some point on.

@@ -31,7 +31,7 @@ use Rattle.place_words.proofs.BodiesKept.{Writes, AllWrite, acquired_writes, fre
 use Rattle.place_words.proofs.BucketLaws.{keys_stay_distinct}
 use Rattle.place_words.proofs.DoneLaws.{lies_a_bucket}
 use Rattle.place_words.proofs.EachTurn.{IsOfCall, IsOfWalk, TurnLaw, does_right, verb_passes}
-use Rattle.place_words.proofs.EveryRun.{every_run}
+use Rattle.place_words.proofs.AnyStart.{every_run}
 use Rattle.place_words.proofs.HistoryLemmas.{content_more}
 use Rattle.map_run.proofs.WalkedKeys.{HaveOwnKeys}
 

@@ -3,7 +3,7 @@
 use Rattle.std.proofs.Common.{◌≡◌, ℕ, zero, suc, ◌+◌, ◌<◌, false, cond, List, [], ◌∷◌, ◌++◌, length, map, take, get_or, Some, refl, ap, ◌∙◌, sym, subst, arith}
 use Rattle.std.specs.Prelude.{All, IsTrue, filter, slice_get}
 use Rattle.std.specs.List.{range_with_len}
-use Rattle.std.proofs.lemmas.List.{length-take-le}
+use Rattle.std.proofs.lemmas.List.{length-take-le, append_assoc}
 use Rattle.std.proofs.lemmas.List.Elements.{All-nil}
 use Rattle.std.proofs.lemmas.Option.{slice_get_read}
 use Rattle.map_types.specs.Creation.{IsShape}
@@ -37,7 +37,7 @@ use Rattle.place_table.proofs.Worlds.{all_here}
 use Rattle.map_report.specs.declared.record.RunRecord.{RunRecord}
 use Rattle.map_report.specs.Record.{locks_of}
 use Rattle.map_report.specs.Runs.{steps_of_turns, steps_of_calls, serial}
-use Rattle.map_run.specs.ByLogs.{IsOfMap, KnowsState, HaveRun}
+use Rattle.map_run.specs.ByLogs.{IsOfMap, KnowsState, RunStart, at_opening, HaveRunFrom, HaveRun}
 use Rattle.map_run.specs.Copies.{record_left, strand_left}
 use Rattle.map_run.proofs.CallsByLogs.{IsDetermined, knows_next, spares_next, reply_next, run_more, answers_more, steps_more}
 use Rattle.map_run.proofs.Closing.{kept_all, made_of_all, length_indexes}
@@ -49,6 +49,9 @@ use Rattle.map_run.proofs.Whole.{none_lost, no_losses, strands_of, strands_are_t
 -- what a run of these calls has come to
 abbrev pub come_to : Shape → List Call → State
 come_to shape calls = run shape 1 calls (new_state shape)
+
+abbrev pub come_from : Shape → RunStart → List Call → State
+come_from shape from calls = run shape from.number calls from.state
 
 -- Before the first call
 
@@ -91,21 +94,21 @@ abbrev TellsEach : (State → Turn → Type 0) → (t : TableView) (call : Call)
 TellsEach Fact t call number p q reply called =
     (state : State) (strand : List StrandStep) → KnowsState t.shape state strand p.view → called.lost ≡ [] → EachTurn Fact t.shape call.cpu number (map (turn_at t.shape) called.steps) state
 
-module _ (Fact : State → Turn → Type 0) (t : TableView) (calls : List Call) (n : ℕ) (call : Call) (p q : PassView) (reply : Reply) (replies : List Reply)
-    (shape_is : IsShape t.shape) (determined : IsDetermined Fact t.shape call.cpu (1 + length (take n calls)) (come_to t.shape (take n calls)) call.verb)
-    (ran : HaveRun t (take n calls) p replies) (called : Called t (begun p call.cpu (1 + length (take n calls))) q call.verb reply)
-    (each : TellsEach Fact t call (1 + length (take n calls)) p q reply called) where
+module _ (Fact : State → Turn → Type 0) (t : TableView) (from : RunStart) (calls : List Call) (n : ℕ) (call : Call) (p q : PassView) (reply : Reply) (replies : List Reply)
+    (shape_is : IsShape t.shape) (determined : IsDetermined Fact t.shape call.cpu (from.number + length (take n calls)) (come_from t.shape from (take n calls)) call.verb)
+    (ran : HaveRunFrom t from (take n calls) p replies) (called : Called t (begun p call.cpu (from.number + length (take n calls))) q call.verb reply)
+    (each : TellsEach Fact t call (from.number + length (take n calls)) p q reply called) where
   abbrev before : List Call
   before = take n calls
 
   abbrev number : ℕ
-  number = 1 + length before
+  number = from.number + length before
 
   abbrev state_before : State
-  state_before = come_to t.shape before
+  state_before = come_from t.shape from before
 
   abbrev strand_before : List StrandStep
-  strand_before = steps_of_calls t.shape 1 before (new_state t.shape)
+  strand_before = from.steps ++ steps_of_calls t.shape from.number before from.state
 
   none_before : q.view.lost ≡ [] → (called.lost ≡ []) × (p.view.lost ≡ [])
   none_before none = append_empty called.lost p.view.lost (sym called.leaves.made.goes.lost_is ∙ none)
@@ -125,7 +128,7 @@ module _ (Fact : State → Turn → Type 0) (t : TableView) (calls : List Call) 
       reply_next Fact t state_before strand_before p q call number reply shape_is determined (ran.knows (none_before none).1) (ran.spares (none_before none).1) called (none_before none).0
       (each state_before strand_before (ran.knows (none_before none).1) (none_before none).0)
 
-  more_by_logs : HaveRun t (before ++ call ∷ []) q (replies ++ reply ∷ [])
+  more_by_logs : HaveRunFrom t from (before ++ call ∷ []) q (replies ++ reply ∷ [])
   more_by_logs = record {
     of_table = goes_of_table t (begun p call.cpu number) q called.steps called.lost called.leaves.made.goes ran.of_table;
     all_cpus = λ cpu real. ap (is_among cpu) called.leaves.made.goes.cpus ∙ ran.all_cpus cpu real;
@@ -134,28 +137,28 @@ module _ (Fact : State → Turn → Type 0) (t : TableView) (calls : List Call) 
     kept = subst (λ (made : List Turned). IsKeptOf t.shape made [] q.view.kept) (sym called.leaves.made.goes.steps)
         (kept_on t.shape p.view.steps called.steps [] p.view.kept q.view.kept ran.kept
         (subst (λ (shape : Shape). IsKeptOf shape called.steps p.view.kept q.view.kept) ran.of_table.1 called.leaves.made.goes.kept));
-    knows = λ none. subst (λ (strand : List StrandStep). KnowsState t.shape (come_to t.shape (before ++ call ∷ [])) strand q.view) (sym (steps_more t.shape 1 before call (new_state t.shape)))
+    knows = λ none. subst (λ (strand : List StrandStep). KnowsState t.shape (come_from t.shape from (before ++ call ∷ [])) strand q.view) (sym (ap (λ (steps : List StrandStep). from.steps ++ steps) (steps_more t.shape from.number before call from.state) ∙ sym (append_assoc from.steps (steps_of_calls t.shape from.number before from.state) (steps_of_turns t.shape call.cpu number (does t.shape call.cpu number state_before call.verb).turns state_before))))
         (subst (λ (state : State). KnowsState t.shape state (strand_before ++ steps_of_turns t.shape call.cpu number (does t.shape call.cpu number state_before call.verb).turns state_before) q.view)
-        (sym (run_more t.shape 1 before call (new_state t.shape))) (knows_then none));
-    spares = λ none cpu. spares_then none cpu ∙ ap (λ (state : State). state.spares cpu) (sym (run_more t.shape 1 before call (new_state t.shape)));
-    answered = λ none. (λ i. ran.answered (none_before none).1 i ++ replied_then none i ∷ []) ∙ sym (answers_more t.shape 1 before call (new_state t.shape));
+        (sym (run_more t.shape from.number before call from.state)) (knows_then none));
+    spares = λ none cpu. spares_then none cpu ∙ ap (λ (state : State). state.spares cpu) (sym (run_more t.shape from.number before call from.state));
+    answered = λ none. (λ i. ran.answered (none_before none).1 i ++ replied_then none i ∷ []) ∙ sym (answers_more t.shape from.number before call from.state);
   }
 
 -- where the call is determined by its trace, under what holds of each of its turns
-pub next_by_logs : (Fact : State → Turn → Type 0) (t : TableView) (calls : List Call) (n : ℕ) (call : Call) (p q : PassView) (number : ℕ) (reply : Reply) (replies after : List Reply)
-    → IsShape t.shape → ((k : ℕ) → IsDetermined Fact t.shape call.cpu k (come_to t.shape (take n calls)) call.verb) → n < length calls → call ≡ get_or calls n call → number ≡ n + 1
-    → HaveRun t (take n calls) p replies → (called : Called t (begun p call.cpu number) q call.verb reply)
-    → TellsEach Fact t call number p q reply called → after ≡ replies ++ reply ∷ [] → HaveRun t (take (n + 1) calls) q after
-next_by_logs Fact t calls n call p q number reply replies after shape_is determined within is count ran called each pushed =
+pub next_by_logs : (Fact : State → Turn → Type 0) (t : TableView) (from : RunStart) (calls : List Call) (n : ℕ) (call : Call) (p q : PassView) (number : ℕ) (reply : Reply) (replies after : List Reply)
+    → IsShape t.shape → ((k : ℕ) → IsDetermined Fact t.shape call.cpu k (come_from t.shape from (take n calls)) call.verb) → n < length calls → call ≡ get_or calls n call → number ≡ from.number + n
+    → HaveRunFrom t from (take n calls) p replies → (called : Called t (begun p call.cpu number) q call.verb reply)
+    → TellsEach Fact t call number p q reply called → after ≡ replies ++ reply ∷ [] → HaveRunFrom t from (take (n + 1) calls) q after
+next_by_logs Fact t from calls n call p q number reply replies after shape_is determined within is count ran called each pushed =
     let at : slice_get calls n ≡ Some call = slice_get_read calls (length calls) n call refl within is in
     let long : length (take n calls) ≡ n = length-take-le n calls (omega (arith, within)) in
-    let number_is : number ≡ 1 + length (take n calls) = omega (arith, count, long) in
+    let number_is : number ≡ from.number + length (take n calls) = omega (arith, count, long) in
     let next : suc n ≡ n + 1 = omega arith in
-    let more = subst (λ (k : ℕ). (c : Called t (begun p call.cpu k) q call.verb reply) → TellsEach Fact t call k p q reply c → HaveRun t (take n calls ++ call ∷ []) q (replies ++ reply ∷ [])) (sym number_is)
-    (λ c holds. more_by_logs Fact t calls n call p q reply replies shape_is (determined (1 + length (take n calls))) ran c holds) in
-    subst (λ (k : ℕ). HaveRun t (take k calls) q after) next
-    (subst (λ (made : List Call). HaveRun t made q after) (sym (take_next calls n call at))
-    (subst (HaveRun t (take n calls ++ call ∷ []) q) (sym pushed) (more called each)))
+    let more = subst (λ (k : ℕ). (c : Called t (begun p call.cpu k) q call.verb reply) → TellsEach Fact t call k p q reply c → HaveRunFrom t from (take n calls ++ call ∷ []) q (replies ++ reply ∷ [])) (sym number_is)
+    (λ c holds. more_by_logs Fact t from calls n call p q reply replies shape_is (determined (from.number + length (take n calls))) ran c holds) in
+    subst (λ (k : ℕ). HaveRunFrom t from (take k calls) q after) next
+    (subst (λ (made : List Call). HaveRunFrom t from made q after) (sym (take_next calls n call at))
+    (subst (HaveRunFrom t from (take n calls ++ call ∷ []) q) (sym pushed) (more called each)))
 
 -- At the end
 

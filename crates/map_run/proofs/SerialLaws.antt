@@ -13,8 +13,8 @@ use Rattle.map_script.specs.WellFormed.{IsCallOn, IsWellFormed}
 use Rattle.map_script.specs.declared.script.Script.{Script}
 use Rattle.place_words.specs.declared.finals.Finals.{Finals}
 use Rattle.place_words.specs.Bodies.{present}
-use Rattle.place_words.proofs.AlwaysGets.{created_always_gets}
-use Rattle.place_words.proofs.AlwaysRemoved.{always_removes}
+use Rattle.place_words.proofs.AnyStart.{created_always_gets}
+use Rattle.place_words.proofs.AnyStart.{always_removes}
 use Rattle.map_run.specs.Entries.{Entry, entry_of, answers_from, entries_after, TellsThere}
 use Rattle.map_run.specs.Laws.{lists_before, Sees, FindsNoRoom, PlainLaws, SerialLaws}
 use Rattle.map_report.specs.declared.record.RunRecord.{RunRecord}

@@ -86,7 +86,7 @@ past_empty shape w j t k (u ∷ us) (e ∷ es) p empty h =
     (λ _ f. past_empty shape w j t k us es p.2 empty.1 f) h
 
 module _ (shape : Shape) (s : State Behind View) (r : Rule shape s) (pass : ℕ) (v : View) (at_pass : get_elem? s.views pass ≡ some v) (all : (c : ℕ) → c < shape.cpus → is_among c v.cpus ≡ true) (no_lock : v.held ≡ []) where
-  nobody : (k : ℕ) → r.world.core.holder k ≡ None
+  pub nobody : (k : ℕ) → r.world.core.holder k ≡ None
   nobody k = go (r.world.core.holder k) refl
     where
       go : (h : Option ℕ) → r.world.core.holder k ≡ h → h ≡ None
@@ -154,6 +154,10 @@ module _ (shape : Shape) (s : State Behind View) (r : Rule shape s) (pass : ℕ)
   strands : ArePast shape r.world pass (done r.world pass) (all_strands v)
   strands = let kn = r.knows pass v at_pass in past_done shape r.world pass v kn.strand kn.past kn.apart
 
+  -- the turns of each lock are those of its strands
+  pub turns_now : (k : ℕ) → AreTurnsOf k (all_strands v) (entries (r.world.log k))
+  turns_now k = are_turns_of shape r.world pass (length s.views) k (done r.world pass) (all_strands v) strands (r.tagged k) (listed k)
+
   pub at_end : (words : List ℕ) (slots : List Behind) → s.words ≡ words → length s.homes ≡ length slots → ((k : ℕ) (b : Behind) → get_elem? s.homes k ≡ some (some b) → get_elem? slots k ≡ some b) → AtEnd shape v words slots
   at_end words slots words_are counted given_back =
       let w = r.world in let kn = r.knows pass v at_pass in record {
@@ -170,7 +174,7 @@ module _ (shape : Shape) (s : State Behind View) (r : Rule shape s) (pass : ℕ)
         bits = kn.bits;
         words_told = subst (AreWordsOf shape w.core) words_are record { locks = r.lock_words; owners = r.owner_words; homes = r.home_words; bits = r.bit_words };
         touches = subst (AreTouchesOf shape (all_strands v)) words_are (are_touches_of shape w pass (length s.views) (done w pass) (all_strands v) s.words strands r.in_time r.of_strands r.lead only_reads);
-        turns = λ k. are_turns_of shape w pass (length s.views) k (done w pass) (all_strands v) strands (r.tagged k) (listed k);
+        turns = turns_now;
         stand = λ n strand at_n. (strand_here shape w pass (done w pass) (all_strands v) n strand strands at_n).is.stand;
         recorded = λ n strand at_n. (strand_here shape w pass (done w pass) (all_strands v) n strand strands at_n).is.kept_are;
         drawn = get_or s.words (ticket_word shape) 0;

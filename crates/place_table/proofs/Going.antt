@@ -56,6 +56,8 @@ counted_on n middle to (x ∷ xs) ys are more = (are.0, counted_on (suc n) middl
 
 numbered_on : (u v w : View) (first second : List Turned) → has_all v ≡ has_all u → AreNumbered u v first → AreNumbered v w second → AreNumbered u w (first ++ second)
 numbered_on u v w first second all a b = record {
+  reached = omega (arith, a.reached, b.reached);
+  refused = omega (arith, a.refused, b.refused);
   ascend = subst (λ (l : List ℕ). AscendIn (next u) l (next w)) (sym (turn_tickets_append first second)) (ascend_on (next u) (next v) (next w) (turn_tickets first) (turn_tickets second) a.ascend b.ascend);
   exact = λ has. counted_on (next u) (next v) (next w) first second (a.exact has) (b.exact (all ∙ has));
 }
@@ -87,7 +89,7 @@ goes_nowhere p = record {
   shape = refl;
   cpus = refl;
   steps = sym (append_nil p.view.steps);
-  numbers = record { ascend = omega arith; exact = λ _. refl };
+  numbers = record { reached = omega arith; refused = omega arith; ascend = omega arith; exact = λ _. refl };
   kept = refl;
   ended = refl;
   lost_is = refl;
@@ -103,7 +105,7 @@ goes_took t lock p q here took =
       shape = refl;
       cpus = refl;
       steps = sym (append_nil p.view.steps);
-      numbers = record { ascend = omega arith; exact = λ _. refl };
+      numbers = record { reached = omega arith; refused = omega arith; ascend = omega arith; exact = λ _. refl };
       kept = refl;
       ended = refl;
       lost_is = refl;
@@ -119,7 +121,7 @@ goes_moved {hashes} at k now hand notes word left p q is =
       shape = refl;
       cpus = refl;
       steps = sym (append_nil p.view.steps);
-      numbers = record { ascend = omega arith; exact = λ _. refl };
+      numbers = record { reached = omega arith; refused = omega arith; ascend = omega arith; exact = λ _. refl };
       kept = refl;
       ended = refl;
       lost_is = refl;
@@ -135,7 +137,7 @@ goes_noted notes bits touched readings p q is =
       shape = refl;
       cpus = refl;
       steps = sym (append_nil p.view.steps);
-      numbers = record { ascend = omega arith; exact = λ _. refl };
+      numbers = record { reached = omega arith; refused = omega arith; ascend = omega arith; exact = λ _. refl };
       kept = refl;
       ended = refl;
       lost_is = refl;
@@ -151,7 +153,7 @@ goes_spared p q is =
       shape = refl;
       cpus = refl;
       steps = sym (append_nil p.view.steps);
-      numbers = record { ascend = omega arith; exact = λ _. refl };
+      numbers = record { reached = omega arith; refused = omega arith; ascend = omega arith; exact = λ _. refl };
       kept = refl;
       ended = refl;
       lost_is = refl;
@@ -164,6 +166,8 @@ given_turn p ticket hold part = turned hold.lock hold.log (entry_of p ticket par
 -- its number
 one_numbered : (p q : PassView) {z : PassView} (n : ℕ) (hold : Hold) (part : Part) → IsNumbered p.view n q.view → q ≡ z → AreNumbered p.view z.view (given_turn p n hold part ∷ [])
 one_numbered p q n hold part is same = subst (λ (x : PassView). AreNumbered p.view x.view (given_turn p n hold part ∷ [])) same record {
+  reached = is.reached;
+  refused = is.refused;
   ascend = (is.ascends, let next_is = is.next_is in omega arith);
   exact = λ all. (is.exact all, is.next_is ∙ ap suc (is.exact all));
 }

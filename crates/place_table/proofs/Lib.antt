@@ -52,3 +52,7 @@ pub mod Touches
 pub mod TurnClears
 pub mod WordSteps
 pub mod Worlds
+pub mod AtRest
+pub mod IdleRule
+pub mod ListLocks
+pub mod Moments

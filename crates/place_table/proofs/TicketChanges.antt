@@ -11,13 +11,14 @@ use Rattle.map_types.proofs.RowLemmas.{by_test}
 use Rattle.place_words.specs.declared.history.Entry.{Entry}
 use Rattle.place_words.specs.Locks.{is_lock, lock_named, lock_count}
 use Rattle.place_core.proofs.ElementLemmas.{at_put, put_here, put_else}
+use Rattle.place_table.specs.declared.view.Known.{Known}
 use Rattle.place_table.specs.declared.view.View.{View}
 use Rattle.place_table.specs.declared.view.Turned.{Turned}
 use Rattle.place_table.specs.declared.view.Ended.{Ended}
 use Rattle.place_table.specs.declared.view.Ticket.{Ticket}
 use Rattle.place_table.specs.declared.view.Ticket.TheVariants.{Unread, Drawing, Drawn, Refused}
 use Rattle.place_table.specs.declared.view.WordStep.{WordStep}
-use Rattle.place_table.specs.Views.{found_below, reached_by, refused_by, next, number_by, ticket_of, ticketed}
+use Rattle.place_table.specs.Views.{learning, found_below, reached_by, refused_by, next, number_by, ticket_of, ticketed}
 use Rattle.place_table.specs.Words.{ticket_bound}
 use Rattle.place_words.specs.Tickets.{tickets_of, AscendIn}
 use Rattle.place_table.specs.Tickets.{Stand, in_log, with_cpu, turn_tickets, EachAscends, NoneLost, Inner, innermost, IsUnderWay, TicketFits, IsTaken, KnowsTickets, IsNewest, IsAt, Tickets}
@@ -96,9 +97,9 @@ tickets_read shape word log lost pass_of_cpu views pass k v inner touched at_pas
     at_stays t u (with_cpu c) out = out_else pass_of_cpu views pass v u t c at_pass (λ drawn. unread_drawn (sym unread ∙ drawn)) out
 
 -- THE LOOK: the ticket word is read by a pass that draws none.
-pub tickets_seen : (shape : Shape) (word : ℕ) (log : ℕ → List Entry) (lost : ℕ → Bool) (pass_of_cpu : ℕ → ℕ) (views : List View) (pass : ℕ) (v : View) (touched : List WordStep) → get_elem? views pass ≡ some v → v.ticket ≡ Unread
-    → Tickets shape word log lost pass_of_cpu views → Tickets shape word log lost pass_of_cpu (set views pass (ticketed v.ticket word touched v))
-tickets_seen shape word log lost pass_of_cpu views pass v touched at_pass unread r = record {
+pub tickets_seen : (shape : Shape) (word : ℕ) (log : ℕ → List Entry) (lost : ℕ → Bool) (pass_of_cpu : ℕ → ℕ) (views : List View) (pass : ℕ) (v : View) (touched : List WordStep) (learned : List Known) → get_elem? views pass ≡ some v → v.ticket ≡ Unread
+    → Tickets shape word log lost pass_of_cpu views → Tickets shape word log lost pass_of_cpu (set views pass (learning learned (ticketed v.ticket word touched v)))
+tickets_seen shape word log lost pass_of_cpu views pass v touched learned at_pass unread r = record {
   drawing = r.drawing;
   stand = r.stand;
   bounded = r.bounded;
@@ -120,7 +121,7 @@ tickets_seen shape word log lost pass_of_cpu views pass v touched at_pass unread
 }
   where
     u : View
-    u = ticketed v.ticket word touched v
+    u = learning learned (ticketed v.ticket word touched v)
 
     kn : KnowsTickets shape word lost r.drawing r.stand v
     kn = r.known pass v at_pass

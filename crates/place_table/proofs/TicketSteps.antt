@@ -1,7 +1,7 @@
 -- The steps on the ticket word: it is read, and a ticket is drawn.
 use Rattle.place_table.proofs.StrandMoves.{is_one}
 use Rattle.std.proofs.Math.Nat.{mod-eq_of_lt}
-use Rattle.std.proofs.Common.{◌≡◌, ℕ, ◌+◌, ◌%◌, ◌^◌, ◌<◌, ◌≤◌, inl, inr, ⊎_elim, cond, List, [], ◌∷◌, length, get_or, set, sym, refl, ap, ◌∙◌, subst, arith, Some, None, Option, length-set, get_or-set_other, get_or-set_same, eqb}
+use Rattle.std.proofs.Common.{◌≡◌, ℕ, ◌+◌, ◌%◌, ◌^◌, ◌<◌, ◌≤◌, inl, inr, ⊎_elim, cond, List, [], ◌∷◌, length, get_or, set, sym, refl, ap, ◌∙◌, subst, arith, Some, None, Option, length-set, get_or-set_other, get_or-set_same, eqb, zero, suc, ◌⊎◌, Bool, true, false}
 use Rattle.std.specs.Prelude.{nat_lt}
 use Rattle.std.proofs.lemmas.Bool.{ltb-false}
 use mathlib.Core.Option.{some}
@@ -10,19 +10,26 @@ use Rattle.atomic_table.specs.Table.{State, Allows, keeps, stepped}
 use Rattle.atomic_table.proofs.Lists.{at_set}
 use Rattle.map_types.specs.declared.attr.Shape.{Shape}
 use Rattle.map_types.proofs.CreationLemmas.{bounds_of_shape}
-use Rattle.place_words.specs.Locks.{lock_number}
+use Rattle.place_words.specs.declared.history.Entry.{Entry}
+use Rattle.place_words.specs.Locks.{lock_count, lock_number}
 use Rattle.place_table.specs.declared.content.Behind.{Behind}
+use Rattle.place_table.specs.declared.view.Known.{Known}
 use Rattle.place_table.specs.declared.view.View.{View}
+use Rattle.place_table.specs.Idle.{LearnsAll}
+use Rattle.place_table.proofs.Closes.{turns_now}
+use Rattle.place_table.proofs.IdleRule.{rule_idle}
+use Rattle.map_types.proofs.RowLemmas.{by_test}
+use Rattle.std.proofs.lemmas.Option.{same_Some}
 use Rattle.place_table.specs.declared.view.Hold.{Hold}
 use Rattle.place_table.specs.declared.view.WordStep.{WordStep}
 use Rattle.place_table.specs.declared.view.Ticket.{Ticket}
 use Rattle.place_table.specs.declared.view.Ticket.TheVariants.{Unread, Drawing, Drawn, Refused}
-use Rattle.place_table.specs.Views.{is_among, touching, ticketed, found_below, ticket_drawn, came_at}
+use Rattle.place_table.specs.Views.{is_among, touching, ticketed, found_below, ticket_drawn, came_at, has_all, known_log, learning}
 use Rattle.place_table.specs.Words.{owner_word, home_word, bit_word, ticket_word, ticket_bound}
-use Rattle.place_table.specs.Rules.{World, Rule, PassKnows, IsSeen, HasRow, IsFresh, IsBrought, logs_of}
+use Rattle.place_table.specs.Rules.{World, Rule, PassKnows, IsSeen, HasRow, IsFresh, IsBrought, logs_of, entries}
 use Rattle.place_table.specs.Tickets.{Tickets, Inner, innermost, TicketFits}
 use Rattle.place_table.specs.Plays.{Seated, ReadsTicket, DrawsTicket, SeesTicket, TakesTicket, WordFits}
-use Rattle.place_table.proofs.Worlds.{by_bool, true_false, has_mine, here_all, others, hashed_stands, lock_still_lost, past_stays, tagged_stays, SameStrands, hash_stands}
+use Rattle.place_table.proofs.Worlds.{by_bool, true_false, has_mine, here_all, others, hashed_stands, lock_still_lost, past_stays, tagged_stays, SameStrands, hash_stands, none_some}
 use Rattle.place_table.proofs.StepLog.{made, time_more, givers_other, touches_with, lead_with, of_strands_with, strand_with, past_same, other_same, reads_more}
 use Rattle.place_table.proofs.NotesDone.{noted_more, word_off}
 use Rattle.place_table.proofs.Locks.{there, allows_of}
@@ -48,16 +55,17 @@ looked w pass x = record {
 
 module _ (shape : Shape) (s : State Behind View) (r : Rule shape s) (pass : ℕ) (v : View) (at_pass : get_elem? s.views pass ≡ some v) where
   -- the ticket word becomes n, by a pass that has a CPU, or that only reads
-  ticket_rule : (n : ℕ) (seen : Option ℕ) (ticket : Ticket) (reached : ℕ) (cs : List (ℕ × Behind)) → IsSeen seen (get_or s.words (ticket_word shape) 0) → (v.cpus ≡ [] → seen ≡ Some n)
-      → Tickets shape n (logs_of r.world) r.world.lost r.world.pass_of_cpu (set s.views pass (ticketed ticket reached (touching (made r.world) (ticket_word shape) seen n v) v))
-      → Rule shape (stepped s (ticket_word shape) n pass cs (ticketed ticket reached (touching (made r.world) (ticket_word shape) seen n v) v) keeps)
-  ticket_rule n seen ticket reached cs seen_is only_read tickets =
+  learning_rule : (n : ℕ) (seen : Option ℕ) (ticket : Ticket) (reached : ℕ) (learned : List Known) (cs : List (ℕ × Behind))
+      → ((k : ℕ) (log : List Entry) → known_log k learned ≡ Some log → entries (r.world.log k) ≡ log) → (((learned ≡ []) × (v.bits ≡ [])) ⊎ ((c : ℕ) → c < shape.cpus → is_among c v.cpus ≡ true)) → IsSeen seen (get_or s.words (ticket_word shape) 0) → (v.cpus ≡ [] → seen ≡ Some n)
+      → Tickets shape n (logs_of r.world) r.world.lost r.world.pass_of_cpu (set s.views pass (learning learned (ticketed ticket reached (touching (made r.world) (ticket_word shape) seen n v) v)))
+      → Rule shape (stepped s (ticket_word shape) n pass cs (learning learned (ticketed ticket reached (touching (made r.world) (ticket_word shape) seen n v) v)) keeps)
+  learning_rule n seen ticket reached learned cs right_logs right_only seen_is only_read tickets =
       let i : ℕ = ticket_word shape in
       let w = r.world in
       let x : WordStep = record { at = made w; word = i; seen = seen; left = n } in
       let w' : World = looked w pass x in
       let kn = r.knows pass v at_pass in
-      let nv : View = ticketed ticket reached (touching (made w) i seen n v) v in
+      let nv : View = learning learned (ticketed ticket reached (touching (made w) i seen n v) v) in
       let same : SameStrands w w' = record { pass_of_strand = λ _. refl; cpus_of_strand = λ _. refl; next = refl; current = λ _. refl; past = λ _. refl; pass_of_cpu = λ _. refl; still = λ _ z. z } in
       record {
         world = w';
@@ -102,9 +110,9 @@ module _ (shape : Shape) (s : State Behind View) (r : Rule shape s) (pass : ℕ)
                   (λ m held. (held, refl)) (λ held. held) refl refl (λ inside. inside) (kn.hashed lru y d lock real within in_hand at);
               hashes = λ y d noted within found. hash_stands shape w.hash w'.hash v.hand y d noted.bucket (kn.hashes y d noted within found) (λ _. refl);
               readings = kn.readings;
-              known = kn.known;
+              known = right_logs;
               bits = kn.bits;
-              only = kn.only;
+              only = right_only;
               losses = λ k among. lock_still_lost shape w w' k (λ lo. lo) (kn.losses k among);
               noted = noted_more shape v.touched (x ∷ []) v.held v.notes kn.noted (word_off shape v.touched x v.held v.notes kn.noted (omega arith));
               strand = strand_with shape w pass v kn x w' same (λ _. refl) (λ _ z. z) refl;
@@ -117,6 +125,13 @@ module _ (shape : Shape) (s : State Behind View) (r : Rule shape s) (pass : ℕ)
             (at_set s.views pass j nv u h);
       }
 
+  ticket_rule : (n : ℕ) (seen : Option ℕ) (ticket : Ticket) (reached : ℕ) (cs : List (ℕ × Behind)) → IsSeen seen (get_or s.words (ticket_word shape) 0) → (v.cpus ≡ [] → seen ≡ Some n)
+      → Tickets shape n (logs_of r.world) r.world.lost r.world.pass_of_cpu (set s.views pass (ticketed ticket reached (touching (made r.world) (ticket_word shape) seen n v) v))
+      → Rule shape (stepped s (ticket_word shape) n pass cs (ticketed ticket reached (touching (made r.world) (ticket_word shape) seen n v) v) keeps)
+  ticket_rule n seen ticket reached cs seen_is only_read tickets =
+      let kn = r.knows pass v at_pass in
+      learning_rule n seen ticket reached v.known cs kn.known kn.only seen_is only_read tickets
+
 -- what a pass knows of the word is so
 word_fits : (shape : Shape) (s : State Behind View) (r : Rule shape s) (pass : ℕ) (v : View) → get_elem? s.views pass ≡ some v → WordFits v (get_or s.words (ticket_word shape) 0)
 word_fits shape s r pass v at_pass =
@@ -127,23 +142,75 @@ word_fits shape s r pass v at_pass =
           (λ c less. has_mine shape w pass v c kn (here_all v.shape.cpus v.cpus all c (subst (λ z. c < z.cpus) (sym kn.shape_is) less))) r.tickets;
     }
 
+-- the turns of the first n locks
+abbrev all_known : World → ℕ → List Known
+all_known w zero = []
+all_known w (suc n) = (record { lock = n; log = entries (w.log n) }) ∷ all_known w n
+
+known_all : (w : World) (k n : ℕ) → k < n → known_log k (all_known w n) ≡ Some (entries (w.log k))
+known_all w k zero few = absurd (omega (arith, few))
+known_all w k (suc n) few =
+    by_test n k (λ b. cond b (Some (entries (w.log n))) (known_log k (all_known w n)) ≡ Some (entries (w.log k)))
+    (λ same. ap (λ (m : ℕ). Some (entries (w.log m))) same)
+    (λ other. known_all w k n (omega (arith, few, other)))
+
+known_only : (w : World) (k n : ℕ) (log : List Entry) → known_log k (all_known w n) ≡ Some log → entries (w.log k) ≡ log
+known_only w k zero log is = absurd (none_some is)
+known_only w k (suc n) log is =
+    by_test n k (λ b. cond b (Some (entries (w.log n))) (known_log k (all_known w n)) ≡ Some log → entries (w.log k) ≡ log)
+    (λ same here. ap (λ (m : ℕ). entries (w.log m)) (sym same) ∙ same_Some (entries (w.log n)) log here)
+    (λ other rest. known_only w k n log rest)
+    is
+
+-- what a pass knows of turns then, where it has all CPUs and where it hasn't
+abbrev known_then : Bool → Shape → World → View → List Known
+known_then true shape w v = all_known w (lock_count shape)
+known_then false shape w v = v.known
+
+module _ (shape : Shape) (s : State Behind View) (r : Rule shape s) (pass : ℕ) (v : View) (at_pass : get_elem? s.views pass ≡ some v) where
+  all_cpus : has_all v ≡ true → (c : ℕ) → c < shape.cpus → is_among c v.cpus ≡ true
+  all_cpus all c less = here_all v.shape.cpus v.cpus all c (subst (λ (z : Shape). c < z.cpus) (sym (r.knows pass v at_pass).shape_is) less)
+
+  right_then : (b : Bool) (k : ℕ) (log : List Entry) → known_log k (known_then b shape r.world v) ≡ Some log → entries (r.world.log k) ≡ log
+  right_then true k log is = known_only r.world k (lock_count shape) log is
+  right_then false k log is = (r.knows pass v at_pass).known k log is
+
+  only_then : (b : Bool) → has_all v ≡ b → ((known_then b shape r.world v ≡ []) × (v.bits ≡ [])) ⊎ ((c : ℕ) → c < shape.cpus → is_among c v.cpus ≡ true)
+  only_then true all = inr (all_cpus all)
+  only_then false other = (r.knows pass v at_pass).only
+
+  learns_then : (b : Bool) → has_all v ≡ b → has_all v ≡ true → LearnsAll shape v (known_then b shape r.world v)
+  learns_then true is all = record {
+    log = logs_of r.world;
+    known = λ k below. known_all r.world k (lock_count shape) below;
+    legal = r.legal;
+    idle = λ lru no_lock no_hand. rule_idle shape s r pass v at_pass (all_cpus all) no_lock no_hand lru;
+    turns = λ no_lock. turns_now shape s r pass v at_pass (all_cpus all) no_lock;
+    strands = (r.tickets.known pass v at_pass).ended;
+    strand = (r.tickets.known pass v at_pass).strand;
+  }
+  learns_then false is all = true_false (sym all ∙ is)
+
 -- the ticket word is read by a pass that draws none
 pub sees_step : (shape : Shape) (slots pass : ℕ) (me : Seated) → me.0.ticket ≡ Unread → StepsAs shape slots pass me (ticket_word shape) (λ n. n) stays (SeesTicket me)
-unfolding ticket_rule
+unfolding learning_rule
 sees_step shape slots pass me unread s r wide at_pass small =
-    let v : View = me.0 in let w = r.world in let n : ℕ = get_or s.words (ticket_word shape) 0 in let kn = r.knows pass v at_pass in (
-      ticketed v.ticket n (touching (made w) (ticket_word shape) (Some n) n v) v,
+    let v : View = me.0 in let w = r.world in let n : ℕ = get_or s.words (ticket_word shape) 0 in let kn = r.knows pass v at_pass in
+    let learned : List Known = known_then (has_all v) shape w v in (
+      learning learned (ticketed v.ticket n (touching (made w) (ticket_word shape) (Some n) n v) v),
       keeps,
       tt,
       (
-        ticket_rule shape s r pass v at_pass n (Some n) v.ticket n me.1 refl (λ _. refl)
-            (tickets_seen shape n (logs_of w) w.lost w.pass_of_cpu s.views pass v (touching (made w) (ticket_word shape) (Some n) n v) at_pass unread r.tickets),
+        learning_rule shape s r pass v at_pass n (Some n) v.ticket n learned me.1 (right_then shape s r pass v at_pass (has_all v)) (only_then shape s r pass v at_pass (has_all v) refl) refl (λ _. refl)
+            (tickets_seen shape n (logs_of w) w.lost w.pass_of_cpu s.views pass v (touching (made w) (ticket_word shape) (Some n) n v) learned at_pass unread r.tickets),
         refl,
       ),
       record {
         fits = word_fits shape s r pass v at_pass;
         at = made w;
-        after_is = λ i. (ticketed v.ticket n (touching (made w) (ticket_word (sym kn.shape_is i)) (Some n) n v) v, me.1);
+        learned = learned;
+        learns = λ all. subst (λ (z : Shape). LearnsAll z v learned) (sym kn.shape_is) (learns_then shape s r pass v at_pass (has_all v) refl all);
+        after_is = λ i. (learning learned (ticketed v.ticket n (touching (made w) (ticket_word (sym kn.shape_is i)) (Some n) n v) v), me.1);
       },
     )
 
@@ -154,7 +221,7 @@ sees_ticket shape slots pass me i is unread =
 
 -- the ticket word is read by a pass that holds a lock
 pub reads_step : (shape : Shape) (slots pass : ℕ) (me : Seated) (hold : Hold) (below : List Hold) → me.0.held ≡ hold ∷ below → me.0.ticket ≡ Unread → StepsAs shape slots pass me (ticket_word shape) (λ n. n) stays (ReadsTicket me)
-unfolding ticket_rule
+unfolding ticket_rule learning_rule
 reads_step shape slots pass me hold below held unread s r wide at_pass small =
     let v : View = me.0 in let w = r.world in let n : ℕ = get_or s.words (ticket_word shape) 0 in let kn = r.knows pass v at_pass in
     let first = first_there shape s r pass v at_pass hold below held in (
@@ -181,7 +248,7 @@ reads_ticket shape slots pass me hold below i is held unread =
 
 -- a ticket is drawn by a pass that was about to
 pub draws_step : (shape : Shape) (slots pass : ℕ) (me : Seated) → me.0.ticket ≡ Drawing → StepsAs shape slots pass me (ticket_word shape) (λ n. 1 + n) stays (DrawsTicket me)
-unfolding ticket_rule
+unfolding ticket_rule learning_rule
 draws_step shape slots pass me is_drawing s r wide at_pass small =
     let v : View = me.0 in let w = r.world in let n : ℕ = get_or s.words (ticket_word shape) 0 in let kn = r.knows pass v at_pass in
     let t = r.tickets in

@@ -21,9 +21,10 @@ use Rattle.place_table.specs.declared.view.Notes.{Notes}
 use Rattle.place_table.specs.declared.view.WordStep.{WordStep}
 use Rattle.place_table.specs.declared.view.Ticket.{Ticket}
 use Rattle.place_table.specs.declared.view.Ticket.TheVariants.{Unread, Drawing, Drawn, Refused}
-use Rattle.place_table.specs.Views.{is_among, has_all, ticket_of, number_by, refused_by, reached_by, ticket_seen, ticketed, ticket_read, touching, found_below}
+use Rattle.place_table.specs.Views.{is_among, has_all, ticket_of, number_by, refused_by, reached_by, ticket_seen, learning, ticketed, ticket_read, touching, found_below}
 use Rattle.place_table.specs.Words.{ticket_word, ticket_bound}
 use Rattle.place_table.specs.TurnNotes.{NotesFit, FlushedFit}
+use Rattle.place_table.specs.Idle.{LearnsAll}
 use Rattle.place_table.specs.Plays.{Seated, MayPut, TakesTicket, SeesTicket}
 use Rattle.place_table.specs.Passes.{PassView, TableView, CanGive, with_view, IsPass, IsPassOf, SawTicket, IsNumbered}
 use Rattle.place_table.specs.declared.strands.FinishedStrand.{FinishedStrand}
@@ -157,12 +158,15 @@ is_pass_seen {flags} {ended} v slots strand spares n after pass sees =
     }
 
 pub saw_ticket : (t : TableView) (before after : PassView) (old new : Seated) (n : ℕ) → IsPassOf t before → ((c : ℕ) → c < t.shape.cpus → is_among c before.view.cpus ≡ true) → old.0 ≡ before.view → old.0.ticket ≡ Unread → SeesTicket old n new → after ≡ with_view before new.0 → SawTicket before after n
-saw_ticket t before after old new n of_table all old_is unread sees after_is = record {
-  exact = sees.fits.exact (ap has_all old_is ∙ all_here before.view.shape.cpus before.view.cpus (λ c less. all c (subst (λ (z : Shape). c < z.cpus) of_table.1 less)))
-      ∙ (ap (λ (x : Ticket). reached_by x old.0.reached) unread ∙ ap (λ (v : View). v.reached) old_is);
-  at = sees.at;
-  after_is = after_is ∙ (ap (λ (z : Seated). with_view before z.0) sees.after_is ∙ ap (λ (v : View). with_view before (ticket_seen sees.at n v)) old_is);
-}
+saw_ticket t before after old new n of_table all old_is unread sees after_is =
+    let has : has_all old.0 ≡ true = ap has_all old_is ∙ all_here before.view.shape.cpus before.view.cpus (λ c less. all c (subst (λ (z : Shape). c < z.cpus) of_table.1 less)) in record {
+      exact = sees.fits.exact has
+          ∙ (ap (λ (x : Ticket). reached_by x old.0.reached) unread ∙ ap (λ (v : View). v.reached) old_is);
+      at = sees.at;
+      after_is = after_is ∙ (ap (λ (z : Seated). with_view before z.0) sees.after_is ∙ ap (λ (v : View). with_view before (learning sees.learned (ticket_seen sees.at n v))) old_is);
+      learned = sees.learned;
+      learns = subst (λ (v : View). LearnsAll v.shape v sees.learned) old_is (sees.learns has);
+    }
 
 -- the number of a turn that is given back
 pub numbered_by : (before : View) (drawn : Option ℕ) (x : Ticket) (n : ℕ) (xs : List WordStep) → TakesTicket (before, []) drawn (ticketed x n xs before, []) → before.ticket ≡ Unread → (after : View) → after.reached ≡ reached_by x n → after.refused ≡ refused_by x before.refused
@@ -178,6 +182,8 @@ numbered_by before None x n xs takes unread after reached refused =
     let more : after.reached ≡ n = reached ∙ ap (λ (z : Ticket). reached_by z n) none in
     let one : after.refused ≡ suc before.refused = refused ∙ ap (λ (z : Ticket). refused_by z before.refused) none in
     record {
+      reached = omega (arith, more, n_is, low);
+      refused = omega (arith, one);
       ascends = omega (arith, number, n_is, low);
       next_is = omega (arith, number, more, one);
       exact = λ all. let same : takes.0 ≡ before.reached = fits.exact all ∙ ap (λ (z : Ticket). reached_by z before.reached) unread in omega (arith, number, n_is, same);
@@ -198,6 +204,8 @@ numbered_by before (Some t) x n xs takes unread after reached refused =
     let more : after.reached ≡ suc t = reached ∙ ap (λ (z : Ticket). reached_by z n) is in
     let one : after.refused ≡ before.refused = refused ∙ ap (λ (z : Ticket). refused_by z before.refused) is in
     record {
+      reached = omega (arith, more, low, later);
+      refused = omega (arith, one);
       ascends = omega (arith, number, none, low, later);
       next_is = omega (arith, number, more, one, none);
       exact = λ all.

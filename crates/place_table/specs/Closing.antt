@@ -1,5 +1,5 @@
 -- What a closed table leaves: each history leads to what lay under its lock, and each turn is a step of one strand.
-use Rattle.std.specs.Prelude.{◌≡◌, ℕ, suc, ◌<◌, ◌≤◌, ◌==◌, Bool, true, false, not, All, List, [], ◌∷◌, length, map, filter, Option, None, Some, slice_get, slice_index_or, option_map, IsTrue, nat_lt, if◌then◌else◌}
+use Rattle.std.specs.Prelude.{◌≡◌, ℕ, suc, ◌<◌, ◌≤◌, Bool, true, false, not, All, List, [], ◌∷◌, length, map, filter, Option, None, Some, slice_get, slice_index_or, option_map, IsTrue, nat_lt, if◌then◌else◌}
 use Rattle.std.specs.List.{range_with_len, list_any, flat_map}
 use mathlib.Core.Option.{some}
 use lib.ListN.{get_elem?}
@@ -26,6 +26,7 @@ use Rattle.place_words.specs.Codes.{owner_code, home_code}
 use Rattle.map_types.specs.ElementLists.{one, times}
 use Rattle.place_words.specs.Tickets.{tickets_of, AscendIn}
 use Rattle.place_table.specs.Tickets.{EachAscends}
+pub use Rattle.place_table.specs.StrandTurns.{numbered, turns_by, AreTurnsOf}
 
 -- what is handed out
 pub record ClosedView : Type 0 where
@@ -78,17 +79,6 @@ pub record IsLeft (shape : Shape) (log : ℕ → List Entry) (lost : ℕ → Boo
   pub strands_are : closed.strands ≡ (if strands_lost then [] else strands_told shape strands)
   pub finals_are : closed.finals ≡ finals_of shape (state_left shape log bit spares)
 
--- the entries of a history with their places in it
-abbrev pub numbered : ℕ → List Entry → List (ℕ × Entry)
-numbered place [] = []
-numbered place (entry ∷ entries) = (place, entry) ∷ numbered (suc place) entries
-
--- of some turns with their places those that belong to this strand, by its place among the strands
-abbrev pub turns_by : (ℕ → ℕ) → ℕ → List (ℕ × Entry) → List (ℕ × Entry)
-turns_by strand_at n [] = []
-turns_by strand_at n (turn ∷ turns) =
-    if strand_at turn.0 == n then turn ∷ turns_by strand_at n turns else turns_by strand_at n turns
-
 -- Steps in the order in which they were made, each after at least so many: each has a number above that of the one before it.
 abbrev pub AreInOrder : ℕ → List Touch → Type 0
 AreInOrder n [] = Unit {0}
@@ -98,15 +88,6 @@ AreInOrder n (x ∷ xs) = (n ≤ x.1.at) × AreInOrder (suc x.1.at) xs
 abbrev pub AreBelow : ℕ → List Touch → Type 0
 AreBelow n [] = Unit {0}
 AreBelow n (x ∷ xs) = (x.0 < n) × AreBelow n xs
-
--- The turns of a lock are those of the strands: each is a turn of exactly one strand, which has the CPU of the entry, and each
--- strand has its turns in order.
-pub record AreTurnsOf (k : ℕ) (strands : List Ended) (log : List Entry) : Type 0 where
-  -- of a place in the history: the strand, by its place among them
-  pub strand_at : ℕ → ℕ
-  pub within : (place : ℕ) → place < length log → strand_at place < length strands
-  pub has_cpu : (place : ℕ) (entry : Entry) (strand : Ended) → slice_get log place ≡ Some entry → slice_get strands (strand_at place) ≡ Some strand → is_among entry.cpu strand.cpus ≡ true
-  pub turns : (n : ℕ) (strand : Ended) → slice_get strands n ≡ Some strand → turns_on k strand.steps ≡ turns_by strand_at n (numbered 0 log)
 
 -- The steps on words are those of the strands, in the order in which they were made: each saw what the one before it on its word
 -- left, from what the word was at first to what it is, and each strand has its steps in order. Their numbers ascend; those that are

@@ -2,6 +2,7 @@ pub mod Calls
 pub mod Closing
 pub mod Contents
 pub mod Flushes
+pub mod Idle
 pub mod InBucket
 pub mod Known
 pub mod Laws
@@ -13,6 +14,7 @@ pub mod Recording
 pub mod Refusals
 pub mod Rules
 pub mod StoredHashes
+pub mod StrandTurns
 pub mod Tickets
 pub mod TurnNotes
 pub mod Views

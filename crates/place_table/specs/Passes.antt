@@ -28,14 +28,16 @@ use Rattle.place_table.specs.Flushes.{flushed_last}
 use Rattle.place_table.specs.declared.content.Content.{Content}
 use Rattle.place_table.specs.declared.content.Behind.{Behind}
 use Rattle.place_table.specs.declared.strands.FinishedStrand.{FinishedStrand}
+use Rattle.place_table.specs.declared.view.Known.{Known}
 use Rattle.place_table.specs.declared.view.View.{View}
+use Rattle.place_table.specs.Idle.{LearnsAll}
 use Rattle.place_table.specs.declared.view.Hold.{Hold}
 use Rattle.place_table.specs.declared.view.InHand.{InHand}
 use Rattle.place_table.specs.declared.view.Notes.{Notes}
 use Rattle.place_table.specs.declared.view.Turned.{Turned}
 use Rattle.place_table.specs.declared.view.Ended.{Ended}
 use Rattle.place_table.specs.Contents.{content_told, lists_of, FitsLock}
-use Rattle.place_table.specs.Views.{is_among, hold_at, is_in_hand_of, known_log, first_view, place_of, kept_step, holding, given, losing, claimed, settled, attached, detached, marked, cleared, bit_read, owner_read, home_read, ticket_seen, rehomed, is_recorded, split_from, split_off, joined, bucket_known, home_known}
+use Rattle.place_table.specs.Views.{is_among, hold_at, is_in_hand_of, known_log, first_view, place_of, kept_step, holding, given, losing, claimed, settled, attached, detached, marked, cleared, bit_read, owner_read, home_read, ticket_seen, learning, rehomed, is_recorded, split_from, split_off, joined, bucket_known, home_known}
 use Rattle.place_table.specs.Rules.{KeptAs, IsAboveAll}
 use Rattle.place_table.specs.Plays.{AreElements, IsApartFromHands, MayPut, IsInnermost, IsKeptOrLost, IsKnownBit, OwnerFits, IsKnownHome, HomeFits, MayGoHome, MayClear, TakesTicket}
 use Rattle.place_table.specs.declared.view.Ticket.{Ticket}
@@ -220,9 +222,12 @@ pub record TookTicket (before : View) : Type 0 where
   pub touched : List WordStep
   pub takes : TakesTicket (before, []) drawn (ticketed ticket reached touched before, [])
 
--- The number of a turn that is given back: at least the next number before, and exactly that where the pass has all CPUs. The next
--- number is then one more than it.
+-- The number of the turn that ends when its lock is given back: at least the next number before, and exactly that where the pass has all CPUs. The next
+-- number is then one more than it. What the ticket word is known to have reached doesn't fall, nor does the count of turns without a
+-- ticket.
 pub record IsNumbered (before : View) (number : ℕ) (after : View) : Type 0 where
+  pub reached : before.reached ≤ after.reached
+  pub refused : before.refused ≤ after.refused
   pub ascends : next before ≤ number
   pub next_is : next after ≡ suc number
   pub exact : has_all before ≡ true → number ≡ next before
@@ -269,7 +274,10 @@ GaveBack t lock before after here part =
 pub record SawTicket (before after : PassView) (found : ℕ) : Type 0 where
   pub exact : found ≡ before.view.reached
   pub at : ℕ
-  pub after_is : after ≡ with_view before (ticket_seen at found before.view)
+  -- from then on it knows the turns of each lock
+  pub learned : List Known
+  pub learns : LearnsAll before.view.shape before.view learned
+  pub after_is : after ≡ with_view before (learning learned (ticket_seen at found before.view))
 
 -- mark and detach ask for an element of a bucket that the CPU holds
 pub record CanMark (t : TableView) (e bucket : ℕ) (p : PassView) : Type 0 where
@@ -435,9 +443,11 @@ abbrev pub AreCounted : ℕ → List Turned → ℕ → Type 0
 AreCounted n [] m = m ≡ n
 AreCounted n (step ∷ steps) m = (step.entry.ticket ≡ n) × AreCounted (suc n) steps m
 
--- The numbers of these turns: they ascend, from what was next before to what is next then, and where the pass has all CPUs each is one
--- more than the one before it.
+-- The numbers of these turns: they ascend, from what was next before to what is next then, and where the pass has all CPUs
+-- they are all the numbers between, each once. Nothing of what is known of the ticket word is forgotten.
 pub record AreNumbered (before after : View) (more : List Turned) : Type 0 where
+  pub reached : before.reached ≤ after.reached
+  pub refused : before.refused ≤ after.refused
   pub ascend : AscendIn (next before) (turn_tickets more) (next after)
   pub exact : has_all before ≡ true → AreCounted (next before) more (next after)
 

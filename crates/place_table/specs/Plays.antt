@@ -27,7 +27,9 @@ use Rattle.place_core.specs.Places.{is_in_bucket, MayOwn}
 use Rattle.place_core.specs.Wholeness.{all_of}
 use Rattle.place_table.specs.declared.content.Content.{Content}
 use Rattle.place_table.specs.declared.content.Behind.{Behind}
+use Rattle.place_table.specs.declared.view.Known.{Known}
 use Rattle.place_table.specs.declared.view.View.{View}
+use Rattle.place_table.specs.Idle.{LearnsAll}
 use Rattle.place_table.specs.declared.view.Hold.{Hold}
 use Rattle.place_table.specs.declared.view.InHand.{InHand}
 use Rattle.place_table.specs.declared.view.HashIn.{HashIn}
@@ -36,7 +38,7 @@ use Rattle.place_table.specs.declared.view.Ticket.TheVariants.{Drawn}
 use Rattle.place_table.specs.Words.{ticket_bound}
 use Rattle.place_table.specs.Tickets.{IsTaken}
 use Rattle.place_table.specs.Contents.{content_told, lists_of, FitsLock}
-use Rattle.place_table.specs.Views.{is_among, hold_at, is_in_hand_of, known_log, bit_seen, holding, given, losing, ticket_read, ticket_drawn, ticket_seen, has_all, reached_by, ticket_of, kept_step, moved, with_hashes, claimed, settled, attached, detached, marked, cleared, bit_read, owner_read, home_read, rehomed, home_known, came_last}
+use Rattle.place_table.specs.Views.{is_among, hold_at, is_in_hand_of, known_log, bit_seen, holding, given, losing, ticket_read, ticket_drawn, ticket_seen, learning, has_all, reached_by, ticket_of, kept_step, moved, with_hashes, claimed, settled, attached, detached, marked, cleared, bit_read, owner_read, home_read, rehomed, home_known, came_last}
 use Rattle.place_table.specs.Rules.{IsSlotAfter, is_hand_of}
 use Rattle.place_table.specs.TurnNotes.{HasOnlyHash, NotesFit, InnermostFits}
 use Rattle.place_table.specs.StoredHashes.{stored_in}
@@ -204,7 +206,10 @@ pub record DrawsTicket (before : Seated) (found : ℕ) (after : Seated) : Type 0
 pub record SeesTicket (before : Seated) (found : ℕ) (after : Seated) : Type 0 where
   pub fits : WordFits before.0 found
   pub at : ℕ
-  pub after_is : after ≡ (ticket_seen at found before.0, before.1)
+  -- where the pass has all CPUs, it knows the turns of each lock from then on
+  pub learned : List Known
+  pub learns : has_all before.0 ≡ true → LearnsAll before.0.shape before.0 learned
+  pub after_is : after ≡ (learning learned (ticket_seen at found before.0), before.1)
 
 -- Both, one after the other: no ticket was drawn where the word was too high.
 abbrev pub TakesTicket : Seated → Option ℕ → Seated → Type 0

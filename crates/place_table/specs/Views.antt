@@ -206,6 +206,10 @@ ticket_drawn at t v = ticketed (tickets.Drawn t) v.reached (touching at (ticket_
 abbrev pub ticket_seen : ℕ → ℕ → View → View
 ticket_seen at n v = ticketed v.ticket n (touching at (ticket_word v.shape) (Some n) n v) v
 
+-- the turns of locks are learned
+abbrev pub learning : List Known → View → View
+learning known v = record v { known = known }
+
 -- what the ticket word is known to have reached once the turn with this ticket is over
 abbrev pub reached_by : Ticket → ℕ → ℕ
 reached_by tickets.Unread n = n

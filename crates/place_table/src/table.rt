@@ -316,6 +316,7 @@ impl PlaceTable {
     }
 
     /// What the ticket word is, by one load: what the pass knows it to have reached. The pass has all CPUs and is in no call.
+    /// From then on it knows the turns of every lock.
     pub fn ticket_now(&self, pass: &mut Pass) -> u64
         requires table { IsPassOf self.now pass.old }
         requires all_cpus { (c : ℕ) → c < self.now.shape.cpus → is_among c pass.old.view.cpus ≡ true }

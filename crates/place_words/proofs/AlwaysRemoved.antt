@@ -4,14 +4,12 @@ use Rattle.std.specs.Prelude.{Option, None, Some, All, count_by, find, option_ma
 use Rattle.std.specs.List.{flat_map, range_with_len}
 use Rattle.std.proofs.lemmas.List.Elements.{All-nil, All-cons, All-append, All-head, All-tail}
 use Rattle.map_types.specs.declared.attr.Shape.{Shape}
-use Rattle.map_types.specs.declared.call.Call.{Call}
 use Rattle.map_types.specs.declared.kind.DomainId.{DomainId}
 use Rattle.map_types.specs.declared.kind.DomainId.TheVariants.{Local, Global, CpuLru, Bucket}
 use Rattle.map_types.specs.declared.row.Row.{Row}
 use Rattle.map_types.specs.Listed.{Listed, elements_of}
 use Rattle.place_words.specs.declared.bucket_part.BucketPart.{BucketPart}
 use Rattle.place_words.specs.declared.bucket_part.BucketPart.TheVariants.{Lookup, Update, Delete, Take, Next, First, Walk, Evict}
-use Rattle.place_words.specs.declared.history.Entry.{Entry}
 use Rattle.place_words.specs.declared.history.Part.{Part}
 use Rattle.place_words.specs.declared.history.Part.TheVariants as parts
 use Rattle.place_words.specs.declared.list_part.GlobalPart.{GlobalPart}
@@ -25,14 +23,13 @@ use Rattle.place_words.specs.declared.visits.Try.{Try}
 use Rattle.place_words.specs.Choices.{without_bits, active_visits, inactive_visits, bits_rotated, flush_of, looks_over, forced_over, forced_after, shrink_of, own_shrink, own_turn, global_shrink, global_turn, refill_of, refill_got, sparing_over, steal_of, steal_got}
 use Rattle.place_words.specs.Globals.{global_scans, global_target, with_flushed, flushed_rotated}
 use Rattle.place_words.specs.Locals.{LocalLists}
-use Rattle.place_words.specs.Locks.{is_same_lock}
-use Rattle.place_words.specs.Logs.{State, turned, all_turned, locals_at, globals_at, own_at, lies_in, Taking, got_or, probed, taken_own, home_or, stolen, refilled, taken_shared, acquired, freed_at, freeing, does, new_state, after_one, run}
-use Rattle.place_words.specs.SerialOrder.{FindsNoneHeld, AlwaysRemoves}
+use Rattle.place_words.specs.Logs.{State, all_turned, locals_at, globals_at, own_at, lies_in, Taking, got_or, probed, taken_own, home_or, stolen, refilled, taken_shared, acquired, freed_at, freeing}
+use Rattle.place_words.specs.SerialOrder.{FindsNoneHeld}
 use Rattle.place_words.specs.Sets.{ListSet, has_row, own_scans, own_target, rotated_set}
 use Rattle.place_words.specs.Shrinking.{look_removed, try_removed, after_looks, forced_rows}
 use Rattle.place_words.specs.Takings.{look_probes, walk_probes, shrink_probes, probes_of, stored_hash, evicts, listed_rows, rows_brought, brings_home, set_of}
 use Rattle.place_words.specs.Turns.{Turn, ring, on_lock, on_bucket_of}
-use Rattle.place_words.proofs.EachTurn.{IsOfCall, IsOfWalk, TurnLaw, does_right, verb_passes}
+use Rattle.place_words.proofs.EachTurn.{IsOfCall, IsOfWalk, TurnLaw}
 
 abbrev Took : Try → Type 0
 Took probe = try_removed probe ≡ true
@@ -111,10 +108,10 @@ refill_took key_hash (Rattle.place_words.specs.declared.list_part.GlobalPart.The
 
 -- Turns
 
-abbrev IsFine : Turn → Type 0
+abbrev pub IsFine : Turn → Type 0
 IsFine turn = FindsNoneHeld turn.part
 
-abbrev AreFine : List Turn → Type 0
+abbrev pub AreFine : List Turn → Type 0
 AreFine turns = All (λ (turn : Turn). FindsNoneHeld turn.part) turns
 
 one_fine : (turn : Turn) → FindsNoneHeld turn.part → AreFine (turn ∷ [])
@@ -213,7 +210,7 @@ module _ (shape : Shape) (cpu number : ℕ) where
   walk_fine (Walk remove room result) is = All-nil Took
   walk_fine (Evict e probed) is = absurd is
 
-  fine_law : TurnLaw shape cpu number (λ side key value. Unit {0}) (λ state. Unit {0}) (λ turns. All (λ (turn : Turn). FindsNoneHeld turn.part) turns) (Unit {0})
+  pub fine_law : TurnLaw shape cpu number (λ side key value. Unit {0}) (λ state. Unit {0}) (λ turns. All (λ (turn : Turn). FindsNoneHeld turn.part) turns) (Unit {0})
   fine_law = record {
     none = All-nil IsFine;
     both = λ xs ys first second. All-append IsFine xs ys first second;
@@ -226,32 +223,3 @@ module _ (shape : Shape) (cpu number : ℕ) where
     takes = λ lru key_hash state kept. acquired_fine key_hash state;
     lacks = λ lru key_hash state kept is. tt;
   }
-
--- Logs
-
-abbrev IsFineEntry : Entry → Type 0
-IsFineEntry entry = FindsNoneHeld entry.part
-
-abbrev AreFineLogs : State → Type 0
-AreFineLogs state = (lock : DomainId) → All (λ (entry : Entry). FindsNoneHeld entry.part) (state.logs lock)
-
-turned_fine : (shape : Shape) (cpu number : ℕ) (turn : Turn) (state : State) → FindsNoneHeld turn.part → AreFineLogs state → AreFineLogs (turned shape cpu number turn state)
-turned_fine shape cpu number turn state fine logs lock = by (is_same_lock turn.lock lock)
-  where
-    by : (same : Bool) → All (λ (entry : Entry). FindsNoneHeld entry.part) (cond same (state.logs lock ++ (record { ticket = state.next_ticket; cpu = cpu; call = number; part = turn.part }) ∷ []) (state.logs lock))
-    by true = All-append IsFineEntry (state.logs lock) _ (logs lock) (All-cons IsFineEntry _ [] fine (All-nil IsFineEntry))
-    by false = logs lock
-
-all_turned_fine : (shape : Shape) (cpu number : ℕ) (turns : List Turn) (state : State) → AreFine turns → AreFineLogs state → AreFineLogs (all_turned shape cpu number turns state)
-all_turned_fine shape cpu number [] state fine logs = logs
-all_turned_fine shape cpu number (turn ∷ turns) state fine logs =
-    all_turned_fine shape cpu number turns (turned shape cpu number turn state) (All-tail IsFine turn turns fine) (turned_fine shape cpu number turn state (All-head IsFine turn turns fine) logs)
-
-run_fine : (shape : Shape) (number : ℕ) (calls : List Call) (state : State) → AreFineLogs state → AreFineLogs (run shape number calls state)
-run_fine shape number [] state logs = logs
-run_fine shape number (call ∷ calls) state logs =
-    let did = does_right (fine_law shape call.cpu number) state tt call.verb (verb_passes call.verb) in
-    run_fine shape (suc number) calls (after_one shape number call state) (all_turned_fine shape call.cpu number (does shape call.cpu number state call.verb).turns state did.fits logs)
-
-pub always_removes : (shape : Shape) (calls : List Call) → AlwaysRemoves shape calls
-always_removes shape calls = run_fine shape 1 calls (new_state shape) (λ lock. All-nil IsFineEntry)

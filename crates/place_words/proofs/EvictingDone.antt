@@ -15,6 +15,7 @@ use Rattle.map_types.specs.ElementLists.{times}
 use Rattle.map_types.specs.Kind.{is_lru, is_percpu}
 use Rattle.map_types.specs.Stored.{Stored}
 use Rattle.key_hash.specs.Jhash.{hash}
+pub use Rattle.place_words.specs.AtRest.{IsAtRest}
 use Rattle.place_words.specs.declared.bucket_part.BucketPart.{BucketPart}
 use Rattle.place_words.specs.declared.bucket_part.BucketPart.TheVariants.{Lookup, Update, Delete, Take}
 use Rattle.place_words.specs.declared.bucket_part.Put.{Put}
@@ -35,10 +36,6 @@ use Rattle.place_words.proofs.PlacedLaws.{placed-append, lies_after}
 use Rattle.place_words.proofs.PlainLaws.{chosen_second}
 use Rattle.place_words.proofs.Settled.{IsSettled, settled_anywhere, one_bucket, bucket_turned}
 use Rattle.place_words.proofs.Supplies.{first_of_two, IsTaken, Supplies}
-
--- between calls nothing is in hand
-abbrev pub IsAtRest : Shape → (DomainId → Content) → Type 0
-IsAtRest shape contents = IsSettled shape contents 0 []
 
 -- A call's turns are a trace of it with its reply, each may be made at its place, and then nothing is in hand.
 pub record IsServed (shape : Shape) (cpu number : ℕ) (state : State) (verb : Verb) (did : Does) : Type 0 where

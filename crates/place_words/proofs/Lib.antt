@@ -78,7 +78,8 @@ pub mod SharedRound
 pub mod SharedDone
 pub mod BatchesDone
 pub mod EvictingRuns
-pub mod EveryRun
+pub mod AnyStart
+pub mod Cuts
 pub mod RestCounts
 mod SerialWorked
 pub mod Permutes

@@ -6,21 +6,10 @@ use Rattle.map_types.specs.declared.attr.Shape.{Shape}
 use Rattle.map_types.specs.declared.kind.DomainId.{DomainId}
 use Rattle.map_types.specs.declared.kind.DomainId.TheVariants.{Local, Global, CpuLru, Bucket}
 use Rattle.map_types.specs.ElementLists.{one}
+pub use Rattle.place_words.specs.AtRest.{locks_below, list_locks, sum_over}
 use Rattle.place_words.specs.Histories.{Content}
 use Rattle.place_words.specs.Locks.{is_same_lock}
 use Rattle.place_words.proofs.LockLemmas.{one_lock}
-
--- the locks of the lists of a map that evicts
-abbrev pub locks_below : (ℕ → DomainId) → ℕ → List DomainId
-locks_below lock zero = []
-locks_below lock (suc n) = lock n ∷ locks_below lock n
-
-abbrev pub list_locks : Shape → List DomainId
-list_locks shape = if shape.common then Global ∷ locks_below Local shape.cpus else locks_below CpuLru shape.cpus
-
-abbrev pub sum_over : (Content → ℕ) → (DomainId → Content) → List DomainId → ℕ
-sum_over f contents [] = 0
-sum_over f contents (lock ∷ locks) = f (contents lock) + sum_over f contents locks
 
 -- the sum without what lies under one lock
 abbrev pub sum_others : (Content → ℕ) → (DomainId → Content) → DomainId → List DomainId → ℕ

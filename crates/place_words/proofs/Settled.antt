@@ -1,71 +1,26 @@
 -- What holds of a map that evicts between the turns of calls in serial order: each element is on one list, free or listed, and
 -- it is in a bucket exactly where it is listed with a hash of that bucket, but for those that a call has in hand.
-use Rattle.std.proofs.Common.{◌≡◌, ◌≢◌, ℕ, ◌+◌, ◌<◌, ◌≤◌, Bool, true, false, cond, eqb, List, [], refl, ap, ◌∙◌, sym, subst, arith}
+use Rattle.std.proofs.Common.{◌≡◌, ◌≢◌, ℕ, ◌+◌, ◌≤◌, Bool, true, false, cond, eqb, List, [], refl, ap, ◌∙◌, sym, subst, arith}
 use Rattle.std.proofs.lemmas.Bool.{cond-true, cond-false, ne_eqb}
-use Rattle.std.specs.Prelude.{nat_lt, ◌==◌, MatchOption, unwrap_or, if◌then◌else◌}
+use Rattle.std.specs.Prelude.{nat_lt, MatchOption}
 use Rattle.map_types.specs.declared.attr.Shape.{Shape}
 use Rattle.map_types.specs.declared.kind.DomainId.{DomainId}
 use Rattle.map_types.specs.declared.kind.DomainId.TheVariants.{Local, Global, CpuLru, Bucket, Freelist}
 use Rattle.map_types.specs.ElementLists.{times, one}
 use Rattle.map_types.specs.Stored.{Stored}
 use Rattle.map_types.proofs.RowLemmas.{by_test}
-use Rattle.key_hash.specs.Bucket.{bucket_number}
 use Rattle.place_words.specs.declared.bucket_part.BucketPart.{BucketPart}
 use Rattle.place_words.specs.declared.history.Part.TheVariants as parts
+pub use Rattle.place_words.specs.AtRest.{bodies_in, bodies_at, is_of, elements_on, rows_on, on_lists, listed, held, IsFit, IsSettled}
 use Rattle.place_words.specs.Bodies.{numbers}
 use Rattle.place_words.specs.Buckets.{AllowsInBucket, bucket_after}
-use Rattle.place_words.specs.Histories.{Content, content_after, in_bucket, on_freelist, in_locals, in_global, in_own, bucket_in, freelist_in, locals_in, global_in, own_in}
-use Rattle.place_words.specs.Locals.{LocalLists}
+use Rattle.place_words.specs.Histories.{Content, content_after, in_bucket, on_freelist, in_locals, in_global, in_own, bucket_in}
 use Rattle.place_words.specs.Locks.{is_same_lock}
-use Rattle.place_words.specs.Moves.{elements_in, elements_of_set, brought_to_bucket, taken_from_bucket}
-use Rattle.place_words.specs.RowMoves.{rows_of}
-use Rattle.place_words.specs.Sets.{ListSet}
-use Rattle.place_words.specs.Takings.{listed_rows, set_of}
+use Rattle.place_words.specs.Moves.{brought_to_bucket, taken_from_bucket}
 use Rattle.place_words.specs.Turns.{Turn, on_lock, after_turn}
 use Rattle.place_words.proofs.BucketLaws.{bucket_counts}
 use Rattle.place_words.proofs.LockLemmas.{same_lock}
 use Rattle.place_words.proofs.ListSums.{list_locks, sum_over, sum_none, others_stay, no_bucket}
-
-abbrev pub bodies_in : Content → List Stored
-bodies_in content = unwrap_or (bucket_in content) []
-
--- what lies in a bucket
-abbrev pub bodies_at : (DomainId → Content) → ℕ → List Stored
-bodies_at contents bucket = bodies_in (contents (Bucket bucket))
-
--- whether a hash is of a bucket
-abbrev pub is_of : Shape → ℕ → ℕ → Bool
-is_of shape bucket hash = bucket_number hash shape.buckets == bucket
-
--- how often an element lies on the lists, and how many rows of it are listed there whose hash passes a test
-abbrev pub elements_on : ℕ → Content → ℕ
-elements_on e content = times e (elements_in content)
-
-abbrev pub rows_on : ℕ → (ℕ → Bool) → Content → ℕ
-rows_on e of content = rows_of e of (listed_rows content)
-
-abbrev pub on_lists : Shape → (DomainId → Content) → ℕ → ℕ
-on_lists shape contents e = sum_over (elements_on e) contents (list_locks shape)
-
-abbrev pub listed : Shape → (DomainId → Content) → ℕ → (ℕ → Bool) → ℕ
-listed shape contents e of = sum_over (rows_on e of) contents (list_locks shape)
-
--- how often an element is in hand, of those that a call has in hand from one bucket or for it
-abbrev pub held : ℕ → List ℕ → ℕ → ℕ → ℕ
-held home hand e bucket = if home == bucket then times e hand else 0
-
--- Under each lock lies its sort of content. A CPU steals next from one of the CPUs, and its own set has elements of its own.
-abbrev pub IsFit : Shape → DomainId → Content → Type 0
-IsFit shape (Local cpu) content = MatchOption (locals_in content) ⊥ (λ (lists : LocalLists). cpu < shape.cpus → lists.steal < shape.cpus)
-IsFit shape Global content = MatchOption (global_in content) ⊥ (λ (set : ListSet). Unit {0})
-IsFit shape (CpuLru cpu) content = MatchOption (own_in content) ⊥ (λ (set : ListSet). (e : ℕ) → 1 ≤ times e (elements_of_set set) → set_of shape e ≡ cpu)
-IsFit shape (Bucket bucket) content = MatchOption (bucket_in content) ⊥ (λ (bodies : List Stored). Unit {0})
-IsFit shape (Freelist cpu) content = MatchOption (freelist_in content) ⊥ (λ (stack : List ℕ). Unit {0})
-
-pub record IsSettled (shape : Shape) (contents : DomainId → Content) (home : ℕ) (hand : List ℕ) : Type 0 where
-  pub fit : (lock : DomainId) → IsFit shape lock (contents lock)
-  pub once : (e : ℕ) → on_lists shape contents e ≡ one (nat_lt e shape.elements)
-  pub placed : (e bucket : ℕ) → times e (numbers (bodies_at contents bucket)) + held home hand e bucket ≡ listed shape contents e (is_of shape bucket)
 
 -- where nothing is in hand, it is from no bucket
 pub settled_anywhere : {shape : Shape} {contents : DomainId → Content} {home : ℕ} (other : ℕ) → IsSettled shape contents home [] → IsSettled shape contents other []

@@ -1,3 +1,4 @@
+pub mod AtRest
 pub mod Bodies
 pub mod Buckets
 pub mod Choices
@@ -14,6 +15,7 @@ pub mod Moves
 pub mod Named
 pub mod Openings
 pub mod Packed
+pub mod Phases
 pub mod PlainTraces
 pub mod Rotation
 pub mod RowMoves

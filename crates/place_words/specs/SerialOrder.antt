@@ -18,12 +18,13 @@ use Rattle.place_words.specs.declared.history.Part.TheVariants as parts
 use Rattle.place_words.specs.declared.visits.Try.{Try}
 use Rattle.place_words.specs.Histories.{IsLegal}
 use Rattle.place_words.specs.Logs.{State, IsDone, new_state, after_one, run, answers}
+use Rattle.place_words.specs.Phases.{GetsFrom}
 use Rattle.place_words.specs.Shrinking.{try_removed}
 use Rattle.place_words.specs.Takings.{local_probes, global_probes, own_probes}
 
 -- No reply is ENOMEM: each update finds an element to take.
 abbrev pub AlwaysGets : Shape → List Call → Type 0
-AlwaysGets shape calls = All (λ (reply : Reply). error_of reply ≢ Some Enomem) (answers shape 1 calls (new_state shape))
+AlwaysGets shape calls = GetsFrom shape 1 calls (new_state shape)
 
 -- the probes of a turn: that of a bucket's turn that evicts, and those of a list's walks
 abbrev pub bucket_probes : BucketPart → List Try
