@@ -1,4 +1,4 @@
-"""A script with the report of its run. A history is split by its locks, and a line is read only when a question needs it."""
+"""A script with the report of its run. A history is split by its locks, and a line is read in full only when a question needs it."""
 import bisect
 import collections
 import os
@@ -8,6 +8,7 @@ import sys
 
 TOP = pathlib.Path(__file__).resolve().parents[1]
 sys.path.append(str(TOP / "judge"))
+from asked import Asked, generated
 from reports import RECORD, Unlawful, Words, need, number, read_entry, read_lock
 from scripts import read_call, read_script
 
@@ -98,6 +99,7 @@ class Kept:
             self.read_history(lines, begin + 1)
         except BROKEN as why:
             raise Problem(REPORT, f"{name}: its history is broken: {why}") from None
+        self.check_buckets()
         self.by_call = None
 
     def refuse_if(self, is_wrong, what):
@@ -142,6 +144,21 @@ class Kept:
         # Where turns of several CPUs were made at once.
         self.is_race = strands > 1
         self.dump = lines[at:]
+
+    def check_buckets(self):
+        """Refuses a report whose buckets' turns aren't of the script's calls, or name an element that the map lacks."""
+        made, script = self.made, self.script
+        asked = Asked(generated(made, *map(int, script.rows[2][1][2::2]))[0] if script.is_generator else script.calls)
+        for lock, (first, lines) in self.histories.items():
+            for at, line in enumerate(lines if lock[0] == "bucket" else (), first):
+                words = line.split(" ")
+                try:
+                    wrong = asked.wrong(int(words[1]), int(words[2]), *call_words(words))
+                    most = max(elements_of(words), default=0)
+                except BROKEN:
+                    raise Problem(REPORT, f"{self.name}: line {at}: it is no turn of a bucket") from None
+                self.refuse_if(wrong, f"line {at}: {wrong}")
+                self.refuse_if(most >= made.elements, f"line {at}: it names element {most}, and the map has {made.elements}")
 
     def lines(self, lock):
         return self.histories.get(lock, (0, []))[1]
@@ -198,3 +215,20 @@ class Kept:
 
     def answer(self, call):
         return None if self.replies is None else self.replies[call - 1]
+
+
+def call_words(words):
+    """The verb, the key and the value of its call that the line of a bucket's turn names, where it does."""
+    verb = words[3]
+    if verb == "update":
+        return verb, words[6], words[7]
+    return (verb, words[5 if verb == "lookup" else 4]) if verb in ("lookup", "delete", "take", "next") else ()
+
+
+def elements_of(words):
+    """The elements that the line of a bucket's turn names."""
+    verb = words[3]
+    if verb == "walk":
+        return [int(word.partition(":")[0]) for word in words[8:]]
+    named = {"lookup": words[7:8], "update": words[9:], "delete": words[6:7], "take": words[6:7], "evict": words[4:5]}
+    return [int(word) for word in named.get(verb, ()) if word.isdigit()]

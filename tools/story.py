@@ -1,7 +1,8 @@
 """A run as one story: its turns in the order of their tickets, which lie in which, and what each is about."""
 from array import array
 
-from reports import Add, Evict, OnStack, Pop, Push, Refill, Removal, Steal, Turn, Unlawful, Update, Walk, need
+from asked import Asked
+from reports import Add, Evict, Lookup, Next, OnStack, Pop, Push, Refill, Removal, Steal, Turn, Unlawful, Update, Walk, need
 from words import Words
 
 # Bits of a turn's mark.
@@ -25,6 +26,8 @@ class Story:
         self.made, self.calls = made, calls
         self.turns = [None] * sum(map(len, report.histories.values()))
         for lock, entries in report.histories.items():
+            of = {"global": 1, "bucket": made.buckets}.get(lock[0], made.cpus)
+            need(lock[-1] == "global" or lock[-1] < of, f"there is no lock {' '.join(map(str, lock))}")
             for entry in entries:
                 self.turns[entry.ticket] = lock, entry
         # The ticket of the enclosing turn and 1, or 0.
@@ -36,6 +39,7 @@ class Story:
         self.free_at_first = made.elements - (made.cpus if made.kind == "hash" else 0)
         self.numbers, self.key_of = {}, {}
         self.words = Words(made, self.key_of)
+        self.asked = Asked(calls)
         self.replay()
         self.mark_refusals(report.replies)
 
@@ -43,8 +47,9 @@ class Story:
         free, kept = self.free_at_first, 0
         open_turns = [[] for _ in range(self.made.cpus)]
         for ticket, (lock, entry) in enumerate(self.turns):
-            need(entry.cpu < self.made.cpus and 1 <= entry.call <= len(self.calls), "an entry of no call of the script")
             part = entry.part
+            wrong = self.asked.wrong(entry.cpu, entry.call, *call_words(part))
+            need(not wrong, wrong)
             self.enclose(ticket, lock, entry, open_turns[entry.cpu])
             self.tell(part, self.calls[entry.call - 1])
             if isinstance(part, Evict):
@@ -72,9 +77,11 @@ class Story:
 
     def tell(self, part, call):
         """Notes which elements and keys a turn is about, and tells it in words, before what it takes has its new key."""
+        elements, keyed = touched(part)
+        most = max(elements, default=0)
+        need(most < self.made.elements, f"it names element {most}, and the map has {self.made.elements}")
         element = taken(part)
         key = None if element is None else self.key_for(part, call)
-        elements, keyed = touched(part)
         self.elements.append(dict.fromkeys(elements))
         keys = [*named_keys(part), *(self.key_of[old] for old in keyed if old in self.key_of)]
         self.keys.append({self.number(name): None for name in (keys if key is None else [*keys, key])})
@@ -141,6 +148,15 @@ def touched(part):
     elements = [] if element is None else [element]
     is_taken = isinstance(part, (Pop, Add)) or isinstance(part, OnStack) and part.verb == "pop"
     return elements, [] if is_taken else elements
+
+
+def call_words(part):
+    """The verb, the key and the value of its call that a turn names, where it is one of a bucket that does."""
+    if isinstance(part, Update):
+        return "update", part.key, part.value
+    if isinstance(part, Removal):
+        return part.verb, part.key
+    return ("lookup" if isinstance(part, Lookup) else "next", part.key) if isinstance(part, (Lookup, Next)) else ()
 
 
 def named_keys(part):

@@ -31,8 +31,12 @@ class Program:
 
     def report(self, script):
         """The report of a script, or the line of one whose map is refused."""
-        done = subprocess.run([self.path, "serial", "--history"], input=script.encode(), stdout=subprocess.PIPE)
-        report = done.stdout.decode()
+        words = [self.path, "serial", "--history"]
+        try:
+            done = subprocess.run(words, input=script.encode(), stdout=subprocess.PIPE)
+        except OSError as why:
+            raise CannotCompare(f"the program {self.path} can't be run: {why.strerror}") from None
+        report = done.stdout.decode(errors="replace")
         if done.returncode not in (0, 6):
             raise CannotCompare(f"the program ended with status {done.returncode}: {report.strip()}")
         return report
@@ -40,8 +44,10 @@ class Program:
     def run(self, made, calls):
         # (no map has more entries, and a count above its elements counts as that number)
         report = self.report(text(made, calls) + "0 batch_lookup 65536 -\n")
-        if report.startswith("bpfmap: "):
+        if report.startswith("bpfmap: map refused: "):
             return refused(report.strip().split(": ")[2], calls)
+        if not report.startswith("map ") or report.count("\n") < len(calls) + 2:
+            raise CannotCompare(f"the program gave no report of a script: {self.path}")
         self.evictions, self.thefts = report.count(" removed\n"), len(re.findall(r" steal (?:free|pending) ", report))
         first, *replies = report.splitlines()[: len(calls) + 2]
         replies = [reply.split(" ", 1)[1] for reply in replies]
@@ -85,6 +91,10 @@ class Kernel:
 def refused(why, calls):
     """The answers where the map can't be created."""
     return [f"refused {why}"] * (len(calls) + 2)
+
+
+def is_refused(answers):
+    return answers[0].startswith("refused ")
 
 
 def possible_cpus():
