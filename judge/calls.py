@@ -25,10 +25,10 @@ class Strand:
 
 
 class Caller:
-    """What a CPU's calls leave for its later ones."""
+    """What a CPU's calls leave for its later ones, and its strand of the phase that is judged."""
 
-    def __init__(self, cpu, strand, spare):
-        self.strand, self.spare = strand, spare
+    def __init__(self, cpu, spare):
+        self.strand, self.spare = None, spare
         self.steal = cpu
 
 

@@ -8,14 +8,16 @@ class Draft:
     """The lines of a report in its parts. An entry is its ticket and the rest of its line."""
 
     def __init__(self, text):
-        self.head, self.histories, self.strands, self.dump = [], {}, [], []
+        self.head, self.histories, self.phases, self.strands, self.dump = [], {}, [], [], []
         for line in text.splitlines():
             name, *words = line.split(" ")
             if name == "lock":
                 part = self.histories[" ".join(words[:-1])] = []
+            elif name == "phase":
+                self.phases.append((int(words[1]), " ".join(words[2:])))
             elif name == "strand":
                 part = []
-                self.strands.append((words[0], part))
+                self.strands.append((" ".join(words[:-1]), part))
             elif name == "at":
                 part.append((" ".join(words[:-1]), int(words[-1])))
             elif self.strands:
@@ -30,8 +32,9 @@ class Draft:
         for lock, entries in sorted(self.histories.items(), key=lambda history: in_order(history[0])):
             if entries:
                 lines += [f"lock {lock} {len(entries)}", *(f"{ticket} {line}" for ticket, line in entries)]
-        for cpus, steps in self.strands:
-            lines += [f"strand {cpus} {len(steps)}", *(f"at {lock} {index}" for lock, index in steps)]
+        lines += [f"phase {phase} {ticket} {marked}" for phase, (ticket, marked) in enumerate(self.phases)]
+        for name, steps in self.strands:
+            lines += [f"strand {name} {len(steps)}", *(f"at {lock} {index}" for lock, index in steps)]
         return "\n".join(lines + self.dump) + "\n"
 
     def renumber(self, lock, number):
@@ -40,18 +43,26 @@ class Draft:
             numbered = [(name, number(index) if name == lock else index) for name, index in steps]
             steps[:] = [step for step in numbered if step[1] is not None]
 
+    def phase(self, strand):
+        """The phase of a strand with this name."""
+        return int(strand.split(" ")[0]) if self.phases else 0
+
     def draw(self):
-        """Gives the entries tickets anew, in an order that fits all histories and strands: of the turns that may come next
-        the one whose ticket was the least. Where no order fits they stay."""
-        waiting = [steps[::-1] for _, steps in self.strands]
-        heads, order = collections.Counter(), []
-        while ready := [steps for steps in waiting if steps and heads[steps[-1][0]] == steps[-1][1]]:
-            lock, index = min(ready, key=lambda steps: self.entry(*steps[-1])[0]).pop()
-            heads[lock] += 1
-            order.append((lock, index))
+        """Gives the entries tickets anew, in an order that fits all histories and strands, phase after phase: of the turns
+        that may come next the one whose ticket was the least. Where no order fits they stay."""
+        waiting = [(self.phase(name), steps[::-1]) for name, steps in self.strands]
+        heads, order, starts = collections.Counter(), [], []
+        for phase in range(max(1, len(self.phases))):
+            starts.append(len(order))
+            own = [steps for of, steps in waiting if of == phase]
+            while ready := [steps for steps in own if steps and heads[steps[-1][0]] == steps[-1][1]]:
+                lock, index = min(ready, key=lambda steps: self.entry(*steps[-1])[0]).pop()
+                heads[lock] += 1
+                order.append((lock, index))
         if len(order) == sum(map(len, self.histories.values())):
             for number, (lock, index) in enumerate(order):
                 self.histories[lock][index] = number, self.entry(lock, index)[1]
+            self.phases = [(start, marked) for start, (_, marked) in zip(starts, self.phases)]
 
     def entry(self, lock, index):
         return self.histories[lock][index]
@@ -143,6 +154,50 @@ def exchange(lock, index, other, at):
         (one, line), (two, beside) = draft.entry(lock, index), draft.entry(other, at)
         draft.histories[lock][index] = two, line
         draft.histories[other][at] = one, beside
+
+    return edit
+
+
+def start(phase, ticket, marked):
+    """The line of a phase's start has this ticket, and these elements marked."""
+
+    def edit(draft):
+        draft.phases[phase] = ticket, " ".join(["marked", *map(str, marked)])
+
+    return edit
+
+
+def split(strand):
+    """A strand of all CPUs becomes one for each of two, in which the first has all steps."""
+
+    def edit(draft):
+        name, named = draft.strands[strand]
+        phase = name.removesuffix("0,1")
+        draft.strands[strand : strand + 1] = [(f"{phase}0", named), (f"{phase}1", [])]
+
+    return edit
+
+
+def in_serial_form():
+    """The strands of each phase become one of both CPUs, by the tickets."""
+
+    def edit(draft):
+        phases = {}
+        for name, named in draft.strands:
+            phases.setdefault(draft.phase(name), []).extend(named)
+        draft.strands = [
+            (f"{phase} 0,1", sorted(named, key=lambda step: draft.entry(*step)[0])) for phase, named in phases.items()
+        ]
+
+    return edit
+
+
+def strand_goes(name):
+    """A strand goes, with its steps."""
+
+    def edit(draft):
+        assert [other for other, _ in draft.strands].count(name) == 1, name
+        draft.strands = [(other, steps) for other, steps in draft.strands if other != name]
 
     return edit
 

@@ -2,38 +2,58 @@
 import collections
 
 from calls import Caller, Strand, Trace
+from exact import check_bits
 from locks import opening
 from reports import Unlawful, need, number, read_report
 from scripts import read_script
 
 
-def judge(script, text, is_race=False):
+def judge(text, report_text, is_race=False):
     """Raises Unlawful where the rules don't allow the report. The answer counts what happened."""
-    made, calls = read_script(script)
-    report = read_report(text, len(calls))
+    script = read_script(text)
+    made, report = script.made, read_report(report_text, len(script.calls), script.version)
     head = f"map {made.kind} capacity {made.capacity} elements {made.elements} buckets {made.buckets}"
     need(report.head == head, "the map")
     locks, spares = opening(made)
     replay(locks, report)
-    check_strands(made, report)
+    check_strands(script, report, is_race)
     check_tickets(report)
-    need(not is_race or [cpus for cpus, _ in report.strands] == [[cpu] for cpu in range(made.cpus)], "the strands of a race")
-    counts = collections.Counter(calls=len(calls))
-    callers = {}
-    for cpus, steps in report.strands:
-        strand = Strand(report, steps)
-        callers |= {cpu: Caller(cpu, strand, spares.get(cpu)) for cpu in cpus}
-    for index, (call, reply) in enumerate(zip(calls, report.replies), 1):
-        trace = Trace(made, callers[call.cpu], index, call)
+    check_phases(script, report)
+    counts = collections.Counter(calls=len(script.calls))
+    exact = {phase for phase, cpus, _ in report.strands if len(cpus) == made.cpus}
+    if script.version > 1:
+        counts |= {"phases": len(script.phases), "phases in serial order": len(exact)}
+    callers = {cpu: Caller(cpu, spares.get(cpu)) for cpu in range(made.cpus)}
+    for phase, calls in enumerate(script.phases):
+        counts += check_calls(made, callers, report, phase, calls, phase in exact)
+    check_lists(made, locks, {cpu: caller.spare for cpu, caller in callers.items()}, report.dump)
+    turns = sorted((entry for entries in report.histories.values() for entry in entries), key=lambda entry: entry.ticket)
+    ends = [start.marked for start in report.phases[1:]]
+    ends.append(list(map(number, report.dump[-1].split(" ")[1:])) if made.evicts else [])
+    check_bits(made, report.phases, turns, ends, exact)
+    return counts
+
+
+def check_calls(made, callers, report, phase, calls, is_exact):
+    """The calls of a phase are traces, one behind another in the strand of each. The answer counts what happened."""
+    counts, strands = collections.Counter(), []
+    for of, cpus, steps in report.strands:
+        if of == phase:
+            strands.append(Strand(report, steps))
+            for cpu in cpus:
+                callers[cpu].strand = strands[-1]
+    for index, call in calls:
+        trace, reply = Trace(made, callers[call.cpu], index, call), report.replies[index - 1]
         try:
             wanted = trace.reply()
         except Unlawful as why:
             raise Unlawful(f"call {index}: {why}") from None
         need(reply == wanted, f"call {index}: the reply is {reply!r} and not {wanted!r}")
+        name = reply.split(" ")[0]
+        need(not is_exact or name != "enomem", f"call {index}: ENOMEM in a phase that runs in serial order")
         counts += trace.counts
-        counts[reply.split(" ")[0]] += 1
-    need(all(caller.strand.next() == (None, None) for caller in callers.values()), "a step of no call")
-    check_lists(made, locks, {cpu: caller.spare for cpu, caller in callers.items()}, report.dump)
+        counts[name] += 1
+    need(all(strand.next() == (None, None) for strand in strands), "a step of no call")
     return counts
 
 
@@ -48,16 +68,59 @@ def replay(locks, report):
                 raise Unlawful(f"entry {index} of {' '.join(map(str, lock))}: {why}") from None
 
 
-def check_strands(made, report):
-    """Each CPU is in one strand, which names the entries of its CPUs, each once and in order."""
-    need(sorted(cpu for cpus, _ in report.strands for cpu in cpus) == list(range(made.cpus)), "a strand for each CPU")
-    for cpus, steps in report.strands:
+def shapes(script):
+    """The strands of a race and those of a serial run, each as its phase and its CPUs. A phase whose calls are all of one
+    CPU, or that has none, has one with all CPUs in a race too."""
+    every = list(range(script.made.cpus))
+    cpus = [{call.cpu for _, call in calls} for calls in script.phases]
+    apart = [[every] if len(own) < 2 else [[cpu] for cpu in every] for own in cpus]
+    return [(phase, one) for phase, rows in enumerate(apart) for one in rows], [(phase, every) for phase in range(len(cpus))]
+
+
+def check_strands(script, report, is_race):
+    """The strands are those of a race, or where that may be those of a serial run. Each names the entries that its CPUs
+    have for calls of its phase, each once and in order."""
+    raced, serial = shapes(script)
+    found = [(phase, cpus) for phase, cpus, _ in report.strands]
+    need(found == raced or not is_race and found == serial, "the strands of the phases and CPUs")
+    of = {(phase, cpu): at for at, (phase, cpus) in enumerate(found) for cpu in cpus}
+    own = [collections.defaultdict(list) for _ in found]
+    for lock, entries in report.histories.items():
+        for index, entry in enumerate(entries):
+            need(1 <= entry.call <= len(script.calls) and entry.cpu < script.made.cpus, "an entry of no call, or no CPU")
+            own[of[script.phase_of(entry.call), entry.cpu]][lock].append(index)
+    for (phase, cpus, steps), wanted in zip(report.strands, own):
         named = collections.defaultdict(list)
         for lock, index in steps:
             named[lock].append(index)
-        for lock in report.histories.keys() | named.keys():
-            own = [index for index, entry in enumerate(report.histories.get(lock, ())) if entry.cpu in cpus]
-            need(named[lock] == own, f"the steps of the CPUs {cpus} on {lock}")
+        for lock in wanted.keys() | named.keys():
+            where = f" in phase {phase}" if script.version > 1 else ""
+            need(named[lock] == wanted[lock], f"the steps of the CPUs {cpus} on {lock}{where}")
+
+
+def check_phases(script, report):
+    """Phase 0 starts with nothing. At the start of each other one those before it are done: as many tickets were drawn as
+    they have entries, and each of these is below it."""
+    made, starts = script.made, [start.ticket for start in report.phases]
+    need(len(starts) == len(script.phases), "the number of phases")
+    need(report.phases[0].ticket == 0 and not report.phases[0].marked, "the start of phase 0")
+    drawn = [0] * len(starts)
+    for entries in report.histories.values():
+        for entry in entries:
+            phase = script.phase_of(entry.call)
+            drawn[phase] += 1
+            need(entry.ticket >= starts[phase], f"the ticket {entry.ticket} of phase {phase} is below its start")
+            is_before = phase + 1 == len(starts) or entry.ticket < starts[phase + 1]
+            need(is_before, f"the ticket {entry.ticket} of phase {phase} isn't below the start of phase {phase + 1}")
+    for phase, start in enumerate(report.phases):
+        need(start.ticket == sum(drawn[:phase]), f"the ticket of the start of phase {phase}")
+        need(is_marked(made, start.marked), f"the elements that are marked at the start of phase {phase}")
+
+
+def is_marked(made, marked):
+    """Whether these may be the elements whose bit is set."""
+    is_ascending = marked == sorted(set(marked)) and all(element < made.elements for element in marked)
+    return is_ascending and (made.evicts or not marked)
 
 
 def check_tickets(report):
@@ -69,7 +132,7 @@ def check_tickets(report):
         need(found <= ticket, f"no entry has the ticket {ticket}")
     for lock, own in tickets.items():
         need(own == sorted(own), f"the order of the tickets of {' '.join(map(str, lock))}")
-    for cpus, steps in report.strands:
+    for _, cpus, steps in report.strands:
         own = [tickets[lock][index] for lock, index in steps]
         need(own == sorted(own), f"the order of the tickets of the CPUs {cpus}")
 
@@ -91,8 +154,7 @@ def check_lists(made, locks, spares, dump):
     need(sorted(kept + free) == list(range(made.elements)), "each element once")
     need(sorted(listed + free) == list(range(made.elements)), "each element on one list")
     word, *marked = dump[-1].split(" ")
-    marked = [number(element) for element in marked]
-    need(word == "marked" and marked == sorted(set(marked)) and all(e < made.elements for e in marked), "marked elements")
+    need(word == "marked" and is_marked(made, [number(element) for element in marked]), "marked elements")
 
 
 def list_lines(made, locks, spares):

@@ -2,8 +2,8 @@
 import dataclasses
 
 LOCKS = ("local", "global", "lru", "bucket", "freelist")
-# The first line of a history, which tells what stands in its lines.
-RECORD = "record 2"
+# By the version of the script the first line of a history, which tells what stands in its lines.
+RECORDS = {1: "record 2", 2: "record 3"}
 
 
 class Unlawful(Exception):
@@ -202,6 +202,11 @@ class Words:
         """A number, and so many words, each read by this function."""
         return [read(self.word()) for _ in range(self.number())]
 
+    def rest(self):
+        """All words that are left."""
+        rest, self.left = self.left[::-1], []
+        return rest
+
     def end(self):
         need(not self.left, "a line is too long")
 
@@ -372,12 +377,22 @@ def read_entry(lock, line):
 
 
 @dataclasses.dataclass
+class PhaseStart:
+    # How many tickets were drawn before it.
+    ticket: int
+    # The elements whose bit is set then.
+    marked: list
+
+
+@dataclasses.dataclass
 class Report:
     head: str
     replies: list
     # The entries of each lock, whose name is a tuple, as ("global",) or ("bucket", 3).
     histories: dict
-    # The CPUs of each strand, and its steps, each a lock and an index.
+    # The start of each phase.
+    phases: list
+    # The phase and the CPUs of each strand, and its steps, each a lock and an index.
     strands: list
     # The lines behind the strands, without the last, `end`.
     dump: list
@@ -388,8 +403,8 @@ def read_lock(words):
     return (name,) if name == "global" else (name, words.number())
 
 
-def read_report(text, calls):
-    """The report of a script of so many calls."""
+def read_report(text, calls, version=1):
+    """The report of a script of so many calls, and of this version."""
     need(text.endswith("\nend\n"), "no end")
     lines = text.split("\n")[:-2]
     head, lines = lines[0], lines[1:]
@@ -400,7 +415,7 @@ def read_report(text, calls):
         need(count == str(index + 1), f"the number of reply {index + 1}")
         replies.append(reply)
     need(calls < len(lines) and lines[calls].startswith("record "), "no line of the record")
-    need(lines[calls] == RECORD, "another record")
+    need(lines[calls] == RECORDS[version], "another record")
     at, histories, strands = calls + 1, {}, []
     while at < len(lines) and lines[at].startswith("lock "):
         words = Words(lines[at].removeprefix("lock "))
@@ -411,14 +426,30 @@ def read_report(text, calls):
         histories[lock] = [read_entry(lock, line) for line in lines[at + 1 : at + 1 + count]]
         at += 1 + count
     need(list(histories) == sorted(histories, key=lambda lock: (LOCKS.index(lock[0]), lock[1:])), "the order of the locks")
+    # (a script of version 1 is one phase, and its report has no line of that)
+    phases = [] if version > 1 else [PhaseStart(0, [])]
+    while version > 1 and at < len(lines) and lines[at].startswith("phase "):
+        phases.append(read_phase(lines[at], len(phases)))
+        at += 1
     while at < len(lines) and lines[at].startswith("strand "):
         words = Words(lines[at].removeprefix("strand "))
+        phase = words.number() if version > 1 else 0
         cpus, count = [number(cpu) for cpu in words.word().split(",")], words.number()
         words.end()
         need(at + count < len(lines), "a strand ends early")
-        strands.append((cpus, [read_step(line) for line in lines[at + 1 : at + 1 + count]]))
+        strands.append((phase, cpus, [read_step(line) for line in lines[at + 1 : at + 1 + count]]))
         at += 1 + count
-    return Report(head, replies, histories, strands, lines[at:])
+    need(not "".join(lines[at : at + 1]).startswith(("lock ", "phase ", "strand ", "at ")), "a line out of its place")
+    return Report(head, replies, histories, phases, strands, lines[at:])
+
+
+def read_phase(line, phase):
+    """The start of the phase with this number."""
+    words = Words(line.removeprefix("phase "))
+    need(words.number() == phase, f"the number of phase {phase}")
+    ticket = words.number()
+    words.word("marked")
+    return PhaseStart(ticket, [number(word) for word in words.rest()])
 
 
 def read_step(line):

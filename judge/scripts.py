@@ -1,10 +1,12 @@
-"""Maps and calls as scripts name them, and scripts of random calls on few keys."""
+"""Maps, calls and phases as scripts name them, and scripts of random calls on few keys."""
+import bisect
 import dataclasses
 
 KINDS = ("hash", "percpu_hash", "lru_hash", "lru_percpu_hash")
 NO_COMMON_LRU = 2
 FLAGS = {"any": 0, "noexist": 1, "exist": 2}
 WORD = 0xFFFFFFFF
+PHASES = 64
 
 
 @dataclasses.dataclass(frozen=True)
@@ -102,6 +104,28 @@ class Call:
     pairs: tuple = ()
 
 
+@dataclasses.dataclass(frozen=True)
+class Script:
+    """A script of calls."""
+
+    version: int
+    made: Map
+    calls: list
+    # How many calls stand before each line `phase`.
+    cuts: list
+
+    @property
+    def phases(self):
+        """The calls of each phase, each with its number in the script."""
+        numbered = list(enumerate(self.calls, 1))
+        bounds = [0, *self.cuts, len(self.calls)]
+        return [numbered[low:high] for low, high in zip(bounds, bounds[1:])]
+
+    def phase_of(self, number):
+        """The phase of the call with this number."""
+        return bisect.bisect_left(self.cuts, number)
+
+
 def jhash(key, seed):
     a = b = c = (0xDEADBEEF + len(key) + seed) & WORD
 
@@ -128,12 +152,36 @@ def jhash(key, seed):
 
 
 def read_script(text):
-    """The map and the calls of a script without a generator line."""
+    """A script without a generator line. ValueError and the like where it is none."""
     lines = [words for line in text.splitlines() if (words := line.split("#")[0].split())]
+    version = read_version(lines[0])
     kind, rest = lines[1][1], lines[1][2:]
     sizes = dict(zip(rest[::2], map(int, rest[1::2])))
     made = Map(kind, sizes["key"], sizes["value"], sizes["max"], sizes["cpus"], sizes.get("flags", 0), sizes.get("seed", 0))
-    return made, [read_call(words) for words in lines[2:]]
+    calls, cuts = [], []
+    for words in lines[2:]:
+        if is_phase(version, words):
+            cuts.append(len(calls))
+        else:
+            calls.append(read_call(words))
+    if len(cuts) >= PHASES:
+        raise ValueError("too many phases")
+    return Script(version, made, calls, cuts)
+
+
+def read_version(words):
+    if words not in (["bpfmap", "1"], ["bpfmap", "2"]):
+        raise ValueError("the version")
+    return int(words[1])
+
+
+def is_phase(version, words):
+    """Whether a line starts the next phase."""
+    if version < 2 or words[0] != "phase":
+        return False
+    if words[1:]:
+        raise ValueError("a token behind `phase`")
+    return True
 
 
 def read_call(words):
@@ -154,8 +202,9 @@ def read_call(words):
     return Call(cpu, verb, side, *rest)
 
 
-def random_script(draw, kind, flags, cpus, count, walks=False):
-    """A script of calls on few keys: sometimes more than the map has room for, with few or many deletions."""
+def random_script(draw, kind, flags, cpus, count, walks=False, phases=False):
+    """A script of calls on few keys: sometimes more than the map has room for, with few or many deletions; with phases
+    some of these are of one CPU, and some empty."""
     entries = draw.choice((1, 1, 2, 3, 5, 8, 20, 150, 700))
     keys = draw.randrange(entries, 2 * entries + 3)
     made = Map(kind, 2, draw.choice((1, 2, 9)), entries, cpus, flags, draw.choice((0, 12345)))
@@ -164,12 +213,29 @@ def random_script(draw, kind, flags, cpus, count, walks=False):
     if walks:
         verbs += ["next", "batch_lookup", "batch_take", "batch_update", "batch_delete"]
     sizes = f"key 2 value {made.value_size} max {entries}"
-    lines = ["bpfmap 1", f"map {kind} {sizes} cpus {cpus} flags {flags} seed {made.seed}"]
-    lines += [random_call(draw, made, keys, draw.choice(verbs), index) for index in range(count)]
+    lines = [f"bpfmap {1 + phases}", f"map {kind} {sizes} cpus {cpus} flags {flags} seed {made.seed}"]
+    if not phases:
+        lines += [random_call(draw, made, keys, draw.choice(verbs), index) for index in range(count)]
+        return "\n".join(lines) + "\n"
+    bounds = [0, *random_cuts(draw, count), count]
+    for phase, (low, high) in enumerate(zip(bounds, bounds[1:])):
+        lines += ["phase"] if phase else []
+        # (of one CPU, or of all)
+        alone = draw.choice((None, None, draw.randrange(cpus)))
+        lines += [random_call(draw, made, keys, draw.choice(verbs), index, alone) for index in range(low, high)]
     return "\n".join(lines) + "\n"
 
 
-def random_call(draw, made, keys, verb, index):
+def random_cuts(draw, count):
+    """How many calls stand before each line `phase`: anywhere, or a few calls or none behind another one."""
+    cuts = []
+    for _ in range(draw.choice((1, 2, 5, 20, PHASES - 1))):
+        near = cuts and draw.randrange(2)
+        cuts.append(min(count, draw.choice(cuts) + draw.choice((0, 1, 2, 5)) if near else draw.randrange(count + 1)))
+    return sorted(cuts)
+
+
+def random_call(draw, made, keys, verb, index, cpu=None):
     def key():
         return draw.randrange(keys).to_bytes(2, "little").hex()
 
@@ -195,4 +261,4 @@ def random_call(draw, made, keys, verb, index):
         words = [flag, key(), system_value() if verb == "sysupdate" else value(index)]
     else:
         words = [key()]
-    return " ".join(map(str, [draw.randrange(made.cpus), verb, *words]))
+    return " ".join(map(str, [draw.randrange(made.cpus) if cpu is None else cpu, verb, *words]))

@@ -1,9 +1,11 @@
 """Shows that the judge refuses wrong reports: lawful ones with mistakes, and with each word and each line changed."""
 import pathlib
 
-from drafts import Draft, drop, entry, exchange, line, line_changes, move, steps, swap, ticket, word_changes
+from drafts import Draft, drop, entry, exchange, in_serial_form, line, line_changes, move, split, start, steps, strand_goes
+from drafts import swap, ticket, word_changes
 from judge import judge
 from reports import Unlawful
+from scripts import read_script
 
 LAWFUL = pathlib.Path(__file__).resolve().parent / "lawful"
 
@@ -189,6 +191,72 @@ REFUSED = [
     ),
     ("moved", "a record of another form", "another record", line("record 2", "record 1")),
     ("moved", "no line that tells which record it is", "no line of the record", line("record 2")),
+    ("moved", "the record of a script of version 2", "another record", line("record 2", "record 3")),
+    ("phases", "the record of a script of version 1", "another record", line("record 3", "record 2")),
+    ("phases", "a start one too high", "the ticket 3 of phase 1 is below its start", start(1, 4, [])),
+    ("phases", "a start one too low", "the ticket 2 of phase 0 isn't below the start of phase 1", start(1, 2, [])),
+    ("joined", "the start of an empty phase one too high", "the ticket of the start of phase 1", start(1, 5, [0])),
+    ("phases", "a first phase that doesn't start with ticket 0", "the start of phase 0", start(0, 1, [])),
+    ("phases", "an element that is marked before the first phase", "the start of phase 0", start(0, 0, [0])),
+    (
+        "phases",
+        "an entry of phase 1 with a ticket below its start",
+        "the ticket 2 of phase 1 is below its start",
+        exchange("global", 1, "bucket 0", 0),
+    ),
+    (
+        "phases",
+        "an entry of phase 1 with a ticket of phase 2",
+        "the ticket 9 of phase 2 is below its start",
+        exchange("bucket 0", 2, "bucket 0", 3),
+        swap("bucket 0", 2),
+    ),
+    ("phases", "an element that isn't there is marked", "the elements that are marked at the start of phase 2", start(2, 10, [1])),
+    (
+        "parted",
+        "marked elements that don't ascend",
+        "the elements that are marked at the start of phase 1",
+        start(1, 3, [1, 0]),
+    ),
+    (
+        "spares",
+        "an element that is marked on a map that doesn't evict",
+        "the elements that are marked at the start of phase 2",
+        start(2, 5, [0]),
+    ),
+    ("phases", "no strand of a phase", "the strands of the phases and CPUs", strand_goes("1 0,1")),
+    ("joined", "no strand of an empty phase", "the strands of the phases and CPUs", strand_goes("1 0,1")),
+    ("joined", "no strand of a CPU without a step", "the strands of the phases and CPUs", strand_goes("3 1")),
+    ("phases", "a strand for each CPU in a phase of one CPU", "the strands of the phases and CPUs", split(0)),
+    ("joined", "a strand for each CPU in an empty phase", "the strands of the phases and CPUs", split(1)),
+    ("alone", "a strand for each CPU where all calls are of one", "the strands of the phases and CPUs", split(0)),
+    ("joined", "calls beside each other in one strand", "call 3: no turn with a part Push", in_serial_form()),
+    (
+        "phases",
+        "a bit that the turns before don't leave",
+        "ticket 7, in a phase that runs in serial order: the bit of element 0",
+        entry("local 0", 1, "first 1 0:0:r second 0", "first 1 0:1 second 1 0:r"),
+    ),
+    ("phases", "a bit that an addition cleared", "the elements that are marked at the end of phase 1", start(2, 10, [0])),
+    ("joined", "a bit that a lookup set", "the elements that are marked at the end of phase 0", start(1, 4, [])),
+    ("joined", "a bit that changes in an empty phase", "the elements that are marked at the end of phase 1", start(2, 4, [])),
+    ("parted", "a bit that no turn set", "a bit that no turn set, at the end of phase 2", start(3, 13, [0])),
+    (
+        "spares",
+        "the spare that the CPU had at first",
+        "call 4: the spare",
+        entry("bucket 0", 3, "replaced 2 0", "replaced 1 0"),
+        entry("bucket 0", 4, "got 2 a3", "got 1 a3"),
+    ),
+]
+# Scripts that are none.
+NO_SCRIPTS = [
+    ("a line `phase` in version 1", "bpfmap 1\n{map}\nphase\n"),
+    ("a token behind `phase`", "bpfmap 2\n{map}\nphase 1\n"),
+    ("`Phase`", "bpfmap 2\n{map}\nPhase\n"),
+    ("65 phases", "bpfmap 2\n{map}\n" + 64 * "phase\n"),
+    ("a version that isn't there", "bpfmap 3\n{map}\n"),
+    ("a version with a zero before it", "bpfmap 02\n{map}\n"),
 ]
 # The same with edits that leave a lawful report, and why they do.
 LAWFUL_EDITS = [
@@ -218,12 +286,15 @@ LAWFUL_EDITS = [
         entry("bucket 0", 0, "held 0", "held 2"),
         entry("bucket 0", 1, "held 0", "held 2"),
     ),
+    (
+        "joined",
+        "the bit of an element that was pushed free",
+        "where CPUs run beside each other no entry tells when a lookup's bit came",
+        start(3, 11, [0]),
+    ),
 ]
 # Lines in which a word can be changed alone, and why.
-LAWFUL_CHANGES = {
-    "marked": "no entry tells which bits the last lookups left",
-    "20 0 10 turn": "a bit that is read moves the element to active, from which it is pushed free as well as from inactive",
-}
+LAWFUL_CHANGES = {}
 
 
 def edited(text, edits):
@@ -266,6 +337,14 @@ def self_test():
         why = refusal(script, edited(report, edits))
         print(f"{name}, {what}:", f"passes: {reason}" if why is None else f"REFUSED: {why}")
         failed += why is not None
+    for what, text in NO_SCRIPTS:
+        is_read = True
+        try:
+            read_script(text.format(map="map hash key 1 value 1 max 1 cpus 2"))
+        except (IndexError, KeyError, TypeError, ValueError):
+            is_read = False
+        print(f"a script with {what}:", "IS READ" if is_read else "refused")
+        failed += is_read
     for name, (script, report) in texts.items():
         for kind, changes in (("word", word_changes), ("line", line_changes)):
             refused = 0

@@ -9,8 +9,8 @@ import sys
 TOP = pathlib.Path(__file__).resolve().parents[1]
 sys.path.append(str(TOP / "judge"))
 from asked import Asked, generated
-from reports import RECORD, Unlawful, Words, need, number, read_entry, read_lock
-from scripts import read_call, read_script
+from reports import RECORDS, Unlawful, Words, need, number, read_entry, read_lock, read_phase
+from scripts import PHASES, is_phase, read_call, read_script, read_version
 
 # What the tool ends with, beside 0.
 SCRIPT, WORDS, READ, REPORT, KEY, CALL, PROGRAM, WRITE = range(1, 9)
@@ -48,22 +48,36 @@ class Script:
         self.is_generator = len(rows) > 2 and rows[2][1][0] == "gen"
 
     def read(self):
-        """The map, and each call with its words, or none where a line stands for them."""
+        """The map, each call with its words, or none where a line stands for them, and where phases begin."""
         try:
-            need(self.rows[0][1] == ["bpfmap", "1"], "the first line")
-            self.made, _ = read_script("\n".join(" ".join(words) for _, words in self.rows[:2]))
+            self.version = read_version(self.rows[0][1])
+            need(self.version == 1 or not self.is_generator, "a generator line of version 2")
+            self.made = read_script("\n".join(" ".join(words) for _, words in self.rows[:2])).made
             made = self.made
             self.head = f"map {made.kind} capacity {made.capacity} elements {made.elements} buckets {made.buckets}"
         except BROKEN:
-            raise Problem(SCRIPT, f"{self.name}: it doesn't begin with a line `bpfmap 1` and a map line") from None
+            form = "doesn't begin with a line `bpfmap 1` or `bpfmap 2` (which has no generator line) and a map line"
+            raise Problem(SCRIPT, f"{self.name}: it {form}") from None
         self.calls, self.words = (None, None) if self.is_generator else ([], [])
+        # How many calls stand before each line `phase`.
+        self.cuts = []
         for at, words in self.rows[2:] if self.calls is not None else []:
             try:
+                if is_phase(self.version, words):
+                    self.cuts.append(len(self.calls))
+                    need(len(self.cuts) < PHASES, "too many phases")
+                    continue
                 self.calls.append(read_call(words))
                 need(self.calls[-1].cpu < self.made.cpus, "the CPU")
             except BROKEN:
-                raise Problem(SCRIPT, f"{self.name}: line {at}: it is no call") from None
+                is_start = self.version > 1 and words[0] == "phase"
+                what = f"start of one of {PHASES} phases" if is_start else "call"
+                raise Problem(SCRIPT, f"{self.name}: line {at}: it is no {what}") from None
             self.words.append(" ".join(words))
+
+    def phase_of(self, call):
+        """The phase of the call with this number."""
+        return bisect.bisect_left(self.cuts, call)
 
 
 def run(script, mode):
@@ -94,7 +108,8 @@ class Kept:
         begin = self.read_replies(lines)
         line = "".join(lines[begin : begin + 1])
         self.refuse_if(not line.startswith("record"), "it has no history: keep it with --history --dump")
-        self.refuse_if(line != RECORD, f"line {begin + 1}: its history is of another version than `{RECORD}`")
+        record = RECORDS[script.version]
+        self.refuse_if(line != record, f"line {begin + 1}: its history is of another version than `{record}`")
         try:
             self.read_history(lines, begin + 1)
         except BROKEN as why:
@@ -126,7 +141,7 @@ class Kept:
 
     def read_history(self, lines, at):
         """Of each lock the number of its first line in the report, and its lines."""
-        self.histories, strands = {}, 0
+        self.histories = {}
         while at < len(lines) and lines[at].startswith("lock "):
             words = Words(lines[at].removeprefix("lock "))
             lock, count = read_lock(words), words.number()
@@ -135,15 +150,38 @@ class Kept:
             need(is_well, f"line {at + 1} names a lock twice, or not as many entries as it says")
             self.histories[lock] = (at + 2, own)
             at += 1 + count
+        at = self.read_phases(lines, at)
         need(at < len(lines) and lines[at].startswith("strand "), f"line {at + 1} is neither a lock's nor a strand's")
+        # Of each phase, how many strands have a step.
+        strands = collections.Counter()
         while at < len(lines) and lines[at].startswith("strand "):
-            count = number(lines[at].split(" ")[2])
-            strands += count > 0
+            words = lines[at].split(" ")
+            count = number(words[-1])
+            strands[int(words[1]) if self.script.version > 1 else 0] += count > 0
             at += 1 + count
         need(at == len(lines) or lines[at][:3] != "at ", f"line {at + 1} is a step too many")
-        # Where turns of several CPUs were made at once.
-        self.is_race = strands > 1
+        # The phases in which turns of several CPUs were made at once, and whether there are any.
+        self.raced = {phase for phase, count in strands.items() if count > 1}
+        self.is_race = bool(self.raced)
         self.dump = lines[at:]
+
+    def read_phases(self, lines, at):
+        """The ticket at which each phase starts. A script of version 1 is one phase, of which no line tells."""
+        self.starts = [0] if self.script.version == 1 else []
+        while self.script.version > 1 and at < len(lines) and lines[at].startswith("phase "):
+            self.starts.append(read_phase(lines[at], len(self.starts)).ticket)
+            at += 1
+        phases = len(self.script.cuts) + 1
+        need(len(self.starts) == phases, f"line {at + 1}: it has {len(self.starts)} phases, and the script {phases}")
+        return at
+
+    def start(self, call):
+        """The ticket at which the phase of the call begins."""
+        return self.starts[self.script.phase_of(call)]
+
+    def is_raced(self, call):
+        """Whether turns of several CPUs were made at once in the phase of the call."""
+        return self.script.phase_of(call) in self.raced
 
     def check_buckets(self):
         """Refuses a report whose buckets' turns aren't of the script's calls, or name an element that the map lacks."""

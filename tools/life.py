@@ -236,8 +236,10 @@ class Life:
                 self.add(entry, f"read by a batch, value {value}" + (": this sets no bit" if self.made.evicts else ""))
 
     def low(self, lock, entry):
-        """A ticket after which a turn began. Outside a race it is its own, as nothing else is done meanwhile."""
-        return self.kept.before(lock, entry.ticket) if self.kept.is_race else entry.ticket
+        """A ticket after which a turn began. Where no other CPU runs beside it, it is its own: nothing else is done meanwhile."""
+        if not self.kept.is_raced(entry.call):
+            return entry.ticket
+        return max(self.kept.before(lock, entry.ticket), self.kept.start(entry.call) - 1)
 
     # Stays.
 
@@ -372,13 +374,15 @@ class Life:
         return call.pairs[int(reply.rsplit(" ", 1)[1])][0] == self.key
 
     def ticket_before(self, call, cpu):
-        calls = self.kept.script.calls
+        calls, start = self.kept.script.calls, self.kept.start(call)
         for before in range(call - 1, 0, -1):
-            if calls[before - 1].cpu == cpu or not self.kept.is_race:
+            if self.kept.start(before) < start:
+                break
+            if calls[before - 1].cpu == cpu or not self.kept.is_raced(call):
                 entries = self.kept.of_call(before)
                 if entries:
                     return entries[-1][1].ticket
-        return -1
+        return start - 1
 
 
 def at_end(life):

@@ -208,7 +208,8 @@ def tell_call(kept, number):
     plain = Plain(kept, number)
     plain.see(entries)
     reply = kept.answer(number)
-    yield f"call {number}: {kept.told(number)}" + ("" if reply is None else f": answered {reply}")
+    phase = f" in phase {kept.script.phase_of(number)}" if kept.script.cuts else ""
+    yield f"call {number}{phase}: {kept.told(number)}" + ("" if reply is None else f": answered {reply}")
     for lock, entry in entries:
         yield kept.raw(lock, entry)
         told = plain.sentences(lock, entry)

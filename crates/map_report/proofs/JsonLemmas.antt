@@ -46,7 +46,7 @@ answers_without script kept (Some spec) = rw (no_floats _) refl
 
 pub object_without : (script : Script) (kept : RunRecord) (options : Options) → has_float (json_object script kept options) ≡ false
 object_without script kept options =
-    asked_without options.dump _ _ _ (asked_without options.history (codes "history") (history_lines kept) (member (codes "map") (string (map_line script.shape)) (answers script kept script.spec)) (answers_without script kept script.spec))
+    asked_without options.dump _ _ _ (asked_without options.history (codes "history") (history_lines script.version kept) (member (codes "map") (string (map_line script.shape)) (answers script kept script.spec)) (answers_without script kept script.spec))
 
 -- the map's line comes before the answers
 pub map_is_first : (script : Script) (kept : RunRecord) (spec : Option GenSpec) (line : List ℕ) → put (codes "map") (string line) (answers script kept spec) ≡ member (codes "map") (string line) (answers script kept spec)

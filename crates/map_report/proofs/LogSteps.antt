@@ -1,10 +1,8 @@
 -- The steps of a run in serial order on a lock are the places of its log, each once and in order.
 use Rattle.std.proofs.Common.{◌≡◌, ℕ, zero, suc, ◌+◌, ◌<◌, ◌≤◌, Bool, true, false, cond, ◌||◌, List, [], ◌∷◌, ◌++◌, length, refl, ap, sym, ◌∙◌, arith}
-use Rattle.std.specs.Prelude.{All}
 use Rattle.std.specs.List.{range_with_len}
 use Rattle.std.proofs.lemmas.Bool.{both_ways}
 use Rattle.std.proofs.lemmas.List.{append-nil, append_assoc, length-append}
-use Rattle.std.proofs.lemmas.List.Elements.{All-head, All-tail}
 use Rattle.map_types.specs.declared.attr.Shape.{Shape}
 use Rattle.map_types.specs.declared.call.Call.{Call}
 use Rattle.map_types.specs.declared.kind.DomainId.{DomainId}
@@ -12,12 +10,12 @@ use Rattle.map_types.proofs.RowLemmas.{by_test}
 use Rattle.place_words.specs.declared.history.Entry.{Entry}
 use Rattle.place_words.specs.declared.history.StrandStep.{StrandStep}
 use Rattle.place_words.specs.Locks.{is_same_lock}
-use Rattle.place_words.specs.Logs.{State, turned, all_turned, does, new_state, after_one, run}
+use Rattle.place_words.specs.Logs.{State, turned, all_turned, does, after_one, run}
 use Rattle.place_words.specs.Strands.{places_on}
 use Rattle.place_words.specs.Turns.{Turn}
 use Rattle.place_words.proofs.LockLemmas.{one_lock}
 use Rattle.map_report.specs.Runs.{steps_of_turns, steps_of_calls}
-use Rattle.map_report.specs.Record.{has_cpu, places_by}
+use Rattle.map_report.specs.Record.{has_cpu}
 
 -- the CPUs of a map
 
@@ -52,52 +50,34 @@ range_more from (suc n) =
     ap (λ (m : ℕ). from ∷ (range_with_len (from + 1) n ++ m ∷ [])) same ∙ ap (λ (l : List ℕ). from ∷ l) (range_more (from + 1) n)
 
 -- the places of a lock's log
-abbrev places_in : State → DomainId → List ℕ
-places_in state lock = range_with_len 0 (length (state.logs lock))
+abbrev log_places : State → DomainId → List ℕ
+log_places state lock = range_with_len 0 (length (state.logs lock))
 
 module _ (shape : Shape) (lock : DomainId) where
-  one_place : (cpu number : ℕ) (turn : Turn) (state : State) → places_in state lock ++ places_on lock ((record { lock = turn.lock; index = length (state.logs turn.lock) }) ∷ []) ≡ places_in (turned shape cpu number turn state) lock
+  one_place : (cpu number : ℕ) (turn : Turn) (state : State) → log_places state lock ++ places_on lock ((record { lock = turn.lock; index = length (state.logs turn.lock) }) ∷ []) ≡ log_places (turned shape cpu number turn state) lock
   one_place cpu number turn state = by (is_same_lock turn.lock lock) refl
     where
-      by : (b : Bool) → is_same_lock turn.lock lock ≡ b → places_in state lock ++ cond b (length (state.logs turn.lock) ∷ []) [] ≡ range_with_len 0 (length (cond b (state.logs lock ++ (record { ticket = state.next_ticket; cpu = cpu; call = number; part = turn.part }) ∷ []) (state.logs lock)))
+      by : (b : Bool) → is_same_lock turn.lock lock ≡ b → log_places state lock ++ cond b (length (state.logs turn.lock) ∷ []) [] ≡ range_with_len 0 (length (cond b (state.logs lock ++ (record { ticket = state.next_ticket; cpu = cpu; call = number; part = turn.part }) ∷ []) (state.logs lock)))
       by true same =
           let place : length (state.logs turn.lock) ≡ 0 + length (state.logs lock) = omega (arith, ap (λ (l : DomainId). length (state.logs l)) (one_lock turn.lock lock same)) in
           let entry : Entry = record { ticket = state.next_ticket; cpu = cpu; call = number; part = turn.part } in
           let longer : suc (length (state.logs lock)) ≡ length (state.logs lock ++ entry ∷ []) = omega (arith, length-append (state.logs lock) (entry ∷ [])) in
-          ap (λ (n : ℕ). places_in state lock ++ n ∷ []) place ∙ range_more 0 (length (state.logs lock)) ∙ ap (range_with_len 0) longer
-      by false other = append-nil (places_in state lock)
+          ap (λ (n : ℕ). log_places state lock ++ n ∷ []) place ∙ range_more 0 (length (state.logs lock)) ∙ ap (range_with_len 0) longer
+      by false other = append-nil (log_places state lock)
 
   -- steps one after another
   joined : (a b c : List ℕ) (first second : List StrandStep) → a ++ places_on lock first ≡ b → b ++ places_on lock second ≡ c → a ++ places_on lock (first ++ second) ≡ c
   joined a b c first second one two =
       ap (λ (l : List ℕ). a ++ l) (places_on-append lock first second) ∙ sym (append_assoc a (places_on lock first) (places_on lock second)) ∙ ap (λ (l : List ℕ). l ++ places_on lock second) one ∙ two
 
-  turns_places : (cpu number : ℕ) (turns : List Turn) (state : State) → places_in state lock ++ places_on lock (steps_of_turns shape cpu number turns state) ≡ places_in (all_turned shape cpu number turns state) lock
-  turns_places cpu number [] state = append-nil (places_in state lock)
+  turns_places : (cpu number : ℕ) (turns : List Turn) (state : State) → log_places state lock ++ places_on lock (steps_of_turns shape cpu number turns state) ≡ log_places (all_turned shape cpu number turns state) lock
+  turns_places cpu number [] state = append-nil (log_places state lock)
   turns_places cpu number (turn ∷ turns) state =
       joined _ _ _ ((record { lock = turn.lock; index = length (state.logs turn.lock) }) ∷ []) (steps_of_turns shape cpu number turns (turned shape cpu number turn state))
       (one_place cpu number turn state) (turns_places cpu number turns (turned shape cpu number turn state))
 
-  calls_places : (number : ℕ) (calls : List Call) (state : State) → places_in state lock ++ places_on lock (steps_of_calls shape number calls state) ≡ places_in (run shape number calls state) lock
-  calls_places number [] state = append-nil (places_in state lock)
+  pub calls_places : (number : ℕ) (calls : List Call) (state : State) → log_places state lock ++ places_on lock (steps_of_calls shape number calls state) ≡ log_places (run shape number calls state) lock
+  calls_places number [] state = append-nil (log_places state lock)
   calls_places number (call ∷ calls) state =
       joined _ _ _ (steps_of_turns shape call.cpu number (does shape call.cpu number state call.verb).turns state) (steps_of_calls shape (suc number) calls (after_one shape number call state))
       (turns_places call.cpu number (does shape call.cpu number state call.verb).turns state) (calls_places (suc number) calls (after_one shape number call state))
-
--- where all entries are of these CPUs, all places are theirs
-all_theirs : (cpus place : ℕ) (entries : List Entry) → All (λ (entry : Entry). entry.cpu < cpus) entries → places_by (range_with_len 0 cpus) place entries ≡ range_with_len place (length entries)
-all_theirs cpus place [] on = refl
-all_theirs cpus place (entry ∷ entries) on =
-    let next : suc place ≡ place + 1 = omega arith in
-    let within : entry.cpu < cpus = All-head (λ (one : Entry). one.cpu < cpus) entry entries on in
-    by (has_cpu entry.cpu (range_with_len 0 cpus)) (has_within entry.cpu 0 cpus (omega arith) (omega (arith, within)))
-    (all_theirs cpus (suc place) entries (All-tail (λ (one : Entry). one.cpu < cpus) entry entries on) ∙ ap (λ (n : ℕ). range_with_len n (length entries)) next)
-  where
-    by : (b : Bool) → b ≡ true → places_by (range_with_len 0 cpus) (suc place) entries ≡ range_with_len (place + 1) (length entries)
-        → cond b (place ∷ places_by (range_with_len 0 cpus) (suc place) entries) (places_by (range_with_len 0 cpus) (suc place) entries) ≡ place ∷ range_with_len (place + 1) (length entries)
-    by true is rest = ap (λ (l : List ℕ). place ∷ l) rest
-    by false is rest = absurd cc
-
-pub run_places : (shape : Shape) (lock : DomainId) (calls : List Call) → All (λ (entry : Entry). entry.cpu < shape.cpus) ((run shape 1 calls (new_state shape)).logs lock)
-    → places_on lock (steps_of_calls shape 1 calls (new_state shape)) ≡ places_by (range_with_len 0 shape.cpus) 0 ((run shape 1 calls (new_state shape)).logs lock)
-run_places shape lock calls on = calls_places shape lock 1 calls (new_state shape) ∙ sym (all_theirs shape.cpus 0 ((run shape 1 calls (new_state shape)).logs lock) on)

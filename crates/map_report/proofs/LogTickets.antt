@@ -1,5 +1,5 @@
 -- Tickets of a run in serial order: the n-th turn, from 0, has ticket n.
-use Rattle.std.proofs.Common.{◌≡◌, ◌≢◌, ℕ, zero, suc, ◌+◌, ◌<◌, ◌≤◌, Bool, true, false, cond, eqb, ltb, List, [], ◌∷◌, ◌++◌, length, map, refl, ap, sym, ◌∙◌, subst, arith, inl, inr, ⊎_elim}
+use Rattle.std.proofs.Common.{◌≡◌, ℕ, zero, suc, ◌+◌, ◌<◌, ◌≤◌, Bool, true, false, cond, eqb, ltb, List, [], ◌∷◌, ◌++◌, length, map, refl, ap, sym, ◌∙◌, subst, arith, ⊎_elim}
 use Rattle.std.specs.Prelude.{All, IsPermutation, filter, slice_index_or}
 use Rattle.std.specs.List.{flat_map, range_with_len}
 use Rattle.std.proofs.lemmas.Bool.{eq-eqb, ne_eqb, cases_Bool, cases_lt, lt-ltb, le-ltb}
@@ -18,7 +18,6 @@ use Rattle.place_words.specs.declared.history.Strand.{Strand}
 use Rattle.place_words.specs.declared.history.StrandStep.{StrandStep}
 use Rattle.place_words.specs.Locks.{is_lock, is_same_lock, lock_named, lock_number, lock_count}
 use Rattle.place_words.specs.Logs.{State, turned, all_turned, does, after_one, run, new_state}
-use Rattle.place_words.specs.Named.{entries_of}
 use Rattle.place_words.specs.Tickets.{AscendIn, tickets_of, all_entries, ticket_at, AreTicketed}
 use Rattle.place_words.specs.Turns.{Turn}
 use Rattle.place_words.proofs.Ascending.{ascend_to, ascend_on, ascend_more, tickets_more, tickets_append}
@@ -213,7 +212,7 @@ module _ (shape : Shape) (end : State) (ours : (lock : DomainId) → is_lock sha
       let there = on_lock cpu number turn state (grows_both next (all_turned shape cpu number turns next) end (grows_all shape cpu number turns next) grows) in
       turns_drawn cpu number turns next grows (drawn_turned shape cpu number turn state there are)
 
-  calls_ascend : (number : ℕ) (calls : List Call) (state : State) → Grows (run shape number calls state) end
+  pub calls_ascend : (number : ℕ) (calls : List Call) (state : State) → Grows (run shape number calls state) end
       → AscendIn state.next_ticket (tickets_at (steps_of_calls shape number calls state)) (run shape number calls state).next_ticket
   calls_ascend number [] state grows = omega arith
   calls_ascend number (call ∷ calls) state grows =
@@ -240,31 +239,29 @@ all_of [] P all = All-nil P
 all_of (x ∷ xs) P all = All-cons P x xs (all x) (all_of xs P all)
 
 -- the tickets of the whole run, where no lock but those of the map has a log
-pub tickets_by_logs : (shape : Shape) (calls : List Call) (ours : (lock : DomainId) → is_lock shape lock ≡ false → (run shape 1 calls (new_state shape)).logs lock ≡ []) (strand : Strand)
-    → strand.steps ≡ steps_of_calls shape 1 calls (new_state shape) → AreTicketed (histories shape (run shape 1 calls (new_state shape)) ours) (strand ∷ [])
-tickets_by_logs shape calls ours strand steps =
-    record {
-      each_once = subst (λ (n : ℕ). IsPermutation (range_with_len 0 n) (tickets_of (all_entries told))) (sym counted) permuted;
-      in_histories = All-map (λ (history : LockHistory). AscendIn 0 (tickets_of history.entries) (length (all_entries told))) (λ lock. record { lock = lock; entries = end.logs lock }) (locks_of shape)
-          (all_of (locks_of shape) (λ lock. AscendIn 0 (tickets_of (end.logs lock)) (length (all_entries told))) (λ lock. subst (λ (n : ℕ). AscendIn 0 (tickets_of (end.logs lock)) n) (sym counted) (drawn.ascend lock)));
-      in_strands = All-cons (λ (one : Strand). AscendIn 0 (map (ticket_at told) one.steps) (length (all_entries told))) strand []
-          (subst (λ (z : List StrandStep × ℕ). AscendIn 0 (map (ticket_at told) z.0) z.1) (λ i. (sym steps i, sym counted i)) (calls_ascend shape end ours 1 calls (new_state shape) (grows_none end)))
-          (All-nil (λ (one : Strand). AscendIn 0 (map (ticket_at told) one.steps) (length (all_entries told))));
-    }
-  where
-    end : State
-    end = run shape 1 calls (new_state shape)
+module _ (shape : Shape) (calls : List Call) (ours : (lock : DomainId) → is_lock shape lock ≡ false → (run shape 1 calls (new_state shape)).logs lock ≡ []) where
+  abbrev end : State
+  end = run shape 1 calls (new_state shape)
 
-    told : List LockHistory
-    told = histories shape end ours
+  abbrev told : List LockHistory
+  told = histories shape end ours
 
-    drawn : AreDrawn shape end
-    drawn = calls_drawn shape end ours 1 calls (new_state shape) (grows_none end) (drawn_first shape)
+  drawn : AreDrawn shape end
+  drawn = calls_drawn shape end ours 1 calls (new_state shape) (grows_none end) (drawn_first shape)
 
-    permuted : IsPermutation (range_with_len 0 end.next_ticket) (tickets_of (all_entries told))
-    permuted =
-        counts_permute (range_with_len 0 end.next_ticket) (tickets_of (all_entries told))
-        (λ t. numbers_count t end.next_ticket ∙ (sym (drawn.each_once t) ∙ ap (λ (entries : List Entry). times t (tickets_of entries)) (sym (entries_told shape end ours (locks_of shape)))))
+  permuted : IsPermutation (range_with_len 0 end.next_ticket) (tickets_of (all_entries told))
+  permuted =
+      counts_permute (range_with_len 0 end.next_ticket) (tickets_of (all_entries told))
+      (λ t. numbers_count t end.next_ticket ∙ (sym (drawn.each_once t) ∙ ap (λ (entries : List Entry). times t (tickets_of entries)) (sym (entries_told shape end ours (locks_of shape)))))
 
-    counted : length (all_entries told) ≡ end.next_ticket
-    counted = omega (arith, as_many (all_entries told), length_permutation (range_with_len 0 end.next_ticket) (tickets_of (all_entries told)) permuted, length-range_with_len 0 end.next_ticket)
+  pub entries_counted : length (all_entries (histories shape (run shape 1 calls (new_state shape)) ours)) ≡ (run shape 1 calls (new_state shape)).next_ticket
+  entries_counted = omega (arith, as_many (all_entries told), length_permutation (range_with_len 0 end.next_ticket) (tickets_of (all_entries told)) permuted, length-range_with_len 0 end.next_ticket)
+
+  pub tickets_by_logs : (strands : List Strand) → All (λ (one : Strand). AscendIn 0 (map (ticket_at told) one.steps) (length (all_entries told))) strands → AreTicketed told strands
+  tickets_by_logs strands ascend =
+      record {
+        each_once = subst (λ (n : ℕ). IsPermutation (range_with_len 0 n) (tickets_of (all_entries told))) (sym entries_counted) permuted;
+        in_histories = All-map (λ (history : LockHistory). AscendIn 0 (tickets_of history.entries) (length (all_entries told))) (λ lock. record { lock = lock; entries = end.logs lock }) (locks_of shape)
+            (all_of (locks_of shape) (λ lock. AscendIn 0 (tickets_of (end.logs lock)) (length (all_entries told))) (λ lock. subst (λ (n : ℕ). AscendIn 0 (tickets_of (end.logs lock)) n) (sym entries_counted) (drawn.ascend lock)));
+        in_strands = ascend;
+      }

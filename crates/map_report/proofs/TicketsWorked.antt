@@ -1,5 +1,5 @@
 -- Tickets worked: a record's that are right, and what wrong ways to draw them leave, which is none.
-use Rattle.std.proofs.Common.{◌≡◌, ℕ, ◌≤◌, List, [], ◌∷◌, arith}
+use Rattle.std.proofs.Common.{ℕ, ◌≤◌, List, [], ◌∷◌, arith}
 use Rattle.std.specs.Prelude.{map}
 use Rattle.std.proofs.lemmas.List.Elements.{All-nil, All-cons, All-head}
 use Rattle.std.proofs.lemmas.List.Sorted.{IsPermutation-refl, sum_by-IsPermutation}
@@ -28,7 +28,7 @@ abbrev step : DomainId → ℕ → StrandStep
 step lock index = record { lock = lock; index = index }
 
 abbrev strand_of : List StrandStep → List Strand
-strand_of steps = (record { cpus = 0 ∷ []; steps = steps }) ∷ []
+strand_of steps = (record { phase = 0; cpus = 0 ∷ []; steps = steps }) ∷ []
 
 right : AreTicketed (two_locks 0 1) (strand_of (step (Freelist 0) 0 ∷ step (Freelist 1) 0 ∷ []))
 right =
@@ -40,7 +40,7 @@ right =
       each_once = IsPermutation-refl (0 ∷ 1 ∷ []);
       in_histories = All-cons (λ (history : LockHistory). AscendIn 0 (tickets_of history.entries) 2) (record { lock = Freelist 0; entries = with_ticket 0 ∷ [] }) ((record { lock = Freelist 1; entries = with_ticket 1 ∷ [] }) ∷ []) first
           (All-cons (λ (history : LockHistory). AscendIn 0 (tickets_of history.entries) 2) (record { lock = Freelist 1; entries = with_ticket 1 ∷ [] }) [] second (All-nil (λ (history : LockHistory). AscendIn 0 (tickets_of history.entries) 2)));
-      in_strands = All-cons (λ (strand : Strand). AscendIn 0 (map (ticket_at (two_locks 0 1)) strand.steps) 2) (record { cpus = 0 ∷ []; steps = steps }) [] both (All-nil (λ (strand : Strand). AscendIn 0 (map (ticket_at (two_locks 0 1)) strand.steps) 2));
+      in_strands = All-cons (λ (strand : Strand). AscendIn 0 (map (ticket_at (two_locks 0 1)) strand.steps) 2) (record { phase = 0; cpus = 0 ∷ []; steps = steps }) [] both (All-nil (λ (strand : Strand). AscendIn 0 (map (ticket_at (two_locks 0 1)) strand.steps) 2));
     }
 
 -- A number is left out: tickets are drawn by 2, or two for a turn.
@@ -61,5 +61,5 @@ late strands are =
 late_on_strand : AreTicketed (two_locks 1 0) (strand_of (step (Freelist 0) 0 ∷ step (Freelist 1) 0 ∷ [])) → ⊥
 late_on_strand are =
     let steps : List StrandStep = step (Freelist 0) 0 ∷ step (Freelist 1) 0 ∷ [] in
-    let order : AscendIn 0 (1 ∷ 0 ∷ []) 2 = All-head (λ (strand : Strand). AscendIn 0 (map (ticket_at (two_locks 1 0)) strand.steps) 2) (record { cpus = 0 ∷ []; steps = steps }) [] are.in_strands in
+    let order : AscendIn 0 (1 ∷ 0 ∷ []) 2 = All-head (λ (strand : Strand). AscendIn 0 (map (ticket_at (two_locks 1 0)) strand.steps) 2) (record { phase = 0; cpus = 0 ∷ []; steps = steps }) [] are.in_strands in
     let low : 2 ≤ 0 = order.1.0 in omega arith

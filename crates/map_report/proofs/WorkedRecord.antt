@@ -1,6 +1,6 @@
 -- The record of a serial run worked: a CPU steals the one element, which another has pending.
-use Rattle.std.proofs.Common.{◌≡◌, ℕ, true, List, [], ◌∷◌, map, refl}
-use Rattle.std.specs.Prelude.{None, Some}
+use Rattle.std.proofs.Common.{◌≡◌, ℕ, true, [], ◌∷◌, map, refl}
+use Rattle.std.specs.Prelude.{None}
 use Rattle.map_types.specs.declared.attr.Shape.{Shape}
 use Rattle.map_types.specs.declared.call.Verb.TheVariants as verbs
 use Rattle.map_types.specs.declared.kind.DomainId.{DomainId}
@@ -43,11 +43,13 @@ shape = record {
 
 script : Script
 script = record {
+  version = 1;
   attr = record { kind = LruHash; key_size = 1; value_size = 1; max_entries = 1; flags = 0; seed = 0; cpus = 2 };
   shape = shape;
   calls =
       (record { cpu = 0; verb = verbs.Update Prog 0 (1 ∷ []) (161 ∷ []) }) ∷ (record { cpu = 1; verb = verbs.Update Prog 0 (2 ∷ []) (178 ∷ []) })
       ∷ (record { cpu = 0; verb = verbs.Lookup Prog (1 ∷ []) }) ∷ (record { cpu = 0; verb = verbs.Lookup Prog (2 ∷ []) }) ∷ [];
+  cuts = [];
   spec = None;
 }
 
@@ -65,6 +67,7 @@ locks_are = refl
 -- the update that finds nothing free: a turn of the global lists and its refill, the own lists looked at, then the other's with a
 -- probe before, the element brought home, and the bucket
 strands_are : (serial script).strands ≡ (record {
+  phase = 0;
   cpus = 0 ∷ 1 ∷ [];
   steps =
       at Global 0 ∷ at (Local 0) 0 ∷ at (Bucket 0) 0

@@ -29,7 +29,7 @@ answers script kept (Some spec) = member (codes "summary") (texts (summary_lines
 abbrev pub json_object : Script → RunRecord → Options → Data
 json_object script kept options = object
     (asked options.dump (codes "dump") (dump_lines script.shape kept.finals)
-    (asked options.history (codes "history") (history_lines kept)
+    (asked options.history (codes "history") (history_lines script.version kept)
     (member (codes "map") (string (map_line script.shape))
     (answers script kept script.spec))))
 

@@ -7,6 +7,7 @@ pub mod History
 pub mod Json
 pub mod ListParts
 pub mod ListRuns
+pub mod Phases
 pub mod Record
 pub mod Runs
 pub mod Serial

@@ -1,6 +1,6 @@
--- What a record of a run is, of maps of any kind: what happened under each lock replays by the kernel's rules, and each
--- CPU's calls stand in these histories once, in its order, with the replies.
-use Rattle.std.specs.Prelude.{◌≡◌, ◌≢◌, ℕ, suc, ◌<◌, ◌≤◌, ◌==◌, Bool, IsTrue, IsFalse, IsPermutation, MatchBool, MatchOption, Option, Some, All, List, [], ◌∷◌, ◌++◌, length, map, filter, slice_get, slice_index_or, ⊤, if◌then◌else◌}
+-- What a record of a run is, of maps of any kind: what happened under each lock replays by the kernel's rules, phase after phase,
+-- and each CPU's calls stand in these histories once, in its order, with the replies.
+use Rattle.std.specs.Prelude.{◌≡◌, ◌≢◌, ℕ, suc, ◌<◌, ◌≤◌, ◌==◌, ◌&&◌, Bool, IsTrue, IsFalse, IsPermutation, MatchBool, MatchOption, Option, Some, All, List, [], ◌∷◌, ◌++◌, length, map, filter, slice_get, slice_index_or, ⊤, if◌then◌else◌}
 use Rattle.std.specs.List.{list_any, flat_map, range_with_len}
 use Rattle.map_types.specs.Kind.{is_lru}
 use Rattle.map_types.specs.ValueLen.{value_len_of}
@@ -31,9 +31,11 @@ use Rattle.place_words.specs.Logs.{final_set, final_local}
 use Rattle.place_words.specs.Named.{NameAll}
 pub use Rattle.place_words.specs.Named.{entries_of}
 use Rattle.place_words.specs.Traces.{IsTrace}
+use Rattle.place_words.specs.Phases.{phase_of, phase_count, calls_before, of_phase}
 use Rattle.place_words.specs.Tickets.{AreTicketed}
 use Rattle.place_words.specs.Turns.{TurnAt}
 use Rattle.place_words.specs.Walks.{spare_left}
+use Rattle.map_report.specs.declared.record.PhaseStart.{PhaseStart}
 use Rattle.map_report.specs.declared.record.RunRecord.{RunRecord}
 use Rattle.map_report.specs.Serial.{opening}
 use Rattle.map_report.specs.EachOnce.{EachOnce, in_buckets}
@@ -125,11 +127,19 @@ has_cpu cpu cpus = list_any (λ c. c == cpu) cpus
 abbrev pub locks_of : Shape → List DomainId
 locks_of shape = map (lock_named shape) (filter (λ k. is_lock shape (lock_named shape k)) (range_with_len 0 (lock_count shape)))
 
--- the places at which entries of these CPUs stand in a history, from some place on
-abbrev pub places_by : List ℕ → ℕ → List Entry → List ℕ
-places_by cpus place [] = []
-places_by cpus place (entry ∷ entries) =
-    if has_cpu entry.cpu cpus then place ∷ places_by cpus (suc place) entries else places_by cpus (suc place) entries
+-- the places in a history of the entries that these CPUs have there for calls of a phase
+abbrev pub places_in : List ℕ → ℕ → List ℕ → ℕ → List Entry → List ℕ
+places_in cuts phase cpus place [] = []
+places_in cuts phase cpus place (entry ∷ entries) =
+    if (phase_of cuts entry.call == phase) && has_cpu entry.cpu cpus then place ∷ places_in cuts phase cpus (suc place) entries
+    else places_in cuts phase cpus (suc place) entries
+
+-- an entry has a ticket from the start of its call's phase on, and before the start of the next one
+pub record IsInItsPhase (cuts : List ℕ) (phases : List PhaseStart) (entry : Entry) : Type 0 where
+  pub start : PhaseStart
+  pub start_is : slice_get phases (phase_of cuts entry.call) ≡ Some start
+  pub from : start.ticket ≤ entry.ticket
+  pub to : MatchOption (slice_get phases (suc (phase_of cuts entry.call))) ⊤ (λ (next : PhaseStart). entry.ticket < next.ticket)
 
 -- One call of a strand: its turns, each with what came before it on its lock, are a trace of the call with the reply, by the
 -- spare that its CPU has.
@@ -197,25 +207,38 @@ Tells lists (CpuLru cpu) content = MatchOption (own_in content) ⊥ (λ set. sli
 Tells lists (Bucket bucket) content = in_bucket (slice_index_or lists.buckets bucket []) ≡ content
 Tells lists (Freelist cpu) content = on_freelist (slice_index_or lists.freelists cpu []) ≡ content
 
--- A record of a run of the script, in whatever order its CPUs ran.
+-- A record of a run of the script, in whatever order the CPUs ran within each of its phases.
 pub record IsRecord (script : Script) (kept : RunRecord) : Type 0 where
   -- each lock of the map has one history, in the order of their numbers, and each replays by the kernel's rules
   pub locks : map (λ (history : LockHistory). history.lock) kept.histories ≡ locks_of script.shape
   pub legal : All (λ (history : LockHistory). IsLegal script.shape history.lock history.entries) kept.histories
-  -- each entry is of one of the map's CPUs
   pub on_cpus : All (λ (history : LockHistory). All (λ (entry : Entry). entry.cpu < script.shape.cpus) history.entries) kept.histories
-  -- each CPU is in one strand
-  pub strand_of : ℕ → ℕ
-  pub in_strand : (cpu : ℕ) → cpu < script.shape.cpus → strand_of cpu < length kept.strands
-  pub cpus_are : (n : ℕ) (strand : Strand) → slice_get kept.strands n ≡ Some strand → strand.cpus ≡ filter (λ cpu. strand_of cpu == n) (range_with_len 0 script.shape.cpus)
-  -- the steps of a strand on a lock are the entries of its CPUs in that lock's history, each once and in order
-  pub steps : (n : ℕ) (strand : Strand) → slice_get kept.strands n ≡ Some strand → (lock : DomainId) → IsTrue (is_lock script.shape lock) → places_on lock strand.steps ≡ places_by strand.cpus 0 (entries_of kept.histories lock)
-  -- a strand is the calls of its CPUs in the script's order, each with its turns and its reply
-  pub calls : (n : ℕ) (strand : Strand) → slice_get kept.strands n ≡ Some strand
-      → IsConcatenation script.shape kept.histories strand.cpus 1 script.calls kept.replies (spare_at (opening script.shape)) (spare_at kept.finals) strand.steps
-  -- by their tickets all entries stand in one order
-  pub tickets : AreTicketed kept.histories kept.strands
+  -- each phase has one start, and the first starts with nothing drawn and nothing marked; each entry is in the phase of its call
+  pub one_each : length kept.phases ≡ phase_count script.cuts
+  pub first : slice_get kept.phases 0 ≡ Some (record { ticket = 0; marked = [] })
+  pub in_phases : All (λ (history : LockHistory). All (IsInItsPhase script.cuts kept.phases) history.entries) kept.histories
+  -- in each phase each CPU is in one strand, which is of that phase
+  pub strand_of : ℕ → ℕ → ℕ
+  pub in_strand : (p cpu : ℕ) → p < phase_count script.cuts → cpu < script.shape.cpus → MatchOption (slice_get kept.strands (strand_of p cpu)) ⊥ (λ (strand : Strand). strand.phase ≡ p)
+  pub cpus_are : (n : ℕ) (strand : Strand) → slice_get kept.strands n ≡ Some strand
+      → (strand.phase < phase_count script.cuts) × (strand.cpus ≡ filter (λ cpu. strand_of strand.phase cpu == n) (range_with_len 0 script.shape.cpus))
+  -- the steps of a strand on a lock are the entries that its CPUs have in that lock's history for calls of its phase, each once and in
+  -- order
+  pub steps : (n : ℕ) (strand : Strand) → slice_get kept.strands n ≡ Some strand → (lock : DomainId) → IsTrue (is_lock script.shape lock)
+      → places_on lock strand.steps ≡ places_in script.cuts strand.phase strand.cpus 0 (entries_of kept.histories lock)
+  -- A strand is the calls of its CPUs in its phase, in the script's order, each with its turns and its reply. From strand to strand a
+  -- CPU has its spare on: of a phase and a CPU the one that it has at the phase's start.
+  pub spares : ℕ → ℕ → Option ℕ
+  pub first_spares : (cpu : ℕ) → spares 0 cpu ≡ spare_at (opening script.shape) cpu
+  pub last_spares : (cpu : ℕ) → spares (phase_count script.cuts) cpu ≡ spare_at kept.finals cpu
+  pub calls_are : (n : ℕ) (strand : Strand) → slice_get kept.strands n ≡ Some strand
+      → IsConcatenation script.shape kept.histories strand.cpus (suc (calls_before script.cuts (length script.calls) strand.phase)) (of_phase script.cuts strand.phase script.calls) (of_phase script.cuts strand.phase kept.replies)
+      (spares strand.phase) (spares (suc strand.phase)) strand.steps
   pub replies : EachAnswered script.shape script.calls kept.replies
-  -- what the map holds at the end is what the histories lead to, and each element is in one place, once
+  -- what the map holds at the end is what the histories lead to, and each element is in one place, once; what is marked at a phase's
+  -- start are elements of the map
   pub contents : (lock : DomainId) → IsTrue (is_lock script.shape lock) → Tells kept.finals lock (content script.shape lock (entries_of kept.histories lock))
   pub finals : HoldsElements script.shape kept.finals
+  pub marked : All (λ (start : PhaseStart). All (λ (element : ℕ). element < script.shape.elements) start.marked × Ascend start.marked) kept.phases
+  -- by their tickets all entries stand in one order
+  pub tickets : AreTicketed kept.histories kept.strands

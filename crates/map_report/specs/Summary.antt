@@ -71,6 +71,6 @@ summary_lines script kept =
 unfoldable pub summary : Script → RunRecord → Options → List ℕ
 summary script kept options =
     flat_map ended (map_line script.shape ∷ summary_lines script kept
-    ++ (if options.history then history_lines kept else [])
+    ++ (if options.history then history_lines script.version kept else [])
     ++ (if options.dump then dump_lines script.shape kept.finals else [])
     ++ codes "end" ∷ [])

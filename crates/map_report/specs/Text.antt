@@ -45,7 +45,7 @@ reply_line number reply = decimal number ++ codes " " ++ reply_text reply
 abbrev pub report_lines : Script → RunRecord → Options → List (List ℕ)
 report_lines script kept options =
     map_line script.shape ∷ numbered (λ number reply. reply_line number reply ∷ []) 1 kept.replies
-    ++ (if options.history then history_lines kept else [])
+    ++ (if options.history then history_lines script.version kept else [])
     ++ (if options.dump then dump_lines script.shape kept.finals else [])
     ++ codes "end" ∷ []
 

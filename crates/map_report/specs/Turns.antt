@@ -194,6 +194,6 @@ steps_from before [] = []
 steps_from before (turn ∷ turns) =
     record { lock = turn.0; index = length (entries_on turn.0 before) } ∷ steps_from (before ++ turn ∷ []) turns
 
--- one strand of all CPUs has every turn
-abbrev pub strand_of_turns : Shape → List Happened → Strand
-strand_of_turns shape turns = record { cpus = range_with_len 0 shape.cpus; steps = steps_from [] turns }
+-- one strand of all CPUs has the turns of a phase, behind those of the phases before it
+abbrev pub strand_of_turns : Shape → ℕ → List Happened → List Happened → Strand
+strand_of_turns shape phase before turns = record { phase = phase; cpus = range_with_len 0 shape.cpus; steps = steps_from before turns }

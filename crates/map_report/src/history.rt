@@ -1,24 +1,32 @@
 //! The lines of a report that say what happened under each lock, and in which order.
 
-ghost use Rattle.std.specs.Prelude.{◌≡◌, ◌++◌, OnOk, codes, decimal, string_bytes};
+ghost use Rattle.std.specs.Prelude.{◌≡◌, [], ◌∷◌, ◌++◌, OnOk, codes, decimal, string_bytes};
 ghost use Rattle.std.specs.List.{flat_map};
-ghost use Rattle.map_report.specs.History.{entry_line, history_lines, joined, lock_line, lock_lines, part_text, record_line, step_line, strand_line, strand_lines};
+ghost use Rattle.map_report.specs.History.{entry_line, history_lines, joined, lock_line, lock_lines, part_text, phase_line, phase_lines, phase_name, record_line, step_line, strand_line, strand_lines};
 
-use crate::RunRecord;
-use crate::lines::{Lines, add_each};
-use crate::piece::{Piece, push_decimal, push_number};
+use crate::lines::{Lines, Section, add_each, add_numbered};
+use crate::piece::{Piece, push_decimal, push_each, push_number};
 use crate::words::push_lock;
+use crate::{PhaseStart, RunRecord};
 use place_words::{Entry, LockHistory, Part, Strand, StrandStep};
 use std::alloc::AllocError;
 
-/// Adds each lock that has an entry with its entries, and then each strand with its steps.
-pub(crate) fn add_history<L: Lines>(lines: &mut L, kept: &RunRecord) -> Result<(), AllocError>
+/// Adds each lock that has an entry with its entries, then, of a script of version 2, the start of each phase, and then
+/// each strand with its steps.
+pub(crate) fn add_history<L: Lines>(
+    lines: &mut L,
+    version: u32,
+    kept: &RunRecord,
+) -> Result<(), AllocError>
     ensures { OnOk result (L.written lines.new
-        ≡ L.written lines.old ++ flat_map L.line (history_lines kept.now)) }
+        ≡ L.written lines.old ++ flat_map L.line (history_lines version kept.now)) }
 {
-    lines.add(&RecordVersion { number: 2 })?;
+    lines.add(&RecordVersion {
+        number: version as u64 + 1,
+    })?;
     add_locks(lines, kept.histories.as_slice())?;
-    add_strands(lines, kept.strands.as_slice())
+    add_phases(lines, version, kept.phases.as_slice())?;
+    add_strands(lines, version, kept.strands.as_slice())
 }
 
 /// Adds each lock that has an entry, with its entries.
@@ -45,17 +53,18 @@ fn add_lock<L: Lines>(lines: &mut L, history: &LockHistory) -> Result<(), AllocE
 }
 
 /// Which lines the text of a record has.
+#[derive(Clone, Copy)]
 pub(crate) struct RecordVersion {
-    pub(crate) number: u32,
+    pub(crate) number: u64,
 }
 
-/// `record 2`, the first line.
+/// `record 2` or `record 3`, the first line.
 impl Piece for RecordVersion {
     ghost shown = { record_line };
 
     fn push_to(&self, text: &mut String) -> Result<(), AllocError> {
         text.push_str("record")?;
-        self.number.push_to(text)
+        push_number(text, self.number)
     }
 }
 
@@ -103,26 +112,96 @@ impl Piece for Part {
     }
 }
 
-/// Adds each strand with its steps.
-fn add_strands<L: Lines>(lines: &mut L, strands: &[Strand]) -> Result<(), AllocError>
+/// Adds the start of each phase, in version 2.
+fn add_phases<L: Lines>(
+    lines: &mut L,
+    version: u32,
+    starts: &[PhaseStart],
+) -> Result<(), AllocError>
     ensures { OnOk result (L.written lines.new
-        ≡ L.written lines.old ++ flat_map L.line (flat_map strand_lines strands.now)) }
+        ≡ L.written lines.old ++ flat_map L.line (phase_lines version starts.now)) }
+{
+    if version == 2 {
+        add_numbered(lines, 0, starts)
+    } else {
+        Ok(())
+    }
+}
+
+/// One line, with the number of the phase.
+impl Section for PhaseStart {
+    ghost lines_at = { λ number start. phase_line number start ∷ [] };
+
+    fn add_to<L: Lines>(&self, number: usize, lines: &mut L) -> Result<(), AllocError> {
+        lines.add(&PhaseLine {
+            number,
+            start: self,
+        })
+    }
+}
+
+/// The start of a phase, with its number.
+#[derive(Clone, Copy)]
+struct PhaseLine<'a> {
+    number: usize,
+    start: &'a PhaseStart,
+}
+
+/// `phase P TICKET marked` and the marked elements.
+impl Piece for PhaseLine<'_> {
+    ghost shown = { λ line. phase_line line.number line.start.now };
+
+    fn push_to(&self, text: &mut String) -> Result<(), AllocError> {
+        text.push_str("phase")?;
+        push_number(text, self.number as u64)?;
+        push_number(text, self.start.ticket)?;
+        text.push_str(" marked")?;
+        push_each(text, self.start.marked.as_slice())
+    }
+}
+
+/// Adds each strand with its steps.
+fn add_strands<L: Lines>(lines: &mut L, version: u32, strands: &[Strand]) -> Result<(), AllocError>
+    ensures { OnOk result (L.written lines.new
+        ≡ L.written lines.old ++ flat_map L.line (flat_map (strand_lines version) strands.now)) }
 {
     for strand in strands {
-        lines.add(strand)?;
+        lines.add(&StrandLine { version, strand })?;
         add_each(lines, strand.steps.as_slice())?;
     }
     Ok(())
 }
 
-/// `strand CPUS N`, the line above its steps.
-impl Piece for Strand {
-    ghost shown = { strand_line };
+/// A strand, of a script of some version.
+#[derive(Clone, Copy)]
+struct StrandLine<'a> {
+    version: u32,
+    strand: &'a Strand,
+}
+
+/// `strand CPUS N` or `strand P CPUS N`, the line above its steps.
+impl Piece for StrandLine<'_> {
+    ghost shown = { λ line. strand_line line.version line.strand.now };
 
     fn push_to(&self, text: &mut String) -> Result<(), AllocError> {
+        let strand = self.strand;
         text.push_str("strand ")?;
-        push_joined(text, self.cpus.as_slice())?;
-        push_number(text, self.steps.len() as u64)
+        push_phase(text, self.version, strand.phase)?;
+        push_joined(text, strand.cpus.as_slice())?;
+        push_number(text, strand.steps.len() as u64)
+    }
+}
+
+/// Adds a strand's phase, in version 2.
+fn push_phase(text: &mut String, version: u32, phase: u32) -> Result<(), AllocError>
+    ensures { OnOk result (string_bytes text.new
+        ≡ string_bytes text.old ++ phase_name version phase) }
+{
+    if version == 2 {
+        push_decimal(text, phase as u64)?;
+        text.push_str(" ")
+    } else {
+        Ok(())
     }
 }
 

@@ -54,7 +54,7 @@ fn object_of(
 {
     let mut members = answers_of(alloc, script, kept)?;
     serde_json::put(&mut members, alloc, "map", map_of(alloc, &script.shape)?)?;
-    put_history(&mut members, alloc, kept, options.history)?;
+    put_history(&mut members, alloc, script.version, kept, options.history)?;
     put_dump(
         &mut members,
         alloc,
@@ -128,11 +128,12 @@ fn map_of(alloc: Global, shape: &Shape) -> Result<Value, AllocError>
 fn put_history(
     members: &mut Map<String, Value>,
     alloc: Global,
+    version: u32,
     kept: &RunRecord,
     asked: bool,
 ) -> Result<(), AllocError>
     ensures { OnOk result (members_view members.new.entries ≡ (if asked
-        then with_member (codes "history") (texts (history_lines kept.now))
+        then with_member (codes "history") (texts (history_lines version kept.now))
         (members_view members.old.entries)
         else members_view members.old.entries)) }
 {
@@ -140,7 +141,7 @@ fn put_history(
         return Ok(());
     }
     let mut lines = Vec::new(alloc);
-    add_history(&mut lines, kept)?;
+    add_history(&mut lines, version, kept)?;
     serde_json::put(members, alloc, "history", array_of(alloc, lines)?)
 }
 

@@ -16,6 +16,6 @@ mod words;
 
 pub use json::json_of;
 pub use place_words::{Finals, Kept, LocalFinal, SetFinal};
-pub use record::{Options, RunRecord};
+pub use record::{Options, PhaseStart, RunRecord};
 pub use summary::summary_of;
 pub use text::text_of;

@@ -32,7 +32,7 @@ pub fn summary_of(
     let mut text = String::new(alloc);
     text.add(&script.shape)?;
     add_summary(&mut text, script, kept)?;
-    add_history_if(&mut text, kept, options.history)?;
+    add_history_if(&mut text, script.version, kept, options.history)?;
     add_dump_if(&mut text, &script.shape, &kept.finals, options.dump)?;
     text.push_str("end\n")?;
     Ok(text.into_bytes())

@@ -32,7 +32,7 @@ pub fn text_of(
     let mut text = String::new(alloc);
     text.add(&script.shape)?;
     add_numbered(&mut text, 1, kept.replies.as_slice())?;
-    add_history_if(&mut text, kept, options.history)?;
+    add_history_if(&mut text, script.version, kept, options.history)?;
     add_dump_if(&mut text, &script.shape, &kept.finals, options.dump)?;
     text.push_str("end\n")?;
     Ok(text.into_bytes())
@@ -41,14 +41,15 @@ pub fn text_of(
 /// Adds what happened, if that is asked for.
 pub(crate) fn add_history_if(
     text: &mut String,
+    version: u32,
     kept: &RunRecord,
     asked: bool,
 ) -> Result<(), AllocError>
     ensures { OnOk result (string_bytes text.new
-        ≡ string_bytes text.old ++ flat_map ended (if asked then history_lines kept.now else [])) }
+        ≡ string_bytes text.old ++ flat_map ended (if asked then history_lines version kept.now else [])) }
 {
     if asked {
-        add_history(text, kept)
+        add_history(text, version, kept)
     } else {
         Ok(())
     }

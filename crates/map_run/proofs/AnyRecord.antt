@@ -23,14 +23,13 @@ use Rattle.place_words.specs.Buckets.{new_stored}
 use Rattle.place_words.specs.Logs.{new_state, answers}
 use Rattle.place_words.specs.Openings.{first_spares}
 use Rattle.place_words.proofs.EachTurn.{PassAll, VerbPasses}
-use Rattle.place_words.proofs.AnyStart.{every_run}
 use Rattle.map_report.specs.Freelists.{opening_stacks, spares_popped}
 use Rattle.map_report.specs.Record.{IsRecord, EachAnswered}
 use Rattle.map_report.specs.Runs.{serial}
 use Rattle.map_report.specs.Serial.{opening, has_spares}
 use Rattle.map_report.proofs.EachAtRest.{run_holds_elements}
 use Rattle.map_report.proofs.LogAnswers.{FitsMap, all_answered}
-use Rattle.map_report.proofs.LogRecord.{record_of_done}
+use Rattle.map_report.proofs.SerialPhases.{record_of_done}
 use Rattle.map_run.proofs.OpeningTurns.{opening_spares_are, no_opening_spares}
 
 -- Sizes: what is written has the map's, and so has all that lies in the buckets
@@ -94,7 +93,7 @@ pub any_is_record : (script : Script) → IsWellFormed script → IsRecord scrip
 any_is_record script like =
     let shape : Shape = script.shape in
     let served = on_cpus shape script.calls like.calls in
-    record_of_done script like.shape served (every_run shape like.shape 1 script.calls served).0
+    record_of_done script like.shape like.phases served
     (λ cpu within. ap (λ (spares : List ℕ). slice_get spares cpu) (spares_of shape (bounds_of_shape shape like.shape) shape.kind refl))
     (replies_right shape script.calls like.calls)
     (run_holds_elements shape like.shape 1 script.calls served)

@@ -1,31 +1,22 @@
 -- A run in serial order on a map of either sort: its calls are determined by their traces. On a map that evicts they are since the
 -- takings and freeings of each CPU are: where CPUs share lists, by the bits that each turn reads too, and since no element is found
 -- moved on.
-use Rattle.std.proofs.Common.{◌≡◌, ℕ, suc, ◌+◌, ◌<◌, true, false, not, cond, List, [], ◌∷◌, ◌++◌, length, get_or, map, take, All, refl, ap, sym, ◌∙◌, subst, arith}
-use Rattle.std.specs.Prelude.{filter}
-use Rattle.std.specs.List.{range_with_len}
-use Rattle.std.proofs.lemmas.Bool.{ne_eqb}
+use Rattle.std.proofs.Common.{◌≡◌, ℕ, ◌+◌, ◌<◌, true, List, [], ◌∷◌, ◌++◌, length, get_or, map, take, All, sym, subst}
 use Rattle.std.proofs.lemmas.List.Elements.{All-get_or, All-take, All-weaker}
 use Rattle.map_types.specs.Creation.{IsShape}
 use Rattle.map_types.specs.Kind.{is_lru}
 use Rattle.map_types.specs.declared.attr.Shape.{Shape}
 use Rattle.map_types.specs.declared.call.Call.{Call}
 use Rattle.map_types.specs.declared.reply.Reply.{Reply}
-use Rattle.map_types.proofs.CreationLemmas.{bounds_of_shape}
-use Rattle.place_words.specs.declared.history.Strand.{Strand}
-use Rattle.place_words.specs.declared.history.StrandStep.{StrandStep}
-use Rattle.place_words.specs.Logs.{State, lies_in, new_state, does}
+use Rattle.place_words.specs.Logs.{State, lies_in, does}
 use Rattle.place_words.specs.Turns.{Turn}
 use Rattle.place_words.proofs.EvictingDone.{IsAtRest}
 use Rattle.place_words.proofs.AnyStart.{IsStart, done_from}
 use Rattle.place_words.proofs.EvictingRuns.{supplies}
 use Rattle.place_table.specs.Calls.{Called}
-use Rattle.place_table.specs.Closing.{ClosedView, IsClosed}
 use Rattle.place_table.specs.Known.{turn_at}
 use Rattle.place_table.specs.Passes.{PassView, TableView, begun}
-use Rattle.map_report.specs.declared.record.RunRecord.{RunRecord}
-use Rattle.map_run.specs.ByLogs.{RunStart, HaveRunFrom, HaveRun}
-use Rattle.map_run.specs.Copies.{has_step, IsCopyOf, record_left, strand_left}
+use Rattle.map_run.specs.ByLogs.{RunStart, HaveRunFrom}
 use Rattle.map_run.specs.Served.{IsServedCall}
 use Rattle.map_run.proofs.CallsByLogs.{tells_shared, IsDetermined}
 use Rattle.map_run.proofs.Decides.{Decides, own_decides}
@@ -36,7 +27,6 @@ use Rattle.map_run.proofs.PlainKeyIs.{plain_decides}
 use Rattle.map_run.proofs.RunByLogs.{come_from, next_by_logs}
 use Rattle.map_run.proofs.SharedFreesIs.{TellsShared, shared_decides}
 use Rattle.map_run.proofs.TurnsMade.{NothingMore, nothing_more}
-use Rattle.map_run.proofs.Whole.{strands_of, strands_are_told, told_of_one}
 
 -- One call more
 
@@ -71,25 +61,3 @@ run_next t from calls n call p q number reply replies after shape_is start serve
     next_by_logs NothingMore t from calls n call p q number reply replies after shape_is
     (λ k. determined_by NothingMore t.shape from (take n calls) call k start (λ lru. own_decides NothingMore t.shape call.cpu apart own.cpu) before own) within is count ran called
     (λ state strand knows none. nothing_more t.shape call.cpu number (map (turn_at t.shape) called.steps) state) pushed)
-
--- At the end
-
-strands_there : (shape : Shape) (steps : List StrandStep) → filter has_step (strand_left shape.cpus (strands_of shape steps) ∷ []) ≡ strands_of shape steps
-strands_there shape [] = refl
-strands_there shape (step ∷ steps) =
-    let strand : Strand = record { cpus = range_with_len 0 shape.cpus; steps = step ∷ steps } in
-    ap (λ b. cond (not b) (strand ∷ []) []) (ne_eqb (suc (length steps)) 0 (λ is. omega arith))
-
-pub run_copy : (t : TableView) (shape : Shape) (calls : List Call) (p : PassView) (kept : RunRecord) (closed back : ClosedView) (replies : List Reply) → t.shape ≡ shape → IsShape t.shape
-    → HaveRun t calls p replies → IsClosed t.shape p closed → (kept ≡ record_left shape.cpus replies closed) × (back ≡ closed) × (closed.lost ≡ false) → IsCopyOf kept back
-run_copy t shape calls p kept closed back replies same shape_is ran ends is =
-    let told : closed.strands ≡ strands_of t.shape p.view.kept =
-    strands_are_told t.shape p closed ends is.2 (bounds_of_shape t.shape shape_is) ∙ told_of_one t.shape p.view ran.ended ran.all_cpus in
-    let copy : IsCopyOf (record_left t.shape.cpus replies closed) closed = record {
-      histories = refl;
-      strands = subst (λ (strands : List Strand). filter has_step (strand_left t.shape.cpus strands ∷ []) ≡ strands) (sym told) (strands_there t.shape p.view.kept);
-      finals = refl;
-      whole = is.2;
-    } in
-    subst (IsCopyOf kept) (sym is.1)
-    (subst (λ (k : RunRecord). IsCopyOf k closed) (sym (is.0 ∙ ap (λ (s : Shape). record_left s.cpus replies closed) (sym same))) copy)

@@ -195,16 +195,23 @@ answers_more shape number (first ∷ calls) call state =
     ap (λ (rest : List Reply). (does shape first.cpu number state first.verb).reply ∷ rest)
     (answers_more shape (suc number) calls call next ∙ ap (λ (n : ℕ). answers shape (suc number) calls next ++ (does shape call.cpu n (run shape (suc number) calls next) call.verb).reply ∷ []) count)
 
+pub steps_on : (shape : Shape) (number : ℕ) (first second : List Call) (state : State)
+    → steps_of_calls shape number (first ++ second) state ≡ steps_of_calls shape number first state ++ steps_of_calls shape (number + length first) second (run shape number first state)
+steps_on shape number [] second state = let same : number ≡ number + 0 = omega arith in ap (λ (k : ℕ). steps_of_calls shape k second state) same
+steps_on shape number (call ∷ first) second state =
+    let count : suc number + length first ≡ number + suc (length first) = omega arith in
+    let mine : List StrandStep = steps_of_turns shape call.cpu number (does shape call.cpu number state call.verb).turns state in
+    let after : State = after_one shape number call state in
+    ap (λ (rest : List StrandStep). mine ++ rest)
+    (steps_on shape (suc number) first second after
+    ∙ ap (λ (k : ℕ). steps_of_calls shape (suc number) first after ++ steps_of_calls shape k second (run shape (suc number) first after)) count)
+    ∙ sym (append_assoc mine (steps_of_calls shape (suc number) first after) (steps_of_calls shape (number + suc (length first)) second (run shape (suc number) first after)))
+
 abbrev steps_of : Shape → ℕ → Call → State → List StrandStep
 steps_of shape number call state = steps_of_turns shape call.cpu number (does shape call.cpu number state call.verb).turns state
 
 pub steps_more : (shape : Shape) (number : ℕ) (calls : List Call) (call : Call) (state : State)
     → steps_of_calls shape number (calls ++ call ∷ []) state ≡ steps_of_calls shape number calls state ++ steps_of shape (number + length calls) call (run shape number calls state)
-steps_more shape number [] call state =
-    let same : number ≡ number + 0 = omega arith in append-nil (steps_of shape number call state) ∙ ap (λ (n : ℕ). steps_of shape n call state) same
-steps_more shape number (first ∷ calls) call state =
-    let count : suc number + length calls ≡ number + suc (length calls) = omega arith in
-    let next : State = after_one shape number first state in
-    ap (λ (rest : List StrandStep). steps_of shape number first state ++ rest)
-    (steps_more shape (suc number) calls call next ∙ ap (λ (n : ℕ). steps_of_calls shape (suc number) calls next ++ steps_of shape n call (run shape (suc number) calls next)) count)
-    ∙ sym (append_assoc (steps_of shape number first state) (steps_of_calls shape (suc number) calls next) _)
+steps_more shape number calls call state =
+    steps_on shape number calls (call ∷ []) state
+    ∙ ap (λ (rest : List StrandStep). steps_of_calls shape number calls state ++ rest) (append-nil (steps_of shape (number + length calls) call (run shape number calls state)))

@@ -11,7 +11,6 @@ use Rattle.place_words.specs.declared.history.Entry.{Entry}
 use Rattle.place_words.specs.declared.history.StrandStep.{StrandStep}
 use Rattle.place_words.specs.Locks.{is_lock, is_same_lock, lock_named, lock_count}
 use Rattle.place_words.specs.Strands.{places_on}
-use Rattle.place_words.proofs.LockLemmas.{one_number, same_lock, other_lock}
 use Rattle.place_table.specs.declared.view.Turned.{Turned}
 use Rattle.place_table.specs.Passes.{IsKeptOf}
 use Rattle.place_table.specs.Rules.{turns_on, indexes}
@@ -53,7 +52,7 @@ kept_more shape k step before =
     ∙ ap (λ (b : Bool). length (places_on (lock_named shape k) before) + cond b 1 0) (same_number shape step.lock k)
 
 -- on no lock more is recorded than happened
-kept_few : (shape : Shape) (k : ℕ) (steps : List Turned) (before after : List StrandStep) → IsKeptOf shape steps before after
+pub kept_few : (shape : Shape) (k : ℕ) (steps : List Turned) (before after : List StrandStep) → IsKeptOf shape steps before after
     → length (places_on (lock_named shape k) after) ≤ length (places_on (lock_named shape k) before) + length (turns_on k steps)
 kept_few shape k [] before after kept = let same = ap (λ (l : List StrandStep). length (places_on (lock_named shape k) l)) kept in omega arith
 kept_few shape k (step ∷ steps) before after (inl dropped) =

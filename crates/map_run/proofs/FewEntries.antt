@@ -1,5 +1,5 @@
 -- Each batch write of a script that is read has fewer entries than its text has bytes, but for two; and no generated call is one.
-use Rattle.std.proofs.Common.{◌≡◌, ℕ, zero, suc, ◌+◌, ◌*◌, ◌/◌, ◌%◌, ◌<◌, ◌≤◌, ◌^◌, ◌==◌, nat_le, Bool, true, false, not, cond, List, [], ◌∷◌, length, map, filter, Option, Some, None, Result, Ok, Err, All, refl, sym, ap, subst, ◌∙◌, arith}
+use Rattle.std.proofs.Common.{◌≡◌, ℕ, zero, suc, ◌+◌, ◌*◌, ◌/◌, ◌%◌, ◌≤◌, ◌==◌, nat_le, Bool, true, false, not, cond, List, [], ◌∷◌, length, map, filter, Option, Some, None, Result, Ok, Err, All, refl, sym, ap, subst, ◌∙◌, arith}
 use Rattle.std.specs.List.{AllByRecursion, slice_split, onto_first, before_first, position_or_len, list_all, range_with_len}
 use Rattle.std.proofs.lemmas.Bool.{cond_both}
 use Rattle.std.proofs.lemmas.List.{length-take}
@@ -20,13 +20,13 @@ use Rattle.map_script.specs.declared.script.Form.{Form}
 use Rattle.map_script.specs.declared.script.Form.TheVariants as forms
 use Rattle.map_script.specs.declared.script.GenSpec.{GenSpec}
 use Rattle.map_script.specs.declared.script.Script.{Script}
-use Rattle.map_script.specs.Grammar.{lookup_places, update_places, delete_places, take_places, next_places, batch_read_places, pairs_to_end, keys_to_end, batch_update_places, batch_delete_places, verb_line, call_on, call_line, reply_bytes, map_line, version_line}
+use Rattle.map_script.specs.Grammar.{lookup_places, update_places, delete_places, take_places, next_places, batch_read_places, pairs_to_end, keys_to_end, batch_update_places, batch_delete_places, verb_line, call_on, call_line, map_line, version_line}
 use Rattle.map_script.specs.Lines.{Line, is_line_feed, is_blank, is_hash, is_allowed, before_comment, tokens_of, said_by, is_nothing, numbered, lines_of, end_number}
 use Rattle.map_script.specs.Places.{◌>>=◌, Tokens, at_end, number, cpu, bytes_in, bytes}
-use Rattle.map_script.specs.Reading.{of_line, at_line, or_create, call_within, calls_of, spec_of, script_of, body_of, map_of, version_of, read_as}
-use Rattle.map_script.proofs.CallLines.{within_has}
+use Rattle.map_script.specs.Reading.{at_line, or_create, no_body, body_from, spec_of, script_of, body_of, map_of, version_of, read_as}
+use Rattle.map_script.proofs.CallsRead.{calls_hold}
 use Rattle.map_script.proofs.PlaceLemmas.{step_found, chosen, same_ok}
-use Rattle.map_script.proofs.WellFormedLemmas.{IsWellFormed-read_as, at_found}
+use Rattle.map_script.proofs.WellFormedLemmas.{IsWellFormed-read_as}
 use Rattle.workload_gen.specs.Draws.{draw}
 use Rattle.workload_gen.specs.Generated.{update_of, lookup_of, delete_of, round_verb, round_call, drawn_verb, drawn_call, call_of, calls_generated, generated_script}
 use Rattle.map_run.specs.Served.{entry_count, HasFewEntries, IsScript}
@@ -223,40 +223,32 @@ module _ (n : ℕ) where
   abbrev HasFew : Script → Type 0
   HasFew script = All IsFew script.calls
 
-  calls_few : (shape : Shape) (count room : ℕ) (lines : List Line) (calls : List Call) → AllByRecursion (IsShort n) lines → calls_of shape count room lines ≡ Ok calls → All IsFew calls
-  calls_few shape count room [] calls short read = subst (All IsFew) (same_ok (calls_of shape count room []) [] calls refl read) (All-nil IsFew)
-  calls_few shape count room (line ∷ lines) calls short read =
-      let first = step_found (at_line line (call_within shape count room)) (λ call. calls_of shape (count + 1) (room + reply_bytes shape call.verb) lines >>= λ calls. Ok (call ∷ calls)) calls read in
-      let call = first.0 in
-      let here = step_found line.says (call_within shape count room) call (at_found line.number (of_line line (call_within shape count room)) call first.1) in
-      let within = within_has shape count room here.0 call here.2 in
-      let others = step_found (calls_of shape (count + 1) (room + reply_bytes shape call.verb) lines) (λ calls. Ok (call ∷ calls)) calls first.2 in
-      let few : IsFew call = omega (arith, call_few shape here.0 call within.read, short.0 here.0 here.1) in
-      subst (All IsFew) (same_ok (calls_of shape count room (line ∷ lines)) (call ∷ others.0) calls (read ∙ sym others.2) read)
-      (All-cons IsFew call others.0 few (calls_few shape (count + 1) (room + reply_bytes shape call.verb) lines others.0 short.1 others.1))
+  call_is_few : (shape : Shape) (line : Line) (tokens : Tokens) (call : Call) → IsShort n line → line.says ≡ Ok tokens → call_line shape tokens ≡ Ok call → IsFew call
+  call_is_few shape line tokens call short said read = omega (arith, call_few shape tokens call read, short tokens said)
 
-  body_few : (form : Form) (attr : CreateAttr) (shape : Shape) (end : ℕ) (lines : List Line) (script : Script) → AllByRecursion (IsShort n) lines → body_of form attr shape end lines ≡ Ok script → HasFew script
+  body_few : (form : Form) (version : ℕ) (attr : CreateAttr) (shape : Shape) (end : ℕ) (lines : List Line) (script : Script) → AllByRecursion (IsShort n) lines → body_of form version attr shape end lines ≡ Ok script → HasFew script
   unfolding body_of
-  body_few forms.Calls attr shape end lines script short read =
-      let calls = step_found (calls_of shape 0 0 lines) (λ calls. Ok (script_of attr shape calls None)) script read in
-      subst HasFew (same_ok (body_of forms.Calls attr shape end lines) (script_of attr shape calls.0 None) script (read ∙ sym calls.2) read) (calls_few shape 0 0 lines calls.0 short calls.1)
-  body_few forms.Generator attr shape end lines script short read =
-      let spec = step_found (spec_of shape end lines) (λ spec. Ok (script_of attr shape [] (Some spec))) script read in
-      subst HasFew (same_ok (body_of forms.Generator attr shape end lines) (script_of attr shape [] (Some spec.0)) script (read ∙ sym spec.2) read) (All-nil IsFew)
+  body_few forms.Calls version attr shape end lines script short read =
+      let body = step_found (body_from version shape no_body lines) (λ body. Ok (script_of version attr shape body.calls body.cuts None)) script read in
+      subst HasFew (same_ok (body_of forms.Calls version attr shape end lines) (script_of version attr shape body.0.calls body.0.cuts None) script (read ∙ sym body.2) read) (calls_hold version shape IsFew (IsShort n) (call_is_few shape) lines body.0 short body.1)
+  body_few forms.Generator version attr shape end lines script short read =
+      let spec = step_found (spec_of shape end lines) (λ spec. Ok (script_of version attr shape [] [] (Some spec))) script read in
+      subst HasFew (same_ok (body_of forms.Generator version attr shape end lines) (script_of version attr shape [] [] (Some spec.0)) script (read ∙ sym spec.2) read) (All-nil IsFew)
 
-  map_few : (form : Form) (end : ℕ) (lines : List Line) (script : Script) → AllByRecursion (IsShort n) lines → map_of form end lines ≡ Ok script → HasFew script
+  map_few : (form : Form) (version end : ℕ) (lines : List Line) (script : Script) → AllByRecursion (IsShort n) lines → map_of form version end lines ≡ Ok script → HasFew script
   unfolding map_of
-  map_few form end [] script short read = absurd cc
-  map_few form end (line ∷ lines) script short read =
-      let attr = step_found (at_line line map_line) (λ attr. or_create (creation attr) >>= λ shape. body_of form attr shape end lines) script read in
-      let shape = step_found (or_create (creation attr.0)) (λ shape. body_of form attr.0 shape end lines) script attr.2 in
-      body_few form attr.0 shape.0 end lines script short.1 shape.2
+  map_few form version end [] script short read = absurd cc
+  map_few form version end (line ∷ lines) script short read =
+      let attr = step_found (at_line line map_line) (λ attr. or_create (creation attr) >>= λ shape. body_of form version attr shape end lines) script read in
+      let shape = step_found (or_create (creation attr.0)) (λ shape. body_of form version attr.0 shape end lines) script attr.2 in
+      body_few form version attr.0 shape.0 end lines script short.1 shape.2
 
   version_few : (form : Form) (end : ℕ) (lines : List Line) (script : Script) → AllByRecursion (IsShort n) lines → version_of form end lines ≡ Ok script → HasFew script
   unfolding version_of
   version_few form end [] script short read = absurd cc
   version_few form end (line ∷ lines) script short read =
-      map_few form end lines script short.1 (step_found (at_line line version_line) (λ version. map_of form end lines) script read).2
+      let version = step_found (at_line line (version_line form)) (λ version. map_of form version end lines) script read in
+      map_few form version.0 end lines script short.1 version.2
 
 read_few : (form : Form) (text : List ℕ) (script : Script) → read_as form text ≡ Ok script → HasFew (length text) script
 unfolding read_as

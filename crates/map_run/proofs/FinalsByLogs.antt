@@ -11,6 +11,7 @@ use Rattle.place_words.specs.Locals.{new_locals}
 use Rattle.place_words.specs.Locks.{is_lock}
 use Rattle.place_words.specs.Logs.{State, bucket_at, freelist_at, locals_at, globals_at, own_at, final_set, final_local, where_lock, finals_of}
 use Rattle.place_words.specs.Sets.{new_set}
+use Rattle.map_run.proofs.ListPlaces.{same_filter}
 
 -- two states tell the same of a map
 pub record IsSameState (shape : Shape) (a b : State) : Type 0 where
@@ -26,12 +27,6 @@ where_same shape lock f g (name ∷ names) same = by (is_lock shape (lock name))
         → map f (cond b (name ∷ filter (λ n. is_lock shape (lock n)) names) (filter (λ n. is_lock shape (lock n)) names)) ≡ map g (cond b (name ∷ filter (λ n. is_lock shape (lock n)) names) (filter (λ n. is_lock shape (lock n)) names))
     by true is rest = (λ i. same name is i ∷ rest i)
     by false is rest = rest
-
-same_marked : (a b : ℕ → Bool) (from n : ℕ) → ((e : ℕ) → from ≤ e → e < from + n → a e ≡ b e) → filter a (range_with_len from n) ≡ filter b (range_with_len from n)
-same_marked a b from zero same = refl
-same_marked a b from (suc n) same =
-    let rest = same_marked a b (from + 1) n (λ e low high. same e (omega (arith, low)) (omega (arith, high))) in
-    (λ i. cond (same from (omega arith) (omega arith) i) (from ∷ rest i) (rest i))
 
 same_spares : (a b : ℕ → Option ℕ) (from n : ℕ) → ((cpu : ℕ) → from ≤ cpu → cpu < from + n → a cpu ≡ b cpu) → flat_map (λ cpu. option_to_list (a cpu)) (range_with_len from n) ≡ flat_map (λ cpu. option_to_list (b cpu)) (range_with_len from n)
 same_spares a b from zero same = refl
@@ -49,5 +44,5 @@ same_finals shape a b same =
     let owns = where_same shape CpuLru (λ cpu. final_set (own_at shape a cpu)) (λ cpu. final_set (own_at shape b cpu)) cpus (λ c there. ap (λ (l : List Entry). final_set (unwrap_or (own_in (content shape (CpuLru c) l)) (new_set []))) (same.logs (CpuLru c) there)) in
     let locals = where_same shape Local (λ cpu. final_local (locals_at shape a cpu)) (λ cpu. final_local (locals_at shape b cpu)) cpus (λ c there. ap (λ (l : List Entry). final_local (unwrap_or (locals_in (content shape (Local c) l)) (new_locals c))) (same.logs (Local c) there)) in
     let spares = same_spares a.spares b.spares 0 shape.cpus (λ cpu low high. same.spares cpu (omega (arith, high))) in
-    let marked = same_marked a.bits b.bits 0 shape.elements (λ e low high. same.bits e (omega (arith, high))) in
+    let marked = same_filter a.bits b.bits 0 shape.elements (λ e low high. same.bits e (omega (arith, high))) in
     (λ i. record { buckets = buckets i; freelists = freelists i; spares = spares i; sets = globals i ++ owns i; locals = locals i; marked = marked i })

@@ -1,10 +1,10 @@
 -- On a map that doesn't evict a serial run by logs is the run on plain lists: it has the same replies, the same turns under each
 -- lock, and the same steps, and what lies under the locks at the end is what the lists are then.
-use Rattle.std.proofs.Common.{◌≡◌, ℕ, suc, ◌<◌, false, List, [], ◌∷◌, ◌++◌, length, map, take, All, refl, ap, sym, ◌∙◌, subst, append_assoc, ◌+◌, arith}
+use Rattle.std.proofs.Common.{◌≡◌, ℕ, suc, ◌<◌, false, List, [], ◌∷◌, ◌++◌, length, take, All, refl, ap, sym, ◌∙◌, subst, append_assoc, ◌+◌, arith}
 use Rattle.std.specs.Prelude.{slice_get, unwrap_or}
 use Rattle.std.specs.List.{AllByRecursion}
 use Rattle.std.proofs.lemmas.Bool.{lt-ltb}
-use Rattle.std.proofs.lemmas.List.{append-nil}
+use Rattle.std.proofs.lemmas.List.{append-nil, length-append}
 use Rattle.std.proofs.lemmas.List.Elements.{recursion_from_All, All-take}
 use Rattle.map_types.specs.declared.attr.Shape.{Shape}
 use Rattle.map_types.specs.declared.call.Call.{Call}
@@ -19,7 +19,7 @@ use Rattle.map_script.specs.declared.script.Script.{Script}
 use Rattle.place_words.specs.declared.finals.Finals.{Finals}
 use Rattle.place_words.specs.declared.history.StrandStep.{StrandStep}
 use Rattle.place_words.specs.Histories.{Content, bucket_in, replayed}
-use Rattle.place_words.specs.Logs.{State, all_turned, after_one, new_state, run, answers, turned}
+use Rattle.place_words.specs.Logs.{State, all_turned, after_one, new_state, run, answers}
 use Rattle.place_words.specs.Openings.{first_spares}
 use Rattle.place_words.specs.Turns.{Turn}
 use Rattle.place_words.proofs.AnyStart.{tickets_after}
@@ -42,15 +42,20 @@ steps_append before (turn ∷ first) second =
     ap (λ (l : List StrandStep). step ∷ l) (steps_append (before ++ turn ∷ []) first second
     ∙ ap (λ (l : List Happened). steps_from (before ++ turn ∷ []) first ++ steps_from l second) (append_assoc before (turn ∷ []) first))
 
+happened_long : (cpu number ticket : ℕ) (turns : List Turn) → length (all_happened cpu number ticket turns) ≡ length turns
+happened_long cpu number ticket [] = refl
+happened_long cpu number ticket (turn ∷ turns) = ap suc (happened_long cpu number (suc ticket) turns)
+
 module _ (shape : Shape) (bounds : HasBounds shape) (built : is_lru shape.kind ≡ false) where
   -- What a run by logs is, from some point on.
   pub record IsSameRun (lists : Finals) (before : List Happened) (number : ℕ) (calls : List Call) (state : State) : Type 0 where
     pub replies : answers shape number calls state ≡ replies_from shape lists calls
     pub steps : steps_of_calls shape number calls state ≡ steps_from before (turns_from shape lists state.next_ticket number calls)
+    pub tickets : (run shape number calls state).next_ticket ≡ state.next_ticket + length (turns_from shape lists state.next_ticket number calls)
     pub follows : Follows shape (lists_after shape lists calls) (before ++ turns_from shape lists state.next_ticket number calls) (run shape number calls state)
 
   pub same_run : (calls : List Call) (lists : Finals) (before : List Happened) (number : ℕ) (state : State) → AllByRecursion (IsCallOn shape) calls → IsSound shape lists → Follows shape lists before state → IsSameRun lists before number calls state
-  same_run [] lists before number state are sound follows = record { replies = refl; steps = refl; follows = subst (λ (turns : List Happened). Follows shape lists turns state) (sym (append-nil before)) follows }
+  same_run [] lists before number state are sound follows = record { replies = refl; steps = refl; tickets = omega arith; follows = subst (λ (turns : List Happened). Follows shape lists turns state) (sym (append-nil before)) follows }
   same_run (call ∷ calls) lists before number state are sound follows =
       let same = call_same shape bounds built call.cpu number are.0.cpu lists before state call.verb are.0.sizes follows sound in
       let turns : List Turn = call_turns shape call.cpu call.verb lists in
@@ -66,12 +71,17 @@ module _ (shape : Shape) (bounds : HasBounds shape) (built : is_lru shape.kind �
         steps = (λ i. steps_of_turns shape call.cpu number (same.turns_are i) state ++ steps_of_calls shape (suc number) calls (goes i))
             ∙ (λ i. all_steps shape bounds built call.cpu number turns state before same.leads.on_locks follows.logs i ++ (rest.steps ∙ ap (λ (n : ℕ). steps_from (before ++ mine) (turns_from shape next n (suc number) calls)) counted) i)
             ∙ sym (steps_append before mine others);
+        tickets = ap (λ (s : State). (run shape (suc number) calls s).next_ticket) goes ∙ rest.tickets
+            ∙ (λ i. counted i + length (turns_from shape next (counted i) (suc number) calls))
+            ∙ (let long : length (mine ++ others) ≡ length turns + length others = length-append mine others ∙ ap (λ (n : ℕ). n + length others) (happened_long call.cpu number state.next_ticket turns) in
+            let sum : state.next_ticket + length turns + length others ≡ state.next_ticket + length (mine ++ others) = omega (arith, long) in
+            sum);
         follows = subst (λ (s : State). Follows shape (lists_after shape next calls) (before ++ (mine ++ others)) (run shape (suc number) calls s)) (sym goes)
             (subst (λ (ts : List Happened). Follows shape (lists_after shape next calls) ts (run shape (suc number) calls (all_turned shape call.cpu number turns state))) (append_assoc before mine others) (subst (λ (n : ℕ). Follows shape (lists_after shape next calls) ((before ++ mine) ++ turns_from shape next n (suc number) calls) (run shape (suc number) calls (all_turned shape call.cpu number turns state))) counted rest.follows));
       }
 
   -- a new map
-  first_follows : Follows shape (opening shape) [] (new_state shape)
+  pub first_follows : Follows shape (opening shape) [] (new_state shape)
   unfolding replayed
   first_follows = record {
     logs = λ lock real. refl;

@@ -1,25 +1,23 @@
 -- The calls of a race's workers: on which locks their turns are, what they leave as spares, that they are concatenations of the
 -- calls' traces, and what they answer.
-use Rattle.std.proofs.Common.{◌≡◌, ◌≢◌, ℕ, suc, ◌<◌, Bool, true, false, ◌||◌, eqb, List, [], ◌∷◌, ◌++◌, length, map, get_or, drop, Option, Some, None, refl, ap, sym, ◌∙◌, subst, arith}
+use Rattle.std.proofs.Common.{◌≡◌, ◌≢◌, ℕ, suc, ◌<◌, Bool, true, false, ◌||◌, eqb, List, [], ◌∷◌, ◌++◌, length, map, get_or, drop, Option, Some, refl, ap, sym, ◌∙◌, subst, arith}
 use Rattle.std.specs.Prelude.{MatchBool, All, if◌then◌else◌}
-use Rattle.std.specs.List.{AllByRecursion}
+use Rattle.std.specs.List.{AllByRecursion, range_with_len}
 use Rattle.std.proofs.lemmas.Bool.{eq-eqb, ne_eqb}
 use Rattle.std.proofs.lemmas.List.{map-append}
-use Rattle.std.proofs.lemmas.List.Elements.{All-nil, All-append, recursion_from_All}
+use Rattle.std.proofs.lemmas.List.Elements.{All-nil, All-append, All-head, All-tail, recursion_from_All}
 use Rattle.map_types.specs.declared.attr.Shape.{Shape}
 use Rattle.map_types.specs.declared.call.Call.{Call}
 use Rattle.map_types.specs.declared.reply.Reply.{Reply}
-use Rattle.map_types.specs.Kind.{is_lru}
 use Rattle.place_words.specs.declared.history.LockHistory.{LockHistory}
 use Rattle.map_types.specs.ElementLists.{put}
 use Rattle.place_words.specs.Locks.{lock_named}
 use Rattle.place_words.specs.Named.{NameAll}
-use Rattle.place_words.specs.Traces.{IsTrace, spare_after}
-use Rattle.place_words.specs.Turns.{TurnAt, turns_of}
+use Rattle.place_words.specs.Traces.{IsTrace}
+use Rattle.place_words.specs.Turns.{TurnAt}
 use Rattle.place_words.specs.Walks.{spare_left}
-use Rattle.place_words.proofs.Balances.{trace_balances}
-use Rattle.place_words.proofs.PlainLaws.{plain_spare}
-use Rattle.place_core.proofs.ElementLemmas.{put_here}
+use Rattle.place_core.proofs.ElementLemmas.{put_here, put_else}
+use Rattle.map_report.proofs.LogSteps.{has_within, within_has}
 use Rattle.map_types.proofs.RowLemmas.{eqb_turned, by_test}
 use Rattle.place_table.specs.declared.view.Turned.{Turned}
 use Rattle.place_table.specs.Known.{turn_at, IsBy}
@@ -28,7 +26,7 @@ use Rattle.place_table.proofs.Stands.{entry_is, earlier_is}
 use Rattle.map_report.specs.Record.{MayAnswer, EachAnswered, has_cpu, entries_of, IsConcatenation}
 use Rattle.map_run.specs.Served.{IsServedCall}
 use Rattle.map_run.specs.Work.{replies_of, IsCallBy, AreCallsBy}
-use Rattle.map_run.proofs.HistoryTurns.{by_bool, matched}
+use Rattle.map_run.proofs.HistoryTurns.{matched}
 use Rattle.map_run.proofs.RaceKept.{steps_of}
 use Rattle.map_run.proofs.TurnLocks.{all_parts}
 use Rattle.map_run.specs.ByLogs.{IsOfMap}
@@ -78,28 +76,6 @@ module _ (shape : Shape) (cpu : ℕ) where
       (All-append (IsOfMap shape) mine rest made.of_map (calls_real calls replies (suc number) (spare_left shape spare (map (turn_at shape) mine)) last rest (omega arith) more)))
       (λ is more. calls_real calls replies (suc number) spare last steps (omega arith) more)
 
--- a call leaves a CPU without a spare without one
-none_left : (shape : Shape) (call : Call) (spare : Option ℕ) (mine : List Turned) (reply : Reply) → IsTrace shape call.cpu spare call.verb (map (turn_at shape) mine) reply
-    → spare ≡ None → spare_left shape spare (map (turn_at shape) mine) ≡ None
-none_left shape call spare mine reply trace none =
-    let turns : List TurnAt = map (turn_at shape) mine in
-    by_bool (is_lru shape.kind) (λ _. spare_left shape spare turns ≡ None)
-    (λ lru. ap (λ (evicts : Bool). if evicts then spare else spare_after spare (turns_of turns)) lru ∙ none)
-    (λ plain. plain_spare shape spare turns plain ∙ (trace_balances shape call.cpu plain spare call.verb turns reply trace).none none)
-
--- where a CPU had no spare it has none after its calls
-module _ (shape : Shape) (cpu : ℕ) where
-  pub calls_spare : (calls : List Call) (replies : List Reply) (number : ℕ) (spare last : Option ℕ) (steps : List Turned) → length replies ≡ length calls → spare ≡ None
-      → AreCallsBy shape cpu number calls spare last (replies_of cpu calls replies) steps → last ≡ None
-  calls_spare [] replies number spare last steps count none are = are.2 ∙ none
-  calls_spare (call ∷ calls) [] number spare last steps count none are = absurd (omega arith)
-  calls_spare (call ∷ calls) (reply ∷ replies) number spare last steps count none are =
-      first_call shape cpu (last ≡ None) number call calls spare last reply replies steps are
-      (λ is mine rest split made more.
-      calls_spare calls replies (suc number) (spare_left shape spare (map (turn_at shape) mine)) last rest (omega arith)
-      (none_left shape call spare mine reply made.trace none) more)
-      (λ is more. calls_spare calls replies (suc number) spare last steps (omega arith) none more)
-
 -- Traces, one after another
 
 -- a turn stands in the history of its lock, right after the turns before it there
@@ -119,7 +95,7 @@ names_all shape histories cpu number (step ∷ steps) by_call stand = (
   names_all shape histories cpu number steps by_call.1 stand.1,
 )
 
-has_one : (cpu other : ℕ) → has_cpu other (cpu ∷ []) ≡ eqb other cpu
+pub has_one : (cpu other : ℕ) → has_cpu other (cpu ∷ []) ≡ eqb other cpu
 has_one cpu other = or_none (eqb cpu other) ∙ eqb_turned cpu other
   where
     or_none : (b : Bool) → (b || false) ≡ b
@@ -161,6 +137,42 @@ module _ (shape : Shape) (histories : List LockHistory) (cpu : ℕ) where
             parts.1 more,
       ))
       (λ other more. missed (has_cpu call.cpu (cpu ∷ [])) _ _ (has_one cpu call.cpu ∙ ne_eqb call.cpu cpu other) (concatenation calls replies (suc number) spares last spare steps (omega arith) at stand more))
+
+-- So are those of a CPU that makes all of them, where the strand is of all CPUs.
+module _ (shape : Shape) (histories : List LockHistory) (cpu : ℕ) (real : cpu < shape.cpus) where
+  pub concatenation_alone : (calls : List Call) (replies : List Reply) (number : ℕ) (spares last : ℕ → Option ℕ) (spare : Option ℕ) (steps : List Turned) → All (λ (call : Call). call.cpu ≡ cpu) calls → length replies ≡ length calls → spares cpu ≡ spare
+      → ((other : ℕ) → other < shape.cpus → other ≢ cpu → last other ≡ spares other)
+      → AllByRecursion (StandsThere shape histories) steps → AreCallsBy shape cpu number calls spare (last cpu) (replies_of cpu calls replies) steps
+      → IsConcatenation shape histories (range_with_len 0 shape.cpus) number calls replies spares last (steps_of shape steps)
+  concatenation_alone [] replies number spares last spare steps own count at others stand are = (
+    ap (steps_of shape) are.1,
+    λ other is. by_test cpu other (λ _. last other ≡ spares other) (λ same. ap last (sym same) ∙ are.2 ∙ sym at ∙ ap spares same)
+        (λ apart. others other (omega (arith, within_has other 0 shape.cpus is)) (λ same. apart (sym same))),
+  )
+  concatenation_alone (call ∷ calls) [] number spares last spare steps own count at others stand are = absurd (omega arith)
+  concatenation_alone (call ∷ calls) (reply ∷ replies) number spares last spare steps own count at others stand are =
+      let rest : All (λ (c : Call). c.cpu ≡ cpu) calls = All-tail (λ (c : Call). c.cpu ≡ cpu) call calls own in
+      first_call shape cpu (IsConcatenation shape histories (range_with_len 0 shape.cpus) number (call ∷ calls) (reply ∷ replies) spares last (steps_of shape steps)) number call calls spare (last cpu) reply replies steps are
+      (λ is mine more split made later.
+      let turns : List TurnAt = map (turn_at shape) mine in
+      let parts = all_parts (StandsThere shape histories) mine more (subst (AllByRecursion (StandsThere shape histories)) split stand) in
+      let its : spares call.cpu ≡ spare = ap spares is ∙ at in
+      matched (has_cpu call.cpu (range_with_len 0 shape.cpus)) _ _ (has_within call.cpu 0 shape.cpus (omega arith) (omega (arith, real, is))) (
+        steps_of shape mine,
+        steps_of shape more,
+        turns,
+        ap (steps_of shape) split ∙ map-append _ mine more,
+        record {
+          names = names_all shape histories call.cpu number mine (recursion_from_All (IsBy call.cpu number) mine made.by_call) parts.0;
+          trace = subst (λ (s : Option ℕ). IsTrace shape call.cpu s call.verb turns reply) (sym its) made.trace;
+        },
+        concatenation_alone calls replies (suc number) (put spares call.cpu (spare_left shape (spares call.cpu) turns)) last (spare_left shape spare turns) more rest (omega arith)
+            (ap (put spares call.cpu (spare_left shape (spares call.cpu) turns)) (sym is) ∙ put_here spares call.cpu (spare_left shape (spares call.cpu) turns)
+            ∙ ap (λ (s : Option ℕ). spare_left shape s turns) its)
+            (λ other below apart. others other below apart ∙ sym (put_else spares call.cpu (spare_left shape (spares call.cpu) turns) other (λ same. apart (same ∙ is))))
+            parts.1 later,
+      ))
+      (λ other later. absurd (other (All-head (λ (c : Call). c.cpu ≡ cpu) call calls own)))
 
 -- Answers
 

@@ -43,7 +43,8 @@ use Rattle.map_report.proofs.EachAtRest.{each_once_from}
 use Rattle.map_run.proofs.Closing.{number_in, few_spares}
 use Rattle.map_run.proofs.HistoryTurns.{by_bool}
 use Rattle.map_run.proofs.TurnLocks.{range_below}
-use Rattle.map_run.proofs.RaceLists.{made_there, counts_permute, times_range, times_past, times_flat_map, times_concat, times_made}
+use Rattle.map_run.proofs.RaceLists.{counts_permute, times_range, times_past, times_flat_map, times_concat, times_made}
+use Rattle.map_run.proofs.ListPlaces.{made_there}
 
 -- Numbers in order
 
@@ -56,7 +57,7 @@ ascends_where true a xs above rest = (above, rest)
 ascends_where false a xs above rest = rest
 
 -- what a filter leaves of a range ascends
-filter_ascends : (p : ℕ → Bool) (a n : ℕ) → Ascend (filter p (range_with_len a n))
+pub filter_ascends : (p : ℕ → Bool) (a n : ℕ) → Ascend (filter p (range_with_len a n))
 filter_ascends p a zero = tt
 filter_ascends p a (suc n) =
     ascends_where (p a) a (filter p (range_with_len (a + 1) n))
@@ -142,7 +143,7 @@ module _ (shape : Shape) (p : PassView) (closed : ClosedView) (ends : IsClosed s
       (All-filter ends.core.bit (λ (element : ℕ). element < shape.elements) (range_with_len 0 shape.elements)
       (All-from_recursion (λ (element : ℕ). element < shape.elements) (range_with_len 0 shape.elements) (range_below shape.elements 0 shape.elements (omega arith))))
 
-  marked_ascend : Ascend closed.finals.marked
+  pub marked_ascend : Ascend closed.finals.marked
   marked_ascend = subst Ascend (sym (map_left.marked_are ends.left)) (filter_ascends ends.core.bit 0 shape.elements)
 
 -- a kind that has no spares isn't HASH

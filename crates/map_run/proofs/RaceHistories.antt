@@ -22,6 +22,7 @@ use Rattle.map_run.proofs.HistoryTurns.{by_bool}
 use Rattle.map_run.proofs.RaceCalls.{StandsThere}
 use Rattle.map_run.proofs.Whole.{none_lost}
 use Rattle.map_run.specs.ByLogs.{IsOfMap}
+use Rattle.map_run.proofs.ListPlaces.{all_standing}
 
 -- The history of a lock among those of all locks
 
@@ -45,14 +46,9 @@ locks_told : (shape : Shape) (log : ℕ → List Entry) (numbers : List ℕ) →
 locks_told shape log [] = refl
 locks_told shape log (k ∷ numbers) = ap (λ locks. lock_named shape k ∷ locks) (locks_told shape log numbers)
 
-each_told : (shape : Shape) (log : ℕ → List Entry) (P : LockHistory → Type 0) → ((k : ℕ) → P (history_of shape log k)) → (numbers : List ℕ) → AllByRecursion P (map (history_of shape log) numbers)
+pub each_told : (shape : Shape) (log : ℕ → List Entry) (P : LockHistory → Type 0) → ((k : ℕ) → P (history_of shape log k)) → (numbers : List ℕ) → AllByRecursion P (map (history_of shape log) numbers)
 each_told shape log P holds [] = tt
 each_told shape log P holds (k ∷ numbers) = (holds k, each_told shape log P holds numbers)
-
--- what holds of what stands at each place
-pub all_standing : {X : Type 0} (P : X → Type 0) (xs : List X) → ((i : ℕ) (x : X) → slice_get xs i ≡ Some x → P x) → AllByRecursion P xs
-all_standing P [] holds = tt
-all_standing P (x ∷ xs) holds = (holds 0 x refl, all_standing P xs (λ i y is. holds (suc i) y is))
 
 module _ (shape : Shape) (p : PassView) (closed : ClosedView) (ends : IsClosed shape p closed) (whole : closed.lost ≡ false) where
   pub histories_are : closed.histories ≡ map (history_of shape ends.log) (all_locks shape)

@@ -1,27 +1,26 @@
 -- The lists that a closed table leaves after a race on a map that evicts: each element is in a bucket or free, once, and on one list,
 -- once.
-use Rattle.std.proofs.Common.{◌≡◌, ℕ, zero, suc, ◌+◌, ◌<◌, ◌≤◌, Bool, true, false, cond, not, ◌&&◌, eqb, ltb, List, [], ◌∷◌, ◌++◌, refl, ap, sym, ◌∙◌, subst, ⊎_elim, append-nil, arith}
+use Rattle.std.proofs.Common.{◌≡◌, ℕ, ◌+◌, ◌<◌, ◌≤◌, Bool, true, false, not, ◌&&◌, eqb, ltb, [], ◌++◌, refl, ap, sym, ◌∙◌, subst, ⊎_elim, arith}
 use Rattle.std.specs.Prelude.{IsTrue, flat_map}
-use Rattle.std.specs.List.{AllByRecursion, range_with_len}
-use Rattle.std.proofs.lemmas.Bool.{both_ways, cases_lt, eq-eqb, eqb-true, eqb-false, lt-ltb, le-ltb, ltb-true, and_parts, and_from, not-true}
+use Rattle.std.specs.List.{range_with_len}
+use Rattle.std.proofs.lemmas.Bool.{both_ways, cases_lt, eq-eqb, le-ltb, ltb-true}
 use Rattle.map_types.specs.declared.attr.Shape.{Shape}
 use Rattle.map_types.specs.declared.kind.DomainId.{DomainId}
 use Rattle.map_types.specs.declared.kind.DomainId.TheVariants.{Local, Global, CpuLru, Bucket, Freelist}
 use Rattle.map_types.specs.ElementLists.{one, times}
 use Rattle.map_types.specs.Kind.{is_lru}
-use Rattle.map_types.specs.Listed.{elements_of}
 use Rattle.map_types.proofs.RowLemmas.{times_append}
 use Rattle.place_words.specs.declared.finals.Finals.{Finals}
 use Rattle.place_words.specs.declared.owner.Owner.{Owner}
 use Rattle.place_words.specs.declared.owner.Owner.TheVariants as owners
 use Rattle.place_words.specs.Bodies.{numbers}
-use Rattle.place_words.specs.Histories.{Content, in_bucket, on_freelist, in_locals, in_global, in_own}
+use Rattle.place_words.specs.Histories.{Content}
 use Rattle.place_words.specs.Locks.{is_lock, is_same_lock, lock_named, lock_number}
 use Rattle.place_words.specs.Logs.{State, lies_in, bucket_at, where_lock, finals_of}
 use Rattle.place_words.specs.Openings.{is_free}
 use Rattle.place_words.proofs.ListContents.{lies_locals, lies_globals, lies_own}
-use Rattle.place_words.proofs.ListSums.{locks_below, list_locks, sum_over, how_often, own_once, local_once, global_once}
-use Rattle.place_words.proofs.LockLemmas.{named_by_number, number_of_named, same_lock, other_lock}
+use Rattle.place_words.proofs.ListSums.{list_locks, sum_over, how_often}
+use Rattle.place_words.proofs.LockLemmas.{named_by_number}
 use Rattle.place_words.proofs.RestCounts.{free_on}
 use Rattle.place_words.proofs.Settled.{elements_on}
 use Rattle.place_core.specs.declared.step.Lists.{Lists}
@@ -34,11 +33,10 @@ use Rattle.place_table.specs.Contents.{lists_of}
 use Rattle.place_table.specs.Passes.{PassView}
 use Rattle.place_table.specs.Rules.{is_hand_of}
 use Rattle.place_table.specs.Idle.{IsListLock}
-use Rattle.place_table.proofs.ListLocks.{each_below, sum_where, sum_nothing, and_true, listed_here, once_of, lies_by, each_list_lock, home_once, all_as_lists}
+use Rattle.place_table.proofs.ListLocks.{sum_where, sum_nothing, and_true, listed_here, once_of, lies_by, each_list_lock, home_once, all_as_lists}
 use Rattle.map_report.specs.EachOnce.{in_buckets}
 use Rattle.map_report.specs.Record.{HasListedElements}
 use Rattle.map_report.proofs.ListedAtRest.{listed_by_counts}
-use Rattle.map_run.proofs.HistoryTurns.{by_bool}
 use Rattle.map_run.proofs.RaceFinals.{lists_there, in_bucket_lists}
 
 -- a free one of those that lie at a lock

@@ -1,95 +1,13 @@
--- Lists by what stands at their places, and by how often a number stands in them.
-use Rattle.std.proofs.Common.{◌≡◌, ◌≢◌, ℕ, zero, suc, ◌+◌, ◌<◌, ◌≤◌, Bool, true, false, cond, eqb, List, [], ◌∷◌, ◌++◌, length, map, get_or, Some, IsPermutation, refl, ap, sym, ◌∙◌, ◌⊎◌, inl, inr, subst, arith}
-use Rattle.std.specs.Prelude.{filter, slice_get}
+-- Lists by how often a number stands in them.
+use Rattle.std.proofs.Common.{◌≡◌, ℕ, zero, suc, ◌+◌, ◌<◌, ◌≤◌, Bool, true, false, cond, eqb, List, [], ◌∷◌, ◌++◌, length, map, get_or, IsPermutation, refl, ap, sym, ◌∙◌, subst, arith}
 use Rattle.std.specs.List.{concat, flat_map, range_with_len}
-use Rattle.std.proofs.lemmas.Bool.{cases_eq, ne_eqb}
-use Rattle.std.proofs.lemmas.List.FromFn.{length-map-range_with_len, get_or-map-range_with_len}
+use Rattle.std.proofs.lemmas.Bool.{ne_eqb}
 use Rattle.std.proofs.lemmas.List.Sorted.{IsPermutation-refl, IsPermutation-trans, IsPermutation-cons, IsPermutation-middle, IsPermutation-sym}
-use Rattle.std.proofs.lemmas.Option.{none-some, same_Some, slice_get-get_or, slice_get_within, get_or_from_slice_get}
 use Rattle.map_types.specs.ElementLists.{one, times}
 use Rattle.map_types.proofs.RowLemmas.{times_append, by_test}
 use Rattle.place_core.specs.Totals.{sum_below}
 use Rattle.place_core.proofs.ElementLemmas.{times_cons_same}
 use Rattle.place_core.proofs.TotalLemmas.{sum_same}
-use Rattle.map_run.proofs.HistoryTurns.{by_bool}
-use Rattle.map_run.proofs.Whole.{none_pass}
-
--- What stands at a place
-
-pub stands : {X : Type 0} (xs : List X) (i : ℕ) → i < length xs → (x : X) × (slice_get xs i ≡ Some x)
-stands [] i within = absurd (omega arith)
-stands (x ∷ xs) zero within = (x, refl)
-stands (x ∷ xs) (suc i) within = stands xs i (omega arith)
-
--- what a filter kept stands in the list
-pub kept_stands : {X : Type 0} (test : X → Bool) (xs : List X) (m : ℕ) (x : X) → slice_get (filter test xs) m ≡ Some x → (n : ℕ) × (slice_get xs n ≡ Some x)
-kept_stands test [] m x is = absurd (none-some x is)
-kept_stands {X} test (y ∷ ys) m x is =
-    by_bool (test y) (λ b. slice_get (cond b (y ∷ filter test ys) (filter test ys)) m ≡ Some x → (n : ℕ) × (slice_get (y ∷ ys) n ≡ Some x))
-    (λ _. first m (λ k. kept_stands test ys k x))
-    (λ _ found. let rest = kept_stands test ys m x found in (suc rest.0, rest.1)) is
-  where
-    first : (k : ℕ) → ((j : ℕ) → slice_get (filter test ys) j ≡ Some x → (n : ℕ) × (slice_get ys n ≡ Some x)) → slice_get (y ∷ filter test ys) k ≡ Some x → (n : ℕ) × (slice_get (y ∷ ys) n ≡ Some x)
-    first zero more found = (0, found)
-    first (suc k) more found = let rest = more k found in (suc rest.0, rest.1)
-
--- and what passes is kept
-pub passing_kept : {X : Type 0} (test : X → Bool) (xs : List X) (n : ℕ) (x : X) → slice_get xs n ≡ Some x → test x ≡ true → (m : ℕ) × (slice_get (filter test xs) m ≡ Some x)
-passing_kept test [] n x is passes = absurd (none-some x is)
-passing_kept test (y ∷ ys) zero x is passes =
-    (0, ap (λ b. slice_get (cond b (y ∷ filter test ys) (filter test ys)) 0) (ap test (same_Some y x is) ∙ passes) ∙ is)
-passing_kept test (y ∷ ys) (suc n) x is passes =
-    let rest = passing_kept test ys n x is passes in
-    by_bool (test y) (λ b. (m : ℕ) × (slice_get (cond b (y ∷ filter test ys) (filter test ys)) m ≡ Some x)) (λ _. (suc rest.0, rest.1)) (λ _. rest)
-
--- what passes one test passes another
-pub filter_through : {X : Type 0} (test other : X → Bool) (xs : List X) → ((x : X) → test x ≡ true → other x ≡ true) → filter test xs ≡ filter test (filter other xs)
-filter_through test other [] through = refl
-filter_through test other (x ∷ xs) through =
-    let rest = filter_through test other xs through in
-    by_bool (test x) (λ b. test x ≡ b → cond b (x ∷ filter test xs) (filter test xs) ≡ filter test (cond (other x) (x ∷ filter other xs) (filter other xs)))
-    (λ passes is. ap (λ l. x ∷ l) rest
-    ∙ sym (ap (λ b. filter test (cond b (x ∷ filter other xs) (filter other xs))) (through x passes) ∙ ap (λ b. cond b (x ∷ filter test (filter other xs)) (filter test (filter other xs))) is))
-    (λ fails is. rest ∙ by_bool (other x) (λ b. filter test (filter other xs) ≡ filter test (cond b (x ∷ filter other xs) (filter other xs)))
-    (λ _. sym (ap (λ b. cond b (x ∷ filter test (filter other xs)) (filter test (filter other xs))) is)) (λ _. refl))
-    refl
-
--- What is made of the numbers below a bound
-
-pub made_at : {X : Type 0} (f : ℕ → X) (count n : ℕ) (x : X) → slice_get (map f (range_with_len 0 count)) n ≡ Some x → (n < count) × (x ≡ f n)
-made_at f count n x is =
-    let within = slice_get_within (map f (range_with_len 0 count)) n x is in
-    let long = length-map-range_with_len f 0 count in
-    let below : n < count = omega arith in
-    (below, sym (get_or_from_slice_get (map f (range_with_len 0 count)) n x x is) ∙ get_or-map-range_with_len f 0 count n n x below (omega arith))
-
-pub made_there : {X : Type 0} (f : ℕ → X) (count n : ℕ) → n < count → slice_get (map f (range_with_len 0 count)) n ≡ Some (f n)
-made_there f count n below =
-    let long = length-map-range_with_len f 0 count in
-    slice_get-get_or (map f (range_with_len 0 count)) n (f n) (omega arith) ∙ ap Some (get_or-map-range_with_len f 0 count n n (f n) below (omega arith))
-
-pub made_same : {X : Type 0} (f g : ℕ → X) (a n : ℕ) → ((k : ℕ) → a ≤ k → k < a + n → f k ≡ g k) → map f (range_with_len a n) ≡ map g (range_with_len a n)
-made_same f g a zero same = refl
-made_same f g a (suc n) same =
-    let here = same a (omega arith) (omega arith) in
-    let rest = made_same f g (a + 1) n (λ k low high. same k (omega arith) (omega arith)) in
-    λ i. here i ∷ rest i
-
--- one number passes
-pub one_passes : (test : ℕ → Bool) (n a count : ℕ) → a ≤ n → n < a + count → test n ≡ true → ((e : ℕ) → e ≢ n → test e ≡ false) → filter test (range_with_len a count) ≡ n ∷ []
-one_passes test n a zero low high passes fails = absurd (omega arith)
-one_passes test n a (suc count) low high passes fails =
-    by (cases_eq a n) (one_passes test n (a + 1) count)
-  where
-    rest : List ℕ
-    rest = filter test (range_with_len (a + 1) count)
-
-    by : (a ≡ n) ⊎ (a ≢ n)
-        → (a + 1 ≤ n → n < a + 1 + count → test n ≡ true → ((e : ℕ) → e ≢ n → test e ≡ false) → rest ≡ n ∷ []) → cond (test a) (a ∷ rest) rest ≡ n ∷ []
-    by (inl here) more =
-        ap (λ b. cond b (a ∷ rest) rest) (ap test here ∙ passes)
-        ∙ (λ i. here i ∷ none_pass test (a + 1) count (λ e above below. fails e (λ is. absurd (omega arith))) i)
-    by (inr other) more = ap (λ b. cond b (a ∷ rest) rest) (fails a other) ∙ more (omega arith) (omega arith) passes fails
 
 -- How often a number stands in a list
 

@@ -1,27 +1,22 @@
 -- The tickets of a race whose closed table lost no record: the numbers below the number of entries, each once; they ascend in each
 -- history and along each CPU's turns.
-use Rattle.std.proofs.Common.{◌≡◌, ℕ, zero, suc, ◌+◌, ◌<◌, ◌≤◌, true, false, cond, List, [], ◌∷◌, ◌++◌, length, map, Some, All, refl, ap, sym, ◌∙◌, subst, arith}
-use Rattle.std.specs.Prelude.{IsTrue, IsPermutation, filter, slice_get, slice_index_or}
+use Rattle.std.proofs.Common.{◌≡◌, ℕ, zero, suc, ◌+◌, ◌<◌, ◌≤◌, false, cond, List, [], ◌∷◌, ◌++◌, length, map, All, refl, ap, sym, ◌∙◌, subst, arith}
+use Rattle.std.specs.Prelude.{IsTrue, IsPermutation, filter, slice_index_or}
 use Rattle.std.specs.List.{AllByRecursion, flat_map, range_with_len}
 use Rattle.std.proofs.lemmas.List.Elements.{All-from_recursion}
 use Rattle.std.proofs.lemmas.List.FromFn.{length-range_with_len}
 use Rattle.std.proofs.lemmas.List.Sorted.{length_permutation}
-use Rattle.std.proofs.lemmas.Option.{none-some, same_Some}
 use Rattle.map_types.specs.declared.attr.Shape.{Shape}
 use Rattle.map_types.specs.ElementLists.{times}
 use Rattle.place_words.specs.declared.history.Entry.{Entry}
 use Rattle.place_words.specs.declared.history.LockHistory.{LockHistory}
-use Rattle.place_words.specs.declared.history.StrandStep.{StrandStep}
 use Rattle.place_words.specs.Locks.{lock_named, lock_count}
-use Rattle.place_words.specs.Named.{entries_of}
 use Rattle.place_words.specs.Tickets.{AscendIn, tickets_of, all_entries, ticket_at}
 use Rattle.place_words.proofs.Permutes.{counts_permute, numbers_count}
-use Rattle.place_table.specs.declared.view.Ended.{Ended}
 use Rattle.place_table.specs.declared.view.Turned.{Turned}
 use Rattle.place_table.specs.Closing.{ClosedView, IsClosed, HaveTickets, has_lock, all_locks, all_turns, history_of}
 use Rattle.place_table.specs.Passes.{PassView}
-use Rattle.place_table.specs.Rules.{StandsIn}
-use Rattle.place_table.specs.Tickets.{turn_tickets, EachAscends}
+use Rattle.place_table.specs.Tickets.{turn_tickets}
 use Rattle.place_table.specs.Views.{all_strands}
 use Rattle.map_report.proofs.LogTickets.{as_many, ticket_there}
 use Rattle.map_run.proofs.HistoryTurns.{by_bool}
@@ -44,12 +39,6 @@ each_real shape log P holds start (suc count) within =
     by_bool (has_lock shape start) (λ b. has_lock shape start ≡ b → AllByRecursion P (map (history_of shape log) (cond b (start ∷ others) others)))
     (λ _ there. (holds start (omega arith) there, rest)) (λ _ _. rest) refl
 
--- the tickets of a strand among those that ascend
-each_at : (strands : List Ended) (to n : ℕ) (strand : Ended) → EachAscends strands to → slice_get strands n ≡ Some strand → AscendIn 0 (turn_tickets strand.steps) to
-each_at [] to n strand ascend is = absurd (none-some strand is)
-each_at (x ∷ xs) to zero strand ascend is = subst (λ (z : Ended). AscendIn 0 (turn_tickets z.steps) to) (same_Some x strand is) ascend.0
-each_at (x ∷ xs) to (suc n) strand ascend is = each_at xs to n strand ascend.1 is
-
 module _ (shape : Shape) (p : PassView) (closed : ClosedView) (ends : IsClosed shape p closed) (whole : closed.lost ≡ false) where
   have : HaveTickets shape ends.log (all_strands p.view) ends.drawn
   have = ends.ticketed whole
@@ -62,7 +51,7 @@ module _ (shape : Shape) (p : PassView) (closed : ClosedView) (ends : IsClosed s
       counts_permute (range_with_len 0 ends.drawn) (tickets_of (all_entries closed.histories))
       (λ t. numbers_count t ends.drawn ∙ (sym (have.each_once t) ∙ ap (λ (entries : List Entry). times t (tickets_of entries)) (sym entries_told)))
 
-  counted : length (all_entries closed.histories) ≡ ends.drawn
+  pub counted : length (all_entries closed.histories) ≡ ends.drawn
   counted = omega (arith, as_many (all_entries closed.histories), length_permutation (range_with_len 0 ends.drawn) (tickets_of (all_entries closed.histories)) permuted, length-range_with_len 0 ends.drawn)
 
   pub each_once : IsPermutation (range_with_len 0 (length (all_entries closed.histories))) (tickets_of (all_entries closed.histories))
@@ -86,6 +75,3 @@ module _ (shape : Shape) (p : PassView) (closed : ClosedView) (ends : IsClosed s
   pub strand_ascends : (steps : List Turned) → AllByRecursion (StandsThere shape closed.histories) steps → AscendIn 0 (turn_tickets steps) ends.drawn
       → AscendIn 0 (map (ticket_at closed.histories) (steps_of shape steps)) (length (all_entries closed.histories))
   strand_ascends steps stand ascend = subst (λ (z : List ℕ × ℕ). AscendIn 0 z.0 z.1) (λ i. (sym (named steps stand) i, sym counted i)) ascend
-
-  pub ended_ascends : (n : ℕ) (strand : Ended) → slice_get (all_strands p.view) n ≡ Some strand → AscendIn 0 (turn_tickets strand.steps) ends.drawn
-  ended_ascends n strand is = each_at (all_strands p.view) ends.drawn n strand have.in_strands is

@@ -3,7 +3,7 @@ use Rattle.std.proofs.Common.{◌≡◌, ℕ, ◌-◌, ◌<◌, ◌≤◌, Bool,
 use Rattle.std.specs.Prelude.{All, MatchBool, MatchOption, min, unwrap_or}
 use Rattle.std.proofs.lemmas.Bool.{eqb-true}
 use Rattle.std.proofs.lemmas.List.{length-append, length-map}
-use Rattle.std.proofs.lemmas.List.Elements.{All-nil, All-cons, All-head, All-tail}
+use Rattle.std.proofs.lemmas.List.Elements.{All-nil, All-cons, All-head}
 use Rattle.map_types.specs.declared.attr.Shape.{Shape}
 use Rattle.map_types.specs.declared.call.Verb.TheVariants.{BatchRead}
 use Rattle.map_types.specs.declared.kind.DomainId.TheVariants.{Bucket}
@@ -29,6 +29,7 @@ use Rattle.place_table.specs.Known.{AreAllowedAt, IsAllowedAt, turn_of, turn_at}
 use Rattle.place_table.specs.Passes.{PassView, TableView}
 use Rattle.hash_ops.proofs.Under.{turns_alone}
 use Rattle.map_report.specs.Record.{MayAnswer}
+use Rattle.map_run.proofs.ListPlaces.{all_in_both}
 
 -- what such a turn took out of a bucket, or read of it, was no more than there was room for
 abbrev IsWithinRoom : Turn → Type 0
@@ -60,12 +61,6 @@ turns_both : (xs ys : List TurnAt) → turns_of (xs ++ ys) ≡ turns_of xs ++ tu
 turns_both [] ys = refl
 turns_both (x ∷ xs) ys = ap (λ (turns : List Turn). x.turn ∷ turns) (turns_both xs ys)
 
-all_parts : {A : Type 0} (P : A → Type 0) (xs ys : List A) → All P (xs ++ ys) → All P xs × All P ys
-all_parts P [] ys all = (All-nil P, all)
-all_parts P (x ∷ xs) ys all =
-    let rest = all_parts P xs ys (All-tail P x (xs ++ ys) all) in
-    (All-cons P x xs (All-head P x (xs ++ ys) all) rest.0, rest.1)
-
 module _ (shape : Shape) (cpu : ℕ) where
   -- the turn of the bucket is one of those that take out what it took
   turn_within : (turn : Turn) (gone : List ℕ) (turns : List TurnAt) → TakesOut shape cpu turn gone turns → All IsWithinRoom (turns_of turns) → IsWithinRoom turn
@@ -76,7 +71,7 @@ module _ (shape : Shape) (cpu : ℕ) where
           subst IsWithinRoom freed.bucket_is
           (All-head IsWithinRoom freed.at_bucket.turn (turns_of freed.freeing) (subst (λ (ts : List TurnAt). All IsWithinRoom (turns_of ts)) freed.turns_are within))
       by false pushed =
-          All-head IsWithinRoom turn [] (all_parts IsWithinRoom (map (λ e. on_freelist_of cpu (Pushed e)) gone) (turn ∷ []) (subst (All IsWithinRoom) pushed within)).1
+          All-head IsWithinRoom turn [] (all_in_both IsWithinRoom (map (λ e. on_freelist_of cpu (Pushed e)) gone) (turn ∷ []) (subst (All IsWithinRoom) pushed within)).1
 
   -- the pairs are no more than the limit, and the next bucket is one of the map's or past the last
   abbrev IsBounded : ℕ → List (List ℕ × List ℕ) → ℕ → Type 0
@@ -107,7 +102,7 @@ module _ (shape : Shape) (cpu : ℕ) where
           → IsBounded limit pairs next
       by (Over n) one rest are out ends goes = bounded_as limit stop (stopped_at taken) pairs taken next bucket ends.1 few (omega (arith, first_within (λ b. b < shape.buckets) bucket buckets below))
       by (Taken all) one rest are out later goes =
-          let each = all_parts IsWithinRoom (turns_of one) (turns_of rest) (subst (All IsWithinRoom) (ap turns_of are ∙ turns_both one rest) within) in
+          let each = all_in_both IsWithinRoom (turns_of one) (turns_of rest) (subst (All IsWithinRoom) (ap turns_of are ∙ turns_both one rest) within) in
           let fits : length all ≤ room = turn_within (turn (Taken all)) (walked_out remove (Taken all)) one out each.0 remove room all refl in
           goes (taken ++ map pair_of all) (omega (arith, fits, few, length-append taken (map pair_of all), length-map all pair_of)) rest each.1 later
 

@@ -13,11 +13,10 @@ use Rattle.map_types.specs.declared.kind.DomainId.{DomainId}
 use Rattle.map_types.specs.declared.reply.Reply.{Reply}
 use Rattle.map_types.proofs.CreationLemmas.{bounds_of_shape}
 use Rattle.map_types.proofs.RowLemmas.{by_test}
-use Rattle.map_script.specs.declared.script.Script.{Script}
 use Rattle.place_words.specs.declared.history.LockHistory.{LockHistory}
 use Rattle.place_words.specs.declared.history.StrandStep.{StrandStep}
 use Rattle.place_words.specs.Locks.{is_lock, lock_count, lock_named, lock_number}
-use Rattle.place_words.specs.Logs.{State, new_state, does, after_one, run, answers, finals_of}
+use Rattle.place_words.specs.Logs.{State, new_state, does, after_one, run, finals_of}
 use Rattle.place_words.specs.Turns.{Turn}
 use Rattle.place_words.proofs.LockLemmas.{named_by_number, number_within}
 use Rattle.place_words.proofs.ShrinkProbes.{append_empty}
@@ -34,11 +33,9 @@ use Rattle.place_table.proofs.TakeToGive.{first_has}
 use Rattle.place_table.proofs.Going.{goes_of_table, kept_on}
 use Rattle.place_table.proofs.Opens.{among}
 use Rattle.place_table.proofs.Worlds.{all_here}
-use Rattle.map_report.specs.declared.record.RunRecord.{RunRecord}
 use Rattle.map_report.specs.Record.{locks_of}
-use Rattle.map_report.specs.Runs.{steps_of_turns, steps_of_calls, serial}
-use Rattle.map_run.specs.ByLogs.{IsOfMap, KnowsState, RunStart, at_opening, HaveRunFrom, HaveRun}
-use Rattle.map_run.specs.Copies.{record_left, strand_left}
+use Rattle.map_report.specs.Runs.{steps_of_turns, steps_of_calls}
+use Rattle.map_run.specs.ByLogs.{IsOfMap, KnowsState, RunStart, HaveRunFrom, HaveRun}
 use Rattle.map_run.proofs.CallsByLogs.{IsDetermined, knows_next, spares_next, reply_next, run_more, answers_more, steps_more}
 use Rattle.map_run.proofs.Closing.{kept_all, made_of_all, length_indexes}
 use Rattle.map_run.proofs.FinalsByLogs.{IsSameState, same_finals}
@@ -59,7 +56,7 @@ nothing_known : (k n : ℕ) → k < n → known_log k (no_turns n) ≡ Some []
 nothing_known k zero few = absurd (omega (arith, few))
 nothing_known k (suc n) few = by_test n k (λ b. cond b (Some []) (known_log k (no_turns n)) ≡ Some []) (λ _. refl) (λ other. nothing_known k n (omega (arith, few, other)))
 
-no_bit_set : (e n : ℕ) → e < n → bit_seen e (no_bits n) ≡ Some false
+pub no_bit_set : (e n : ℕ) → e < n → bit_seen e (no_bits n) ≡ Some false
 no_bit_set e zero real = absurd (omega (arith, real))
 no_bit_set e (suc n) real = by_test n e (λ b. cond b (Some false) (bit_seen e (no_bits n)) ≡ Some false) (λ _. refl) (λ other. no_bit_set e n (omega (arith, real, other)))
 
@@ -162,12 +159,8 @@ next_by_logs Fact t from calls n call p q number reply replies after shape_is de
 
 -- At the end
 
-pub strand_is : (shape : Shape) (steps : List StrandStep) → strand_left shape.cpus (strands_of shape steps) ≡ record { cpus = range_with_len 0 shape.cpus; steps = steps }
-strand_is shape [] = refl
-strand_is shape (step ∷ steps) = refl
-
 -- the history of a lock
-abbrev history_in : State → DomainId → LockHistory
+abbrev pub history_in : State → DomainId → LockHistory
 history_in state lock = record { lock = lock; entries = state.logs lock }
 
 named_histories : (shape : Shape) (state : State) (ks : List ℕ) → map (λ (k : ℕ). history_in state (lock_named shape k)) ks ≡ map (history_in state) (map (lock_named shape) ks)
@@ -179,7 +172,7 @@ module _ (t : TableView) (calls : List Call) (p : PassView) (closed : ClosedView
   abbrev state_end : State
   state_end = come_to t.shape calls
 
-  knows_end : KnowsState t.shape state_end (steps_of_calls t.shape 1 calls (new_state t.shape)) p.view
+  pub knows_end : KnowsState t.shape state_end (steps_of_calls t.shape 1 calls (new_state t.shape)) p.view
   knows_end = ran.knows (no_losses t.shape p closed ends whole)
 
   log_at : (k : ℕ) → k < lock_count t.shape → IsTrue (has_lock t.shape k) → ends.log k ≡ state_end.logs (lock_named t.shape k)
@@ -190,7 +183,7 @@ module _ (t : TableView) (calls : List Call) (p : PassView) (closed : ClosedView
       let named = named_by_number t.shape lock there in
       log_at (lock_number t.shape lock) (number_within t.shape lock there) (subst (λ (l : DomainId). IsTrue (is_lock t.shape l)) (sym named) there) ∙ ap state_end.logs named
 
-  histories_end : closed.histories ≡ map (history_in state_end) (locks_of t.shape)
+  pub histories_end : closed.histories ≡ map (history_in state_end) (locks_of t.shape)
   histories_end =
       ends.left.histories_are
       ∙ made_of_all (has_lock t.shape) ends.lost (history_of t.shape ends.log) (λ (k : ℕ). history_in state_end (lock_named t.shape k)) 0 (lock_count t.shape)
@@ -199,20 +192,21 @@ module _ (t : TableView) (calls : List Call) (p : PassView) (closed : ClosedView
       (none_lost t.shape p closed ends whole k below there, λ i. record { lock = lock_named t.shape k; entries = log_at k below there i }))
       ∙ named_histories t.shape state_end (filter (has_lock t.shape) (range_with_len 0 (lock_count t.shape)))
 
-  strand_end : strand_left t.shape.cpus closed.strands ≡ record { cpus = range_with_len 0 t.shape.cpus; steps = steps_of_calls t.shape 1 calls (new_state t.shape) }
-  strand_end =
+  -- each turn is recorded
+  pub kept_end : p.view.kept ≡ map (λ (step : Turned). kept_step t.shape step.lock (place_of step)) p.view.steps
+  kept_end =
       let only : slice_get (all_strands p.view) 0 ≡ Some (current_strand p.view) = ap (λ (strands : List Ended). slice_get (strands ++ current_strand p.view ∷ []) 0) ran.ended in
-      ap (strand_left t.shape.cpus)
-      (strands_are_told t.shape p closed ends whole (bounds_of_shape t.shape shape_is)
-      ∙ told_of_one t.shape p.view ran.ended ran.all_cpus
-      ∙ ap (strands_of t.shape)
-      (kept_all t.shape p.view.steps [] p.view.kept ran.kept knows_end.real
+      kept_all t.shape p.view.steps [] p.view.kept ran.kept knows_end.real
       (λ k below there.
       let same = ap length (ends.recorded 0 (current_strand p.view) only k below there (none_lost t.shape p closed ends whole k below there)) in
       let count = length_indexes (turns_on k p.view.steps) in
       omega (arith, same, count))
-      ∙ knows_end.steps_are))
-      ∙ strand_is t.shape (steps_of_calls t.shape 1 calls (new_state t.shape))
+
+  pub steps_end : closed.strands ≡ strands_of t.shape (steps_of_calls t.shape 1 calls (new_state t.shape))
+  steps_end =
+      strands_are_told t.shape p closed ends whole (bounds_of_shape t.shape shape_is)
+      ∙ told_of_one t.shape p.view ran.ended ran.all_cpus
+      ∙ ap (strands_of t.shape) (kept_end ∙ knows_end.steps_are)
 
   same_end : IsSameState t.shape (state_left t.shape ends.log ends.core.bit p.spares) state_end
   same_end = record {
@@ -221,28 +215,5 @@ module _ (t : TableView) (calls : List Call) (p : PassView) (closed : ClosedView
     spares = λ cpu real. sym (element_is (spare_of cpu p.spares)) ∙ ran.spares (no_losses t.shape p closed ends whole) cpu;
   }
 
-  finals_end : closed.finals ≡ finals_of t.shape state_end
+  pub finals_end : closed.finals ≡ finals_of t.shape state_end
   finals_end = ends.left.finals_are ∙ same_finals t.shape (state_left t.shape ends.log ends.core.bit p.spares) state_end same_end
-
-  abbrev record_by_logs : RunRecord
-  record_by_logs = record {
-    replies = answers t.shape 1 calls (new_state t.shape);
-    histories = map (history_in state_end) (locks_of t.shape);
-    strands = (record { cpus = range_with_len 0 t.shape.cpus; steps = steps_of_calls t.shape 1 calls (new_state t.shape) }) ∷ [];
-    finals = finals_of t.shape state_end;
-  }
-
-  left_by_logs : record_left t.shape.cpus replies closed ≡ record_by_logs
-  left_by_logs = (λ i. record { replies = ran.answered (no_losses t.shape p closed ends whole) i; histories = histories_end i; strands = strand_end i ∷ []; finals = finals_end i })
-
--- The record of a run that was closed, no record of a lock of which is lost, is that of the run by the logs of the locks.
-pub end_by_logs : (script : Script) (t : TableView) (p : PassView) (closed : ClosedView) (replies : List Reply) → t.shape ≡ script.shape → IsShape t.shape
-    → HaveRun t script.calls p replies → IsClosed t.shape p closed → closed.lost ≡ false → record_left script.shape.cpus replies closed ≡ serial script
-unfolding serial
-end_by_logs script t p closed replies same shape_is ran ends whole =
-    subst (λ (shape : Shape). record_left shape.cpus replies closed ≡ (record {
-      replies = answers shape 1 script.calls (new_state shape);
-      histories = map (history_in (come_to shape script.calls)) (locks_of shape);
-      strands = (record { cpus = range_with_len 0 shape.cpus; steps = steps_of_calls shape 1 script.calls (new_state shape) }) ∷ [];
-      finals = finals_of shape (come_to shape script.calls);
-    })) same (left_by_logs t script.calls p closed replies shape_is ran ends whole)

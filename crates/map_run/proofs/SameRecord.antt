@@ -1,9 +1,10 @@
 -- On a map that doesn't evict the record of a run in serial order is that of the run on plain lists: what the logs lead to is what
 -- the lists are at the end, no bit is set, and there are no lists of the kinds that evict.
-use Rattle.std.proofs.Common.{◌≡◌, ℕ, zero, suc, ◌+◌, ◌<◌, ◌≤◌, Bool, true, false, not, ◌&&◌, cond, List, [], ◌∷◌, ◌++◌, length, map, get_or, All, Option, Some, None, refl, ap, sym, ◌∙◌, arith}
+use Rattle.std.proofs.Common.{◌≡◌, ℕ, zero, suc, ◌+◌, ◌-◌, ◌<◌, ◌≤◌, Bool, true, false, not, ◌&&◌, cond, List, [], ◌∷◌, ◌++◌, length, map, take, drop, get_or, All, Option, Some, None, refl, ap, sym, ◌∙◌, arith}
 use Rattle.std.specs.Prelude.{IsTrue, filter, slice_get, option_to_list, unwrap_or}
 use Rattle.std.specs.List.{flat_map, range_with_len}
 use Rattle.std.proofs.lemmas.Bool.{lt-ltb}
+use Rattle.std.proofs.lemmas.List.Elements.{All-drop, All-take, recursion_from_All}
 use Rattle.std.proofs.lemmas.List.FromFn.{fill_by_all}
 use Rattle.map_types.specs.declared.attr.Shape.{Shape}
 use Rattle.map_types.specs.declared.call.Call.{Call}
@@ -24,20 +25,22 @@ use Rattle.place_words.specs.Choices.{among, without_bits, with_bits}
 use Rattle.place_words.specs.Histories.{Content, marks, clears, bucket_in, freelist_in}
 use Rattle.place_words.specs.Locks.{is_lock, lock_named, lock_count}
 use Rattle.place_words.specs.Logs.{State, turned, all_turned, does, after_one, new_state, run, bucket_at, freelist_at, where_lock, final_set, final_local, globals_at, own_at, locals_at, finals_of}
+use Rattle.place_words.specs.Phases.{calls_before, of_phase, phase_count}
 use Rattle.place_words.specs.Turns.{Turn}
 use Rattle.place_table.proofs.FirstSlots.{no_local, not_common}
-use Rattle.map_report.specs.ListRuns.{turns_of_script, serial_on_lists}
-use Rattle.map_report.specs.Runs.{serial}
+use Rattle.map_report.specs.ListRuns.{lists_at, turns_before, turns_in, turns_of_script, serial_on_lists}
+use Rattle.map_report.specs.Runs.{serial, start_of, state_before, strand_of_phase}
 use Rattle.map_report.specs.Serial.{opening, lists_after, has_spares}
 use Rattle.map_report.specs.Soundness.{IsSound}
-use Rattle.map_report.specs.Turns.{Happened, entries_on, history_on}
+use Rattle.map_report.specs.Turns.{Happened, entries_on, history_on, steps_from, strand_of_turns, turns_from}
 use Rattle.map_script.specs.WellFormed.{IsCallOn}
 use Rattle.map_run.proofs.HistoryTurns.{by_bool}
-use Rattle.map_run.proofs.LogLaws.{log_run}
+use Rattle.map_run.proofs.LogLaws.{IsSameRun, first_follows, log_run, same_run}
 use Rattle.map_run.proofs.OpeningTurns.{no_set}
 use Rattle.map_run.proofs.SameCalls.{Follows}
-use Rattle.map_run.proofs.SoundRun.{sound_end}
+use Rattle.map_run.proofs.SoundRun.{sound_end, sound_from_opening, sound_opening}
 use Rattle.map_run.proofs.Whole.{all_pass, none_pass}
+use Rattle.map_run.proofs.ListPlaces.{made_same}
 
 -- Bits
 
@@ -152,6 +155,38 @@ same_histories shape turns logs same (k ∷ numbers) =
     (λ real. λ i. record { lock = lock_named shape k; entries = same (lock_named shape k) real i } ∷ rest i)
     (λ unreal. rest)
 
+-- Phase by phase
+
+module _ (script : Script) (bounds : HasBounds script.shape) (are : All (IsCallOn script.shape) script.calls) (plain : is_lru script.shape.kind ≡ false) (p : ℕ) where
+  abbrev first : ℕ
+  first = calls_before script.cuts (length script.calls) p
+
+  same_before : IsSameRun script.shape bounds plain (opening script.shape) [] 1 (take first script.calls) (new_state script.shape)
+  same_before =
+      same_run script.shape bounds plain (take first script.calls) (opening script.shape) [] 1 (new_state script.shape)
+      (recursion_from_All (IsCallOn script.shape) (take first script.calls) (All-take (IsCallOn script.shape) first script.calls are)) (sound_opening script.shape bounds plain) (first_follows script.shape bounds plain)
+
+  ticket_is : (state_before script p).next_ticket ≡ length (turns_before script p)
+  ticket_is = same_before.tickets ∙ (let sum : 0 + length (turns_before script p) ≡ length (turns_before script p) = omega arith in sum)
+
+  same_in : IsSameRun script.shape bounds plain (lists_at script p) (turns_before script p) (suc first) (of_phase script.cuts p script.calls) (state_before script p)
+  same_in =
+      let mine : List Call = of_phase script.cuts p script.calls in
+      let on_map = All-take (IsCallOn script.shape) (calls_before script.cuts (length script.calls) (suc p) - first) (drop first script.calls) (All-drop (IsCallOn script.shape) first script.calls are) in
+      same_run script.shape bounds plain mine (lists_at script p) (turns_before script p) (suc first) (state_before script p)
+      (recursion_from_All (IsCallOn script.shape) mine on_map) (sound_from_opening script.shape (take first script.calls) bounds plain (All-take (IsCallOn script.shape) first script.calls are)) same_before.follows
+
+  strand_is : strand_of_phase script p ≡ strand_of_turns script.shape p (turns_before script p) (turns_in script p)
+  strand_is =
+      let steps = same_in.steps ∙ ap (λ (n : ℕ). steps_from (turns_before script p) (turns_from script.shape (lists_at script p) n (suc first) (of_phase script.cuts p script.calls))) ticket_is in
+      λ i. record { phase = p; cpus = range_with_len 0 script.shape.cpus; steps = steps i }
+
+  start_is : start_of script.shape (state_before script p) ≡ record { ticket = length (turns_before script p); marked = [] }
+  start_is =
+      let none = run_sets_none script.shape plain 1 (take first script.calls) (new_state script.shape) (λ e. refl) in
+      let marked = none_pass (state_before script p).bits 0 script.shape.elements (λ e low high. none e) in
+      λ i. record { ticket = ticket_is i; marked = marked i }
+
 -- The record
 
 pub one_record : (script : Script) → HasBounds script.shape → All (IsCallOn script.shape) script.calls → is_lru script.shape.kind ≡ false → serial script ≡ serial_on_lists script
@@ -164,9 +199,12 @@ one_record script bounds are plain =
     let same = log_run script bounds are plain in
     let histories = same_histories shape turns state.logs same.follows.logs (range_with_len 0 (lock_count shape)) in
     let finals = same_finals shape lists turns state bounds plain (sound_end script bounds are plain) same.follows (run_sets_none shape plain 1 script.calls (new_state shape) (λ e. refl)) in
+    let strands = made_same (strand_of_phase script) (λ (p : ℕ). strand_of_turns shape p (turns_before script p) (turns_in script p)) 0 (phase_count script.cuts) (λ p _ _. strand_is script bounds are plain p) in
+    let phases = made_same (λ (p : ℕ). start_of shape (state_before script p)) (λ (p : ℕ). record { ticket = length (turns_before script p); marked = [] }) 0 (phase_count script.cuts) (λ p _ _. start_is script bounds are plain p) in
     λ i. record {
       replies = same.replies i;
       histories = histories i;
-      strands = (record { cpus = range_with_len 0 shape.cpus; steps = same.steps i }) ∷ [];
+      strands = strands i;
       finals = finals i;
+      phases = phases i;
     }

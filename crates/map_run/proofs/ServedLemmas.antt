@@ -1,7 +1,5 @@
 -- A script whose calls are on its map, within the limits, is one that is run.
-use Rattle.std.proofs.Common.{◌<◌, ◌^◌, List, [], ◌∷◌, Option, Some, None, All}
-use Rattle.std.specs.Prelude.{IfSome}
-use Rattle.std.specs.List.{AllByRecursion}
+use Rattle.std.proofs.Common.{◌<◌, ◌^◌, List, [], ◌∷◌, Some, None, All}
 use Rattle.std.proofs.lemmas.List.Elements.{All-nil, All-cons, All-head, All-tail}
 use Rattle.map_types.specs.declared.attr.Shape.{Shape}
 use Rattle.map_types.specs.declared.call.Call.{Call}

@@ -91,16 +91,16 @@ all_pass test a (suc n) passes =
 -- the strand of all CPUs, where it has a step
 abbrev pub strands_of : Shape → List StrandStep → List Strand
 strands_of shape [] = []
-strands_of shape (step ∷ steps) = record { cpus = range_with_len 0 shape.cpus; steps = step ∷ steps } ∷ []
+strands_of shape (step ∷ steps) = record { phase = 0; cpus = range_with_len 0 shape.cpus; steps = step ∷ steps } ∷ []
 
 one_told : (shape : Shape) (cpus : List ℕ) (steps : List Turned) (kept : List StrandStep) (touched : List WordStep) → filter (λ cpu. is_among cpu cpus) (range_with_len 0 shape.cpus) ≡ range_with_len 0 shape.cpus
     → strands_told shape (record { cpus = cpus; steps = steps; kept = kept; touched = touched } ∷ []) ≡ strands_of shape kept
 one_told shape cpus steps [] touched all = refl
 one_told shape cpus steps (step ∷ kept) touched all =
-    let left : Strand = record { cpus = filter (λ cpu. is_among cpu cpus) (range_with_len 0 shape.cpus); steps = step ∷ kept } in
+    let left : Strand = record { phase = 0; cpus = filter (λ cpu. is_among cpu cpus) (range_with_len 0 shape.cpus); steps = step ∷ kept } in
     let there : strands_told shape (record { cpus = cpus; steps = steps; kept = step ∷ kept; touched = touched } ∷ []) ≡ left ∷ [] =
     ap (λ b. map (strand_told shape) (cond (not b) (record { cpus = cpus; steps = steps; kept = step ∷ kept; touched = touched } ∷ []) [])) (ne_eqb (suc (length kept)) 0 (λ is. omega arith)) in
-    there ∙ (λ i. record { cpus = all i; steps = step ∷ kept } ∷ [])
+    there ∙ (λ i. record { phase = 0; cpus = all i; steps = step ∷ kept } ∷ [])
 
 pub told_of_one : (shape : Shape) (v : View) → v.ended ≡ [] → ((cpu : ℕ) → cpu < shape.cpus → is_among cpu v.cpus ≡ true) → strands_told shape (all_strands v) ≡ strands_of shape v.kept
 told_of_one shape v none all =

@@ -1,34 +1,19 @@
--- Workers of a race: passes split off the first one, the calls of each CPU, and passes joined again.
-use Rattle.std.proofs.Common.{◌≡◌, ◌≢◌, ℕ, zero, suc, ◌+◌, ◌<◌, Bool, true, false, cond, eqb, List, [], ◌∷◌, ◌++◌, length, get_or, map, take, Option, None, refl, ap, sym, ◌∙◌, subst, arith, append_assoc, append-nil}
-use Rattle.std.specs.Prelude.{MatchBool, filter, slice_get}
-use Rattle.std.proofs.lemmas.List.{length-append, length-take-le}
-use Rattle.std.proofs.lemmas.List.Elements.{filter-append}
-use Rattle.std.proofs.lemmas.Option.{slice_get_read}
-use Rattle.map_types.specs.declared.attr.Shape.{Shape}
+-- Workers of a phase: passes split off the one that was there, and the workers at work.
+use Rattle.std.proofs.Common.{◌≡◌, ◌≢◌, ℕ, suc, ◌+◌, ◌<◌, true, false, cond, eqb, All, List, [], ◌∷◌, ◌++◌, length, get_or, None, refl, ap, sym, ◌∙◌, subst, arith}
+use Rattle.std.specs.Prelude.{filter}
+use Rattle.std.proofs.lemmas.List.Elements.{All-nil, All-cons}
 use Rattle.map_types.specs.declared.call.Call.{Call}
 use Rattle.map_types.specs.declared.reply.Reply.{Reply}
-use Rattle.map_types.specs.Creation.{IsShape}
-use Rattle.map_types.proofs.CreationLemmas.{bounds_of_shape}
 use Rattle.map_types.proofs.RowLemmas.{by_test}
-use Rattle.place_words.specs.Walks.{spare_left}
-use Rattle.place_table.specs.declared.view.Turned.{Turned}
+use Rattle.place_words.specs.declared.history.StrandStep.{StrandStep}
+use Rattle.place_table.specs.declared.view.Ended.{Ended}
 use Rattle.place_table.specs.declared.view.View.{View}
-use Rattle.place_table.specs.Known.{turn_at}
-use Rattle.place_table.specs.Passes.{PassView, TableView, spare_of, begun, IsFirstPass, IsKeptOf, Split}
+use Rattle.place_table.specs.Passes.{PassView, TableView, spare_of, IsKeptOf, Split}
 use Rattle.place_table.specs.Views.{is_among, all_strands, without_cpu}
-use Rattle.place_table.proofs.TakeToGive.{first_has}
-use Rattle.place_table.proofs.Going.{goes_of_table, kept_on}
-use Rattle.hash_ops.specs.Calls.{Called, element_of}
-use Rattle.map_report.specs.Record.{MayAnswer}
-use Rattle.hash_ops.proofs.Under.{trace_made, spare_made}
-use Rattle.map_report.specs.Serial.{opening}
-use Rattle.map_report.specs.Turns.{spare_at}
 use Rattle.map_run.specs.declared.worker.Worker.{Worker}
-use Rattle.map_run.specs.Work.{AreCallsBy, HasWorked, IsCallBy, count_of, has_turn}
-use Rattle.map_run.specs.Workers.{HaveWorked, HasDone, HasSplit}
-use Rattle.map_run.proofs.AnyRecord.{spares_of}
-use Rattle.map_run.proofs.CallsByLogs.{all_real}
-use Rattle.map_run.proofs.SerialRun.{element_is, spare_first, take_next}
+use Rattle.map_run.specs.Phased.{IsWhole}
+use Rattle.map_run.specs.Work.{HasWorked, has_turn}
+use Rattle.map_run.specs.Workers.{IsSplitOff, IsReady, AreSplitOff, HaveDone, HaveEnded, HasDone, HasSplit}
 
 -- CPUs
 
@@ -66,21 +51,26 @@ below_more n F here before cpu less =
 
 -- Passes split off
 
-pub first_split : (t : TableView) (p : PassView) → IsShape t.shape → IsFirstPass t p → HasSplit t 0 p
-first_split t p shape_is first =
-    let spares_open = spares_of t.shape (bounds_of_shape t.shape shape_is) t.shape.kind refl in
-    record {
-      of_table = (first.table_is, ap (λ (v : View). v.shape) first.view_is);
-      in_no_call = first.in_no_call;
-      gone = λ cpu none. absurd (omega arith);
-      here = λ cpu _ below. first_has t p cpu first below;
-      spares_gone = λ cpu none. absurd (omega arith);
-      spares = λ cpu _. element_is (spare_of cpu p.spares) ∙ spare_first t p first cpu (spare_of cpu p.spares) refl ∙ ap (λ (spares : List ℕ). slice_get spares cpu) (sym spares_open);
-      no_turns = ap (λ (v : View). filter has_turn (all_strands v)) first.view_is;
-    }
+pub whole_split : (t : TableView) (p : PassView) → IsWhole t p → HasSplit t p 0 p
+whole_split t p whole = record {
+  of_table = whole.of_table;
+  in_no_call = whole.in_no_call;
+  gone = λ cpu none. absurd (omega arith);
+  here = λ cpu _ below. whole.all_cpus cpu below;
+  spares_gone = λ cpu none. absurd (omega arith);
+  spares = λ cpu _. refl;
+  strands = refl;
+  reached = refl;
+  refused = refl;
+  lost = refl;
+}
 
-module _ {t : TableView} {n : ℕ} {p q off : PassView} (before : HasSplit t n p) (split : Split n p q off) where
-  pub split_more : HasSplit t (n + 1) q
+-- of CPUs one at least was split off, so no strand with a turn is left
+none_left : (n : ℕ) (strands : List Ended) → [] ≡ cond (eqb (n + 1) 0) strands []
+none_left n strands = by_test (n + 1) 0 (λ b. [] ≡ cond b strands []) (λ same. absurd (omega (arith, same))) (λ _. refl)
+
+module _ {t : TableView} {start : PassView} {n : ℕ} {p q off : PassView} (before : HasSplit t start n p) (split : Split n p q off) where
+  pub split_more : HasSplit t start (n + 1) q
   split_more =
       let is = split.after_is in
       record {
@@ -92,185 +82,74 @@ module _ {t : TableView} {n : ℕ} {p q off : PassView} (before : HasSplit t n p
         here = λ cpu from below. ap (λ (z : PassView). is_among cpu z.view.cpus) is
             ∙ (without_other cpu n p.view.cpus (λ same. omega arith) ∙ before.here cpu (omega arith) below);
         spares_gone = below_more n (λ c. spare_of c q.spares ≡ None) split.spare_gone (λ c other below. split.spares_stay c other ∙ before.spares_gone c below);
-        spares = λ cpu from. ap element_of (split.spares_stay cpu (λ same. omega arith)) ∙ before.spares cpu (omega arith);
-        no_turns = ap (λ (z : PassView). filter has_turn (all_strands z.view)) is;
+        spares = λ cpu from. split.spares_stay cpu (λ same. omega arith) ∙ before.spares cpu (omega arith);
+        strands = ap (λ (z : PassView). filter has_turn (all_strands z.view)) is ∙ none_left n (filter has_turn (all_strands start.view));
+        reached = ap (λ (z : PassView). z.view.reached) is ∙ before.reached;
+        refused = ap (λ (z : PassView). z.view.refused) is ∙ before.refused;
+        lost = ap (λ (z : PassView). z.view.lost) is ∙ before.lost;
       }
 
-  pub off_worker : HasWorked t n [] off []
-  off_worker = record {
+  pub off_split : IsSplitOff t start n off
+  off_split = record {
     of_table = (split.table ∙ before.of_table.0, ap (λ (v : View). v.shape) split.view_is ∙ before.of_table.1);
     one_cpu = ap (λ (v : View). v.cpus) split.view_is;
     in_no_call = split.off_in_no_call;
-    no_other_spares = split.no_others;
-    none_before = ap (λ (v : View). filter has_turn v.ended) split.view_is ∙ before.no_turns;
-    kept = subst (λ (v : View). IsKeptOf t.shape v.steps [] v.kept) (sym split.view_is) refl;
-    counted = refl;
-    calls_are = λ _. (refl, ap (λ (v : View). v.steps) split.view_is, ap element_of split.spare_is ∙ before.spares n (omega arith));
+    spare = split.spare_is ∙ before.spares n (omega arith);
+    no_others = split.no_others;
+    ended = ap (λ (v : View). filter has_turn v.ended) split.view_is ∙ before.strands;
+    no_steps = (ap (λ (v : View). v.steps) split.view_is, ap (λ (v : View). v.kept) split.view_is);
+    reached = ap (λ (v : View). v.reached) split.view_is ∙ before.reached;
+    refused = ap (λ (v : View). v.refused) split.view_is ∙ before.refused;
+    lost = ap (λ (v : View). v.lost) split.view_is ∙ before.lost;
   }
 
-pub workers_more : (t : TableView) (first n : ℕ) (calls : List Call) (workers : List Worker) (worker : Worker) → HaveWorked t first calls workers → n ≡ first + length workers
-    → worker.cpu ≡ n → HasWorked t n calls worker.pass worker.replies → HaveWorked t first calls (workers ++ worker ∷ [])
-workers_more t first n calls [] worker have is cpu_is worked =
-    subst (λ (k : ℕ). (worker.cpu ≡ k) × HasWorked t k calls worker.pass worker.replies × Unit {0}) (let same : n ≡ first = omega arith in same) (cpu_is, worked, tt)
-workers_more t first n calls (x ∷ workers) worker have is cpu_is worked =
-    (have.0, have.1, workers_more t (suc first) n calls workers worker have.2 (omega arith) cpu_is worked)
+pub workers_more : (t : TableView) (start : PassView) (first n : ℕ) (workers : List Worker) (worker : Worker) → AreSplitOff t start first workers → n ≡ first + length workers
+    → worker.cpu ≡ n → IsSplitOff t start n worker.pass → worker.replies ≡ [] → AreSplitOff t start first (workers ++ worker ∷ [])
+workers_more t start first n [] worker have is cpu_is off none =
+    subst (λ (k : ℕ). (worker.cpu ≡ k) × IsSplitOff t start k worker.pass × (worker.replies ≡ []) × Unit {0}) (let same : n ≡ first = omega arith in same) (cpu_is, off, none, tt)
+workers_more t start first n (x ∷ workers) worker have is cpu_is off none =
+    (have.0, have.1, have.2, workers_more t start (suc first) n workers worker have.3 (omega arith) cpu_is off none)
 
 -- The workers at work
 
-pub each_first : (t : TableView) (first : ℕ) (calls : List Call) (workers : List Worker) → HaveWorked t first calls workers
-    → (k : ℕ) (d : Worker) → k < length workers → HasWorked t (get_or workers k d).cpu calls (get_or workers k d).pass (get_or workers k d).replies
-each_first t first calls [] have k d less = absurd (omega (arith, less))
-each_first t first calls (worker ∷ workers) have zero d less = subst (λ (c : ℕ). HasWorked t c calls worker.pass worker.replies) (sym have.0) have.1
-each_first t first calls (worker ∷ workers) have (suc k) d less = each_first t (suc first) calls workers have.2 k d (omega arith)
+off_ready : (t : TableView) (start : PassView) (cpu : ℕ) (worker : Worker) → worker.cpu ≡ cpu → IsSplitOff t start cpu worker.pass → worker.replies ≡ [] → IsReady t worker
+off_ready t start cpu worker cpu_is off none = record {
+  of_table = off.of_table;
+  has_cpu = (λ i. is_among (cpu_is i) (off.one_cpu i)) ∙ among_one cpu;
+  in_no_call = off.in_no_call;
+  none = none;
+}
 
-pub all_done : (t : TableView) (first : ℕ) (calls : List Call) (before after : List Worker) → HaveWorked t first [] before → length after ≡ length before
-    → ((k : ℕ) (d : Worker) → k < length before → HasDone t calls (get_or before k d) (get_or after k d))
-    → ((k : ℕ) (d : Worker) → k < length after → (get_or after k d).failed ≡ false) → HaveWorked t first calls after
-all_done t first calls [] [] have same done none = tt
-all_done t first calls [] (y ∷ after) have same done none = absurd (omega (arith, same))
-all_done t first calls (x ∷ before) [] have same done none = absurd (omega (arith, same))
-all_done t first calls (x ∷ before) (y ∷ after) have same done none =
+pub each_ready : (t : TableView) (start : PassView) (first : ℕ) (workers : List Worker) → AreSplitOff t start first workers → All (IsReady t) workers
+each_ready t start first [] have = All-nil (IsReady t)
+each_ready t start first (worker ∷ workers) have =
+    All-cons (IsReady t) worker workers (off_ready t start first worker have.0 have.1 have.2) (each_ready t start (suc first) workers have.3)
+
+pub all_done : (t : TableView) (number : ℕ) (calls : List Call) (before after : List Worker) → length after ≡ length before
+    → ((k : ℕ) (d : Worker) → k < length before → HasDone t number calls (get_or before k d) (get_or after k d))
+    → ((k : ℕ) (d : Worker) → k < length after → (get_or after k d).failed ≡ false) → HaveDone t number calls before after
+all_done t number calls [] [] same done none = tt
+all_done t number calls [] (y ∷ after) same done none = absurd (omega (arith, same))
+all_done t number calls (x ∷ before) [] same done none = absurd (omega (arith, same))
+all_done t number calls (x ∷ before) (y ∷ after) same done none =
     let own = done 0 x (omega arith) in (
-      own.0 ∙ have.0,
-      subst (λ (c : ℕ). HasWorked t c calls y.pass y.replies) have.0 (own.1 (none 0 y (omega arith))),
-      all_done t (suc first) calls before after have.2 (omega arith) (λ k d less. done (suc k) d (omega arith)) (λ k d less. none (suc k) d (omega arith)),
+      own.0,
+      own.1 (none 0 y (omega arith)),
+      all_done t number calls before after (omega arith) (λ k d less. done (suc k) d (omega arith)) (λ k d less. none (suc k) d (omega arith)),
     )
 
--- One call more
+-- all that is there when the workers have made their calls
+pub all_ended : (t : TableView) (number : ℕ) (calls : List Call) (start p : PassView) (cpus : ℕ) (before after : List Worker) → cpus ≡ t.shape.cpus → HasSplit t start cpus p → AreSplitOff t start 0 before
+    → length before ≡ cpus → HaveDone t number calls before after → length after ≡ length before → HaveEnded t number calls start p after
+all_ended t number calls start p cpus before after cpus_are split off count done same = record {
+  split = subst (λ (n : ℕ). HasSplit t start n p) cpus_are split;
+  before = before;
+  off = off;
+  done = done;
+  count = same ∙ count ∙ cpus_are;
+}
 
--- the first call of a CPU's among calls, and the others
-abbrev Begins : Shape → ℕ → ℕ → Call → List Call → Option ℕ → Option ℕ → List Reply → List Turned → Type 0
-Begins shape cpu number call calls spare last replies steps =
-    (mine : List Turned) × (rest : List Turned) × (reply : Reply) × (more : List Reply) × (steps ≡ mine ++ rest) × (replies ≡ reply ∷ more)
-    × IsCallBy shape number call spare reply mine
-    × AreCallsBy shape cpu (suc number) calls (spare_left shape spare (map (turn_at shape) mine)) last more rest
-
-own_more : (shape : Shape) (cpu number place : ℕ) (calls : List Call) (call : Call) (spare before : Option ℕ) (replies : List Reply) (reply : Reply) (steps mine : List Turned)
-    → AreCallsBy shape cpu number calls spare before replies steps → call.cpu ≡ cpu → place ≡ number + length calls → IsCallBy shape place call before reply mine
-    → AreCallsBy shape cpu number (calls ++ call ∷ []) spare (spare_left shape before (map (turn_at shape) mine)) (replies ++ reply ∷ []) (steps ++ mine)
-own_more shape cpu number place [] call spare before replies reply steps mine are own at by =
-    let last = spare_left shape before (map (turn_at shape) mine) in
-    let is_call : IsCallBy shape number call spare reply mine =
-    subst (λ (z : ℕ × Option ℕ). IsCallBy shape z.0 call z.1 reply mine) (λ i. ((let same : place ≡ number = omega arith in same) i, are.2 i)) by in
-    by_test call.cpu cpu (λ b. MatchBool b (Begins shape cpu number call [] spare last (replies ++ reply ∷ []) (steps ++ mine)) (AreCallsBy shape cpu (suc number) [] spare last (replies ++ reply ∷ []) (steps ++ mine)))
-    (λ _. (
-      mine,
-      [],
-      reply,
-      [],
-      ap (λ (l : List Turned). l ++ mine) are.1 ∙ sym (append-nil mine),
-      ap (λ (l : List Reply). l ++ reply ∷ []) are.0,
-      is_call,
-      (refl, refl, ap (λ (s : Option ℕ). spare_left shape s (map (turn_at shape) mine)) are.2),
-    ))
-    (λ other. absurd (other own))
-own_more shape cpu number place (x ∷ calls) call spare before replies reply steps mine are own at by =
-    let last = spare_left shape before (map (turn_at shape) mine) in
-    by_test x.cpu cpu
-    (λ b. MatchBool b (Begins shape cpu number x calls spare before replies steps) (AreCallsBy shape cpu (suc number) calls spare before replies steps)
-    → MatchBool b (Begins shape cpu number x (calls ++ call ∷ []) spare last (replies ++ reply ∷ []) (steps ++ mine)) (AreCallsBy shape cpu (suc number) (calls ++ call ∷ []) spare last (replies ++ reply ∷ []) (steps ++ mine)))
-    (λ _ y. (
-      y.0,
-      y.1 ++ mine,
-      y.2,
-      y.3 ++ reply ∷ [],
-      ap (λ (l : List Turned). l ++ mine) y.4 ∙ append_assoc y.0 y.1 mine,
-      ap (λ (l : List Reply). l ++ reply ∷ []) y.5,
-      y.6,
-      own_more shape cpu (suc number) place calls call (spare_left shape spare (map (turn_at shape) y.0)) before y.3 reply y.1 mine y.7 own (omega arith) by,
-    ))
-    (λ _ y. own_more shape cpu (suc number) place calls call spare before replies reply steps mine y own (omega arith) by)
-    are
-
-other_more : (shape : Shape) (cpu number : ℕ) (calls : List Call) (call : Call) (spare last : Option ℕ) (replies : List Reply) (steps : List Turned)
-    → AreCallsBy shape cpu number calls spare last replies steps → call.cpu ≢ cpu → AreCallsBy shape cpu number (calls ++ call ∷ []) spare last replies steps
-other_more shape cpu number [] call spare last replies steps are other =
-    by_test call.cpu cpu (λ b. MatchBool b (Begins shape cpu number call [] spare last replies steps) (AreCallsBy shape cpu (suc number) [] spare last replies steps))
-    (λ is. absurd (other is)) (λ _. are)
-other_more shape cpu number (x ∷ calls) call spare last replies steps are other =
-    by_test x.cpu cpu
-    (λ b. MatchBool b (Begins shape cpu number x calls spare last replies steps) (AreCallsBy shape cpu (suc number) calls spare last replies steps)
-    → MatchBool b (Begins shape cpu number x (calls ++ call ∷ []) spare last replies steps) (AreCallsBy shape cpu (suc number) (calls ++ call ∷ []) spare last replies steps))
-    (λ _ y. (y.0, y.1, y.2, y.3, y.4, y.5, y.6, other_more shape cpu (suc number) calls call (spare_left shape spare (map (turn_at shape) y.0)) last y.3 y.1 y.7 other))
-    (λ _ y. other_more shape cpu (suc number) calls call spare last replies steps y other)
-    are
-
-abbrev is_on : ℕ → Call → Bool
-is_on cpu call = eqb call.cpu cpu
-
-count_more : (cpu : ℕ) (calls : List Call) (call : Call) → count_of cpu (calls ++ call ∷ []) ≡ count_of cpu calls + length (cond (is_on cpu call) (call ∷ []) [])
-count_more cpu calls call = ap length (filter-append (is_on cpu) calls (call ∷ [])) ∙ length-append (filter (is_on cpu) calls) (filter (is_on cpu) (call ∷ []))
-
-pub count_own : (cpu : ℕ) (calls : List Call) (call : Call) → call.cpu ≡ cpu → count_of cpu (calls ++ call ∷ []) ≡ count_of cpu calls + 1
-count_own cpu calls call own =
-    count_more cpu calls call ∙ ap (λ (k : ℕ). count_of cpu calls + k) (by_test call.cpu cpu (λ b. length (cond b (call ∷ []) []) ≡ 1) (λ _. refl) (λ other. absurd (other own)))
-
-pub count_other : (cpu : ℕ) (calls : List Call) (call : Call) → call.cpu ≢ cpu → count_of cpu (calls ++ call ∷ []) ≡ count_of cpu calls
-count_other cpu calls call other =
-    count_more cpu calls call ∙ ap (λ (k : ℕ). count_of cpu calls + k) (by_test call.cpu cpu (λ b. length (cond b (call ∷ []) []) ≡ 0) (λ own. absurd (other own)) (λ _. refl))
-    ∙ (let same : count_of cpu calls + 0 ≡ count_of cpu calls = omega arith in same)
-
-pub none_lost : (first second : List ℕ) → first ++ second ≡ [] → (first ≡ []) × (second ≡ [])
-none_lost [] second none = (refl, none)
-none_lost (x ∷ first) second none = cc
-
-pub calls_taken : (calls : List Call) (n : ℕ) (call : Call) → n < length calls → call ≡ get_or calls n call → take (n + 1) calls ≡ take n calls ++ call ∷ []
-calls_taken calls n call within is =
-    let next : n + 1 ≡ suc n = omega arith in
-    ap (λ (k : ℕ). take k calls) next ∙ take_next calls n call (slice_get_read calls (length calls) n call refl within is)
-
-module _ (t : TableView) (calls : List Call) (call : Call) (p q : PassView) (number : ℕ) (reply : Reply) (replies : List Reply)
-    (count : number ≡ 1 + length calls) (worked : HasWorked t call.cpu calls p replies) (called : Called t (begun p call.cpu number) q call.verb reply) (answers : MayAnswer t.shape call.verb reply) where
-  calls_more : q.view.lost ≡ []
-      → AreCallsBy t.shape call.cpu 1 (calls ++ call ∷ []) (spare_at (opening t.shape) call.cpu) (element_of (spare_of call.cpu q.spares)) (replies ++ reply ∷ []) (p.view.steps ++ called.steps)
-  calls_more none =
-      let left = none_lost called.lost p.view.lost (sym called.leaves.made.goes.lost_is ∙ none) in
-      let last_is : spare_left t.shape (element_of (spare_of call.cpu p.spares)) (map (turn_at t.shape) called.steps) ≡ element_of (spare_of call.cpu q.spares) =
-      sym (spare_made t (begun p call.cpu number) q call.verb reply called left.0) ∙ ap (λ (c : ℕ). element_of (spare_of c q.spares)) called.leaves.made.goes.cpu in
-      subst
-      (λ (last : Option ℕ). AreCallsBy t.shape call.cpu 1 (calls ++ call ∷ []) (spare_at (opening t.shape) call.cpu) last (replies ++ reply ∷ []) (p.view.steps ++ called.steps))
-      last_is
-      (own_more t.shape call.cpu 1 number calls call (spare_at (opening t.shape) call.cpu) (element_of (spare_of call.cpu p.spares)) replies reply p.view.steps called.steps
-      (worked.calls_are left.1) refl count record { by_call = called.leaves.by_call; of_map = all_real t.shape called.steps called.leaves.learns.allowed; trace = trace_made t (begun p call.cpu number) q call.verb reply called left.0; answers = answers })
-
-  worked_more : HasWorked t call.cpu (calls ++ call ∷ []) q (replies ++ reply ∷ [])
-  worked_more =
-      let goes = called.leaves.made.goes in
-      record {
-        of_table = goes_of_table t (begun p call.cpu number) q called.steps called.lost goes worked.of_table;
-        one_cpu = goes.cpus ∙ worked.one_cpu;
-        in_no_call = called.leaves.in_no_call;
-        no_other_spares = λ other apart. called.leaves.other_spares other apart ∙ worked.no_other_spares other apart;
-        none_before = ap (filter has_turn) goes.ended ∙ worked.none_before;
-        kept = subst (λ (made : List Turned). IsKeptOf t.shape made [] q.view.kept) (sym goes.steps)
-            (kept_on t.shape p.view.steps called.steps [] p.view.kept q.view.kept worked.kept
-            (subst (λ (shape : Shape). IsKeptOf shape called.steps p.view.kept q.view.kept) worked.of_table.1 goes.kept));
-        counted = length-append replies (reply ∷ []) ∙ ap (λ (k : ℕ). k + 1) worked.counted ∙ sym (count_own call.cpu calls call refl);
-        calls_are = λ none. subst
-            (AreCallsBy t.shape call.cpu 1 (calls ++ call ∷ []) (spare_at (opening t.shape) call.cpu) (element_of (spare_of call.cpu q.spares)) (replies ++ reply ∷ []))
-            (sym goes.steps) (calls_more none);
-      }
-
-pub works_on : (t : TableView) (cpu : ℕ) (calls : List Call) (n : ℕ) (call : Call) (p q : PassView) (number : ℕ) (reply : Reply) (replies after : List Reply) → n < length calls → call ≡ get_or calls n call
-    → number ≡ n + 1 → call.cpu ≡ cpu → HasWorked t cpu (take n calls) p replies → Called t (begun p call.cpu number) q call.verb reply → MayAnswer t.shape call.verb reply
-    → after ≡ replies ++ reply ∷ [] → HasWorked t cpu (take (n + 1) calls) q after
-works_on t cpu calls n call p q number reply replies after within is count own worked called answers pushed =
-    let long : length (take n calls) ≡ n = length-take-le n calls (omega arith) in
-    let so_far = subst (λ (c : ℕ). HasWorked t c (take n calls) p replies) (sym own) worked in
-    let more = worked_more t (take n calls) call p q number reply replies (count ∙ (let next : n + 1 ≡ 1 + length (take n calls) = omega arith in next)) so_far called answers in
-    subst (λ (z : List Call × List Reply). HasWorked t cpu z.0 q z.1) (λ i. (sym (calls_taken calls n call within is) i, sym pushed i))
-    (subst (λ (c : ℕ). HasWorked t c (take n calls ++ call ∷ []) q (replies ++ reply ∷ [])) own more)
-
-pub passes_by : (t : TableView) (cpu : ℕ) (calls : List Call) (n : ℕ) (call : Call) (p : PassView) (replies : List Reply) → n < length calls → call ≡ get_or calls n call
-    → call.cpu ≢ cpu → HasWorked t cpu (take n calls) p replies → HasWorked t cpu (take (n + 1) calls) p replies
-passes_by t cpu calls n call p replies within is other worked =
-    subst (λ (l : List Call). HasWorked t cpu l p replies) (sym (calls_taken calls n call within is)) record {
-      of_table = worked.of_table;
-      one_cpu = worked.one_cpu;
-      in_no_call = worked.in_no_call;
-      no_other_spares = worked.no_other_spares;
-      none_before = worked.none_before;
-      kept = worked.kept;
-      counted = worked.counted ∙ sym (count_other cpu (take n calls) call other);
-      calls_are = λ none. other_more t.shape cpu 1 (take n calls) call (spare_at (opening t.shape) cpu) (element_of (spare_of cpu p.spares)) replies p.view.steps (worked.calls_are none) other;
-    }
+-- the steps that are recorded of a worker whose pass was split off
+pub kept_off : {t : TableView} {start off : PassView} {cpu number : ℕ} {calls : List Call} {p : PassView} {replies : List Reply} → IsSplitOff t start cpu off → (worked : HasWorked t cpu number calls off p replies)
+    → IsKeptOf t.shape worked.made [] p.view.kept
+kept_off {t} {start} {off} {cpu} {number} {calls} {p} {replies} split worked = subst (λ (before : List StrandStep). IsKeptOf t.shape worked.made before p.view.kept) split.no_steps.1 worked.kept

@@ -27,7 +27,7 @@ use Rattle.map_report.specs.Json.{json}
 use Rattle.map_report.specs.Summary.{summary}
 use Rattle.map_report.specs.Text.{report}
 use Rattle.map_run.specs.Words.{are_words, asked_of, mode_of}
-use Rattle.map_run.specs.Work.{IsRaceRecord}
+use Rattle.map_run.specs.Races.{IsRaceRecord}
 use Rattle.map_run.specs.Writes.{Written, AddsWhole, AddsPrefix}
 use Rattle.workload_gen.specs.Generated.{generated_script}
 
@@ -115,8 +115,9 @@ pub record IsInput (before after : Option (List ℕ)) (input : List ℕ) : Type 
   pub short : length input ≤ 16777216
 
 -- What is kept of a script that ran in a mode. In serial order, which is that of generated calls too, it is that of the calls
--- one after another, by the logs of the locks, and the laws of such runs hold. In a race it is a record of the script with a
--- strand for each CPU, in whatever order the CPUs' steps fell.
+-- one after another, by the logs of the locks, and the laws of such runs hold. In a race it is a record of the script, in
+-- whatever order the CPUs' steps fell within each phase, and each phase whose calls are all of one CPU, or that has none, is
+-- exact and answers no ENOMEM.
 abbrev pub RanAs : Mode → Script → RunRecord → Type 0
 RanAs Serial script kept = (kept ≡ serial script) × SerialLaws script
 RanAs Race script kept = IsRaceRecord script kept

@@ -4,7 +4,11 @@ pub mod Entries
 pub mod Finish
 pub mod Laws
 pub mod Memory
+pub mod Parts
+pub mod Phased
+pub mod Races
 pub mod SourceReads
+pub mod SerialPhases
 pub mod Served
 pub mod WalkLaws
 pub mod Words

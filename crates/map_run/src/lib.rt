@@ -8,6 +8,8 @@ mod hold;
 mod laws;
 mod memory;
 mod one_call;
+mod phases;
+mod pieces;
 mod queue;
 mod race;
 mod reading;

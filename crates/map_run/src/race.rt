@@ -1,34 +1,43 @@
 //! A race: a worker for each CPU, all at once.
 
-ghost use Rattle.std.specs.Prelude.{◌≡◌, ◌≢◌, ◌≤◌, ◌<◌, ℕ, false, [], ◌∷◌, All, IfOk, OnOk, length, map, slice_index_or, vec_capacity};
+ghost use Rattle.std.specs.Prelude.{◌≡◌, ◌≢◌, ◌≤◌, ◌<◌, ◌+◌, ◌++◌, ℕ, suc, false, Some, [], ◌∷◌, All, IfOk, OnOk, length, slice_index_or, vec_capacity};
 ghost use Rattle.map_types.specs.declared.call.Call.{Call};
 ghost use Rattle.map_types.specs.Creation.{IsShape};
+ghost use Rattle.map_script.specs.WellFormed.{HasPhases};
 ghost use Rattle.map_batch.specs.Calls.{table_of};
+ghost use Rattle.place_table.specs.Passes.{IsFirstPass, PassView};
+ghost use Rattle.place_words.specs.Phases.{phase_count};
 ghost use Rattle.map_run.specs.declared.worker.Worker.{Worker};
 ghost use Rattle.map_run.specs.Copies.{IsCopyOf};
+ghost use Rattle.map_run.specs.Parts.{lone_cpu, pieces_by};
+ghost use Rattle.map_run.specs.Phased.{IsWhole};
+ghost use Rattle.map_run.specs.Races.{HaveComeTo, IsRaceRecord, RanByMany, RanByOne, RanCalls};
 ghost use Rattle.map_run.specs.Served.{IsScript, IsServed, IsServedCall};
-ghost use Rattle.map_run.specs.Work.{HasWorked, HaveRaced, IsRaceRecord, count_of, race_left, replies_of, strand_of_cpu};
-ghost use Rattle.map_run.specs.Workers.{HasDone, HasSplit, HaveWorked, replies_by};
-ghost use Rattle.map_report.specs.Record.{has_cpu};
-ghost use Rattle.std.specs.List.{range_with_len};
+ghost use Rattle.map_run.specs.Work.{HaveRaced, count_of, replies_of};
+ghost use Rattle.map_run.specs.Workers.{AreSplitOff, HasDone, HasSplit, HaveDone, HaveEnded, IsReady, replies_by};
 
 use crate::RunRecord;
+use crate::phases::{lone_cpu, phase_end, phase_first, phase_start};
+use crate::pieces::Piece;
 use crate::queue::ReplyQueue;
-use crate::serial::histories_of;
+use crate::serial::{Told, calls_between, keep, run_calls};
 use crate::worker::{Worker, work};
 use map_batch::AnyMap;
+use map_report::PhaseStart;
 use map_script::Script;
-use map_types::{Call, Gate, List, NoMemory, Reply};
+use map_types::{Call, Gate, NoMemory, Reply};
 use place_table::{Closed, Pass};
-use place_words::Strand;
 use std::alloc::Global;
 use std::sync::Wait;
 use std::thread;
 use std::thread::Threads;
 
-/// Runs the calls of a script on a new map over the shared table, the calls of each CPU in a thread of its own, in the order of
-/// the script. What is kept are the replies, in the order of the script, what happened under each lock, a strand for each CPU,
-/// and what the map holds at the end; beside it stands what the closed table left. It fails only where memory does.
+/// Runs the calls of a script on a new map over the shared table, phase after phase: in each phase the calls of each CPU in a thread
+/// of its own, in the order of the script. No call of a phase begins before each call of the phases before it has ended. A phase
+/// whose calls are all of one CPU, or that has none, is run by this thread, on a pass that has all CPUs, and is exact: what happens
+/// in it is determined by the state at its start, and none of its calls answers ENOMEM. What is kept are the replies, in the order
+/// of the script, what happened under each lock, the starts of the phases, in each phase a strand for each CPU, or one of all, and
+/// what the map holds at the end; beside it stands what the closed table left. It fails only where memory does.
 ///
 /// The script is one as `read_script` and `generate` give them, whose batch writes have fewer than 2^32 entries each. A worker
 /// passes the gate at each call's beginning and end, and wherever it takes a lock or gives one back.
@@ -55,46 +64,243 @@ fn race_script<R: Threads + Wait + Sync, G: Gate>(
     requires shape { IsShape script.now.shape }
     requires served { IsServed script.now }
     requires few { length script.now.calls ≤ 200000 }
+    requires phases { HasPhases script.now.version (length script.now.calls) script.now.cuts }
     ensures record { IfOk result (λ kept. IsRaceRecord script.now kept.0) }
     ensures closed { IfOk result (λ kept. IsCopyOf kept.0 kept.1) }
 {
     let (map, mut pass) = AnyMap::create(alloc, &script.shape)?;
-    let replies = race_calls(rt, alloc, &map, &mut pass, script.calls.as_slice(), gate)?;
+    let told = race_phases(rt, alloc, &map, &mut pass, script, gate)?;
     let closed = map.close(pass)?;
-    keep_race(alloc, script.shape.cpus, replies, closed)
+    keep(alloc, script.shape.cpus, told, closed)
 }
 
-/// Runs calls, those of each CPU one after another, by as many workers as there are CPUs, which have their passes from this
-/// one. They are numbered from 1.
+/// Runs the phases of a script one after another.
+fn race_phases<R: Threads + Wait + Sync, G: Gate>(
+    rt: &R,
+    alloc: Global,
+    map: &AnyMap,
+    pass: &mut Pass,
+    script: &Script,
+    gate: &G,
+) -> Result<Told, NoMemory>
+    requires same { (table_of map.now).shape ≡ script.now.shape }
+    requires shape { IsShape script.now.shape }
+    requires served { IsServed script.now }
+    requires few { length script.now.calls ≤ 200000 }
+    requires phases { HasPhases script.now.version (length script.now.calls) script.now.cuts }
+    requires first { IsFirstPass (table_of map.now) pass.old }
+    ensures { IfOk result (λ told. HaveComeTo (table_of map.now) script.now
+        (phase_count script.now.cuts) pass.new told.replies.items told.starts.items
+        told.pieces.items) }
+{
+    let mut told = Told {
+        replies: Vec::with_capacity(alloc, script.calls.len())?,
+        starts: Vec::with_capacity(alloc, script.cuts.len() + 1)?,
+        pieces: Vec::new(alloc),
+    };
+    for phase in 0..script.cuts.len() + 1 {
+        race_phase(rt, alloc, map, pass, script, phase, gate, &mut told)?;
+    }
+    Ok(told)
+}
+
+/// Runs a phase: by the pass, which has all CPUs, where one CPU makes all its calls or it has none, else by workers.
+fn race_phase<R: Threads + Wait + Sync, G: Gate>(
+    rt: &R,
+    alloc: Global,
+    map: &AnyMap,
+    pass: &mut Pass,
+    script: &Script,
+    phase: usize,
+    gate: &G,
+    told: &mut Told,
+) -> Result<(), NoMemory>
+    requires same { (table_of map.now).shape ≡ script.now.shape }
+    requires shape { IsShape script.now.shape }
+    requires served { IsServed script.now }
+    requires few { length script.now.calls ≤ 200000 }
+    requires phases { HasPhases script.now.version (length script.now.calls) script.now.cuts }
+    requires there { phase < phase_count script.now.cuts }
+    requires before { HaveComeTo (table_of map.now) script.now phase pass.old told.old.replies.items
+        told.old.starts.items told.old.pieces.items }
+    ensures { OnOk result (HaveComeTo (table_of map.now) script.now (suc phase) pass.new
+        told.new.replies.items told.new.starts.items told.new.pieces.items) }
+{
+    let start = phase_start(alloc, map, pass)?;
+    let first = phase_first(script, phase);
+    let calls = calls_between(script.calls.as_slice(), first, phase_end(script, phase));
+    let more = run_phase(
+        rt,
+        alloc,
+        map,
+        pass,
+        phase as u32,
+        first as u32,
+        calls,
+        gate,
+    )?;
+    add_phase(told, start, more)
+}
+
+/// What is told of a phase.
+#[derive(Drop)]
+pub(crate) struct ToldPhase {
+    pub(crate) replies: Vec<Reply>,
+    pub(crate) pieces: Vec<Piece>,
+}
+
+/// Adds what is told of a phase to what is told of the phases before it.
+fn add_phase(told: &mut Told, start: PhaseStart, more: ToldPhase) -> Result<(), NoMemory>
+    ensures replies { OnOk result (told.new.replies.items
+        ≡ told.old.replies.items ++ more.replies.items) }
+    ensures starts { OnOk result (told.new.starts.items ≡ told.old.starts.items ++ start ∷ []) }
+    ensures pieces { OnOk result (told.new.pieces.items
+        ≡ told.old.pieces.items ++ more.pieces.items) }
+{
+    let ToldPhase {
+        mut replies,
+        mut pieces,
+    } = more;
+    told.replies.append(&mut replies)?;
+    told.starts.push(start)?;
+    told.pieces.append(&mut pieces)?;
+    Ok(())
+}
+
+/// Runs the calls of a phase, of which so many stand before.
+fn run_phase<R: Threads + Wait + Sync, G: Gate>(
+    rt: &R,
+    alloc: Global,
+    map: &AnyMap,
+    pass: &mut Pass,
+    phase: u32,
+    before: u32,
+    calls: &[Call],
+    gate: &G,
+) -> Result<ToldPhase, NoMemory>
+    requires shape { IsShape (table_of map.now).shape }
+    requires calls { All (IsServedCall (table_of map.now).shape) calls.now }
+    requires few { before + length calls.now ≤ 200000 }
+    requires whole { IsWhole (table_of map.now) pass.old }
+    ensures { IfOk result (λ told. RanCalls (table_of map.now) phase before calls.now pass.old
+        pass.new told.replies.items told.pieces.items) }
+{
+    match lone_cpu(calls) {
+        Some(_) => run_alone(rt, alloc, map, pass, phase, before, calls, gate),
+        None => run_at_once(rt, alloc, map, pass, phase, before, calls, gate),
+    }
+}
+
+/// Runs calls of one CPU by the pass.
+fn run_alone<R: Wait, G: Gate>(
+    rt: &R,
+    alloc: Global,
+    map: &AnyMap,
+    pass: &mut Pass,
+    phase: u32,
+    before: u32,
+    calls: &[Call],
+    gate: &G,
+) -> Result<ToldPhase, NoMemory>
+    requires shape { IsShape (table_of map.now).shape }
+    requires calls { All (IsServedCall (table_of map.now).shape) calls.now }
+    requires few { before + length calls.now ≤ 200000 }
+    requires whole { IsWhole (table_of map.now) pass.old }
+    ensures { IfOk result (λ told. (cpu : ℕ) → lone_cpu calls.now ≡ Some cpu
+        → RanByOne (table_of map.now) phase before calls.now cpu pass.old pass.new
+        told.replies.items told.pieces.items) }
+{
+    let steps = pass.step_count();
+    let replies = run_calls(rt, alloc, map, pass, before, calls, gate)?;
+    let mut pieces = Vec::with_capacity(alloc, 1)?;
+    pieces.push(Piece {
+        phase,
+        cpu: None,
+        count: pass.step_count() - steps,
+    })?;
+    Ok(ToldPhase { replies, pieces })
+}
+
+/// Runs calls of several CPUs by workers.
+fn run_at_once<R: Threads + Wait + Sync, G: Gate>(
+    rt: &R,
+    alloc: Global,
+    map: &AnyMap,
+    pass: &mut Pass,
+    phase: u32,
+    before: u32,
+    calls: &[Call],
+    gate: &G,
+) -> Result<ToldPhase, NoMemory>
+    requires shape { IsShape (table_of map.now).shape }
+    requires calls { All (IsServedCall (table_of map.now).shape) calls.now }
+    requires few { before + length calls.now ≤ 200000 }
+    requires whole { IsWhole (table_of map.now) pass.old }
+    ensures { IfOk result (λ told. RanByMany (table_of map.now) phase before calls.now pass.old
+        pass.new told.replies.items told.pieces.items) }
+{
+    let Raced { replies, counts } = race_calls(rt, alloc, map, pass, before, calls, gate)?;
+    let pieces = pieces_of(alloc, phase, counts.as_slice())?;
+    Ok(ToldPhase { replies, pieces })
+}
+
+/// A piece of a phase for each CPU, of so many steps each.
+fn pieces_of(alloc: Global, phase: u32, counts: &[usize]) -> Result<Vec<Piece>, NoMemory>
+    requires few { length counts.now ≤ 16 }
+    ensures { IfOk result (λ pieces. pieces.items ≡ pieces_by phase 0 counts.now) }
+{
+    let mut pieces = Vec::with_capacity(alloc, counts.len())?;
+    let mut cpu = 0;
+    for count in counts {
+        pieces.push(Piece {
+            phase,
+            cpu: Some(cpu),
+            count: *count,
+        })?;
+        cpu += 1;
+    }
+    Ok(pieces)
+}
+
+/// What the workers of a phase answered, in the order of the calls, and how many steps each CPU's strand has.
+#[derive(Drop)]
+pub(crate) struct Raced {
+    pub(crate) replies: Vec<Reply>,
+    pub(crate) counts: Vec<usize>,
+}
+
+/// Runs the calls of a phase, those of each CPU one after another, by as many workers as there are CPUs, which have their
+/// passes from this one, and joins these again. So many calls came before the phase: its own are numbered from `before + 1` on.
 fn race_calls<R: Threads + Wait + Sync, G: Gate>(
     rt: &R,
     alloc: Global,
     map: &AnyMap,
     pass: &mut Pass,
+    before: u32,
     calls: &[Call],
     gate: &G,
-) -> Result<Vec<Reply>, NoMemory>
+) -> Result<Raced, NoMemory>
     requires shape { IsShape (table_of map.now).shape }
     requires calls { All (IsServedCall (table_of map.now).shape) calls.now }
-    requires few { length calls.now ≤ 200000 }
-    requires first { HasSplit (table_of map.now) 0 pass.old }
-    ensures { IfOk result
-        (λ replies. HaveRaced (table_of map.now) calls.now pass.new replies.items) }
+    requires few { before + length calls.now ≤ 200000 }
+    requires whole { IsWhole (table_of map.now) pass.old }
+    ensures { IfOk result (λ raced. HaveRaced (table_of map.now) (suc before) calls.now pass.old
+        pass.new raced.replies.items raced.counts.items) }
 {
     let cpus = map.table().shape().cpus;
     let mut workers = Vec::with_capacity(alloc, cpus as usize)?;
     split_all(alloc, map, pass, cpus, &mut workers);
-    work_all(rt, alloc, map, calls, gate, &mut workers)?;
+    work_all(rt, alloc, map, before, calls, gate, &mut workers)?;
     join_all(alloc, map, pass, calls, workers)
 }
 
 /// A worker for each CPU, in ascending order, with a pass split off this one.
 fn split_all(alloc: Global, map: &AnyMap, pass: &mut Pass, cpus: u32, workers: &mut Vec<Worker>)
     requires cpus { cpus ≡ (table_of map.now).shape.cpus }
-    requires first { HasSplit (table_of map.now) 0 pass.old }
+    requires whole { IsWhole (table_of map.now) pass.old }
     requires room { (workers.old.items ≡ []) × (cpus ≤ vec_capacity workers.old) }
-    ensures split { HasSplit (table_of map.now) cpus pass.new }
-    ensures workers { HaveWorked (table_of map.now) 0 [] workers.new.items }
+    ensures split { HasSplit (table_of map.now) pass.old cpus pass.new }
+    ensures workers { AreSplitOff (table_of map.now) pass.old 0 workers.new.items }
     ensures count { length workers.new.items ≡ cpus }
 {
     for cpu in 0..cpus {
@@ -113,18 +319,20 @@ fn work_all<R: Threads + Wait + Sync, G: Gate>(
     rt: &R,
     alloc: Global,
     map: &AnyMap,
+    before: u32,
     calls: &[Call],
     gate: &G,
     workers: &mut Vec<Worker>,
 ) -> Result<(), NoMemory>
     requires shape { IsShape (table_of map.now).shape }
     requires calls { All (IsServedCall (table_of map.now).shape) calls.now }
-    requires few { length calls.now ≤ 200000 }
-    requires first { HaveWorked (table_of map.now) 0 [] workers.old.items }
-    ensures worked { OnOk result (HaveWorked (table_of map.now) 0 calls.now workers.new.items) }
+    requires few { before + length calls.now ≤ 200000 }
+    requires first { All (IsReady (table_of map.now)) workers.old.items }
+    ensures worked { OnOk result (HaveDone (table_of map.now) (suc before) calls.now
+        workers.old.items workers.new.items) }
     ensures count { length workers.new.items ≡ length workers.old.items }
 {
-    work_at_once(rt, alloc, map, calls, gate, workers.as_mut_slice());
+    work_at_once(rt, alloc, map, before, calls, gate, workers.as_mut_slice());
     if has_failed(workers.as_slice()) {
         return Err(NoMemory);
     }
@@ -136,18 +344,17 @@ fn work_at_once<R: Threads + Wait + Sync, G: Gate>(
     rt: &R,
     alloc: Global,
     map: &AnyMap,
+    before: u32,
     calls: &[Call],
     gate: &G,
     workers: &mut [Worker],
 )
     requires shape { IsShape (table_of map.now).shape }
     requires calls { All (IsServedCall (table_of map.now).shape) calls.now }
-    requires few { length calls.now ≤ 200000 }
-    requires first { All
-        (λ worker. HasWorked
-        (table_of map.now) worker.cpu [] worker.pass worker.replies) workers.old }
+    requires few { before + length calls.now ≤ 200000 }
+    requires first { All (IsReady (table_of map.now)) workers.old }
     ensures done { (k : ℕ) (d : Worker) → k < length workers.old
-        → HasDone (table_of map.now) calls.now (slice_index_or workers.old k d)
+        → HasDone (table_of map.now) (suc before) calls.now (slice_index_or workers.old k d)
         (slice_index_or workers.new k d) }
 {
     thread::for_each_mut(
@@ -157,10 +364,9 @@ fn work_at_once<R: Threads + Wait + Sync, G: Gate>(
         &|_, worker: &mut Worker|
             requires shape { IsShape (table_of map.now).shape }
             requires calls { All (IsServedCall (table_of map.now).shape) calls.now }
-            requires few { length calls.now ≤ 200000 }
-            requires first { HasWorked (table_of map.now) worker.now.cpu [] worker.now.pass
-                worker.now.replies }
-        { work(rt, alloc, map, calls, gate, worker) },
+            requires few { before + length calls.now ≤ 200000 }
+            requires first { IsReady (table_of map.now) worker.now }
+        { work(rt, alloc, map, before, calls, gate, worker) },
     );
 }
 
@@ -171,27 +377,33 @@ fn has_failed(workers: &[Worker]) -> bool
     workers.iter().any(|worker| worker.failed)
 }
 
-/// Joins the workers' passes to this one, in ascending order of their CPUs, and gives all replies in the order of the calls.
+/// Joins the workers' passes to the one that they were split off, in ascending order of their CPUs. It gives all replies in the
+/// order of the calls, and how many steps each CPU's strand has.
 fn join_all(
     alloc: Global,
     map: &AnyMap,
     pass: &mut Pass,
     calls: &[Call],
     workers: Vec<Worker>,
-) -> Result<Vec<Reply>, NoMemory>
+) -> Result<Raced, NoMemory>
+    requires shape { IsShape (table_of map.now).shape }
     requires calls { All (IsServedCall (table_of map.now).shape) calls.now }
-    requires split { HasSplit (table_of map.now) (table_of map.now).shape.cpus pass.old }
-    requires worked { HaveWorked (table_of map.now) 0 calls.now workers.items }
-    requires count { length workers.items ≡ (table_of map.now).shape.cpus }
-    ensures { IfOk result
-        (λ replies. HaveRaced (table_of map.now) calls.now pass.new replies.items) }
+    requires ended { (number : ℕ) × (start : PassView)
+        × HaveEnded (table_of map.now) number calls.now start pass.old workers.items }
+    ensures { (number : ℕ) (start : PassView)
+        → HaveEnded (table_of map.now) number calls.now start pass.old workers.items
+        → IfOk result (λ raced. HaveRaced (table_of map.now) number calls.now start pass.new
+        raced.replies.items raced.counts.items) }
 {
     let mut replies = Vec::with_capacity(alloc, workers.len())?;
+    let mut counts = Vec::with_capacity(alloc, workers.len())?;
     for worker in workers {
+        counts.push(worker.pass.step_count())?;
         map.table().join(pass, worker.pass);
         replies.push(worker.replies)?;
     }
-    in_file_order(alloc, calls, replies)
+    let replies = in_file_order(alloc, calls, replies)?;
+    Ok(Raced { replies, counts })
 }
 
 /// The replies of all CPUs, in the order of the calls.
@@ -226,82 +438,4 @@ fn next_reply(replies: &mut [ReplyQueue], cpu: u32) -> Reply
         Some(reply) => reply,
         None => unreachable!(),
     }
-}
-
-/// The record of a race whose calls were answered so, and what its table left. Where the record of a lock is lost there is none.
-fn keep_race(
-    alloc: Global,
-    cpus: u32,
-    replies: Vec<Reply>,
-    closed: Closed,
-) -> Result<(RunRecord, Closed), NoMemory>
-    ensures { IfOk result (λ kept. (kept.0 ≡ race_left cpus replies.items closed)
-        × (kept.1 ≡ closed) × (closed.lost ≡ false)) }
-{
-    if closed.lost() {
-        return Err(NoMemory);
-    }
-    let kept = record_of(alloc, cpus, replies, &closed)?;
-    Ok((kept, closed))
-}
-
-/// The record of a race whose calls were answered so, and whose table left this.
-fn record_of(
-    alloc: Global,
-    cpus: u32,
-    replies: Vec<Reply>,
-    closed: &Closed,
-) -> Result<RunRecord, NoMemory>
-    ensures { IfOk result (λ kept. kept ≡ race_left cpus replies.items closed.now) }
-{
-    let strands = strands_of(alloc, cpus, closed.strands().as_slice())?;
-    Ok(RunRecord {
-        replies: List::of(replies),
-        histories: histories_of(alloc, closed.histories())?,
-        strands: List::of(strands),
-        finals: closed.finals().copy(alloc)?,
-    })
-}
-
-/// The strands of all CPUs, in ascending order.
-fn strands_of(alloc: Global, cpus: u32, strands: &[Strand]) -> Result<Vec<Strand>, NoMemory>
-    ensures { IfOk result (λ each. each.items
-        ≡ map (λ cpu. strand_of_cpu cpu strands.now) (range_with_len 0 cpus)) }
-{
-    let mut each = Vec::with_capacity(alloc, cpus as usize)?;
-    for cpu in 0..cpus {
-        each.push(strand_of(alloc, cpu, strands)?)?;
-    }
-    Ok(each)
-}
-
-/// The strand of a CPU, or one that has no step.
-fn strand_of(alloc: Global, cpu: u32, strands: &[Strand]) -> Result<Strand, NoMemory>
-    ensures { IfOk result (λ strand. strand ≡ strand_of_cpu cpu strands.now) }
-{
-    for strand in strands {
-        if has_this_cpu(strand, cpu) {
-            return strand.copy(alloc);
-        }
-    }
-    no_steps(alloc, cpu)
-}
-
-/// Whether a strand is one of this CPU.
-fn has_this_cpu(strand: &Strand, cpu: u32) -> bool
-    ensures { result ≡ has_cpu cpu strand.now.cpus }
-{
-    strand.cpus.as_slice().iter().any(|other| *other == cpu)
-}
-
-/// A strand of a CPU that has no step.
-fn no_steps(alloc: Global, cpu: u32) -> Result<Strand, NoMemory>
-    ensures { IfOk result (λ strand. strand ≡ strand_of_cpu cpu []) }
-{
-    let mut cpus = Vec::with_capacity(alloc, 1)?;
-    cpus.push(cpu)?;
-    Ok(Strand {
-        cpus: List::of(cpus),
-        steps: List::of(Vec::new(alloc)),
-    })
 }

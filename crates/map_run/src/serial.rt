@@ -1,29 +1,39 @@
 //! A run in serial order.
 
-ghost use Rattle.std.specs.Prelude.{◌≡◌, ◌≤◌, false, [], All, IfOk, length};
-ghost use Rattle.std.specs.List.{range_with_len};
+ghost use Rattle.std.specs.Prelude.{◌≡◌, ◌≤◌, ◌+◌, ◌-◌, ℕ, suc, false, ◌++◌, All, List, IfOk, length, take, drop};
 ghost use Rattle.map_types.specs.Creation.{IsShape};
+ghost use Rattle.map_types.specs.declared.call.Call.{Call};
+ghost use Rattle.map_types.specs.declared.reply.Reply.{Reply};
 ghost use Rattle.map_batch.specs.Calls.{table_of};
-ghost use Rattle.map_run.specs.ByLogs.{HaveRun};
-ghost use Rattle.map_run.specs.Laws.{SerialLaws};
-ghost use Rattle.map_run.specs.Copies.{IsCopyOf};
+ghost use Rattle.place_table.specs.Passes.{IsFirstPass};
+ghost use Rattle.place_words.specs.AtRest.{IsStart};
+ghost use Rattle.place_words.specs.Phases.{phase_count};
 ghost use Rattle.map_report.specs.Runs.{serial};
-ghost use Rattle.map_run.specs.Copies.{record_left, strand_left};
+ghost use Rattle.map_run.specs.ByLogs.{HaveRunFrom, RunStart};
+ghost use Rattle.map_run.specs.Copies.{IsCopyOf, record_left};
+ghost use Rattle.map_run.specs.Laws.{SerialLaws};
+ghost use Rattle.map_run.specs.Phased.{HasGone, IsWhole};
 ghost use Rattle.map_run.specs.Served.{IsScript, IsServed, IsServedCall};
+ghost use Rattle.map_run.specs.SerialPhases.{HaveRunPhases};
+ghost use Rattle.map_run.specs.Work.{HasWorked};
+ghost use Rattle.map_script.specs.WellFormed.{HasPhases};
 
 use crate::RunRecord;
 use crate::one_call::run_call;
+use crate::phases::{phase_end, phase_start};
+use crate::pieces::{Piece, record_of};
 use map_batch::AnyMap;
+use map_report::PhaseStart;
 use map_script::Script;
-use map_types::{Call, Gate, List, NoMemory, Point, Reply};
+use map_types::{Call, Gate, NoMemory, Point, Reply};
 use place_table::{Closed, Pass};
-use place_words::{LockHistory, Strand};
 use std::alloc::Global;
 use std::sync::Wait;
 
-/// Runs the calls of a script one after another, on a new map over the shared table, by one pass that has all CPUs. What is
-/// kept are the replies, what happened under each lock, and what the map holds at the end; beside it stands what the closed
-/// table left. It fails only where memory does.
+/// Runs the calls of a script one after another, on a new map over the shared table, by one pass that has all CPUs. At the start
+/// of each phase that pass reads the ticket word and every bit. What is kept are the replies, what happened under each lock, the
+/// starts of the phases, and what the map holds at the end; beside it stands what the closed table left. It fails only where
+/// memory does.
 ///
 /// The script is one as `read_script` and `generate` give them, whose batch writes have fewer than 2^32 entries each. The record
 /// is the one by the logs of the locks, which serves maps of any kind (`serial`, map_report/specs/Runs.antt). Of a map that
@@ -55,32 +65,117 @@ fn run_script<R: Wait, G: Gate>(
     requires shape { IsShape script.now.shape }
     requires served { IsServed script.now }
     requires few { length script.now.calls ≤ 200000 }
+    requires phases { HasPhases script.now.version (length script.now.calls) script.now.cuts }
     ensures record { IfOk result (λ kept. kept.0 ≡ serial script.now) }
     ensures closed { IfOk result (λ kept. IsCopyOf kept.0 kept.1) }
 {
     let (map, mut pass) = AnyMap::create(alloc, &script.shape)?;
-    let replies = run_calls(rt, alloc, &map, &mut pass, script.calls.as_slice(), gate)?;
+    let told = run_phases(rt, alloc, &map, &mut pass, script, gate)?;
     let closed = map.close(pass)?;
-    keep(alloc, script.shape.cpus, replies, closed)
+    keep(alloc, script.shape.cpus, told, closed)
 }
 
-/// Runs calls one after another, each on its CPU. They are numbered from 1.
-fn run_calls<R: Wait, G: Gate>(
+/// What is told of a run beside what its table leaves.
+#[derive(Drop)]
+pub struct Told {
+    pub replies: Vec<Reply>,
+    pub starts: Vec<PhaseStart>,
+    pub pieces: Vec<Piece>,
+}
+
+/// Runs the phases of a script one after another.
+fn run_phases<R: Wait, G: Gate>(
     rt: &R,
     alloc: Global,
     map: &AnyMap,
     pass: &mut Pass,
+    script: &Script,
+    gate: &G,
+) -> Result<Told, NoMemory>
+    requires same { (table_of map.now).shape ≡ script.now.shape }
+    requires shape { IsShape script.now.shape }
+    requires served { IsServed script.now }
+    requires few { length script.now.calls ≤ 200000 }
+    requires phases { HasPhases script.now.version (length script.now.calls) script.now.cuts }
+    requires first { IsFirstPass (table_of map.now) pass.old }
+    ensures { IfOk result (λ told. HaveRunPhases (table_of map.now) script.now
+        (phase_count script.now.cuts) pass.new told.replies.items told.starts.items
+        told.pieces.items) }
+{
+    let mut replies = Vec::with_capacity(alloc, script.calls.len())?;
+    let mut starts = Vec::with_capacity(alloc, script.cuts.len() + 1)?;
+    let mut pieces = Vec::with_capacity(alloc, script.cuts.len() + 1)?;
+    let mut first = 0;
+    for phase in 0..script.cuts.len() + 1 {
+        let next = phase_end(script, phase);
+        let start = phase_start(alloc, map, pass)?;
+        let steps = pass.step_count();
+        let calls = calls_between(script.calls.as_slice(), first, next);
+        let more = run_calls(rt, alloc, map, pass, first as u32, calls, gate)?;
+        add_replies(&mut replies, more)?;
+        starts.push(start)?;
+        pieces.push(Piece {
+            phase: phase as u32,
+            cpu: None,
+            count: pass.step_count() - steps,
+        })?;
+        first = next;
+    }
+    Ok(Told {
+        replies,
+        starts,
+        pieces,
+    })
+}
+
+/// The calls between these places.
+pub(crate) fn calls_between<'a>(calls: &'a [Call], first: usize, next: usize) -> &'a [Call]
+    requires order { first ≤ next }
+    requires within { next ≤ length calls.now }
+    ensures { result.now ≡ take (next - first) (drop first calls.now) }
+{
+    &calls[first..next]
+}
+
+/// Puts the replies of a phase behind those of the phases before it.
+fn add_replies(replies: &mut Vec<Reply>, mut more: Vec<Reply>) -> Result<(), NoMemory>
+    ensures { IfOk result (λ _. replies.new.items ≡ replies.old.items ++ more.items) }
+{
+    replies.append(&mut more)?;
+    Ok(())
+}
+
+/// Runs calls one after another, each on its CPU, on a pass that has all CPUs. So many calls were made before the first of them.
+pub(crate) fn run_calls<R: Wait, G: Gate>(
+    rt: &R,
+    alloc: Global,
+    map: &AnyMap,
+    pass: &mut Pass,
+    before: u32,
     calls: &[Call],
     gate: &G,
 ) -> Result<Vec<Reply>, NoMemory>
     requires shape { IsShape (table_of map.now).shape }
     requires calls { All (IsServedCall (table_of map.now).shape) calls.now }
-    requires few { length calls.now ≤ 200000 }
-    requires first { HaveRun (table_of map.now) [] pass.old [] }
-    ensures { IfOk result (λ replies. HaveRun (table_of map.now) calls.now pass.new replies.items) }
+    requires few { before + length calls.now ≤ 200000 }
+    requires whole { IsWhole (table_of map.now) pass.old }
+    ensures whole { IfOk result (λ _. IsWhole (table_of map.now) pass.new) }
+    ensures gone { IfOk result (λ _. HasGone (table_of map.now).shape pass.old pass.new) }
+    // wherever a run had come to by then
+    ensures from { IfOk result (λ replies. (from : RunStart) (done : List Call) (told : List Reply)
+        → from.number + length done ≡ suc before
+        → IsStart (table_of map.now).shape from.state
+        → All (IsServedCall (table_of map.now).shape) done
+        → HaveRunFrom (table_of map.now) from done pass.old told
+        → HaveRunFrom (table_of map.now) from (done ++ calls.now) pass.new
+        (told ++ replies.items)) }
+    // and where they are all of one CPU
+    ensures alone { IfOk result (λ replies. (cpu : ℕ)
+        → All (λ (call : Call). call.cpu ≡ cpu) calls.now
+        → HasWorked (table_of map.now) cpu (suc before) calls.now pass.old pass.new replies.items) }
 {
     let mut replies = Vec::with_capacity(alloc, calls.len())?;
-    let mut number = 0;
+    let mut number = before;
     for call in calls {
         number += 1;
         gate.at(call.cpu, Point::Begin(number));
@@ -91,89 +186,25 @@ fn run_calls<R: Wait, G: Gate>(
     Ok(replies)
 }
 
-/// The record of a run whose calls were answered so, and what its table left. Where the record of a lock is lost there is none.
-fn keep(
+/// The record of a run of which this is told, and what its table left. Where the record of a lock is lost there is none.
+pub(crate) fn keep(
     alloc: Global,
     cpus: u32,
-    replies: Vec<Reply>,
+    told: Told,
     closed: Closed,
 ) -> Result<(RunRecord, Closed), NoMemory>
-    ensures { IfOk result (λ kept. (kept.0 ≡ record_left cpus replies.items closed)
+    ensures { IfOk result (λ kept. (kept.0 ≡ record_left cpus
+        told.pieces.items told.replies.items told.starts.items closed)
         × (kept.1 ≡ closed) × (closed.lost ≡ false)) }
 {
     if closed.lost() {
         return Err(NoMemory);
     }
-    let kept = record_of(alloc, cpus, replies, &closed)?;
+    let Told {
+        replies,
+        starts,
+        pieces,
+    } = told;
+    let kept = record_of(alloc, cpus, pieces.as_slice(), replies, starts, &closed)?;
     Ok((kept, closed))
-}
-
-/// The record of a run whose calls were answered so, and whose table left this.
-fn record_of(
-    alloc: Global,
-    cpus: u32,
-    replies: Vec<Reply>,
-    closed: &Closed,
-) -> Result<RunRecord, NoMemory>
-    ensures { IfOk result (λ kept. kept ≡ record_left cpus replies.items closed.now) }
-{
-    let mut strands = Vec::with_capacity(alloc, 1)?;
-    strands.push(strand_of(alloc, cpus, closed.strands().as_slice())?)?;
-    Ok(RunRecord {
-        replies: List::of(replies),
-        histories: histories_of(alloc, closed.histories())?,
-        strands: List::of(strands),
-        finals: closed.finals().copy(alloc)?,
-    })
-}
-
-/// The strand that is there, or one of all CPUs that has no step.
-fn strand_of(alloc: Global, cpus: u32, strands: &[Strand]) -> Result<Strand, NoMemory>
-    ensures { IfOk result (λ strand. strand ≡ strand_left cpus strands.now) }
-{
-    match strands.first() {
-        Some(strand) => strand.copy(alloc),
-        None => no_steps(alloc, cpus),
-    }
-}
-
-/// A strand of all CPUs that has no step.
-fn no_steps(alloc: Global, cpus: u32) -> Result<Strand, NoMemory>
-    ensures { IfOk result (λ strand. strand ≡ strand_left cpus []) }
-{
-    Ok(Strand {
-        cpus: List::of(all_cpus(alloc, cpus)?),
-        steps: List::of(Vec::new(alloc)),
-    })
-}
-
-/// The numbers of all CPUs.
-fn all_cpus(alloc: Global, cpus: u32) -> Result<Vec<u32>, NoMemory>
-    ensures { IfOk result (λ numbers. numbers.items ≡ range_with_len 0 cpus) }
-{
-    Ok((0..cpus).collect(alloc)?)
-}
-
-/// The same histories once more. Those that a closed table shares are not copied.
-pub(crate) fn histories_of(
-    alloc: Global,
-    histories: &List<LockHistory>,
-) -> Result<List<LockHistory>, NoMemory>
-    ensures { IfOk result (λ copies. copies ≡ histories.now) }
-{
-    match histories.again() {
-        Some(same) => Ok(same),
-        None => Ok(List::of(copies_of(alloc, histories.as_slice())?)),
-    }
-}
-
-/// Copies of histories.
-fn copies_of(alloc: Global, histories: &[LockHistory]) -> Result<Vec<LockHistory>, NoMemory>
-    ensures { IfOk result (λ copies. copies.items ≡ histories.now) }
-{
-    let mut copies = Vec::with_capacity(alloc, histories.len())?;
-    for history in histories {
-        copies.push(history.copy(alloc)?)?;
-    }
-    Ok(copies)
 }

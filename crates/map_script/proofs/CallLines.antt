@@ -1,23 +1,13 @@
--- Reading one call line after another.
-use Rattle.std.proofs.Common.{◌≡◌, ℕ, ◌+◌, ◌≤◌, true, cond, nat_le, nat_lt, List, [], ◌∷◌, Option, Some, Result, Ok, Err, sym, ap, subst, ◌∙◌, arith}
+-- A call line that is read is within the limits.
+use Rattle.std.proofs.Common.{◌≡◌, ℕ, ◌+◌, ◌≤◌, true, cond, nat_le, nat_lt, Ok, Err, sym, ap, ◌∙◌, arith}
 use Rattle.std.proofs.lemmas.Bool.Decides.{nat_tests}
 use Rattle.map_types.specs.declared.attr.Shape.{Shape}
 use Rattle.map_types.specs.declared.call.Call.{Call}
 use Rattle.map_script.specs.declared.refusal.Cause.TheVariants.{Calls, Room}
-use Rattle.map_script.specs.declared.refusal.ScriptRefusal.{ScriptRefusal}
 use Rattle.map_script.specs.Grammar.{call_line, reply_bytes}
-use Rattle.map_script.specs.Lines.{Line}
 use Rattle.map_script.specs.Places.{Tokens}
-use Rattle.map_script.specs.Plain.{FirstIsCall, IsNextCall}
-use Rattle.map_script.specs.Reading.{of_line, call_within, calls_of}
-use Rattle.map_script.proofs.Fronts.{with_front, fronted}
+use Rattle.map_script.specs.Reading.{call_within}
 use Rattle.map_script.proofs.PlaceLemmas.{step_found, chosen}
-
--- a call, and then the calls behind it
-pub calls_first : (shape : Shape) (count room : ℕ) (line : Line) (lines : List Line) (call : Call) → of_line line (call_within shape count room) ≡ Ok call
-    → calls_of shape count room (line ∷ lines) ≡ with_front (call ∷ []) (calls_of shape (count + 1) (room + reply_bytes shape call.verb) lines)
-calls_first shape count room line lines call found =
-    rw found (fronted call (calls_of shape (count + 1) (room + reply_bytes shape call.verb) lines))
 
 -- a call that is within the limits
 pub record IsWithin (shape : Shape) (count room : ℕ) (tokens : Tokens) (call : Call) : Type 0 where
@@ -38,24 +28,3 @@ within_has shape count room tokens call found =
       counted = grind (arith, nat_tests);
       replied = grind (arith, nat_tests);
     }
-
--- the same, of a line
-pub line_within : (shape : Shape) (count room : ℕ) (line : Line) (call : Call) → of_line line (call_within shape count room) ≡ Ok call → (tokens : Tokens) × IsWithin shape count room tokens call
-line_within shape count room line call found =
-    let made = step_found line.says (call_within shape count room) call found in
-    (made.0, within_has shape count room made.0 call made.2)
-
--- the next call that was found
-pub next_found : (shape : Shape) (count room : ℕ) (lines rest : List Line) (returned : Result (Option Call) ScriptRefusal) (found : Option Call) (call : Call)
-    → IsNextCall shape count room lines rest returned → returned ≡ Ok found → found ≡ Some call → FirstIsCall shape count room lines call rest
-next_found shape count room lines rest returned found call next is is_call =
-    subst (λ (r : Result (Option Call) ScriptRefusal). IsNextCall shape count room lines rest r) (is ∙ ap Ok is_call) next
-
--- that call, and then the calls behind it
-pub calls_next : (shape : Shape) (count room : ℕ) (lines rest : List Line) (call : Call) → FirstIsCall shape count room lines call rest
-    → calls_of shape count room lines ≡ with_front (call ∷ []) (calls_of shape (count + 1) (room + reply_bytes shape call.verb) rest)
-calls_next shape count room lines rest call next =
-    ap (λ (all : List Line). calls_of shape count room all) next.first ∙ calls_first shape count room next.line rest call next.reads
-
-pub next_replied : (shape : Shape) (count room : ℕ) (lines rest : List Line) (call : Call) → FirstIsCall shape count room lines call rest → room + reply_bytes shape call.verb ≤ 67108864
-next_replied shape count room lines rest call next = (line_within shape count room next.line call next.reads).1.replied

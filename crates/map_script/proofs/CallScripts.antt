@@ -1,8 +1,8 @@
 -- What a script that form Calls gives is like: its numbers, its keys and values, and its limits.
-use Rattle.std.proofs.Common.{◌≡◌, ℕ, ◌+◌, ◌<◌, ◌≤◌, Bool, true, false, nat_lt, nat_le, cond, List, [], ◌∷◌, Option, Some, None, Result, Ok, Err, refl, subst, arith}
+use Rattle.std.proofs.Common.{◌≡◌, ℕ, ◌+◌, ◌<◌, ◌≤◌, Bool, true, false, nat_lt, cond, List, [], ◌∷◌, ◌++◌, length, Some, None, Result, Ok, Err, refl, subst, arith}
 use Rattle.std.specs.Prelude.{IfSome, IfOk, bytes_eq, codes}
-use Rattle.std.specs.Option.{ok_or}
-use Rattle.std.proofs.lemmas.Bool.{cond_both, ltb-true, leb-true}
+use Rattle.std.proofs.lemmas.Bool.{cond_both, ltb-true}
+use Rattle.std.proofs.lemmas.List.Sums.{sum_by-cons}
 use Rattle.map_types.specs.Creation.{creation}
 use Rattle.map_types.specs.ValueLen.{value_len_of}
 use Rattle.map_types.specs.declared.attr.CreateAttr.{CreateAttr}
@@ -12,17 +12,23 @@ use Rattle.map_types.specs.declared.call.Verb.{Verb}
 use Rattle.map_types.specs.declared.call.Verb.TheVariants.{Lookup, Update, Delete, Take, Next, BatchRead, BatchUpdate, BatchDelete}
 use Rattle.map_types.specs.declared.kind.Side.{Side}
 use Rattle.map_types.specs.declared.kind.Side.TheVariants.{Prog, Sys}
-use Rattle.map_types.specs.declared.refusal.CreateRefusal.{CreateRefusal}
+use Rattle.map_script.specs.declared.body.Body.{Body}
+use Rattle.map_script.specs.declared.body.BodyLine.{BodyLine}
+use Rattle.map_script.specs.declared.body.BodyLine.TheVariants as says
 use Rattle.map_script.specs.declared.refusal.Cause.{Cause}
 use Rattle.map_script.specs.declared.refusal.Cause.TheVariants as causes
 use Rattle.map_script.specs.declared.refusal.ScriptRefusal.{ScriptRefusal}
 use Rattle.map_script.specs.declared.script.Form.TheVariants as forms
 use Rattle.map_script.specs.declared.script.Script.{Script}
-use Rattle.map_script.specs.Grammar.{kind_of, version_line, map_line, map_attr, call_line, call_on, verb_line, lookup_places, update_places, delete_places, take_places, next_places, batch_read_places, batch_update_places, batch_delete_places, pairs_to_end, keys_to_end, reply_bytes}
+use Rattle.map_script.specs.Grammar.{kind_of, version_line, map_line, map_attr, call_line, call_on, verb_line, lookup_places, update_places, delete_places, take_places, next_places, batch_read_places, batch_update_places, batch_delete_places, pairs_to_end, keys_to_end, reply_bytes, reply_room}
 use Rattle.map_script.specs.Lines.{Line, lines_of, end_number}
-use Rattle.map_script.specs.Places.{◌>>=◌, Tokens, valued, at_end, number, cpu, start, start_of, flag, flag_of, bytes, bytes_in, labelled, if_labelled, number_or_end, word, instead}
-use Rattle.map_script.specs.Reading.{at_line, or_fault, or_create, call_within, calls_of, body_of, map_of, version_of, read_as, script_of}
+use Rattle.map_script.specs.Places.{Tokens, valued, number, cpu, start, start_of, flag, flag_of, bytes, bytes_in, labelled, if_labelled, number_or_end, word}
+use Rattle.map_script.specs.Reading.{at_line, or_create, with_next, no_body, body_from, body_of, map_of, version_of, read_as, script_of}
 use Rattle.map_script.specs.Tokens.{number_of}
+use Rattle.map_script.specs.WellFormed.{HasPhases}
+use Rattle.map_script.proofs.BodyLines.{Tells, lines_hold}
+use Rattle.map_script.proofs.Gives.{found_gives, and_then, and_any, Found, valued_gives, end_gives, instead_gives, at_line_gives}
+use Rattle.map_script.proofs.WellFormedLemmas.{IsWellFormed-read_as}
 use Rattle.map_script.proofs.TokenValues.{IsNumber, IsStart, AreBytes, number_of_gives, flag_of_gives, start_of_gives, bytes_in_gives}
 
 -- ---- what is known of each part
@@ -71,32 +77,10 @@ pub record IsCallScript (script : Script) : Type 0 where
   pub numbers : IsAttr script.attr
   pub created : creation script.attr ≡ Ok script.shape
   pub calls : AreCalls script.shape 0 0 script.calls
+  pub phases : HasPhases script.version (length script.calls) script.cuts
   pub no_spec : script.spec ≡ None
 
--- ---- one step behind another
-
-pub and_then : {A B E : Type 0} (P : A → Type 0) (Q : B → Type 0) (r : Result A E) (next : A → Result B E) → IfOk r P → ((a : A) → P a → IfOk (next a) Q) → IfOk (r >>= next) Q
-and_then P Q (Ok a) next h k = k a h
-and_then P Q (Err e) next h k = tt
-
--- where nothing is told of the first step
-pub and_any : {A B E : Type 0} (Q : B → Type 0) (r : Result A E) (next : A → Result B E) → ((a : A) → IfOk (next a) Q) → IfOk (r >>= next) Q
-and_any Q (Ok a) next k = k a
-and_any Q (Err e) next k = tt
-
 -- ---- the places
-
--- what is known of the value that is found
-abbrev pub Found : {A : Type 0} → (A → Type 0) → A × Tokens → Type 0
-Found P found = P found.0
-
-valued_gives : {A : Type 0} (cause : Cause) (value : List ℕ → Option A) (P : A → Type 0) → ((token : List ℕ) → IfSome (value token) P) → (tokens : Tokens) → IfOk (valued cause value tokens) (Found P)
-valued_gives cause value P gives [] = tt
-valued_gives {A} cause value P gives (first ∷ rest) = go (value first) (gives first)
-  where
-    go : (o : Option A) → IfSome o P → IfOk (ok_or o cause >>= (λ found. Ok (found, rest))) (Found P)
-    go None h = tt
-    go (Some a) h = h
 
 number_gives : (tokens : Tokens) → IfOk (number tokens) (Found IsNumber)
 number_gives tokens = valued_gives causes.Number number_of IsNumber number_of_gives tokens
@@ -136,10 +120,6 @@ if_labelled_gives label (first ∷ rest) =
 number_or_end_gives : (tokens : Tokens) → IfOk (number_or_end tokens) (Found IsNumber)
 number_or_end_gives [] = zero_number
 number_or_end_gives (first ∷ rest) = number_gives (first ∷ rest)
-
-pub end_gives : {A : Type 0} (P : A → Type 0) (value : A) (tokens : Tokens) → P value → IfOk (at_end value tokens) P
-end_gives P value [] h = h
-end_gives P value (first ∷ rest) h = tt
 
 -- ---- the verbs
 
@@ -242,10 +222,6 @@ call_gives shape tokens =
     and_then (IsVerb shape) (IsCall shape) (verb_line shape on.1) (λ verb. Ok (call_on on.0 verb)) (verb_gives shape on.1) (λ verb verb_is.
     record { on = on_is.0; one_of = on_is.1; does = verb_is }))
 
-pub instead_gives : {A : Type 0} (P : A → Type 0) (cause : Cause) (r : Result A Cause) → IfOk r P → IfOk (instead cause r) P
-instead_gives P cause (Ok a) h = h
-instead_gives P cause (Err e) h = tt
-
 pub map_gives : (tokens : Tokens) → IfOk (map_line tokens) IsAttr
 unfolding map_line
 map_gives tokens =
@@ -263,60 +239,57 @@ map_gives tokens =
 
 -- ---- the script
 
-fault_gives : {A : Type 0} (P : A → Type 0) (at : ℕ) (r : Result A Cause) → IfOk r P → IfOk (or_fault at r) P
-fault_gives P at (Ok a) h = h
-fault_gives P at (Err e) h = tt
+-- a call more
+calls_more : (shape : Shape) (count room : ℕ) (calls : List Call) (call : Call) → AreCalls shape count room calls → IsCall shape call
+    → count + length calls < 200000 → room + reply_room shape calls + reply_bytes shape call.verb ≤ 67108864 → AreCalls shape count room (calls ++ call ∷ [])
+calls_more shape count room [] call h is few fits = (is, omega arith, omega arith, tt)
+calls_more shape count room (first ∷ calls) call h is few fits =
+    let more = sum_by-cons (λ (call : Call). reply_bytes shape call.verb) first calls in
+    (h.0, h.1, h.2, calls_more shape (count + 1) (room + reply_bytes shape first.verb) calls call h.3 is (omega arith) (omega (arith, more)))
 
-pub at_line_gives : {A : Type 0} (P : A → Type 0) (line : Line) (reading : Tokens → Result A Cause) → ((tokens : Tokens) → IfOk (reading tokens) P) → IfOk (at_line line reading) P
-at_line_gives P line reading gives = fault_gives P line.number _ (and_any P line.says reading gives)
+-- a line more
+line_more : (version : ℕ) (shape : Shape) (body : Body) (tokens : Tokens) (next : BodyLine) → AreCalls shape 0 0 body.calls → Tells version shape body tokens next → AreCalls shape 0 0 (with_next body next).calls
+line_more version shape body tokens (says.Call call) h told =
+    let is = subst (λ (r : Result Call Cause). IfOk r (IsCall shape)) told.read (call_gives shape tokens) in
+    calls_more shape 0 0 body.calls call h is (omega (arith, told.counted)) (omega (arith, told.replied))
+line_more version shape body tokens says.Phase h told = h
 
-abbrev IsCallWithin : Shape → ℕ → ℕ → Call → Type 0
-IsCallWithin shape count room call =
-    IsCall shape call × (count < 200000) × (room + reply_bytes shape call.verb ≤ 67108864)
+lines_give : (version : ℕ) (shape : Shape) (lines : List Line) → IfOk (body_from version shape no_body lines) (λ body. AreCalls shape 0 0 body.calls)
+lines_give version shape lines =
+    found_gives (λ (body : Body). AreCalls shape 0 0 body.calls) (body_from version shape no_body lines) (λ body read.
+    lines_hold version shape (λ (body : Body) (lines : List Line). AreCalls shape 0 0 body.calls) (λ body line lines tokens next h said told. line_more version shape body tokens next h told)
+    no_body lines body tt read)
 
-within_gives : (shape : Shape) (count room : ℕ) (tokens : Tokens) → IfOk (call_within shape count room tokens) (IsCallWithin shape count room)
-within_gives shape count room tokens =
-    let P = IsCallWithin shape count room in
-    and_then (IsCall shape) P (call_line shape tokens) _ (call_gives shape tokens) (λ call call_is.
-    cond_both (nat_lt count 200000) _ _ (λ r. IfOk r P)
-    (λ few. cond_both (nat_le (room + reply_bytes shape call.verb) 67108864) _ _ (λ r. IfOk r P)
-    (λ fits. (call_is, ltb-true count 200000 few, leb-true (room + reply_bytes shape call.verb) 67108864 fits)) (λ long. tt))
-    (λ many. tt))
+-- what the lines give, limits aside
+record IsListed (script : Script) : Type 0 where
+  numbers : IsAttr script.attr
+  calls : AreCalls script.shape 0 0 script.calls
+  no_spec : script.spec ≡ None
 
-calls_give : (shape : Shape) (count room : ℕ) (lines : List Line) → IfOk (calls_of shape count room lines) (AreCalls shape count room)
-calls_give shape count room [] = tt
-calls_give shape count room (line ∷ lines) =
-    and_then (IsCallWithin shape count room) (AreCalls shape count room) (at_line line (call_within shape count room)) _ (at_line_gives (IsCallWithin shape count room) line (call_within shape count room) (within_gives shape count room)) (λ call call_is.
-    and_then (AreCalls shape (count + 1) (room + reply_bytes shape call.verb)) (AreCalls shape count room) (calls_of shape (count + 1) (room + reply_bytes shape call.verb) lines) (λ calls. Ok (call ∷ calls)) (calls_give shape (count + 1) (room + reply_bytes shape call.verb) lines) (λ calls calls_are.
-    (call_is.0, call_is.1, call_is.2, calls_are)))
-
-pub create_gives : (r : Result Shape CreateRefusal) → IfOk (or_create r) (λ shape. r ≡ Ok shape)
-create_gives (Ok shape) = refl
-create_gives (Err refusal) = tt
-
-body_gives : (attr : CreateAttr) (shape : Shape) (end : ℕ) (lines : List Line) → IsAttr attr → creation attr ≡ Ok shape → IfOk (body_of forms.Calls attr shape end lines) IsCallScript
+body_gives : (version : ℕ) (attr : CreateAttr) (shape : Shape) (end : ℕ) (lines : List Line) → IsAttr attr → IfOk (body_of forms.Calls version attr shape end lines) IsListed
 unfolding body_of
-body_gives attr shape end lines numbers created =
-    and_then (AreCalls shape 0 0) IsCallScript (calls_of shape 0 0 lines) (λ calls. Ok (script_of attr shape calls None)) (calls_give shape 0 0 lines) (λ calls calls_are.
-    record { numbers = numbers; created = created; calls = calls_are; no_spec = refl })
+body_gives version attr shape end lines numbers =
+    and_then (λ body. AreCalls shape 0 0 body.calls) IsListed (body_from version shape no_body lines) (λ body. Ok (script_of version attr shape body.calls body.cuts None)) (lines_give version shape lines) (λ body calls_are.
+    record { numbers = numbers; calls = calls_are; no_spec = refl })
 
-map_of_gives : (end : ℕ) (lines : List Line) → IfOk (map_of forms.Calls end lines) IsCallScript
+map_of_gives : (version end : ℕ) (lines : List Line) → IfOk (map_of forms.Calls version end lines) IsListed
 unfolding map_of
-map_of_gives end [] = tt
-map_of_gives end (line ∷ lines) =
-    and_then IsAttr IsCallScript (at_line line map_line) _ (at_line_gives IsAttr line map_line map_gives) (λ attr numbers.
-    and_then (λ shape. creation attr ≡ Ok shape) IsCallScript (or_create (creation attr)) _ (create_gives (creation attr)) (λ shape created.
-    body_gives attr shape end lines numbers created))
+map_of_gives version end [] = tt
+map_of_gives version end (line ∷ lines) =
+    and_then IsAttr IsListed (at_line line map_line) _ (at_line_gives IsAttr line map_line map_gives) (λ attr numbers.
+    and_any IsListed (or_create (creation attr)) _ (λ shape. body_gives version attr shape end lines numbers))
 
-version_of_gives : (end : ℕ) (lines : List Line) → IfOk (version_of forms.Calls end lines) IsCallScript
+version_of_gives : (end : ℕ) (lines : List Line) → IfOk (version_of forms.Calls end lines) IsListed
 unfolding version_of
 version_of_gives end [] = tt
 version_of_gives end (line ∷ lines) =
-    and_any IsCallScript (at_line line version_line) _ (λ version. map_of_gives end lines)
+    and_any IsListed (at_line line (version_line forms.Calls)) _ (λ version. map_of_gives version end lines)
 
 -- what is known of each script that form Calls gives
 pub script_gives : (given : List ℕ) (script : Script) → read_as forms.Calls given ≡ Ok script → IsCallScript script
 unfolding read_as
 script_gives given script read =
-    let P : Result Script ScriptRefusal → Type 0 = λ r. IfOk r IsCallScript in
-    subst P read (version_of_gives (end_number given) (lines_of given))
+    let P : Result Script ScriptRefusal → Type 0 = λ r. IfOk r IsListed in
+    let listed = subst P read (version_of_gives (end_number given) (lines_of given)) in
+    let formed = IsWellFormed-read_as forms.Calls given script read in
+    record { numbers = listed.numbers; created = formed.created; calls = listed.calls; phases = formed.phases; no_spec = listed.no_spec }

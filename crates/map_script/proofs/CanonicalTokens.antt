@@ -1,9 +1,10 @@
 -- The tokens of a canonical text's lines: that they are tokens, and that the text is these lines.
-use Rattle.std.proofs.Common.{◌≡◌, ℕ, ◌+◌, ◌*◌, ◌≤◌, ◌==◌, Bool, true, false, cond, List, [], ◌∷◌, ◌++◌, map, Some, None, Ok, refl, ap, ◌∙◌, append_assoc, arith}
+use Rattle.std.proofs.Common.{◌≡◌, ℕ, ◌+◌, ◌-◌, ◌*◌, ◌≤◌, ◌==◌, Bool, true, false, cond, List, [], ◌∷◌, ◌++◌, map, length, take, drop, Some, None, Ok, inl, inr, refl, sym, ap, subst, ◌∙◌, append_assoc, take-append-drop, arith}
 use Rattle.std.specs.Prelude.{codes, decimal}
 use Rattle.std.specs.List.{flat_map}
 use Rattle.std.proofs.Math.Nat.{le-mul_of_pos_right}
 use Rattle.std.proofs.lemmas.Bool.{cond_both}
+use Rattle.std.proofs.lemmas.List.Sums.{sum_by-cons}
 use Rattle.hex.specs.Hex.{encode_lower}
 use Rattle.map_types.specs.Creation.{creation}
 use Rattle.map_types.specs.Kind.{is_percpu}
@@ -19,21 +20,33 @@ use Rattle.map_types.specs.declared.kind.Side.TheVariants.{Prog, Sys}
 use Rattle.map_types.proofs.CreationLemmas.{bounds_of_shape}
 use Rattle.map_types.proofs.RoundLemmas.{rounded_up}
 use Rattle.map_script.specs.declared.script.Script.{Script}
-use Rattle.map_script.specs.Canonical.{canonical, spaced, line_text, label_and_number, unless_zero, map_tokens, verb_tokens, pair_tokens, call_text, body_text, lookup_name, update_name, batch_name}
+use Rattle.map_script.specs.Canonical.{canonical, spaced, line_text, label_and_number, unless_zero, map_tokens, verb_tokens, pair_tokens, call_text, phased_text, body_text, lookup_name, update_name, batch_name}
+use Rattle.map_script.specs.Grammar.{reply_bytes, reply_room}
 use Rattle.map_script.specs.Plain.{is_token, AreTokens, joined}
+use Rattle.map_script.specs.WellFormed.{HasPhases}
 use Rattle.map_script.proofs.TokenLines.{AreLines, text_of_lines}
-use Rattle.map_script.proofs.TokenValues.{is_token-decimal, is_token-flag_token, is_token-start_token, is_token-kind_name, is_token-encode_lower}
+use Rattle.map_script.proofs.TokenValues.{IsNumber, is_token-decimal, is_token-flag_token, is_token-start_token, is_token-kind_name, is_token-encode_lower}
 use Rattle.map_script.proofs.CallScripts.{ArePairs, AreKeys, IsVerb, IsAttr, AreCalls, IsCallScript}
 
-abbrev pub version_tokens : List (List ℕ)
-version_tokens = codes "bpfmap" ∷ codes "1" ∷ []
+abbrev pub version_tokens : ℕ → List (List ℕ)
+version_tokens version = codes "bpfmap" ∷ decimal version ∷ []
 
 abbrev pub call_tokens : Call → List (List ℕ)
 call_tokens call = decimal call.cpu ∷ verb_tokens call.verb
 
+abbrev pub phase_tokens : List (List ℕ)
+phase_tokens = codes "phase" ∷ []
+
+-- the lines of calls, behind so many others, and of the phases that start among them
+abbrev pub phased_lines : ℕ → List ℕ → List Call → List (List (List ℕ))
+phased_lines before [] calls = map call_tokens calls
+phased_lines before (cut ∷ cuts) calls =
+    map call_tokens (take (cut - before) calls) ++ phase_tokens ∷ phased_lines cut cuts (drop (cut - before) calls)
+
 -- the lines of a script of form Calls
 abbrev pub script_lines : Script → List (List (List ℕ))
-script_lines script = version_tokens ∷ (codes "map" ∷ map_tokens script.attr) ∷ map call_tokens script.calls
+script_lines script =
+    version_tokens script.version ∷ (codes "map" ∷ map_tokens script.attr) ∷ phased_lines 0 script.cuts script.calls
 
 -- ---- the text is these lines
 
@@ -46,13 +59,34 @@ call_lines (call ∷ calls) =
     ap (λ (text : List ℕ). call_text call ++ text) (call_lines calls)
     ∙ line_text-append (decimal call.cpu) (verb_tokens call.verb) (text_of_lines (map call_tokens calls))
 
+text-append : (lines others : List (List (List ℕ))) → text_of_lines (lines ++ others) ≡ text_of_lines lines ++ text_of_lines others
+text-append [] others = refl
+text-append (tokens ∷ lines) others =
+    ap (λ (text : List ℕ). joined tokens ++ 10 ∷ text) (text-append lines others)
+    ∙ sym (append_assoc (joined tokens) (10 ∷ text_of_lines lines) (text_of_lines others))
+
+phases_lines : (before : ℕ) (cuts : List ℕ) (calls : List Call) → phased_text before cuts calls ≡ text_of_lines (phased_lines before cuts calls)
+phases_lines before [] calls = call_lines calls
+phases_lines before (cut ∷ cuts) calls =
+    let now = take (cut - before) calls in
+    let behind = drop (cut - before) calls in
+    let lines = phased_lines cut cuts behind in
+    append_assoc (flat_map call_text now) (codes "phase\n") (phased_text cut cuts behind)
+    ∙ ap (λ (text : List ℕ). flat_map call_text now ++ (codes "phase\n" ++ text)) (phases_lines cut cuts behind)
+    ∙ ap (λ (text : List ℕ). text ++ (codes "phase\n" ++ text_of_lines lines)) (call_lines now)
+    ∙ sym (text-append (map call_tokens now) (phase_tokens ∷ lines))
+
 pub canonical-lines : (script : Script) → script.spec ≡ None → canonical script ≡ text_of_lines (script_lines script)
 unfolding canonical
 canonical-lines script no_spec =
+    let version_line = line_text (codes "bpfmap") (decimal script.version ∷ []) in
     let map_line = line_text (codes "map") (map_tokens script.attr) in
-    ap (λ spec. codes "bpfmap 1\n" ++ (map_line ++ body_text spec script.calls)) no_spec
-    ∙ ap (λ (text : List ℕ). codes "bpfmap 1\n" ++ (map_line ++ text)) (call_lines script.calls)
-    ∙ ap (λ (text : List ℕ). codes "bpfmap 1\n" ++ text) (line_text-append (codes "map") (map_tokens script.attr) (text_of_lines (map call_tokens script.calls)))
+    let lines = phased_lines 0 script.cuts script.calls in
+    append_assoc version_line map_line (body_text script.spec script.cuts script.calls)
+    ∙ ap (λ spec. version_line ++ (map_line ++ body_text spec script.cuts script.calls)) no_spec
+    ∙ ap (λ (text : List ℕ). version_line ++ (map_line ++ text)) (phases_lines 0 script.cuts script.calls)
+    ∙ ap (λ (text : List ℕ). version_line ++ text) (line_text-append (codes "map") (map_tokens script.attr) (text_of_lines lines))
+    ∙ line_text-append (codes "bpfmap") (decimal script.version ∷ []) (text_of_lines ((codes "map" ∷ map_tokens script.attr) ∷ lines))
 
 -- ---- the tokens are tokens
 
@@ -132,6 +166,43 @@ calls_are_lines shape count room (call ∷ calls) sizes h = (
   calls_are_lines shape (count + 1) _ calls sizes h.3,
 )
 
+lines-append : (lines others : List (List (List ℕ))) → AreLines lines → AreLines others → AreLines (lines ++ others)
+lines-append [] others h k = k
+lines-append (tokens ∷ lines) others h k = (h.0, lines-append lines others h.1 k)
+
+-- the first of some calls, and those behind them
+pub calls_front : (shape : Shape) (count room : ℕ) (calls others : List Call) → AreCalls shape count room (calls ++ others) → AreCalls shape count room calls
+calls_front shape count room [] others h = tt
+calls_front shape count room (call ∷ calls) others h =
+    (h.0, h.1, h.2, calls_front shape (count + 1) (room + reply_bytes shape call.verb) calls others h.3)
+
+pub calls_back : (shape : Shape) (count room : ℕ) (calls others : List Call) → AreCalls shape count room (calls ++ others) → AreCalls shape (count + length calls) (room + reply_room shape calls) others
+calls_back shape count room [] others h =
+    let counted : count ≡ count + 0 = omega arith in
+    let replied : room ≡ room + 0 = omega arith in
+    subst (λ (n : ℕ). AreCalls shape n (room + 0) others) counted (subst (λ (n : ℕ). AreCalls shape count n others) replied h)
+calls_back shape count room (call ∷ calls) others h =
+    let counted : count + 1 + length calls ≡ count + length (call ∷ calls) = omega arith in
+    let more = sum_by-cons (λ (call : Call). reply_bytes shape call.verb) call calls in
+    let replied : room + reply_bytes shape call.verb + reply_room shape calls ≡ room + reply_room shape (call ∷ calls) = omega (arith, more) in
+    subst (λ (n : ℕ). AreCalls shape n (room + reply_room shape (call ∷ calls)) others) counted
+    (subst (λ (n : ℕ). AreCalls shape (count + 1 + length calls) n others) replied
+    (calls_back shape (count + 1) (room + reply_bytes shape call.verb) calls others h.3))
+
+phases_are_lines : (shape : Shape) (count room before : ℕ) (cuts : List ℕ) (calls : List Call) → HasSomeBytes shape → AreCalls shape count room calls → AreLines (phased_lines before cuts calls)
+phases_are_lines shape count room before [] calls sizes h = calls_are_lines shape count room calls sizes h
+phases_are_lines shape count room before (cut ∷ cuts) calls sizes h =
+    let now = take (cut - before) calls in
+    let behind = drop (cut - before) calls in
+    let both = subst (AreCalls shape count room) (sym (take-append-drop (cut - before) calls)) h in
+    lines-append (map call_tokens now) (phase_tokens ∷ phased_lines cut cuts behind)
+    (calls_are_lines shape count room now sizes (calls_front shape count room now behind both))
+    ((refl, tt), phases_are_lines shape (count + length now) (room + reply_room shape now) cut cuts behind sizes (calls_back shape count room now behind both))
+
+version_is_number : (version count : ℕ) (cuts : List ℕ) → HasPhases version count cuts → IsNumber version
+version_is_number version count cuts h =
+    elim h.known [ inl first ↦ let one = first.0 in omega arith | inr second ↦ omega arith ]
+
 pub map_are_tokens : (attr : CreateAttr) → IsAttr attr → AreTokens (map_tokens attr)
 map_are_tokens attr h =
     let flags = tokens_if (attr.flags == 0) (label_and_number (codes "flags") attr.flags) (refl, (is_token-decimal attr.flags h.flags, tt)) in
@@ -141,6 +212,6 @@ map_are_tokens attr h =
 
 pub script_are_lines : (script : Script) → IsCallScript script → AreLines (script_lines script)
 script_are_lines script h = (
-  (refl, (refl, tt)),
-  ((refl, map_are_tokens script.attr h.numbers), calls_are_lines script.shape 0 0 script.calls (HasSomeBytes-created script.attr script.shape h.created) h.calls),
+  (refl, (is_token-decimal script.version (version_is_number script.version (length script.calls) script.cuts h.phases), tt)),
+  ((refl, map_are_tokens script.attr h.numbers), phases_are_lines script.shape 0 0 0 script.cuts script.calls (HasSomeBytes-created script.attr script.shape h.created) h.calls),
 )

@@ -21,7 +21,7 @@ use Rattle.map_script.specs.declared.refusal.Cause.{Cause}
 use Rattle.map_script.specs.Lines.{is_line_feed, numbered, lines_from}
 use Rattle.map_script.specs.Places.{Tokens}
 use Rattle.map_script.specs.Grammar.{call_line, call_on, verb_line, lookup_places, update_places, delete_places, reply_bytes}
-use Rattle.map_script.specs.Plain.{AreTokens, joined, BeginsWith, BeginsWithCpu, BeginsWithBytes, FirstIsCall}
+use Rattle.map_script.specs.Plain.{AreTokens, joined, BeginsWith, BeginsWithCpu, BeginsWithBytes, FirstIs}
 use Rattle.map_script.specs.Reading.{call_within}
 use Rattle.map_script.specs.Tokens.{number_of}
 use Rattle.map_script.proofs.TokenLines.{IsPiece, piece_is_no_line_feed, joined_pieces, said_by-joined, some_length, saying, says_something, line_saying}
@@ -155,7 +155,7 @@ no_call shape call is = cc
 -- a call at the front of a text is the first of its lines
 pub first_call : (shape : Shape) (count room number : ℕ) (text rest : List ℕ) (call : Call) → BeginsWith (call_line shape) text call rest
     → count < 200000 → room + reply_bytes shape call.verb ≤ 67108864
-    → FirstIsCall shape count room (lines_from number text) call (lines_from (number + 1) rest)
+    → FirstIs (call_within shape count room) (lines_from number text) call (lines_from (number + 1) rest)
 first_call shape count room number text rest call begins few fits =
     let some : begins.tokens ≡ [] → ⊥ = λ nothing. no_call shape call (subst (λ (tokens : Tokens). call_line shape tokens ≡ Ok call) nothing begins.reads) in
     record {

@@ -5,13 +5,19 @@ use Rattle.std.proofs.lemmas.Bool.{eqb-true}
 use Rattle.std.proofs.lemmas.List.Sums.{AllPass-from_list_all}
 use Rattle.hex.specs.Hex.{is_hex_digit}
 use Rattle.hex.proofs.HexLemmas.{decode_of-ok, decode_of-digits}
+use Rattle.map_script.specs.declared.refusal.Cause.{Cause}
 use Rattle.map_script.specs.declared.refusal.Cause.TheVariants.{Digits, Length}
+use Rattle.map_script.specs.Reading.{or_fault}
 use Rattle.map_script.specs.Places.{◌>>=◌, Tokens, token, decoded, bytes_in, bytes}
 
 -- what a step found, where the step behind it found something
 pub step_found : {A B E : Type 0} (found : Result A E) (next : A → Result B E) (y : B) → (found >>= next) ≡ Ok y → (x : A) × (found ≡ Ok x) × (next x ≡ Ok y)
 step_found (Ok x) next y is = (x, refl, is)
 step_found (Err e) next y is = absurd cc
+
+pub at_found : {A : Type 0} (number : ℕ) (read : Result A Cause) (x : A) → or_fault number read ≡ Ok x → read ≡ Ok x
+at_found number (Ok found) x is = cc
+at_found number (Err cause) x is = absurd cc
 
 pub chosen : {A E : Type 0} (test : Bool) (found : Result A E) (e : E) (y : A) → cond test found (Err e) ≡ Ok y → (test ≡ true) × (found ≡ Ok y)
 chosen true found e y is = (refl, is)

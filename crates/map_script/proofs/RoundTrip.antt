@@ -1,217 +1,39 @@
--- The lines of a canonical text are read as the script again.
-use Rattle.std.proofs.Common.{◌≡◌, ℕ, ◌+◌, ◌<◌, ◌≤◌, ◌==◌, Bool, true, false, nat_lt, nat_le, cond, List, [], ◌∷◌, ◌++◌, map, Option, Some, None, Result, Ok, Err, refl, sym, ap, ◌∙◌, inl, inr, append-nil}
-use Rattle.std.specs.Prelude.{bytes_eq, codes, decimal}
-use Rattle.std.specs.List.{flat_map}
-use Rattle.std.specs.Option.{ok_or}
-use Rattle.std.proofs.lemmas.Bool.{cond-true, cond-false, cases_eq, ne_eqb, lt-ltb, le-leb}
-use Rattle.hex.specs.Hex.{encode_lower}
-use Rattle.map_types.specs.ValueLen.{value_len_of}
-use Rattle.map_types.specs.declared.attr.CreateAttr.{CreateAttr}
-use Rattle.map_types.specs.declared.attr.Shape.{Shape}
-use Rattle.map_types.specs.declared.call.Call.{Call}
-use Rattle.map_types.specs.declared.call.Verb.{Verb}
-use Rattle.map_types.specs.declared.call.Verb.TheVariants.{Lookup, Update, Delete, Take, Next, BatchRead, BatchUpdate, BatchDelete}
-use Rattle.map_types.specs.declared.kind.Side.{Side}
-use Rattle.map_types.specs.declared.kind.Side.TheVariants.{Prog, Sys}
-use Rattle.map_script.specs.declared.refusal.Cause.{Cause}
-use Rattle.map_script.specs.declared.refusal.Cause.TheVariants as causes
+-- The canonical text of a script is read as the script again.
+use Rattle.std.proofs.Common.{◌≡◌, ℕ, ◌+◌, List, ◌∷◌, length, None, Ok, refl, sym, ap, ◌∙◌, inl, inr}
+use Rattle.std.specs.Prelude.{codes}
 use Rattle.map_script.specs.declared.script.Form.TheVariants as forms
 use Rattle.map_script.specs.declared.script.Script.{Script}
-use Rattle.map_script.specs.Canonical.{canonical, label_and_number, unless_zero, map_tokens, verb_tokens, pair_tokens, kind_name, flag_token, start_token}
-use Rattle.map_script.specs.Grammar.{kind_of, version_line, map_line, call_line, verb_line, lookup_places, update_places, delete_places, take_places, next_places, batch_read_places, batch_update_places, batch_delete_places, pairs_to_end, keys_to_end, reply_bytes}
+use Rattle.map_script.specs.Canonical.{canonical, map_tokens}
 use Rattle.map_script.specs.Lines.{lines_of, end_number}
-use Rattle.map_script.specs.Places.{◌>>=◌, Tokens, valued, number, cpu, start, start_of, flag, flag_of, bytes, bytes_in, if_labelled, number_or_end, instead}
-use Rattle.map_script.specs.Reading.{or_fault, or_create, call_within, calls_of, body_of, map_of, version_of, read_as, script_of, IsReadAs}
-use Rattle.map_script.specs.Tokens.{number_of}
+use Rattle.map_script.specs.Reading.{or_fault, or_create, body_with, body_of, map_of, version_of, read_as, script_of, IsReadAs}
+use Rattle.map_script.specs.WellFormed.{HasPhases}
+use Rattle.map_script.proofs.Gives.{IsVersion}
 use Rattle.map_script.proofs.TokenLines.{saying_from, lines_of-text_of_lines}
-use Rattle.map_script.proofs.TokenValues.{IsNumber, IsStart, AreBytes, number_of-decimal, flag_of-flag_token, start_of-start_token, kind_of-kind_name, bytes_in-encode_lower}
-use Rattle.map_script.proofs.CallScripts.{ArePairs, AreKeys, IsVerb, IsCall, IsAttr, AreCalls, IsCallScript, script_gives}
-use Rattle.map_script.proofs.CanonicalTokens.{version_tokens, call_tokens, script_lines, canonical-lines, script_are_lines}
+use Rattle.map_script.proofs.CallScripts.{IsCallScript, script_gives}
+use Rattle.map_script.proofs.CanonicalTokens.{phased_lines, script_lines, canonical-lines, script_are_lines}
+use Rattle.map_script.proofs.LinesRead.{then, version_read, map_read}
+use Rattle.map_script.proofs.PhasesRead.{lines_read}
 
--- one step behind another
-pub then : {A B E : Type 0} (r : Result A E) (next : A → Result B E) (a : A) (s : Result B E) → r ≡ Ok a → next a ≡ s → (r >>= next) ≡ s
-then r next a s first second = ap (λ q. q >>= next) first ∙ second
+known_version : (version count : ℕ) (cuts : List ℕ) → HasPhases version count cuts → IsVersion forms.Calls version
+known_version version count cuts h = elim h.known [ inl first ↦ inl first.0 | inr second ↦ inr second ]
 
--- ---- the places
-
-valued_at : {A : Type 0} (cause : Cause) (value : List ℕ → Option A) (token : List ℕ) (a : A) (rest : Tokens) → value token ≡ Some a → valued cause value (token ∷ rest) ≡ Ok (a, rest)
-valued_at cause value token a rest is = ap (λ o. ok_or o cause >>= (λ found. Ok (found, rest))) is
-
-pub number_at : (n : ℕ) (rest : Tokens) → IsNumber n → number (decimal n ∷ rest) ≡ Ok (n, rest)
-number_at n rest h = valued_at causes.Number number_of (decimal n) n rest (number_of-decimal n h)
-
-flag_at : (flags : ℕ) (rest : Tokens) → IsNumber flags → flag (flag_token flags ∷ rest) ≡ Ok (flags, rest)
-flag_at flags rest h = valued_at causes.Flag flag_of (flag_token flags) flags rest (flag_of-flag_token flags h)
-
-start_at : (begin : Option ℕ) (rest : Tokens) → IsStart begin → start (start_token begin ∷ rest) ≡ Ok (begin, rest)
-start_at begin rest h = valued_at causes.Number start_of (start_token begin) begin rest (start_of-start_token begin h)
-
-bytes_at : (size : ℕ) (written : List ℕ) (rest : Tokens) → AreBytes size written → bytes size (encode_lower written ∷ rest) ≡ Ok (written, rest)
-bytes_at size written rest h =
-    then (bytes_in size (encode_lower written)) (λ found. Ok (found, rest)) written (Ok (written, rest)) (bytes_in-encode_lower size written h) refl
-
-cpu_at : (cpus on : ℕ) (rest : Tokens) → IsNumber on → on < cpus → cpu cpus (decimal on ∷ rest) ≡ Ok (on, rest)
-cpu_at cpus on rest h below =
-    then (number (decimal on ∷ rest)) _ (on, rest) (Ok (on, rest)) (number_at on rest h)
-    (cond-true (nat_lt on cpus) (Ok (on, rest)) (Err causes.Cpu) (lt-ltb on cpus below))
-
-number_or_end_at : (n : ℕ) → IsNumber n → number_or_end (unless_zero n (decimal n ∷ [])) ≡ Ok (n, [])
-number_or_end_at n h =
-    elim (cases_eq n 0) [
-      | inl none ↦ rw none refl
-      | inr some ↦
-          ap number_or_end (cond-false (n == 0) [] (decimal n ∷ []) (ne_eqb n 0 some)) ∙ number_at n [] h
-    ]
-
-if_labelled_at : (label : List ℕ) (n : ℕ) (rest : Tokens) → bytes_eq label label ≡ true → IsNumber n → if_labelled label rest ≡ Ok (0, rest) → if_labelled label (unless_zero n (label_and_number label n) ++ rest) ≡ Ok (n, rest)
-if_labelled_at label n rest same h other =
-    elim (cases_eq n 0) [
-      | inl none ↦ rw none other
-      | inr some ↦
-          ap (λ (tokens : Tokens). if_labelled label (tokens ++ rest)) (cond-false (n == 0) [] (label ∷ decimal n ∷ []) (ne_eqb n 0 some))
-          ∙ cond-true (bytes_eq label label) (number (decimal n ∷ rest)) (Ok (0, label ∷ decimal n ∷ rest)) same ∙ number_at n rest h
-    ]
-
--- where the line has no flags
-no_flags : (test : Bool) (tokens : Tokens) → if_labelled (codes "flags") (cond test [] (codes "seed" ∷ tokens)) ≡ Ok (0, cond test [] (codes "seed" ∷ tokens))
-no_flags true tokens = refl
-no_flags false tokens = refl
-
--- where nothing follows
-last_labelled_at : (label : List ℕ) (n : ℕ) → bytes_eq label label ≡ true → IsNumber n → if_labelled label (unless_zero n (label_and_number label n)) ≡ Ok (n, [])
-last_labelled_at label n same h =
-    ap (if_labelled label) (sym (append-nil (unless_zero n (label_and_number label n)))) ∙ if_labelled_at label n [] same h refl
-
--- ---- the verbs
-
-lookup_read : (shape : Shape) (side : Side) (key : List ℕ) → AreBytes shape.key_size key → lookup_places shape side (encode_lower key ∷ []) ≡ Ok (Lookup side key)
-unfolding lookup_places
-lookup_read shape side key h = then _ _ (key, []) _ (bytes_at shape.key_size key [] h) refl
-
-update_read : (shape : Shape) (side : Side) (flags : ℕ) (key value : List ℕ) → IsNumber flags → AreBytes shape.key_size key → AreBytes (value_len_of shape side) value
-    → update_places shape side (flag_token flags ∷ encode_lower key ∷ encode_lower value ∷ []) ≡ Ok (Update side flags key value)
-unfolding update_places
-update_read shape side flags key value flags_is key_is value_is =
-    then _ _ (flags, encode_lower key ∷ encode_lower value ∷ []) _ (flag_at flags _ flags_is)
-    (then _ _ (key, encode_lower value ∷ []) _ (bytes_at shape.key_size key _ key_is)
-    (then _ _ (value, []) _ (bytes_at (value_len_of shape side) value [] value_is) refl))
-
-delete_read : (shape : Shape) (key : List ℕ) → AreBytes shape.key_size key → delete_places shape (encode_lower key ∷ []) ≡ Ok (Delete key)
-unfolding delete_places
-delete_read shape key h = then _ _ (key, []) _ (bytes_at shape.key_size key [] h) refl
-
-take_read : (shape : Shape) (key : List ℕ) → AreBytes shape.key_size key → take_places shape (encode_lower key ∷ []) ≡ Ok (Take key)
-unfolding take_places
-take_read shape key h = then _ _ (key, []) _ (bytes_at shape.key_size key [] h) refl
-
-next_read : (shape : Shape) (key : List ℕ) → AreBytes shape.key_size key → next_places shape (encode_lower key ∷ []) ≡ Ok (Next (Some key))
-unfolding next_places
-next_read shape key h = then _ _ (key, []) _ (bytes_at shape.key_size key [] h) refl
-
-first_read : (shape : Shape) → next_places shape [] ≡ Ok (Next None)
-unfolding next_places
-first_read shape = refl
-
-batch_read_read : (remove : Bool) (count : ℕ) (begin : Option ℕ) (flags : ℕ) → IsNumber count → IsStart begin → IsNumber flags
-    → batch_read_places remove (decimal count ∷ start_token begin ∷ unless_zero flags (decimal flags ∷ [])) ≡ Ok (BatchRead remove count begin flags)
-unfolding batch_read_places
-batch_read_read remove count begin flags count_is begin_is flags_is =
-    then _ _ (count, start_token begin ∷ unless_zero flags (decimal flags ∷ [])) _ (number_at count _ count_is)
-    (then _ _ (begin, unless_zero flags (decimal flags ∷ [])) _ (start_at begin _ begin_is)
-    (then _ _ (flags, []) _ (number_or_end_at flags flags_is) refl))
-
-pairs_read : (shape : Shape) (pairs : List (List ℕ × List ℕ)) → ArePairs shape pairs → pairs_to_end shape (flat_map pair_tokens pairs) ≡ Ok pairs
-pairs_read shape [] h = refl
-pairs_read shape (pair ∷ pairs) h =
-    then _ _ pair.0 _ (bytes_in-encode_lower shape.key_size pair.0 h.0)
-    (then _ _ pair.1 _ (bytes_in-encode_lower (value_len_of shape Sys) pair.1 h.1)
-    (then _ _ pairs _ (pairs_read shape pairs h.2) refl))
-
-keys_read : (shape : Shape) (keys : List (List ℕ)) → AreKeys shape keys → keys_to_end shape (map encode_lower keys) ≡ Ok keys
-keys_read shape [] h = refl
-keys_read shape (key ∷ keys) h =
-    then _ _ key _ (bytes_in-encode_lower shape.key_size key h.0) (then _ _ keys _ (keys_read shape keys h.1) refl)
-
-batch_update_read : (shape : Shape) (flags : ℕ) (pairs : List (List ℕ × List ℕ)) → IsNumber flags → ArePairs shape pairs → batch_update_places shape (decimal flags ∷ flat_map pair_tokens pairs) ≡ Ok (BatchUpdate flags pairs)
-unfolding batch_update_places
-batch_update_read shape flags pairs flags_is pairs_are =
-    then _ _ (flags, flat_map pair_tokens pairs) _ (number_at flags _ flags_is) (then _ _ pairs _ (pairs_read shape pairs pairs_are) refl)
-
-batch_delete_read : (shape : Shape) (flags : ℕ) (keys : List (List ℕ)) → IsNumber flags → AreKeys shape keys → batch_delete_places shape (decimal flags ∷ map encode_lower keys) ≡ Ok (BatchDelete flags keys)
-unfolding batch_delete_places
-batch_delete_read shape flags keys flags_is keys_are =
-    then _ _ (flags, map encode_lower keys) _ (number_at flags _ flags_is) (then _ _ keys _ (keys_read shape keys keys_are) refl)
-
--- ---- the lines
-
-verb_read : (shape : Shape) (verb : Verb) → IsVerb shape verb → verb_line shape (verb_tokens verb) ≡ Ok verb
-unfolding verb_line
-verb_read shape (Lookup Prog key) h = lookup_read shape Prog key h
-verb_read shape (Lookup Sys key) h = lookup_read shape Sys key h
-verb_read shape (Update Prog flags key value) h = update_read shape Prog flags key value h.0 h.1 h.2
-verb_read shape (Update Sys flags key value) h = update_read shape Sys flags key value h.0 h.1 h.2
-verb_read shape (Delete key) h = delete_read shape key h
-verb_read shape (Take key) h = take_read shape key h
-verb_read shape (Next None) h = first_read shape
-verb_read shape (Next (Some key)) h = next_read shape key h
-verb_read shape (BatchRead false count begin flags) h = batch_read_read false count begin flags h.0 h.1 h.2
-verb_read shape (BatchRead true count begin flags) h = batch_read_read true count begin flags h.0 h.1 h.2
-verb_read shape (BatchUpdate flags pairs) h = batch_update_read shape flags pairs h.0 h.1
-verb_read shape (BatchDelete flags keys) h = batch_delete_read shape flags keys h.0 h.1
-
-call_read : (shape : Shape) (call : Call) → IsCall shape call → call_line shape (call_tokens call) ≡ Ok call
-unfolding call_line
-call_read shape call h =
-    then _ _ (call.cpu, verb_tokens call.verb) _ (cpu_at shape.cpus call.cpu (verb_tokens call.verb) h.on h.one_of)
-    (then _ _ call.verb _ (verb_read shape call.verb h.does) refl)
-
-pub version_read : version_line version_tokens ≡ Ok tt
-unfolding version_line
-version_read = refl
-
-pub map_read : (attr : CreateAttr) → IsAttr attr → map_line (codes "map" ∷ map_tokens attr) ≡ Ok attr
-unfolding map_line
-map_read attr h =
-    let seed = unless_zero attr.seed (label_and_number (codes "seed") attr.seed) in
-    let options = unless_zero attr.flags (label_and_number (codes "flags") attr.flags) ++ seed in
-    let without_flags : if_labelled (codes "flags") seed ≡ Ok (0, seed) = no_flags (attr.seed == 0) (decimal attr.seed ∷ []) in
-    ap (instead causes.Map)
-    (then _ _ (attr.kind, _) _ (valued_at causes.Map kind_of (kind_name attr.kind) attr.kind _ (kind_of-kind_name attr.kind))
-    (then _ _ (attr.key_size, _) _ (number_at attr.key_size _ h.key)
-    (then _ _ (attr.value_size, _) _ (number_at attr.value_size _ h.value)
-    (then _ _ (attr.max_entries, _) _ (number_at attr.max_entries _ h.max)
-    (then _ _ (attr.cpus, options) _ (number_at attr.cpus _ h.cpus)
-    (then _ _ (attr.flags, seed) _ (if_labelled_at (codes "flags") attr.flags seed refl h.flags without_flags)
-    (then _ _ (attr.seed, []) (Ok attr) (last_labelled_at (codes "seed") attr.seed refl h.seed) refl)))))))
-
--- ---- the script
-
-within_read : (shape : Shape) (count room : ℕ) (call : Call) → IsCall shape call → count < 200000 → room + reply_bytes shape call.verb ≤ 67108864 → call_within shape count room (call_tokens call) ≡ Ok call
-within_read shape count room call h few fits =
-    then _ _ call _ (call_read shape call h)
-    (cond-true (nat_lt count 200000) _ _ (lt-ltb count 200000 few)
-    ∙ cond-true (nat_le (room + reply_bytes shape call.verb) 67108864) (Ok call) (Err causes.Room) (le-leb (room + reply_bytes shape call.verb) 67108864 fits))
-
-calls_read : (shape : Shape) (at count room : ℕ) (calls : List Call) → AreCalls shape count room calls → calls_of shape count room (saying_from at (map call_tokens calls)) ≡ Ok calls
-calls_read shape at count room [] h = refl
-calls_read shape at count room (call ∷ calls) h =
-    then _ _ call _ (ap (or_fault at) (within_read shape count room call h.0 h.1 h.2))
-    (then _ _ calls _ (calls_read shape (at + 1) (count + 1) (room + reply_bytes shape call.verb) calls h.3) refl)
-
-body_read : (script : Script) (end at : ℕ) → IsCallScript script → body_of forms.Calls script.attr script.shape end (saying_from at (map call_tokens script.calls)) ≡ Ok (script_of script.attr script.shape script.calls None)
+body_read : (script : Script) (end at : ℕ) → IsCallScript script
+    → body_of forms.Calls script.version script.attr script.shape end (saying_from at (phased_lines 0 script.cuts script.calls)) ≡ Ok (script_of script.version script.attr script.shape script.calls script.cuts None)
 unfolding body_of
-body_read script end at h = then _ _ script.calls _ (calls_read script.shape at 0 0 script.calls h.calls) refl
+body_read script end at h =
+    then _ _ (body_with script.calls script.cuts) _ (lines_read script.version script.shape at script.cuts script.calls h.calls h.phases) refl
 
-map_of_read : (script : Script) (end at : ℕ) → IsCallScript script → map_of forms.Calls end (saying_from at ((codes "map" ∷ map_tokens script.attr) ∷ map call_tokens script.calls)) ≡ Ok (script_of script.attr script.shape script.calls None)
+map_of_read : (script : Script) (end at : ℕ) → IsCallScript script
+    → map_of forms.Calls script.version end (saying_from at ((codes "map" ∷ map_tokens script.attr) ∷ phased_lines 0 script.cuts script.calls)) ≡ Ok (script_of script.version script.attr script.shape script.calls script.cuts None)
 unfolding map_of
 map_of_read script end at h =
     then _ _ script.attr _ (ap (or_fault at) (map_read script.attr h.numbers))
     (then _ _ script.shape _ (ap or_create h.created) (body_read script end (at + 1) h))
 
-version_of_read : (script : Script) (end at : ℕ) → IsCallScript script → version_of forms.Calls end (saying_from at (script_lines script)) ≡ Ok (script_of script.attr script.shape script.calls None)
+version_of_read : (script : Script) (end at : ℕ) → IsCallScript script → version_of forms.Calls end (saying_from at (script_lines script)) ≡ Ok (script_of script.version script.attr script.shape script.calls script.cuts None)
 unfolding version_of
 version_of_read script end at h =
-    then _ _ tt _ (ap (or_fault at) version_read) (map_of_read script end (at + 1) h)
+    then _ _ script.version _ (ap (or_fault at) (version_read forms.Calls script.version (known_version script.version (length script.calls) script.cuts h.phases))) (map_of_read script end (at + 1) h)
 
 -- a script of calls is what form Calls reads from its canonical text
 pub call_script_read : (script : Script) → IsCallScript script → read_as forms.Calls (canonical script) ≡ Ok script
@@ -220,7 +42,7 @@ call_script_read script h =
     let end = end_number (canonical script) in
     let lines : lines_of (canonical script) ≡ saying_from 1 (script_lines script) = ap lines_of (canonical-lines script h.no_spec) ∙ lines_of-text_of_lines (script_lines script) (script_are_lines script h) in
     ap (version_of forms.Calls end) lines ∙ version_of_read script end 1 h
-    ∙ ap (λ spec. Ok (script_of script.attr script.shape script.calls spec)) (sym h.no_spec)
+    ∙ ap (λ spec. Ok (script_of script.version script.attr script.shape script.calls script.cuts spec)) (sym h.no_spec)
 
 -- and so is one that form Calls gives
 pub read_as-canonical : (script : Script) → IsReadAs forms.Calls script → read_as forms.Calls (canonical script) ≡ Ok script

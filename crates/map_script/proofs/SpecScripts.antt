@@ -1,5 +1,5 @@
 -- What a script that form Generator gives is like: its numbers, and the ranges of its spec.
-use Rattle.std.proofs.Common.{◌≡◌, ℕ, true, List, [], ◌∷◌, Some, Result, Ok, Err, refl, subst}
+use Rattle.std.proofs.Common.{◌≡◌, ℕ, true, List, [], ◌∷◌, Some, Result, Ok, Err, inl, refl, sym, subst, arith}
 use Rattle.std.specs.Prelude.{IfOk, codes}
 use Rattle.std.proofs.lemmas.Bool.{cond_both}
 use Rattle.map_types.specs.Creation.{creation}
@@ -14,8 +14,10 @@ use Rattle.map_script.specs.Grammar.{version_line, map_line, is_spec, gen_spec, 
 use Rattle.map_script.specs.Lines.{Line, lines_of, end_number}
 use Rattle.map_script.specs.Places.{Tokens, at_end, word, labelled}
 use Rattle.map_script.specs.Reading.{at_line, or_create, spec_of, body_of, map_of, version_of, read_as, script_of}
+use Rattle.map_script.specs.WellFormed.{HasPhases}
 use Rattle.map_script.proofs.TokenValues.{IsNumber}
-use Rattle.map_script.proofs.CallScripts.{IsAttr, Found, and_then, and_any, labelled_gives, end_gives, instead_gives, map_gives, at_line_gives, create_gives}
+use Rattle.map_script.proofs.CallScripts.{IsAttr, labelled_gives, map_gives}
+use Rattle.map_script.proofs.Gives.{and_then, and_any, Found, end_gives, instead_gives, at_line_gives, create_gives, IsVersion, version_gives}
 
 -- what is known of a spec that is read
 pub record IsSpec (shape : Shape) (spec : GenSpec) : Type 0 where
@@ -28,6 +30,8 @@ pub record IsSpec (shape : Shape) (spec : GenSpec) : Type 0 where
 pub record IsSpecScript (script : Script) : Type 0 where
   pub numbers : IsAttr script.attr
   pub created : creation script.attr ≡ Ok script.shape
+  pub first : script.version ≡ 1
+  pub no_cuts : script.cuts ≡ []
   pub no_calls : script.calls ≡ []
   pub spec : GenSpec
   pub has_spec : script.spec ≡ Some spec
@@ -60,25 +64,32 @@ spec_of_gives shape end (line ∷ next ∷ lines) =
 
 -- ---- the script
 
-body_gives : (attr : CreateAttr) (shape : Shape) (end : ℕ) (lines : List Line) → IsAttr attr → creation attr ≡ Ok shape → IfOk (body_of forms.Generator attr shape end lines) IsSpecScript
+body_gives : (version : ℕ) (attr : CreateAttr) (shape : Shape) (end : ℕ) (lines : List Line) → version ≡ 1 → IsAttr attr → creation attr ≡ Ok shape → IfOk (body_of forms.Generator version attr shape end lines) IsSpecScript
 unfolding body_of
-body_gives attr shape end lines numbers created =
-    and_then (IsSpec shape) IsSpecScript (spec_of shape end lines) (λ spec. Ok (script_of attr shape [] (Some spec))) (spec_of_gives shape end lines) (λ spec spec_is.
-    record { numbers = numbers; created = created; no_calls = refl; spec = spec; has_spec = refl; is_spec = spec_is })
+body_gives version attr shape end lines first numbers created =
+    and_then (IsSpec shape) IsSpecScript (spec_of shape end lines) (λ spec. Ok (script_of version attr shape [] [] (Some spec))) (spec_of_gives shape end lines) (λ spec spec_is.
+    record { numbers = numbers; created = created; first = first; no_cuts = refl; no_calls = refl; spec = spec; has_spec = refl; is_spec = spec_is })
 
-map_of_gives : (end : ℕ) (lines : List Line) → IfOk (map_of forms.Generator end lines) IsSpecScript
+map_of_gives : (version end : ℕ) (lines : List Line) → version ≡ 1 → IfOk (map_of forms.Generator version end lines) IsSpecScript
 unfolding map_of
-map_of_gives end [] = tt
-map_of_gives end (line ∷ lines) =
+map_of_gives version end [] first = tt
+map_of_gives version end (line ∷ lines) first =
     and_then IsAttr IsSpecScript (at_line line map_line) _ (at_line_gives IsAttr line map_line map_gives) (λ attr numbers.
     and_then (λ shape. creation attr ≡ Ok shape) IsSpecScript (or_create (creation attr)) _ (create_gives (creation attr)) (λ shape created.
-    body_gives attr shape end lines numbers created))
+    body_gives version attr shape end lines first numbers created))
 
 version_of_gives : (end : ℕ) (lines : List Line) → IfOk (version_of forms.Generator end lines) IsSpecScript
 unfolding version_of
 version_of_gives end [] = tt
 version_of_gives end (line ∷ lines) =
-    and_any IsSpecScript (at_line line version_line) _ (λ version. map_of_gives end lines)
+    let read = version_line forms.Generator in
+    and_then (IsVersion forms.Generator) IsSpecScript (at_line line read) _ (at_line_gives (IsVersion forms.Generator) line read (version_gives forms.Generator)) (λ version first.
+    map_of_gives version end lines first)
+
+-- such a script is one phase, whatever calls it has
+pub one_phase : (script : Script) (count : ℕ) → IsSpecScript script → HasPhases script.version count script.cuts
+one_phase script count h =
+    subst (HasPhases script.version count) (sym h.no_cuts) record { known = inl (h.first, refl); few = omega arith; rise = tt }
 
 -- what is known of each script that form Generator gives
 pub spec_script_gives : (given : List ℕ) (script : Script) → read_as forms.Generator given ≡ Ok script → IsSpecScript script

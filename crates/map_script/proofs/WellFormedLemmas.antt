@@ -1,93 +1,120 @@
 -- What is read is well formed.
-use Rattle.std.proofs.Common.{◌≡◌, ℕ, ◌+◌, ◌≤◌, List, [], ◌∷◌, length, Option, Some, None, Result, Ok, Err, IfOk, All, refl, sym, subst, ◌∙◌, arith}
-use Rattle.std.proofs.lemmas.List.Elements.{All-nil, All-cons}
-use Rattle.std.proofs.lemmas.List.Sums.{sum_by-cons}
+use Rattle.std.proofs.Common.{◌≡◌, ℕ, ◌≤◌, List, [], ◌∷◌, ◌++◌, length, Option, Some, None, Result, Ok, Err, IfOk, All, ◌⊎◌, inl, inr, refl, sym, subst, ◌∙◌, length-append, arith}
+use Rattle.std.proofs.lemmas.List.Elements.{All-nil, All-cons, All-append}
 use Rattle.map_types.specs.Creation.{creation}
 use Rattle.map_types.specs.declared.attr.CreateAttr.{CreateAttr}
 use Rattle.map_types.specs.declared.attr.Shape.{Shape}
-use Rattle.map_types.specs.declared.call.Call.{Call}
 use Rattle.map_types.specs.declared.refusal.CreateRefusal.{CreateRefusal}
-use Rattle.map_script.specs.declared.refusal.Cause.{Cause}
+use Rattle.map_script.specs.declared.body.Body.{Body}
+use Rattle.map_script.specs.declared.body.BodyLine.{BodyLine}
+use Rattle.map_script.specs.declared.body.BodyLine.TheVariants as says
 use Rattle.map_script.specs.declared.refusal.ScriptRefusal.{ScriptRefusal}
 use Rattle.map_script.specs.declared.refusal.ScriptRefusal.TheVariants.{Fault, Create, NoMemory}
 use Rattle.map_script.specs.declared.script.Form.{Form}
 use Rattle.map_script.specs.declared.script.Form.TheVariants as forms
 use Rattle.map_script.specs.declared.script.GenSpec.{GenSpec}
 use Rattle.map_script.specs.declared.script.Script.{Script}
-use Rattle.map_script.specs.Grammar.{reply_bytes, version_line, map_line}
+use Rattle.map_script.specs.Grammar.{reply_room, version_line, map_line}
 use Rattle.map_script.specs.Lines.{Line, lines_of, end_number}
-use Rattle.map_script.specs.Places.{◌>>=◌}
-use Rattle.map_script.specs.Reading.{or_fault, of_line, at_line, or_create, call_within, calls_of, spec_of, script_of, body_of, map_of, version_of, read_as, IsReading}
-use Rattle.map_script.specs.WellFormed.{IsCallOn, reply_room, IsWellFormed}
-use Rattle.map_script.proofs.CallLines.{line_within}
+use Rattle.map_script.specs.Places.{◌>>=◌, Tokens}
+use Rattle.map_script.specs.Reading.{at_line, or_create, no_body, with_next, body_from, spec_of, script_of, body_of, map_of, version_of, read_as, IsReading}
+use Rattle.map_script.specs.WellFormed.{IsCallOn, AreCuts, HasPhases, IsWellFormed}
+use Rattle.map_script.proofs.BodyLines.{Tells, few_more, room_more, lines_hold}
 use Rattle.map_script.proofs.CallSizes.{call_has}
+use Rattle.map_script.proofs.Gives.{at_line_gives, IsVersion, version_gives}
 use Rattle.map_script.proofs.PlaceLemmas.{step_found, same_ok}
 
-pub at_found : {A : Type 0} (number : ℕ) (read : Result A Cause) (x : A) → or_fault number read ≡ Ok x → read ≡ Ok x
-at_found number (Ok found) x is = cc
-at_found number (Err cause) x is = absurd cc
+-- ---- cuts
 
--- calls behind so many, whose replies may have so many bytes
-record AreWithin (shape : Shape) (count room : ℕ) (calls : List Call) : Type 0 where
-  each : All (IsCallOn shape) calls
-  counted : count + length calls ≤ 200000
-  replied : room + reply_room shape calls ≤ 67108864
+-- where more calls stand behind them
+cuts_stay : (least count more : ℕ) (cuts : List ℕ) → count ≤ more → AreCuts least count cuts → AreCuts least more cuts
+cuts_stay least count more [] le h = tt
+cuts_stay least count more (cut ∷ cuts) le h = (h.0, omega (arith, h.1), cuts_stay cut count more cuts le h.2)
 
-calls_have : (shape : Shape) (count room : ℕ) (lines : List Line) (calls : List Call) → count ≤ 200000 → room ≤ 67108864 → calls_of shape count room lines ≡ Ok calls → AreWithin shape count room calls
-calls_have shape count room [] calls few within read =
-    let none : AreWithin shape count room [] = record { each = All-nil (IsCallOn shape); counted = omega arith; replied = omega arith } in
-    subst (AreWithin shape count room) (same_ok (calls_of shape count room []) [] calls refl read) none
-calls_have shape count room (line ∷ lines) calls few within read =
-    let first = step_found (at_line line (call_within shape count room)) (λ call. calls_of shape (count + 1) (room + reply_bytes shape call.verb) lines >>= λ calls. Ok (call ∷ calls)) calls read in
-    let call = first.0 in
-    let here = line_within shape count room line call (at_found line.number (of_line line (call_within shape count room)) call first.1) in
-    let others = step_found (calls_of shape (count + 1) (room + reply_bytes shape call.verb) lines) (λ calls. Ok (call ∷ calls)) calls first.2 in
-    let rest = calls_have shape (count + 1) (room + reply_bytes shape call.verb) lines others.0 here.1.counted here.1.replied others.1 in
-    let more = sum_by-cons (λ (call : Call). reply_bytes shape call.verb) call others.0 in
-    let all : AreWithin shape count room (call ∷ others.0) = record {
-      each = All-cons (IsCallOn shape) call others.0 (call_has shape here.0 call here.1.read) rest.each;
-      counted = omega (arith, rest.counted);
-      replied = omega (arith, rest.replied, more);
-    } in
-    subst (AreWithin shape count room) (same_ok (calls_of shape count room (line ∷ lines)) (call ∷ others.0) calls (read ∙ sym others.2) read) all
+-- one more, behind all calls
+cut_more : (least count : ℕ) (cuts : List ℕ) → least ≤ count → AreCuts least count cuts → AreCuts least count (cuts ++ count ∷ [])
+cut_more least count [] le h = (le, omega arith, tt)
+cut_more least count (cut ∷ cuts) le h = (h.0, h.1, cut_more cut count cuts h.1 h.2)
+
+-- ---- what is read behind the map line
+
+record IsWithin (version : ℕ) (shape : Shape) (body : Body) : Type 0 where
+  each : All (IsCallOn shape) body.calls
+  few : length body.calls ≤ 200000
+  replied : reply_room shape body.calls ≤ 67108864
+  phases : HasPhases version (length body.calls) body.cuts
+
+no_cuts : (form : Form) (version : ℕ) → IsVersion form version → ((version ≡ 1) × (no_body.cuts ≡ [])) ⊎ (version ≡ 2)
+no_cuts forms.Calls version (inl first) = inl (first, refl)
+no_cuts forms.Calls version (inr second) = inr second
+no_cuts forms.Generator version first = inl (first, refl)
+
+-- nothing yet
+none_within : (form : Form) (version : ℕ) (shape : Shape) → IsVersion form version → IsWithin version shape no_body
+none_within form version shape is =
+    record { each = All-nil (IsCallOn shape); few = omega arith; replied = omega arith; phases = record { known = no_cuts form version is; few = omega arith; rise = tt } }
+
+-- a line more
+more_within : (version : ℕ) (shape : Shape) (body : Body) (tokens : Tokens) (next : BodyLine) → IsWithin version shape body → Tells version shape body tokens next → IsWithin version shape (with_next body next)
+more_within version shape body tokens (says.Call call) h told =
+    let long = length-append body.calls (call ∷ []) in
+    record {
+      each = All-append (IsCallOn shape) body.calls (call ∷ []) h.each (All-cons (IsCallOn shape) call [] (call_has shape tokens call told.read) (All-nil (IsCallOn shape)));
+      few = few_more version shape body tokens (says.Call call) told h.few;
+      replied = room_more version shape body tokens (says.Call call) told h.replied;
+      phases = record { known = h.phases.known; few = h.phases.few; rise = cuts_stay 0 (length body.calls) (length (body.calls ++ call ∷ [])) body.cuts (omega (arith, long)) h.phases.rise };
+    }
+more_within version shape body tokens says.Phase h told =
+    let count = length body.calls in
+    record {
+      each = h.each;
+      few = h.few;
+      replied = h.replied;
+      phases = record { known = inr told.0; few = omega (arith, told.1, length-append body.cuts (count ∷ [])); rise = cut_more 0 count body.cuts (omega arith) h.phases.rise };
+    }
+
+-- ---- the script
 
 created : (answer : Result Shape CreateRefusal) (shape : Shape) → or_create answer ≡ Ok shape → answer ≡ Ok shape
 created (Ok found) shape is = cc
 created (Err refusal) shape is = absurd cc
 
-whole : (attr : CreateAttr) (shape : Shape) (calls : List Call) (spec : Option GenSpec) → creation attr ≡ Ok shape → AreWithin shape 0 0 calls → IsWellFormed (script_of attr shape calls spec)
-whole attr shape calls spec accepted within = record {
+whole : (version : ℕ) (attr : CreateAttr) (shape : Shape) (body : Body) (spec : Option GenSpec) → creation attr ≡ Ok shape → IsWithin version shape body → IsWellFormed (script_of version attr shape body.calls body.cuts spec)
+whole version attr shape body spec accepted within = record {
   created = accepted;
   shape = record { attr = attr; accepted = accepted };
   calls = within.each;
-  few = omega (arith, within.counted);
-  room = omega (arith, within.replied);
+  few = within.few;
+  room = within.replied;
+  phases = within.phases;
 }
 
-body_has : (form : Form) (attr : CreateAttr) (shape : Shape) (end : ℕ) (lines : List Line) (script : Script) → creation attr ≡ Ok shape → body_of form attr shape end lines ≡ Ok script → IsWellFormed script
+body_has : (form : Form) (version : ℕ) (attr : CreateAttr) (shape : Shape) (end : ℕ) (lines : List Line) (script : Script) → IsVersion form version → creation attr ≡ Ok shape → body_of form version attr shape end lines ≡ Ok script → IsWellFormed script
 unfolding body_of
-body_has forms.Calls attr shape end lines script accepted read =
-    let calls = step_found (calls_of shape 0 0 lines) (λ calls. Ok (script_of attr shape calls None)) script read in
-    let within = calls_have shape 0 0 lines calls.0 (omega arith) (omega arith) calls.1 in
-    subst IsWellFormed (same_ok (body_of forms.Calls attr shape end lines) (script_of attr shape calls.0 None) script (read ∙ sym calls.2) read) (whole attr shape calls.0 None accepted within)
-body_has forms.Generator attr shape end lines script accepted read =
-    let spec = step_found (spec_of shape end lines) (λ spec. Ok (script_of attr shape [] (Some spec))) script read in
-    let none : AreWithin shape 0 0 [] = record { each = All-nil (IsCallOn shape); counted = omega arith; replied = omega arith } in
-    subst IsWellFormed (same_ok (body_of forms.Generator attr shape end lines) (script_of attr shape [] (Some spec.0)) script (read ∙ sym spec.2) read) (whole attr shape [] (Some spec.0) accepted none)
+body_has forms.Calls version attr shape end lines script is accepted read =
+    let body = step_found (body_from version shape no_body lines) (λ body. Ok (script_of version attr shape body.calls body.cuts None)) script read in
+    let within = lines_hold version shape (λ (body : Body) (lines : List Line). IsWithin version shape body) (λ body line lines tokens next h said told. more_within version shape body tokens next h told) no_body lines body.0 (none_within forms.Calls version shape is) body.1 in
+    subst IsWellFormed (same_ok (body_of forms.Calls version attr shape end lines) (script_of version attr shape body.0.calls body.0.cuts None) script (read ∙ sym body.2) read) (whole version attr shape body.0 None accepted within)
+body_has forms.Generator version attr shape end lines script is accepted read =
+    let spec = step_found (spec_of shape end lines) (λ spec. Ok (script_of version attr shape [] [] (Some spec))) script read in
+    subst IsWellFormed (same_ok (body_of forms.Generator version attr shape end lines) (script_of version attr shape [] [] (Some spec.0)) script (read ∙ sym spec.2) read) (whole version attr shape no_body (Some spec.0) accepted (none_within forms.Generator version shape is))
 
-map_has : (form : Form) (end : ℕ) (lines : List Line) (script : Script) → map_of form end lines ≡ Ok script → IsWellFormed script
+map_has : (form : Form) (version end : ℕ) (lines : List Line) (script : Script) → IsVersion form version → map_of form version end lines ≡ Ok script → IsWellFormed script
 unfolding map_of
-map_has form end [] script read = absurd cc
-map_has form end (line ∷ lines) script read =
-    let attr = step_found (at_line line map_line) (λ attr. or_create (creation attr) >>= λ shape. body_of form attr shape end lines) script read in
-    let shape = step_found (or_create (creation attr.0)) (λ shape. body_of form attr.0 shape end lines) script attr.2 in
-    body_has form attr.0 shape.0 end lines script (created (creation attr.0) shape.0 shape.1) shape.2
+map_has form version end [] script is read = absurd cc
+map_has form version end (line ∷ lines) script is read =
+    let attr = step_found (at_line line map_line) (λ attr. or_create (creation attr) >>= λ shape. body_of form version attr shape end lines) script read in
+    let shape = step_found (or_create (creation attr.0)) (λ shape. body_of form version attr.0 shape end lines) script attr.2 in
+    body_has form version attr.0 shape.0 end lines script is (created (creation attr.0) shape.0 shape.1) shape.2
 
 version_has : (form : Form) (end : ℕ) (lines : List Line) (script : Script) → version_of form end lines ≡ Ok script → IsWellFormed script
 unfolding version_of
 version_has form end [] script read = absurd cc
 version_has form end (line ∷ lines) script read =
-    map_has form end lines script (step_found (at_line line version_line) (λ version. map_of form end lines) script read).2
+    let version = step_found (at_line line (version_line form)) (λ version. map_of form version end lines) script read in
+    let P : Result ℕ ScriptRefusal → Type 0 = λ r. IfOk r (IsVersion form) in
+    let is = subst P version.1 (at_line_gives (IsVersion form) line (version_line form) (version_gives form)) in
+    map_has form version.0 end lines script is version.2
 
 -- each script that is read is well formed
 pub IsWellFormed-read_as : (form : Form) (text : List ℕ) (script : Script) → read_as form text ≡ Ok script → IsWellFormed script

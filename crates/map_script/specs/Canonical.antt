@@ -1,7 +1,7 @@
 -- The canonical text of a script: one space between tokens, no comments, numbers without leading zeros, lower case
 -- digits, the flags 0, 1 and 2 of an update by name, and only where they aren't 0 the flags and the seed of the map and
 -- the flags of a batch read.
-use Rattle.std.specs.Prelude.{ℕ, ◌==◌, Bool, true, false, List, [], ◌∷◌, ◌++◌, map, Option, Some, None, if◌then◌else◌, codes, decimal}
+use Rattle.std.specs.Prelude.{ℕ, ◌-◌, ◌==◌, Bool, true, false, List, [], ◌∷◌, ◌++◌, map, take, drop, Option, Some, None, if◌then◌else◌, codes, decimal}
 use Rattle.std.specs.List.{flat_map}
 use Rattle.hex.specs.Hex.{encode_lower}
 use Rattle.map_types.specs.declared.attr.CreateAttr.{CreateAttr}
@@ -110,14 +110,22 @@ spec_tokens spec =
     ++ label_and_number (codes "keys") spec.keys
     ++ label_and_number (codes "mix") spec.mix
 
+-- the lines of calls, behind so many others, and a `phase` line where each cut is
+abbrev pub phased_text : ℕ → List ℕ → List Call → List ℕ
+phased_text before [] calls = flat_map call_text calls
+phased_text before (cut ∷ cuts) calls =
+    flat_map call_text (take (cut - before) calls)
+    ++ line_text (codes "phase") []
+    ++ phased_text cut cuts (drop (cut - before) calls)
+
 -- what stands behind the map line: a script that has a spec has no call lines
-abbrev pub body_text : Option GenSpec → List Call → List ℕ
-body_text None calls = flat_map call_text calls
-body_text (Some spec) calls = line_text (codes "gen") (spec_tokens spec)
+abbrev pub body_text : Option GenSpec → List ℕ → List Call → List ℕ
+body_text None cuts calls = phased_text 0 cuts calls
+body_text (Some spec) cuts calls = line_text (codes "gen") (spec_tokens spec)
 
 -- the version line, the map line, and what stands behind it
 unfoldable pub canonical : Script → List ℕ
 canonical script =
-    line_text (codes "bpfmap") (codes "1" ∷ [])
+    line_text (codes "bpfmap") (decimal script.version ∷ [])
     ++ line_text (codes "map") (map_tokens script.attr)
-    ++ body_text script.spec script.calls
+    ++ body_text script.spec script.cuts script.calls

@@ -1,5 +1,5 @@
 -- What each line of a script says.
-use Rattle.std.specs.Prelude.{ℕ, ◌+◌, ◌*◌, ◌^◌, ◌&&◌, nat_lt, nat_le, Bool, true, false, List, [], ◌∷◌, min, Option, Some, None, Result, Ok, Err, if◌then◌else◌, codes, bytes_eq}
+use Rattle.std.specs.Prelude.{ℕ, ◌+◌, ◌*◌, ◌^◌, ◌==◌, ◌&&◌, nat_lt, nat_le, Bool, true, false, List, [], ◌∷◌, min, sum_by, Option, Some, None, Result, Ok, Err, if◌then◌else◌, codes, bytes_eq}
 use Rattle.map_types.specs.ValueLen.{value_len_of}
 use Rattle.map_types.specs.declared.attr.CreateAttr.{CreateAttr}
 use Rattle.map_types.specs.declared.attr.Shape.{Shape}
@@ -13,18 +13,28 @@ use Rattle.map_types.specs.declared.kind.Side.TheVariants.{Prog, Sys}
 use Rattle.map_script.specs.declared.refusal.Cause.{Cause}
 use Rattle.map_script.specs.declared.refusal.Cause.TheVariants.{Version, Map, Gen, Missing}
 use Rattle.map_script.specs.declared.refusal.Cause.TheVariants as causes
+use Rattle.map_script.specs.declared.script.Form.{Form}
+use Rattle.map_script.specs.declared.script.Form.TheVariants as forms
 use Rattle.map_script.specs.declared.script.GenSpec.{GenSpec}
-use Rattle.map_script.specs.Places.{◌>>=◌, Tokens, at_end, valued, number, cpu, start, flag, bytes_in, bytes, word, labelled, if_labelled, number_or_end, instead}
+use Rattle.map_script.specs.Places.{◌>>=◌, Tokens, token, at_end, valued, number, cpu, start, flag, bytes_in, bytes, word, is_next, labelled, if_labelled, number_or_end, instead}
 
--- `bpfmap 1`
-abbrev pub version_places : Tokens → Result (Unit {0}) Cause
-version_places tokens = do
+-- the version that a word names: 1, and in form Calls 2 as well
+abbrev pub version_named : Form → List ℕ → Option ℕ
+version_named forms.Calls name =
+    if bytes_eq name (codes "1") then Some 1
+    else if bytes_eq name (codes "2") then Some 2
+    else None
+version_named forms.Generator name = if bytes_eq name (codes "1") then Some 1 else None
+
+-- `bpfmap 1`, and in form Calls `bpfmap 2` as well
+abbrev pub version_places : Form → Tokens → Result ℕ Cause
+version_places form tokens = do
   name ← word Version (codes "bpfmap") tokens
-  version ← word Version (codes "1") name.1
-  at_end tt version.1
+  version ← valued Version (version_named form) name.1
+  at_end version.0 version.1
 
-unfoldable pub version_line : Tokens → Result (Unit {0}) Cause
-version_line tokens = instead Version (version_places tokens)
+unfoldable pub version_line : Form → Tokens → Result ℕ Cause
+version_line form tokens = instead Version (version_places form tokens)
 
 abbrev pub kind_of : List ℕ → Option MapKind
 kind_of name =
@@ -180,6 +190,16 @@ call_line shape tokens = do
   verb ← verb_line shape on.1
   Ok (call_on on.0 verb)
 
+-- in version 2 a line whose first token is `phase` starts the next phase
+abbrev pub starts_phase : ℕ → Tokens → Bool
+starts_phase version tokens = version == 2 && is_next (codes "phase") tokens
+
+-- `phase`
+unfoldable pub phase_line : Tokens → Result (Unit {0}) Cause
+phase_line tokens = do
+  name ← token tokens
+  at_end tt name.1
+
 -- the most bytes that a call's reply may have, whatever its flags and its start
 abbrev pub reply_bytes : Shape → Verb → ℕ
 reply_bytes shape (verbs.Lookup side key) = value_len_of shape side
@@ -190,3 +210,7 @@ reply_bytes shape (verbs.Update side flags key value) = 0
 reply_bytes shape (verbs.Delete key) = 0
 reply_bytes shape (verbs.BatchUpdate flags pairs) = 0
 reply_bytes shape (verbs.BatchDelete flags keys) = 0
+
+-- the most bytes that the replies to some calls may have
+abbrev pub reply_room : Shape → List Call → ℕ
+reply_room shape calls = sum_by (λ call. reply_bytes shape call.verb) calls

@@ -1,14 +1,12 @@
 -- Lines in the form in which most are written: tokens with one space between each two, and a line feed.
 use Rattle.std.specs.Prelude.{◌≡◌, ℕ, ◌==◌, ◌&&◌, ◌<◌, not, nat_le, true, Bool, List, [], ◌∷◌, ◌++◌, length, Option, Some, None, Result, Ok, Err}
 use Rattle.std.specs.List.{list_all}
-use Rattle.map_types.specs.declared.attr.Shape.{Shape}
-use Rattle.map_types.specs.declared.call.Call.{Call}
 use Rattle.map_script.specs.declared.refusal.Cause.{Cause}
 use Rattle.map_script.specs.declared.refusal.ScriptRefusal.{ScriptRefusal}
 use Rattle.map_script.specs.Canonical.{spaced}
 use Rattle.map_script.specs.Lines.{Line}
-use Rattle.map_script.specs.Places.{Tokens, bytes_in}
-use Rattle.map_script.specs.Reading.{of_line, call_within, calls_of, IsReading}
+use Rattle.map_script.specs.Places.{◌>>=◌, Tokens, bytes_in}
+use Rattle.map_script.specs.Reading.{of_line, at_line, IsReading}
 use Rattle.map_script.specs.Tokens.{number_of}
 
 -- a byte that may stand in a token: visible, and no `#`
@@ -49,14 +47,19 @@ pub record BeginsWithBytes (size : ℕ) (text found rest : List ℕ) : Type 0 wh
   pub is : is_token token ≡ true
   pub reads : bytes_in size token ≡ Ok found
 
--- the first of some lines is a call within the limits, behind so many calls whose replies may have so many bytes
-pub record FirstIsCall (shape : Shape) (count room : ℕ) (lines : List Line) (call : Call) (rest : List Line) : Type 0 where
+-- the first of some lines is read as this, and the rest stands behind it
+pub record FirstIs {A : Type 0} (read : Tokens → Result A Cause) (lines : List Line) (found : A) (rest : List Line) : Type 0 where
   pub line : Line
   pub first : lines ≡ line ∷ rest
-  pub reads : of_line line (call_within shape count room) ≡ Ok call
+  pub reads : of_line line read ≡ Ok found
 
--- the next call of some lines, or that there is none, or the refusal that the lines are read as
-abbrev pub IsNextCall : Shape → ℕ → ℕ → List Line → List Line → Result (Option Call) ScriptRefusal → Type 0
-IsNextCall shape count room lines rest (Ok (Some call)) = FirstIsCall shape count room lines call rest
-IsNextCall shape count room lines rest (Ok None) = lines ≡ []
-IsNextCall shape count room lines rest (Err refusal) = IsReading (Err refusal) (calls_of shape count room lines)
+-- what the first of some lines is read as, where there is one
+abbrev pub first_read : {A : Type 0} → (Tokens → Result A Cause) → List Line → Result (Option A) ScriptRefusal
+first_read read [] = Ok None
+first_read read (line ∷ lines) = at_line line read >>= λ found. Ok (Some found)
+
+-- what the first of some lines is read as, or that there is none, or the refusal as which it is read
+abbrev pub IsNext : {A : Type 0} → (Tokens → Result A Cause) → List Line → List Line → Result (Option A) ScriptRefusal → Type 0
+IsNext read lines rest (Ok (Some found)) = FirstIs read lines found rest
+IsNext read lines rest (Ok None) = lines ≡ []
+IsNext read lines rest (Err refusal) = IsReading (Err refusal) (first_read read lines)

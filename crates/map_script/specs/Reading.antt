@@ -1,19 +1,22 @@
 -- What a text is read as: a script, or the first fault, or a map that can't be created.
-use Rattle.std.specs.Prelude.{◌≡◌, ℕ, ◌+◌, nat_lt, nat_le, List, [], ◌∷◌, Option, Some, None, Result, Ok, Err, if◌then◌else◌}
+use Rattle.std.specs.Prelude.{◌≡◌, ℕ, ◌+◌, nat_lt, nat_le, List, [], ◌∷◌, ◌++◌, length, Option, Some, None, Result, Ok, Err, if◌then◌else◌}
 use Rattle.map_types.specs.Creation.{creation}
 use Rattle.map_types.specs.declared.attr.CreateAttr.{CreateAttr}
 use Rattle.map_types.specs.declared.attr.Shape.{Shape}
 use Rattle.map_types.specs.declared.call.Call.{Call}
 use Rattle.map_types.specs.declared.refusal.CreateRefusal.{CreateRefusal}
+use Rattle.map_script.specs.declared.body.Body.{Body}
+use Rattle.map_script.specs.declared.body.BodyLine.{BodyLine}
+use Rattle.map_script.specs.declared.body.BodyLine.TheVariants as says
 use Rattle.map_script.specs.declared.refusal.Cause.{Cause}
-use Rattle.map_script.specs.declared.refusal.Cause.TheVariants.{Version, Map, Gen, Calls, Room}
+use Rattle.map_script.specs.declared.refusal.Cause.TheVariants.{Version, Map, Gen, Calls, Room, Phases}
 use Rattle.map_script.specs.declared.refusal.ScriptRefusal.{ScriptRefusal}
 use Rattle.map_script.specs.declared.refusal.ScriptRefusal.TheVariants.{Fault, Create, NoMemory}
 use Rattle.map_script.specs.declared.script.Form.{Form}
 use Rattle.map_script.specs.declared.script.Form.TheVariants as forms
 use Rattle.map_script.specs.declared.script.GenSpec.{GenSpec}
 use Rattle.map_script.specs.declared.script.Script.{Script}
-use Rattle.map_script.specs.Grammar.{version_line, map_line, gen_line, call_line, reply_bytes}
+use Rattle.map_script.specs.Grammar.{version_line, map_line, gen_line, call_line, starts_phase, phase_line, reply_bytes, reply_room}
 use Rattle.map_script.specs.Lines.{Line, lines_of, end_number}
 use Rattle.map_script.specs.Places.{◌>>=◌, Tokens}
 
@@ -42,13 +45,43 @@ call_within shape count room tokens = do
       then (if nat_le (room + reply_bytes shape call.verb) 67108864 then Ok call else Err Room)
       else Err Calls
 
--- the calls of lines, behind so many calls whose replies may have so many bytes
-abbrev pub calls_of : Shape → ℕ → ℕ → List Line → Result (List Call) ScriptRefusal
-calls_of shape count room [] = Ok []
-calls_of shape count room (line ∷ lines) = do
-  call ← at_line line (call_within shape count room)
-  calls ← calls_of shape (count + 1) (room + reply_bytes shape call.verb) lines
-  Ok (call ∷ calls)
+-- a `phase` line that is well formed, behind at most 62 others: of 64 phases the first has none
+abbrev pub phase_within : ℕ → Tokens → Result (Unit {0}) Cause
+phase_within cuts tokens = do
+  started ← phase_line tokens
+  if nat_lt cuts 63 then Ok started else Err Phases
+
+-- a line behind the map line, behind so many calls whose replies may have so many bytes, and so many `phase` lines: it starts
+-- a phase, or it is a call
+abbrev pub body_line : ℕ → Shape → ℕ → ℕ → ℕ → Tokens → Result BodyLine Cause
+body_line version shape count room cuts tokens =
+    if starts_phase version tokens
+    then (phase_within cuts tokens >>= λ started. Ok says.Phase)
+    else (call_within shape count room tokens >>= λ call. Ok (says.Call call))
+
+-- calls, and how many of them stand before each `phase` line
+abbrev pub body_with : List Call → List ℕ → Body
+body_with calls cuts = record { calls = calls; cuts = cuts }
+
+abbrev pub no_body : Body
+no_body = body_with [] []
+
+-- what a line more says: another call, or a cut behind the calls so far
+abbrev pub with_next : Body → BodyLine → Body
+with_next body (says.Call call) = body_with (body.calls ++ call ∷ []) body.cuts
+with_next body says.Phase = body_with body.calls (body.cuts ++ length body.calls ∷ [])
+
+-- a line, behind what the lines before it say
+abbrev pub line_behind : ℕ → Shape → Body → Tokens → Result BodyLine Cause
+line_behind version shape body tokens =
+    body_line version shape (length body.calls) (reply_room shape body.calls) (length body.cuts) tokens
+
+-- what lines say, behind what those before them say
+abbrev pub body_from : ℕ → Shape → Body → List Line → Result Body ScriptRefusal
+body_from version shape body [] = Ok body
+body_from version shape body (line ∷ lines) = do
+  next ← at_line line (line_behind version shape body)
+  body_from version shape (with_next body next) lines
 
 -- the one generator line, behind which no line stands
 abbrev pub spec_of : Shape → ℕ → List Line → Result GenSpec ScriptRefusal
@@ -58,32 +91,33 @@ spec_of shape end (line ∷ next ∷ lines) = do
   spec ← at_line line (gen_line shape)
   at_line next (λ tokens. Err Gen)
 
-abbrev pub script_of : CreateAttr → Shape → List Call → Option GenSpec → Script
-script_of attr shape calls spec = record { attr = attr; shape = shape; calls = calls; spec = spec }
+abbrev pub script_of : ℕ → CreateAttr → Shape → List Call → List ℕ → Option GenSpec → Script
+script_of version attr shape calls cuts spec =
+    record { version = version; attr = attr; shape = shape; calls = calls; cuts = cuts; spec = spec }
 
 -- what stands behind the map line
-unfoldable pub body_of : Form → CreateAttr → Shape → ℕ → List Line → Result Script ScriptRefusal
-body_of forms.Calls attr shape end lines = do
-  calls ← calls_of shape 0 0 lines
-  Ok (script_of attr shape calls None)
-body_of forms.Generator attr shape end lines = do
+unfoldable pub body_of : Form → ℕ → CreateAttr → Shape → ℕ → List Line → Result Script ScriptRefusal
+body_of forms.Calls version attr shape end lines = do
+  body ← body_from version shape no_body lines
+  Ok (script_of version attr shape body.calls body.cuts None)
+body_of forms.Generator version attr shape end lines = do
   spec ← spec_of shape end lines
-  Ok (script_of attr shape [] (Some spec))
+  Ok (script_of version attr shape [] [] (Some spec))
 
 -- the map line, and what stands behind it. Where the map can't be created no later line is judged.
-unfoldable pub map_of : Form → ℕ → List Line → Result Script ScriptRefusal
-map_of form end [] = Err (Fault end Map)
-map_of form end (line ∷ lines) = do
+unfoldable pub map_of : Form → ℕ → ℕ → List Line → Result Script ScriptRefusal
+map_of form version end [] = Err (Fault end Map)
+map_of form version end (line ∷ lines) = do
   attr ← at_line line map_line
   shape ← or_create (creation attr)
-  body_of form attr shape end lines
+  body_of form version attr shape end lines
 
 -- the version line, and what stands behind it
 unfoldable pub version_of : Form → ℕ → List Line → Result Script ScriptRefusal
 version_of form end [] = Err (Fault end Version)
 version_of form end (line ∷ lines) = do
-  version ← at_line line version_line
-  map_of form end lines
+  version ← at_line line (version_line form)
+  map_of form version end lines
 
 -- what a text is read as, which is never NoMemory
 unfoldable pub read_as : Form → List ℕ → Result Script ScriptRefusal

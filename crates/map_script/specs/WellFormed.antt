@@ -1,5 +1,5 @@
 -- What holds of each script that is read: its calls are calls on its map, within the limits.
-use Rattle.std.specs.Prelude.{◌≡◌, ℕ, ◌<◌, ◌≤◌, List, length, All, sum_by, Some, None, Ok}
+use Rattle.std.specs.Prelude.{◌≡◌, ◌⊎◌, ℕ, ◌<◌, ◌≤◌, List, [], ◌∷◌, length, All, Some, None, Ok}
 use Rattle.map_types.specs.Creation.{creation, IsShape}
 use Rattle.map_types.specs.Pairs.{HaveSizes}
 use Rattle.map_types.specs.ValueLen.{value_len_of}
@@ -9,7 +9,7 @@ use Rattle.map_types.specs.declared.call.Verb.{Verb}
 use Rattle.map_types.specs.declared.call.Verb.TheVariants.{Lookup, Update, Delete, Take, Next, BatchRead, BatchUpdate, BatchDelete}
 use Rattle.map_types.specs.declared.kind.Side.TheVariants.{Sys}
 use Rattle.map_script.specs.declared.script.Script.{Script}
-use Rattle.map_script.specs.Grammar.{reply_bytes}
+use Rattle.map_script.specs.Grammar.{reply_room}
 
 -- a key of the map's size
 abbrev pub IsKey : Shape → List ℕ → Type 0
@@ -32,14 +32,22 @@ pub record IsCallOn (shape : Shape) (call : Call) : Type 0 where
   pub cpu : call.cpu < shape.cpus
   pub sizes : HasSizes shape call.verb
 
--- the most bytes that the replies to some calls may have
-abbrev pub reply_room : Shape → List Call → ℕ
-reply_room shape calls = sum_by (λ call. reply_bytes shape call.verb) calls
+-- numbers that don't fall, the first of which is at least this, and none of which is above this count
+abbrev pub AreCuts : ℕ → ℕ → List ℕ → Type 0
+AreCuts least count [] = Unit {0}
+AreCuts least count (cut ∷ cuts) = (least ≤ cut) × (cut ≤ count) × AreCuts cut count cuts
 
--- at most 200,000 calls on a map that can be created, with replies of at most 67,108,864 bytes
+-- How often, and behind how many of so many calls, further phases start: in version 1 none does, in version 2 at most 63.
+pub record HasPhases (version count : ℕ) (cuts : List ℕ) : Type 0 where
+  pub known : ((version ≡ 1) × (cuts ≡ [])) ⊎ (version ≡ 2)
+  pub few : length cuts ≤ 63
+  pub rise : AreCuts 0 count cuts
+
+-- at most 200,000 calls on a map that can be created, with replies of at most 67,108,864 bytes, in at most 64 phases
 pub record IsWellFormed (script : Script) : Type 0 where
   pub created : creation script.attr ≡ Ok script.shape
   pub shape : IsShape script.shape
   pub calls : All (IsCallOn script.shape) script.calls
   pub few : length script.calls ≤ 200000
   pub room : reply_room script.shape script.calls ≤ 67108864
+  pub phases : HasPhases script.version (length script.calls) script.cuts

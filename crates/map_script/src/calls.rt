@@ -1,12 +1,13 @@
-//! The call lines of a script.
+//! The lines of a script behind its map line: calls, and starts of phases.
 
-ghost use Rattle.std.specs.Prelude.{◌≡◌, ◌≤◌};
+ghost use Rattle.std.specs.Prelude.{◌≡◌, ◌≤◌, length, IfOk, OnOk};
 ghost use Rattle.map_types.specs.Creation.{IsShape};
 ghost use Rattle.map_script.specs.Parsed.{IsParsedAs};
-ghost use Rattle.map_script.specs.Grammar.{call_line, reply_bytes};
-ghost use Rattle.map_script.specs.Plain.{IsNextCall};
-ghost use Rattle.map_script.specs.Reading.{of_line, call_within, calls_of, IsReading};
+ghost use Rattle.map_script.specs.Grammar.{call_line, starts_phase, reply_bytes, reply_room};
+ghost use Rattle.map_script.specs.Plain.{IsNext};
+ghost use Rattle.map_script.specs.Reading.{of_line, call_within, phase_within, body_line, body_with, with_next, no_body, body_from, IsReading};
 
+use crate::body::{Body, BodyLine};
 use crate::fault::with_number;
 use crate::line_error::LineError;
 use crate::lines::{Lines, TextLine};
@@ -14,7 +15,7 @@ use crate::refusal::{Cause, ScriptRefusal};
 use crate::tokens::Tokens;
 use crate::verbs::verb_line;
 use map_types::{Call, List, Shape, Side, Verb, value_len};
-use std::alloc::Global;
+use std::alloc::{AllocError, Global};
 
 /// How many calls a script may have.
 pub(crate) const MAX_CALLS: usize = 200_000;
@@ -22,45 +23,132 @@ pub(crate) const MAX_CALLS: usize = 200_000;
 /// How many bytes the replies to a script's calls may have.
 pub(crate) const MAX_ROOM: u64 = 67_108_864;
 
-/// Reads a call from each line that is left.
-pub(crate) fn calls_of(
+/// How many `phase` lines a script may have.
+const MAX_CUTS: usize = 63;
+
+/// Reads each line that is left.
+pub(crate) fn read_lines(
     alloc: Global,
+    version: u32,
     shape: &Shape,
     lines: &mut Lines,
-) -> Result<List<Call>, ScriptRefusal>
+) -> Result<Body, ScriptRefusal>
     requires { IsShape shape.now }
-    ensures { IsReading result (calls_of shape.now 0 0 lines.old.lines) }
+    ensures { IsReading result (body_from version shape.now no_body lines.old.lines) }
 {
     let mut calls = Vec::new(alloc);
+    let mut cuts = Vec::new(alloc);
     let mut room: u64 = 0;
-    while let Some(call) = next_call(alloc, shape, calls.len(), room, lines)? {
-        room += reply_bytes(shape, &call.verb);
-        calls.push(call)?;
+    while let Some(next) = next_line(alloc, version, shape, calls.len(), room, cuts.len(), lines)? {
+        room = add_line(shape, &mut calls, &mut cuts, room, next)?;
     }
-    Ok(List::of(calls))
+    Ok(Body {
+        calls: List::of(calls),
+        cuts: List::of(cuts),
+    })
 }
 
-/// Reads the next call, behind so many calls, whose replies may have so many bytes, or finds that no line is left.
-fn next_call(
+/// Adds what a line says to what the lines before it say, and tells how many bytes the replies may have then.
+#[inline(always)]
+fn add_line(
+    shape: &Shape,
+    calls: &mut Vec<Call>,
+    cuts: &mut Vec<u32>,
+    room: u64,
+    next: BodyLine,
+) -> Result<u64, AllocError>
+    requires shape { IsShape shape.now }
+    requires few { length calls.old.items ≤ 200000 }
+    requires room { room ≡ reply_room shape.now calls.old.items }
+    requires fits { room ≤ 67108864 }
+    ensures body { OnOk result (body_with calls.new.items cuts.new.items
+        ≡ with_next (body_with calls.old.items cuts.old.items) next) }
+    ensures room { IfOk result (λ room. room ≡ reply_room shape.now calls.new.items) }
+{
+    match next {
+        BodyLine::Call(call) => {
+            let room = room + reply_bytes(shape, &call.verb);
+            calls.push(call)?;
+            Ok(room)
+        }
+        BodyLine::Phase => {
+            cuts.push(calls.len() as u32)?;
+            Ok(room)
+        }
+    }
+}
+
+/// Reads the next line, behind so many calls, whose replies may have so many bytes, and so many `phase` lines, or finds
+/// that none is left.
+fn next_line(
     alloc: Global,
+    version: u32,
     shape: &Shape,
     count: usize,
     room: u64,
+    cuts: usize,
     lines: &mut Lines,
-) -> Result<Option<Call>, ScriptRefusal>
+) -> Result<Option<BodyLine>, ScriptRefusal>
     requires shape { IsShape shape.now }
     requires room { room ≤ 67108864 }
-    ensures { IsNextCall shape.now count room lines.old.lines lines.new.lines result }
+    ensures { IsNext (body_line version shape.now count room cuts) lines.old.lines lines.new.lines
+        result }
 {
     if let Some(call) = lines.front_call(alloc, shape, count, room) {
-        return Ok(Some(call));
+        return Ok(Some(BodyLine::Call(call)));
     }
     let Some(line) = lines.next_line() else {
         return Ok(None);
     };
-    let read = call_within(alloc, shape, count, room, &line);
-    let call = with_number(line.number(), read)?;
-    Ok(Some(call))
+    let read = body_line(alloc, version, shape, count, room, cuts, &line);
+    let next = with_number(line.number(), read)?;
+    Ok(Some(next))
+}
+
+/// Reads a line behind so many calls, whose replies may have so many bytes, and so many `phase` lines.
+fn body_line(
+    alloc: Global,
+    version: u32,
+    shape: &Shape,
+    count: usize,
+    room: u64,
+    cuts: usize,
+    line: &TextLine,
+) -> Result<BodyLine, LineError>
+    requires shape { IsShape shape.now }
+    requires room { room ≤ 67108864 }
+    ensures { IsParsedAs (λ next. next) result (of_line line.now
+        (body_line version shape.now count room cuts)) }
+{
+    let tokens = line.tokens()?;
+    if starts_phase(version, &tokens) {
+        phase_within(cuts, tokens)?;
+        Ok(BodyLine::Phase)
+    } else {
+        let call = call_within(alloc, shape, count, room, tokens)?;
+        Ok(BodyLine::Call(call))
+    }
+}
+
+/// Whether a line starts the next phase.
+fn starts_phase(version: u32, tokens: &Tokens) -> bool
+    ensures { result ≡ starts_phase version tokens.now }
+{
+    version == 2 && tokens.is_next(b"phase")
+}
+
+/// Reads `phase`, behind so many `phase` lines.
+#[tactic(auto, unfolding(crate::specs::Grammar::phase_line))]
+fn phase_within(cuts: usize, mut tokens: Tokens) -> Result<(), Cause>
+    ensures { result ≡ phase_within cuts tokens.entry }
+{
+    tokens.token()?;
+    tokens.at_end(())?;
+    if cuts < MAX_CUTS {
+        Ok(())
+    } else {
+        Err(Cause::Phases)
+    }
 }
 
 /// Reads a call behind so many calls, whose replies may have so many bytes.
@@ -69,14 +157,12 @@ fn call_within(
     shape: &Shape,
     count: usize,
     room: u64,
-    line: &TextLine,
+    tokens: Tokens,
 ) -> Result<Call, LineError>
     requires shape { IsShape shape.now }
     requires room { room ≤ 67108864 }
-    ensures { IsParsedAs (λ call. call) result (of_line line.now
-        (call_within shape.now count room)) }
+    ensures { IsParsedAs (λ call. call) result (call_within shape.now count room tokens.entry) }
 {
-    let tokens = line.tokens()?;
     let call = call_line(alloc, shape, tokens)?;
     if count >= MAX_CALLS {
         return Err(LineError::Fault(Cause::Calls));

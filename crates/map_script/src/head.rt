@@ -1,13 +1,13 @@
 //! The lines of a script that are no calls: the version line, the map line and the generator line.
 
 ghost use Rattle.std.specs.Prelude.{◌≡◌, ◌≤◌, ◌^◌, nat_lt, Err};
-ghost use Rattle.map_script.specs.Grammar.{version_places, version_line, kind_of, map_places, map_line, is_spec, gen_places, gen_line};
+ghost use Rattle.map_script.specs.Grammar.{version_named, version_places, version_line, kind_of, map_places, map_line, is_spec, gen_places, gen_line};
 ghost use Rattle.map_script.specs.Places.{instead};
 ghost use Rattle.map_script.specs.Reading.{of_line};
 
 use crate::lines::TextLine;
 use crate::refusal::Cause;
-use crate::script::GenSpec;
+use crate::script::{Form, GenSpec};
 use crate::tokens::Tokens;
 use map_types::{CreateAttr, MapKind, Shape};
 
@@ -20,21 +20,45 @@ const MAX_KEYS: u32 = 1_000_000;
 /// How many bytes of values they may have.
 const MAX_VALUES: u64 = 67_108_864;
 
-/// Reads `bpfmap 1`.
+/// Reads `bpfmap 1`, and in form Calls `bpfmap 2` as well.
 #[tactic(auto, unfolding(crate::specs::Grammar::version_line))]
-pub(crate) fn version_line(line: &TextLine) -> Result<(), Cause>
-    ensures { result ≡ of_line line.now version_line }
+pub(crate) fn version_line(form: Form, line: &TextLine) -> Result<u32, Cause>
+    ensures { result ≡ of_line line.now (version_line form) }
 {
     let tokens = line.tokens()?;
-    instead(Cause::Version, version_places(tokens))
+    instead(Cause::Version, version_places(form, tokens))
 }
 
-fn version_places(mut tokens: Tokens) -> Result<(), Cause>
-    ensures { result ≡ version_places tokens.entry }
+fn version_places(form: Form, mut tokens: Tokens) -> Result<u32, Cause>
+    ensures { result ≡ version_places form tokens.entry }
 {
     tokens.word(Cause::Version, b"bpfmap")?;
-    tokens.word(Cause::Version, b"1")?;
-    tokens.at_end(())
+    let version = version_named(form, tokens.token()?).ok_or(Cause::Version)?;
+    tokens.at_end(version)
+}
+
+/// The version that a word names in a form.
+fn version_named(form: Form, name: &[u8]) -> Option<u32>
+    ensures { result ≡ version_named form name.now }
+{
+    match form {
+        Form::Calls => {
+            if name == b"1".as_slice() {
+                Some(1)
+            } else if name == b"2".as_slice() {
+                Some(2)
+            } else {
+                None
+            }
+        }
+        Form::Generator => {
+            if name == b"1".as_slice() {
+                Some(1)
+            } else {
+                None
+            }
+        }
+    }
 }
 
 /// Reads `map KIND key N value N max N cpus N`, and then `flags N` or not, and then `seed N` or not.

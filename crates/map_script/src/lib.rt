@@ -1,6 +1,7 @@
 //! Scripts in their text form: a map, and calls on it.
 #![tactic(auto)]
 
+mod body;
 mod calls;
 mod fault;
 mod front;

@@ -5,7 +5,8 @@ ghost use Rattle.std.specs.List.{list_all};
 ghost use Rattle.map_script.specs.Lines.{is_line_feed, is_blank, is_allowed, before_comment, said_by, is_nothing};
 ghost use Rattle.map_script.specs.Lines.{lines_from, end_from};
 ghost use Rattle.map_types.specs.Creation.{IsShape};
-ghost use Rattle.map_script.specs.Plain.{FirstIsCall};
+ghost use Rattle.map_script.specs.Plain.{FirstIs};
+ghost use Rattle.map_script.specs.Reading.{call_within};
 ghost use Rattle.map_script.specs.Unread.{unread_from};
 
 use crate::calls::{MAX_CALLS, MAX_ROOM, reply_bytes};
@@ -72,7 +73,7 @@ impl<'a> Lines<'a> {
         requires shape { IsShape shape.now }
         requires room { room ≤ 67108864 }
         ensures call { MatchOption result (self.new ≡ self.old)
-            (λ call. FirstIsCall shape.now count room self.old.lines call self.new.lines) }
+            (λ call. FirstIs (call_within shape.now count room) self.old.lines call self.new.lines) }
         ensures end { self.new.end ≡ self.old.end }
     {
         if count >= MAX_CALLS {

@@ -6,7 +6,8 @@ ghost use Rattle.map_script.specs.Lines.{is_line_feed};
 ghost use Rattle.map_script.specs.Reading.{spec_of, body_of, map_of, version_of, read_as, IsReading};
 ghost use Rattle.map_script.specs.WellFormed.{IsWellFormed};
 
-use crate::calls::calls_of;
+use crate::body::Body;
+use crate::calls::read_lines;
 use crate::fault::or_fault;
 use crate::head::{gen_line, map_line, no_line, version_line};
 use crate::lines::Lines;
@@ -18,9 +19,10 @@ use std::alloc::Global;
 /// Reads a script in a form, in time and memory that are linear in the text, which may have 2^32 - 3 line feeds.
 ///
 /// A line's tokens stand between spaces, tabs and carriage returns, and from the first `#` on it is a comment. Lines
-/// without tokens are passed over, and counted. The first line with tokens is `bpfmap 1`, and the second
-/// `map KIND key N value N max N cpus N`, then `flags N` or not, then `seed N` or not. The others are calls, each with
-/// its CPU first, or the one generator line `gen seed N calls N keys N mix N`.
+/// without tokens are passed over, and counted. The first line with tokens is `bpfmap 1`, or in form Calls `bpfmap 2`,
+/// and the second `map KIND key N value N max N cpus N`, then `flags N` or not, then `seed N` or not. The others are
+/// calls, each with its CPU first, and in version 2 at most 63 lines `phase`, each of which starts the next phase; or the
+/// one generator line `gen seed N calls N keys N mix N`.
 ///
 /// - `Fault`: the first line that is not in the grammar, and the first cause there, from left to right, but for bytes
 ///   that may stand nowhere, which come first.
@@ -36,21 +38,26 @@ pub fn read_script(alloc: Global, text: &[u8], form: Form) -> Result<Script, Scr
     let Some(line) = lines.next_line() else {
         return Err(end_fault(&lines, Cause::Version));
     };
-    or_fault(line.number(), version_line(&line))?;
-    read_map(alloc, form, lines)
+    let version = or_fault(line.number(), version_line(form, &line))?;
+    read_map(alloc, form, version, lines)
 }
 
 /// Reads the map line, and what stands behind it.
 #[tactic(auto, unfolding(crate::specs::Reading::map_of))]
-fn read_map(alloc: Global, form: Form, mut lines: Lines) -> Result<Script, ScriptRefusal>
-    ensures { IsReading result (map_of form lines.entry.end lines.entry.lines) }
+fn read_map(
+    alloc: Global,
+    form: Form,
+    version: u32,
+    mut lines: Lines,
+) -> Result<Script, ScriptRefusal>
+    ensures { IsReading result (map_of form version lines.entry.end lines.entry.lines) }
 {
     let Some(line) = lines.next_line() else {
         return Err(end_fault(&lines, Cause::Map));
     };
     let attr = or_fault(line.number(), map_line(&line))?;
     let shape = check_attr(&attr)?;
-    read_body(alloc, form, attr, shape, lines)
+    read_body(alloc, form, version, attr, shape, lines)
 }
 
 /// Reads what stands behind the map line.
@@ -58,29 +65,34 @@ fn read_map(alloc: Global, form: Form, mut lines: Lines) -> Result<Script, Scrip
 fn read_body(
     alloc: Global,
     form: Form,
+    version: u32,
     attr: CreateAttr,
     shape: Shape,
     mut lines: Lines,
 ) -> Result<Script, ScriptRefusal>
     requires { IsShape shape }
-    ensures { IsReading result (body_of form attr shape lines.entry.end lines.entry.lines) }
+    ensures { IsReading result (body_of form version attr shape lines.entry.end lines.entry.lines) }
 {
     match form {
         Form::Calls => {
-            let calls = calls_of(alloc, &shape, &mut lines)?;
+            let Body { calls, cuts } = read_lines(alloc, version, &shape, &mut lines)?;
             Ok(Script {
+                version,
                 attr,
                 shape,
                 calls,
+                cuts,
                 spec: None,
             })
         }
         Form::Generator => {
             let spec = read_spec(&shape, &mut lines)?;
             Ok(Script {
+                version,
                 attr,
                 shape,
                 calls: List::of(Vec::new(alloc)),
+                cuts: List::of(Vec::new(alloc)),
                 spec: Some(spec),
             })
         }

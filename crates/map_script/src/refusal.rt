@@ -12,7 +12,7 @@ use thiserror::Error;
 pub enum Cause {
     /// A byte outside a comment that is neither a blank nor a visible ASCII character.
     Byte,
-    /// The first line with tokens isn't `bpfmap 1`, or no line has tokens.
+    /// The first line with tokens isn't `bpfmap 1`, nor `bpfmap 2` in form `Calls`, or no line has tokens.
     Version,
     /// The second line with tokens is no map line, or the text ends before it.
     Map,
@@ -40,6 +40,8 @@ pub enum Cause {
     Calls,
     /// It is well formed, and with it the replies may have more than 67,108,864 bytes.
     Room,
+    /// It is a well formed `phase` line, and would start the 65th phase.
+    Phases,
 }
 
 impl Cause {
@@ -62,6 +64,7 @@ impl Cause {
             Cause::Extra => "extra",
             Cause::Calls => "calls",
             Cause::Room => "room",
+            Cause::Phases => "phases",
         }
     }
 }

@@ -5,13 +5,13 @@ ghost use Rattle.map_script.specs.Canonical.{canonical};
 ghost use Rattle.map_script.specs.Reading.{IsReadAs, read_as};
 
 use crate::text::text_of;
-use map_types::{Call, CreateAttr, List, NoMemory, Shape};
+use map_types::{Call, CreateAttr, List, NoMemory, Numbers, Shape};
 use std::alloc::Global;
 
 /// What a script's lines behind its map are.
 #[derive(Clone, Copy, Debug, PartialEq, Eq)]
 pub enum Form {
-    /// A line for each call.
+    /// A line for each call, and in version 2 one where each further phase starts.
     Calls,
     /// One line, from which the calls are generated.
     Generator,
@@ -20,11 +20,15 @@ pub enum Form {
 /// A map, and calls on it in order.
 #[derive(Drop)]
 pub struct Script {
+    /// 1, or 2 for a script that may have several phases.
+    pub version: u32,
     pub attr: CreateAttr,
     /// What `check_attr` makes of the attributes.
     pub shape: Shape,
     /// None, where the script was read in form Generator.
     pub calls: List<Call>,
+    /// How many calls stand before each `phase` line, in order.
+    pub cuts: Numbers,
     /// What its calls are generated from, in a script of form Generator.
     pub spec: Option<GenSpec>,
 }
@@ -32,7 +36,8 @@ pub struct Script {
 impl Script {
     /// The script's canonical text: one space between tokens, no comments, numbers without leading zeros, lower case
     /// digits, the flags 0, 1 and 2 of an update by name, and only where they aren't 0 the flags and the seed of the
-    /// map and the flags of a batch read. It fails only where memory does.
+    /// map and the flags of a batch read. A script without a spec has a line for each call, and a line `phase` where each
+    /// cut is. It fails only where memory does.
     pub fn text(&self, alloc: Global) -> Result<Vec<u8>, NoMemory>
         ensures canonical { IfOk result (λ text. text.items ≡ canonical self.now) }
         // A script that form Calls gives is what form Calls reads from its canonical text.

@@ -1,12 +1,12 @@
 //! The canonical text of a script.
 
-ghost use Rattle.std.specs.Prelude.{◌≡◌, [], ◌∷◌, ◌++◌, map, IfOk, OnOk, decimal, codes};
+ghost use Rattle.std.specs.Prelude.{◌≡◌, [], ◌∷◌, ◌++◌, map, take, drop, IfOk, OnOk, decimal, codes};
 ghost use Rattle.std.specs.List.{flat_map};
 ghost use Rattle.hex.specs.Hex.{encode_lower};
-ghost use Rattle.map_script.specs.Canonical.{canonical, behind_space, spaced, line_text, label_and_number, unless_zero, map_tokens, spec_tokens, body_text, call_text, verb_tokens, pair_tokens, kind_name, lookup_name, update_name, batch_name, flag_token, start_token};
+ghost use Rattle.map_script.specs.Canonical.{canonical, behind_space, spaced, line_text, label_and_number, unless_zero, map_tokens, spec_tokens, body_text, phased_text, call_text, verb_tokens, pair_tokens, kind_name, lookup_name, update_name, batch_name, flag_token, start_token};
 
 use crate::{GenSpec, Script};
-use map_types::{Bytes, Call, CreateAttr, List, MapKind, NoMemory, Pairs, Side, Verb};
+use map_types::{Bytes, Call, CreateAttr, List, MapKind, NoMemory, Numbers, Pairs, Side, Verb};
 use std::alloc::{AllocError, Global};
 use std::io::Write;
 
@@ -16,10 +16,20 @@ pub(crate) fn text_of(alloc: Global, script: &Script) -> Result<Vec<u8>, NoMemor
     ensures { IfOk result (λ text. text.items ≡ canonical script.now) }
 {
     let mut text = Vec::new(alloc);
-    text.extend_from_slice(b"bpfmap 1\n")?;
+    push_version(&mut text, script.version)?;
     push_map(&mut text, &script.attr)?;
-    push_body(&mut text, script.spec, &script.calls)?;
+    push_body(&mut text, script.spec, &script.cuts, &script.calls)?;
     Ok(text)
+}
+
+/// Adds `bpfmap N`.
+fn push_version(text: &mut Vec<u8>, version: u32) -> Result<(), AllocError>
+    ensures { OnOk result (text.new.items
+        ≡ text.old.items ++ line_text (codes "bpfmap") (decimal version ∷ [])) }
+{
+    text.extend_from_slice(b"bpfmap")?;
+    push_number(text, version)?;
+    text.extend_from_slice(b"\n")
 }
 
 /// Adds `map KIND key N value N max N cpus N`, and `flags N` and `seed N` where they aren't 0.
@@ -59,16 +69,17 @@ fn push_options(text: &mut Vec<u8>, attr: &CreateAttr) -> Result<(), AllocError>
     push_unless_zero(text, b"seed", attr.seed)
 }
 
-/// Adds the generator line of a script that has one, and else a line for each call.
+/// Adds the generator line of a script that has one, and else a line for each call and each further phase.
 fn push_body(
     text: &mut Vec<u8>,
     spec: Option<GenSpec>,
+    cuts: &Numbers,
     calls: &List<Call>,
 ) -> Result<(), AllocError>
-    ensures { OnOk result (text.new.items ≡ text.old.items ++ body_text spec calls.now) }
+    ensures { OnOk result (text.new.items ≡ text.old.items ++ body_text spec cuts.now calls.now) }
 {
     match spec {
-        None => push_calls(text, calls.as_slice()),
+        None => push_phases(text, cuts.as_slice(), calls.as_slice()),
         Some(spec) => push_spec(text, spec),
     }
 }
@@ -84,6 +95,30 @@ fn push_spec(text: &mut Vec<u8>, spec: GenSpec) -> Result<(), AllocError>
     push_labelled(text, b"keys", spec.keys)?;
     push_labelled(text, b"mix", spec.mix)?;
     text.extend_from_slice(b"\n")
+}
+
+/// Adds a line for each call, and a `phase` line where each cut is.
+fn push_phases(text: &mut Vec<u8>, cuts: &[u32], calls: &[Call]) -> Result<(), AllocError>
+    ensures { OnOk result (text.new.items ≡ text.old.items ++ phased_text 0 cuts.now calls.now) }
+{
+    let mut before = 0;
+    let mut rest = calls;
+    for cut in cuts {
+        let (phase, behind) = cut_calls(rest, cut.saturating_sub(before));
+        push_calls(text, phase)?;
+        text.extend_from_slice(b"phase\n")?;
+        rest = behind;
+        before = *cut;
+    }
+    push_calls(text, rest)
+}
+
+/// The first calls, so many or all that there are, and those behind them.
+fn cut_calls(calls: &[Call], count: u32) -> (&[Call], &[Call])
+    ensures first { result.0.now ≡ take count calls.now }
+    ensures behind { result.1.now ≡ drop count calls.now }
+{
+    calls.split_at(calls.len().min(count as usize))
 }
 
 /// Adds a line for each call.

@@ -55,6 +55,16 @@ impl<'a> Tokens<'a> {
         true
     }
 
+    /// Whether this word is the next token.
+    pub(crate) fn is_next(&self, word: &[u8]) -> bool
+        ensures { result ≡ is_next word.now self.now }
+    {
+        match first_token(self.rest) {
+            Some((token, _)) => token == word,
+            None => false,
+        }
+    }
+
     /// Whether no token is left.
     pub(crate) fn is_empty(&self) -> bool
         ensures { result ≡ (length self.now == 0) }

@@ -34,7 +34,7 @@ abbrev pub logs_in : Shape → World → DomainId → List Entry
 logs_in shape w lock = cond (is_lock shape lock) (entries (w.log (lock_number shape lock))) []
 
 module _ (shape : Shape) (s : State Behind View) (r : Rule shape s) (pass : ℕ) (v : View) (at_pass : get_elem? s.views pass ≡ some v) (all : (c : ℕ) → c < shape.cpus → is_among c v.cpus ≡ true) (no_lock : v.held ≡ [])
-    (no_hand : (e c : ℕ) → is_in_hand_of e c v.hand ≡ false) (lru : is_lru shape.kind ≡ true) where
+    (no_hand : (e c : ℕ) → c < shape.cpus → is_in_hand_of e c v.hand ≡ false) (lru : is_lru shape.kind ≡ true) where
   log_is : (lock : DomainId) → is_lock shape lock ≡ true → logs_in shape r.world lock ≡ entries (r.world.log (lock_number shape lock))
   log_is lock is = cond-true (is_lock shape lock) _ _ is
 
@@ -77,7 +77,7 @@ module _ (shape : Shape) (s : State Behind View) (r : Rule shape s) (pass : ℕ)
         let named = named_by_number shape lock is in
         let home = (free_home shape k (r.world.core.holder k) (entries (r.world.log k)) (r.world.core.lists k) (r.world.lost k) (get_elem? s.homes k) (nobody shape s r pass v at_pass all no_lock k) (r.homes k (number_within shape lock is) (ap (is_lock shape) named ∙ is))).1 in
         home ∙ (ap (λ (l : DomainId). lists_of (content shape l (entries (r.world.log k)))) named ∙ ap (λ (turns : List Entry). lists_of (content shape lock turns)) (sym (log_is lock is)));
-    empty_handed = λ e c less. own_hand shape r.world pass v e c (r.knows pass v at_pass) (all c less) ∙ no_hand e c;
+    empty_handed = λ e c less. own_hand shape r.world pass v e c (r.knows pass v at_pass) (all c less) ∙ no_hand e c less;
     hash = r.world.hash;
     of_bucket = (r.hashes lru).in_bucket;
     stored = λ lock is e inside. stored_row lock is e ((r.hashes lru).have (lock_number shape lock) e (ap is_bucket (named_by_number shape lock (there lock is)) ∙ not_bucket lock is) inside);

@@ -24,7 +24,7 @@ use Rattle.place_table.proofs.SharedOut.{filter_same}
 
 told_same : (shape : Shape) (strand : Ended) → shape.cpus ≤ 16 → finished_told shape (finished_of strand) ≡ strand_told shape strand
 told_same shape strand few =
-    ap (λ (cs : List ℕ). record { cpus = cs; steps = strand.kept })
+    ap (λ (cs : List ℕ). record { phase = 0; cpus = cs; steps = strand.kept })
     (filter_same (λ cpu. get_or (flags_of strand.cpus) cpu false) (λ cpu. is_among cpu strand.cpus) 0 shape.cpus (λ cpu low less. flag_at strand.cpus cpu false (omega arith)))
 
 all_told : (shape : Shape) (strands : List Ended) → shape.cpus ≤ 16 → map (finished_told shape) (map finished_of strands) ≡ map (strand_told shape) strands

@@ -183,6 +183,7 @@ module _ (shape : Shape) (s : State Behind View) (r : Rule shape s) (pass : ℕ)
   learns_then true is all = record {
     log = logs_of r.world;
     known = λ k below. known_all r.world k (lock_count shape) below;
+    knew = (r.knows pass v at_pass).known;
     legal = r.legal;
     idle = λ lru no_lock no_hand. rule_idle shape s r pass v at_pass (all_cpus all) no_lock no_hand lru;
     turns = λ no_lock. turns_now shape s r pass v at_pass (all_cpus all) no_lock;

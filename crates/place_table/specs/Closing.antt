@@ -54,9 +54,9 @@ history_of shape log k = record { lock = lock_named shape k; entries = log k }
 abbrev pub histories_of : Shape → (ℕ → List Entry) → (ℕ → Bool) → List LockHistory
 histories_of shape log lost = map (history_of shape log) (filter (λ k. not (lost k)) (all_locks shape))
 
--- the strands a step of which is recorded, in order, each with its CPUs ascending
+-- The strands a step of which is recorded, in order, each with its CPUs ascending. A table knows of no phases.
 abbrev pub strand_told : Shape → Ended → Strand
-strand_told shape strand = record { cpus = filter (λ cpu. is_among cpu strand.cpus) (range_with_len 0 shape.cpus); steps = strand.kept }
+strand_told shape strand = record { phase = 0; cpus = filter (λ cpu. is_among cpu strand.cpus) (range_with_len 0 shape.cpus); steps = strand.kept }
 
 abbrev pub strands_told : Shape → List Ended → List Strand
 strands_told shape strands = map (strand_told shape) (filter is_recorded strands)

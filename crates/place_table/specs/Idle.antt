@@ -48,14 +48,15 @@ pub record IsIdle (shape : Shape) (logs : DomainId → List Entry) : Type 0 wher
 abbrev pub logs_of_locks : Shape → (ℕ → List Entry) → DomainId → List Entry
 logs_of_locks shape log lock = if is_lock shape lock then log (lock_number shape lock) else []
 
--- The turns of every lock, as the pass knows them from now on. They replay by the rules. Where the pass holds no lock they are those of
--- its strands, whose numbers ascend and are below its next one. Where it also has nothing in hand, on a map that evicts, they tell
--- such a moment.
+-- The turns of every lock, as the pass knows them from now on; what it knew of them before is so. They replay by the rules. Where
+-- the pass holds no lock they are those of its strands, whose numbers ascend and are below its next one. Where it also has nothing
+-- in hand, on a map that evicts, they tell such a moment.
 pub record LearnsAll (shape : Shape) (v : View) (learned : List Known) : Type 0 where
   pub log : ℕ → List Entry
   pub known : (k : ℕ) → k < lock_count shape → known_log k learned ≡ Some (log k)
+  pub knew : (k : ℕ) (turns : List Entry) → known_log k v.known ≡ Some turns → log k ≡ turns
   pub legal : (k : ℕ) → IsLegal shape (lock_named shape k) (log k)
-  pub idle : IsTrue (is_lru shape.kind) → v.held ≡ [] → ((e c : ℕ) → is_in_hand_of e c v.hand ≡ false) → IsIdle shape (logs_of_locks shape log)
+  pub idle : IsTrue (is_lru shape.kind) → v.held ≡ [] → ((e c : ℕ) → c < shape.cpus → is_in_hand_of e c v.hand ≡ false) → IsIdle shape (logs_of_locks shape log)
   pub turns : v.held ≡ [] → (k : ℕ) → AreTurnsOf k (all_strands v) (log k)
   pub strands : EachAscends v.ended (next v)
   pub strand : AscendIn 0 (turn_tickets v.steps) (next v)

@@ -103,7 +103,7 @@ pub record AreKept (shape : Shape) (log : Logs) (lost : ℕ → Bool) (n : ℕ) 
 
 -- a strand that was kept, with its CPUs ascending
 abbrev pub finished_told : Shape → FinishedStrand → Strand
-finished_told shape strand = record { cpus = filter (λ cpu. slice_index_or strand.cpus cpu false) (range_with_len 0 shape.cpus); steps = strand.steps }
+finished_told shape strand = record { phase = 0; cpus = filter (λ cpu. slice_index_or strand.cpus cpu false) (range_with_len 0 shape.cpus); steps = strand.steps }
 
 -- the histories and strands that are handed out, and whether a record is lost; where the strands are lost, so is every record
 pub record AreTold (shape : Shape) (log : Logs) (lost : ℕ → Bool) (strands : List Ended) (kept : List LockHistory) (told : List Strand) (some_lost : Bool) : Type 0 where

@@ -37,3 +37,14 @@ impl Model for Pass {
     ghost invariant = { λ p. IsPass p.seat.me.0 p.seat.me.1 p.strand.items p.spares p.cpus
         p.ended };
 }
+
+impl Pass {
+    ghost use Rattle.std.specs.Prelude.{◌≡◌, length};
+
+    /// How many steps of its current strand are recorded.
+    pub fn step_count(&self) -> usize
+        ensures { result ≡ length self.now.view.kept }
+    {
+        self.strand.len()
+    }
+}

@@ -524,6 +524,7 @@ fn strand_left(alloc: Global, shape: &Shape, strand: FinishedStrand) -> Result<S
 {
     let FinishedStrand { cpus, steps } = strand;
     Ok(Strand {
+        phase: 0,
         cpus: cpus_left(alloc, shape.cpus, &cpus)?,
         steps: steps.share(alloc)?,
     })

@@ -34,9 +34,11 @@ pub struct LockHistory {
     pub entries: List<Entry>,
 }
 
-/// The turns of some CPUs, in the order in which they gave the locks back.
+/// The turns of some CPUs in a phase of a run, in the order in which they gave the locks back.
 #[derive(Drop)]
 pub struct Strand {
+    /// Phases are numbered from 0.
+    pub phase: u32,
     /// Ascending.
     pub cpus: Numbers,
     pub steps: List<StrandStep>,
@@ -90,6 +92,7 @@ impl Strand {
         ensures { IfOk result (λ copy. copy ≡ self.now) }
     {
         Ok(Strand {
+            phase: self.phase,
             cpus: copy_list(&self.cpus, alloc)?,
             steps: copy_list(&self.steps, alloc)?,
         })

@@ -1,5 +1,5 @@
 -- A generated script is a script of calls.
-use Rattle.std.proofs.Common.{◌≡◌, ℕ, zero, suc, ◌+◌, ◌*◌, ◌^◌, ◌≤◌, ◌&&◌, true, nat_lt, nat_le, List, map, None, Ok, refl, sym, subst, arith}
+use Rattle.std.proofs.Common.{◌≡◌, ℕ, zero, suc, ◌+◌, ◌*◌, ◌^◌, ◌≤◌, ◌&&◌, true, nat_lt, nat_le, List, [], length, map, None, Ok, refl, sym, subst, ◌∙◌, arith}
 use Rattle.std.specs.Prelude.{IfSome}
 use Rattle.std.specs.List.{range_with_len}
 use Rattle.std.proofs.Math.Nat.{suc-mul}
@@ -14,11 +14,11 @@ use Rattle.map_script.specs.declared.script.Script.{Script}
 use Rattle.map_script.specs.Canonical.{canonical}
 use Rattle.map_script.specs.Grammar.{is_spec, reply_bytes}
 use Rattle.map_script.specs.Reading.{IsReadAs, read_as, script_of}
-use Rattle.map_script.specs.WellFormed.{IsWellFormed}
+use Rattle.map_script.specs.WellFormed.{HasPhases, IsWellFormed}
 use Rattle.map_script.proofs.CallScripts.{AreCalls}
 use Rattle.map_script.proofs.RoundTrip.{call_script_read}
 use Rattle.map_script.proofs.SpecRoundTrip.{spec_script_read}
-use Rattle.map_script.proofs.SpecScripts.{IsSpecScript, spec_script_gives}
+use Rattle.map_script.proofs.SpecScripts.{IsSpecScript, one_phase, spec_script_gives}
 use Rattle.map_script.proofs.WellFormedLemmas.{IsWellFormed-read_as}
 use Rattle.workload_gen.specs.Generated.{call_of, calls_of_spec, calls_generated}
 use Rattle.workload_gen.proofs.CallLemmas.{IsOn, call_on_map}
@@ -90,18 +90,27 @@ module _ (script : Script) (read : IsReadAs forms.Generator script) where
   few_calls =
       subst (λ spec. IfSome spec (λ spec. spec.calls ≤ 200000)) (sym given.has_spec) (within script.shape given.spec given.is_spec.ranges).few_calls
 
+  -- with any calls it is one phase
+  phases : (calls : List Call) → HasPhases script.version (length calls) []
+  phases calls =
+      subst (HasPhases script.version (length calls)) given.no_cuts (one_phase script (length calls) given)
+
   -- with any calls it is read again from its text, which doesn't list them
-  pub own_read : (calls : List Call) → read_as forms.Generator (canonical (script_of script.attr script.shape calls script.spec)) ≡ Ok script
-  own_read calls = spec_script_read script calls given
+  pub own_read : (calls : List Call) (cuts : List ℕ) → cuts ≡ [] → read_as forms.Generator (canonical (script_of script.version script.attr script.shape calls cuts script.spec)) ≡ Ok script
+  own_read calls cuts none =
+      subst (λ cuts. read_as forms.Generator (canonical (script_of script.version script.attr script.shape calls cuts script.spec)) ≡ Ok script) (given.no_cuts ∙ sym none) (spec_script_read script calls given)
+
+  -- the script of these calls alone
+  abbrev listing : List Call → Script
+  listing calls = script_of script.version script.attr script.shape calls [] None
 
   -- the calls of its spec are read again where they are listed
-  pub calls_read : (calls : List Call) → calls ≡ calls_generated script.shape script.spec → read_as forms.Calls (canonical (script_of script.attr script.shape calls None)) ≡ Ok (script_of script.attr script.shape calls None)
+  pub calls_read : (calls : List Call) → calls ≡ calls_generated script.shape script.spec → read_as forms.Calls (canonical (listing calls)) ≡ Ok (listing calls)
   calls_read calls are =
       let fit = subst (AreCalls script.shape 0 0) (sym are) (calls_fit script given) in
-      call_script_read (script_of script.attr script.shape calls None) record { numbers = given.numbers; created = given.created; calls = fit; no_spec = refl }
+      call_script_read (listing calls) record { numbers = given.numbers; created = given.created; calls = fit; phases = phases calls; no_spec = refl }
 
-  pub well_formed : (calls : List Call) → calls ≡ calls_generated script.shape script.spec → IsWellFormed (script_of script.attr script.shape calls script.spec)
-  well_formed calls are =
-      let listed = script_of script.attr script.shape calls None in
-      let is = IsWellFormed-read_as forms.Calls (canonical listed) listed (calls_read calls are) in
-      record { created = is.created; shape = is.shape; calls = is.calls; few = is.few; room = is.room }
+  pub well_formed : (calls : List Call) (cuts : List ℕ) → calls ≡ calls_generated script.shape script.spec → cuts ≡ [] → IsWellFormed (script_of script.version script.attr script.shape calls cuts script.spec)
+  well_formed calls cuts are none =
+      let is = IsWellFormed-read_as forms.Calls (canonical (listing calls)) (listing calls) (calls_read calls are) in
+      record { created = is.created; shape = is.shape; calls = is.calls; few = is.few; room = is.room; phases = subst (HasPhases script.version (length calls)) (sym none) is.phases }

@@ -74,8 +74,8 @@ calls_generated shape (Some spec) = calls_of_spec shape spec
 -- the script with the calls of its spec, which it keeps
 unfoldable pub generated_script : Script → Script
 generated_script script =
-    script_of script.attr script.shape (calls_generated script.shape script.spec) script.spec
+    script_of script.version script.attr script.shape (calls_generated script.shape script.spec) [] script.spec
 
 -- the same calls on the same map, in a script that lists them and has no spec
 abbrev pub listed : Script → Script
-listed script = script_of script.attr script.shape script.calls None
+listed script = script_of script.version script.attr script.shape script.calls [] None

@@ -35,9 +35,11 @@ pub fn generate(alloc: Global, script: &Script) -> Result<Script, NoMemory>
 {
     let calls = calls_generated(alloc, &script.shape, script.spec)?;
     Ok(Script {
+        version: script.version,
         attr: script.attr,
         shape: script.shape,
         calls: List::of(calls),
+        cuts: List::of(Vec::new(alloc)),
         spec: script.spec,
     })
 }

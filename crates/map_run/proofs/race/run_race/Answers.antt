@@ -9,3 +9,6 @@ race_script-requires-clause-served g c κs within = IsServed-from_script c.args.
 
 pub race_script-requires-clause-few : goal.race_script-requires-clause-few
 race_script-requires-clause-few g c κs within = (well_formed c.args.script.now c.requires.script).few
+
+pub race_script-requires-clause-phases : goal.race_script-requires-clause-phases
+race_script-requires-clause-phases g c κs within = (well_formed c.args.script.now c.requires.script).phases

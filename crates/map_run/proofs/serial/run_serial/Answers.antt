@@ -11,5 +11,8 @@ run_script-requires-clause-served g c κs within = IsServed-from_script c.args.s
 pub run_script-requires-clause-few : goal.run_script-requires-clause-few
 run_script-requires-clause-few g c κs within = (well_formed c.args.script.now c.requires.script).few
 
+pub run_script-requires-clause-phases : goal.run_script-requires-clause-phases
+run_script-requires-clause-phases g c κs within = (well_formed c.args.script.now c.requires.script).phases
+
 pub returns-clause-laws : goal.returns-clause-laws
 returns-clause-laws g c = serial_laws c.args.script.now c.requires.script

@@ -13,11 +13,11 @@ calls_generated-requires-clause-few c = few_calls c.args.script.now c.requires
 
 pub returns-clause-well_formed : goal.returns-clause-well_formed
 returns-clause-well_formed c =
-    well_formed c.args.script.now c.requires c.of.result (c.of.ensures ∙ c.in_ok-calls.ensures)
+    well_formed c.args.script.now c.requires c.of.result c.of-2.result (c.of.ensures ∙ c.in_ok-calls.ensures) (c.of-2.ensures ∙ c.new.ensures.items)
 
 pub returns-clause-listed_text : goal.returns-clause-listed_text
 returns-clause-listed_text c =
     calls_read c.args.script.now c.requires c.of.result (c.of.ensures ∙ c.in_ok-calls.ensures)
 
 pub returns-clause-own_text : goal.returns-clause-own_text
-returns-clause-own_text c = own_read c.args.script.now c.requires c.of.result
+returns-clause-own_text c = own_read c.args.script.now c.requires c.of.result c.of-2.result (c.of-2.ensures ∙ c.new.ensures.items)

@@ -1,0 +1,6 @@
+use Rattle.map_run.specs.Phased.{SawBits}
+use Rattle.map_run.proofs.phases.marked_elements.Given as goal
+
+-- the bits so far were read
+abbrev pub invariant-loop-element : goal.invariant-loop-element
+invariant-loop-element l = SawBits l.element l.fn.pass l.pass l.marked.items

@@ -1,0 +1,6 @@
+use Rattle.map_script.proofs.BodyLines.{first_said}
+use Rattle.map_script.proofs.calls.next_line.Goals as goal
+
+pub returns-in-Some : goal.returns-in-Some
+returns-in-Some c =
+    first_said c.args.version c.args.shape.now c.args.count c.args.room c.args.cuts c.args.lines.now.lines c.front_call.new.self.lines c.in-Some.call c.in-Some.ensures.call
