@@ -15,6 +15,7 @@ use Rattle.place_words.specs.declared.finals.Finals.{Finals}
 use Rattle.place_words.specs.Bodies.{present}
 use Rattle.place_words.proofs.AnyStart.{created_always_gets}
 use Rattle.place_words.proofs.AnyStart.{always_removes}
+use Rattle.core_runs.proofs.ScriptRuns.{serial_record_runs}
 use Rattle.map_run.specs.Entries.{Entry, entry_of, answers_from, entries_after, TellsThere}
 use Rattle.map_run.specs.Laws.{lists_before, Sees, FindsNoRoom, PlainLaws, SerialLaws}
 use Rattle.map_report.specs.declared.record.RunRecord.{RunRecord}
@@ -102,6 +103,7 @@ serial_laws script is =
       never_full = never_full script;
       always_removes = always_removes script.shape script.calls;
       looks_leave = looks_leave script;
+      on_core = serial_record_runs script like;
       walks = walk_laws script is;
       plain = λ kind. plain_laws script bounds like.calls kind;
     }

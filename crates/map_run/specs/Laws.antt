@@ -12,6 +12,7 @@ use Rattle.map_types.specs.declared.reply.Reply.TheVariants.{Refused}
 use Rattle.map_types.specs.Stored.{Stored}
 use Rattle.map_types.specs.Replies.{error_of}
 use Rattle.map_script.specs.declared.script.Script.{Script}
+use Rattle.place_core.specs.Interleaving.{CoreRun}
 use Rattle.place_words.specs.declared.finals.Finals.{Finals}
 use Rattle.place_words.specs.Bodies.{present}
 use Rattle.place_words.specs.SerialOrder.{AlwaysGets, AlwaysRemoves}
@@ -107,6 +108,9 @@ pub record SerialLaws (script : Script) : Type 0 where
   -- a call that only looks leaves in each bucket what lay there
   pub looks_leave : (n : ℕ) (call : Call) → slice_get script.calls n ≡ Some call → OnlyLooks call.verb
       → (bucket : ℕ) → buckets_before script (n + 1) bucket ≡ buckets_before script n bucket
+  -- the turns of all locks, in the order of their tickets, are a run of the core: each turned into its steps, every one of which may be
+  -- done in its place
+  pub on_core : CoreRun script.shape (serial script).histories
   -- walks over the map as it is before any call, if nobody changes it meanwhile, give each key once, and each with its value
   pub walks : WalkLaws script
   pub plain : IsFalse (is_lru script.shape.kind) → PlainLaws script

@@ -8,3 +8,4 @@ pub mod State
 pub mod Steps
 pub mod Totals
 pub mod Wholeness
+pub mod Interleaving

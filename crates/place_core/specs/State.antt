@@ -4,9 +4,7 @@ use Rattle.std.specs.Prelude.{◌≡◌, ℕ, Bool, true, false, ⊤, List, [], 
 use Rattle.map_types.specs.declared.kind.DomainId.{DomainId}
 use Rattle.map_types.specs.declared.kind.DomainId.TheVariants.{Local, Global, CpuLru, Bucket, Freelist}
 use Rattle.place_words.specs.declared.home.Home.{Home}
-use Rattle.place_words.specs.declared.home.Home.TheVariants as homes
 use Rattle.place_words.specs.declared.owner.Owner.{Owner}
-use Rattle.place_words.specs.declared.owner.Owner.TheVariants as owners
 use Rattle.place_core.specs.declared.step.Lists.{Lists}
 use Rattle.map_types.specs.ElementLists.{IsIn}
 

@@ -28,6 +28,7 @@ pub mod CostLaws
 mod WalksWorked
 pub mod RowCounts
 pub mod Loses
+pub mod Cursors
 pub mod KeepLaws
 pub mod PlainLaws
 mod RunSpare

@@ -45,14 +45,14 @@ use Rattle.place_words.proofs.LockLemmas.{one_lock}
 
 -- Cursors: a theft starts at a CPU of the map
 
-abbrev LocalCursor : Shape → LocalPart → Type 0
+abbrev pub LocalCursor : Shape → LocalPart → Type 0
 LocalCursor shape (local.Pop key_hash e) = Unit {0}
 LocalCursor shape (local.Refill key_hash flushed gained got) = Unit {0}
 LocalCursor shape (local.Steal got first second) = Unit {0}
 LocalCursor shape (local.Add key_hash e cursor) = cursor < shape.cpus
 LocalCursor shape (local.Push e done) = Unit {0}
 
-abbrev HasCursor : Shape → Part → Type 0
+abbrev pub HasCursor : Shape → Part → Type 0
 HasCursor shape (parts.Bucket part) = Unit {0}
 HasCursor shape (parts.Free part) = Unit {0}
 HasCursor shape (parts.Local part) = LocalCursor shape part
@@ -77,14 +77,14 @@ steal_after shape cpu (parts.Local part) lists d has within = local_steal shape 
 steal_after shape cpu (parts.Global part) lists d has within = within
 steal_after shape cpu (parts.Own part) lists d has within = within
 
-abbrev StealsWithin : Shape → State → Type 0
+abbrev pub StealsWithin : Shape → State → Type 0
 StealsWithin shape state = (on : ℕ) → on < shape.cpus → (locals_at shape state on).steal < shape.cpus
 
 -- a turn of a lock of the map, or one that frees an element on a list set
-abbrev IsOurs : Shape → Turn → Type 0
+abbrev pub IsOurs : Shape → Turn → Type 0
 IsOurs shape turn = HasCursor shape turn.part × ((is_lock shape turn.lock ≡ true) ⊎ ((on : ℕ) × (e : ℕ) × (turn ≡ on_lock (CpuLru on) (parts.Own (own.Push e)))))
 
-abbrev AreOurs : Shape → List Turn → Type 0
+abbrev pub AreOurs : Shape → List Turn → Type 0
 AreOurs shape [] = Unit {0}
 AreOurs shape (turn ∷ turns) = IsOurs shape turn × AreOurs shape turns
 
@@ -101,7 +101,7 @@ steals_turned shape cpu number turn state has steals on within = by (is_same_loc
         subst (λ (here : Content). (unwrap_or (locals_in here) (new_locals on)).steal < shape.cpus) (sym lies) (steal_after shape cpu turn.part (locals_at shape state on) (new_locals on) has (steals on within))
     by false = steals on within
 
-steals_stay : (shape : Shape) (cpu number : ℕ) (turns : List Turn) → AreOurs shape turns → (state : State) → StealsWithin shape state → StealsWithin shape (all_turned shape cpu number turns state)
+pub steals_stay : (shape : Shape) (cpu number : ℕ) (turns : List Turn) → AreOurs shape turns → (state : State) → StealsWithin shape state → StealsWithin shape (all_turned shape cpu number turns state)
 steals_stay shape cpu number [] ours state steals = steals
 steals_stay shape cpu number (turn ∷ turns) ours state steals =
     steals_stay shape cpu number turns ours.1 (turned shape cpu number turn state) (steals_turned shape cpu number turn state ours.0.0 steals)
@@ -210,7 +210,7 @@ module _ (shape : Shape) (power : IsPowerOfTwo shape.buckets) (cpu number : ℕ)
       by true common = freed_ours common e (find (λ on. has_row e (locals_at shape state on).pending) (range_with_len 0 shape.cpus)) (λ on found. omega (arith, found_below (λ c. has_row e (locals_at shape state c).pending) 0 shape.cpus on found))
       by false apart = ((tt, inr (set_of shape e, e, refl)), tt)
 
-  ours_law : TurnLaw shape cpu number (λ side key value. Unit {0}) (λ state. (on : ℕ) → on < shape.cpus → (locals_at shape state on).steal < shape.cpus) (λ turns. AreOurs shape turns) (Unit {0})
+  pub ours_law : TurnLaw shape cpu number (λ side key value. Unit {0}) (λ state. (on : ℕ) → on < shape.cpus → (locals_at shape state on).steal < shape.cpus) (λ turns. AreOurs shape turns) (Unit {0})
   ours_law = record {
     none = tt;
     both = ours_both shape;
@@ -230,11 +230,11 @@ abbrev pub HasNoOthers : Shape → State → Type 0
 HasNoOthers shape state = (lock : DomainId) → is_lock shape lock ≡ false → state.logs lock ≡ []
 
 -- nothing is freed on a set on which nothing was given out
-never_pushed : (shape : Shape) (cpu on e : ℕ) → Allows shape cpu (parts.Own (own.Push e)) (content shape (CpuLru on) []) → ⊥
+pub never_pushed : (shape : Shape) (cpu on e : ℕ) → Allows shape cpu (parts.Own (own.Push e)) (content shape (CpuLru on) []) → ⊥
 unfolding replayed
 never_pushed shape cpu on e allowed = true≢false (sym allowed)
 
-turned_no_others : (shape : Shape) (cpu number : ℕ) (turn : Turn) (state : State) → IsOurs shape turn → Allows shape cpu turn.part (lies_in shape state turn.lock) → HasNoOthers shape state → HasNoOthers shape (turned shape cpu number turn state)
+pub turned_no_others : (shape : Shape) (cpu number : ℕ) (turn : Turn) (state : State) → IsOurs shape turn → Allows shape cpu turn.part (lies_in shape state turn.lock) → HasNoOthers shape state → HasNoOthers shape (turned shape cpu number turn state)
 turned_no_others shape cpu number turn state ours allowed none lock other = by (is_same_lock turn.lock lock) refl
   where
     here : turn.lock ≡ lock → (is_lock shape turn.lock ≡ true) ⊎ ((on : ℕ) × (e : ℕ) × (turn ≡ on_lock (CpuLru on) (parts.Own (own.Push e)))) → ⊥
@@ -248,7 +248,7 @@ turned_no_others shape cpu number turn state ours allowed none lock other = by (
     by true same = absurd (here (one_lock turn.lock lock same) ours.1)
     by false apart = none lock other
 
-all_no_others : (shape : Shape) (cpu number : ℕ) (turns : List Turn) (state : State) → AreOurs shape turns → AreLegalAt shape cpu (placed shape cpu number turns state) → HasNoOthers shape state → HasNoOthers shape (all_turned shape cpu number turns state)
+pub all_no_others : (shape : Shape) (cpu number : ℕ) (turns : List Turn) (state : State) → AreOurs shape turns → AreLegalAt shape cpu (placed shape cpu number turns state) → HasNoOthers shape state → HasNoOthers shape (all_turned shape cpu number turns state)
 all_no_others shape cpu number [] state ours legal none = none
 all_no_others shape cpu number (turn ∷ turns) state ours legal none =
     all_no_others shape cpu number turns (turned shape cpu number turn state) ours.1 legal.1 (turned_no_others shape cpu number turn state ours.0 legal.0.1 none)
@@ -262,7 +262,7 @@ run_no_others shape power number (call ∷ calls) state served done steals none 
     run_no_others shape power (suc number) calls (after_one shape number call state) (All-tail (λ (one : Call). one.cpu < shape.cpus) call calls served) done.1
     (steals_stay shape call.cpu number turns right.fits state steals) (all_no_others shape call.cpu number turns state right.fits done.0.legal none)
 
-first_steals : (shape : Shape) → StealsWithin shape (new_state shape)
+pub first_steals : (shape : Shape) → StealsWithin shape (new_state shape)
 unfolding replayed
 first_steals shape on within = within
 

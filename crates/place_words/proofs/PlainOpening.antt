@@ -103,7 +103,7 @@ one_most : (b : Bool) → one b ≤ 1
 one_most true = omega arith
 one_most false = omega arith
 
-spares_within : (shape : Shape) → HasBounds shape → (e : ℕ) → times e (opening_spares shape) ≤ one (ltb e shape.elements)
+pub spares_within : (shape : Shape) → HasBounds shape → (e : ℕ) → times e (opening_spares shape) ≤ one (ltb e shape.elements)
 unfolding opening_spares
 spares_within shape bounds e =
     let joined = range_first (λ c. times e (opening_stack shape c)) (λ cs. times e (flat_map (opening_stack shape) cs)) shape.cpus refl (λ c cs. times_append e (opening_stack shape c) (flat_map (opening_stack shape) cs)) in

@@ -4,6 +4,7 @@ pub mod Buckets
 pub mod Choices
 pub mod Codes
 pub mod Counts
+pub mod Cursors
 pub mod Evicting
 pub mod Freelists
 pub mod Globals

@@ -18,7 +18,7 @@ use Rattle.place_words.specs.Turns.{Turn}
 -- Which calls are in a phase
 
 -- Calls are numbered from 1. A cut is the number of calls before the line that starts the next phase, so that as many cuts are
--- below a call's number as there are phases before its own. Cuts ascend.
+-- below a call's number as there are phases before its own. Cuts never fall.
 abbrev pub phase_of : List ℕ → ℕ → ℕ
 phase_of cuts number = length (filter (λ (cut : ℕ). nat_lt cut number) cuts)
 

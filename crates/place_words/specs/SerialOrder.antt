@@ -1,15 +1,12 @@
 -- What holds of every run of a map of any kind in serial order. On a map that evicts no element is in the hand of a CPU between
 -- calls: each lies on a list, and in a bucket unless it is free. So a walk finds each element that it probes in its bucket, as
 -- the kernel's `htab_lru_map_delete_node` then does, and an update finds one that it can take.
-use Rattle.std.specs.Prelude.{◌≡◌, ◌≢◌, ℕ, suc, ◌<◌, ◌≤◌, MatchBool, List, [], ◌∷◌, All, Some, IsSome, IsTrue}
+use Rattle.std.specs.Prelude.{◌≡◌, ℕ, suc, ◌<◌, ◌≤◌, MatchBool, List, [], ◌∷◌, All, IsSome, IsTrue}
 use Rattle.map_types.specs.declared.attr.Shape.{Shape}
 use Rattle.map_types.specs.declared.call.Call.{Call}
 use Rattle.map_types.specs.declared.kind.DomainId.{DomainId}
 use Rattle.map_types.specs.declared.kind.MapKind.TheVariants.{Hash}
-use Rattle.map_types.specs.declared.refusal.Errno.TheVariants.{Enomem}
-use Rattle.map_types.specs.declared.reply.Reply.{Reply}
 use Rattle.map_types.specs.Kind.{is_lru}
-use Rattle.map_types.specs.Replies.{error_of}
 use Rattle.place_words.specs.declared.bucket_part.BucketPart.{BucketPart}
 use Rattle.place_words.specs.declared.bucket_part.BucketPart.TheVariants.{Lookup, Update, Delete, Take, Next, First, Walk, Evict}
 use Rattle.place_words.specs.declared.history.Entry.{Entry}
@@ -17,7 +14,7 @@ use Rattle.place_words.specs.declared.history.Part.{Part}
 use Rattle.place_words.specs.declared.history.Part.TheVariants as parts
 use Rattle.place_words.specs.declared.visits.Try.{Try}
 use Rattle.place_words.specs.Histories.{IsLegal}
-use Rattle.place_words.specs.Logs.{State, IsDone, new_state, after_one, run, answers}
+use Rattle.place_words.specs.Logs.{State, IsDone, new_state, after_one, run}
 use Rattle.place_words.specs.Phases.{GetsFrom}
 use Rattle.place_words.specs.Shrinking.{try_removed}
 use Rattle.place_words.specs.Takings.{local_probes, global_probes, own_probes}

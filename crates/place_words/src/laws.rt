@@ -13,6 +13,7 @@ ghost use Rattle.place_words.specs.declared.history.Entry as entries;
 ghost use Rattle.place_words.specs.declared.history.Part as parts;
 ghost use Rattle.place_words.specs.AtRest.{IsStart};
 ghost use Rattle.place_words.specs.Counts.{IsWithinShared, IsWithinOwn};
+ghost use Rattle.place_words.specs.Cursors.{HasCursorWithin};
 ghost use Rattle.place_words.specs.Histories.{Content, Allows, content_after};
 ghost use Rattle.place_words.specs.Logs.{State, new_state, run};
 ghost use Rattle.place_words.specs.Moves.{elements_in, brought, taken, KeepsElements};
@@ -45,7 +46,8 @@ pub fn bound_laws()
 
 /// What each turn keeps of what lies under its lock, where each element lies there once at most: no element is lost and none
 /// comes from nowhere, and every row stays with its hash but for those that the turn makes vanish. Each element lies there
-/// once at most after it too, where none is brought that was there and isn't taken.
+/// once at most after it too, where none is brought that was there and isn't taken. And the rotation cursor of a list set stays
+/// on an inactive element, or at the mark.
 pub fn keep_laws()
     ensures elements { (shape : shapes.Shape) (cpu : ℕ) (part : parts.Part) (content : Content)
         → Allows shape cpu part content → IsOnce content → KeepsElements shape cpu part content }
@@ -56,6 +58,8 @@ pub fn keep_laws()
         → ((e : ℕ) → times e (elements_in content) + times e (brought part)
         ≤ 1 + times e (taken part))
         → IsOnce (content_after shape cpu part content) }
+    ensures cursor { (shape : shapes.Shape) (cpu : ℕ) (part : parts.Part) (content : Content)
+        → HasCursorWithin content → HasCursorWithin (content_after shape cpu part content) }
 {}
 
 /// What holds of every run of calls in serial order, of a map of any kind that can be created, next key and batches included. It

@@ -1,0 +1,9 @@
+pub mod Rows
+pub mod Serial
+pub mod RowApart
+pub mod RowFlushed
+pub mod RowPhases
+pub mod Words
+pub mod Races
+pub mod RaceRows
+pub mod SharedRaces
