@@ -5,9 +5,3 @@ pub mod Found
 pub mod Gathered
 pub mod Wholes
 pub mod Ends
-pub mod Emptied
-pub mod TakenOut
-pub mod TakenOn
-pub mod LruOut
-pub mod LruFreed
-pub mod LruWhole

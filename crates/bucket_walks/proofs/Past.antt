@@ -15,23 +15,14 @@ use Rattle.place_words.specs.Walks.{Firsts, buckets_from}
 use Rattle.place_table.specs.Known.{turn_of}
 use Rattle.place_table.specs.Passes.{PassView, TableView}
 use Rattle.place_table.proofs.Entries.{append_nil}
+use Rattle.place_table.proofs.Ranges.{range_split, range_at}
 use Rattle.bucket_walks.specs.Looks.{LooksInto, WalkedPast, WalksOn, key_where, found_none}
 use Rattle.bucket_walks.proofs.Told.{looked_nowhere, looked_on}
-use Rattle.hash_ops.proofs.Pops.{range_split}
 
 -- Traces from their end: where the rest of a walk looks at the later buckets, the whole looks at those found empty before it too.
 firsts_past : (passed rest : List ℕ) (turns : List Turn) (reply : Reply) → Firsts rest turns reply → Firsts (passed ++ rest) (found_none passed ++ turns) reply
 firsts_past [] rest turns reply later = later
 firsts_past (bucket ∷ passed) rest turns reply later = (None, found_none passed ++ turns, refl, firsts_past passed rest turns reply later)
-
--- The buckets from one on, cut at one of them
-
--- those before a bucket, itself, and those after it
-range_at : (from bucket to : ℕ) → from ≤ bucket → bucket < to → range_with_len from (to - from) ≡ range_with_len from (bucket - from) ++ bucket ∷ range_with_len (bucket + 1) (to - (bucket + 1))
-range_at from bucket to after before =
-    let count : to - from ≡ bucket - from + suc (to - (bucket + 1)) = omega arith in
-    let start : from + (bucket - from) ≡ bucket = omega arith in
-    ap (range_with_len from) count ∙ (range_split from (bucket - from) (suc (to - (bucket + 1))) ∙ ap (λ k. range_with_len from (bucket - from) ++ range_with_len k (suc (to - (bucket + 1)))) start)
 
 -- Those before a bucket, where a loop to `to` stands at it: none at first, one more after each, and all at the end
 

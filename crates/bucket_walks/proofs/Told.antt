@@ -19,9 +19,9 @@ use Rattle.place_table.specs.Calls.{AreTold, sets_bit, bits_of_part, bits_of_tur
 use Rattle.place_table.specs.Known.{BitTouch, turn_of, turn_at, IsBy}
 use Rattle.place_table.specs.Passes.{PassView, TableView}
 use Rattle.place_table.proofs.Going.{goes_nowhere, made_on, learns_on, learns_none}
+use Rattle.place_table.proofs.TurnsOn.{among_behind, among_before, told_where, told_append}
 use Rattle.place_table.proofs.Worlds.{by_bool}
 use Rattle.bucket_walks.specs.Looks.{IsLook, AreLooks, Looked}
-use Rattle.lru_ops.proofs.Ends.{among_behind, among_before, told_where, told_append}
 
 -- What turns are told as
 

@@ -22,7 +22,7 @@ use Rattle.place_table.specs.declared.view.View.{View}
 use Rattle.place_table.specs.declared.view.Hold.{Hold}
 use Rattle.place_table.specs.declared.view.Notes.{Notes}
 use Rattle.place_table.specs.declared.view.Turned.{Turned}
-use Rattle.place_core.specs.declared.step.Lists.{Lists}
+use Rattle.place_words.specs.declared.step.Lists.{Lists}
 use Rattle.place_table.specs.Calls.{CouldBe, IsTold}
 use Rattle.place_table.specs.Contents.{content_told, FitsLock}
 use Rattle.place_table.specs.Flushes.{flushes}
@@ -34,6 +34,7 @@ use Rattle.place_table.specs.TurnNotes.{NotesFit, WasRead, ProbeFits, CameToHand
 use Rattle.place_table.specs.Views.{known_log, holding, given, with_lost, no_notes, notes_below, holds_below, ticket_of}
 use Rattle.place_table.proofs.BucketBodies.{rows_taken}
 use Rattle.place_table.proofs.Entries.{append_nil}
+use Rattle.place_table.proofs.Ranges.{bucket_there}
 use Rattle.place_table.proofs.TakeToGive.{none_passed}
 use Rattle.place_table.proofs.Going.{goes_on, goes_took, goes_gave, goes_gave_some, goes_of_table, goes_begun, given_turn, same_head, learns_after, learns_took, learns_gave}
 use Rattle.place_table.proofs.StoredHashes.{none_stored}
@@ -41,7 +42,6 @@ use Rattle.place_table.proofs.TurnClears.{same_clears}
 use Rattle.place_table.proofs.Worlds.{among_first}
 use Rattle.bucket_walks.specs.Looks.{CanEnter, Enters, IsLook, LooksInto}
 use Rattle.bucket_walks.proofs.Told.{marks_none, probes_none}
-use Rattle.lru_ops.proofs.Under.{bucket_there}
 
 -- Entering
 

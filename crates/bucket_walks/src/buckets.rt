@@ -13,13 +13,11 @@ use bucket_chain::Chain;
 use bucket_entries::body_at;
 use map_types::{DomainId, Gate};
 use place_table::{Content, Pass, PlaceTable};
-use std::alloc::Global;
 use std::sync::Wait;
 
 /// Looks at the head of a bucket, in one turn: whether there is one, with its key copied to `out`. Else `out` stays.
 pub(crate) fn first_in<R: Wait, G: Gate>(
     rt: &R,
-    alloc: Global,
     table: &PlaceTable,
     pass: &mut Pass,
     bucket: u32,
@@ -35,7 +33,7 @@ pub(crate) fn first_in<R: Wait, G: Gate>(
 {
     let chain = enter(rt, table, pass, bucket, gate);
     let found = copy_first(&chain, out);
-    let part = first_part(alloc, found, out);
+    let part = first_part(table.alloc(), found, out);
     table.give(
         pass,
         DomainId::Bucket(bucket),
@@ -56,7 +54,6 @@ pub(crate) struct BucketKey<'a> {
 /// Looks at what follows a key in its bucket, in one turn. The key that does is copied to `out`. Where there is none, `out` stays.
 pub(crate) fn next_in<R: Wait, G: Gate>(
     rt: &R,
-    alloc: Global,
     table: &PlaceTable,
     pass: &mut Pass,
     from: BucketKey,
@@ -72,7 +69,7 @@ pub(crate) fn next_in<R: Wait, G: Gate>(
 {
     let chain = enter(rt, table, pass, from.bucket, gate);
     let after = copy_after(&chain, from.key, out);
-    let part = next_part(alloc, from.key, after, out);
+    let part = next_part(table.alloc(), from.key, after, out);
     table.give(
         pass,
         DomainId::Bucket(from.bucket),
@@ -84,7 +81,7 @@ pub(crate) fn next_in<R: Wait, G: Gate>(
 }
 
 /// Takes a bucket.
-pub(crate) fn enter<R: Wait, G: Gate>(
+pub fn enter<R: Wait, G: Gate>(
     rt: &R,
     table: &PlaceTable,
     pass: &mut Pass,

@@ -1,4 +1,5 @@
-//! Walks over the buckets of a map of any kind: next key, batch lookups and batch takes.
+//! Reads that walk over the buckets of a map of any kind: next key and batch lookups; and how one bucket is read, with which batch
+//! takes begin.
 #![tactic(auto)]
 
 mod buckets;
@@ -6,11 +7,11 @@ mod next;
 mod parts;
 mod read;
 mod room;
-mod take_lru;
-mod take_plain;
 mod whole;
 
+pub use buckets::enter;
 pub use next::next_key;
-pub use read::{BatchOut, BatchRefusal, BatchRequest, look_up_batch};
-pub use take_lru::take_batch_lru;
-pub use take_plain::take_batch_plain;
+pub use parts::walk_part;
+pub use read::{BatchOut, BatchRefusal, BatchRequest, Planned, look_up_batch, plan, read_out};
+pub use room::ReadRoom;
+pub use whole::read_whole;

@@ -11,7 +11,6 @@ use crate::parts::After;
 use bucket_entries::bucket_number;
 use map_types::{Absent, Gate};
 use place_table::{Pass, PlaceTable};
-use std::alloc::Global;
 use std::sync::Wait;
 
 /// Copies to `out` the key that follows another one in the order of a walk: the next one in its bucket, else the first one of
@@ -22,7 +21,6 @@ use std::sync::Wait;
 /// one. The rule is that of `htab_map_get_next_key`.
 pub fn next_key<R: Wait, G: Gate>(
     rt: &R,
-    alloc: Global,
     table: &PlaceTable,
     pass: &mut Pass,
     key: Option<&[u8]>,
@@ -38,15 +36,14 @@ pub fn next_key<R: Wait, G: Gate>(
     ensures refused { IfErr result (λ _. out.new ≡ out.old) }
 {
     match key {
-        None => first_key(rt, alloc, table, pass, out, gate),
-        Some(key) => key_after(rt, alloc, table, pass, key, out, gate),
+        None => first_key(rt, table, pass, out, gate),
+        Some(key) => key_after(rt, table, pass, key, out, gate),
     }
 }
 
 /// The first key of the map.
 fn first_key<R: Wait, G: Gate>(
     rt: &R,
-    alloc: Global,
     table: &PlaceTable,
     pass: &mut Pass,
     out: &mut [u8],
@@ -58,13 +55,12 @@ fn first_key<R: Wait, G: Gate>(
         (reply_of_value result out.new) }
     ensures refused { IfErr result (λ _. out.new ≡ out.old) }
 {
-    first_from(rt, alloc, table, pass, 0, out, gate)
+    first_from(rt, table, pass, 0, out, gate)
 }
 
 /// The key after another one.
 fn key_after<R: Wait, G: Gate>(
     rt: &R,
-    alloc: Global,
     table: &PlaceTable,
     pass: &mut Pass,
     key: &[u8],
@@ -81,9 +77,9 @@ fn key_after<R: Wait, G: Gate>(
 {
     let bucket = bucket_number(table.shape(), key);
     let from = BucketKey { bucket, key };
-    match next_in(rt, alloc, table, pass, from, out, gate) {
-        After::Absent => first_from(rt, alloc, table, pass, 0, out, gate),
-        After::Last => first_from(rt, alloc, table, pass, bucket + 1, out, gate),
+    match next_in(rt, table, pass, from, out, gate) {
+        After::Absent => first_from(rt, table, pass, 0, out, gate),
+        After::Last => first_from(rt, table, pass, bucket + 1, out, gate),
         After::Key => Ok(()),
     }
 }
@@ -91,7 +87,6 @@ fn key_after<R: Wait, G: Gate>(
 /// The first key of the first bucket that isn't empty, from this one on.
 fn first_from<R: Wait, G: Gate>(
     rt: &R,
-    alloc: Global,
     table: &PlaceTable,
     pass: &mut Pass,
     from: u32,
@@ -105,7 +100,7 @@ fn first_from<R: Wait, G: Gate>(
 {
     let buckets = table.shape().buckets;
     for bucket in from..buckets {
-        if first_in(rt, alloc, table, pass, bucket, out, gate) {
+        if first_in(rt, table, pass, bucket, out, gate) {
             return Ok(());
         }
     }

@@ -72,7 +72,7 @@ fn next_found(alloc: Global, after: After, next: &[u8]) -> Result<NextFound, NoM
 }
 
 /// The entry of a batch read that comes by with room for so many elements, and takes them out or doesn't.
-pub(crate) fn walk_part(
+pub fn walk_part(
     alloc: Global,
     remove: bool,
     shape: &Shape,

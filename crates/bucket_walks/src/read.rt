@@ -97,13 +97,13 @@ pub fn look_up_batch<R: Wait, G: Gate>(
 
 /// A batch read that is to go over buckets: the first of them, and room for all that it may read.
 #[derive(Drop)]
-pub(crate) struct Planned {
-    pub(crate) from: u32,
-    pub(crate) out: ReadRoom,
+pub struct Planned {
+    pub from: u32,
+    pub out: ReadRoom,
 }
 
 /// Where a batch read starts, with room for what it reads, or nothing where it is to read nothing.
-pub(crate) fn plan(
+pub fn plan(
     alloc: Global,
     shape: &Shape,
     request: BatchRequest,
@@ -162,7 +162,7 @@ fn read_from<R: Wait, G: Gate>(
 }
 
 /// What a batch read gives that ended at this bucket, or after the last one.
-pub(crate) fn read_out(shape: &Shape, next: u32, out: ReadRoom) -> BatchOut
+pub fn read_out(shape: &Shape, next: u32, out: ReadRoom) -> BatchOut
     ensures { result ≡ outs.Read (stop_of shape.now next out.pairs) out.pairs next }
 {
     let taken = out.into_pairs();

@@ -16,7 +16,7 @@ use std::marker::Model;
 
 /// Keys with values, as the system call reads them, and room for some more. Memory for all of them is found at the start.
 #[derive(Drop)]
-pub(crate) struct ReadRoom {
+pub struct ReadRoom {
     count: u32,
     limit: u32,
     key_size: usize,
@@ -76,7 +76,7 @@ impl ReadRoom {
     }
 
     /// How many more pairs there is room for.
-    pub(crate) fn left(&self) -> u32
+    pub fn left(&self) -> u32
         ensures value { result ≡ self.now.limit - length self.now.pairs }
         ensures within { length self.now.pairs ≤ self.now.limit }
     {

@@ -51,7 +51,7 @@ pub(crate) fn read_in<R: Wait, G: Gate>(
 }
 
 /// Reads a bucket whole where there is room for it.
-pub(crate) fn read_whole(shape: &Shape, cpu: u32, chain: &Chain, out: &mut ReadRoom) -> bool
+pub fn read_whole(shape: &Shape, cpu: u32, chain: &Chain, out: &mut ReadRoom) -> bool
     requires bounds { HasBounds shape.now }
     requires cpu { cpu < shape.now.cpus }
     requires sized { All (IsSized shape.now) chain.now.bodies }

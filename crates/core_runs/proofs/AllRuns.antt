@@ -27,7 +27,7 @@ use Rattle.place_words.specs.Walks.{Firsts, GoesOn, IsNextTrace, Walks, AfterWal
 use Rattle.place_words.proofs.EachTurn.{buckets_within}
 use Rattle.place_words.proofs.PlacedContents.{lies_after_all}
 use Rattle.place_words.proofs.PlacedLaws.{placed_turns}
-use Rattle.place_core.specs.Interleaving.{Drawn, interleaved, AreEnabled}
+use Rattle.place_words.specs.Interleaving.{Drawn, interleaved, AreEnabled}
 use Rattle.core_runs.proofs.BatchCalls.{write_goes, spare_both, same_spare, plain_writes_go, plain_walks_go}
 use Rattle.core_runs.proofs.Chases.{turns_split}
 use Rattle.core_runs.proofs.EvictingCalls.{Supplies, own_supplies, shared_supplies, evicting_goes, first_one, second}
@@ -77,9 +77,9 @@ module _ {shape : Shape} (bounds : HasBounds shape) (lru : is_lru shape.kind ≡
 
   -- From each state of the core that is tied to a state of the run the turns of calls are a run, whatever comes after them runs from
   -- the states after them.
-  pub evicting_all : (calls : List Call) (number : ℕ) (state : State) (s : Rattle.place_core.specs.State.State) (more : List Drawn) → AreServed shape calls → AreDone shape number calls state → AreClean shape number calls state
+  pub evicting_all : (calls : List Call) (number : ℕ) (state : State) (s : Rattle.place_words.specs.State.State) (more : List Drawn) → AreServed shape calls → AreDone shape number calls state → AreClean shape number calls state
       → AreFrom (run shape number calls state).next_ticket more → IsTied shape 0 [] (core_lists (lies_in shape state)) Nobody s
-      → ((t : Rattle.place_core.specs.State.State) → IsTied shape 0 [] (core_lists (lies_in shape (run shape number calls state))) Nobody t → AreEnabled shape t (interleaved shape (lies_in shape (run shape number calls state)) [] more))
+      → ((t : Rattle.place_words.specs.State.State) → IsTied shape 0 [] (core_lists (lies_in shape (run shape number calls state))) Nobody t → AreEnabled shape t (interleaved shape (lies_in shape (run shape number calls state)) [] more))
       → AreEnabled shape s (interleaved shape (lies_in shape state) [] (drawn_calls shape number calls state ++ more))
   evicting_all [] number state s more served done clean from tied then = then s tied
   evicting_all (call ∷ calls) number state s more served done clean from tied then =

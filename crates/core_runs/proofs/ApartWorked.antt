@@ -9,7 +9,7 @@ use Rattle.place_words.specs.Openings.{opening_stack, opening_spares, opening_ow
 use Rattle.place_words.specs.Rotation.{rotated, active_visited, active_rotated, inactive_order, inactive_visited, inactive_rotated}
 use Rattle.place_words.specs.Sets.{own_after}
 use Rattle.place_words.specs.Shrinking.{after_looks, after_tries, shrunk}
-use Rattle.place_core.specs.Interleaving.{enclosing, turn_events, interleaved}
+use Rattle.place_words.specs.Interleaving.{enclosing, turn_events, interleaved}
 use Rattle.core_runs.specs.RowApart.{ApartEvents}
 use Rattle.core_runs.specs.RowFlushed.{FlushedEvents}
 use Rattle.core_runs.specs.RowPhases.{PhasesEvents}

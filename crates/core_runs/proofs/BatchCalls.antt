@@ -28,7 +28,7 @@ use Rattle.place_words.specs.Walks.{AfterWalk, Walks, Writes, IsWriteBatch, walk
 use Rattle.place_words.proofs.EachTurn.{AreWithin, first_within, others_within}
 use Rattle.place_words.proofs.PlacedContents.{lies_after_all}
 use Rattle.place_words.proofs.PlacedLaws.{placed_turns}
-use Rattle.place_core.proofs.ElementLemmas.{put_here}
+use Rattle.place_words.proofs.ElementLemmas.{put_here}
 use Rattle.core_runs.proofs.Chases.{placed_split, turns_split}
 use Rattle.core_runs.proofs.EvictingCalls.{Supplies, second, first_one, evicting_goes}
 use Rattle.core_runs.proofs.OwnCalls.{AreFine, Nobody}
@@ -126,7 +126,7 @@ module _ {shape : Shape} (bounds : HasBounds shape) (plain : is_lru shape.kind �
           (goes_weaker _ (AreSpares next) (AreSpares next) (AreSpares (put next cpu (next cpu))) [] (same_spare next) (goes_none _ (AreSpares next)))
 
   -- a batch read
-  plain_steps : (bucket : ℕ) (part : BucketPart) (b : Bool) → b ≡ false → Rattle.place_core.specs.Interleaving.leave_steps b cpu bucket (taken_from_bucket part) ≡ []
+  plain_steps : (bucket : ℕ) (part : BucketPart) (b : Bool) → b ≡ false → Rattle.place_words.specs.Interleaving.leave_steps b cpu bucket (taken_from_bucket part) ≡ []
   plain_steps bucket part b is = cond-false b _ _ is
 
   plain_walk_go : (Known : ℕ → ℕ → Type 0) (bucket : ℕ) (remove : Bool) (room : ℕ) (result : Walked) (contents : DomainId → Content) → bucket < shape.buckets

@@ -24,13 +24,13 @@ use Rattle.place_words.specs.Turns.{Turn, on_lock, after_turn}
 use Rattle.place_words.proofs.LockLemmas.{same_lock}
 use Rattle.place_words.proofs.Settled.{turned_here}
 use Rattle.place_words.proofs.Splits.{there}
-use Rattle.place_core.specs.declared.step.Lists.{Lists}
-use Rattle.place_core.specs.declared.step.Step.{Step}
-use Rattle.place_core.specs.declared.step.Step.TheVariants as steps
-use Rattle.place_core.specs.State.{State, rows, is_bucket}
-use Rattle.place_core.specs.Steps.{with_row, without_row, IsLockHome}
-use Rattle.place_core.proofs.ElementLemmas.{times_cons_same, times_cons_other}
-use Rattle.place_core.specs.Interleaving.{Drawn, Event, does, is_inner, part_steps, seen_by, lists_in, takes, interleaved, AreEnabled}
+use Rattle.place_words.specs.declared.step.Lists.{Lists}
+use Rattle.place_words.specs.declared.step.Step.{Step}
+use Rattle.place_words.specs.declared.step.Step.TheVariants as steps
+use Rattle.place_words.specs.State.{State, rows, is_bucket}
+use Rattle.place_words.specs.Steps.{with_row, without_row, IsLockHome}
+use Rattle.place_words.proofs.ElementLemmas.{times_cons_same, times_cons_other}
+use Rattle.place_words.specs.Interleaving.{Drawn, Event, does, is_inner, part_steps, seen_by, lists_in, takes, interleaved, AreEnabled}
 use Rattle.core_runs.proofs.Evictions.{Hands}
 use Rattle.core_runs.proofs.ListGoes.{in_hand_more}
 use Rattle.core_runs.proofs.Nests.{from_less, drawn, turn_alone}

@@ -18,10 +18,10 @@ use Rattle.place_words.specs.PlainTraces.{spare_after_part}
 use Rattle.place_words.specs.Turns.{Turn, AreAllowed, AreLegalAt}
 use Rattle.place_words.proofs.AnyStart.{tickets_after}
 use Rattle.place_words.proofs.PlacedLaws.{lies_after}
-use Rattle.place_core.specs.declared.step.Lists.{Lists}
-use Rattle.place_core.specs.Opening.{opening, opening_lists}
-use Rattle.place_core.proofs.OpeningLaws.{opening_placed}
-use Rattle.place_core.specs.Interleaving.{Drawn, lists_in}
+use Rattle.place_words.specs.declared.step.Lists.{Lists}
+use Rattle.place_words.specs.OpeningState.{opening, opening_lists}
+use Rattle.place_words.proofs.OpeningLaws.{opening_placed}
+use Rattle.place_words.specs.Interleaving.{Drawn, lists_in}
 use Rattle.core_runs.proofs.Nests.{stamped, stamped_from, AreFrom, from_both, from_less}
 use Rattle.core_runs.proofs.PlainGoes.{AreSpares}
 use Rattle.core_runs.proofs.PlainRuns.{core_lists}
@@ -75,7 +75,7 @@ others_spares shape cpu number (turn ∷ turns) state plain c other =
     ∙ by_test c cpu (λ b. cond b (spare_after_part (state.spares cpu) turn.part) (state.spares c) ≡ state.spares c) (λ same. absurd (other same)) (λ _. refl)
 
 -- where nobody holds a lock, no CPU does
-pub any_cpu : {shape : Shape} {cpu : ℕ} (other : ℕ) {lists : DomainId → Lists} {Known : ℕ → ℕ → Type 0} {s : Rattle.place_core.specs.State.State} → IsTied shape cpu [] lists Known s → IsTied shape other [] lists Known s
+pub any_cpu : {shape : Shape} {cpu : ℕ} (other : ℕ) {lists : DomainId → Lists} {Known : ℕ → ℕ → Type 0} {s : Rattle.place_words.specs.State.State} → IsTied shape cpu [] lists Known s → IsTied shape other [] lists Known s
 any_cpu other tied = record { holders = tied.holders; lists_are = tied.lists_are; placed = tied.placed; known = tied.known }
 
 -- The opening

@@ -37,8 +37,8 @@ use Rattle.place_words.proofs.AnyStart.{IsStart, done_from, new_start}
 use Rattle.place_words.proofs.EachTurn.{does_right, verb_passes}
 use Rattle.place_words.proofs.OnLocks.{IsOurs, AreOurs, StealsWithin, HasNoOthers, never_pushed, turned_no_others, all_no_others, steals_stay, first_steals, ours_law}
 use Rattle.place_words.proofs.PlainOpening.{spares_within}
-use Rattle.place_core.specs.Opening.{opening}
-use Rattle.place_core.specs.Interleaving.{Drawn, CoreRun, interleaved, AreEnabled}
+use Rattle.place_words.specs.OpeningState.{opening}
+use Rattle.place_words.specs.Interleaving.{Drawn, CoreRun, interleaved, AreEnabled}
 use Rattle.core_runs.proofs.AllRuns.{AreServed, AreClean, evicting_all}
 use Rattle.core_runs.proofs.CallTurns.{drawn_calls, opening_tied}
 use Rattle.core_runs.proofs.Nests.{AreFrom}
@@ -147,14 +147,14 @@ first_known shape bounds c e is =
 -- Runs
 
 -- The core between calls: no lock is held, its lists are what lies under the locks, and each spare is in the hand of its CPU.
-abbrev pub IsBetween : Shape → State → Rattle.place_core.specs.State.State → Type 0
+abbrev pub IsBetween : Shape → State → Rattle.place_words.specs.State.State → Type 0
 IsBetween shape state s = IsTied shape 0 [] (core_lists (lies_in shape state)) (AreSpares state.spares) s
 
 -- From any state in which no call is under way the turns of calls in serial order are a run of the core, and whatever comes after them
 -- runs from the states after them: so a run may be cut anywhere between calls, as at the start of a phase.
 pub calls_go : (shape : Shape) → IsShape shape → (number : ℕ) (calls : List Call) (state : State) → All (λ (call : Call). call.cpu < shape.cpus) calls → IsStart shape state → StealsWithin shape state → HasNoOthers shape state
-    → (s : Rattle.place_core.specs.State.State) (more : List Drawn) → IsBetween shape state s → AreFrom (run shape number calls state).next_ticket more
-    → ((t : Rattle.place_core.specs.State.State) → IsBetween shape (run shape number calls state) t → AreEnabled shape t (interleaved shape (lies_in shape (run shape number calls state)) [] more))
+    → (s : Rattle.place_words.specs.State.State) (more : List Drawn) → IsBetween shape state s → AreFrom (run shape number calls state).next_ticket more
+    → ((t : Rattle.place_words.specs.State.State) → IsBetween shape (run shape number calls state) t → AreEnabled shape t (interleaved shape (lies_in shape (run shape number calls state)) [] more))
     → AreEnabled shape s (interleaved shape (lies_in shape state) [] (drawn_calls shape number calls state ++ more))
 calls_go shape created number calls state served start steals none s more between from then = by (is_lru shape.kind) refl
   where

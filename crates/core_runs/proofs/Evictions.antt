@@ -20,11 +20,11 @@ use Rattle.place_words.specs.Histories.{Content, in_bucket}
 use Rattle.place_words.specs.Locks.{is_lock}
 use Rattle.place_words.specs.Turns.{Turn, on_lock, after_turn, after_turns, AreAllowed}
 use Rattle.place_words.proofs.Splits.{some_there, find_splits, find_passes}
-use Rattle.place_core.specs.declared.step.Lists.{Lists}
-use Rattle.place_core.specs.State.{State}
-use Rattle.place_core.specs.Steps.{without_row}
-use Rattle.place_core.proofs.ElementLemmas.{times_cons_same, times_cons_other}
-use Rattle.place_core.specs.Interleaving.{Drawn, lists_in, interleaved, AreEnabled}
+use Rattle.place_words.specs.declared.step.Lists.{Lists}
+use Rattle.place_words.specs.State.{State}
+use Rattle.place_words.specs.Steps.{without_row}
+use Rattle.place_words.proofs.ElementLemmas.{times_cons_same, times_cons_other}
+use Rattle.place_words.specs.Interleaving.{Drawn, lists_in, interleaved, AreEnabled}
 use Rattle.core_runs.proofs.Nests.{stamped, AreBeside, Inside}
 use Rattle.core_runs.proofs.PlainRuns.{core_lists, tied_alike, then_alike, on_bodies, bucket_lists, lists_turned}
 use Rattle.core_runs.proofs.PlainGoes.{without_middle, bucket_once, bucket_owns}

@@ -12,14 +12,14 @@ use Rattle.map_types.proofs.RowLemmas.{times_append, by_test}
 use Rattle.place_words.specs.Locks.{is_lock, lock_number, lock_named, is_same_lock}
 use Rattle.place_words.proofs.BucketLaws.{times_more}
 use Rattle.place_words.proofs.LockLemmas.{named_by_number, same_lock, one_lock}
-use Rattle.place_core.specs.declared.step.Lists.{Lists}
-use Rattle.place_core.specs.declared.step.Step.TheVariants as steps
-use Rattle.place_core.specs.Places.{Placed, has_row, lies_at}
+use Rattle.place_words.specs.declared.step.Lists.{Lists}
+use Rattle.place_words.specs.declared.step.Step.TheVariants as steps
+use Rattle.place_words.specs.Places.{Placed, has_row, lies_at}
 use Rattle.map_types.specs.Kind.{is_lru}
-use Rattle.place_core.specs.State.{State, rows, is_bucket, HasOnlyItsLists, HasCursorInside}
-use Rattle.place_core.specs.Steps.{IsEnabled, after, lists_under, with_row, without_row, with_free, without_free}
-use Rattle.place_core.proofs.ElementLemmas.{put_here, put_else, times_cons_same, times_cons_other, times_without_same, times_without_other}
-use Rattle.place_core.proofs.StepLaws.{step_keeps_places}
+use Rattle.place_words.specs.State.{State, rows, is_bucket, HasOnlyItsLists, HasCursorInside}
+use Rattle.place_words.specs.Steps.{IsEnabled, after, lists_under, with_row, without_row, with_free, without_free}
+use Rattle.place_words.proofs.ElementLemmas.{put_here, put_else, times_cons_same, times_cons_other, times_without_same, times_without_other}
+use Rattle.place_words.proofs.StepLaws.{step_keeps_places}
 use Rattle.core_runs.proofs.Ties.{with_lists}
 use Rattle.core_runs.specs.Words.{GivesLists}
 

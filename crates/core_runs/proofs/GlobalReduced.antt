@@ -24,13 +24,13 @@ use Rattle.place_words.specs.Sets.{ListSet}
 use Rattle.place_words.specs.Takings.{freed_by}
 use Rattle.place_words.proofs.KeepLaws.{keeps_elements}
 use Rattle.place_words.proofs.LockLemmas.{named_by_number}
-use Rattle.place_core.specs.declared.step.Lists.{Lists}
-use Rattle.place_core.specs.declared.step.Step.TheVariants as steps
-use Rattle.place_core.specs.Places.{has_row, lies_at}
-use Rattle.place_core.specs.State.{State, rows, HasCursorInside}
-use Rattle.place_core.specs.Steps.{after}
+use Rattle.place_words.specs.declared.step.Lists.{Lists}
+use Rattle.place_words.specs.declared.step.Step.TheVariants as steps
+use Rattle.place_words.specs.Places.{has_row, lies_at}
+use Rattle.place_words.specs.State.{State, rows, HasCursorInside}
+use Rattle.place_words.specs.Steps.{after}
 use Rattle.place_words.specs.declared.home.Home.TheVariants as homes
-use Rattle.place_core.specs.Interleaving.{Event, does, set_lists, global_steps, freed_steps}
+use Rattle.place_words.specs.Interleaving.{Event, does, set_lists, global_steps, freed_steps}
 use Rattle.core_runs.specs.Words.{ListsAllow}
 use Rattle.core_runs.proofs.Ties.{with_lists}
 use Rattle.core_runs.proofs.Fits.{Fits, fits_alike, give_list_fits}

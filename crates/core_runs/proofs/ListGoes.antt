@@ -26,13 +26,13 @@ use Rattle.place_words.specs.Turns.{Turn, on_lock, after_turn}
 use Rattle.place_words.proofs.KeepLaws.{keeps_elements}
 use Rattle.place_words.proofs.LockLemmas.{same_lock}
 use Rattle.place_words.proofs.Settled.{turned_here}
-use Rattle.place_core.specs.declared.step.Lists.{Lists}
-use Rattle.place_core.specs.declared.step.Step.TheVariants as steps
-use Rattle.place_core.specs.State.{State, rows, is_bucket, HasCursorInside, HasOnlyItsLists}
-use Rattle.place_core.specs.Steps.{with_row, without_row, with_free, without_free}
-use Rattle.place_core.proofs.ElementLemmas.{times_cons_same, times_cons_other}
-use Rattle.place_core.proofs.RowLemmas.{rows_without_row_other, rows_without_row_same}
-use Rattle.place_core.specs.Interleaving.{Drawn, Event, does, is_inner, set_lists, lists_in, takes, interleaved, AreEnabled}
+use Rattle.place_words.specs.declared.step.Lists.{Lists}
+use Rattle.place_words.specs.declared.step.Step.TheVariants as steps
+use Rattle.place_words.specs.State.{State, rows, is_bucket, HasCursorInside, HasOnlyItsLists}
+use Rattle.place_words.specs.Steps.{with_row, without_row, with_free, without_free}
+use Rattle.place_words.proofs.ElementLemmas.{times_cons_same, times_cons_other}
+use Rattle.place_words.proofs.RowLemmas.{rows_without_row_other, rows_without_row_same}
+use Rattle.place_words.specs.Interleaving.{Drawn, Event, does, is_inner, set_lists, lists_in, takes, interleaved, AreEnabled}
 use Rattle.place_words.proofs.Cursors.{own_cursor, global_cursor}
 use Rattle.core_runs.proofs.Evictions.{Hands}
 use Rattle.core_runs.proofs.Nests.{from_less, drawn, turn_alone}
@@ -68,7 +68,7 @@ in_hand_more cpu e hand Known c x differ held =
 
 -- An element's row is settled: the lock is given back with the element free.
 pub goes_settling : {shape : Shape} (bounds : HasBounds shape) {cpu : ℕ} (within : cpu < shape.cpus) → (contents : DomainId → Content) (Known : ℕ → ℕ → Type 0) (e : ℕ) (hand : List ℕ) (turn : Turn) → is_inner turn.part ≡ false → IsTrue (is_lock shape turn.lock) → IsFalse (is_bucket turn.lock)
-    → Rattle.place_core.specs.Interleaving.part_steps shape cpu turn.lock None turn.part ≡ steps.Settle cpu e turn.lock ∷ [] → Rattle.place_core.specs.Interleaving.seen_by turn.part ≡ []
+    → Rattle.place_words.specs.Interleaving.part_steps shape cpu turn.lock None turn.part ≡ steps.Settle cpu e turn.lock ∷ [] → Rattle.place_words.specs.Interleaving.seen_by turn.part ≡ []
     → IsIn e (rows (lists_in (contents turn.lock))) → times e hand ≡ 0 → ((c x : ℕ) → Known c x → x ≢ e)
     → ((s : State) → IsTied shape cpu [] (core_lists contents) (Hands cpu (e ∷ hand) Known) s → HasOnlyItsLists turn.lock (lists_in (after_turn shape cpu contents turn turn.lock))
     × ((x : ℕ) → times x (lists_in (after_turn shape cpu contents turn turn.lock)).free ≡ times x (e ∷ (lists_in (contents turn.lock)).free))
@@ -98,7 +98,7 @@ goes_settling {shape = shape} bounds {cpu = cpu} within contents Known e hand tu
       fits.3 in
       let steps_are : interleaved shape contents [] (x ∷ later) ≡ takes x ∷ does (steps.Settle cpu e lock) ∷ does (steps.Give cpu lock new) ∷ interleaved shape now [] later =
       turn_alone shape contents x later outer (from_less (suc n) (n + 1) later (omega arith) from)
-      ∙ ap (λ (l : List Rattle.place_core.specs.declared.step.Step.Step). takes x ∷ map does l ++ (Rattle.place_core.specs.Interleaving.seen_by turn.part ++ does (steps.Give cpu lock new) ∷ interleaved shape now [] later)) one_step
+      ∙ ap (λ (l : List Rattle.place_words.specs.declared.step.Step.Step). takes x ∷ map does l ++ (Rattle.place_words.specs.Interleaving.seen_by turn.part ++ does (steps.Give cpu lock new) ∷ interleaved shape now [] later)) one_step
       ∙ ap (λ (l : List Event). takes x ∷ does (steps.Settle cpu e lock) ∷ (l ++ does (steps.Give cpu lock new) ∷ interleaved shape now [] later)) blind in
       subst (AreEnabled shape s) (sym steps_are) (
         took.enabled,

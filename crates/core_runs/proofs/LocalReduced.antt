@@ -20,12 +20,12 @@ use Rattle.place_words.specs.Locals.{LocalLists, last_of, local_after}
 use Rattle.place_words.specs.Locks.{is_lock}
 use Rattle.place_words.specs.Sets.{ListSet}
 use Rattle.place_words.proofs.KeepLaws.{keeps_elements}
-use Rattle.place_core.specs.declared.step.Lists.{Lists}
-use Rattle.place_core.specs.declared.step.Step.TheVariants as steps
-use Rattle.place_core.specs.State.{State, rows, is_bucket}
-use Rattle.place_core.specs.Steps.{after, with_row, without_row, with_free, without_free}
-use Rattle.place_core.proofs.RowLemmas.{rows_with_row_same, rows_with_row_other}
-use Rattle.place_core.specs.Interleaving.{Event, does, set_lists, local_steps}
+use Rattle.place_words.specs.declared.step.Lists.{Lists}
+use Rattle.place_words.specs.declared.step.Step.TheVariants as steps
+use Rattle.place_words.specs.State.{State, rows, is_bucket}
+use Rattle.place_words.specs.Steps.{after, with_row, without_row, with_free, without_free}
+use Rattle.place_words.proofs.RowLemmas.{rows_with_row_same, rows_with_row_other}
+use Rattle.place_words.specs.Interleaving.{Event, does, set_lists, local_steps}
 use Rattle.core_runs.specs.Words.{ListsAllow, GivesLists}
 use Rattle.core_runs.proofs.Ties.{with_lists, lists_here}
 use Rattle.core_runs.proofs.Fits.{Fits, fits_alike, settle_fits, claim_fits, give_list_fits, gives_same}

@@ -9,8 +9,8 @@ use Rattle.place_words.specs.Choices.{among}
 use Rattle.place_words.specs.Histories.{Content}
 use Rattle.place_words.specs.Locks.{rank_of}
 use Rattle.place_words.specs.Turns.{Turn, after_turn}
-use Rattle.place_core.specs.Interleaving.{Drawn, turn_of, Event, does, is_inner, encloses, enclosing, bucket_around, part_steps, seen_by, lists_in, takes, not_begun, tickets_of, turn_events, interleaved}
-use Rattle.place_core.specs.declared.step.Step.TheVariants as steps
+use Rattle.place_words.specs.Interleaving.{Drawn, turn_of, Event, does, is_inner, encloses, enclosing, bucket_around, part_steps, seen_by, lists_in, takes, not_begun, tickets_of, turn_events, interleaved}
+use Rattle.place_words.specs.declared.step.Step.TheVariants as steps
 
 abbrev pub drawn : ℕ → ℕ → ℕ → Turn → Drawn
 drawn n cpu call turn = record { lock = turn.lock; entry = record { ticket = n; cpu = cpu; call = call; part = turn.part } }
@@ -84,7 +84,7 @@ same_interleaved shape n (x ∷ later) contents begun other alike from =
 
 -- A turn's steps, and then more
 
-abbrev pub lists_after : Shape → (DomainId → Content) → Drawn → Rattle.place_core.specs.declared.step.Lists.Lists
+abbrev pub lists_after : Shape → (DomainId → Content) → Drawn → Rattle.place_words.specs.declared.step.Lists.Lists
 lists_after shape contents x = lists_in (after_turn shape x.entry.cpu contents (turn_of x) x.lock)
 
 -- the steps of a turn whose lock is taken, its giving back, and more

@@ -40,14 +40,14 @@ use Rattle.place_words.proofs.PlacedContents.{after_both, lies_after_all}
 use Rattle.place_words.proofs.LockLemmas.{same_lock}
 use Rattle.place_words.proofs.Settled.{turned_here}
 use Rattle.key_hash.proofs.Buckets.{bucket_number-lt}
-use Rattle.place_core.proofs.ElementLemmas.{times_cons_same}
-use Rattle.place_core.proofs.WholeLemmas.{each_in_one_place}
+use Rattle.place_words.proofs.ElementLemmas.{times_cons_same}
+use Rattle.place_words.proofs.WholeLemmas.{each_in_one_place}
 use Rattle.core_runs.proofs.BucketGoes.{IsListed, goes_offer_added, goes_offer_replaced, gathered, goes_taking_out}
 use Rattle.core_runs.proofs.PlainRuns.{on_bodies}
 use Rattle.core_runs.proofs.ListGoes.{goes_push_own}
 use Rattle.place_words.proofs.PlacedLaws.{placed_turns}
-use Rattle.place_core.specs.State.{rows, HasCursorInside}
-use Rattle.place_core.specs.Interleaving.{is_inner, part_steps, seen_by, set_lists, lists_in}
+use Rattle.place_words.specs.State.{rows, HasCursorInside}
+use Rattle.place_words.specs.Interleaving.{is_inner, part_steps, seen_by, set_lists, lists_in}
 use Rattle.core_runs.proofs.Chases.{chase_of, freed_names, placed_split, head_is, turns_split, row_inside}
 use Rattle.place_words.proofs.Cursors.{own_cursor}
 use Rattle.core_runs.proofs.Evictions.{Hands, evicting}
@@ -260,14 +260,14 @@ module _ {shape : Shape} (bounds : HasBounds shape) (lru : is_lru shape.kind ≡
 
   -- What a delete or a take took out is freed.
   gone_goes : (contents : DomainId → Content) (key : List ℕ) (part : Rattle.place_words.specs.declared.bucket_part.BucketPart.BucketPart) (gone : Option ℕ) (freeing : List TurnAt) → is_inner (parts.Bucket part) ≡ false
-      → part_steps shape cpu (Bucket (bucket_of_key shape key)) None (parts.Bucket part) ≡ map (λ e. Rattle.place_core.specs.declared.step.Step.TheVariants.Detach cpu e (bucket_of_key shape key)) (option_to_list gone) → seen_by (parts.Bucket part) ≡ []
+      → part_steps shape cpu (Bucket (bucket_of_key shape key)) None (parts.Bucket part) ≡ map (λ e. Rattle.place_words.specs.declared.step.Step.TheVariants.Detach cpu e (bucket_of_key shape key)) (option_to_list gone) → seen_by (parts.Bucket part) ≡ []
       → ((bodies : List Stored) → AllowsInBucket shape cpu part bodies → ((x : ℕ) → times x (numbers bodies) ≤ 1) → AreThere (option_to_list gone) (numbers bodies) × (numbers (bucket_after shape cpu part bodies) ≡ left_of (option_to_list gone) (numbers bodies)))
       → FreesOne shape gone freeing → AreAllowed shape cpu contents (on_bucket_of shape key part ∷ turns_of freeing)
       → Goes shape cpu contents Nobody (on_bucket_of shape key part ∷ turns_of freeing) Nobody
   gone_goes contents key part gone freeing outer steps_are blind takes_out frees allowed = record {
     run = λ s n call later tied.
         let bodies = on_bodies (contents (Bucket (bucket_of_key shape key))) (AllowsInBucket shape cpu part) allowed.0 in
-        let once : (x : ℕ) → times x (numbers bodies.bodies) ≤ 1 = λ x. subst (λ (l : Rattle.place_core.specs.declared.step.Lists.Lists). times x l.first ≤ 1) (ap lists_in bodies.lies) (bucket_once bounds within tied (bucket_of_key shape key) x (lt-ltb (bucket_of_key shape key) shape.buckets (bucket_there key))) in
+        let once : (x : ℕ) → times x (numbers bodies.bodies) ≤ 1 = λ x. subst (λ (l : Rattle.place_words.specs.declared.step.Lists.Lists). times x l.first ≤ 1) (ap lists_in bodies.lies) (bucket_once bounds within tied (bucket_of_key shape key) x (lt-ltb (bucket_of_key shape key) shape.buckets (bucket_there key))) in
         let out = takes_out bodies.bodies bodies.fact once in
         (goes_both contents Nobody (Hands cpu (option_to_list gone) Nobody) Nobody (on_bucket_of shape key part ∷ []) (turns_of freeing)
         (known_more contents (on_bucket_of shape key part ∷ []) (Hands cpu (option_to_list gone) Nobody)
@@ -309,11 +309,11 @@ module _ {shape : Shape} (bounds : HasBounds shape) (lru : is_lru shape.kind ≡
   take_out key None bodies may once = (tt, refl)
   take_out key (Some got) bodies may once = gone_numbers key got.0 bodies _ may once
 
-  delete_steps : (key : List ℕ) (gone : Option ℕ) → part_steps shape cpu (Bucket (bucket_of_key shape key)) None (parts.Bucket (Delete key gone)) ≡ map (λ e. Rattle.place_core.specs.declared.step.Step.TheVariants.Detach cpu e (bucket_of_key shape key)) (option_to_list gone)
+  delete_steps : (key : List ℕ) (gone : Option ℕ) → part_steps shape cpu (Bucket (bucket_of_key shape key)) None (parts.Bucket (Delete key gone)) ≡ map (λ e. Rattle.place_words.specs.declared.step.Step.TheVariants.Detach cpu e (bucket_of_key shape key)) (option_to_list gone)
   delete_steps key None = cond-true (is_lru shape.kind) _ _ lru
   delete_steps key (Some e) = cond-true (is_lru shape.kind) _ _ lru
 
-  take_steps : (key : List ℕ) (gone : Option (ℕ × List ℕ)) → part_steps shape cpu (Bucket (bucket_of_key shape key)) None (parts.Bucket (Take key gone)) ≡ map (λ e. Rattle.place_core.specs.declared.step.Step.TheVariants.Detach cpu e (bucket_of_key shape key)) (option_to_list (element_gone gone))
+  take_steps : (key : List ℕ) (gone : Option (ℕ × List ℕ)) → part_steps shape cpu (Bucket (bucket_of_key shape key)) None (parts.Bucket (Take key gone)) ≡ map (λ e. Rattle.place_words.specs.declared.step.Step.TheVariants.Detach cpu e (bucket_of_key shape key)) (option_to_list (element_gone gone))
   take_steps key None = cond-true (is_lru shape.kind) _ _ lru
   take_steps key (Some got) = cond-true (is_lru shape.kind) _ _ lru
 

@@ -26,14 +26,14 @@ use Rattle.place_words.specs.Turns.{Turn, on_lock, after_turn, after_turns, AreA
 use Rattle.place_words.proofs.KeepLaws.{keeps_elements}
 use Rattle.place_words.proofs.LockLemmas.{same_lock}
 use Rattle.place_words.proofs.Settled.{turned_here, turned_elsewhere}
-use Rattle.place_core.specs.declared.step.Lists.{Lists}
-use Rattle.place_core.specs.declared.step.Step.TheVariants as steps
-use Rattle.place_core.specs.Places.{has_row, lies_at}
-use Rattle.place_core.specs.State.{State, rows, HasCursorInside}
-use Rattle.place_core.specs.Steps.{without_free, with_row}
-use Rattle.place_core.proofs.ElementLemmas.{times_cons_same, times_cons_other}
-use Rattle.place_core.proofs.RowLemmas.{rows_with_row_same, rows_with_row_other}
-use Rattle.place_core.specs.Interleaving.{Drawn, Event, does, set_lists, claims, lists_in, interleaved, AreEnabled}
+use Rattle.place_words.specs.declared.step.Lists.{Lists}
+use Rattle.place_words.specs.declared.step.Step.TheVariants as steps
+use Rattle.place_words.specs.Places.{has_row, lies_at}
+use Rattle.place_words.specs.State.{State, rows, HasCursorInside}
+use Rattle.place_words.specs.Steps.{without_free, with_row}
+use Rattle.place_words.proofs.ElementLemmas.{times_cons_same, times_cons_other}
+use Rattle.place_words.proofs.RowLemmas.{rows_with_row_same, rows_with_row_other}
+use Rattle.place_words.specs.Interleaving.{Drawn, Event, does, set_lists, claims, lists_in, interleaved, AreEnabled}
 use Rattle.core_runs.proofs.Nests.{stamped, AreFrom, from_less, AreOfRank, drawn, nest, begun_first, begins, inside_one, nest_ends}
 use Rattle.core_runs.proofs.Evictions.{Hands, evicting, evicting_beside, AreBuckets, onto, evicting_runs}
 use Rattle.core_runs.proofs.OwnTurns.{settled_all, without_all, stacked, settled_free, CanSettleAll, settled_rows, settling_runs}

@@ -8,13 +8,13 @@ use Rattle.map_types.specs.Shape.{HasBounds}
 use Rattle.map_types.specs.ElementLists.{IsIn, times, without}
 use Rattle.map_types.proofs.RowLemmas.{by_test}
 use Rattle.place_words.specs.Locks.{rank_of, is_lock, lock_number, lock_named}
-use Rattle.place_core.specs.declared.step.Lists.{Lists}
-use Rattle.place_core.specs.declared.step.Step.TheVariants as steps
-use Rattle.place_core.specs.State.{State, rows, is_bucket}
-use Rattle.place_core.specs.Steps.{with_free, without_row}
-use Rattle.place_core.proofs.ElementLemmas.{times_cons_same, times_without_same, times_without_other}
-use Rattle.place_core.proofs.RowLemmas.{rows_without_row_other, rows_without_row_same}
-use Rattle.place_core.specs.Interleaving.{Event, does, AreEnabled}
+use Rattle.place_words.specs.declared.step.Lists.{Lists}
+use Rattle.place_words.specs.declared.step.Step.TheVariants as steps
+use Rattle.place_words.specs.State.{State, rows, is_bucket}
+use Rattle.place_words.specs.Steps.{with_free, without_row}
+use Rattle.place_words.proofs.ElementLemmas.{times_cons_same, times_without_same, times_without_other}
+use Rattle.place_words.proofs.RowLemmas.{rows_without_row_other, rows_without_row_same}
+use Rattle.place_words.specs.Interleaving.{Event, does, AreEnabled}
 use Rattle.core_runs.proofs.Evictions.{Hands}
 use Rattle.core_runs.proofs.PlainRuns.{tied_alike}
 use Rattle.core_runs.proofs.Tied.{IsTied, with_lists, holder_of, lists_here, settle_tied}

@@ -30,9 +30,9 @@ use Rattle.place_words.specs.Turns.{Turn, ring, on_freelist_of, on_bucket_of, bu
 use Rattle.place_words.proofs.PlacedContents.{after_both}
 use Rattle.place_words.proofs.Splits.{there}
 use Rattle.key_hash.proofs.Buckets.{bucket_number-lt}
-use Rattle.place_core.specs.declared.step.Lists.{Lists}
-use Rattle.place_core.specs.State.{State}
-use Rattle.place_core.specs.Interleaving.{Drawn, Event, does, is_inner, part_steps, seen_by, lists_in, takes, interleaved, AreEnabled}
+use Rattle.place_words.specs.declared.step.Lists.{Lists}
+use Rattle.place_words.specs.State.{State}
+use Rattle.place_words.specs.Interleaving.{Drawn, Event, does, is_inner, part_steps, seen_by, lists_in, takes, interleaved, AreEnabled}
 use Rattle.core_runs.proofs.Nests.{stamped, from_less, drawn}
 use Rattle.core_runs.proofs.OwnNest.{weaker}
 use Rattle.core_runs.proofs.PlainGoes.{Goes, goes_none, goes_keeping, goes_replacing, AreSpares, stamped_both, length_both, pushing, left_of, AreThere, numbers_without, present_in_numbers, bucket_once}
@@ -194,7 +194,7 @@ module _ {shape : Shape} (bounds : HasBounds shape) (plain : is_lru shape.kind �
   pushes_spare None turn spare = refl
   pushes_spare (Some e) turn spare = refl
 
-  plain_leaves : (b : Bool) (bucket : ℕ) (es : List ℕ) → b ≡ false → Rattle.place_core.specs.Interleaving.leave_steps b cpu bucket es ≡ []
+  plain_leaves : (b : Bool) (bucket : ℕ) (es : List ℕ) → b ≡ false → Rattle.place_words.specs.Interleaving.leave_steps b cpu bucket es ≡ []
   plain_leaves b bucket es is = cond-false b _ _ is
 
   delete_out : (key : List ℕ) (gone : Option ℕ) (bodies : List Stored) → AllowsInBucket shape cpu (Delete key gone) bodies → ((x : ℕ) → times x (numbers bodies) ≤ 1)

@@ -29,13 +29,13 @@ use Rattle.place_words.proofs.LockLemmas.{named_by_number, same_lock, one_lock}
 use Rattle.place_words.proofs.PlacedContents.{after_both}
 use Rattle.place_words.proofs.Settled.{turned_here, turned_elsewhere}
 use Rattle.place_words.proofs.Splits.{there, find_splits}
-use Rattle.place_core.specs.declared.step.Lists.{Lists}
-use Rattle.place_core.specs.Places.{has_row, lies_at}
-use Rattle.place_core.specs.State.{State, rows}
-use Rattle.place_core.specs.Steps.{with_row, without_row, with_free}
-use Rattle.place_core.proofs.ElementLemmas.{at_put}
-use Rattle.place_core.proofs.RowLemmas.{stands_where, bucket_is}
-use Rattle.place_core.specs.Interleaving.{Drawn, is_inner, part_steps, seen_by, lists_in, interleaved, AreEnabled}
+use Rattle.place_words.specs.declared.step.Lists.{Lists}
+use Rattle.place_words.specs.Places.{has_row, lies_at}
+use Rattle.place_words.specs.State.{State, rows}
+use Rattle.place_words.specs.Steps.{with_row, without_row, with_free}
+use Rattle.place_words.proofs.ElementLemmas.{at_put}
+use Rattle.place_words.proofs.RowLemmas.{stands_where, bucket_is}
+use Rattle.place_words.specs.Interleaving.{Drawn, is_inner, part_steps, seen_by, lists_in, interleaved, AreEnabled}
 use Rattle.core_runs.proofs.Nests.{stamped, stamped_from, AreFrom, from_both, from_less, AreBeside, turn_alone, drawn, nest, HasBegun, begun_next, nest_goes}
 use Rattle.core_runs.proofs.PlainRuns.{core_lists, bucket_lists, lists_turned, tied_alike, then_alike, quiet_alone, on_stack, on_bodies, freelist_there, with_hand}
 use Rattle.core_runs.proofs.Tied.{IsTied, with_lists, held_first, lists_here, lists_else, under, take_tied, attach_tied, detach_tied, settle_tied, give_same}

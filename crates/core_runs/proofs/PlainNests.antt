@@ -22,10 +22,10 @@ use Rattle.place_words.specs.Turns.{Turn, on_lock, on_freelist_of, after_turn, a
 use Rattle.place_words.proofs.LockLemmas.{same_lock}
 use Rattle.place_words.proofs.PlacedContents.{after_both}
 use Rattle.place_words.proofs.Settled.{turned_here, turned_elsewhere}
-use Rattle.place_core.specs.declared.step.Step.{Step}
-use Rattle.place_core.specs.declared.step.Step.TheVariants as steps
-use Rattle.place_core.specs.State.{State}
-use Rattle.place_core.specs.Interleaving.{Drawn, Event, does, is_inner, part_steps, seen_by, lists_in, interleaved, AreEnabled}
+use Rattle.place_words.specs.declared.step.Step.{Step}
+use Rattle.place_words.specs.declared.step.Step.TheVariants as steps
+use Rattle.place_words.specs.State.{State}
+use Rattle.place_words.specs.Interleaving.{Drawn, Event, does, is_inner, part_steps, seen_by, lists_in, interleaved, AreEnabled}
 use Rattle.core_runs.proofs.Nests.{stamped, AreFrom, from_less, AreBeside, AreOfRank, drawn, nest, begins, begun_first, HasBegun, begun_next, nest_goes, nest_ends}
 use Rattle.core_runs.proofs.OwnNest.{put_back}
 use Rattle.core_runs.proofs.PlainGoes.{Goes, stamped_both, length_both, pushing, left_of, AreThere, pushing_beside, pushing_runs}

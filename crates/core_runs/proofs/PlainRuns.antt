@@ -22,13 +22,13 @@ use Rattle.place_words.specs.Locks.{rank_of, is_lock, is_same_lock}
 use Rattle.place_words.specs.Turns.{Turn, on_lock, on_freelist_of, after_turn, after_turns, AreAllowed}
 use Rattle.place_words.proofs.LockLemmas.{same_lock, one_lock}
 use Rattle.place_words.proofs.Settled.{turned_here, turned_elsewhere}
-use Rattle.place_core.specs.declared.step.Lists.{Lists}
-use Rattle.place_core.specs.declared.step.Step.TheVariants as steps
-use Rattle.place_core.specs.State.{State}
-use Rattle.place_core.specs.Steps.{with_row, without_free}
-use Rattle.place_core.proofs.RowLemmas.{head_is_in}
+use Rattle.place_words.specs.declared.step.Lists.{Lists}
+use Rattle.place_words.specs.declared.step.Step.TheVariants as steps
+use Rattle.place_words.specs.State.{State}
+use Rattle.place_words.specs.Steps.{with_row, without_free}
+use Rattle.place_words.proofs.RowLemmas.{head_is_in}
 use Rattle.place_words.specs.declared.owner.Owner.TheVariants as owners
-use Rattle.place_core.specs.Interleaving.{Drawn, Event, does, is_inner, part_steps, seen_by, lists_in, takes, interleaved, AreEnabled}
+use Rattle.place_words.specs.Interleaving.{Drawn, Event, does, is_inner, part_steps, seen_by, lists_in, takes, interleaved, AreEnabled}
 use Rattle.core_runs.proofs.Nests.{stamped, AreFrom, AreBeside, turn_alone, drawn, nest, HasBegun, begun_first, begun_next, nest_begins, nest_goes, nest_ends}
 use Rattle.core_runs.proofs.Tied.{IsTied, with_lists, held_first, lists_here, lists_else, free_real, take_tied, claim_tied, attach_tied, give_same}
 
@@ -74,7 +74,7 @@ module _ {shape : Shape} (bounds : HasBounds shape) {cpu : ℕ} (within : cpu < 
       let gave = give_same bounds within turn.lock took.tied (lists_in (now turn.lock)) is tt same in
       let steps_are : interleaved shape contents [] (x ∷ later) ≡ takes x ∷ does (steps.Give cpu turn.lock (lists_in (now turn.lock))) ∷ interleaved shape now [] later =
       turn_alone shape contents x later outer from
-      ∙ ap (λ (l : List Rattle.place_core.specs.declared.step.Step.Step). takes x ∷ map does l ++ (seen_by turn.part ++ does (steps.Give cpu turn.lock (lists_in (now turn.lock))) ∷ interleaved shape now [] later)) quiet
+      ∙ ap (λ (l : List Rattle.place_words.specs.declared.step.Step.Step). takes x ∷ map does l ++ (seen_by turn.part ++ does (steps.Give cpu turn.lock (lists_in (now turn.lock))) ∷ interleaved shape now [] later)) quiet
       ∙ ap (λ (l : List Event). takes x ∷ (l ++ does (steps.Give cpu turn.lock (lists_in (now turn.lock))) ∷ interleaved shape now [] later)) blind in
       subst (AreEnabled shape s) (sym steps_are)
       (took.enabled, (gave.enabled, more _ (tied_alike (then_alike shape cpu contents turn (core_lists contents) (λ other apart. refl)) gave.tied)))

@@ -8,7 +8,7 @@ use Rattle.place_words.specs.Histories.{Content, content_after, Allows, AllAllow
 use Rattle.place_words.specs.Locks.{rank_of, is_lock, is_same_lock}
 use Rattle.place_words.specs.Turns.{after_turn}
 use Rattle.place_words.proofs.LockLemmas.{same_lock}
-use Rattle.place_core.specs.Interleaving.{Drawn, turn_of, is_inner, encloses, enclosing, entry_of, drawn_on}
+use Rattle.place_words.specs.Interleaving.{Drawn, turn_of, is_inner, encloses, enclosing, entry_of, drawn_on}
 
 abbrev pub of_call : ℕ → ℕ → Drawn → Bool
 of_call cpu call y = eqb y.entry.cpu cpu && eqb y.entry.call call

@@ -20,15 +20,15 @@ use Rattle.place_words.specs.Locks.{is_same_lock}
 use Rattle.place_words.specs.Turns.{after_turn}
 use Rattle.place_words.proofs.LockLemmas.{same_lock, other_lock, named_by_number}
 use Rattle.place_words.specs.Openings.{opening_free}
-use Rattle.place_core.specs.Opening.{opening, opening_lists}
+use Rattle.place_words.specs.OpeningState.{opening, opening_lists}
 use Rattle.core_runs.proofs.CallTurns.{opening_is}
-use Rattle.place_core.proofs.OpeningLaws.{opening_placed}
+use Rattle.place_words.proofs.OpeningLaws.{opening_placed}
 use Rattle.place_words.proofs.Settled.{turned_here, turned_elsewhere}
-use Rattle.place_core.specs.declared.step.Lists.{Lists}
-use Rattle.place_core.specs.declared.step.Step.TheVariants as steps
-use Rattle.place_core.specs.State.{State}
-use Rattle.place_core.proofs.ElementLemmas.{put_here, put_else}
-use Rattle.place_core.specs.Interleaving.{Drawn, turn_of, Event, does, enclosing, bucket_around, part_steps, seen_by, set_lists, lists_in, not_begun, tickets_of, interleaved, AreEnabled}
+use Rattle.place_words.specs.declared.step.Lists.{Lists}
+use Rattle.place_words.specs.declared.step.Step.TheVariants as steps
+use Rattle.place_words.specs.State.{State}
+use Rattle.place_words.proofs.ElementLemmas.{put_here, put_else}
+use Rattle.place_words.specs.Interleaving.{Drawn, turn_of, Event, does, enclosing, bucket_around, part_steps, seen_by, set_lists, lists_in, not_begun, tickets_of, interleaved, AreEnabled}
 use Rattle.core_runs.specs.Words.{words_of, RunsByWords, RunsByLists}
 use Rattle.core_runs.specs.Races.{AreTurns, PaysAt, PaysBucket, PaysFree, PaysOwn, owed_after}
 use Rattle.core_runs.proofs.Ties.{with_lists}
@@ -38,7 +38,7 @@ use Rattle.core_runs.proofs.Nests.{first_turn, goes_on}
 use Rattle.core_runs.proofs.PlainRuns.{core_lists, on_bodies, on_stack, then_alike}
 use Rattle.place_words.specs.declared.list_part.OwnPart.{OwnPart}
 use Rattle.place_words.specs.Sets.{ListSet, AllowsOnOwn, own_after}
-use Rattle.place_core.proofs.RowLemmas.{lock_listing}
+use Rattle.place_words.proofs.RowLemmas.{lock_listing}
 use Rattle.core_runs.proofs.Reduced.{Follows, none, follows_none, follows_takes, bucket_turn, free_turn, chain_of, stack_of}
 use Rattle.core_runs.proofs.SetsReduced.{own_turn}
 

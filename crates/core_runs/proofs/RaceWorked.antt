@@ -11,8 +11,8 @@ use Rattle.place_words.specs.Histories.{replayed}
 use Rattle.place_words.specs.Locals.{local_after}
 use Rattle.std.proofs.lemmas.List.Elements.{All-nil}
 use Rattle.place_words.specs.Openings.{opening_stack, opening_spares, opening_owner, opening_free}
-use Rattle.place_core.specs.Opening.{opening, opening_lists}
-use Rattle.place_core.specs.Interleaving.{enclosing, turn_events, interleaved}
+use Rattle.place_words.specs.OpeningState.{opening, opening_lists}
+use Rattle.place_words.specs.Interleaving.{enclosing, turn_events, interleaved}
 use Rattle.core_runs.specs.Races.{AreTurns}
 use Rattle.core_runs.specs.Words.{WordsAllow, words_after, RunsByWords}
 use Rattle.core_runs.specs.RaceRows.{ForgedTurns, ForgedFails, RacesByWords, SharedByWords, RefilledTurns}

@@ -23,14 +23,14 @@ use Rattle.place_words.specs.Freelists.{AllowsOnFreelist, without_top, freelist_
 use Rattle.place_words.specs.Locks.{is_lock, is_same_lock}
 use Rattle.place_words.specs.Moves.{taken_from_bucket, brought_to_bucket}
 use Rattle.place_words.proofs.BucketLaws.{bucket_counts, times_more}
-use Rattle.place_core.specs.declared.step.Lists.{Lists}
-use Rattle.place_core.specs.declared.step.Step.{Step}
-use Rattle.place_core.specs.declared.step.Step.TheVariants as steps
-use Rattle.place_core.specs.Places.{Placed}
-use Rattle.place_core.specs.State.{State}
-use Rattle.place_core.specs.Steps.{IsEnabled, after, with_row, without_row, with_free, without_free}
-use Rattle.place_core.proofs.ElementLemmas.{put_here, put_else}
-use Rattle.place_core.specs.Interleaving.{Drawn, Event, does, sees, bucket_steps, freelist_steps, seen_in, detaches, leave_steps, takes}
+use Rattle.place_words.specs.declared.step.Lists.{Lists}
+use Rattle.place_words.specs.declared.step.Step.{Step}
+use Rattle.place_words.specs.declared.step.Step.TheVariants as steps
+use Rattle.place_words.specs.Places.{Placed}
+use Rattle.place_words.specs.State.{State}
+use Rattle.place_words.specs.Steps.{IsEnabled, after, with_row, without_row, with_free, without_free}
+use Rattle.place_words.proofs.ElementLemmas.{put_here, put_else}
+use Rattle.place_words.specs.Interleaving.{Drawn, Event, does, sees, bucket_steps, freelist_steps, seen_in, detaches, leave_steps, takes}
 use Rattle.core_runs.specs.Words.{Words, words_of, RunsByWords, RunsByLists, ListsAllow}
 use Rattle.core_runs.specs.Races.{PushesInside, left_inside, owed_pushed}
 use Rattle.core_runs.proofs.Ties.{with_lists, lists_here}

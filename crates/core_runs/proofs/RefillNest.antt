@@ -34,14 +34,14 @@ use Rattle.place_words.proofs.KeepLaws.{keeps_elements, times_turned}
 use Rattle.place_words.proofs.LockLemmas.{named_by_number, same_lock}
 use Rattle.place_words.proofs.PlacedContents.{after_both}
 use Rattle.place_words.proofs.Settled.{turned_here, turned_elsewhere}
-use Rattle.place_core.specs.declared.step.Lists.{Lists}
-use Rattle.place_core.specs.declared.step.Step.{Step}
-use Rattle.place_core.specs.declared.step.Step.TheVariants as steps
-use Rattle.place_core.specs.Places.{has_row, lies_at}
-use Rattle.place_core.specs.State.{State, rows, HasCursorInside}
-use Rattle.place_core.specs.Steps.{with_row, without_free}
-use Rattle.place_core.proofs.ElementLemmas.{times_cons_same, times_cons_other, times_without_same, times_without_other}
-use Rattle.place_core.specs.Interleaving.{Drawn, Event, does, set_lists, claims, freed_steps, lists_in, interleaved, AreEnabled}
+use Rattle.place_words.specs.declared.step.Lists.{Lists}
+use Rattle.place_words.specs.declared.step.Step.{Step}
+use Rattle.place_words.specs.declared.step.Step.TheVariants as steps
+use Rattle.place_words.specs.Places.{has_row, lies_at}
+use Rattle.place_words.specs.State.{State, rows, HasCursorInside}
+use Rattle.place_words.specs.Steps.{with_row, without_free}
+use Rattle.place_words.proofs.ElementLemmas.{times_cons_same, times_cons_other, times_without_same, times_without_other}
+use Rattle.place_words.specs.Interleaving.{Drawn, Event, does, set_lists, claims, freed_steps, lists_in, interleaved, AreEnabled}
 use Rattle.place_words.proofs.Cursors.{global_cursor}
 use Rattle.core_runs.proofs.Evictions.{Hands, evicting, evicting_beside, AreBuckets, onto, evicting_runs}
 use Rattle.core_runs.proofs.Nests.{stamped, AreFrom, from_less, drawn, nest_ends, inside_both, deep, deep_begins, both_first, middle_ends, outer_left}

@@ -15,14 +15,14 @@ use Rattle.place_words.specs.declared.owner.Owner.TheVariants as owners
 use Rattle.place_words.specs.Locks.{is_lock, lock_number, lock_named}
 use Rattle.place_words.specs.Openings.{is_free}
 use Rattle.place_words.proofs.LockLemmas.{named_by_number}
-use Rattle.place_core.specs.declared.step.Lists.{Lists}
-use Rattle.place_core.specs.declared.step.Step.TheVariants as steps
-use Rattle.place_core.specs.Places.{home_of_place, under_lock, lies_at, has_row}
-use Rattle.place_core.specs.State.{State, rows, is_bucket}
-use Rattle.place_core.specs.Steps.{IsEnabled, lists_under, with_free, without_free, with_row, without_row, MayEnter, MayLeave, left_by, joined_by, after_leaving, after_joining}
-use Rattle.place_core.proofs.ElementLemmas.{put_else}
-use Rattle.place_core.proofs.RowLemmas.{stands_where, lies_is, row_lies, no_row_free}
-use Rattle.place_core.proofs.StepLaws.{step_keeps_places}
+use Rattle.place_words.specs.declared.step.Lists.{Lists}
+use Rattle.place_words.specs.declared.step.Step.TheVariants as steps
+use Rattle.place_words.specs.Places.{home_of_place, under_lock, lies_at, has_row}
+use Rattle.place_words.specs.State.{State, rows, is_bucket}
+use Rattle.place_words.specs.Steps.{IsEnabled, lists_under, with_free, without_free, with_row, without_row, MayEnter, MayLeave, left_by, joined_by, after_leaving, after_joining}
+use Rattle.place_words.proofs.ElementLemmas.{put_else}
+use Rattle.place_words.proofs.RowLemmas.{stands_where, lies_is, row_lies, no_row_free}
+use Rattle.place_words.proofs.StepLaws.{step_keeps_places}
 use Rattle.core_runs.proofs.Tied.{IsTied, Did, with_lists, holder_of, put_named, under, held_there}
 
 pub not_free : (o : Owner) (lru : Bool) (lock : DomainId) (here : Bool) → has_row lru lock o here ≡ true → is_free o ≡ false
@@ -136,7 +136,7 @@ module _ {shape : Shape} (bounds : HasBounds shape) (lru : is_lru shape.kind ≡
         is_cpu = within;
         real = (tied.known cpu e hand).0;
         from_there = subst (MayLeave shape s cpu) (sym home) refl;
-        to_there = (record { is_cpu = within; is_lock = is_to; held = held_there bounds within tied (Local c) is_to mine }, subst (Rattle.place_core.specs.Steps.IsFreeOrInHand cpu) (sym owner) refl);
+        to_there = (record { is_cpu = within; is_lock = is_to; held = held_there bounds within tied (Local c) is_to mine }, subst (Rattle.place_words.specs.Steps.IsFreeOrInHand cpu) (sym owner) refl);
       } in
       let joining : joined_by (Local c) (s.owner e) e (s.lists b) ≡ joined =
       ap (λ (o : Owner). joined_by (Local c) o e (s.lists b)) owner ∙ ap (with_row (Local c) e) (under bounds within tied (Local c) is_to) ∙ joined_is in

@@ -1,12 +1,12 @@
 -- The race worked by hand computes.
 use Rattle.std.proofs.Common.{◌≡◌, refl}
-use Rattle.place_core.specs.Interleaving.{enclosing, turn_events, interleaved}
+use Rattle.place_words.specs.Interleaving.{enclosing, turn_events, interleaved}
 use Rattle.core_runs.specs.Rows.{RowEvents, ExchangedEvents, FirstRefused}
 use Rattle.std.proofs.Common.{ℕ, ◌<◌, Option, None, Some, arith}
 use Rattle.place_words.specs.Locks.{rank_of, lock_named}
 use Rattle.core_runs.specs.Rows.{shape}
-use Rattle.place_core.specs.Opening.{opening, opening_lists}
-use Rattle.place_core.proofs.ElementLemmas.{at_put}
+use Rattle.place_words.specs.OpeningState.{opening, opening_lists}
+use Rattle.place_words.proofs.ElementLemmas.{at_put}
 use Rattle.map_types.specs.ElementLists.{put}
 use Rattle.place_words.specs.Rotation.{rotated, active_visited, active_rotated, inactive_order, inactive_visited, inactive_rotated}
 use Rattle.place_words.specs.Shrinking.{after_looks, after_tries, shrunk}

@@ -12,7 +12,7 @@ use Rattle.place_words.proofs.OnLocks.{no_others}
 use Rattle.map_report.specs.Runs.{serial}
 use Rattle.map_report.proofs.LogNames.{entries_are}
 use Rattle.map_report.proofs.LogTickets.{entries_counted}
-use Rattle.place_core.specs.Interleaving.{CoreRun}
+use Rattle.place_words.specs.Interleaving.{CoreRun}
 use Rattle.core_runs.proofs.CleanRuns.{serial_runs}
 
 all_on : (shape : Shape) (calls : List Call) → All (IsCallOn shape) calls → All (λ (call : Call). call.cpu < shape.cpus) calls

@@ -20,7 +20,7 @@ use Rattle.place_words.specs.Turns.{Turn, after_turns}
 use Rattle.place_words.proofs.AnyStart.{tickets_after}
 use Rattle.place_words.proofs.PlacedContents.{lies_after_all}
 use Rattle.place_words.proofs.PlacedLaws.{spares_after}
-use Rattle.place_core.specs.Interleaving.{Drawn, tickets_of, entry_of, drawn_on, interleaved, AreEnabled}
+use Rattle.place_words.specs.Interleaving.{Drawn, tickets_of, entry_of, drawn_on, interleaved, AreEnabled}
 use Rattle.core_runs.proofs.AllRuns.{AreServed, plain_call_goes}
 use Rattle.core_runs.proofs.CallTurns.{drawn_calls, behind_call, allowed_of_legal, any_cpu, others_spares}
 use Rattle.core_runs.proofs.Nests.{AreFrom, drawn, stamped}
@@ -38,9 +38,9 @@ module _ {shape : Shape} (bounds : HasBounds shape) (plain : is_lru shape.kind �
       (λ other. sym (others_spares shape cpu number turns state plain c other) ∙ have)
 
   -- as `evicting_all`
-  pub plain_all : (calls : List Call) (number : ℕ) (state : State) (s : Rattle.place_core.specs.State.State) (more : List Drawn) → AreServed shape calls → AreDone shape number calls state
+  pub plain_all : (calls : List Call) (number : ℕ) (state : State) (s : Rattle.place_words.specs.State.State) (more : List Drawn) → AreServed shape calls → AreDone shape number calls state
       → AreFrom (run shape number calls state).next_ticket more → IsTied shape 0 [] (core_lists (lies_in shape state)) (AreSpares state.spares) s
-      → ((t : Rattle.place_core.specs.State.State) → IsTied shape 0 [] (core_lists (lies_in shape (run shape number calls state))) (AreSpares (run shape number calls state).spares) t → AreEnabled shape t (interleaved shape (lies_in shape (run shape number calls state)) [] more))
+      → ((t : Rattle.place_words.specs.State.State) → IsTied shape 0 [] (core_lists (lies_in shape (run shape number calls state))) (AreSpares (run shape number calls state).spares) t → AreEnabled shape t (interleaved shape (lies_in shape (run shape number calls state)) [] more))
       → AreEnabled shape s (interleaved shape (lies_in shape state) [] (drawn_calls shape number calls state ++ more))
   plain_all [] number state s more served done from tied then = then s tied
   plain_all (call ∷ calls) number state s more served done from tied then =

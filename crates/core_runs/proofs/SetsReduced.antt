@@ -22,13 +22,13 @@ use Rattle.place_words.specs.Sets.{ListSet, AllowsOnOwn, own_after, own_scans, r
 use Rattle.place_words.specs.Takings.{freed_by}
 use Rattle.place_words.proofs.KeepLaws.{keeps_elements}
 use Rattle.place_words.proofs.LockLemmas.{named_by_number}
-use Rattle.place_core.specs.declared.step.Lists.{Lists}
-use Rattle.place_core.specs.declared.step.Step.TheVariants as steps
-use Rattle.place_core.specs.Places.{has_row, lies_at}
-use Rattle.place_core.specs.State.{State, rows, is_bucket, HasOnlyItsLists, HasCursorInside}
-use Rattle.place_core.specs.Steps.{after, with_row, without_row, with_free, without_free}
-use Rattle.place_core.proofs.RowLemmas.{rows_without_row_same, rows_without_row_other, rows_with_row_same, rows_with_row_other}
-use Rattle.place_core.specs.Interleaving.{Event, does, set_lists, claims, own_steps}
+use Rattle.place_words.specs.declared.step.Lists.{Lists}
+use Rattle.place_words.specs.declared.step.Step.TheVariants as steps
+use Rattle.place_words.specs.Places.{has_row, lies_at}
+use Rattle.place_words.specs.State.{State, rows, is_bucket, HasOnlyItsLists, HasCursorInside}
+use Rattle.place_words.specs.Steps.{after, with_row, without_row, with_free, without_free}
+use Rattle.place_words.proofs.RowLemmas.{rows_without_row_same, rows_without_row_other, rows_with_row_same, rows_with_row_other}
+use Rattle.place_words.specs.Interleaving.{Event, does, set_lists, claims, own_steps}
 use Rattle.core_runs.specs.Words.{ListsAllow, GivesLists}
 use Rattle.core_runs.proofs.Ties.{with_lists, lists_here}
 use Rattle.core_runs.proofs.Fits.{Fits, fits_alike, settle_fits, claim_fits, give_list_fits}

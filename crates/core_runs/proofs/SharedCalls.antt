@@ -27,7 +27,7 @@ use Rattle.place_words.specs.declared.list_part.Stolen.TheVariants.{Free, Pendin
 use Rattle.place_words.specs.declared.visits.Look.{Look}
 use Rattle.place_words.specs.declared.visits.Try.{Try}
 use Rattle.place_words.specs.Shrinking.{freed}
-use Rattle.place_core.proofs.ElementLemmas.{times_cons_same}
+use Rattle.place_words.proofs.ElementLemmas.{times_cons_same}
 use Rattle.place_words.specs.Locks.{is_lock}
 use Rattle.place_words.specs.Logs.{State, lies_in, all_turned, placed}
 use Rattle.place_words.specs.SerialOrder.{FindsNoneHeld}
@@ -38,8 +38,8 @@ use Rattle.place_words.proofs.LockLemmas.{same_lock}
 use Rattle.place_words.proofs.PlacedContents.{after_both, lies_after_all}
 use Rattle.place_words.proofs.PlacedLaws.{placed_turns}
 use Rattle.place_words.proofs.Settled.{turned_here, turned_elsewhere}
-use Rattle.place_core.specs.State.{rows}
-use Rattle.place_core.specs.Interleaving.{set_lists, lists_in}
+use Rattle.place_words.specs.State.{rows}
+use Rattle.place_words.specs.Interleaving.{set_lists, lists_in}
 use Rattle.core_runs.proofs.Chases.{chase_of, freed_names, placed_split, head_is, turns_split}
 use Rattle.core_runs.proofs.Evictions.{Hands, evicting, AreBuckets}
 use Rattle.core_runs.proofs.OwnCalls.{AreFine, last_fine}

@@ -13,14 +13,14 @@ use Rattle.map_types.proofs.RowLemmas.{by_test, times_append}
 use Rattle.place_words.specs.declared.home.Home.TheVariants as homes
 use Rattle.place_words.specs.declared.owner.Owner.TheVariants as owners
 use Rattle.place_words.specs.Locks.{is_lock, lock_number, lock_named}
-use Rattle.place_core.specs.declared.step.Lists.{Lists}
-use Rattle.place_core.specs.declared.step.Step.TheVariants as steps
-use Rattle.place_core.specs.Places.{lies_at, has_row}
-use Rattle.place_core.specs.State.{State, rows}
-use Rattle.place_core.specs.Steps.{with_free, with_row, without_row, IsFreeOrInHand}
-use Rattle.place_core.proofs.ElementLemmas.{times_cons_same, times_without_same, times_without_other}
-use Rattle.place_core.proofs.RowLemmas.{free_is, rows_without_row_other, rows_without_row_same, rows_with_row_same, rows_with_row_other}
-use Rattle.place_core.specs.Interleaving.{Event, does, freed_steps, AreEnabled}
+use Rattle.place_words.specs.declared.step.Lists.{Lists}
+use Rattle.place_words.specs.declared.step.Step.TheVariants as steps
+use Rattle.place_words.specs.Places.{lies_at, has_row}
+use Rattle.place_words.specs.State.{State, rows}
+use Rattle.place_words.specs.Steps.{with_free, with_row, without_row, IsFreeOrInHand}
+use Rattle.place_words.proofs.ElementLemmas.{times_cons_same, times_without_same, times_without_other}
+use Rattle.place_words.proofs.RowLemmas.{free_is, rows_without_row_other, rows_without_row_same, rows_with_row_same, rows_with_row_other}
+use Rattle.place_words.specs.Interleaving.{Event, does, freed_steps, AreEnabled}
 use Rattle.core_runs.proofs.Evictions.{Hands}
 use Rattle.core_runs.proofs.OwnTurns.{stacked, without_all}
 use Rattle.core_runs.proofs.PlainGoes.{one_at_most}

@@ -15,15 +15,15 @@ use Rattle.place_words.specs.declared.home.Home.TheVariants as homes
 use Rattle.place_words.specs.Locks.{is_lock, lock_number, lock_named, is_same_lock}
 use Rattle.place_words.specs.Openings.{is_free}
 use Rattle.place_words.proofs.LockLemmas.{named_by_number, same_lock, one_lock}
-use Rattle.place_core.specs.declared.step.Lists.{Lists}
-use Rattle.place_core.specs.declared.step.Step.TheVariants as steps
-use Rattle.place_core.specs.Places.{home_of_place, has_row, lies_at}
-use Rattle.place_core.specs.State.{State, rows, is_bucket}
-use Rattle.place_core.specs.Steps.{IsEnabled, after, with_row, without_row, with_free, without_free, left_by, joined_by, after_leaving, after_joining}
-use Rattle.place_core.proofs.ElementLemmas.{put_here, put_else, times_cons_same}
-use Rattle.place_core.proofs.RowLemmas.{stands_where, lies_is, row_lies, rows_with_row_same, rows_with_row_other}
-use Rattle.place_core.proofs.StepLaws.{step_keeps_places}
-use Rattle.place_core.specs.Interleaving.{Event, does, freed_steps}
+use Rattle.place_words.specs.declared.step.Lists.{Lists}
+use Rattle.place_words.specs.declared.step.Step.TheVariants as steps
+use Rattle.place_words.specs.Places.{home_of_place, has_row, lies_at}
+use Rattle.place_words.specs.State.{State, rows, is_bucket}
+use Rattle.place_words.specs.Steps.{IsEnabled, after, with_row, without_row, with_free, without_free, left_by, joined_by, after_leaving, after_joining}
+use Rattle.place_words.proofs.ElementLemmas.{put_here, put_else, times_cons_same}
+use Rattle.place_words.proofs.RowLemmas.{stands_where, lies_is, row_lies, rows_with_row_same, rows_with_row_other}
+use Rattle.place_words.proofs.StepLaws.{step_keeps_places}
+use Rattle.place_words.specs.Interleaving.{Event, does, freed_steps}
 use Rattle.core_runs.specs.Words.{ListsAllow}
 use Rattle.core_runs.proofs.Ties.{with_lists}
 use Rattle.core_runs.proofs.Fits.{Fits, fits_alike, number_apart, other_sort, settle_fits}

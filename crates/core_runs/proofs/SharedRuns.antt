@@ -33,13 +33,13 @@ use Rattle.place_words.specs.Turns.{after_turn}
 use Rattle.place_words.proofs.KeepLaws.{times_turned}
 use Rattle.place_words.proofs.LockLemmas.{same_lock, other_lock}
 use Rattle.place_words.proofs.Settled.{turned_here, turned_elsewhere}
-use Rattle.place_core.specs.declared.step.Lists.{Lists}
-use Rattle.place_core.specs.declared.step.Step.TheVariants as steps
-use Rattle.place_core.specs.Opening.{opening}
-use Rattle.place_core.specs.State.{State, rows, is_bucket}
-use Rattle.place_core.proofs.ElementLemmas.{put_here, put_else}
-use Rattle.place_core.proofs.OpeningLaws.{opening_placed}
-use Rattle.place_core.specs.Interleaving.{Drawn, turn_of, Event, does, is_inner, enclosing, bucket_around, part_steps, seen_by, set_lists, lists_in, takes, not_begun, tickets_of, interleaved, AreEnabled}
+use Rattle.place_words.specs.declared.step.Lists.{Lists}
+use Rattle.place_words.specs.declared.step.Step.TheVariants as steps
+use Rattle.place_words.specs.OpeningState.{opening}
+use Rattle.place_words.specs.State.{State, rows, is_bucket}
+use Rattle.place_words.proofs.ElementLemmas.{put_here, put_else}
+use Rattle.place_words.proofs.OpeningLaws.{opening_placed}
+use Rattle.place_words.specs.Interleaving.{Drawn, turn_of, Event, does, is_inner, enclosing, bucket_around, part_steps, seen_by, set_lists, lists_in, takes, not_begun, tickets_of, interleaved, AreEnabled}
 use Rattle.core_runs.specs.Words.{words_of, RunsByWords, RunsByLists}
 use Rattle.core_runs.specs.Races.{PaysBucket}
 use Rattle.core_runs.specs.SharedRaces.{Midst, at_rest, IsStolenThere, LocalPays, PaysGlobal, SharedAt, midst_after, no_debts, AreShared}

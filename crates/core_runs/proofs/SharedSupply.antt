@@ -27,9 +27,9 @@ use Rattle.place_words.proofs.LockLemmas.{same_lock}
 use Rattle.place_words.proofs.PlacedContents.{after_both, lies_after_all}
 use Rattle.place_words.proofs.PlacedLaws.{placed_turns}
 use Rattle.place_words.proofs.Settled.{turned_here}
-use Rattle.place_core.specs.State.{rows}
-use Rattle.place_core.proofs.ElementLemmas.{times_cons_same}
-use Rattle.place_core.specs.Interleaving.{set_lists, lists_in}
+use Rattle.place_words.specs.State.{rows}
+use Rattle.place_words.proofs.ElementLemmas.{times_cons_same}
+use Rattle.place_words.specs.Interleaving.{set_lists, lists_in}
 use Rattle.core_runs.proofs.BucketGoes.{IsListed}
 use Rattle.core_runs.proofs.Chases.{placed_split, turns_split, row_inside}
 use Rattle.core_runs.proofs.Evictions.{Hands}

@@ -23,11 +23,11 @@ use Rattle.place_words.specs.Turns.{Turn, on_lock, after_turn, after_turns, AreA
 use Rattle.place_words.proofs.LockLemmas.{same_lock}
 use Rattle.place_words.proofs.PlacedContents.{after_both}
 use Rattle.place_words.proofs.Settled.{turned_here}
-use Rattle.place_core.specs.declared.step.Lists.{Lists}
-use Rattle.place_core.specs.State.{State, rows}
-use Rattle.place_core.specs.Steps.{with_row, without_row, without_free}
-use Rattle.place_core.proofs.ElementLemmas.{put_here, times_cons_same}
-use Rattle.place_core.specs.Interleaving.{Drawn, lists_in, interleaved, AreEnabled}
+use Rattle.place_words.specs.declared.step.Lists.{Lists}
+use Rattle.place_words.specs.State.{State, rows}
+use Rattle.place_words.specs.Steps.{with_row, without_row, without_free}
+use Rattle.place_words.proofs.ElementLemmas.{put_here, times_cons_same}
+use Rattle.place_words.specs.Interleaving.{Drawn, lists_in, interleaved, AreEnabled}
 use Rattle.core_runs.proofs.Evictions.{Hands, evicting, evicting_beside, evicting_runs}
 use Rattle.core_runs.proofs.ListGoes.{without_rows, in_hand_more}
 use Rattle.core_runs.proofs.Nests.{stamped, AreFrom, from_less, drawn, turn_alone, nest, begun_first, begins, inside_one, nest_ends}

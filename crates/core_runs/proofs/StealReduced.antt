@@ -26,14 +26,14 @@ use Rattle.place_words.specs.Locks.{rank_of, is_lock, lock_number, lock_named}
 use Rattle.place_words.specs.Openings.{is_free}
 use Rattle.place_words.specs.Sets.{has_row}
 use Rattle.place_words.proofs.LockLemmas.{named_by_number}
-use Rattle.place_core.specs.declared.step.Lists.{Lists}
-use Rattle.place_core.specs.declared.step.Step.TheVariants as steps
-use Rattle.place_core.specs.Places as places
-use Rattle.place_core.specs.State.{State, rows}
-use Rattle.place_core.specs.Steps.{IsEnabled, after, with_row, without_row, with_free, without_free, MayLeave, IsFreeOrInHand, CanTake, left_by, joined_by, after_leaving, after_joining}
-use Rattle.place_core.proofs.ElementLemmas.{put_else, times_cons_same}
-use Rattle.place_core.proofs.StepLaws.{step_keeps_places}
-use Rattle.place_core.specs.Interleaving.{Event, does, local_steps}
+use Rattle.place_words.specs.declared.step.Lists.{Lists}
+use Rattle.place_words.specs.declared.step.Step.TheVariants as steps
+use Rattle.place_words.specs.Places as places
+use Rattle.place_words.specs.State.{State, rows}
+use Rattle.place_words.specs.Steps.{IsEnabled, after, with_row, without_row, with_free, without_free, MayLeave, IsFreeOrInHand, CanTake, left_by, joined_by, after_leaving, after_joining}
+use Rattle.place_words.proofs.ElementLemmas.{put_else, times_cons_same}
+use Rattle.place_words.proofs.StepLaws.{step_keeps_places}
+use Rattle.place_words.specs.Interleaving.{Event, does, local_steps}
 use Rattle.core_runs.specs.Words.{ListsAllow}
 use Rattle.core_runs.proofs.Ties.{with_lists, lists_here}
 use Rattle.core_runs.proofs.Fits.{Fits, fits_alike, take_fits, claim_fits, list_changes, gives_same}

@@ -12,12 +12,12 @@ use Rattle.map_types.specs.ElementLists.{one, times, IsIn}
 use Rattle.place_words.specs.declared.owner.Owner.TheVariants as owners
 use Rattle.place_words.specs.Locks.{rank_of, is_lock, lock_number, lock_named, is_same_lock}
 use Rattle.place_words.proofs.LockLemmas.{same_lock, one_lock}
-use Rattle.place_core.specs.declared.step.Lists.{Lists}
-use Rattle.place_core.specs.declared.step.Step.{Step}
-use Rattle.place_core.specs.declared.step.Step.TheVariants as steps
-use Rattle.place_core.specs.Places.{Placed}
-use Rattle.place_core.specs.State.{State, rows, is_bucket, HasOnlyItsLists, HasCursorInside}
-use Rattle.place_core.specs.Steps.{IsEnabled, after, lists_under, with_free, without_free, with_row, without_row, IsLockHome}
+use Rattle.place_words.specs.declared.step.Lists.{Lists}
+use Rattle.place_words.specs.declared.step.Step.{Step}
+use Rattle.place_words.specs.declared.step.Step.TheVariants as steps
+use Rattle.place_words.specs.Places.{Placed}
+use Rattle.place_words.specs.State.{State, rows, is_bucket, HasOnlyItsLists, HasCursorInside}
+use Rattle.place_words.specs.Steps.{IsEnabled, after, lists_under, with_free, without_free, with_row, without_row, IsLockHome}
 pub use Rattle.core_runs.proofs.Ties.{with_lists, with_holder, lists_here, lists_else, put_named, IsTiedBy, DidBy}
 use Rattle.core_runs.proofs.Ties.{under_by, held_by, free_by, take_by, claim_by, attach_by, detach_by, settle_by, give_by, give_same_by}
 

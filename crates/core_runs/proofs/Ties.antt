@@ -14,15 +14,15 @@ use Rattle.place_words.specs.declared.owner.Owner.TheVariants as owners
 use Rattle.place_words.specs.Locks.{rank_of, is_lock, lock_number, lock_named, is_same_lock}
 use Rattle.place_words.specs.Openings.{is_free}
 use Rattle.place_words.proofs.LockLemmas.{named_by_number, number_of_named, same_lock, other_lock}
-use Rattle.place_core.specs.declared.step.Lists.{Lists}
-use Rattle.place_core.specs.declared.step.Step.{Step}
-use Rattle.place_core.specs.declared.step.Step.TheVariants as steps
-use Rattle.place_core.specs.Places.{Placed, lies_at, has_row}
-use Rattle.place_core.specs.State.{State, rows, is_bucket, HasOnlyItsLists, HasCursorInside}
-use Rattle.place_core.specs.Steps.{IsEnabled, after, lists_under, with_free, without_free, with_row, without_row, CanTake, CanGive, IsLockHome}
-use Rattle.place_core.proofs.ElementLemmas.{at_put}
-use Rattle.place_core.proofs.RowLemmas.{Stands, stands_where, free_is, head_is_in}
-use Rattle.place_core.proofs.StepLaws.{step_keeps_places}
+use Rattle.place_words.specs.declared.step.Lists.{Lists}
+use Rattle.place_words.specs.declared.step.Step.{Step}
+use Rattle.place_words.specs.declared.step.Step.TheVariants as steps
+use Rattle.place_words.specs.Places.{Placed, lies_at, has_row}
+use Rattle.place_words.specs.State.{State, rows, is_bucket, HasOnlyItsLists, HasCursorInside}
+use Rattle.place_words.specs.Steps.{IsEnabled, after, lists_under, with_free, without_free, with_row, without_row, CanTake, CanGive, IsLockHome}
+use Rattle.place_words.proofs.ElementLemmas.{at_put}
+use Rattle.place_words.proofs.RowLemmas.{Stands, stands_where, free_is, head_is_in}
+use Rattle.place_words.proofs.StepLaws.{step_keeps_places}
 
 -- other lists under one lock
 abbrev pub with_lists : DomainId → Lists → (DomainId → Lists) → DomainId → Lists

@@ -26,9 +26,9 @@ use Rattle.place_words.specs.Moves.{taken_from_bucket}
 use Rattle.place_words.specs.Turns.{Turn, TurnAt, turns_of, on_lock, on_bucket_of, bucket_of_key, after_turn, after_turns, AreAllowed}
 use Rattle.place_words.specs.Walks.{Firsts, GoesOn, IsNextTrace, FreesAll, IsFreedAfter, AfterWalk, Walks, IsReadTrace, buckets_from, walked_out, pair_of}
 use Rattle.place_words.proofs.EachTurn.{AreWithin, first_within, others_within, buckets_within}
-use Rattle.place_core.specs.declared.step.Lists.{Lists}
-use Rattle.place_core.specs.declared.step.Step.TheVariants as steps
-use Rattle.place_core.specs.Interleaving.{part_steps, lists_in}
+use Rattle.place_words.specs.declared.step.Lists.{Lists}
+use Rattle.place_words.specs.declared.step.Step.TheVariants as steps
+use Rattle.place_words.specs.Interleaving.{part_steps, lists_in}
 use Rattle.core_runs.proofs.BucketGoes.{gathered, goes_taking_out}
 use Rattle.core_runs.proofs.Chases.{turns_split}
 use Rattle.core_runs.proofs.Evictions.{Hands}
@@ -107,7 +107,7 @@ pub walk_numbers : (shape : Shape) (cpu room : ℕ) (all bodies : List Stored) �
 unfolding AllowsInBucket
 walk_numbers shape cpu room all bodies may = ap numbers may.1 ∙ read_numbers shape cpu bodies
 
-walk_steps : (lru : Bool) (cpu bucket : ℕ) (remove : Bool) (room : ℕ) (result : Walked) → lru ≡ true → Rattle.place_core.specs.Interleaving.leave_steps lru cpu bucket (taken_from_bucket (Walk remove room result)) ≡ map (λ e. steps.Detach cpu e bucket) (walked_out remove result)
+walk_steps : (lru : Bool) (cpu bucket : ℕ) (remove : Bool) (room : ℕ) (result : Walked) → lru ≡ true → Rattle.place_words.specs.Interleaving.leave_steps lru cpu bucket (taken_from_bucket (Walk remove room result)) ≡ map (λ e. steps.Detach cpu e bucket) (walked_out remove result)
 walk_steps lru cpu bucket remove room (Over n) is = cond-true lru _ _ is
 walk_steps lru cpu bucket remove room (Taken all) is = cond-true lru _ _ is
 
@@ -130,7 +130,7 @@ module _ {shape : Shape} (bounds : HasBounds shape) (lru : is_lru shape.kind ≡
       let ons = on_parts shape (turns_of one) (turns_of others) (subst (AreOnLocks shape) are on) in
       subst (λ (l : List Turn). Goes shape cpu contents (Hands cpu (e ∷ es) Nobody) l Nobody) (sym are)
       (goes_both contents (Hands cpu (e ∷ es) Nobody) (Hands cpu es Nobody) Nobody (turns_of one) (turns_of others)
-      (supplies.frees contents e es one (let few = once e in let here = Rattle.place_core.proofs.ElementLemmas.times_cons_same e es in omega (arith, few, here)) frees ons.0 may.0)
+      (supplies.frees contents e es one (let few = once e in let here = Rattle.place_words.proofs.ElementLemmas.times_cons_same e es in omega (arith, few, here)) frees ons.0 may.0)
       (frees_all es others (after_turns shape cpu contents (turns_of one)) rest (λ x. by_test e x (λ b. cond b (suc (times x es)) (times x es) ≤ 1 → times x es ≤ 1) (λ same few. omega (arith, few)) (λ other few. few) (once x)) ons.1 may.1))
 
   -- A walk's turn of a bucket, and the freeing of what it took out.

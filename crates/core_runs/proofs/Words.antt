@@ -16,14 +16,14 @@ use Rattle.place_words.specs.declared.owner.Owner.TheVariants as owners
 use Rattle.place_words.specs.Locks.{is_lock, lock_number, lock_named}
 use Rattle.place_words.specs.Openings.{is_free}
 use Rattle.place_words.proofs.LockLemmas.{named_by_number, number_of_named}
-use Rattle.place_core.specs.declared.step.Step.{Step}
-use Rattle.place_core.specs.declared.step.Step.TheVariants.{Take, Give, Claim, Settle, Attach, Detach, Rehome, Mark, Clear, Glance}
-use Rattle.place_core.specs.Places.{Placed, ElementPlace, under_lock, carried, home_of_place, lies_at, has_row, is_in_bucket}
-use Rattle.place_core.specs.State.{State, rows, is_bucket, HasOnlyItsLists}
-use Rattle.place_core.specs.Steps.{IsEnabled, after, lists_under, Holds, MayLeave, MayEnter, IsHeldHome}
-use Rattle.place_core.proofs.RowLemmas.{stands_where, lies_is, row_lies, bucket_is}
-use Rattle.place_core.proofs.StepLaws.{step_keeps_places}
-use Rattle.place_core.specs.Interleaving.{Event, does, sees, AreEnabled}
+use Rattle.place_words.specs.declared.step.Step.{Step}
+use Rattle.place_words.specs.declared.step.Step.TheVariants.{Take, Give, Claim, Settle, Attach, Detach, Rehome, Mark, Clear, Glance}
+use Rattle.place_words.specs.Places.{Placed, ElementPlace, under_lock, carried, home_of_place, lies_at, has_row, is_in_bucket}
+use Rattle.place_words.specs.State.{State, rows, is_bucket, HasOnlyItsLists}
+use Rattle.place_words.specs.Steps.{IsEnabled, after, lists_under, Holds, MayLeave, MayEnter, IsHeldHome}
+use Rattle.place_words.proofs.RowLemmas.{stands_where, lies_is, row_lies, bucket_is}
+use Rattle.place_words.proofs.StepLaws.{step_keeps_places}
+use Rattle.place_words.specs.Interleaving.{Event, does, sees, AreEnabled}
 use Rattle.core_runs.specs.Words.{Words, words_of, HoldsWord, WordsAllow, words_after, RunsByWords, ListsAllow, RunsByLists, LeavesWord, EntersWord, IsHeldWord}
 
 -- the words after a step are those of the state after it

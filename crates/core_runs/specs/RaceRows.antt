@@ -10,8 +10,8 @@ use Rattle.place_words.specs.declared.free_part.FreePart.TheVariants.{Popped}
 use Rattle.place_words.specs.declared.history.Part.{Part}
 use Rattle.place_words.specs.declared.history.Part.TheVariants as parts
 use Rattle.place_words.specs.Histories.{opening_content}
-use Rattle.place_core.specs.Opening.{opening}
-use Rattle.place_core.specs.Interleaving.{Drawn, interleaved, AreEnabled}
+use Rattle.place_words.specs.OpeningState.{opening}
+use Rattle.place_words.specs.Interleaving.{Drawn, interleaved, AreEnabled}
 use Rattle.core_runs.specs.Races.{AreTurns}
 use Rattle.core_runs.specs.SharedRaces.{AreShared, at_rest}
 use Rattle.map_types.specs.Kind.{is_lru}

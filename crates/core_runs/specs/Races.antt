@@ -15,7 +15,7 @@ use Rattle.place_words.specs.Histories.{Content, Allows}
 use Rattle.place_words.specs.Locks.{is_lock}
 use Rattle.place_words.specs.Moves.{taken_from_bucket}
 use Rattle.place_words.specs.Turns.{after_turn}
-use Rattle.place_core.specs.Interleaving.{Drawn, turn_of, enclosing, bucket_around, bucket_of_lock}
+use Rattle.place_words.specs.Interleaving.{Drawn, turn_of, enclosing, bucket_around, bucket_of_lock}
 
 -- what leaves a bucket in the turns of freelists inside a turn: on a map that doesn't evict all that is taken out for good
 abbrev pub left_inside : Bool → BucketPart → List ℕ

@@ -13,9 +13,9 @@ use Rattle.place_words.specs.declared.history.Part.TheVariants as parts
 use Rattle.place_words.specs.declared.list_part.OwnPart.TheVariants as own
 use Rattle.place_words.specs.declared.visits.Visit.{Visit}
 use Rattle.place_words.specs.Histories.{opening_content}
-use Rattle.place_core.specs.declared.step.Lists.{Lists}
-use Rattle.place_core.specs.declared.step.Step.TheVariants as steps
-use Rattle.place_core.specs.Interleaving.{Drawn, Event, does, sees, interleaved}
+use Rattle.place_words.specs.declared.step.Lists.{Lists}
+use Rattle.place_words.specs.declared.step.Step.TheVariants as steps
+use Rattle.place_words.specs.Interleaving.{Drawn, Event, does, sees, interleaved}
 use Rattle.core_runs.specs.Rows.{drawn, no_lists, one_first, take, give}
 
 abbrev pub shape : Shape

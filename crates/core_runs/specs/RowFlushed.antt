@@ -13,8 +13,8 @@ use Rattle.place_words.specs.declared.list_part.GlobalPart.TheVariants as global
 use Rattle.place_words.specs.declared.list_part.LocalPart.TheVariants as local
 use Rattle.place_words.specs.declared.list_part.Stolen.TheVariants.{Nothing}
 use Rattle.place_words.specs.Histories.{opening_content}
-use Rattle.place_core.specs.declared.step.Step.TheVariants as steps
-use Rattle.place_core.specs.Interleaving.{Drawn, Event, does, sees, interleaved}
+use Rattle.place_words.specs.declared.step.Step.TheVariants as steps
+use Rattle.place_words.specs.Interleaving.{Drawn, Event, does, sees, interleaved}
 use Rattle.core_runs.specs.Rows.{drawn, no_lists, one_first, take, give, first_turn, first_refill}
 use Rattle.core_runs.specs.Rows as row
 use Rattle.core_runs.specs.RowApart.{visit, evict, one_second, one_free}

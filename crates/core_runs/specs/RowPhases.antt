@@ -12,8 +12,8 @@ use Rattle.place_words.specs.declared.list_part.LocalPart.TheVariants as local
 use Rattle.place_words.specs.declared.list_part.Stolen.TheVariants.{Nothing, Pending}
 use Rattle.place_words.specs.declared.visits.Look.{Look}
 use Rattle.place_words.specs.Histories.{opening_content}
-use Rattle.place_core.specs.declared.step.Step.TheVariants as steps
-use Rattle.place_core.specs.Interleaving.{Drawn, Event, does, interleaved}
+use Rattle.place_words.specs.declared.step.Step.TheVariants as steps
+use Rattle.place_words.specs.Interleaving.{Drawn, Event, does, interleaved}
 use Rattle.core_runs.specs.Rows.{shape, drawn, first_turn, second_turn, first_refill, second_refill, no_lists, one_first, take, give}
 
 abbrev pub look : Look

@@ -18,11 +18,11 @@ use Rattle.place_words.specs.declared.visits.Look.{Look}
 use Rattle.place_words.specs.declared.visits.ShrinkNote.{ShrinkNote}
 use Rattle.place_words.specs.declared.visits.Try.{Try}
 use Rattle.place_words.specs.Histories.{opening_content}
-use Rattle.place_core.specs.declared.step.Lists.{Lists}
-use Rattle.place_core.specs.declared.step.Step.TheVariants as steps
-use Rattle.place_core.specs.Opening.{opening}
-use Rattle.place_core.specs.Steps.{IsEnabled, after}
-use Rattle.place_core.specs.Interleaving.{Drawn, Event, does, sees, interleaved}
+use Rattle.place_words.specs.declared.step.Lists.{Lists}
+use Rattle.place_words.specs.declared.step.Step.TheVariants as steps
+use Rattle.place_words.specs.OpeningState.{opening}
+use Rattle.place_words.specs.Steps.{IsEnabled, after}
+use Rattle.place_words.specs.Interleaving.{Drawn, Event, does, sees, interleaved}
 
 abbrev pub shape : Shape
 shape = record { kind = LruHash; cpus = 2; capacity = 1; elements = 1; buckets = 1; key_size = 1; value_size = 1; seed = 0; common = true }

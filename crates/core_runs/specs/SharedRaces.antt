@@ -19,8 +19,8 @@ use Rattle.place_words.specs.Locks.{is_lock}
 use Rattle.place_words.specs.Rotation.{visited_elements}
 use Rattle.place_words.specs.Takings.{freed_by}
 use Rattle.place_words.specs.Turns.{after_turn}
-use Rattle.place_core.specs.State.{rows}
-use Rattle.place_core.specs.Interleaving.{Drawn, turn_of, enclosing, lists_in, tickets_of}
+use Rattle.place_words.specs.State.{rows}
+use Rattle.place_words.specs.Interleaving.{Drawn, turn_of, enclosing, lists_in, tickets_of}
 use Rattle.core_runs.specs.Races.{PaysBucket}
 
 -- Of a CPU's lists in a refill that is under way: whether the turn of the global lists was made, what it gained, and what it flushed.

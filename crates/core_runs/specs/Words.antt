@@ -11,12 +11,12 @@ use Rattle.place_words.specs.declared.home.Home.TheVariants as homes
 use Rattle.place_words.specs.declared.owner.Owner.{Owner}
 use Rattle.place_words.specs.declared.owner.Owner.TheVariants as owners
 use Rattle.place_words.specs.Locks.{rank_of, is_lock, lock_number, lock_named}
-use Rattle.place_core.specs.declared.step.Lists.{Lists}
-use Rattle.place_core.specs.declared.step.Step.{Step}
-use Rattle.place_core.specs.declared.step.Step.TheVariants.{Take, Give, Claim, Settle, Attach, Detach, Rehome, Mark, Clear, Glance}
-use Rattle.place_core.specs.State.{State, rows, is_bucket, HasOnlyItsLists, HasCursorInside}
-use Rattle.place_core.specs.Steps.{lists_under, IsLockHome, IsFreeOrInHand, after}
-use Rattle.place_core.specs.Interleaving.{Event, does, sees}
+use Rattle.place_words.specs.declared.step.Lists.{Lists}
+use Rattle.place_words.specs.declared.step.Step.{Step}
+use Rattle.place_words.specs.declared.step.Step.TheVariants.{Take, Give, Claim, Settle, Attach, Detach, Rehome, Mark, Clear, Glance}
+use Rattle.place_words.specs.State.{State, rows, is_bucket, HasOnlyItsLists, HasCursorInside}
+use Rattle.place_words.specs.Steps.{lists_under, IsLockHome, IsFreeOrInHand, after}
+use Rattle.place_words.specs.Interleaving.{Event, does, sees}
 
 pub record Words : Type 0 where
   pub holder : ℕ → Option ℕ

@@ -1,2 +1,2 @@
-pub mod Spread
 pub mod Stack
+pub use Rattle.place_words.specs.Spread

@@ -1,8 +1,7 @@
-//! The free elements of a map that doesn't evict: how they are spread over its CPUs, and the stack that each CPU has.
+//! The free elements of a map that doesn't evict: the stack that each CPU has.
 #![tactic(auto)]
 
 mod freelist;
-mod shares;
 
 pub use freelist::Freelist;
-pub use shares::share;
+pub use place_words::share;

@@ -15,7 +15,7 @@ use Rattle.place_words.specs.Bodies.{numbers}
 use Rattle.place_words.specs.Locks.{is_lock, lock_named, lock_number, rank_of}
 use Rattle.place_words.specs.Traces.{on_freelist_of}
 use Rattle.place_words.proofs.LockLemmas.{named_by_number}
-use Rattle.place_core.specs.declared.step.Lists.{Lists}
+use Rattle.place_words.specs.declared.step.Lists.{Lists}
 use Rattle.place_table.specs.declared.content.Content.{Content}
 use Rattle.place_table.specs.declared.content.Content.TheVariants as contents
 use Rattle.place_table.specs.declared.view.View.{View}

@@ -20,8 +20,8 @@ use Rattle.place_words.specs.Locks.{lock_number}
 use Rattle.place_words.specs.SerialOrder.{bucket_probes}
 use Rattle.place_words.specs.Traces.{Turn, IsPlainTrace, bucket_of_key, on_bucket_of, on_freelist_of, spare_after}
 use Rattle.place_words.proofs.BucketLaws.{present_is_in}
-use Rattle.place_core.specs.declared.step.Lists.{Lists}
-use Rattle.place_core.specs.Steps.{without_row}
+use Rattle.place_words.specs.declared.step.Lists.{Lists}
+use Rattle.place_words.specs.Steps.{without_row}
 use Rattle.place_table.specs.declared.content.Content.TheVariants as contents
 use Rattle.place_table.specs.declared.view.Turned.{Turned}
 use Rattle.place_table.specs.Contents.{lists_of}

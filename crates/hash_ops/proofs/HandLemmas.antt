@@ -5,8 +5,8 @@ use Rattle.map_types.specs.Stored.{Stored}
 use Rattle.place_words.specs.Bodies.{present, numbers}
 use Rattle.map_types.specs.ElementLists.{times, IsIn}
 use Rattle.place_words.proofs.BucketLaws.{present_is_in}
-use Rattle.place_core.specs.declared.step.Lists.{Lists}
-use Rattle.place_core.specs.State.{rows}
+use Rattle.place_words.specs.declared.step.Lists.{Lists}
+use Rattle.place_words.specs.State.{rows}
 use Rattle.place_table.specs.Passes.{PassView, TableView}
 use Rattle.place_table.specs.Views.{is_among, is_in_hand_of}
 use Rattle.place_table.proofs.Entries.{append_nil}

@@ -15,9 +15,9 @@ use Rattle.map_types.proofs.RowLemmas.{by_test}
 use Rattle.place_words.specs.Histories.{on_freelist}
 use Rattle.place_words.specs.Locks.{is_lock, lock_number}
 use Rattle.place_words.specs.Traces.{on_freelist_of}
-use Rattle.place_core.specs.declared.step.Lists.{Lists}
-use Rattle.place_core.specs.State.{rows}
-use Rattle.place_core.specs.Steps.{with_free, without_row}
+use Rattle.place_words.specs.declared.step.Lists.{Lists}
+use Rattle.place_words.specs.State.{rows}
+use Rattle.place_words.specs.Steps.{with_free, without_row}
 use Rattle.place_table.specs.declared.content.Content.TheVariants as contents
 use Rattle.place_table.specs.Passes.{PassView, TableView, TookLock, Settled, CanGive, Gave, Goes, with_view}
 use Rattle.place_table.specs.Views.{no_notes, now_under, moved, without_in_hand}

@@ -31,11 +31,11 @@ use Rattle.place_words.specs.Locks.{is_lock, lock_named, lock_number, rank_of}
 use Rattle.place_words.proofs.BucketLaws.{element_taken}
 use Rattle.place_words.proofs.LockLemmas.{named_by_number}
 use Rattle.place_words.proofs.Splits.{find_passes}
-use Rattle.place_core.specs.declared.step.Lists.{Lists}
-use Rattle.place_core.specs.Places.{is_in_bucket}
-use Rattle.place_core.specs.State.{rows, is_bucket}
-use Rattle.place_core.specs.Steps.{without_row}
-use Rattle.place_core.proofs.ElementLemmas.{times_cons_same}
+use Rattle.place_words.specs.declared.step.Lists.{Lists}
+use Rattle.place_words.specs.Places.{is_in_bucket}
+use Rattle.place_words.specs.State.{rows, is_bucket}
+use Rattle.place_words.specs.Steps.{without_row}
+use Rattle.place_words.proofs.ElementLemmas.{times_cons_same}
 use Rattle.place_table.specs.declared.content.Content.TheVariants as contents
 use Rattle.place_table.specs.declared.view.View.{View}
 use Rattle.place_table.specs.declared.view.Hold.{Hold}

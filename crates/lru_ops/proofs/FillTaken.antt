@@ -13,9 +13,9 @@ use Rattle.place_words.specs.Histories.{Content, content, in_global}
 use Rattle.place_words.specs.Locks.{is_lock, lock_named, lock_number, rank_of}
 use Rattle.place_words.specs.Takings.{stored_hash}
 use Rattle.place_words.proofs.LockLemmas.{named_by_number}
-use Rattle.place_core.specs.declared.step.Lists.{Lists}
-use Rattle.place_core.specs.State.{rows, is_bucket}
-use Rattle.place_core.specs.Wholeness.{all_of}
+use Rattle.place_words.specs.declared.step.Lists.{Lists}
+use Rattle.place_words.specs.State.{rows, is_bucket}
+use Rattle.place_words.specs.Wholeness.{all_of}
 use Rattle.place_table.specs.declared.content.Content.TheVariants as contents
 use Rattle.place_table.specs.declared.view.Hold.{Hold}
 use Rattle.place_table.specs.declared.view.Notes.{Notes}

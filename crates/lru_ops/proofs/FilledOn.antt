@@ -2,7 +2,7 @@
 use Rattle.std.proofs.Common.{◌≡◌, List, [], ◌∷◌, sym, ap, ◌∙◌, arith}
 use Rattle.map_types.specs.ElementLists.{times}
 use Rattle.place_words.specs.Bodies.{numbers}
-use Rattle.place_core.specs.State.{rows}
+use Rattle.place_words.specs.State.{rows}
 use Rattle.place_table.specs.declared.view.Hold.{Hold}
 use Rattle.place_table.specs.Passes.{PassView, TableView}
 use Rattle.place_table.specs.Views.{is_among, is_in_hand_of}

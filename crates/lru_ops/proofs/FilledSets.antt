@@ -19,7 +19,7 @@ use Rattle.place_words.specs.Sets.{ListSet, rotated_set}
 use Rattle.place_words.specs.Takings.{stored_hash}
 use Rattle.place_words.proofs.BucketLaws.{times_more}
 use Rattle.place_words.proofs.GlobalChoices.{not_there}
-use Rattle.place_core.proofs.ElementLemmas.{times_cons_same}
+use Rattle.place_words.proofs.ElementLemmas.{times_cons_same}
 use Rattle.place_table.specs.declared.view.BitAsked.{BitAsked}
 use Rattle.place_table.specs.Calls.{clears_found}
 use Rattle.place_table.specs.Contents.{set_told}

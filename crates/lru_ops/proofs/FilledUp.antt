@@ -16,8 +16,8 @@ use Rattle.place_words.specs.Histories.{looks_told}
 use Rattle.place_words.specs.Sets.{ListSet}
 use Rattle.place_words.specs.Shrinking.{freed}
 use Rattle.place_words.specs.Takings.{stored_hash}
-use Rattle.place_core.specs.declared.step.Lists.{Lists}
-use Rattle.place_core.specs.State.{rows}
+use Rattle.place_words.specs.declared.step.Lists.{Lists}
+use Rattle.place_words.specs.State.{rows}
 use Rattle.place_table.specs.declared.view.Hold.{Hold}
 use Rattle.place_table.specs.declared.view.Notes.{Notes}
 use Rattle.place_table.specs.declared.view.Turned.{Turned}

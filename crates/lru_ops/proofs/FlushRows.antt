@@ -13,7 +13,7 @@ use Rattle.place_words.specs.Globals.{flush_row, flushed_rows, with_flushed}
 use Rattle.place_words.specs.Openings.{is_free}
 use Rattle.place_words.specs.Sets.{ListSet}
 use Rattle.place_words.specs.Takings.{stored_hash}
-use Rattle.place_core.proofs.ElementLemmas.{times_cons_same}
+use Rattle.place_words.proofs.ElementLemmas.{times_cons_same}
 use Rattle.place_table.specs.declared.view.Hold.{Hold}
 use Rattle.place_table.specs.declared.view.Notes.{Notes}
 use Rattle.place_table.specs.Contents.{set_told}

@@ -16,11 +16,11 @@ use Rattle.place_words.specs.Globals.{flush_row, flush_visit, flushed_elements, 
 use Rattle.place_words.specs.Locks.{is_lock, lock_number, rank_of}
 use Rattle.place_words.specs.Openings.{is_free}
 use Rattle.place_words.specs.Takings.{stored_hash}
-use Rattle.place_core.specs.declared.step.Lists.{Lists}
-use Rattle.place_core.specs.State.{rows}
-use Rattle.place_core.specs.Steps.{with_free, with_row, without_free, without_row}
-use Rattle.place_core.specs.Wholeness.{all_of}
-use Rattle.place_core.proofs.ElementLemmas.{times_cons_same}
+use Rattle.place_words.specs.declared.step.Lists.{Lists}
+use Rattle.place_words.specs.State.{rows}
+use Rattle.place_words.specs.Steps.{with_free, with_row, without_free, without_row}
+use Rattle.place_words.specs.Wholeness.{all_of}
+use Rattle.place_words.proofs.ElementLemmas.{times_cons_same}
 use Rattle.place_table.specs.declared.view.Hold.{Hold}
 use Rattle.place_table.specs.declared.view.Notes.{Notes}
 use Rattle.place_table.specs.declared.view.View.{View}

@@ -25,10 +25,10 @@ use Rattle.place_words.specs.Histories.{looks_told, got_cleared}
 use Rattle.place_words.specs.Locks.{is_lock, lock_number}
 use Rattle.place_words.specs.Sets.{ListSet, given_out, own_after, own_scans, rotated_set, shrunk_into_free, AllowsOnOwn}
 use Rattle.place_words.specs.Takings.{shrink_probes, stored_hash}
-use Rattle.place_core.specs.declared.step.Lists.{Lists}
-use Rattle.place_core.specs.State.{rows}
-use Rattle.place_core.specs.Steps.{with_row, without_free}
-use Rattle.place_core.proofs.ElementLemmas.{times_cons_same}
+use Rattle.place_words.specs.declared.step.Lists.{Lists}
+use Rattle.place_words.specs.State.{rows}
+use Rattle.place_words.specs.Steps.{with_row, without_free}
+use Rattle.place_words.proofs.ElementLemmas.{times_cons_same}
 use Rattle.place_table.specs.declared.view.BitAsked.{BitAsked}
 use Rattle.place_table.specs.declared.view.Hold.{Hold}
 use Rattle.place_table.specs.declared.view.InHand.{InHand}

@@ -34,7 +34,7 @@ use Rattle.place_words.specs.Shrinking.{freed}
 use Rattle.place_words.specs.Takings.{Chase, IsChased, freed_by, listed_rows, shrink_probes, stored_hash, walk_probes}
 use Rattle.place_words.specs.Turns.{turns_of}
 use Rattle.place_words.proofs.LockLemmas.{named_by_number}
-use Rattle.place_core.specs.State.{rows}
+use Rattle.place_words.specs.State.{rows}
 use Rattle.place_table.specs.declared.content.Content.TheVariants as contents
 use Rattle.place_table.specs.declared.view.Hold.{Hold}
 use Rattle.place_table.specs.declared.view.Notes.{Notes}

@@ -13,9 +13,9 @@ use Rattle.percpu_values.specs.BodyList.{BodyList}
 use Rattle.place_words.specs.Bodies.{numbers}
 use Rattle.place_words.specs.Globals.{global_scans}
 use Rattle.place_words.specs.Shrinking.{freed}
-use Rattle.place_core.specs.declared.step.Lists.{Lists}
-use Rattle.place_core.specs.State.{rows, rows as core_rows}
-use Rattle.place_core.specs.Wholeness.{all_of}
+use Rattle.place_words.specs.declared.step.Lists.{Lists}
+use Rattle.place_words.specs.State.{rows, rows as core_rows}
+use Rattle.place_words.specs.Wholeness.{all_of}
 use Rattle.place_table.specs.declared.view.Hold.{Hold}
 use Rattle.place_table.specs.Contents.{FitsSet}
 use Rattle.place_table.specs.Passes.{PassView, TableView}

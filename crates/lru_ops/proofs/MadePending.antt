@@ -9,9 +9,9 @@ use Rattle.map_types.specs.ElementLists.{times, IsHead}
 use Rattle.map_types.specs.Stored.{Stored, IsSized}
 use Rattle.place_words.specs.Bodies.{numbers}
 use Rattle.place_words.specs.Locks.{lock_number}
-use Rattle.place_core.specs.declared.step.Lists.{Lists}
-use Rattle.place_core.specs.Steps.{with_row, without_free}
-use Rattle.place_core.proofs.ElementLemmas.{times_cons_same}
+use Rattle.place_words.specs.declared.step.Lists.{Lists}
+use Rattle.place_words.specs.Steps.{with_row, without_free}
+use Rattle.place_words.proofs.ElementLemmas.{times_cons_same}
 use Rattle.place_table.specs.declared.view.Notes.{Notes}
 use Rattle.place_table.specs.declared.view.View.{View}
 use Rattle.place_table.specs.Calls.{clears_bit}

@@ -18,10 +18,10 @@ use Rattle.place_words.specs.Codes.{home_code}
 use Rattle.place_words.specs.Globals.{global_target}
 use Rattle.place_words.specs.Locks.{is_lock, lock_number, rank_of}
 use Rattle.place_words.specs.Sets.{ListSet}
-use Rattle.place_core.specs.declared.step.Lists.{Lists}
-use Rattle.place_core.specs.State.{rows}
-use Rattle.place_core.specs.Steps.{with_free, without_free}
-use Rattle.place_core.proofs.ElementLemmas.{times_cons_same}
+use Rattle.place_words.specs.declared.step.Lists.{Lists}
+use Rattle.place_words.specs.State.{rows}
+use Rattle.place_words.specs.Steps.{with_free, without_free}
+use Rattle.place_words.proofs.ElementLemmas.{times_cons_same}
 use Rattle.place_table.specs.declared.view.Hold.{Hold}
 use Rattle.place_table.specs.declared.view.Notes.{Notes}
 use Rattle.place_table.specs.Contents.{set_told}

@@ -4,7 +4,7 @@ use Rattle.map_types.specs.declared.row.Row.{Row}
 use Rattle.map_types.proofs.RowLemmas.{by_test}
 use Rattle.place_words.specs.declared.bucket_part.Seen.{Seen}
 use Rattle.place_words.specs.declared.bucket_part.Seen.TheVariants.{Removed, Held}
-use Rattle.place_core.specs.declared.step.Lists.{Lists}
+use Rattle.place_words.specs.declared.step.Lists.{Lists}
 use Rattle.place_table.specs.declared.view.Hold.{Hold}
 use Rattle.place_table.specs.declared.view.InHand.{InHand}
 use Rattle.place_table.specs.declared.view.Notes.{Notes}

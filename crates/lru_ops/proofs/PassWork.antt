@@ -14,9 +14,9 @@ use Rattle.place_words.specs.Locks.{lock_named}
 use Rattle.place_words.specs.Sets.{own_scans}
 use Rattle.place_words.specs.Takings.{stored_hash}
 use Rattle.place_words.proofs.LockLemmas.{named_by_number}
-use Rattle.place_core.specs.declared.step.Lists.{Lists}
-use Rattle.place_core.specs.State.{rows}
-use Rattle.place_core.specs.Wholeness.{all_of}
+use Rattle.place_words.specs.declared.step.Lists.{Lists}
+use Rattle.place_words.specs.State.{rows}
+use Rattle.place_words.specs.Wholeness.{all_of}
 use Rattle.place_table.specs.declared.view.Hold.{Hold}
 use Rattle.place_table.specs.Contents.{set_told}
 use Rattle.place_table.specs.Passes.{PassView, TableView}

@@ -17,10 +17,10 @@ use Rattle.place_words.specs.Histories.{in_locals}
 use Rattle.place_words.specs.Locals.{local_after}
 use Rattle.place_words.specs.Locks.{is_lock, lock_number}
 use Rattle.place_words.specs.Takings.{stored_hash, TakesFree, TakesByRefill, TakesOwn}
-use Rattle.place_core.specs.declared.step.Lists.{Lists}
-use Rattle.place_core.specs.State.{rows}
-use Rattle.place_core.specs.Wholeness.{all_of}
-use Rattle.place_core.proofs.ElementLemmas.{times_cons_same}
+use Rattle.place_words.specs.declared.step.Lists.{Lists}
+use Rattle.place_words.specs.State.{rows}
+use Rattle.place_words.specs.Wholeness.{all_of}
+use Rattle.place_words.proofs.ElementLemmas.{times_cons_same}
 use Rattle.place_table.specs.declared.content.Content.{Content as Slot}
 use Rattle.place_table.specs.declared.content.Content.TheVariants as contents
 use Rattle.place_table.specs.declared.view.Hold.{Hold}

@@ -31,12 +31,12 @@ use Rattle.place_words.specs.Takings.{set_of, Frees, FreesPending, FreesFlushed,
 use Rattle.place_words.specs.Turns.{TurnAt, Turn, on_lock, turns_of}
 use Rattle.place_words.proofs.LockLemmas.{named_by_number}
 use Rattle.place_words.proofs.OwnDone.{either_true}
-use Rattle.place_core.specs.declared.step.Lists.{Lists}
-use Rattle.place_core.specs.State.{rows, is_bucket}
-use Rattle.place_core.specs.Steps as steps
-use Rattle.place_core.specs.Wholeness.{all_of}
-use Rattle.place_core.proofs.ElementLemmas.{times_without_same, times_without_other}
-use Rattle.place_core.proofs.OpeningLemmas.{its_cpu_is, its_quotient}
+use Rattle.place_words.specs.declared.step.Lists.{Lists}
+use Rattle.place_words.specs.State.{rows, is_bucket}
+use Rattle.place_words.specs.Steps as steps
+use Rattle.place_words.specs.Wholeness.{all_of}
+use Rattle.place_words.proofs.ElementLemmas.{times_without_same, times_without_other}
+use Rattle.place_words.proofs.OpeningLemmas.{its_cpu_is, its_quotient}
 use Rattle.place_table.specs.declared.content.Content.{Content}
 use Rattle.place_table.specs.declared.content.Content.TheVariants as contents
 use Rattle.place_table.specs.declared.view.View.{View}

@@ -21,10 +21,10 @@ use Rattle.place_words.specs.Buckets.{AllowsInBucket, AllowsPut, bucket_after, b
 use Rattle.place_words.specs.Histories.{marks}
 use Rattle.place_words.specs.SerialOrder.{bucket_probes}
 use Rattle.place_words.proofs.BucketLaws.{present_is_in}
-use Rattle.place_core.specs.declared.step.Lists.{Lists}
-use Rattle.place_core.specs.State.{rows}
-use Rattle.place_core.specs.Steps.{with_row, without_row}
-use Rattle.place_core.proofs.ElementLemmas.{times_cons_same, times_cons_other, times_without_same, times_without_other}
+use Rattle.place_words.specs.declared.step.Lists.{Lists}
+use Rattle.place_words.specs.State.{rows}
+use Rattle.place_words.specs.Steps.{with_row, without_row}
+use Rattle.place_words.proofs.ElementLemmas.{times_cons_same, times_cons_other, times_without_same, times_without_other}
 use Rattle.place_table.specs.declared.content.Content.TheVariants as contents
 use Rattle.place_table.specs.InBucket.{InBucket, IsAt}
 use Rattle.place_table.specs.Passes.{PassView, TableView, CanMark, CanGive, MayGiveBack, GaveBack, Attached, Detached, Marked}

@@ -25,9 +25,9 @@ use Rattle.place_words.specs.Locals.{AllowsOnLocal, local_after}
 use Rattle.place_words.specs.Locks.{is_lock, lock_number}
 use Rattle.place_words.specs.Rotation.{visited_elements}
 use Rattle.place_words.specs.Takings.{Refills, TakesByRefill, TakesFree, TakesOwn, freed_by, stored_hash}
-use Rattle.place_core.specs.declared.step.Lists.{Lists}
-use Rattle.place_core.specs.State.{rows}
-use Rattle.place_core.proofs.ElementLemmas.{times_cons_same}
+use Rattle.place_words.specs.declared.step.Lists.{Lists}
+use Rattle.place_words.specs.State.{rows}
+use Rattle.place_words.proofs.ElementLemmas.{times_cons_same}
 use Rattle.place_table.specs.declared.content.Content.{Content as Slot}
 use Rattle.place_table.specs.declared.content.Content.TheVariants as contents
 use Rattle.place_table.specs.declared.view.BitAsked.{BitAsked}

@@ -16,11 +16,11 @@ use Rattle.place_words.specs.declared.home.Home.TheVariants as homes
 use Rattle.place_words.specs.declared.owner.Owner.TheVariants as owners
 use Rattle.place_words.specs.Codes.{home_code}
 use Rattle.place_words.specs.Locks.{is_lock, lock_number}
-use Rattle.place_core.specs.declared.step.Lists.{Lists}
-use Rattle.place_core.specs.State.{rows}
-use Rattle.place_core.specs.Steps.{with_free, with_row, without_row}
-use Rattle.place_core.specs.Wholeness.{all_of}
-use Rattle.place_core.proofs.ElementLemmas.{times_cons_same}
+use Rattle.place_words.specs.declared.step.Lists.{Lists}
+use Rattle.place_words.specs.State.{rows}
+use Rattle.place_words.specs.Steps.{with_free, with_row, without_row}
+use Rattle.place_words.specs.Wholeness.{all_of}
+use Rattle.place_words.proofs.ElementLemmas.{times_cons_same}
 use Rattle.place_table.specs.declared.view.Hold.{Hold}
 use Rattle.place_table.specs.declared.view.HomeIn.{HomeIn}
 use Rattle.place_table.specs.declared.view.InHand.{InHand}

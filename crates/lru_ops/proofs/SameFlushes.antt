@@ -25,7 +25,7 @@ use Rattle.place_words.proofs.KeepLaws.{flushed_in, listed_none, listed_one}
 use Rattle.place_words.proofs.Loses.{in_set, active_loses}
 use Rattle.place_words.proofs.RotationCounts.{rotated_less, visited_few}
 use Rattle.place_words.proofs.RowCounts.{any, rows_any, rows_cut, rows_reverse}
-use Rattle.place_core.proofs.ElementLemmas.{times_cons_same}
+use Rattle.place_words.proofs.ElementLemmas.{times_cons_same}
 use Rattle.place_table.specs.declared.view.Notes.{Notes}
 use Rattle.place_table.specs.TurnNotes.{AreCleared, TellsFlush}
 use Rattle.place_table.specs.Views.{passed_on}

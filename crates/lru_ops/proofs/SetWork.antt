@@ -23,9 +23,9 @@ use Rattle.place_words.specs.Histories.{look_visit}
 use Rattle.place_words.specs.Sets.{own_scans, own_target, rotated_set, shrunk_into_free}
 use Rattle.place_words.specs.Shrinking.{IsShrink, is_removed, look_removed, try_removed, freed, shrunk}
 use Rattle.place_words.specs.Takings.{look_probes as look_tries, walk_probes, stored_hash}
-use Rattle.place_core.specs.declared.step.Lists.{Lists}
-use Rattle.place_core.specs.State.{rows}
-use Rattle.place_core.proofs.ElementLemmas.{times_cons_same, times_without_same, times_without_other}
+use Rattle.place_words.specs.declared.step.Lists.{Lists}
+use Rattle.place_words.specs.State.{rows}
+use Rattle.place_words.proofs.ElementLemmas.{times_cons_same, times_without_same, times_without_other}
 use Rattle.place_table.specs.Contents.{set_told, lists_of_set, FitsSet}
 use Rattle.place_table.proofs.Entries.{append_nil}
 use Rattle.place_table.proofs.Worlds.{some_is, none_some}

@@ -35,10 +35,10 @@ use Rattle.place_words.specs.Sets.{has_row}
 use Rattle.place_words.specs.Takings.{freed_globally, ends_flushed}
 use Rattle.place_words.specs.Turns.{TurnAt, on_lock}
 use Rattle.place_words.proofs.LockLemmas.{named_by_number, number_within}
-use Rattle.place_core.specs.declared.step.Lists.{Lists}
-use Rattle.place_core.specs.State.{rows}
-use Rattle.place_core.specs.Steps as steps
-use Rattle.place_core.specs.Wholeness.{all_of}
+use Rattle.place_words.specs.declared.step.Lists.{Lists}
+use Rattle.place_words.specs.State.{rows}
+use Rattle.place_words.specs.Steps as steps
+use Rattle.place_words.specs.Wholeness.{all_of}
 use Rattle.place_table.specs.declared.content.Content.TheVariants as contents
 use Rattle.place_table.specs.declared.view.Hold.{Hold}
 use Rattle.place_table.specs.declared.view.HomeIn.{HomeIn}

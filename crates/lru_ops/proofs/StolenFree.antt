@@ -21,11 +21,11 @@ use Rattle.place_words.specs.declared.visits.Try.{Try}
 use Rattle.place_words.specs.Bodies.{numbers}
 use Rattle.place_words.specs.Locals.{local_after}
 use Rattle.place_words.specs.Locks.{lock_number}
-use Rattle.place_core.specs.declared.step.Lists.{Lists}
-use Rattle.place_core.specs.State.{rows}
-use Rattle.place_core.specs.Steps.{with_row, without_free, without_row}
-use Rattle.place_core.specs.Wholeness.{all_of}
-use Rattle.place_core.proofs.ElementLemmas.{times_cons_same}
+use Rattle.place_words.specs.declared.step.Lists.{Lists}
+use Rattle.place_words.specs.State.{rows}
+use Rattle.place_words.specs.Steps.{with_row, without_free, without_row}
+use Rattle.place_words.specs.Wholeness.{all_of}
+use Rattle.place_words.proofs.ElementLemmas.{times_cons_same}
 use Rattle.place_table.specs.declared.content.Content.{Content as Slot}
 use Rattle.place_table.specs.declared.content.Content.TheVariants as contents
 use Rattle.place_table.specs.declared.view.Hold.{Hold}

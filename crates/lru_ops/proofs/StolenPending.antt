@@ -25,9 +25,9 @@ use Rattle.place_words.specs.Histories.{look_visit}
 use Rattle.place_words.specs.Locals.{AreUnsparing, AllowsSteal, IsSearch, local_after}
 use Rattle.place_words.specs.Shrinking.{freed}
 use Rattle.place_words.specs.Takings.{stored_hash, stolen_element, walk_probes}
-use Rattle.place_core.specs.declared.step.Lists.{Lists}
-use Rattle.place_core.specs.State.{rows}
-use Rattle.place_core.specs.Wholeness.{all_of}
+use Rattle.place_words.specs.declared.step.Lists.{Lists}
+use Rattle.place_words.specs.State.{rows}
+use Rattle.place_words.specs.Wholeness.{all_of}
 use Rattle.place_table.specs.declared.content.Content.{Content as Slot}
 use Rattle.place_table.specs.declared.content.Content.TheVariants as contents
 use Rattle.place_table.specs.declared.view.BitAsked.{BitAsked}

@@ -21,9 +21,9 @@ use Rattle.place_words.specs.Locks.{lock_named}
 use Rattle.place_words.specs.Shrinking.{look_removed, freed}
 use Rattle.place_words.specs.Takings.{stored_hash}
 use Rattle.place_words.proofs.LockLemmas.{named_by_number}
-use Rattle.place_core.specs.declared.step.Lists.{Lists}
-use Rattle.place_core.specs.State.{rows}
-use Rattle.place_core.specs.Wholeness.{all_of}
+use Rattle.place_words.specs.declared.step.Lists.{Lists}
+use Rattle.place_words.specs.State.{rows}
+use Rattle.place_words.specs.Wholeness.{all_of}
 use Rattle.place_table.specs.declared.view.Hold.{Hold}
 use Rattle.place_table.specs.declared.view.InHand.{InHand}
 use Rattle.place_table.specs.declared.view.Notes.{Notes}

@@ -17,9 +17,9 @@ use Rattle.place_words.specs.Buckets.{bucket_marks}
 use Rattle.place_words.specs.Histories.{marks}
 use Rattle.place_words.specs.SerialOrder.{bucket_probes}
 use Rattle.place_words.proofs.BucketLaws.{present_is_in}
-use Rattle.place_core.specs.declared.step.Lists.{Lists}
-use Rattle.place_core.specs.State.{rows}
-use Rattle.place_core.specs.Steps.{without_row}
+use Rattle.place_words.specs.declared.step.Lists.{Lists}
+use Rattle.place_words.specs.State.{rows}
+use Rattle.place_words.specs.Steps.{without_row}
 use Rattle.place_table.specs.declared.content.Content.TheVariants as contents
 use Rattle.place_table.specs.declared.view.InHand.{InHand}
 use Rattle.place_table.specs.InBucket.{InBucket}

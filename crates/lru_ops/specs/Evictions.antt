@@ -18,9 +18,9 @@ use Rattle.place_words.specs.declared.owner.Owner.TheVariants.{Hand}
 use Rattle.place_words.specs.Bodies.{body_of, without_element}
 use Rattle.place_words.specs.Histories.{in_bucket, content, IsLegal}
 use Rattle.place_words.specs.Locks.{is_lock, lock_number, rank_of}
-use Rattle.place_core.specs.declared.step.Lists.{Lists}
-use Rattle.place_core.specs.State.{rows}
-use Rattle.place_core.specs.Steps.{with_free, without_row}
+use Rattle.place_words.specs.declared.step.Lists.{Lists}
+use Rattle.place_words.specs.State.{rows}
+use Rattle.place_words.specs.Steps.{with_free, without_row}
 use Rattle.place_table.specs.declared.view.Hold.{Hold}
 use Rattle.place_table.specs.declared.view.InHand.{InHand}
 use Rattle.place_table.specs.declared.view.Notes.{Notes}

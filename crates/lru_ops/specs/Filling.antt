@@ -16,8 +16,8 @@ use Rattle.place_words.specs.Bodies.{numbers}
 use Rattle.place_words.specs.Globals.{flush_row, flush_visit, flushed_elements, flushed_rows, with_flushed, AllowsOnGlobal, global_after, global_target}
 use Rattle.place_words.specs.Shrinking.{freed}
 use Rattle.place_words.specs.Takings.{stored_hash, freed_by, shrink_probes}
-use Rattle.place_core.specs.declared.step.Lists.{Lists}
-use Rattle.place_core.specs.State.{rows}
+use Rattle.place_words.specs.declared.step.Lists.{Lists}
+use Rattle.place_words.specs.State.{rows}
 use Rattle.place_table.specs.declared.view.Hold.{Hold}
 use Rattle.place_table.specs.declared.view.Notes.{Notes}
 use Rattle.place_table.specs.Calls.{clears_found}

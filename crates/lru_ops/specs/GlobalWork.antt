@@ -9,7 +9,7 @@ use Rattle.percpu_values.specs.BodyList.{BodyList}
 use Rattle.place_words.specs.Bodies.{numbers}
 use Rattle.place_words.specs.Globals.{global_scans}
 use Rattle.place_words.specs.Locks.{is_lock, lock_number}
-use Rattle.place_core.specs.State.{rows}
+use Rattle.place_words.specs.State.{rows}
 use Rattle.place_table.specs.declared.view.Hold.{Hold}
 use Rattle.place_table.specs.Contents.{FitsSet}
 use Rattle.place_table.specs.Passes.{PassView, TableView}

@@ -18,7 +18,7 @@ use Rattle.place_words.specs.Histories.{in_own, content, looks_told}
 use Rattle.place_words.specs.Rotation.{AreRotationVisits}
 use Rattle.place_words.specs.Sets.{own_scans, own_target, rotated_set, shrunk_into_free, AllowsOwnShrink}
 use Rattle.place_words.specs.Takings.{shrink_probes, stored_hash}
-use Rattle.place_core.specs.State.{rows}
+use Rattle.place_words.specs.State.{rows}
 use Rattle.place_table.specs.Views.{is_among, is_in_hand_of}
 use Rattle.place_table.specs.Contents.{set_told, lists_of_set, FitsSet}
 use Rattle.place_table.specs.Passes.{PassView, TableView, Claimed, Cleared}

@@ -12,8 +12,8 @@ use Rattle.place_words.specs.Bodies.{numbers}
 use Rattle.place_words.specs.Globals.{flush_visit, flushed_elements, flushed_rows}
 use Rattle.place_words.specs.Shrinking.{freed}
 use Rattle.place_words.specs.Takings.{IsChased, freed_by}
-use Rattle.place_core.specs.declared.step.Lists.{Lists}
-use Rattle.place_core.specs.State.{rows}
+use Rattle.place_words.specs.declared.step.Lists.{Lists}
+use Rattle.place_words.specs.State.{rows}
 use Rattle.place_table.specs.declared.view.Hold.{Hold}
 use Rattle.place_table.specs.declared.view.Notes.{Notes}
 use Rattle.place_table.specs.Calls.{AreTold, bits_of_turns, finds_moved_on}

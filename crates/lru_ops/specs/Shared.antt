@@ -19,7 +19,7 @@ use Rattle.place_words.specs.Locals.{LocalLists}
 use Rattle.place_words.specs.Locks.{is_lock, lock_number}
 use Rattle.place_words.specs.Takings.{Refills, Steals, IsChased, stolen_element, brings_home, ends_flushed}
 use Rattle.place_words.specs.Turns.{Turn, found, on_lock}
-use Rattle.place_core.specs.Wholeness.{all_of}
+use Rattle.place_words.specs.Wholeness.{all_of}
 use Rattle.place_table.specs.declared.view.Turned.{Turned}
 use Rattle.place_table.specs.Calls.{CanCall, FindNoneMoved, AreTold, bits_of_turns}
 use Rattle.place_table.specs.Contents.{lists_of}

@@ -95,7 +95,7 @@ fn give_held<G: Points>(
     let Owner::Hand(holder) = table.owner_of(pass, element) else {
         unreachable!()
     };
-    let part = Part::Bucket(BucketPart::Evict {
+    let held = Part::Bucket(BucketPart::Evict {
         element,
         probed: Seen::Held(holder),
     });
@@ -103,7 +103,7 @@ fn give_held<G: Points>(
         pass,
         DomainId::Bucket(bucket),
         Content::Bucket(chain),
-        Some(part),
+        Some(held),
         gate,
     );
     holder

@@ -21,8 +21,9 @@ use Rattle.place_table.specs.Calls.{CanCall, Called, Leaves, AreTold, FindNoneMo
 use Rattle.place_table.specs.Known.{BitTouch, Learns, turn_at, IsBy, logs_after}
 use Rattle.place_table.specs.Passes.{PassView, TableView}
 use Rattle.place_table.proofs.Going.{goes_nowhere, goes_of_table, goes_begun, made_on, learns_none, learns_on, learns_all}
+use Rattle.place_table.proofs.TurnsOn.{among_before, among_behind, told_where, told_append}
 use Rattle.place_table.proofs.Worlds.{by_bool}
-use Rattle.lru_ops.proofs.Ends.{among_before, among_behind, told_where, told_append, bits_append}
+use Rattle.lru_ops.proofs.Ends.{bits_append}
 
 -- Spares
 

@@ -1,6 +1,12 @@
 pub mod Crossing
 pub mod DeletedEach
+pub mod Emptied
 pub mod Entries
 pub mod Joined
+pub mod LruFreed
+pub mod LruOut
+pub mod LruWhole
 pub mod Sorts
+pub mod TakenOn
+pub mod TakenOut
 pub mod UpdatedEach

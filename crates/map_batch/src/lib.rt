@@ -2,6 +2,8 @@
 #![tactic(auto)]
 
 mod any_map;
+mod take_lru;
+mod take_plain;
 mod walks;
 mod writes;
 

@@ -7,9 +7,9 @@ ghost use Rattle.bucket_walks.specs.BatchReads.{Answers, Comes};
 ghost use Rattle.map_batch.specs.Calls.{table_of};
 
 use crate::any_map::AnyMap;
-use bucket_walks::{
-    BatchOut, BatchRefusal, BatchRequest, look_up_batch, take_batch_lru, take_batch_plain,
-};
+use crate::take_lru::take_batch_lru;
+use crate::take_plain::take_batch_plain;
+use bucket_walks::{BatchOut, BatchRefusal, BatchRequest, look_up_batch};
 use map_types::{Absent, Gate};
 use place_table::Pass;
 use std::alloc::Global;
@@ -21,9 +21,8 @@ use std::sync::Wait;
 /// was found. Each bucket is looked at in a turn of its own; where memory for its entry isn't found, the record of that bucket's turns
 /// is lost, and the call goes on. The rule is that of `htab_map_get_next_key`.
 pub fn next_key<R: Wait, G: Gate>(
-    map: &AnyMap,
     rt: &R,
-    alloc: Global,
+    map: &AnyMap,
     pass: &mut Pass,
     key: Option<&[u8]>,
     out: &mut [u8],
@@ -36,7 +35,7 @@ pub fn next_key<R: Wait, G: Gate>(
         (verbs.Next (option_map (λ key. key.now) key.entry)) (reply_of_value result out.new) }
     ensures refused { IfErr result (λ _. out.new ≡ out.old) }
 {
-    bucket_walks::next_key(rt, alloc, map.table(), pass, key, out, gate)
+    bucket_walks::next_key(rt, map.table(), pass, key, out, gate)
 }
 
 /// Copies the keys, each with the value that the system call reads on the pass's CPU, of whole buckets, head first, from the bucket
@@ -53,9 +52,9 @@ pub fn next_key<R: Wait, G: Gate>(
 /// may take is found before anything is looked at, and where there is none nothing is done (`NoMemory`). The rule is that of the
 /// kernel's `__htab_map_lookup_and_delete_batch`.
 pub fn read_batch<R: Wait, G: Gate>(
-    map: &AnyMap,
     rt: &R,
     alloc: Global,
+    map: &AnyMap,
     pass: &mut Pass,
     count: u32,
     start: Option<u32>,

@@ -34,8 +34,8 @@ pub enum WriteRefusal {
 /// the system call writes. Flags that aren't 0 are `Einval`, before anything is looked at. It takes no memory that it needs. The rule
 /// of `generic_map_update_batch`.
 pub fn update_batch<R: Wait, G: Gate>(
-    map: &AnyMap,
     rt: &R,
+    map: &AnyMap,
     pass: &mut Pass,
     flags: u32,
     pairs: &Pairs,
@@ -50,13 +50,13 @@ pub fn update_batch<R: Wait, G: Gate>(
     if flags != 0 {
         return Err(WriteRefusal::Einval);
     }
-    Ok(update_each(map, rt, pass, pairs, gate))
+    Ok(update_each(rt, map, pass, pairs, gate))
 }
 
 /// Updates the keys of some pairs up to the first that is refused.
 fn update_each<R: Wait, G: Gate>(
-    map: &AnyMap,
     rt: &R,
+    map: &AnyMap,
     pass: &mut Pass,
     pairs: &Pairs,
     gate: &G,
@@ -85,8 +85,8 @@ fn update_each<R: Wait, G: Gate>(
 /// Deletes some keys, fewer than 2^32, of key_size bytes, one after another, up to the first that isn't there (ENOENT). Flags that
 /// aren't 0 are `Einval`, before anything is looked at. It takes no memory that it needs. The rule of `generic_map_delete_batch`.
 pub fn delete_batch<R: Wait, G: Gate>(
-    map: &AnyMap,
     rt: &R,
+    map: &AnyMap,
     pass: &mut Pass,
     flags: u32,
     keys: &List<Bytes>,
@@ -100,13 +100,13 @@ pub fn delete_batch<R: Wait, G: Gate>(
     if flags != 0 {
         return Err(WriteRefusal::Einval);
     }
-    Ok(delete_each(map, rt, pass, keys.as_slice(), gate))
+    Ok(delete_each(rt, map, pass, keys.as_slice(), gate))
 }
 
 /// Deletes some keys up to the first that isn't there.
 fn delete_each<R: Wait, G: Gate>(
-    map: &AnyMap,
     rt: &R,
+    map: &AnyMap,
     pass: &mut Pass,
     keys: &[Bytes],
     gate: &G,

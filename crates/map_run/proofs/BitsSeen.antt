@@ -12,7 +12,7 @@ use Rattle.place_table.specs.Views.{is_among, is_in_hand_of, bit_seen, has_all, 
 use Rattle.place_table.proofs.Worlds.{all_here}
 use Rattle.map_report.specs.declared.record.PhaseStart.{PhaseStart}
 use Rattle.map_run.specs.Phased.{IsAsBefore, IsWhole, SawBits, Started}
-use Rattle.map_run.proofs.ListPlaces.{next_below, same_filter}
+use Rattle.serial_laws.proofs.ListPlaces.{next_below, same_filter}
 
 pub same_as_before : (p : PassView) → IsAsBefore p p
 same_as_before p = record { table = refl; spares = refl; shape = refl; cpus = refl; held = refl; hand = refl; carried = refl; reached = refl; refused = refl; steps = refl; kept = refl; ended = refl; lost = refl }

@@ -17,16 +17,16 @@ use Rattle.place_table.specs.Calls.{Called}
 use Rattle.place_table.specs.Known.{turn_at}
 use Rattle.place_table.specs.Passes.{PassView, TableView, begun}
 use Rattle.map_run.specs.ByLogs.{RunStart, HaveRunFrom}
-use Rattle.map_run.specs.Served.{IsServedCall}
+use Rattle.serial_laws.specs.Served.{IsServedCall}
 use Rattle.map_run.proofs.CallsByLogs.{tells_shared, IsDetermined}
-use Rattle.map_run.proofs.Decides.{Decides, own_decides}
-use Rattle.map_run.proofs.EveryCallIs.{evicting_call_is, plain_call_is}
-use Rattle.map_run.proofs.HistoryTurns.{by_bool}
-use Rattle.map_run.proofs.KeyCalls.{IsAs}
-use Rattle.map_run.proofs.PlainKeyIs.{plain_decides}
+use Rattle.serial_laws.proofs.Decides.{Decides, own_decides}
+use Rattle.serial_laws.proofs.EveryCallIs.{evicting_call_is, plain_call_is}
+use Rattle.serial_laws.proofs.HistoryTurns.{by_bool}
+use Rattle.serial_laws.proofs.KeyCalls.{IsAs}
+use Rattle.serial_laws.proofs.PlainKeyIs.{plain_decides}
 use Rattle.map_run.proofs.RunByLogs.{come_from, next_by_logs}
 use Rattle.map_run.proofs.SharedFreesIs.{TellsShared, shared_decides}
-use Rattle.map_run.proofs.TurnsMade.{NothingMore, nothing_more}
+use Rattle.serial_laws.proofs.TurnsMade.{NothingMore, nothing_more}
 
 -- One call more
 

@@ -28,14 +28,14 @@ use Rattle.place_table.specs.Views.{bit_seen, place_of, kept_step, next}
 use Rattle.place_table.proofs.Going.{learns_all}
 use Rattle.map_report.specs.Runs.{steps_of_turns, steps_of_calls}
 use Rattle.map_run.specs.ByLogs.{IsOfMap, KnowsState}
-use Rattle.map_run.proofs.BitsRead.{ReadsBits}
-use Rattle.map_run.proofs.HistoryTurns.{by_bool}
-use Rattle.map_run.proofs.KeyCalls.{IsAs}
+use Rattle.serial_laws.proofs.BitsRead.{ReadsBits}
+use Rattle.serial_laws.proofs.HistoryTurns.{by_bool}
+use Rattle.serial_laws.proofs.KeyCalls.{IsAs}
 use Rattle.map_run.proofs.MadeBy.{GoOnBy, made_by, touches_of}
 use Rattle.map_run.proofs.PlainBits.{no_touches}
 use Rattle.map_run.proofs.SharedFreesIs.{TellsShared}
-use Rattle.map_run.proofs.SparesLeft.{own_spare, spares_elsewhere}
-use Rattle.map_run.proofs.TurnsMade.{AreMade, EachTurn}
+use Rattle.serial_laws.proofs.SparesLeft.{own_spare, spares_elsewhere}
+use Rattle.serial_laws.proofs.TurnsMade.{AreMade, EachTurn}
 
 -- Turns as the call tells them
 

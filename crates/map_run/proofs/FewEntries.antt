@@ -29,7 +29,7 @@ use Rattle.map_script.proofs.PlaceLemmas.{step_found, chosen, same_ok}
 use Rattle.map_script.proofs.WellFormedLemmas.{IsWellFormed-read_as}
 use Rattle.workload_gen.specs.Draws.{draw}
 use Rattle.workload_gen.specs.Generated.{update_of, lookup_of, delete_of, round_verb, round_call, drawn_verb, drawn_call, call_of, calls_generated, generated_script}
-use Rattle.map_run.specs.Served.{entry_count, HasFewEntries, IsScript}
+use Rattle.serial_laws.specs.Served.{entry_count, HasFewEntries, IsScript}
 
 -- Calls by the tokens of their lines
 

@@ -18,7 +18,7 @@ use Rattle.place_words.proofs.ShrinkProbes.{append_empty}
 use Rattle.map_types.specs.ElementLists.{put}
 use Rattle.map_types.proofs.CreationLemmas.{bounds_of_shape}
 use Rattle.map_types.proofs.RowLemmas.{by_test}
-use Rattle.place_core.proofs.ElementLemmas.{put_here, put_else}
+use Rattle.place_words.proofs.ElementLemmas.{put_here, put_else}
 use Rattle.place_table.specs.declared.view.Turned.{Turned}
 use Rattle.place_table.specs.declared.view.WordStep.{WordStep}
 use Rattle.place_table.specs.declared.view.Ended.{Ended}
@@ -33,7 +33,7 @@ use Rattle.map_run.specs.Work.{AreCallsBy, HasWorked, HaveRaced, count_of, has_t
 use Rattle.map_run.specs.Workers.{AreSplitOff, HaveDone, HaveEnded, HasSplit, IsSplitOff, replies_by}
 use Rattle.map_run.proofs.Workers.{among_one, not_among_one, among_append, below_more, kept_off}
 use Rattle.map_run.proofs.Working.{calls_taken, count_own, count_other}
-use Rattle.map_run.proofs.ListPlaces.{made_same}
+use Rattle.serial_laws.proofs.ListPlaces.{made_same}
 
 -- What the pass that has a CPU tells of its worker: the turns and those recorded, and the replies.
 abbrev pub WorkIs : TableView → ℕ → List Call → PassView → PassView → ℕ → List Turned × List StrandStep × List WordStep → List Reply → Type 0

@@ -17,15 +17,15 @@ use Rattle.place_words.specs.Locks.{is_same_lock, lock_named}
 use Rattle.place_words.specs.Logs.{State, turned, all_turned}
 use Rattle.place_words.specs.Rotation.{visited_elements}
 use Rattle.place_words.proofs.LockLemmas.{one_number, same_lock, other_lock}
-use Rattle.place_core.proofs.ElementLemmas.{at_put}
+use Rattle.place_words.proofs.ElementLemmas.{at_put}
 use Rattle.place_table.specs.declared.view.Turned.{Turned}
 use Rattle.place_table.specs.Calls.{reads_bit, sets_bit, clears_found, clears_bit, bits_of_part}
 use Rattle.place_table.specs.Known.{BitTouch, bit_then, bit_after_all, SeesBit, SeesOn, SeeOn, log_after, logs_after, FollowOn, turn_of, turn_at, IsBy}
 use Rattle.place_table.specs.Views.{place_of, kept_step}
 use Rattle.place_table.proofs.Going.{bit_append}
 use Rattle.map_report.specs.Runs.{steps_of_turns}
-use Rattle.map_run.proofs.BitsRead.{ReadBits, ReadsBits}
-use Rattle.map_run.proofs.TurnsMade.{FindBits, AreMade, EachTurn, cleared_both}
+use Rattle.serial_laws.proofs.BitsRead.{ReadBits, ReadsBits}
+use Rattle.serial_laws.proofs.TurnsMade.{FindBits, AreMade, EachTurn, cleared_both}
 
 -- Bits
 

@@ -26,8 +26,8 @@ use Rattle.map_report.proofs.CutLemmas.{Rise, next_phase, in_phase as phase_is}
 use Rattle.map_report.proofs.LogSteps.{has_within}
 use Rattle.map_report.proofs.RunCuts.{phase_long}
 use Rattle.map_run.specs.Work.{AreCallsBy}
-use Rattle.map_run.proofs.HistoryTurns.{by_bool}
-use Rattle.map_run.proofs.ListPlaces.{all_at, kept_stands, passing_kept}
+use Rattle.serial_laws.proofs.HistoryTurns.{by_bool}
+use Rattle.serial_laws.proofs.ListPlaces.{all_at, kept_stands, passing_kept}
 use Rattle.map_run.proofs.RaceCalls.{has_one}
 use Rattle.map_run.proofs.Working.{Begins}
 

@@ -30,12 +30,12 @@ use Rattle.map_run.specs.Copies.{has_step, IsCutOf}
 use Rattle.map_run.specs.Work.{has_turn}
 use Rattle.map_run.specs.declared.pieces.Piece.{Piece}
 use Rattle.map_run.proofs.Closing.{kept_all, kept_few, length_indexes}
-use Rattle.map_run.proofs.HistoryTurns.{by_bool}
+use Rattle.serial_laws.proofs.HistoryTurns.{by_bool}
 use Rattle.map_run.proofs.RaceKept.{steps_of, no_turn, recorded_turn}
 use Rattle.map_run.proofs.Whole.{none_lost, strands_are_told}
-use Rattle.map_run.proofs.ListPlaces.{stands, kept_stands, passing_kept, filter_through, one_passes, all_at, all_from, in_either, in_first, in_second, all_in_both}
-use Rattle.map_run.proofs.TurnLocks.{range_below}
-use Rattle.map_run.proofs.LooksTold.{heads, tails}
+use Rattle.serial_laws.proofs.ListPlaces.{stands, kept_stands, passing_kept, filter_through, one_passes, all_at, all_from, in_either, in_first, in_second, all_in_both}
+use Rattle.serial_laws.proofs.TurnLocks.{range_below}
+use Rattle.serial_laws.proofs.LooksTold.{heads, tails}
 
 -- what some parts have of turns, and of recorded steps
 abbrev pub turns_in : List Part → List Turned

@@ -8,7 +8,7 @@ use Rattle.std.proofs.lemmas.List.FromFn.{map-range_with_len_more}
 use Rattle.map_types.specs.declared.attr.Shape.{Shape}
 use Rattle.map_types.specs.declared.reply.Reply.{Reply}
 use Rattle.map_script.specs.declared.script.Script.{Script}
-use Rattle.place_core.proofs.ElementLemmas.{put_here}
+use Rattle.place_words.proofs.ElementLemmas.{put_here}
 use Rattle.place_table.specs.Passes.{PassView, TableView, IsFirstPass}
 use Rattle.map_report.specs.declared.record.PhaseStart.{PhaseStart}
 use Rattle.map_run.specs.declared.pieces.Piece.{Piece}
@@ -17,7 +17,7 @@ use Rattle.map_run.specs.Races.{calls_of, RanAlone, RanAtOnce, HaveComeTo}
 use Rattle.map_run.proofs.PartLemmas.{piece_of}
 use Rattle.map_run.proofs.PhaseParts.{Done, done_in, done_by, done_last, done_before, parts_of, parts_to, parts_more, kept_more}
 use Rattle.map_run.proofs.PhaseFacts.{IsPhase, phase_by, pieces_told}
-use Rattle.map_run.proofs.ListPlaces.{made_same}
+use Rattle.serial_laws.proofs.ListPlaces.{made_same}
 
 -- no record of a lock was lost, and each turn got a ticket
 pub record IsSound (v : PassView) : Type 0 where

@@ -40,8 +40,8 @@ use Rattle.map_run.specs.Copies.{record_left}
 use Rattle.map_run.specs.Parts.{lone_cpu}
 use Rattle.map_run.specs.Phased.{IsWhole}
 use Rattle.map_run.specs.Races.{first_of, calls_of, HaveComeTo}
-use Rattle.map_run.specs.Served.{IsServed, IsServedCall}
-use Rattle.map_run.proofs.HistoryTurns.{by_bool}
+use Rattle.serial_laws.specs.Served.{IsServed, IsServedCall}
+use Rattle.serial_laws.proofs.HistoryTurns.{by_bool}
 use Rattle.map_run.proofs.Moments.{then_is}
 use Rattle.map_run.proofs.PhaseParts.{Done, done_in, kept_now}
 use Rattle.map_run.proofs.PhaseFacts.{IsPhase}
@@ -52,7 +52,7 @@ use Rattle.map_run.proofs.PhaseStates.{at_each, empty_handed, real_was, spare_th
 use Rattle.map_run.proofs.RaceHistories.{histories_are, entries_at}
 use Rattle.map_run.proofs.RaceTickets.{counted}
 use Rattle.map_run.proofs.Whole.{no_losses}
-use Rattle.map_run.proofs.ListPlaces.{made_there, same_filter}
+use Rattle.serial_laws.proofs.ListPlaces.{made_there, same_filter}
 use Rattle.map_run.proofs.BitsSeen.{whole_still}
 
 -- Marked elements tell the bits

@@ -11,7 +11,7 @@ use Rattle.map_script.specs.declared.script.Script.{Script}
 use Rattle.place_words.specs.declared.history.StrandStep.{StrandStep}
 use Rattle.place_words.specs.Tickets.{AscendIn}
 use Rattle.place_words.proofs.Ascending.{ascend_within}
-use Rattle.place_core.proofs.ElementLemmas.{put_here, put_else}
+use Rattle.place_words.proofs.ElementLemmas.{put_here, put_else}
 use Rattle.place_table.specs.declared.view.Turned.{Turned}
 use Rattle.place_table.specs.Calls.{element_of}
 use Rattle.place_table.specs.Passes.{PassView, TableView, IsKeptOf, spare_of}

@@ -33,7 +33,7 @@ use Rattle.map_run.proofs.PhaseParts.{Done, done_in, done_last, done_before, par
 use Rattle.map_run.proofs.PhaseFacts.{IsPhase}
 use Rattle.map_run.proofs.PhaseChain.{IsSound, facts, chain, sound_at, earlier_or_last, last_of}
 use Rattle.map_run.proofs.RaceCalls.{calls_real}
-use Rattle.map_run.proofs.ListPlaces.{made_at, made_there, in_either, in_first, in_second}
+use Rattle.serial_laws.proofs.ListPlaces.{made_at, made_there, in_either, in_first, in_second}
 use Rattle.map_run.proofs.LoneCalls.{lone_within}
 
 only_first : {A : Type 0} (x y : A) (i : ℕ) → slice_get (x ∷ []) i ≡ Some y → x ≡ y

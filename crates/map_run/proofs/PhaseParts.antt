@@ -9,7 +9,7 @@ use Rattle.map_types.specs.declared.attr.Shape.{Shape}
 use Rattle.map_types.specs.declared.reply.Reply.{Reply}
 use Rattle.map_script.specs.declared.script.Script.{Script}
 use Rattle.place_words.specs.declared.history.StrandStep.{StrandStep}
-use Rattle.place_core.proofs.ElementLemmas.{put_here}
+use Rattle.place_words.proofs.ElementLemmas.{put_here}
 use Rattle.place_table.specs.declared.view.Ended.{Ended}
 use Rattle.place_table.specs.declared.view.Turned.{Turned}
 use Rattle.place_table.specs.declared.view.View.{View}
@@ -25,9 +25,9 @@ use Rattle.map_run.specs.Phased.{IsWhole, Started}
 use Rattle.map_run.specs.Races.{calls_of, RanAlone, RanAtOnce, HaveComeTo}
 use Rattle.map_run.specs.Work.{has_turn}
 use Rattle.map_run.proofs.PartLemmas.{cut_both, cut_all_workers, cut_lone}
-use Rattle.map_run.proofs.HistoryTurns.{by_bool}
-use Rattle.map_run.proofs.Whole.{all_pass}
-use Rattle.map_run.proofs.ListPlaces.{made_same}
+use Rattle.serial_laws.proofs.HistoryTurns.{by_bool}
+use Rattle.serial_laws.proofs.ListPlaces.{all_pass}
+use Rattle.serial_laws.proofs.ListPlaces.{made_same}
 use Rattle.map_run.proofs.BitsSeen.{whole_still}
 
 -- Recorded steps behind others

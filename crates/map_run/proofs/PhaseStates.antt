@@ -13,7 +13,7 @@ use Rattle.map_types.specs.declared.kind.MapKind.TheVariants.{Hash, PercpuHash, 
 use Rattle.map_types.specs.declared.reply.Reply.{Reply}
 use Rattle.map_script.specs.declared.script.Script.{Script}
 use Rattle.place_words.specs.Openings.{first_spares}
-use Rattle.place_core.proofs.ElementLemmas.{put_here}
+use Rattle.place_words.proofs.ElementLemmas.{put_here}
 use Rattle.place_table.specs.declared.view.Turned.{Turned}
 use Rattle.place_table.specs.declared.view.View.{View}
 use Rattle.place_table.specs.Calls.{element_of}
@@ -25,7 +25,7 @@ use Rattle.map_run.specs.ByLogs.{IsOfMap}
 use Rattle.map_run.specs.Parts.{lone_cpu}
 use Rattle.map_run.specs.Phased.{IsWhole}
 use Rattle.map_run.specs.Races.{calls_of, RanAlone, RanAtOnce, HaveComeTo}
-use Rattle.map_run.proofs.HistoryTurns.{by_bool}
+use Rattle.serial_laws.proofs.HistoryTurns.{by_bool}
 use Rattle.map_run.proofs.PhaseParts.{Done, done_in, done_last, done_before}
 use Rattle.map_run.proofs.PhaseChain.{IsSound, earlier_or_last, sound_begun}
 use Rattle.map_run.proofs.PhaseMoments.{real_turns}

@@ -21,7 +21,7 @@ use Rattle.place_table.specs.Calls.{reads_bit, sets_bit, clears_found, clears_bi
 use Rattle.place_table.specs.Known.{AreAllowedAt}
 use Rattle.place_table.proofs.FirstSlots.{not_common, no_local}
 use Rattle.map_run.proofs.MadeBy.{touches_of}
-use Rattle.map_run.proofs.OpeningTurns.{no_set}
+use Rattle.serial_laws.proofs.OpeningTurns.{no_set}
 
 module _ (shape : Shape) (bounds : HasBounds shape) (plain : is_lru shape.kind ≡ false) where
   -- a bucket lies under a lock of the map, or a freelist

@@ -16,7 +16,7 @@ use Rattle.place_words.specs.Named.{NameAll}
 use Rattle.place_words.specs.Traces.{IsTrace}
 use Rattle.place_words.specs.Turns.{TurnAt}
 use Rattle.place_words.specs.Walks.{spare_left}
-use Rattle.place_core.proofs.ElementLemmas.{put_here, put_else}
+use Rattle.place_words.proofs.ElementLemmas.{put_here, put_else}
 use Rattle.map_report.proofs.LogSteps.{has_within, within_has}
 use Rattle.map_types.proofs.RowLemmas.{eqb_turned, by_test}
 use Rattle.place_table.specs.declared.view.Turned.{Turned}
@@ -24,11 +24,11 @@ use Rattle.place_table.specs.Known.{turn_at, IsBy}
 use Rattle.place_table.specs.Rules.{StandsIn}
 use Rattle.place_table.proofs.Stands.{entry_is, earlier_is}
 use Rattle.map_report.specs.Record.{MayAnswer, EachAnswered, has_cpu, entries_of, IsConcatenation}
-use Rattle.map_run.specs.Served.{IsServedCall}
+use Rattle.serial_laws.specs.Served.{IsServedCall}
 use Rattle.map_run.specs.Work.{replies_of, IsCallBy, AreCallsBy}
-use Rattle.map_run.proofs.HistoryTurns.{matched}
+use Rattle.serial_laws.proofs.HistoryTurns.{matched}
 use Rattle.map_run.proofs.RaceKept.{steps_of}
-use Rattle.map_run.proofs.TurnLocks.{all_parts}
+use Rattle.serial_laws.proofs.TurnLocks.{all_parts}
 use Rattle.map_run.specs.ByLogs.{IsOfMap}
 
 -- The first of some calls

@@ -25,10 +25,10 @@ use Rattle.place_words.specs.Histories.{content}
 use Rattle.place_words.specs.Locks.{is_lock, lock_named, lock_number, first_freelist}
 use Rattle.place_words.specs.Openings.{is_free}
 use Rattle.place_words.proofs.LockLemmas.{named_by_number, number_of_named, number_within}
-use Rattle.place_core.specs.declared.step.Lists.{Lists}
-use Rattle.place_core.specs.Places.{ElementPlace, under_lock, carried, lies_at, is_in_bucket, MayLie, MayLieUnder, MayOwn}
-use Rattle.place_core.specs.Totals.{sum_below}
-use Rattle.place_core.proofs.TotalLemmas.{sum_same, sum_zero, sum_hit, bucket_list}
+use Rattle.place_words.specs.declared.step.Lists.{Lists}
+use Rattle.place_words.specs.Places.{ElementPlace, under_lock, carried, lies_at, is_in_bucket, MayLie, MayLieUnder, MayOwn}
+use Rattle.place_words.specs.Totals.{sum_below}
+use Rattle.place_words.proofs.TotalLemmas.{sum_same, sum_zero, sum_hit, bucket_list}
 use Rattle.place_table.specs.Closing.{ClosedView, IsClosed}
 use Rattle.place_table.specs.Contents.{lists_of}
 use Rattle.place_table.specs.Passes.{PassView, IsInNoCall, spare_of}
@@ -41,10 +41,10 @@ use Rattle.map_report.specs.Record.{Ascend, HasElements}
 use Rattle.map_report.specs.Serial.{has_spares, spare_count}
 use Rattle.map_report.proofs.EachAtRest.{each_once_from}
 use Rattle.map_run.proofs.Closing.{number_in, few_spares}
-use Rattle.map_run.proofs.HistoryTurns.{by_bool}
-use Rattle.map_run.proofs.TurnLocks.{range_below}
-use Rattle.map_run.proofs.RaceLists.{counts_permute, times_range, times_past, times_flat_map, times_concat, times_made}
-use Rattle.map_run.proofs.ListPlaces.{made_there}
+use Rattle.serial_laws.proofs.HistoryTurns.{by_bool}
+use Rattle.serial_laws.proofs.TurnLocks.{range_below}
+use Rattle.serial_laws.proofs.RaceLists.{counts_permute, times_range, times_past, times_flat_map, times_concat, times_made}
+use Rattle.serial_laws.proofs.ListPlaces.{made_there}
 
 -- Numbers in order
 

@@ -18,11 +18,11 @@ use Rattle.place_table.specs.Rules.{StandsIn, StandIn}
 use Rattle.map_report.specs.Record.{entries_of, locks_of}
 use Rattle.map_run.proofs.Closing.{made_of_all}
 use Rattle.map_report.proofs.LogTickets.{same_number}
-use Rattle.map_run.proofs.HistoryTurns.{by_bool}
+use Rattle.serial_laws.proofs.HistoryTurns.{by_bool}
 use Rattle.map_run.proofs.RaceCalls.{StandsThere}
 use Rattle.map_run.proofs.Whole.{none_lost}
 use Rattle.map_run.specs.ByLogs.{IsOfMap}
-use Rattle.map_run.proofs.ListPlaces.{all_standing}
+use Rattle.serial_laws.proofs.ListPlaces.{all_standing}
 
 -- The history of a lock among those of all locks
 

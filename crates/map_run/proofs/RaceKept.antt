@@ -12,7 +12,7 @@ use Rattle.place_table.specs.Rules.{turns_on, indexes}
 use Rattle.place_table.specs.Views.{is_recorded, place_of, kept_step}
 use Rattle.map_report.proofs.LogTickets.{same_number}
 use Rattle.map_run.specs.Work.{has_turn}
-use Rattle.map_run.proofs.HistoryTurns.{by_bool}
+use Rattle.serial_laws.proofs.HistoryTurns.{by_bool}
 
 -- turns as steps that name their places
 abbrev pub steps_of : Shape → List Turned → List StrandStep

@@ -23,11 +23,11 @@ use Rattle.place_words.proofs.ListSums.{list_locks, sum_over, how_often}
 use Rattle.place_words.proofs.LockLemmas.{named_by_number}
 use Rattle.place_words.proofs.RestCounts.{free_on}
 use Rattle.place_words.proofs.Settled.{elements_on}
-use Rattle.place_core.specs.declared.step.Lists.{Lists}
-use Rattle.place_core.specs.Places.{ElementPlace, under_lock, carried, lies_at, is_in_bucket, has_row, MayLie, MayLieUnder, MayOwn}
-use Rattle.place_core.specs.State.{rows}
-use Rattle.place_core.specs.Totals.{sum_below}
-use Rattle.place_core.proofs.TotalLemmas.{sum_zero, sum_hit}
+use Rattle.place_words.specs.declared.step.Lists.{Lists}
+use Rattle.place_words.specs.Places.{ElementPlace, under_lock, carried, lies_at, is_in_bucket, has_row, MayLie, MayLieUnder, MayOwn}
+use Rattle.place_words.specs.State.{rows}
+use Rattle.place_words.specs.Totals.{sum_below}
+use Rattle.place_words.proofs.TotalLemmas.{sum_zero, sum_hit}
 use Rattle.place_table.specs.Closing.{ClosedView, IsClosed, state_left}
 use Rattle.place_table.specs.Contents.{lists_of}
 use Rattle.place_table.specs.Passes.{PassView}

@@ -14,7 +14,7 @@ use Rattle.map_run.specs.Races.{calls_of, strands_by}
 use Rattle.map_run.proofs.PartLemmas.{strand_of}
 use Rattle.map_run.proofs.PhaseChain.{earlier_or_last}
 use Rattle.map_run.proofs.PhaseParts.{Done, parts_of, parts_to}
-use Rattle.map_run.proofs.ListPlaces.{made_at, made_there, all_standing, in_either, in_first, in_second, next_below}
+use Rattle.serial_laws.proofs.ListPlaces.{made_at, made_there, all_standing, in_either, in_first, in_second, next_below}
 
 -- the phase and the CPUs of a strand
 abbrev pub named_by : Strand → ℕ × List ℕ

@@ -51,10 +51,10 @@ use Rattle.map_run.specs.Copies.{IsCopyOf, record_left}
 use Rattle.map_run.specs.Parts.{Part, cpus_of, cut_strands, lone_cpu}
 use Rattle.map_run.specs.Phased.{IsWhole}
 use Rattle.map_run.specs.Races.{first_of, calls_of, HaveComeTo, IsRaceRecord}
-use Rattle.map_run.specs.Served.{IsServed, IsServedCall}
+use Rattle.serial_laws.specs.Served.{IsServed, IsServedCall}
 use Rattle.map_run.specs.Work.{AreCallsBy, replies_of}
-use Rattle.map_run.proofs.AnyRecord.{spares_of}
-use Rattle.map_run.proofs.HistoryTurns.{by_bool}
+use Rattle.serial_laws.proofs.AnyRecord.{spares_of}
+use Rattle.serial_laws.proofs.HistoryTurns.{by_bool}
 use Rattle.map_run.proofs.Moments.{in_phase, places_are, places_alone, never_falls}
 use Rattle.map_run.proofs.PartLemmas.{strand_of, strands_are, are_cut_of, stand}
 use Rattle.map_run.proofs.PhaseChain.{first_is, pieces_are, replies_are, starts_are}
@@ -70,11 +70,11 @@ use Rattle.map_run.proofs.RaceListed.{listed_left}
 use Rattle.map_run.proofs.RaceParts.{named_by, cpu_in, place_of_strand, part_by, part_here, part_at, part_there, each_part, strands_told_to}
 use Rattle.map_run.proofs.RaceTickets.{counted, each_once, in_histories, strand_ascends}
 use Rattle.map_run.proofs.SerialRun.{element_is, spare_first}
-use Rattle.map_run.proofs.Whole.{all_pass, none_pass}
-use Rattle.map_run.proofs.ListPlaces.{made_there, one_passes, all_standing, all_at, mapped_there}
+use Rattle.serial_laws.proofs.ListPlaces.{all_pass, none_pass}
+use Rattle.serial_laws.proofs.ListPlaces.{made_there, one_passes, all_standing, all_at, mapped_there}
 use Rattle.map_run.proofs.LoneCalls.{lone_is, lone_some, lone_within}
 use Rattle.map_run.proofs.RunByLogs.{no_bit_set}
-use Rattle.map_run.proofs.TurnLocks.{range_below}
+use Rattle.serial_laws.proofs.TurnLocks.{range_below}
 use Rattle.map_run.proofs.PhaseStates.{evicts_not, spareless_there}
 
 module _ (script : Script) (table : TableView) (created : IsShape script.shape) (is_served : IsServed script) (cuts : Rise 0 script.cuts (length script.calls))

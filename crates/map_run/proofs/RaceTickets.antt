@@ -19,7 +19,7 @@ use Rattle.place_table.specs.Passes.{PassView}
 use Rattle.place_table.specs.Tickets.{turn_tickets}
 use Rattle.place_table.specs.Views.{all_strands}
 use Rattle.map_report.proofs.LogTickets.{as_many, ticket_there}
-use Rattle.map_run.proofs.HistoryTurns.{by_bool}
+use Rattle.serial_laws.proofs.HistoryTurns.{by_bool}
 use Rattle.map_run.proofs.RaceCalls.{StandsThere}
 use Rattle.map_run.proofs.RaceHistories.{histories_are}
 use Rattle.map_run.proofs.RaceKept.{steps_of}

@@ -29,7 +29,7 @@ use Rattle.place_table.specs.Known.{AreAllowedAt, IsAllowedAt, turn_of, turn_at}
 use Rattle.place_table.specs.Passes.{PassView, TableView}
 use Rattle.hash_ops.proofs.Under.{turns_alone}
 use Rattle.map_report.specs.Record.{MayAnswer}
-use Rattle.map_run.proofs.ListPlaces.{all_in_both}
+use Rattle.serial_laws.proofs.ListPlaces.{all_in_both}
 
 -- what such a turn took out of a bucket, or read of it, was no more than there was room for
 abbrev IsWithinRoom : Turn → Type 0

@@ -38,9 +38,9 @@ use Rattle.map_report.specs.Runs.{steps_of_turns, steps_of_calls}
 use Rattle.map_run.specs.ByLogs.{IsOfMap, KnowsState, RunStart, HaveRunFrom, HaveRun}
 use Rattle.map_run.proofs.CallsByLogs.{IsDetermined, knows_next, spares_next, reply_next, run_more, answers_more, steps_more}
 use Rattle.map_run.proofs.Closing.{kept_all, made_of_all, length_indexes}
-use Rattle.map_run.proofs.FinalsByLogs.{IsSameState, same_finals}
+use Rattle.serial_laws.proofs.FinalsByLogs.{IsSameState, same_finals}
 use Rattle.map_run.proofs.SerialRun.{take_next, element_is, spare_first}
-use Rattle.map_run.proofs.TurnsMade.{EachTurn}
+use Rattle.serial_laws.proofs.TurnsMade.{EachTurn}
 use Rattle.map_run.proofs.Whole.{none_lost, no_losses, strands_of, strands_are_told, told_of_one}
 
 -- what a run of these calls has come to

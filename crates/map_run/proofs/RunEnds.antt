@@ -31,14 +31,14 @@ use Rattle.map_run.specs.declared.pieces.Piece.{Piece}
 use Rattle.map_run.specs.ByLogs.{HaveRun}
 use Rattle.map_run.specs.Copies.{IsCopyOf, IsCutOf, has_step, record_left}
 use Rattle.map_run.specs.Phased.{HasGone, Started}
-use Rattle.map_run.specs.Served.{IsServedCall}
+use Rattle.serial_laws.specs.Served.{IsServedCall}
 use Rattle.map_run.specs.Parts.{behind_steps, cut_strands, first_steps}
 use Rattle.map_run.specs.SerialPhases.{piece_of, HaveRunPhases}
 use Rattle.map_run.proofs.RunByLogs.{come_to, history_in, histories_end, kept_end, steps_end, finals_end}
 use Rattle.map_run.proofs.RunOn.{GoesOnFrom}
 use Rattle.map_run.proofs.RunPhases.{phases_then}
 use Rattle.map_run.proofs.Whole.{no_losses, strands_of}
-use Rattle.map_run.proofs.ListPlaces.{next_below}
+use Rattle.serial_laws.proofs.ListPlaces.{next_below}
 use Rattle.map_run.proofs.CallsByLogs.{steps_on}
 
 -- Cuts

@@ -10,7 +10,7 @@ use Rattle.place_words.specs.AtRest.{IsStart}
 use Rattle.place_table.specs.Calls.{Called}
 use Rattle.place_table.specs.Passes.{PassView, TableView, begun}
 use Rattle.map_run.specs.ByLogs.{RunStart, HaveRunFrom}
-use Rattle.map_run.specs.Served.{IsServedCall}
+use Rattle.serial_laws.specs.Served.{IsServedCall}
 use Rattle.map_run.proofs.BothRuns.{run_next}
 
 pub take_past : {A : Type 0} (xs ys : List A) (n : ℕ) → take (length xs + n) (xs ++ ys) ≡ xs ++ take n ys

@@ -27,10 +27,10 @@ use Rattle.map_run.specs.declared.pieces.Piece.{Piece}
 use Rattle.map_run.specs.ByLogs.{IsOfMap, KnowsState, RunStart, at_opening, HaveRunFrom, HaveRun}
 use Rattle.map_run.specs.Phased.{HasGone, IsAsBefore, IsWhole, Started}
 use Rattle.map_run.specs.SerialPhases.{piece_of, HaveRunPhases}
-use Rattle.map_run.specs.Served.{IsServedCall}
+use Rattle.serial_laws.specs.Served.{IsServedCall}
 use Rattle.map_run.proofs.RunByLogs.{first_by_logs}
 use Rattle.map_run.proofs.RunOn.{GoesOnFrom}
-use Rattle.map_run.proofs.ListPlaces.{same_filter}
+use Rattle.serial_laws.proofs.ListPlaces.{same_filter}
 use Rattle.map_run.proofs.BitsSeen.{no_call_still}
 use Rattle.map_run.proofs.CallsByLogs.{steps_on}
 

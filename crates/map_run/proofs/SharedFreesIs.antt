@@ -26,12 +26,12 @@ use Rattle.place_words.proofs.Settled.{rows_on, elements_on, IsSettled, once_on}
 use Rattle.place_words.proofs.SharedFrees.{locals_there, globals_there, found_within, missed_within}
 use Rattle.place_words.proofs.TwoLists.{two_of}
 use Rattle.place_table.specs.Calls.{finds_moved_on}
-use Rattle.map_run.proofs.BitsRead.{ReadsBits}
-use Rattle.map_run.proofs.Decides.{Decides}
-use Rattle.map_run.proofs.LooksTold.{heads}
-use Rattle.map_run.proofs.SharedTakesIs.{takes_shared_is}
-use Rattle.map_run.proofs.TurnsMade.{AreMade, EachTurn, each_weaker}
-use Rattle.map_run.proofs.CallIs.{first_of}
+use Rattle.serial_laws.proofs.BitsRead.{ReadsBits}
+use Rattle.serial_laws.proofs.Decides.{Decides}
+use Rattle.serial_laws.proofs.LooksTold.{heads}
+use Rattle.serial_laws.proofs.SharedTakesIs.{takes_shared_is}
+use Rattle.serial_laws.proofs.TurnsMade.{AreMade, EachTurn, each_weaker}
+use Rattle.serial_laws.proofs.CallIs.{first_of}
 
 -- what is asked of each turn of a call where CPUs share lists, beside that it may be made there and tells what it clears
 abbrev pub TellsShared : Shape → State → Turn → Type 0

@@ -18,6 +18,7 @@ use Rattle.place_table.specs.declared.view.View.{View}
 use Rattle.place_table.specs.Closing.{ClosedView, IsClosed, has_lock, strand_told, strands_told}
 use Rattle.place_table.specs.Passes.{PassView}
 use Rattle.place_table.specs.Views.{is_among, all_strands, current_strand}
+use Rattle.serial_laws.proofs.ListPlaces.{all_pass}
 
 -- Locks of which no record is lost
 
@@ -71,20 +72,6 @@ module _ (shape : Shape) (p : PassView) (closed : ClosedView) (ends : IsClosed s
 
   pub no_losses : p.view.lost ≡ []
   no_losses = none_known p.view.lost refl
-
--- Numbers that pass a test
-
-pub none_pass : (test : ℕ → Bool) (a n : ℕ) → ((e : ℕ) → a ≤ e → e < a + n → test e ≡ false) → filter test (range_with_len a n) ≡ []
-none_pass test a zero fails = refl
-none_pass test a (suc n) fails =
-    ap (λ b. cond b (a ∷ filter test (range_with_len (a + 1) n)) (filter test (range_with_len (a + 1) n))) (fails a (omega arith) (omega arith))
-    ∙ none_pass test (a + 1) n (λ e low high. fails e (omega arith) (omega arith))
-
-pub all_pass : (test : ℕ → Bool) (a n : ℕ) → ((e : ℕ) → a ≤ e → e < a + n → test e ≡ true) → filter test (range_with_len a n) ≡ range_with_len a n
-all_pass test a zero passes = refl
-all_pass test a (suc n) passes =
-    ap (λ b. cond b (a ∷ filter test (range_with_len (a + 1) n)) (filter test (range_with_len (a + 1) n))) (passes a (omega arith) (omega arith))
-    ∙ ap (λ rest. a ∷ rest) (all_pass test (a + 1) n (λ e low high. passes e (omega arith) (omega arith)))
 
 -- A pass with all CPUs of which no strand has ended
 

@@ -2,9 +2,9 @@
 use Rattle.std.specs.Prelude.{◌≡◌, ℕ, ◌≤◌, ◌⊎◌, false, List, ◌++◌, length, Option, Some, None, Result, Ok, Err, IsTrue, codes, decimal, nat_le, if◌then◌else◌, ⊤}
 use Rattle.map_run.specs.declared.record.Finish.{Finish}
 use Rattle.map_report.specs.declared.record.Options.{Options}
-use Rattle.map_run.specs.declared.words.Asked.{Asked}
-use Rattle.map_run.specs.declared.words.Mode.{Mode}
-use Rattle.map_run.specs.declared.words.Mode.TheVariants.{Serial, Race, Gen}
+use Rattle.run_words.specs.declared.words.Asked.{Asked}
+use Rattle.run_words.specs.declared.words.Mode.{Mode}
+use Rattle.run_words.specs.declared.words.Mode.TheVariants.{Serial, Race, Gen}
 use Rattle.map_script.specs.declared.script.Script.{Script}
 use Rattle.map_report.specs.declared.record.RunRecord.{RunRecord}
 use Rattle.map_types.specs.declared.refusal.CreateRefusal.{CreateRefusal}
@@ -19,16 +19,16 @@ use Rattle.map_script.specs.declared.script.Form.TheVariants.{Calls, Generator}
 use Rattle.map_script.specs.Reading.{read_as}
 use Rattle.map_script.specs.CauseName.{cause_name}
 use Rattle.place_table.specs.Closing.{ClosedView}
-use Rattle.map_run.specs.SourceReads.{TakesFront, TakesAll}
-use Rattle.map_run.specs.Laws.{SerialLaws}
+use Rattle.run_ends.specs.SourceReads.{TakesFront, TakesAll}
+use Rattle.serial_laws.specs.Laws.{SerialLaws}
 use Rattle.map_run.specs.Copies.{IsCopyOf}
 use Rattle.map_report.specs.Runs.{serial}
 use Rattle.map_report.specs.Json.{json}
 use Rattle.map_report.specs.Summary.{summary}
 use Rattle.map_report.specs.Text.{report}
-use Rattle.map_run.specs.Words.{are_words, asked_of, mode_of}
+use Rattle.run_words.specs.Words.{are_words, asked_of, mode_of}
 use Rattle.map_run.specs.Races.{IsRaceRecord}
-use Rattle.map_run.specs.Writes.{Written, AddsWhole, AddsPrefix}
+use Rattle.run_ends.specs.Writes.{Written, AddsWhole, AddsPrefix}
 use Rattle.workload_gen.specs.Generated.{generated_script}
 
 -- the form that the input of a mode has

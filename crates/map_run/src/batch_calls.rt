@@ -40,7 +40,7 @@ pub(crate) fn batch_read<R: Wait, G: Gate>(
         start,
         flags,
     } = request;
-    match read_batch(map, rt, alloc, pass, count, start, flags, remove, gate) {
+    match read_batch(rt, alloc, map, pass, count, start, flags, remove, gate) {
         Ok(BatchOut::Idle) => Ok(Reply::Done),
         Ok(BatchOut::Read { stop, taken, next }) => Ok(Reply::Batch { stop, taken, next }),
         Err(BatchRefusal::Einval) => Ok(Reply::Refused(Errno::Einval)),
@@ -67,7 +67,7 @@ pub(crate) fn batch_update<R: Wait, G: Gate>(
     ensures called { IfOk result (λ reply. Called (table_of map.now) pass.old pass.new
         (verbs.BatchUpdate flags pairs.now) reply) }
 {
-    match update_batch(map, rt, pass, flags, pairs, gate) {
+    match update_batch(rt, map, pass, flags, pairs, gate) {
         Ok(BatchCount { done, stop }) => Ok(Reply::Count { stop, done }),
         Err(WriteRefusal::Einval) => Ok(Reply::Refused(Errno::Einval)),
     }
@@ -90,7 +90,7 @@ pub(crate) fn batch_delete<R: Wait, G: Gate>(
     ensures called { IfOk result (λ reply. Called (table_of map.now) pass.old pass.new
         (verbs.BatchDelete flags keys.now) reply) }
 {
-    match delete_batch(map, rt, pass, flags, keys, gate) {
+    match delete_batch(rt, map, pass, flags, keys, gate) {
         Ok(BatchCount { done, stop }) => Ok(Reply::Count { stop, done }),
         Err(WriteRefusal::Einval) => Ok(Reply::Refused(Errno::Einval)),
     }

@@ -2,24 +2,23 @@
 
 ghost use Rattle.std.specs.Prelude.{◌≡◌, ◌≤◌, ◌++◌, ℕ, List, Some, None, false, length, map, codes, decimal, IfOk, IfSome, OnOk, string_bytes};
 ghost use Rattle.map_run.specs.Copies.{IsCopyOf};
-ghost use Rattle.map_run.specs.declared.words.Asked.{Asked};
+ghost use Rattle.run_words.specs.declared.words.Asked.{Asked};
 ghost use Rattle.map_run.specs.Finish.{Ending, form_of, lines_of, out, RanAs, refusal_name, script_run, kept_of, status_of, text_due, Ends, Finishes, HasCause, HasInput, HasSource, IsStatus, status_due};
 ghost use Rattle.map_script.specs.CauseName.{cause_name};
 ghost use Rattle.map_script.specs.Reading.{IsReadAs, read_as};
-ghost use Rattle.map_run.specs.SourceReads.{Rose};
-ghost use Rattle.map_run.specs.Served.{IsScript};
-ghost use Rattle.map_run.specs.Words.{are_words};
+ghost use Rattle.run_ends.specs.SourceReads.{Rose};
+ghost use Rattle.serial_laws.specs.Served.{IsScript};
+ghost use Rattle.run_words.specs.Words.{are_words};
 
-use crate::delivery::deliver;
 use crate::race::run_race;
-use crate::reading::{ReadStop, read_all};
 use crate::serial::run_serial;
-use crate::words::{Asked, Mode, WordsStop, asked_of};
 use crate::{Finish, RunRecord, Sink, Source};
 use map_report::{json_of, summary_of, text_of};
 use map_script::{Cause, Form, Script, ScriptRefusal, read_script};
 use map_types::{CreateRefusal, Gate, Limit, NoMemory};
 use place_table::Closed;
+use run_ends::{ReadStop, deliver, read_all};
+use run_words::{Asked, Mode, WordsStop, asked_of};
 use std::alloc::{AllocError, Global};
 use std::io::Write;
 use std::sync::Wait;
@@ -276,29 +275,6 @@ fn end_with_input<R: Threads + Wait + Sync, K: Sink, G: Gate>(
     }
 }
 
-/// Ends a run from its words on.
-fn end_with_words<R: Threads + Wait + Sync, S: Source, K: Sink, G: Gate>(
-    rt: &R,
-    alloc: Global,
-    words: &[String],
-    source: &mut S,
-    sink: &mut K,
-    gate: &G,
-) -> Finish
-    ensures finish { Finishes (HasCause (map string_bytes words.now) (S.left source.old)
-        (S.left source.new)
-        (Rose (S.faults source.old) (S.faults source.new))) (K.written sink.old)
-        (K.written sink.new)
-        (Rose (K.faults sink.old) (K.faults sink.new)) result }
-    ensures unread { are_words (map string_bytes words.now) ≡ false → source.new ≡ source.old }
-{
-    match asked_of(alloc, words) {
-        Ok(asked) => end_with_source(rt, alloc, asked, source, sink, gate),
-        Err(WordsStop::Other) => end_with_line(sink, 2, b"bpfmap: words\n"),
-        Err(WordsStop::NoMemory) => end_with_line(sink, 5, b"bpfmap: memory\n"),
-    }
-}
-
 /// Ends a run whose words are good.
 fn end_with_source<R: Threads + Wait + Sync, S: Source, K: Sink, G: Gate>(
     rt: &R,
@@ -371,5 +347,9 @@ pub fn bpfmap<R: Threads + Wait + Sync, S: Source, K: Sink, G: Gate>(
     // With other words nothing is read.
     ensures unread { are_words (map string_bytes words.now) ≡ false → source.new ≡ source.old }
 {
-    end_with_words(rt, alloc, words, source, sink, gate)
+    match asked_of(alloc, words) {
+        Ok(asked) => end_with_source(rt, alloc, asked, source, sink, gate),
+        Err(WordsStop::Other) => end_with_line(sink, 2, b"bpfmap: words\n"),
+        Err(WordsStop::NoMemory) => end_with_line(sink, 5, b"bpfmap: memory\n"),
+    }
 }

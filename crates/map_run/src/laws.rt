@@ -1,11 +1,12 @@
-//! Laws of runs, as clauses of functions that do nothing.
+//! What the contracts of runs refuse, as clauses of a function that does nothing.
 
-ghost use Rattle.map_report.specs.Record.{IsRecord};
-ghost use Rattle.map_report.specs.Runs.{serial};
-ghost use Rattle.map_script.specs.declared.script.Script as scripts;
-ghost use Rattle.map_script.specs.WellFormed.{IsWellFormed};
+ghost use Rattle.map_run.specs.Refusals.{KeptFromATable, LoneCallsByOne, LonePhaseIsWhole};
 
-/// Every run in serial order of a script, of a map of any kind and with all calls, is a record of the script.
-pub fn record_laws()
-    ensures { (script : scripts.Script) → IsWellFormed script → IsRecord script (serial script) }
+/// No run may end with a record that no closed table stands behind, as one that is computed. No phase whose calls are all of one
+/// CPU may be run by workers: what they tell isn't what is asked there, and no record of a race has a strand that one of them
+/// leaves in such a phase.
+pub fn refused_laws()
+    ensures kept { KeptFromATable }
+    ensures calls { LoneCallsByOne }
+    ensures phases { LonePhaseIsWhole }
 {}

@@ -9,7 +9,7 @@ ghost use Rattle.place_table.specs.Views.{is_among};
 ghost use Rattle.place_table.specs.Calls.{CanCall, Called, reply_of_value};
 ghost use Rattle.map_batch.specs.Calls.{table_of};
 ghost use Rattle.map_report.specs.Record.{MayAnswer};
-ghost use Rattle.map_run.specs.Served.{IsServedCall};
+ghost use Rattle.serial_laws.specs.Served.{IsServedCall};
 
 use crate::batch_calls::{batch_delete, batch_read, batch_update};
 use bucket_entries::Write;
@@ -206,14 +206,13 @@ fn next<R: Wait, G: Gate>(
         (verbs.Next key.now) reply) }
 {
     let mut out = zeros(alloc, map.table().shape().key_size as usize)?;
-    let got = next_into(rt, alloc, map, pass, key, out.as_mut_slice(), gate);
+    let got = next_into(rt, map, pass, key, out.as_mut_slice(), gate);
     value_reply(alloc, got, out.as_slice())
 }
 
 /// Copies to `out` the key that follows this one, or the first one.
 fn next_into<R: Wait, G: Gate>(
     rt: &R,
-    alloc: Global,
     map: &AnyMap,
     pass: &mut Pass,
     key: &Option<Bytes>,
@@ -228,8 +227,8 @@ fn next_into<R: Wait, G: Gate>(
     ensures sized { length out.new ≡ length out.old }
 {
     match key {
-        None => next_key(map, rt, alloc, pass, None, out, gate),
-        Some(key) => next_key(map, rt, alloc, pass, Some(key.as_slice()), out, gate),
+        None => next_key(rt, map, pass, None, out, gate),
+        Some(key) => next_key(rt, map, pass, Some(key.as_slice()), out, gate),
     }
 }
 

@@ -12,7 +12,7 @@ ghost use Rattle.map_run.specs.Copies.{IsCopyOf};
 ghost use Rattle.map_run.specs.Parts.{lone_cpu, pieces_by};
 ghost use Rattle.map_run.specs.Phased.{IsWhole};
 ghost use Rattle.map_run.specs.Races.{HaveComeTo, IsRaceRecord, RanByMany, RanByOne, RanCalls};
-ghost use Rattle.map_run.specs.Served.{IsScript, IsServed, IsServedCall};
+ghost use Rattle.serial_laws.specs.Served.{IsScript, IsServed, IsServedCall};
 ghost use Rattle.map_run.specs.Work.{HaveRaced, count_of, replies_of};
 ghost use Rattle.map_run.specs.Workers.{AreSplitOff, HasDone, HasSplit, HaveDone, HaveEnded, IsReady, replies_by};
 

@@ -3,7 +3,7 @@
 ghost use Rattle.std.specs.Prelude.{suc, ◌≡◌, ◌≤◌, ◌+◌, false, All, OnOk, length};
 ghost use Rattle.map_types.specs.Creation.{IsShape};
 ghost use Rattle.map_batch.specs.Calls.{table_of};
-ghost use Rattle.map_run.specs.Served.{IsServedCall};
+ghost use Rattle.serial_laws.specs.Served.{IsServedCall};
 ghost use Rattle.map_run.specs.Work.{HasWorked};
 ghost use Rattle.map_run.specs.Workers.{IsReady};
 

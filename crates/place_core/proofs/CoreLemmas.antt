@@ -6,19 +6,19 @@ use Rattle.place_words.specs.declared.owner.Owner.{Owner}
 use Rattle.place_words.specs.declared.owner.Owner.TheVariants as owners
 use Rattle.place_words.specs.Locks.{lock_number}
 use Rattle.place_words.proofs.LockLemmas.{number_within}
-use Rattle.place_core.specs.declared.step.Lists.{Lists}
-use Rattle.place_core.specs.declared.step.Step.{Step}
-use Rattle.place_core.specs.declared.step.Step.TheVariants.{Claim, Settle, Attach, Detach, Mark}
-use Rattle.map_types.specs.ElementLists.{put, one, times, IsIn, IsHead}
-use Rattle.place_core.specs.State.{no_lists, rows, is_bucket}
+use Rattle.place_words.specs.declared.step.Lists.{Lists}
+use Rattle.place_words.specs.declared.step.Step.{Step}
+use Rattle.place_words.specs.declared.step.Step.TheVariants.{Claim, Settle, Attach, Detach, Mark}
+use Rattle.map_types.specs.ElementLists.{put, times, IsIn, IsHead}
+use Rattle.place_words.specs.State.{no_lists, rows, is_bucket}
 use Rattle.std.specs.Prelude.{IsTrue}
 use Rattle.map_types.specs.Kind.{is_lru}
 use Rattle.map_types.proofs.RowLemmas.{times_append}
-use Rattle.place_core.specs.Steps.{IsEnabled, after, Holds, with_owner, with_bit, with_free, without_free, with_row, without_row, CanClaim, IsLockHome, IsInHeldBucket}
+use Rattle.place_words.specs.Steps.{IsEnabled, after, Holds, with_owner, with_bit, with_free, without_free, with_row, without_row, CanClaim, IsLockHome, IsInHeldBucket}
 use Rattle.place_core.specs.CoreView.{CoreView, state_of, IsCore}
 use Rattle.place_core.specs.Answers.{Does}
-use Rattle.place_core.proofs.ElementLemmas.{at_put}
-use Rattle.place_core.proofs.RowLemmas.{stands_where, head_is_in}
+use Rattle.place_words.proofs.ElementLemmas.{at_put}
+use Rattle.place_words.proofs.RowLemmas.{at_most_one, stands_where, head_is_in}
 
 -- a list that is set at one place, as a function
 pub put_set : {A : Type 0} (l : List A) (i : ℕ) (x d : A) → i < length l → (λ (j : ℕ). get_or (set l i x) j d) ≡ put (λ (j : ℕ). get_or l j d) i x
@@ -91,10 +91,6 @@ row_is_real core e k is inside =
     (stands_where core.shape.elements e _ _ (is.placed.placed.rows k e) some).real
 
 -- and stands there once
-pub at_most_one : (b : Bool) → one b ≤ 1
-at_most_one true = omega arith
-at_most_one false = omega arith
-
 pub free_once : (core : CoreView) (e k : ℕ) → IsCore core → times e ((state_of core).lists k).free ≤ 1
 free_once core e k is = subst (λ n. n ≤ 1) (sym (is.placed.placed.free k e)) (at_most_one _)
 

@@ -10,15 +10,15 @@ use Rattle.place_words.specs.declared.owner.Owner.{Owner}
 use Rattle.place_words.specs.declared.owner.Owner.TheVariants as owners
 use Rattle.place_words.specs.declared.home.Home.{Home}
 use Rattle.place_words.specs.declared.home.Home.TheVariants as homes
-use Rattle.place_core.specs.declared.step.Lists.{Lists}
-use Rattle.place_core.specs.declared.step.Step.TheVariants.{Take, Give, Rehome, Clear}
+use Rattle.place_words.specs.declared.step.Lists.{Lists}
+use Rattle.place_words.specs.declared.step.Step.TheVariants.{Take, Give, Rehome, Clear}
 use Rattle.map_types.specs.ElementLists.{put, times}
 use Rattle.map_types.proofs.RowLemmas.{by_test}
-use Rattle.place_core.specs.State.{no_lists, rows, HasOnlyItsLists, HasCursorInside}
-use Rattle.place_core.specs.Steps.{Holds, CanTake, CanRehome, IsHeldHome, after_leaving, after_joining}
+use Rattle.place_words.specs.State.{no_lists, rows, HasOnlyItsLists, HasCursorInside}
+use Rattle.place_words.specs.Steps.{Holds, CanTake, CanRehome, IsHeldHome, after_leaving, after_joining}
 use Rattle.place_core.specs.CoreView.{CoreView, holder_in, AreHolds, state_of, IsCore}
 use Rattle.place_core.specs.Answers.{Does}
-use Rattle.place_core.proofs.ElementLemmas.{at_put}
+use Rattle.place_words.proofs.ElementLemmas.{at_put}
 use Rattle.place_core.proofs.CoreLemmas.{put_set, ReadsLists, at_any, did_bit, free_once, rows_once}
 
 holder_new : (k cpu : ℕ) (held : List (ℕ × ℕ)) → holder_in k held ≡ None → holder_in k (held ++ (k, cpu) ∷ []) ≡ Some cpu

@@ -11,7 +11,7 @@ use Rattle.std.proofs.lemmas.List.Sorted.{sum_by-IsPermutation}
 use Rattle.std.proofs.lemmas.List.Recursion.{is_count_by}
 use Rattle.map_types.specs.ElementLists.{times, without}
 use Rattle.map_types.proofs.RowLemmas.{times_append, by_test}
-use Rattle.place_core.proofs.ElementLemmas.{times_cons_same, times_cons_other}
+use Rattle.place_words.proofs.ElementLemmas.{times_cons_same, times_cons_other}
 
 pub any_is_in : (e : ℕ) (xs : List ℕ) → list_any (λ x. eqb x e) xs ≡ ltb 0 (times e xs)
 any_is_in e [] = refl

@@ -7,14 +7,14 @@ use Rattle.place_words.specs.declared.owner.Owner.TheVariants as owners
 use Rattle.place_words.specs.declared.home.Home.{Home}
 use Rattle.place_words.specs.declared.home.Home.TheVariants as homes
 use Rattle.place_words.specs.Locks.{lock_number}
-use Rattle.place_core.specs.declared.step.Lists.{Lists}
-use Rattle.place_core.specs.declared.step.Step.TheVariants.{Rehome}
+use Rattle.place_words.specs.declared.step.Lists.{Lists}
+use Rattle.place_words.specs.declared.step.Step.TheVariants.{Rehome}
 use Rattle.map_types.specs.ElementLists.{put}
-use Rattle.place_core.specs.State.{no_lists}
-use Rattle.place_core.specs.Steps.{left_by, joined_by, after_leaving, after_joining, MayLeave, MayEnter, CanRehome}
+use Rattle.place_words.specs.State.{no_lists}
+use Rattle.place_words.specs.Steps.{left_by, joined_by, after_leaving, after_joining, MayLeave, MayEnter, CanRehome}
 use Rattle.place_core.specs.CoreView.{CoreView, state_of, IsCore}
 use Rattle.place_core.specs.Answers.{Does}
-use Rattle.place_core.proofs.ElementLemmas.{put_here, put_else}
+use Rattle.place_words.proofs.ElementLemmas.{put_here, put_else}
 use Rattle.place_core.proofs.CoreLemmas.{put_set, at_any}
 use Rattle.place_core.proofs.HeldLemmas.{did_rehome}
 

@@ -1,10 +1,10 @@
 -- What a core answers to a step.
 use Rattle.std.specs.Prelude.{◌≡◌, length, Result, Ok, Err}
 use Rattle.place_core.specs.declared.cells.Cells.{Cells}
-use Rattle.place_core.specs.declared.step.Step.{Step}
-use Rattle.place_core.specs.declared.step.CoreRefusal.{CoreRefusal}
-use Rattle.place_core.specs.declared.step.CoreRefusal.TheVariants.{NotEnabled, NoMemory}
-use Rattle.place_core.specs.Steps.{IsEnabled, after}
+use Rattle.place_words.specs.declared.step.Step.{Step}
+use Rattle.place_core.specs.declared.refusal.CoreRefusal.{CoreRefusal}
+use Rattle.place_core.specs.declared.refusal.CoreRefusal.TheVariants.{NotEnabled, NoMemory}
+use Rattle.place_words.specs.Steps.{IsEnabled, after}
 use Rattle.place_core.specs.CoreView.{CoreView, state_of, HeldOnce}
 
 abbrev pub view_of : Cells → CoreView

@@ -7,10 +7,10 @@ use Rattle.place_words.specs.declared.home.Home.TheVariants as homes
 use Rattle.place_words.specs.declared.owner.Owner.{Owner}
 use Rattle.place_words.specs.declared.owner.Owner.TheVariants as owners
 use Rattle.place_words.specs.Locks.{lock_count}
-use Rattle.place_core.specs.declared.step.Lists.{Lists}
-use Rattle.place_core.specs.State.{State, no_lists}
-use Rattle.place_core.specs.Places.{Placed}
-use Rattle.place_core.specs.Ranks.{Ranked}
+use Rattle.place_words.specs.declared.step.Lists.{Lists}
+use Rattle.place_words.specs.State.{State, no_lists}
+use Rattle.place_words.specs.Places.{Placed}
+use Rattle.place_words.specs.Ranks.{Ranked}
 
 pub record CoreView : Type 0 where
   pub shape : Shape

@@ -1,11 +1,11 @@
 pub mod Answers
 pub mod CoreView
-pub mod Opening
 pub mod OpeningView
-pub mod Places
-pub mod Ranks
-pub mod State
-pub mod Steps
-pub mod Totals
-pub mod Wholeness
-pub mod Interleaving
+pub use Rattle.place_words.specs.Interleaving
+pub use Rattle.place_words.specs.OpeningState as Opening
+pub use Rattle.place_words.specs.Places
+pub use Rattle.place_words.specs.Ranks
+pub use Rattle.place_words.specs.State
+pub use Rattle.place_words.specs.Steps
+pub use Rattle.place_words.specs.Totals
+pub use Rattle.place_words.specs.Wholeness

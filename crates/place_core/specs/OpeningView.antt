@@ -1,17 +1,11 @@
 -- The opening of a map as a core is seen.
-use Rattle.std.specs.Prelude.{◌≡◌, false, List, [], map, replicate}
+use Rattle.std.specs.Prelude.{◌≡◌, false, [], map, replicate}
 use Rattle.std.specs.List.{range_with_len}
 use Rattle.map_types.specs.declared.attr.Shape.{Shape}
-use Rattle.place_words.specs.declared.owner.Owner.{Owner}
 use Rattle.place_words.specs.Locks.{lock_count}
-use Rattle.place_words.specs.Openings.{opening_owner}
-use Rattle.place_core.specs.Opening.{opening_home, opening_lists}
+pub use Rattle.place_words.specs.OpeningState.{AreOpeningOwners}
+use Rattle.place_words.specs.OpeningState.{opening_home, opening_lists}
 use Rattle.place_core.specs.CoreView.{CoreView}
-
--- the owners of all elements, in order
-abbrev pub AreOpeningOwners : Shape → List Owner → Type 0
-AreOpeningOwners shape owners =
-    owners ≡ map (opening_owner shape shape.kind) (range_with_len 0 shape.elements)
 
 -- nobody holds a lock, and locks and elements are as they are at first
 pub record IsOpening (shape : Shape) (core : CoreView) : Type 0 where

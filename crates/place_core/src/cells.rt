@@ -8,9 +8,8 @@ ghost use Rattle.place_words.specs.declared.owner.Owner.TheVariants as owners;
 ghost use Rattle.place_core.specs.Answers.{view_of};
 ghost use Rattle.place_core.specs.CoreView.{holder_in, state_of, IsCore};
 ghost use Rattle.map_types.specs.ElementLists.{IsHead};
-ghost use Rattle.place_words.specs.Openings.{is_free};
-ghost use Rattle.place_core.specs.State.{is_bucket};
-ghost use Rattle.place_core.specs.Steps.{Holds, IsLockHome};
+ghost use Rattle.place_words.specs.State.{is_bucket};
+ghost use Rattle.place_words.specs.Steps.{Holds, IsLockHome};
 
 use crate::Lists;
 use map_types::{DomainId, Shape};
@@ -83,13 +82,6 @@ pub(crate) fn is_hand(owner: Owner, cpu: u32) -> bool
         Owner::Hand(hand) => hand == cpu,
         Owner::Free | Owner::Bucket(_) => false,
     }
-}
-
-/// Whether an owner is none: the element is free.
-pub(crate) fn is_free(owner: Owner) -> bool
-    ensures { result ≡ is_free owner }
-{
-    matches!(owner, Owner::Free)
 }
 
 /// Whether a lock is that of a bucket.

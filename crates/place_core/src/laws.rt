@@ -3,14 +3,14 @@
 ghost use Rattle.std.specs.Prelude.{◌≡◌, ℕ, ◌+◌, List, Option};
 ghost use Rattle.map_types.specs.Creation.{IsShape};
 ghost use Rattle.map_types.specs.declared.attr.Shape as shapes;
-ghost use Rattle.place_core.specs.declared.step.Step as steps;
-ghost use Rattle.place_core.specs.Opening.{opening};
-ghost use Rattle.place_core.specs.Places.{Placed};
-ghost use Rattle.place_core.specs.Ranks.{Ranked, AreWants, IsStuck};
-ghost use Rattle.place_core.specs.State.{State};
-ghost use Rattle.place_core.specs.Steps.{CoreStep, Leads};
-ghost use Rattle.place_core.specs.Totals.{free_total, bucket_total, hand_total};
-ghost use Rattle.place_core.specs.Wholeness.{EachInOnePlace};
+ghost use Rattle.place_words.specs.declared.step.Step as steps;
+ghost use Rattle.place_words.specs.OpeningState.{opening};
+ghost use Rattle.place_words.specs.Places.{Placed};
+ghost use Rattle.place_words.specs.Ranks.{Ranked, AreWants, IsStuck};
+ghost use Rattle.place_words.specs.State.{State};
+ghost use Rattle.place_words.specs.Steps.{CoreStep, Leads};
+ghost use Rattle.place_words.specs.Totals.{free_total, bucket_total, hand_total};
+ghost use Rattle.place_words.specs.Wholeness.{EachInOnePlace};
 
 /// One step keeps what is right of a state, whatever the state is: the places of the elements, and the ranks of the locks
 /// that a CPU holds.

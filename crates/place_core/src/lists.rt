@@ -2,8 +2,8 @@
 
 ghost use Rattle.std.specs.Prelude.{◌≡◌, ℕ, ◌∷◌, ◌↔◌, ◌==◌, nat_lt, position, length, ◌<◌, IsTrue, IfOk, IfSome, MatchBool};
 ghost use Rattle.map_types.specs.ElementLists.{times, IsIn, without, neighbour};
-ghost use Rattle.place_core.specs.State.{rows};
-ghost use Rattle.place_core.specs.Steps.{with_free, without_free, with_row, without_row};
+ghost use Rattle.place_words.specs.State.{rows};
+ghost use Rattle.place_words.specs.Steps.{with_free, without_free, with_row, without_row};
 
 use crate::Lists;
 use map_types::{DomainId, NoMemory, Numbers};

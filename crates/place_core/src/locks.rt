@@ -1,10 +1,10 @@
 //! The steps that take a lock and give it back.
 
 ghost use Rattle.std.specs.Prelude.{◌≡◌, ◌==◌, not, filter, IfOk, MatchBool};
-ghost use Rattle.place_core.specs.declared.step.Step.TheVariants as steps;
+ghost use Rattle.place_words.specs.declared.step.Step.TheVariants as steps;
 ghost use Rattle.place_core.specs.Answers.{view_of, Answers};
 ghost use Rattle.place_core.specs.CoreView.{IsCore};
-ghost use Rattle.place_core.specs.State.{HasOnlyItsLists, HasCursorInside};
+ghost use Rattle.place_words.specs.State.{HasOnlyItsLists, HasCursorInside};
 
 use crate::cells::{Cells, holder_in, holds, holds_below};
 use crate::lists::{copied_lists, have_same, have_same_rows, is_in};

@@ -1,6 +1,6 @@
 //! The steps that change who has an element.
 
-ghost use Rattle.place_core.specs.declared.step.Step.TheVariants as steps;
+ghost use Rattle.place_words.specs.declared.step.Step.TheVariants as steps;
 ghost use Rattle.place_core.specs.Answers.{view_of, Answers};
 ghost use Rattle.place_core.specs.CoreView.{IsCore};
 

@@ -2,19 +2,19 @@
 
 ghost use Rattle.std.specs.Prelude.{◌≡◌, IfOk, OnOk, OnErr};
 ghost use Rattle.map_types.specs.Creation.{IsShape};
-ghost use Rattle.place_core.specs.declared.step.CoreRefusal.TheVariants as refusals;
+ghost use Rattle.place_core.specs.declared.refusal.CoreRefusal.TheVariants as refusals;
 ghost use Rattle.place_core.specs.Answers.{view_of, Answers};
 ghost use Rattle.place_core.specs.CoreView.{state_of, IsCore};
-ghost use Rattle.place_core.specs.Opening.{opening};
-ghost use Rattle.place_core.specs.Places.{Placed};
-ghost use Rattle.place_core.specs.Ranks.{Ranked};
-ghost use Rattle.place_core.specs.Steps.{CoreStep, IsEnabled};
+ghost use Rattle.place_words.specs.OpeningState.{opening};
+ghost use Rattle.place_words.specs.Places.{Placed};
+ghost use Rattle.place_words.specs.Ranks.{Ranked};
+ghost use Rattle.place_words.specs.Steps.{CoreStep, IsEnabled};
 
 use crate::cells::Cells;
+use crate::first_cells::cells_at_first;
 use crate::locks::{give, take};
 use crate::owners::{attach, claim, detach, mark, settle};
 use crate::rehome::{clear, glance, rehome};
-use crate::start::cells_at_first;
 use crate::{CoreRefusal, Step};
 use map_types::{NoMemory, Shape};
 use std::alloc::Global;

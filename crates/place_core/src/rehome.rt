@@ -2,18 +2,18 @@
 
 ghost use Rattle.std.specs.Prelude.{◌≡◌, ◌<◌, ◌⊎◌, length, slice_index_or, IfOk, MatchBool};
 ghost use Rattle.place_words.specs.declared.owner.Owner.TheVariants as owners;
-ghost use Rattle.place_core.specs.declared.step.Step.TheVariants as steps;
+ghost use Rattle.place_words.specs.declared.step.Step.TheVariants as steps;
 ghost use Rattle.place_core.specs.Answers.{view_of, Answers};
 ghost use Rattle.place_core.specs.CoreView.{state_of, IsCore};
 ghost use Rattle.map_types.specs.ElementLists.{put};
-ghost use Rattle.place_core.specs.State.{no_lists};
-ghost use Rattle.place_core.specs.Steps.{IsHeldHome, MayLeave, MayEnter, left_by, joined_by};
+ghost use Rattle.place_words.specs.State.{no_lists};
+ghost use Rattle.place_words.specs.Steps.{IsHeldHome, MayLeave, MayEnter, left_by, joined_by};
 
-use crate::cells::{Cells, holds, is_free, is_hand};
+use crate::cells::{Cells, holds, is_hand};
 use crate::lists::{with_free, with_row, without_free, without_row};
 use crate::{CoreRefusal, Lists};
 use map_types::{DomainId, NoMemory};
-use place_words::{Home, Owner, lock_number};
+use place_words::{Home, Owner, is_free, lock_number};
 use std::alloc::Global;
 
 /// Whether a home is a lock that a CPU holds.

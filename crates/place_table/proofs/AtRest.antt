@@ -36,10 +36,10 @@ use Rattle.place_words.proofs.LockLemmas.{named_by_number}
 use Rattle.place_words.proofs.OpeningSettled.{first_rests}
 use Rattle.place_words.proofs.RowCounts.{rows_least}
 use Rattle.place_words.proofs.Settled.{elements_on, rows_on, bodies_in, bodies_at, is_of, IsFit, held}
-use Rattle.place_core.specs.declared.step.Lists.{Lists}
-use Rattle.place_core.specs.Places.{ElementPlace, under_lock, carried, lies_at, is_in_bucket, has_row, MayLie, MayLieUnder, MayOwn}
-use Rattle.place_core.specs.State.{rows}
-use Rattle.place_core.proofs.RowLemmas.{lies_is}
+use Rattle.place_words.specs.declared.step.Lists.{Lists}
+use Rattle.place_words.specs.Places.{ElementPlace, under_lock, carried, lies_at, is_in_bucket, has_row, MayLie, MayLieUnder, MayOwn}
+use Rattle.place_words.specs.State.{rows}
+use Rattle.place_words.proofs.RowLemmas.{lies_is}
 use Rattle.place_table.specs.Contents.{lists_of}
 use Rattle.place_table.specs.Idle.{IsListLock, IsIdle}
 use Rattle.place_table.specs.Rules.{is_hand_of}

@@ -12,10 +12,10 @@ use Rattle.map_types.specs.ElementLists.{times}
 use Rattle.map_types.specs.Shape.{HasBounds}
 use Rattle.map_types.specs.Stored.{Stored, IsSized}
 use Rattle.place_words.specs.Bodies.{has_key, present, numbers}
-use Rattle.place_core.specs.declared.step.Lists.{Lists}
-use Rattle.place_core.specs.State.{rows}
-use Rattle.place_core.specs.Totals.{sum_below}
-use Rattle.place_core.proofs.TotalLemmas.{length_counts}
+use Rattle.place_words.specs.declared.step.Lists.{Lists}
+use Rattle.place_words.specs.State.{rows}
+use Rattle.place_words.specs.Totals.{sum_below}
+use Rattle.place_words.proofs.TotalLemmas.{length_counts}
 use Rattle.place_table.specs.InBucket.{InBucket}
 use Rattle.place_table.specs.Passes.{PassView, TableView}
 use Rattle.place_table.proofs.Entries.{append_nil}

@@ -18,7 +18,7 @@ use Rattle.place_words.specs.Buckets.{AllowsInBucket, bucket_after, new_stored, 
 use Rattle.map_types.specs.ElementLists.{times, without}
 use Rattle.map_types.proofs.RowLemmas.{by_test}
 use Rattle.place_words.proofs.BucketLaws.{key_taken, numbers_written}
-use Rattle.place_core.proofs.ElementLemmas.{times_cons_same, times_cons_other, times_without_same, times_without_other}
+use Rattle.place_words.proofs.ElementLemmas.{times_cons_same, times_cons_other, times_without_same, times_without_other}
 use Rattle.bucket_chain.specs.Turns.{IsTurn}
 use Rattle.bucket_chain.proofs.SizeLaws.{sizes_stay}
 use Rattle.bucket_chain.proofs.Turns.{found_body, found_key, lookup_misses, lookup_finds, update_exists, update_absent, update_full, update_adds, update_replaces, delete_misses, delete_takes, take_misses, take_takes}

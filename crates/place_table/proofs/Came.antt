@@ -12,7 +12,7 @@ use Rattle.place_words.specs.Codes.{home_code}
 use Rattle.place_words.specs.Locks.{lock_number}
 use Rattle.place_words.specs.declared.owner.Owner.{Owner}
 use Rattle.place_words.specs.declared.owner.Owner.TheVariants as owners
-use Rattle.place_core.specs.declared.step.Lists.{Lists}
+use Rattle.place_words.specs.declared.step.Lists.{Lists}
 use Rattle.map_types.specs.declared.attr.Shape.{Shape}
 use Rattle.map_types.specs.declared.kind.DomainId.{DomainId}
 use Rattle.map_types.specs.declared.kind.DomainId.TheVariants.{Local, Global, CpuLru, Bucket, Freelist}

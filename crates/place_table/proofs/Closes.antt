@@ -17,8 +17,8 @@ use Rattle.place_words.specs.Locks.{is_lock, lock_named, lock_number, lock_count
 use Rattle.place_words.specs.Logs.{bucket_at}
 use Rattle.place_words.specs.Strands.{places_on, AreSharedOut}
 use Rattle.place_words.proofs.LockLemmas.{named_by_number, number_within}
-use Rattle.place_core.specs.State as cores
-use Rattle.place_core.specs.Places.{Placed}
+use Rattle.place_words.specs.State as cores
+use Rattle.place_words.specs.Places.{Placed}
 use Rattle.place_table.specs.declared.content.Behind.{Behind}
 use Rattle.place_table.specs.declared.content.Content.{Content}
 use Rattle.place_table.specs.declared.content.Content.TheVariants as lying

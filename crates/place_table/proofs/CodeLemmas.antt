@@ -14,7 +14,9 @@ use Rattle.place_words.specs.declared.home.Home.{Home}
 use Rattle.place_words.specs.declared.home.Home.TheVariants as homes
 use Rattle.place_words.specs.Codes.{owner_code, home_code, HasOwnerCode, HasHomeCode}
 use Rattle.place_words.specs.Locks.{lock_named}
-use Rattle.place_core.specs.Places.{ElementPlace, under_lock, carried, home_of_place, MayOwn, MayLie, MayLieUnder}
+use Rattle.place_words.specs.Places.{ElementPlace, under_lock, carried, home_of_place, MayOwn, MayLie, MayLieUnder}
+use Rattle.place_table.specs.declared.view.View.{View}
+use Rattle.place_table.specs.Plays.{MayGoHome}
 use Rattle.place_table.proofs.Worlds.{true_false}
 
 -- two owners with one code are one
@@ -65,3 +67,16 @@ carried_has_code shape owner cpu true bounds own is =
 pub has_home_code : (shape : Shape) (e : ℕ) (owner : Owner) (place : ElementPlace) → HasBounds shape → MayOwn shape owner → MayLie shape e owner place → HasHomeCode (home_of_place shape place)
 has_home_code shape e owner (under_lock k) bounds own may = lies_has_code shape e (is_lru shape.kind) (lock_named shape k) bounds refl may
 has_home_code shape e owner (carried cpu) bounds own may = carried_has_code shape owner cpu (is_lru shape.kind) bounds own may.1
+
+-- so has each home to which an element may go
+pub goes_has_code : (shape : Shape) (v : View) (cpu e : ℕ) (to : Home) → IsShape shape → cpu < 16 → MayGoHome shape v cpu e to → HasHomeCode to
+goes_has_code shape v cpu e homes.Unlisted is few may = tt
+goes_has_code shape v cpu e (homes.In (locks.Local c)) is few may =
+    let bounds = bounds_of_shape shape is in
+    let less : c < shape.cpus = ltb-true c shape.cpus (and_parts shape.common (ltb c shape.cpus) may.0.there).1 in
+    omega arith
+goes_has_code shape v cpu e (homes.In locks.Global) is few may = tt
+goes_has_code shape v cpu e (homes.In (locks.CpuLru c)) is few may = absurd may
+goes_has_code shape v cpu e (homes.In (locks.Bucket bucket)) is few may = absurd may
+goes_has_code shape v cpu e (homes.In (locks.Freelist c)) is few may = absurd may
+goes_has_code shape v cpu e (homes.Hand c) is few may = let same = may.0 in omega arith

@@ -18,7 +18,7 @@ use Rattle.place_words.specs.Openings.{opening_free}
 use Rattle.place_words.specs.Sets.{ListSet, new_set}
 use Rattle.local_lists.specs.LocalLists.{LocalView, IsLocal, local_told, empty_local}
 use Rattle.lru_lists.specs.Sets.{SetView, IsSet, times_on, with_free}
-use Rattle.place_core.proofs.ElementLemmas.{times_cons_same}
+use Rattle.place_words.proofs.ElementLemmas.{times_cons_same}
 use Rattle.place_table.specs.declared.content.Content.TheVariants as lying
 use Rattle.place_table.specs.Contents.{set_told, FitsSet}
 use Rattle.place_table.specs.Opening.{IsFirstContent}

@@ -14,10 +14,10 @@ use Rattle.place_words.specs.Locks.{is_lock, lock_number}
 use Rattle.place_words.proofs.LockLemmas.{named_by_number}
 use Rattle.place_words.specs.Openings.{is_free, opening_owner, opening_pushed, opening_free}
 use Rattle.place_words.specs.Shares.{share_count}
-use Rattle.place_core.specs.Opening.{opening, opening_lists}
-use Rattle.place_core.proofs.OpeningLaws.{opening_placed}
-use Rattle.place_core.proofs.OpeningLemmas.{first_next, first_up, first_of_all}
-use Rattle.place_core.proofs.RowLemmas.{stands_where}
+use Rattle.place_words.specs.OpeningState.{opening, opening_lists}
+use Rattle.place_words.proofs.OpeningLaws.{opening_placed}
+use Rattle.place_words.proofs.OpeningLemmas.{first_next, first_up, first_of_all}
+use Rattle.place_words.proofs.RowLemmas.{stands_where}
 use Rattle.place_table.specs.declared.content.Behind.{Behind}
 use Rattle.place_table.specs.Opening.{IsFirstSlot, AreFirstSlots}
 use Rattle.place_table.proofs.FirstSpares.{length_pushed, length_stack}

@@ -14,9 +14,9 @@ use Rattle.map_types.specs.ElementLists.{times}
 use Rattle.map_types.proofs.RowLemmas.{times_append, by_test}
 use Rattle.place_words.specs.Openings.{opening_stack, opening_spares, spare_owner, opening_owner}
 use Rattle.place_words.specs.Shares.{share_first, share_count, pushed_from}
-use Rattle.place_core.specs.Opening.{opening}
-use Rattle.place_core.proofs.OpeningLemmas.{pushed_in, pushed_out, first_next, first_of_all}
-use Rattle.place_core.proofs.StartLemmas.{flat_more}
+use Rattle.place_words.specs.OpeningState.{opening}
+use Rattle.place_words.proofs.OpeningLemmas.{pushed_in, pushed_out, first_next, first_of_all}
+use Rattle.place_words.proofs.StartLemmas.{flat_more}
 use Rattle.place_table.specs.Views.{is_in_hand_of, spares_from, first_hand}
 use Rattle.place_table.specs.Rules.{is_hand_of}
 

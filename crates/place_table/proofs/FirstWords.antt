@@ -13,11 +13,11 @@ use Rattle.place_words.specs.declared.home.Home.TheVariants as homes
 use Rattle.place_words.specs.Codes.{owner_code, HasOwnerCode, home_code, HasHomeCode}
 use Rattle.place_words.specs.Locks.{lock_count}
 use Rattle.place_words.specs.Openings.{opening_owner}
-use Rattle.place_core.specs.OpeningView.{AreOpeningOwners}
-use Rattle.place_core.specs.Places.{MayOwn}
-use Rattle.place_core.specs.Opening.{opening, opening_home}
-use Rattle.place_core.proofs.OpeningLaws.{owner_exists, opening_placed}
-use Rattle.place_core.proofs.StartLemmas.{owners_count}
+use Rattle.place_words.specs.OpeningState.{AreOpeningOwners}
+use Rattle.place_words.specs.Places.{MayOwn}
+use Rattle.place_words.specs.OpeningState.{opening, opening_home}
+use Rattle.place_words.proofs.OpeningLaws.{owner_exists, opening_placed}
+use Rattle.place_words.proofs.StartLemmas.{owners_count}
 use Rattle.place_table.specs.Words.{opening_codes, opening_home_codes, opening_words}
 use Rattle.place_table.specs.Words.{word_count, owner_word, home_word}
 use Rattle.place_table.proofs.CodeLemmas.{has_home_code}

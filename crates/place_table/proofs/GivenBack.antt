@@ -21,17 +21,17 @@ use Rattle.place_words.specs.Locks.{is_lock, lock_named, lock_number, lock_count
 use Rattle.place_words.specs.Strands.{places_on}
 use Rattle.place_words.proofs.HistoryLemmas.{content_more, legal_more}
 use Rattle.place_words.proofs.LockLemmas.{named_by_number, number_of_named, one_number, number_within, same_lock, other_lock}
-use Rattle.place_core.specs.declared.step.Lists.{Lists}
-use Rattle.place_core.specs.declared.step.Step.TheVariants.{Give}
+use Rattle.place_words.specs.declared.step.Lists.{Lists}
+use Rattle.place_words.specs.declared.step.Step.TheVariants.{Give}
 use Rattle.place_words.specs.declared.owner.Owner.TheVariants as owners
 use Rattle.place_words.specs.Openings.{is_free}
-use Rattle.place_core.specs.Places.{home_of_place}
+use Rattle.place_words.specs.Places.{home_of_place}
 use Rattle.map_types.specs.Kind.{is_lru}
 use Rattle.map_types.proofs.RowLemmas.{by_test}
-use Rattle.place_core.specs.State.{rows, is_bucket, HasOnlyItsLists, HasCursorInside}
-use Rattle.place_core.specs.Steps.{CanGive, given}
-use Rattle.place_core.proofs.ElementLemmas.{at_put, put_here, put_else}
-use Rattle.place_core.proofs.StepLaws.{step_keeps_places, step_keeps_ranks}
+use Rattle.place_words.specs.State.{rows, is_bucket, HasOnlyItsLists, HasCursorInside}
+use Rattle.place_words.specs.Steps.{CanGive, given}
+use Rattle.place_words.proofs.ElementLemmas.{at_put, put_here, put_else}
+use Rattle.place_words.proofs.StepLaws.{step_keeps_places, step_keeps_ranks}
 use Rattle.place_table.specs.declared.content.Behind.{Behind}
 use Rattle.place_table.specs.declared.content.Content.{Content}
 use Rattle.place_table.specs.declared.content.Content.TheVariants as contents
@@ -58,7 +58,7 @@ use Rattle.place_table.proofs.Readings.{still_gave, home_is_hand, listed_at_home
 use Rattle.place_table.specs.Flushes.{flushes}
 use Rattle.place_words.specs.declared.home.Home.{Home}
 use Rattle.place_table.specs.declared.view.HashIn.{HashIn}
-use Rattle.place_core.specs.Wholeness.{all_of}
+use Rattle.place_words.specs.Wholeness.{all_of}
 use Rattle.place_table.specs.declared.view.WordStep.{WordStep}
 use Rattle.place_table.proofs.StepLog.{made, time_more, givers_other, givers_here, strands_more, touches_with, lead_with, of_strands_with, mine_more, past_same, other_same}
 use Rattle.place_table.proofs.NotesDone.{noted_gave}

@@ -12,8 +12,8 @@ use Rattle.place_words.specs.declared.history.StrandStep.{StrandStep}
 use Rattle.place_words.specs.Histories.{content, Allows, IsLegal}
 use Rattle.place_words.specs.Locks.{is_lock, lock_named, lock_number, lock_count}
 use Rattle.place_words.proofs.LockLemmas.{named_by_number, number_within}
-use Rattle.place_core.specs.declared.step.Lists.{Lists}
-use Rattle.place_core.proofs.ElementLemmas.{at_put}
+use Rattle.place_words.specs.declared.step.Lists.{Lists}
+use Rattle.place_words.proofs.ElementLemmas.{at_put}
 use Rattle.place_table.specs.declared.content.Content.{Content}
 use Rattle.place_table.specs.declared.view.View.{View}
 use Rattle.place_table.specs.declared.view.Hold.{Hold}

@@ -14,10 +14,10 @@ use Rattle.map_types.proofs.RowLemmas.{by_test}
 use Rattle.place_words.specs.Locks.{lock_named, lock_number}
 use Rattle.place_words.specs.Openings.{is_free}
 use Rattle.place_words.proofs.LockLemmas.{number_of_named}
-use Rattle.place_core.specs.declared.step.Lists.{Lists}
-use Rattle.place_core.specs.State.{is_bucket}
-use Rattle.place_core.specs.Places.{PlacedAt, ElementPlace, under_lock, carried, home_of_place, MayLieUnder, MayLie}
-use Rattle.place_core.proofs.ElementLemmas.{put_else}
+use Rattle.place_words.specs.declared.step.Lists.{Lists}
+use Rattle.place_words.specs.State.{is_bucket}
+use Rattle.place_words.specs.Places.{PlacedAt, ElementPlace, under_lock, carried, home_of_place, MayLieUnder, MayLie}
+use Rattle.place_words.proofs.ElementLemmas.{put_else}
 use Rattle.place_table.specs.declared.view.View.{View}
 use Rattle.place_table.specs.declared.view.Hold.{Hold}
 use Rattle.place_table.specs.declared.view.InHand.{InHand}

@@ -23,17 +23,17 @@ use Rattle.place_words.specs.Histories.{content}
 use Rattle.place_words.specs.Locks.{is_lock, lock_named, lock_number}
 use Rattle.place_words.specs.Openings.{is_free}
 use Rattle.place_words.proofs.LockLemmas.{named_by_number, number_within}
-use Rattle.place_core.specs.declared.step.Lists.{Lists}
-use Rattle.place_core.specs.declared.step.Step.TheVariants.{Rehome, Clear, Glance}
-use Rattle.place_core.specs.State.{rows, is_bucket}
-use Rattle.place_core.specs.Places.{ElementPlace, under_lock, carried, lies_at, has_row, home_of_place, MayOwn, MayLie}
-use Rattle.place_core.specs.Steps.{Holds, left_by, joined_by, MayLeave, MayEnter, IsFreeOrInHand, CanRehome, after_leaving, after_joining, CanClear, IsHeldHome}
-use Rattle.place_core.specs.Steps as steps
-use Rattle.place_core.specs.Wholeness.{all_of, EachInOnePlace}
-use Rattle.place_core.proofs.ElementLemmas.{at_put, put_here, put_else}
-use Rattle.place_core.proofs.RowLemmas.{stands_where, free_is, lies_is, row_lies}
-use Rattle.place_core.proofs.StepLaws.{step_keeps_places, step_keeps_ranks}
-use Rattle.place_core.proofs.WholeLemmas.{each_in_one_place}
+use Rattle.place_words.specs.declared.step.Lists.{Lists}
+use Rattle.place_words.specs.declared.step.Step.TheVariants.{Rehome, Clear, Glance}
+use Rattle.place_words.specs.State.{rows, is_bucket}
+use Rattle.place_words.specs.Places.{ElementPlace, under_lock, carried, lies_at, has_row, home_of_place, MayOwn, MayLie}
+use Rattle.place_words.specs.Steps.{Holds, left_by, joined_by, MayLeave, MayEnter, IsFreeOrInHand, CanRehome, after_leaving, after_joining, CanClear, IsHeldHome}
+use Rattle.place_words.specs.Steps as steps
+use Rattle.place_words.specs.Wholeness.{all_of, EachInOnePlace}
+use Rattle.place_words.proofs.ElementLemmas.{at_put, put_here, put_else}
+use Rattle.place_words.proofs.RowLemmas.{stands_where, free_is, lies_is, row_lies}
+use Rattle.place_words.proofs.StepLaws.{step_keeps_places, step_keeps_ranks}
+use Rattle.place_words.proofs.WholeLemmas.{each_in_one_place}
 use Rattle.place_table.specs.declared.content.Behind.{Behind}
 use Rattle.place_table.specs.declared.view.View.{View}
 use Rattle.place_table.specs.declared.view.Hold.{Hold}

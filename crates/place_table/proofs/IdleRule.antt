@@ -16,7 +16,7 @@ use Rattle.place_words.specs.Histories.{AllAllowed, IsLegal, content}
 use Rattle.place_words.specs.Locks.{is_lock, lock_number}
 use Rattle.place_words.proofs.EvictingDone.{IsAtRest}
 use Rattle.place_words.proofs.LockLemmas.{named_by_number, number_within}
-use Rattle.place_core.specs.State.{is_bucket}
+use Rattle.place_words.specs.State.{is_bucket}
 use Rattle.place_table.specs.declared.content.Behind.{Behind}
 use Rattle.place_table.specs.declared.view.View.{View}
 use Rattle.place_table.specs.Contents.{lists_of}

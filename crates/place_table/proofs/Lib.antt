@@ -30,6 +30,7 @@ pub mod OwnersSeen
 pub mod Parted
 pub mod Passes
 pub mod PlaceSteps
+pub mod Ranges
 pub mod Readings
 pub mod Refused
 pub mod Rehomes
@@ -50,6 +51,7 @@ pub mod TicketsTaken
 pub mod TicketsClosed
 pub mod Touches
 pub mod TurnClears
+pub mod TurnsOn
 pub mod WordSteps
 pub mod Worlds
 pub mod AtRest

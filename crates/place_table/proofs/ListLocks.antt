@@ -15,8 +15,8 @@ use Rattle.place_words.specs.Locks.{is_lock, is_same_lock, lock_named, lock_numb
 use Rattle.place_words.proofs.ListSums.{locks_below, list_locks, sum_over, how_often, own_once, local_once, global_once}
 use Rattle.place_words.proofs.LockLemmas.{named_by_number, number_of_named, same_lock, other_lock}
 use Rattle.place_words.proofs.Settled.{elements_on}
-use Rattle.place_core.specs.Places.{MayLieUnder}
-use Rattle.place_core.specs.State.{rows}
+use Rattle.place_words.specs.Places.{MayLieUnder}
+use Rattle.place_words.specs.State.{rows}
 use Rattle.place_table.specs.Contents.{lists_of}
 use Rattle.place_table.specs.Idle.{IsListLock}
 use Rattle.place_table.proofs.Worlds.{by_bool}

@@ -19,18 +19,18 @@ use Rattle.place_words.specs.Histories.{content, IsLegal}
 use Rattle.place_words.specs.Locks.{is_lock, lock_named, lock_number, lock_count, rank_of}
 use Rattle.place_words.specs.Takings.{set_of}
 use Rattle.place_words.proofs.LockLemmas.{named_by_number, number_of_named, number_within}
-use Rattle.place_core.specs.declared.step.Lists.{Lists}
-use Rattle.place_core.specs.declared.step.Step.TheVariants.{Take}
+use Rattle.place_words.specs.declared.step.Lists.{Lists}
+use Rattle.place_words.specs.declared.step.Step.TheVariants.{Take}
 use Rattle.place_words.specs.declared.owner.Owner.{Owner}
 use Rattle.place_words.specs.declared.owner.Owner.TheVariants as owners
 use Rattle.place_words.specs.Openings.{is_free}
-use Rattle.place_core.specs.Places.{lies_at, has_row}
+use Rattle.place_words.specs.Places.{lies_at, has_row}
 use Rattle.map_types.specs.Kind.{is_lru}
-use Rattle.place_core.specs.State as cores
-use Rattle.place_core.specs.State.{rows, is_bucket, HasOnlyItsLists, HasCursorInside}
-use Rattle.place_core.specs.Steps.{CanTake, taken}
-use Rattle.place_core.proofs.ElementLemmas.{at_put}
-use Rattle.place_core.proofs.StepLaws.{step_keeps_places, step_keeps_ranks}
+use Rattle.place_words.specs.State as cores
+use Rattle.place_words.specs.State.{rows, is_bucket, HasOnlyItsLists, HasCursorInside}
+use Rattle.place_words.specs.Steps.{CanTake, taken}
+use Rattle.place_words.proofs.ElementLemmas.{at_put}
+use Rattle.place_words.proofs.StepLaws.{step_keeps_places, step_keeps_ranks}
 use Rattle.place_table.specs.declared.content.Behind.{Behind}
 use Rattle.place_table.specs.declared.view.View.{View}
 use Rattle.place_table.specs.declared.view.Hold.{Hold}
@@ -45,7 +45,7 @@ use Rattle.place_table.proofs.HashSteps.{hashed_taken}
 use Rattle.place_table.proofs.Worlds.{by_bool, true_false, none_some, hold_of_mine, hold_of_other, hold_of_is, hold_at_first, hold_at_other, above_each, has_mine, in_hand_is, lock_still_lost, others, past_stays, tagged_stays, SameStrands, hash_stands, hand_is, both_true}
 use Rattle.place_table.proofs.Readings.{still_took, then_known, then_still, at_home_then, listed_in_set, flushed_off}
 use Rattle.place_table.specs.Flushes.{flushed_last}
-use Rattle.place_core.specs.Wholeness.{all_of}
+use Rattle.place_words.specs.Wholeness.{all_of}
 use Rattle.place_table.specs.declared.view.WordStep.{WordStep}
 use Rattle.place_table.proofs.StepLog.{made, time_more, givers_other, touches_with, lead_with, of_strands_with, strand_with, past_same, other_same}
 use Rattle.place_table.proofs.NotesDone.{none_off}

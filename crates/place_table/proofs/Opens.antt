@@ -24,10 +24,10 @@ use Rattle.place_words.specs.Codes.{owner_code, home_code}
 use Rattle.place_words.specs.Histories.{opening_content, replayed, AllAllowed}
 use Rattle.place_words.specs.Locks.{is_lock, lock_named, lock_count}
 use Rattle.place_words.specs.Openings.{spare_owner, opening_owner, opening_spares, opening_free}
-use Rattle.place_core.specs.declared.step.Lists.{Lists}
-use Rattle.place_core.specs.Opening.{opening, opening_home, opening_lists}
-use Rattle.place_core.proofs.OpeningLaws.{opening_placed, opening_ranked}
-use Rattle.place_core.proofs.StartLemmas.{free_local, free_bucket}
+use Rattle.place_words.specs.declared.step.Lists.{Lists}
+use Rattle.place_words.specs.OpeningState.{opening, opening_home, opening_lists}
+use Rattle.place_words.proofs.OpeningLaws.{opening_placed, opening_ranked}
+use Rattle.place_words.proofs.StartLemmas.{free_local, free_bucket}
 use Rattle.place_table.specs.declared.content.Behind.{Behind}
 use Rattle.place_table.specs.declared.content.Content.{Content}
 use Rattle.place_table.specs.declared.view.View.{View}

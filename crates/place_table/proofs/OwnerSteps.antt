@@ -19,17 +19,17 @@ use Rattle.map_types.specs.ElementLists.{put, IsIn, IsHead}
 use Rattle.map_types.proofs.RowLemmas.{by_test}
 use Rattle.place_words.specs.Locks.{is_lock, lock_number}
 use Rattle.place_words.specs.Openings.{is_free}
-use Rattle.place_core.specs.declared.step.Lists.{Lists}
-use Rattle.place_core.specs.declared.step.Step.{Step}
-use Rattle.place_core.specs.declared.step.Step.TheVariants.{Claim, Settle, Attach, Detach}
-use Rattle.place_core.specs.State.{rows, is_bucket}
-use Rattle.place_core.specs.Places.{Placed, ElementPlace, under_lock, carried, lies_at, home_of_place, MayLie}
-use Rattle.place_core.specs.Ranks.{Ranked}
-use Rattle.place_core.specs.Steps.{lists_under, with_free, without_free, with_row, without_row, with_owner, CanClaim, CanSettle, CanAttach, IsLockHome, IsInHeldBucket, IsEnabled, after, CoreStep}
-use Rattle.place_core.proofs.ElementLemmas.{at_put, put_here, put_else}
-use Rattle.place_core.proofs.OwnerSteps.{was_inside}
-use Rattle.place_core.proofs.RowLemmas.{stands_where, free_is, head_is_in, lies_is}
-use Rattle.place_core.proofs.StepLaws.{step_keeps_places, step_keeps_ranks}
+use Rattle.place_words.specs.declared.step.Lists.{Lists}
+use Rattle.place_words.specs.declared.step.Step.{Step}
+use Rattle.place_words.specs.declared.step.Step.TheVariants.{Claim, Settle, Attach, Detach}
+use Rattle.place_words.specs.State.{rows, is_bucket}
+use Rattle.place_words.specs.Places.{Placed, ElementPlace, under_lock, carried, lies_at, home_of_place, MayLie}
+use Rattle.place_words.specs.Ranks.{Ranked}
+use Rattle.place_words.specs.Steps.{lists_under, with_free, without_free, with_row, without_row, with_owner, CanClaim, CanSettle, CanAttach, IsLockHome, IsInHeldBucket, IsEnabled, after, CoreStep}
+use Rattle.place_words.proofs.ElementLemmas.{at_put, put_here, put_else}
+use Rattle.place_words.proofs.OwnerSteps.{was_inside}
+use Rattle.place_words.proofs.RowLemmas.{stands_where, free_is, head_is_in, lies_is}
+use Rattle.place_words.proofs.StepLaws.{step_keeps_places, step_keeps_ranks}
 use Rattle.place_table.specs.declared.content.Behind.{Behind}
 use Rattle.place_table.specs.declared.view.Notes.{Notes}
 use Rattle.place_table.specs.declared.view.View.{View}
@@ -192,12 +192,12 @@ settles_step shape slots pass me e lock hold real is found has_free_list has in_
     (Settle hold.cpu e lock) (λ l. with_free e (without_row e l)) (hashes_left shape w pass v kn (lock_number shape lock) e hold.cpu) can refl
     (λ lru. hashes_settled shape w.core.holder w.core.lists w.core.owner w.core.home r.placed.place r.placed.placed w.log w.hash (r.hashes lru) lock (lock_number shape lock) e hold.cpu at.holder_is (subst (λ (d : DomainId). IsFalse (is_bucket d)) (sym (named_by_number shape lock is)) has_free_list) (can.listed lru) ((elements_there shape s r (lock_number shape lock)).rows_once e))
 
-pub settles : (shape : Shape) (slots pass : ℕ) (me : Seated) (e c i : ℕ) (lock : DomainId) (hold : Hold) (view : ℕ → View) → i ≡ owner_word shape e → hold.cpu ≡ c → ((at : ℕ) → view at ≡ views.settled at lock e c me.0)
+pub settles : (shape : Shape) (slots pass : ℕ) (me : Seated) (e c i code : ℕ) (lock : DomainId) (hold : Hold) (view : ℕ → View) → i ≡ owner_word shape e → code ≡ 0 → hold.cpu ≡ c → ((at : ℕ) → view at ≡ views.settled at lock e c me.0)
     → e < shape.elements → IsTrue (is_lock shape lock) → hold_at (lock_number shape lock) me.0.held ≡ Some hold → IsFalse (is_bucket lock)
     → is_among c me.0.cpus ≡ true → is_in_hand_of e c me.0.hand ≡ true → (IsTrue (is_lru shape.kind) → IsIn e (rows hold.now))
-    → Allows (Rule shape) slots pass me i (λ _. 0) (λ _ after. (at : ℕ) × (after ≡ (view at, me.1)))
-settles shape slots pass me e c i lock hold view i_is cpu_is view_is real is found has_free_list has in_hand listed =
-    at_caller shape slots pass me i _ 0 0 view _ i_is refl (λ at. view_is at ∙ ap (λ (n : ℕ). views.settled at lock e n me.0) (sym cpu_is))
+    → Allows (Rule shape) slots pass me i (λ _. code) (λ _ after. (at : ℕ) × (after ≡ (view at, me.1)))
+settles shape slots pass me e c i code lock hold view i_is code_is cpu_is view_is real is found has_free_list has in_hand listed =
+    at_caller shape slots pass me i _ code 0 view _ i_is code_is (λ at. view_is at ∙ ap (λ (n : ℕ). views.settled at lock e n me.0) (sym cpu_is))
     (allows_of shape slots pass me (owner_word shape e) (λ _. 0) (goes_by shape (Settle hold.cpu e lock)) (λ _. Settles lock e hold.cpu me)
     (settles_step shape slots pass me e lock hold real is found has_free_list (ap (λ (n : ℕ). is_among n me.0.cpus) cpu_is ∙ has) (ap (λ (n : ℕ). is_in_hand_of e n me.0.hand) cpu_is ∙ in_hand) listed))
 

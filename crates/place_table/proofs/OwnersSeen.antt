@@ -18,9 +18,9 @@ use Rattle.place_words.specs.Histories.{content}
 use Rattle.place_words.specs.Locks.{is_lock, lock_named, lock_number}
 use Rattle.place_words.specs.Openings.{is_free}
 use Rattle.place_words.proofs.LockLemmas.{named_by_number}
-use Rattle.place_core.specs.State.{rows}
-use Rattle.place_core.specs.Places.{has_row, is_in_bucket, lies_at}
-use Rattle.place_core.proofs.RowLemmas.{no_row_free}
+use Rattle.place_words.specs.State.{rows}
+use Rattle.place_words.specs.Places.{has_row, is_in_bucket, lies_at}
+use Rattle.place_words.proofs.RowLemmas.{no_row_free}
 use Rattle.place_table.specs.declared.content.Behind.{Behind}
 use Rattle.place_table.specs.declared.view.View.{View}
 use Rattle.place_table.specs.declared.view.Hold.{Hold}

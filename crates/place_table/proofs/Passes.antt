@@ -20,8 +20,8 @@ use Rattle.place_words.specs.Histories.{content, IsLegal}
 use Rattle.place_words.specs.Locks.{is_lock, lock_named, lock_number}
 use Rattle.place_words.specs.Takings.{set_of}
 use Rattle.place_words.proofs.LockLemmas.{named_by_number}
-use Rattle.place_core.specs.Places.{MayOwn}
-use Rattle.place_core.specs.State.{is_bucket}
+use Rattle.place_words.specs.Places.{MayOwn}
+use Rattle.place_words.specs.State.{is_bucket}
 use Rattle.place_table.specs.declared.content.Behind.{Behind}
 use Rattle.place_table.specs.declared.content.Content.{Content}
 use Rattle.place_table.specs.declared.steps.Recorded.{Recorded}

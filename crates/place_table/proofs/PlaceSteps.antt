@@ -15,12 +15,12 @@ use Rattle.place_words.specs.declared.owner.Owner.TheVariants as owned
 use Rattle.place_words.specs.Codes.{owner_code, home_code}
 use Rattle.map_types.specs.ElementLists.{put}
 use Rattle.place_words.specs.Locks.{is_lock, lock_count, lock_number}
-use Rattle.place_core.specs.declared.step.Lists.{Lists}
-use Rattle.place_core.specs.State as cores
-use Rattle.place_core.specs.Places.{Placed}
-use Rattle.place_core.specs.Ranks.{Ranked}
-use Rattle.place_core.specs.Steps.{Holds}
-use Rattle.place_core.proofs.ElementLemmas.{at_put}
+use Rattle.place_words.specs.declared.step.Lists.{Lists}
+use Rattle.place_words.specs.State as cores
+use Rattle.place_words.specs.Places.{Placed}
+use Rattle.place_words.specs.Ranks.{Ranked}
+use Rattle.place_words.specs.Steps.{Holds}
+use Rattle.place_words.proofs.ElementLemmas.{at_put}
 use Rattle.place_table.specs.declared.content.Behind.{Behind}
 use Rattle.place_table.specs.declared.view.View.{View}
 use Rattle.place_table.specs.declared.view.Hold.{Hold}

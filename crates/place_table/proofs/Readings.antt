@@ -20,14 +20,14 @@ use Rattle.place_words.specs.Openings.{is_free}
 use Rattle.place_words.specs.Takings.{set_of}
 use Rattle.place_words.proofs.HistoryLemmas.{content_more}
 use Rattle.place_words.proofs.LockLemmas.{named_by_number, number_of_named}
-use Rattle.place_core.specs.declared.step.Lists.{Lists}
-use Rattle.place_core.specs.State as cores
-use Rattle.place_core.specs.State.{rows, is_bucket}
-use Rattle.place_core.specs.Places.{Placed, PlacedAt, ElementPlace, under_lock, carried, lies_at, has_row, home_of_place, MayLieUnder, MayLie}
-use Rattle.place_core.specs.Steps.{Holds, MayLeave, MayEnter, IsFreeOrInHand, CanRehome}
-use Rattle.place_core.specs.Wholeness.{all_of}
-use Rattle.place_core.proofs.ElementLemmas.{at_put, put_here, put_else}
-use Rattle.place_core.proofs.RowLemmas.{lies_here}
+use Rattle.place_words.specs.declared.step.Lists.{Lists}
+use Rattle.place_words.specs.State as cores
+use Rattle.place_words.specs.State.{rows, is_bucket}
+use Rattle.place_words.specs.Places.{Placed, PlacedAt, ElementPlace, under_lock, carried, lies_at, has_row, home_of_place, MayLieUnder, MayLie}
+use Rattle.place_words.specs.Steps.{Holds, MayLeave, MayEnter, IsFreeOrInHand, CanRehome}
+use Rattle.place_words.specs.Wholeness.{all_of}
+use Rattle.place_words.proofs.ElementLemmas.{at_put, put_here, put_else}
+use Rattle.place_words.proofs.RowLemmas.{lies_here}
 use Rattle.place_table.specs.declared.content.Content.{Content}
 use Rattle.place_table.specs.declared.view.InHand.{InHand}
 use Rattle.place_table.specs.declared.view.HomeIn.{HomeIn}

@@ -15,14 +15,14 @@ use Rattle.map_types.proofs.RowLemmas.{by_test}
 use Rattle.place_words.specs.Locks.{lock_named, lock_number, rank_of}
 use Rattle.place_words.specs.Openings.{is_free}
 use Rattle.place_words.proofs.LockLemmas.{named_by_number, number_of_named}
-use Rattle.place_core.specs.declared.step.Lists.{Lists}
-use Rattle.place_core.specs.State as cores
-use Rattle.place_core.specs.State.{rows, is_bucket}
-use Rattle.place_core.specs.Places.{Placed, ElementPlace, under_lock, carried, lies_at, has_row, home_of_place, MayLieUnder, MayLie}
-use Rattle.place_core.specs.Steps.{Holds, left_by, joined_by, MayLeave, MayEnter, IsFreeOrInHand, CanRehome, after_leaving, after_joining}
-use Rattle.place_core.specs.Steps as steps
-use Rattle.place_core.proofs.ElementLemmas.{at_put, put_here}
-use Rattle.place_core.proofs.RowLemmas.{stands_where, rows_with_row_other, rows_without_row_other, no_row_free}
+use Rattle.place_words.specs.declared.step.Lists.{Lists}
+use Rattle.place_words.specs.State as cores
+use Rattle.place_words.specs.State.{rows, is_bucket}
+use Rattle.place_words.specs.Places.{Placed, ElementPlace, under_lock, carried, lies_at, has_row, home_of_place, MayLieUnder, MayLie}
+use Rattle.place_words.specs.Steps.{Holds, left_by, joined_by, MayLeave, MayEnter, IsFreeOrInHand, CanRehome, after_leaving, after_joining}
+use Rattle.place_words.specs.Steps as steps
+use Rattle.place_words.proofs.ElementLemmas.{at_put, put_here}
+use Rattle.place_words.proofs.RowLemmas.{stands_where, rows_with_row_other, rows_without_row_other, no_row_free}
 use Rattle.place_table.specs.Rules.{Tagged, HashesRight, HasRow, IsFresh, IsBrought}
 use Rattle.place_table.proofs.StoredHashes.{in_all, lies_on}
 use Rattle.place_table.proofs.Readings.{listed_at_home}

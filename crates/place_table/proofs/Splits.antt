@@ -13,8 +13,8 @@ use Rattle.map_types.proofs.RowLemmas.{by_test}
 use Rattle.place_words.specs.declared.home.Home.TheVariants as homes
 use Rattle.place_words.specs.Locks.{lock_number}
 use Rattle.place_table.specs.declared.view.Hold.{Hold}
-use Rattle.place_core.specs.declared.step.Lists.{Lists}
-use Rattle.place_core.proofs.ElementLemmas.{at_put, put_here, put_else}
+use Rattle.place_words.specs.declared.step.Lists.{Lists}
+use Rattle.place_words.proofs.ElementLemmas.{at_put, put_here, put_else}
 use Rattle.place_table.specs.declared.content.Behind.{Behind}
 use Rattle.place_table.specs.declared.view.View.{View}
 use Rattle.place_table.specs.declared.view.InHand.{InHand}

@@ -19,15 +19,15 @@ use Rattle.map_types.specs.Listed.{elements_of}
 use Rattle.place_words.specs.Histories as histories
 use Rattle.place_words.specs.Locks.{lock_named, rank_of}
 use Rattle.place_words.specs.Openings.{is_free}
-use Rattle.place_core.specs.declared.step.Lists.{Lists}
-use Rattle.place_core.specs.State.{rows, is_bucket}
-use Rattle.place_core.specs.Places.{PlacedAt, ElementPlace, under_lock, lies_at}
-use Rattle.place_core.specs.Wholeness.{all_of}
+use Rattle.place_words.specs.declared.step.Lists.{Lists}
+use Rattle.place_words.specs.State.{rows, is_bucket}
+use Rattle.place_words.specs.Places.{PlacedAt, ElementPlace, under_lock, lies_at}
+use Rattle.place_words.specs.Wholeness.{all_of}
 use Rattle.map_types.specs.ElementLists.{IsHead}
 use Rattle.map_types.proofs.RowLemmas.{times_append, by_test}
-use Rattle.place_core.specs.Steps.{with_row, without_row, with_free, without_free}
-use Rattle.place_core.proofs.ElementLemmas.{at_put, put_here, put_else}
-use Rattle.place_core.proofs.RowLemmas.{stands_where, lies_is, row_lies, head_is_in, free_is, rows_with_row_other, rows_without_row_other, rows_without_row_same}
+use Rattle.place_words.specs.Steps.{with_row, without_row, with_free, without_free}
+use Rattle.place_words.proofs.ElementLemmas.{at_put, put_here, put_else}
+use Rattle.place_words.proofs.RowLemmas.{stands_where, lies_is, row_lies, head_is_in, free_is, rows_with_row_other, rows_without_row_other, rows_without_row_same}
 use Rattle.place_table.specs.declared.content.Content.{Content}
 use Rattle.place_table.specs.declared.content.Content.TheVariants as contents
 use Rattle.place_table.specs.declared.view.InHand.{InHand}

@@ -17,8 +17,8 @@ use Rattle.place_words.specs.Globals.{global_after}
 use Rattle.place_words.specs.Sets.{ListSet}
 use Rattle.place_words.specs.Locks.{is_lock, lock_named}
 use Rattle.place_words.proofs.LockLemmas.{named_by_number}
-use Rattle.place_core.specs.State.{rows}
-use Rattle.place_core.specs.declared.step.Lists.{Lists}
+use Rattle.place_words.specs.State.{rows}
+use Rattle.place_words.specs.declared.step.Lists.{Lists}
 use Rattle.place_table.specs.declared.content.Content.{Content}
 use Rattle.place_table.specs.declared.content.Content.TheVariants as contents
 use Rattle.place_table.specs.StoredHashes.{stored_in}

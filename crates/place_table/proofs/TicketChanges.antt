@@ -10,7 +10,7 @@ use Rattle.map_types.specs.ElementLists.{put}
 use Rattle.map_types.proofs.RowLemmas.{by_test}
 use Rattle.place_words.specs.declared.history.Entry.{Entry}
 use Rattle.place_words.specs.Locks.{is_lock, lock_named, lock_count}
-use Rattle.place_core.proofs.ElementLemmas.{at_put, put_here, put_else}
+use Rattle.place_words.proofs.ElementLemmas.{at_put, put_here, put_else}
 use Rattle.place_table.specs.declared.view.Known.{Known}
 use Rattle.place_table.specs.declared.view.View.{View}
 use Rattle.place_table.specs.declared.view.Turned.{Turned}

@@ -8,7 +8,7 @@ use Rattle.map_types.specs.declared.attr.Shape.{Shape}
 use Rattle.map_types.specs.ElementLists.{put, one}
 use Rattle.map_types.proofs.RowLemmas.{by_test}
 use Rattle.place_words.specs.declared.history.Entry.{Entry}
-use Rattle.place_core.proofs.ElementLemmas.{put_here, put_else}
+use Rattle.place_words.proofs.ElementLemmas.{put_here, put_else}
 use Rattle.place_table.specs.declared.view.View.{View}
 use Rattle.place_table.specs.declared.view.Hold.{Hold}
 use Rattle.place_table.specs.declared.view.Turned.{Turned}
@@ -23,7 +23,7 @@ use Rattle.atomic_table.specs.Table.{State}
 use Rattle.place_table.specs.declared.content.Behind.{Behind}
 use Rattle.place_table.specs.Views.{hold_at, with_now, held_without, held_with}
 use Rattle.place_table.specs.Rules.{Rule}
-use Rattle.place_core.specs.declared.step.Lists.{Lists}
+use Rattle.place_words.specs.declared.step.Lists.{Lists}
 use Rattle.place_words.specs.declared.home.Home.{Home}
 use Rattle.place_words.specs.declared.home.Home.TheVariants as homes
 use Rattle.place_words.specs.declared.owner.Owner.{Owner}

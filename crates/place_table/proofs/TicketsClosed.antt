@@ -10,7 +10,7 @@ use Rattle.place_words.specs.declared.history.Entry.{Entry}
 use Rattle.place_words.specs.Locks.{lock_count}
 use Rattle.place_words.proofs.Ascending.{tickets_append, none_past, one_there, found_in}
 use Rattle.place_words.proofs.Permutes.{numbers_count}
-use Rattle.place_core.proofs.OpeningLemmas.{times_filter}
+use Rattle.place_words.proofs.OpeningLemmas.{times_filter}
 use Rattle.place_table.specs.declared.view.View.{View}
 use Rattle.place_words.specs.Tickets.{tickets_of}
 use Rattle.place_table.specs.Tickets.{Stand, in_log, with_cpu, NoneLost, IsOut, IsAt, Tickets}

@@ -16,14 +16,14 @@ use Rattle.place_words.specs.Codes.{owner_code}
 use Rattle.map_types.specs.ElementLists.{put, one, IsIn}
 use Rattle.map_types.proofs.RowLemmas.{times_append, by_test}
 use Rattle.place_words.specs.Locks.{is_lock, lock_count, lock_number}
-use Rattle.place_core.specs.declared.step.Step.TheVariants.{Mark, Clear, Glance}
-use Rattle.place_core.specs.State.{rows}
-use Rattle.place_core.specs.State as cores
-use Rattle.place_core.specs.Places.{Placed, MayOwn}
-use Rattle.place_core.specs.Ranks.{Ranked}
-use Rattle.place_core.specs.Steps.{IsInHeldBucket, CanClear, IsHeldHome}
-use Rattle.place_core.proofs.ElementLemmas.{put_here, put_else}
-use Rattle.place_core.proofs.StepLaws.{step_keeps_places, step_keeps_ranks}
+use Rattle.place_words.specs.declared.step.Step.TheVariants.{Mark, Clear, Glance}
+use Rattle.place_words.specs.State.{rows}
+use Rattle.place_words.specs.State as cores
+use Rattle.place_words.specs.Places.{Placed, MayOwn}
+use Rattle.place_words.specs.Ranks.{Ranked}
+use Rattle.place_words.specs.Steps.{IsInHeldBucket, CanClear, IsHeldHome}
+use Rattle.place_words.proofs.ElementLemmas.{put_here, put_else}
+use Rattle.place_words.proofs.StepLaws.{step_keeps_places, step_keeps_ranks}
 use Rattle.place_table.specs.declared.content.Behind.{Behind}
 use Rattle.place_table.specs.declared.view.View.{View}
 use Rattle.place_table.specs.declared.view.Hold.{Hold}

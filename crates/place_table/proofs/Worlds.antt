@@ -11,7 +11,7 @@ use Rattle.key_hash.specs.Bucket.{bucket_number}
 use Rattle.map_types.specs.ElementLists.{put}
 use Rattle.place_words.specs.Histories.{content}
 use Rattle.place_words.specs.Locks.{lock_named, lock_number, rank_of}
-use Rattle.place_core.specs.declared.step.Lists.{Lists}
+use Rattle.place_words.specs.declared.step.Lists.{Lists}
 use Rattle.place_table.specs.declared.view.View.{View}
 use Rattle.place_table.specs.declared.view.Hold.{Hold}
 use Rattle.place_table.specs.declared.view.InHand.{InHand}

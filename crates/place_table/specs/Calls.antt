@@ -66,18 +66,12 @@ bits_of_turns shape steps = if is_lru shape.kind then flat_map (λ (step : Turne
 
 -- A push that found its element pending no more, since it had been flushed after its home was read.
 abbrev pub found_moved_on : LocalPart → Bool
-found_moved_on (local.Pop hash e) = false
-found_moved_on (local.Refill hash flushed gained got) = false
-found_moved_on (local.Steal got first second) = false
-found_moved_on (local.Add hash e cursor) = false
 found_moved_on (local.Push e done) = not done
+found_moved_on part = false
 
 abbrev pub finds_moved_on : Part → Bool
-finds_moved_on (parts.Bucket part) = false
-finds_moved_on (parts.Free part) = false
 finds_moved_on (parts.Local part) = found_moved_on part
-finds_moved_on (parts.Global part) = false
-finds_moved_on (parts.Own part) = false
+finds_moved_on part = false
 
 -- A pass that has all CPUs, and knows the turns of all locks, finds no element moved on that it frees: nobody else can flush one after
 -- its home was read.
@@ -108,7 +102,8 @@ pub record CouldBe (shape : Shape) (step told : Turned) : Type 0 where
   pub allowed : Allows shape told.entry.cpu told.entry.part (content shape (lock_named shape step.lock) step.earlier)
   pub same_marks : marks shape told.entry.part ≡ marks shape step.entry.part
   pub same_clears : (e : ℕ) → times e (clears told.entry.part) ≡ times e (clears step.entry.part)
-  pub leaves : content_after shape told.entry.cpu told.entry.part (content shape (lock_named shape step.lock) step.earlier) ≡ content_after shape step.entry.cpu step.entry.part (content shape (lock_named shape step.lock) step.earlier)
+  pub leaves : content_after shape told.entry.cpu told.entry.part (content shape (lock_named shape step.lock) step.earlier)
+      ≡ content_after shape step.entry.cpu step.entry.part (content shape (lock_named shape step.lock) step.earlier)
 
 -- A turn as a call tells it: the one that was made; or, where the lock was given back without a part, one that could have been.
 abbrev pub IsTold : Shape → List ℕ → Turned → Turned → Type 0
@@ -121,8 +116,8 @@ AreTold shape lost (step ∷ steps) [] = ⊥
 AreTold shape lost (step ∷ steps) (told ∷ others) = IsTold shape lost step told × AreTold shape lost steps others
 
 -- The turns as the call tells them, each after the turns of its lock before it, are a trace of the call with this reply, and
--- nothing else; in serial order none that is freed is found to have moved on; the CPU's spare is then the one that they leave. Where no lock was given back without a part, they are those that
--- were made.
+-- nothing else; in serial order none that is freed is found to have moved on; the CPU's spare is then the one that they leave. Where
+-- no lock was given back without a part, they are those that were made.
 pub record Called (t : TableView) (before after : PassView) (verb : Verb) (reply : Reply) : Type 0 where
   pub steps : List Turned
   pub lost : List ℕ

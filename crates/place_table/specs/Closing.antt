@@ -13,8 +13,8 @@ use Rattle.place_words.specs.Histories.{content, IsLegal}
 use Rattle.place_words.specs.Locks.{is_lock, lock_named, lock_number, lock_count}
 use Rattle.place_words.specs.Logs.{State, finals_of}
 use Rattle.place_words.specs.Strands.{AreSharedOut, places_on}
-use Rattle.place_core.specs.State as cores
-use Rattle.place_core.specs.Places.{Placed}
+use Rattle.place_words.specs.State as cores
+use Rattle.place_words.specs.Places.{Placed}
 use Rattle.place_table.specs.declared.content.Behind.{Behind}
 use Rattle.place_table.specs.Contents.{lists_of}
 use Rattle.place_table.specs.declared.view.Ended.{Ended}

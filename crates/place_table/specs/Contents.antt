@@ -11,7 +11,7 @@ use Rattle.map_types.specs.Listed.{elements_of}
 use Rattle.place_words.specs.Sets.{ListSet}
 use Rattle.local_lists.specs.LocalLists.{LocalView, IsLocal, local_told}
 use Rattle.lru_lists.specs.Sets.{SetView, IsSet, listed}
-use Rattle.place_core.specs.declared.step.Lists.{Lists}
+use Rattle.place_words.specs.declared.step.Lists.{Lists}
 use Rattle.place_table.specs.declared.content.Content.{Content}
 use Rattle.place_table.specs.declared.content.Content.TheVariants as contents
 
@@ -21,11 +21,8 @@ set_told set = record { lists = listed set; free = numbers set.free.bodies }
 
 -- The set under the global lock is the one that the CPUs share, and any other is a CPU's own.
 abbrev pub set_under : DomainId → ListSet → histories.Content
-set_under (Local cpu) set = in_own set
 set_under Global set = in_global set
-set_under (CpuLru cpu) set = in_own set
-set_under (Bucket bucket) set = in_own set
-set_under (Freelist cpu) set = in_own set
+set_under lock set = in_own set
 
 -- what lies under a lock, as histories tell it
 abbrev pub content_told : DomainId → Content → histories.Content
@@ -71,22 +68,8 @@ pub record FitsLocal (shape : Shape) (lists : LocalView) : Type 0 where
 -- and so have local lists and a list set.
 abbrev pub FitsLock : Shape → DomainId → Content → Type 0
 FitsLock shape (Bucket bucket) (contents.Bucket chain) = All (IsSized shape) chain.bodies
-FitsLock shape (Bucket bucket) (contents.Freelist freelist) = ⊥
-FitsLock shape (Bucket bucket) (contents.Local lists) = ⊥
-FitsLock shape (Bucket bucket) (contents.Set set) = ⊥
 FitsLock shape (Freelist cpu) (contents.Freelist freelist) = All (IsSized shape) freelist.bodies × (freelist.room ≡ shape.elements)
-FitsLock shape (Freelist cpu) (contents.Bucket chain) = ⊥
-FitsLock shape (Freelist cpu) (contents.Local lists) = ⊥
-FitsLock shape (Freelist cpu) (contents.Set set) = ⊥
 FitsLock shape (CpuLru cpu) (contents.Set set) = FitsSet shape set
-FitsLock shape (CpuLru cpu) (contents.Bucket chain) = ⊥
-FitsLock shape (CpuLru cpu) (contents.Freelist freelist) = ⊥
-FitsLock shape (CpuLru cpu) (contents.Local lists) = ⊥
 FitsLock shape (Local cpu) (contents.Local lists) = FitsLocal shape lists
-FitsLock shape (Local cpu) (contents.Bucket chain) = ⊥
-FitsLock shape (Local cpu) (contents.Freelist freelist) = ⊥
-FitsLock shape (Local cpu) (contents.Set set) = ⊥
 FitsLock shape Global (contents.Set set) = FitsSet shape set
-FitsLock shape Global (contents.Bucket chain) = ⊥
-FitsLock shape Global (contents.Freelist freelist) = ⊥
-FitsLock shape Global (contents.Local lists) = ⊥
+FitsLock shape lock here = ⊥

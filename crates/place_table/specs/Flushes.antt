@@ -16,19 +16,13 @@ is_visited e [] = false
 is_visited e (x ∷ xs) = if x.element == e then true else is_visited e xs
 
 abbrev pub local_flushes : ℕ → LocalPart → Bool
-local_flushes e (local.Pop hash element) = false
 local_flushes e (local.Refill hash flushed gained got) = is_visited e flushed
-local_flushes e (local.Steal got first second) = false
-local_flushes e (local.Add hash element cursor) = false
-local_flushes e (local.Push element done) = false
+local_flushes e part = false
 
 -- a part flushes the element
 abbrev pub flushes : ℕ → Part → Bool
-flushes e (parts.Bucket part) = false
-flushes e (parts.Free part) = false
 flushes e (parts.Local part) = local_flushes e part
-flushes e (parts.Global part) = false
-flushes e (parts.Own part) = false
+flushes e part = false
 
 -- Whether the last turn so far that put an element on pending or took it off is one that flushed it: by whether the element
 -- has a row before a turn and after it.

@@ -11,9 +11,9 @@ use Rattle.place_words.specs.declared.owner.Owner.TheVariants as owners
 use Rattle.place_words.specs.Histories.{IsLegal, content}
 use Rattle.place_words.specs.Locks.{is_lock, lock_named, lock_number, lock_count}
 use Rattle.place_words.specs.Tickets.{AscendIn}
-use Rattle.place_core.specs.Places.{Placed}
-use Rattle.place_core.specs.State.{rows}
-use Rattle.place_core.specs.State as cores
+use Rattle.place_words.specs.Places.{Placed}
+use Rattle.place_words.specs.State.{rows}
+use Rattle.place_words.specs.State as cores
 use Rattle.place_table.specs.declared.view.Known.{Known}
 use Rattle.place_table.specs.declared.view.View.{View}
 use Rattle.place_table.specs.Contents.{lists_of}
@@ -25,11 +25,9 @@ use Rattle.place_table.specs.Views.{known_log, is_in_hand_of, all_strands, next}
 
 -- the lock of a list set, of the global lists or of local lists
 abbrev pub IsListLock : Shape → DomainId → Type 0
-IsListLock shape (Local cpu) = IsTrue (is_lock shape (Local cpu))
-IsListLock shape Global = IsTrue (is_lock shape Global)
-IsListLock shape (CpuLru cpu) = IsTrue (is_lock shape (CpuLru cpu))
 IsListLock shape (Bucket bucket) = ⊥
 IsListLock shape (Freelist cpu) = ⊥
+IsListLock shape lock = IsTrue (is_lock shape lock)
 
 -- What the histories tell where no CPU holds a lock and none has an element in hand: some placed state has under each lock what its
 -- history leads to, no element in a hand, and of each listed element a stored hash, which is of the bucket that owns it.

@@ -15,27 +15,28 @@ use Rattle.place_words.specs.Codes.{home_code}
 use Rattle.map_types.specs.ElementLists.{IsIn, IsHead}
 use Rattle.map_types.specs.Kind.{is_lru}
 use Rattle.place_words.specs.Locks.{is_lock, lock_number, rank_of}
-use Rattle.place_core.specs.declared.step.Step.{Step}
-use Rattle.place_core.specs.declared.step.Step.TheVariants.{Take, Give, Claim, Settle, Attach, Detach, Rehome, Mark, Clear, Glance}
-use Rattle.place_core.specs.State as cores
-use Rattle.place_core.specs.State.{rows, is_bucket}
-use Rattle.place_core.specs.Steps.{CoreStep}
+use Rattle.place_words.specs.declared.step.Step.{Step}
+use Rattle.place_words.specs.declared.step.Step.TheVariants.{Take, Give, Claim, Settle, Attach, Detach, Rehome, Mark, Clear, Glance}
+use Rattle.place_words.specs.State as cores
+use Rattle.place_words.specs.State.{rows, is_bucket}
+use Rattle.place_words.specs.Steps.{CoreStep}
 use Rattle.place_table.specs.declared.content.Behind.{Behind}
 use Rattle.place_table.specs.declared.view.View.{View}
 use Rattle.place_table.specs.declared.view.Hold.{Hold}
 use Rattle.place_table.specs.declared.view.Ticket.TheVariants.{Unread, Drawing}
 use Rattle.place_table.specs.Contents.{content_told, lists_of}
-use Rattle.place_table.specs.Views.{is_among, hold_at, bucket_known, is_in_hand_of, split_from, split_off, joined, spent}
+use Rattle.place_table.specs.Views.{is_among, hold_at, is_in_hand_of, split_from, split_off, joined, spent}
 use Rattle.place_table.specs.Rules.{Rule, IsAboveAll}
 use Rattle.place_table.specs.Words.{owner_word, home_word, bit_word, ticket_word}
-use Rattle.place_table.specs.Plays.{Seated, MayGive, Tries, GivesBack, ReadsTicket, DrawsTicket, SeesTicket, Claims, Settles, Attaches, Detaches, Marks, Clears, SeesBit, SeesOwner, SeesHome, IsKnownHome, MayGoHome, Rehomes, MayClear}
+use Rattle.place_table.specs.Plays.{Seated, MayGive, Tries, GivesBack, ReadsTicket, DrawsTicket, SeesTicket, Claims, Settles, Attaches, Detaches, Marks, Clears, SeesBit, SeesOwner, SeesHome, IsKnownHome, MayGoHome, Rehomes, MayClear, IsInnermost, IsHashedInto}
 
 -- A step on the word i, which becomes f of what it was, by a pass with this seat: whatever the table is then, if the rule
 -- holds, there are a view and an act of the seat after which the rule holds again, the core has gone on as it may, and this
 -- is told.
 abbrev pub StepsAs : Shape → ℕ → ℕ → Seated → ℕ → (ℕ → ℕ) → (ℕ → cores.State → cores.State → Type 0) → (ℕ → Seated → Type 0) → Type 0
 StepsAs shape slots pass me i f goes told =
-    (s : table.State Behind View) (r : Rule shape s) → length s.homes ≡ slots → get_elem? s.views pass ≡ some me.0 → slice_index s.words i < 18446744073709551616
+    (s : table.State Behind View) (r : Rule shape s)
+    → length s.homes ≡ slots → get_elem? s.views pass ≡ some me.0 → slice_index s.words i < 18446744073709551616
     → (v : View) × (a : Act Behind) × Valid s.homes me.1 a
     × ((after : Rule shape (stepped s i (f (slice_index s.words i)) pass me.1 v a)) × goes (slice_index s.words i) r.world.core after.world.core)
     × told (slice_index s.words i) (v, carried_after me.1 a)
@@ -49,35 +50,52 @@ abbrev pub goes_if : Shape → ℕ → Step → ℕ → cores.State → cores.St
 goes_if shape wanted step found before after =
     (found ≡ wanted → CoreStep shape before step after) × (found ≢ wanted → after ≡ before)
 
+-- a word of a lock that is swapped from 0 to 1 and the CPU: any other number stays
+abbrev pub taken_by : ℕ → ℕ → ℕ
+taken_by c n = either (n == 0) (1 + c) n
+
 -- a lock is taken by the swap of its word from 0 to 1 and the CPU
 abbrev pub TakeIsStep : Type 0
 TakeIsStep =
-    (shape : Shape) (slots pass : ℕ) (me : Seated) (lock : DomainId) (c : ℕ) → is_among c me.0.cpus ≡ true → IsTrue (is_lock shape lock) → IsAboveAll shape (rank_of lock) me.0.held → me.0.ticket ≡ Unread
-    → StepsAs shape slots pass me (lock_number shape lock) (λ n. either (n == 0) (1 + c) n) (goes_if shape 0 (Take c lock)) (Tries (step slots (lock_number shape lock) 0 (1 + c) none) me)
+    (shape : Shape) (slots pass : ℕ) (me : Seated) (lock : DomainId) (c : ℕ)
+    → is_among c me.0.cpus ≡ true → IsTrue (is_lock shape lock) → IsAboveAll shape (rank_of lock) me.0.held → me.0.ticket ≡ Unread
+    → StepsAs shape slots pass me (lock_number shape lock) (taken_by c)
+    (goes_if shape 0 (Take c lock)) (Tries (step slots (lock_number shape lock) 0 (1 + c) none) me)
 
 -- it is given back by a store of 0, with its slot, in which stands what an allowed entry leads to
 abbrev pub GiveIsStep : Type 0
 GiveIsStep =
-    (shape : Shape) (slots pass : ℕ) (v : View) (behind : Behind) (slots_below : List (ℕ × Behind)) (lock : DomainId) (hold : Hold) (below : List Hold) → v.held ≡ hold ∷ below → IsTrue (is_lock shape lock) → hold.lock ≡ lock_number shape lock
+    (shape : Shape) (slots pass : ℕ) (v : View) (behind : Behind) (slots_below : List (ℕ × Behind)) (lock : DomainId) (hold : Hold) (below : List Hold)
+    → IsInnermost v hold below → IsTrue (is_lock shape lock) → hold.lock ≡ lock_number shape lock
     → (entry : Entry) (kept : List StrandStep) (may : MayGive shape v hold entry kept behind)
-    → StepsAs shape slots pass (v, (lock_number shape lock, behind) ∷ slots_below) (lock_number shape lock) (λ _. 0) (goes_by shape (Give hold.cpu lock (lists_of (content_told lock may.here)))) (λ _. GivesBack entry kept (v, (lock_number shape lock, behind) ∷ slots_below))
+    → StepsAs shape slots pass (v, (lock_number shape lock, behind) ∷ slots_below) (lock_number shape lock) (λ _. 0)
+    (goes_by shape (Give hold.cpu lock (lists_of (content_told lock may.here)))) (λ _. GivesBack entry kept (v, (lock_number shape lock, behind) ∷ slots_below))
+
+-- the pass holds this lock, with what lies there
+abbrev pub IsHeld : Shape → Seated → DomainId → Hold → Type 0
+IsHeld shape me lock hold = hold_at (lock_number shape lock) me.0.held ≡ Some hold
 
 -- a bit is set by a store of 1, of an element of a bucket that is held
 abbrev pub MarkIsStep : Type 0
 MarkIsStep =
-    (shape : Shape) (slots pass : ℕ) (me : Seated) (e bucket : ℕ) (hold : Hold) → bucket < shape.buckets → hold_at (lock_number shape (Bucket bucket)) me.0.held ≡ Some hold → IsIn e hold.now.first
-    → StepsAs shape slots pass me (bit_word shape e) (λ _. 1) (goes_by shape (Mark hold.cpu e bucket)) (λ _. Marks e me)
+    (shape : Shape) (slots pass : ℕ) (me : Seated) (e bucket : ℕ) (hold : Hold)
+    → bucket < shape.buckets → IsHeld shape me (Bucket bucket) hold → IsIn e hold.now.first
+    → StepsAs shape slots pass me (bit_word shape e) (λ _. 1)
+    (goes_by shape (Mark hold.cpu e bucket)) (λ _. Marks e me)
 
 -- it is cleared by a swap with 0, of an element in the hand or on the lists of a lock that is held
 abbrev pub ClearIsStep : Type 0
 ClearIsStep =
-    (shape : Shape) (slots pass : ℕ) (me : Seated) (e c : ℕ) → e < shape.elements → is_among c me.0.cpus ≡ true → MayClear shape me.0 c e
-    → StepsAs shape slots pass me (bit_word shape e) (λ _. 0) (goes_by shape (Clear c e)) (Clears e me)
+    (shape : Shape) (slots pass : ℕ) (me : Seated) (e c : ℕ)
+    → e < shape.elements → is_among c me.0.cpus ≡ true → MayClear shape me.0 c e
+    → StepsAs shape slots pass me (bit_word shape e) (λ _. 0)
+    (goes_by shape (Clear c e)) (Clears e me)
 
 -- a bit, an owner or a home is read by a load, which changes nothing; any CPU of the map may look
 abbrev pub GlanceIsStep : Type 0
 GlanceIsStep =
-    (shape : Shape) (slots pass : ℕ) (me : Seated) (e : ℕ) → e < shape.elements
+    (shape : Shape) (slots pass : ℕ) (me : Seated) (e : ℕ)
+    → e < shape.elements
     → StepsAs shape slots pass me (bit_word shape e) (λ n. n) (goes_by shape (Glance 0 e)) (SeesBit e me)
     × StepsAs shape slots pass me (owner_word shape e) (λ n. n) (goes_by shape (Glance 0 e)) (SeesOwner e me)
     × StepsAs shape slots pass me (home_word shape e) (λ n. n) (goes_by shape (Glance 0 e)) (SeesHome e me)
@@ -85,37 +103,49 @@ GlanceIsStep =
 -- The head of a lock's free list comes to the hand of the CPU that holds the lock, by a store of 1 and the CPU.
 abbrev pub ClaimIsStep : Type 0
 ClaimIsStep =
-    (shape : Shape) (slots pass : ℕ) (me : Seated) (e : ℕ) (lock : DomainId) (hold : Hold) → e < shape.elements → IsTrue (is_lock shape lock) → hold_at (lock_number shape lock) me.0.held ≡ Some hold → IsHead e hold.now.free
-    → StepsAs shape slots pass me (owner_word shape e) (λ _. 1 + hold.cpu) (goes_by shape (Claim hold.cpu e lock)) (λ _. Claims lock e hold.cpu me)
+    (shape : Shape) (slots pass : ℕ) (me : Seated) (e : ℕ) (lock : DomainId) (hold : Hold)
+    → e < shape.elements → IsTrue (is_lock shape lock) → IsHeld shape me lock hold → IsHead e hold.now.free
+    → StepsAs shape slots pass me (owner_word shape e) (λ _. 1 + hold.cpu)
+    (goes_by shape (Claim hold.cpu e lock)) (λ _. Claims lock e hold.cpu me)
 
--- It goes to the head of a lock's free list by a store of 0.
+-- It goes to the head of a lock's free list by a store of 0. On a map that evicts it is listed there.
 abbrev pub SettleIsStep : Type 0
 SettleIsStep =
-    (shape : Shape) (slots pass : ℕ) (me : Seated) (e : ℕ) (lock : DomainId) (hold : Hold) → e < shape.elements → IsTrue (is_lock shape lock) → hold_at (lock_number shape lock) me.0.held ≡ Some hold → IsFalse (is_bucket lock)
-    → is_among hold.cpu me.0.cpus ≡ true → is_in_hand_of e hold.cpu me.0.hand ≡ true → (IsTrue (is_lru shape.kind) → IsIn e (rows hold.now))
-    → StepsAs shape slots pass me (owner_word shape e) (λ _. 0) (goes_by shape (Settle hold.cpu e lock)) (λ _. Settles lock e hold.cpu me)
+    (shape : Shape) (slots pass : ℕ) (me : Seated) (e : ℕ) (lock : DomainId) (hold : Hold)
+    → e < shape.elements → IsTrue (is_lock shape lock) → IsHeld shape me lock hold → IsFalse (is_bucket lock)
+    → is_among hold.cpu me.0.cpus ≡ true → is_in_hand_of e hold.cpu me.0.hand ≡ true
+    → (IsTrue (is_lru shape.kind) → IsIn e (rows hold.now))
+    → StepsAs shape slots pass me (owner_word shape e) (λ _. 0)
+    (goes_by shape (Settle hold.cpu e lock)) (λ _. Settles lock e hold.cpu me)
 
--- It goes to the head of a bucket by a store of 32 and the bucket. On a map that evicts the CPU doesn't carry it.
+-- It goes to the head of a bucket by a store of 32 and the bucket. On a map that evicts the CPU doesn't carry it, and the last hash
+-- that it was given is of the bucket.
 abbrev pub AttachIsStep : Type 0
 AttachIsStep =
-    (shape : Shape) (slots pass : ℕ) (me : Seated) (e bucket : ℕ) (hold : Hold) → e < shape.elements → bucket < shape.buckets → hold_at (lock_number shape (Bucket bucket)) me.0.held ≡ Some hold
+    (shape : Shape) (slots pass : ℕ) (me : Seated) (e bucket : ℕ) (hold : Hold)
+    → e < shape.elements → bucket < shape.buckets → IsHeld shape me (Bucket bucket) hold
     → is_among hold.cpu me.0.cpus ≡ true → is_in_hand_of e hold.cpu me.0.hand ≡ true
     → (IsTrue (is_lru shape.kind) → is_in_hand_of e hold.cpu me.0.carried ≡ false)
-    → (IsTrue (is_lru shape.kind) → (bucket_known e hold.cpu me.0.hashes ≡ Some bucket) × ((k : ℕ) (other : Hold) → hold_at k me.0.held ≡ Some other → k ≡ lock_number shape (Bucket bucket)))
-    → StepsAs shape slots pass me (owner_word shape e) (λ _. 32 + bucket) (goes_by shape (Attach hold.cpu e bucket)) (λ _. Attaches bucket e hold.cpu me)
+    → (IsTrue (is_lru shape.kind) → IsHashedInto shape me.0 bucket e hold.cpu)
+    → StepsAs shape slots pass me (owner_word shape e) (λ _. 32 + bucket)
+    (goes_by shape (Attach hold.cpu e bucket)) (λ _. Attaches bucket e hold.cpu me)
 
 -- An element of a bucket comes to the hand of the CPU that holds the bucket, by a store of 1 and the CPU.
 abbrev pub DetachIsStep : Type 0
 DetachIsStep =
-    (shape : Shape) (slots pass : ℕ) (me : Seated) (e bucket : ℕ) (hold : Hold) → bucket < shape.buckets → hold_at (lock_number shape (Bucket bucket)) me.0.held ≡ Some hold → IsIn e hold.now.first
-    → StepsAs shape slots pass me (owner_word shape e) (λ _. 1 + hold.cpu) (goes_by shape (Detach hold.cpu e bucket)) (λ _. Detaches bucket e hold.cpu me)
+    (shape : Shape) (slots pass : ℕ) (me : Seated) (e bucket : ℕ) (hold : Hold)
+    → bucket < shape.buckets → IsHeld shape me (Bucket bucket) hold → IsIn e hold.now.first
+    → StepsAs shape slots pass me (owner_word shape e) (λ _. 1 + hold.cpu)
+    (goes_by shape (Detach hold.cpu e bucket)) (λ _. Detaches bucket e hold.cpu me)
 
 -- The home of an element becomes another by a store of its code, and the element goes from the one's lists to the head of
 -- the other's.
 abbrev pub RehomeIsStep : Type 0
 RehomeIsStep =
-    (shape : Shape) (slots pass : ℕ) (me : Seated) (c e : ℕ) (from to : Home) → IsTrue shape.common → e < shape.elements → is_among c me.0.cpus ≡ true → IsKnownHome shape me.0 c e from → MayGoHome shape me.0 c e to
-    → StepsAs shape slots pass me (home_word shape e) (λ _. home_code to) (goes_by shape (Rehome c e to)) (λ _. Rehomes e to me)
+    (shape : Shape) (slots pass : ℕ) (me : Seated) (c e : ℕ) (from to : Home)
+    → IsTrue shape.common → e < shape.elements → is_among c me.0.cpus ≡ true → IsKnownHome shape me.0 c e from → MayGoHome shape me.0 c e to
+    → StepsAs shape slots pass me (home_word shape e) (λ _. home_code to)
+    (goes_by shape (Rehome c e to)) (λ _. Rehomes e to me)
 
 -- The ticket word is read by a load: by a pass that holds a lock, before a ticket is drawn for the turn, and by one that draws none. A
 -- ticket is drawn by a pass that is about to, by an addition of 1. None is a step of the core.
@@ -125,19 +155,26 @@ stays found before after = after ≡ before
 abbrev pub TicketIsNoStep : Type 0
 TicketIsNoStep =
     (shape : Shape) (slots pass : ℕ) (me : Seated)
-    → ((hold : Hold) (below : List Hold) → me.0.held ≡ hold ∷ below → me.0.ticket ≡ Unread → StepsAs shape slots pass me (ticket_word shape) (λ n. n) stays (ReadsTicket me))
+    → ((hold : Hold) (below : List Hold) → IsInnermost me.0 hold below → me.0.ticket ≡ Unread → StepsAs shape slots pass me (ticket_word shape) (λ n. n) stays (ReadsTicket me))
     × (me.0.ticket ≡ Drawing → StepsAs shape slots pass me (ticket_word shape) (λ n. 1 + n) stays (DrawsTicket me))
     × (me.0.ticket ≡ Unread → StepsAs shape slots pass me (ticket_word shape) (λ n. n) stays (SeesTicket me))
+
+-- the table once a CPU is split off the pass to a new one, and once the pass has taken in another
+abbrev pub once_split : table.State Behind View → ℕ → ℕ → View → table.State Behind View
+once_split s pass c v = record s { views = slice_set s.views pass (split_from c v) ++ split_off c v ∷ [] }
+
+abbrev pub once_joined : table.State Behind View → ℕ → ℕ → View → View → table.State Behind View
+once_joined s pass other v u = record s { views = slice_set (slice_set s.views pass (joined v u)) other (spent u.shape) }
 
 -- A CPU is split off, and passes are joined: no step of the core is made, and the rule holds again.
 abbrev pub SplitIsNoStep : Type 0
 SplitIsNoStep =
     (shape : Shape) (pass c : ℕ) (v : View) → is_among c v.cpus ≡ true → v.held ≡ []
     → (s : table.State Behind View) (r : Rule shape s) → get_elem? s.views pass ≡ some v
-    → (after : Rule shape record { words = s.words; homes = s.homes; views = slice_set s.views pass (split_from c v) ++ split_off c v ∷ [] }) × (after.world.core ≡ r.world.core)
+    → (after : Rule shape (once_split s pass c v)) × (after.world.core ≡ r.world.core)
 
 abbrev pub JoinIsNoStep : Type 0
 JoinIsNoStep =
     (shape : Shape) (pass other : ℕ) (v u : View) → v.held ≡ [] → u.held ≡ [] → ¬ (other ≡ pass)
     → (s : table.State Behind View) (r : Rule shape s) → get_elem? s.views pass ≡ some v → get_elem? (slice_set s.views pass (joined v u)) other ≡ some u
-    → (after : Rule shape record { words = s.words; homes = s.homes; views = slice_set (slice_set s.views pass (joined v u)) other (spent u.shape) }) × (after.world.core ≡ r.world.core)
+    → (after : Rule shape (once_joined s pass other v u)) × (after.world.core ≡ r.world.core)

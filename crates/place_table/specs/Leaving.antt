@@ -32,34 +32,22 @@ Logs = ℕ → List Entry
 
 -- the bodies of a bucket, and the elements of a freelist
 abbrev pub bodies_in : Option Content → List Stored
-bodies_in None = []
 bodies_in (Some (Bucket chain)) = chain.bodies
-bodies_in (Some (Freelist freelist)) = []
-bodies_in (Some (Local lists)) = []
-bodies_in (Some (Set set)) = []
+bodies_in content = []
 
 abbrev pub numbers_in : Option Content → List ℕ
-numbers_in None = []
-numbers_in (Some (Bucket chain)) = []
 numbers_in (Some (Freelist freelist)) = numbers freelist.bodies
-numbers_in (Some (Local lists)) = []
-numbers_in (Some (Set set)) = []
+numbers_in content = []
 
 -- the elements of a list set, and its cursor
 abbrev pub set_in : Option Content → SetFinal
-set_in None = final_set (new_set [])
-set_in (Some (Bucket chain)) = final_set (new_set [])
-set_in (Some (Freelist freelist)) = final_set (new_set [])
-set_in (Some (Local lists)) = final_set (new_set [])
 set_in (Some (Set set)) = final_set (set_told set)
+set_in content = final_set (new_set [])
 
 -- the elements of local lists, and the CPU from which the next theft starts
 abbrev pub locals_in : Option Content → LocalFinal
-locals_in None = final_local (new_locals 0)
-locals_in (Some (Bucket chain)) = final_local (new_locals 0)
-locals_in (Some (Freelist freelist)) = final_local (new_locals 0)
 locals_in (Some (Local lists)) = final_local (local_told lists)
-locals_in (Some (Set set)) = final_local (new_locals 0)
+locals_in content = final_local (new_locals 0)
 
 -- the freelists of a map that doesn't evict, by CPU; of one that evicts the set that the CPUs share, with their local lists by CPU,
 -- or a list set for each
@@ -94,7 +82,8 @@ HaveHistories shape log lost histories =
 -- what lies under all locks that the map has, by number
 abbrev pub AreContents : Shape → Logs → List (Option Content) → Type 0
 AreContents shape log contents =
-    (k : ℕ) → k < lock_count shape → has_lock shape k ≡ true → (here : Content) × (slice_index_or contents k None ≡ Some here) × (content_told (lock_named shape k) here ≡ content shape (lock_named shape k) (log k)) × FitsLock shape (lock_named shape k) here
+    (k : ℕ) → k < lock_count shape → has_lock shape k ≡ true
+    → (here : Content) × (slice_index_or contents k None ≡ Some here) × (content_told (lock_named shape k) here ≡ content shape (lock_named shape k) (log k)) × FitsLock shape (lock_named shape k) here
 
 -- the histories of the first n locks, and whether one of them is lost
 pub record AreKept (shape : Shape) (log : Logs) (lost : ℕ → Bool) (n : ℕ) (kept : List LockHistory) (some_lost : Bool) : Type 0 where

@@ -21,9 +21,9 @@ use Rattle.map_types.specs.ElementLists.{times, IsIn, IsHead}
 use Rattle.place_words.specs.Histories.{content, IsLegal}
 use Rattle.place_words.specs.Locks.{lock_number, lock_named, rank_of, is_lock}
 use Rattle.place_words.specs.Takings.{set_of}
-use Rattle.place_core.specs.State.{rows, is_bucket}
-use Rattle.place_core.specs.Places.{MayOwn}
-use Rattle.place_core.specs.Wholeness.{all_of}
+use Rattle.place_words.specs.State.{rows, is_bucket}
+use Rattle.place_words.specs.Places.{MayOwn}
+use Rattle.place_words.specs.Wholeness.{all_of}
 use Rattle.place_table.specs.Flushes.{flushed_last}
 use Rattle.place_table.specs.declared.content.Content.{Content}
 use Rattle.place_table.specs.declared.content.Behind.{Behind}
@@ -37,9 +37,9 @@ use Rattle.place_table.specs.declared.view.Notes.{Notes}
 use Rattle.place_table.specs.declared.view.Turned.{Turned}
 use Rattle.place_table.specs.declared.view.Ended.{Ended}
 use Rattle.place_table.specs.Contents.{content_told, lists_of, FitsLock}
-use Rattle.place_table.specs.Views.{is_among, hold_at, is_in_hand_of, known_log, first_view, place_of, kept_step, holding, given, losing, claimed, settled, attached, detached, marked, cleared, bit_read, owner_read, home_read, ticket_seen, learning, rehomed, is_recorded, split_from, split_off, joined, bucket_known, home_known}
+use Rattle.place_table.specs.Views.{is_among, hold_at, is_in_hand_of, known_log, first_view, place_of, kept_step, holding, given, losing, claimed, settled, attached, detached, marked, cleared, bit_read, owner_read, home_read, ticket_seen, learning, rehomed, is_recorded, split_from, split_off, joined, home_known}
 use Rattle.place_table.specs.Rules.{KeptAs, IsAboveAll}
-use Rattle.place_table.specs.Plays.{AreElements, IsApartFromHands, MayPut, IsInnermost, IsKeptOrLost, IsKnownBit, OwnerFits, IsKnownHome, HomeFits, MayGoHome, MayClear, TakesTicket}
+use Rattle.place_table.specs.Plays.{AreElements, IsApartFromHands, MayPut, IsInnermost, IsKeptOrLost, IsKnownBit, OwnerFits, IsKnownHome, HomeFits, MayGoHome, MayClear, TakesTicket, IsHashedInto}
 use Rattle.place_table.specs.declared.view.Ticket.{Ticket}
 use Rattle.place_table.specs.declared.view.Ticket.TheVariants.{Unread}
 use Rattle.place_table.specs.declared.view.WordStep.{WordStep}
@@ -72,7 +72,7 @@ Carries (hold ∷ holds) (x ∷ xs) = (x.0 ≡ hold.lock) × (x.1.content ≡ No
 
 -- a slot whose content is out
 abbrev pub without_content : Behind → Behind
-without_content behind = record { content = None; history = behind.history }
+without_content behind = record behind { content = None }
 
 -- the spare that is kept for a CPU
 abbrev pub spare_of : ℕ → List (Option Stored) → Option Stored
@@ -124,10 +124,10 @@ abbrev pub HasBegun : PassView → Type 0
 HasBegun p = is_among p.cpu p.view.cpus ≡ true
 
 abbrev pub with_view : PassView → View → PassView
-with_view p v = record { table = p.table; seat = p.seat; cpu = p.cpu; call = p.call; view = v; spares = p.spares }
+with_view p v = record p { view = v }
 
 abbrev pub with_spares : PassView → List (Option Stored) → PassView
-with_spares p spares = record { table = p.table; seat = p.seat; cpu = p.cpu; call = p.call; view = p.view; spares = spares }
+with_spares p spares = record p { spares = spares }
 
 -- The CPUs of a pass have nothing in hand but the spares that it keeps. Only a map of kind HASH has spares: on the others nothing
 -- is in hand.
@@ -160,7 +160,7 @@ pub record IsFirstPass (t : TableView) (p : PassView) : Type 0 where
 
 -- a call begins
 abbrev pub begun : PassView → ℕ → ℕ → PassView
-begun p cpu call = record { table = p.table; seat = p.seat; cpu = cpu; call = call; view = p.view; spares = p.spares }
+begun p cpu call = record p { cpu = cpu; call = call }
 
 -- take asks for a lock that the map has, above all that are held
 pub record CanTake (t : TableView) (lock : DomainId) (p : PassView) : Type 0 where
@@ -189,11 +189,16 @@ pub record TookLock (t : TableView) (lock : DomainId) (before after : PassView) 
   -- an element whose home was read, and is known to be this lock, is listed under it
   pub at_home : (e c : ℕ) → c < t.shape.cpus → home_known e c after.view.readings ≡ Some (homes.In lock) → IsIn e (rows hold.now)
   -- and one whose home was read as these local lists, and which is pending there no more, was flushed from them
-  pub moved_on : (e c d : ℕ) → c < t.shape.cpus → lock ≡ Local d → home_known e c before.view.readings ≡ Some (homes.In (Local d)) → times e (rows hold.now) ≡ 0 → flushed_last t.shape lock e hold.log ≡ true
+  pub moved_on : (e c d : ℕ) → c < t.shape.cpus → lock ≡ Local d → home_known e c before.view.readings ≡ Some (homes.In (Local d)) → times e (rows hold.now) ≡ 0
+      → flushed_last t.shape lock e hold.log ≡ true
   -- what lies on the lists of this lock lies on those of no other that is held
-  pub alone : IsTrue (is_lru t.shape.kind) → IsFalse (is_bucket lock) → (k e : ℕ) (other : Hold) → hold_at k before.view.held ≡ Some other → IsFalse (is_bucket (lock_named t.shape k)) → IsIn e (all_of hold.now) → times e (all_of other.now) ≡ 0
+  pub alone : IsTrue (is_lru t.shape.kind) → IsFalse (is_bucket lock)
+      → (k e : ℕ) (other : Hold) → hold_at k before.view.held ≡ Some other → IsFalse (is_bucket (lock_named t.shape k)) → IsIn e (all_of hold.now)
+      → times e (all_of other.now) ≡ 0
   -- where each CPU has a list set of its own, what is in the hand of a CPU of the pass is listed in the set where it lives
-  pub lives : IsTrue (is_lru t.shape.kind) → t.shape.common ≡ false → (e c : ℕ) → is_among c before.view.cpus ≡ true → is_in_hand_of e c before.view.hand ≡ true → lock ≡ CpuLru (set_of t.shape e) → IsIn e (rows hold.now)
+  pub lives : IsTrue (is_lru t.shape.kind) → t.shape.common ≡ false
+      → (e c : ℕ) → is_among c before.view.cpus ≡ true → is_in_hand_of e c before.view.hand ≡ true → lock ≡ CpuLru (set_of t.shape e)
+      → IsIn e (rows hold.now)
 
 abbrev pub entry_of : PassView → ℕ → Part → Entry
 entry_of p ticket part = record { ticket = ticket; cpu = p.cpu; call = p.call; part = part }
@@ -302,7 +307,7 @@ pub record CanAttach (t : TableView) (e bucket : ℕ) (p : PassView) : Type 0 wh
   -- on a map that evicts the CPU doesn't carry it
   pub not_carried : IsTrue (is_lru t.shape.kind) → is_in_hand_of e p.cpu p.view.carried ≡ false
   -- there the last hash that the element was given is of that bucket, and no other lock is held
-  pub hashed : IsTrue (is_lru t.shape.kind) → (bucket_known e p.cpu p.view.hashes ≡ Some bucket) × ((k : ℕ) (other : Hold) → hold_at k p.view.held ≡ Some other → k ≡ lock_number t.shape (Bucket bucket))
+  pub hashed : IsTrue (is_lru t.shape.kind) → IsHashedInto t.shape p.view bucket e p.cpu
 
 -- claim asks for the head of the free list of a lock that the CPU holds
 pub record CanClaim (t : TableView) (e : ℕ) (lock : DomainId) (p : PassView) : Type 0 where

@@ -18,13 +18,14 @@ use Rattle.place_words.specs.declared.home.Home.{Home}
 use Rattle.place_words.specs.declared.home.Home.TheVariants as homes
 use Rattle.place_words.specs.Codes.{owner_code, home_code, HasHomeCode}
 use Rattle.map_types.specs.ElementLists.{one, times, IsIn}
+use Rattle.place_words.specs.Histories as histories
 use Rattle.place_words.specs.Histories.{content, content_after, Allows, IsLegal}
 use Rattle.place_words.specs.Locks.{is_lock, lock_named, lock_number}
 use Rattle.place_words.specs.Takings.{set_of}
-use Rattle.place_core.specs.declared.step.Lists.{Lists}
-use Rattle.place_core.specs.State.{rows, is_bucket}
-use Rattle.place_core.specs.Places.{is_in_bucket, MayOwn}
-use Rattle.place_core.specs.Wholeness.{all_of}
+use Rattle.place_words.specs.declared.step.Lists.{Lists}
+use Rattle.place_words.specs.State.{rows, is_bucket}
+use Rattle.place_words.specs.Places.{is_in_bucket, MayOwn}
+use Rattle.place_words.specs.Wholeness.{all_of}
 use Rattle.place_table.specs.declared.content.Content.{Content}
 use Rattle.place_table.specs.declared.content.Behind.{Behind}
 use Rattle.place_table.specs.declared.view.Known.{Known}
@@ -38,7 +39,7 @@ use Rattle.place_table.specs.declared.view.Ticket.TheVariants.{Drawn}
 use Rattle.place_table.specs.Words.{ticket_bound}
 use Rattle.place_table.specs.Tickets.{IsTaken}
 use Rattle.place_table.specs.Contents.{content_told, lists_of, FitsLock}
-use Rattle.place_table.specs.Views.{is_among, hold_at, is_in_hand_of, known_log, bit_seen, holding, given, losing, ticket_read, ticket_drawn, ticket_seen, learning, has_all, reached_by, ticket_of, kept_step, moved, with_hashes, claimed, settled, attached, detached, marked, cleared, bit_read, owner_read, home_read, rehomed, home_known, came_last}
+use Rattle.place_table.specs.Views.{is_among, hold_at, is_in_hand_of, bucket_known, known_log, bit_seen, holding, given, losing, ticket_read, ticket_drawn, ticket_seen, learning, has_all, reached_by, ticket_of, kept_step, moved, with_hashes, claimed, settled, attached, detached, marked, cleared, bit_read, owner_read, home_read, rehomed, home_known, came_last}
 use Rattle.place_table.specs.Rules.{IsSlotAfter, is_hand_of}
 use Rattle.place_table.specs.TurnNotes.{HasOnlyHash, NotesFit, InnermostFits}
 use Rattle.place_table.specs.StoredHashes.{stored_in}
@@ -77,37 +78,67 @@ pub record Took (k cpu : ℕ) (before after : Seated) : Type 0 where
   pub legal : IsLegal before.0.shape (lock_named before.0.shape k) hold.log
   pub known : (log : List Entry) → known_log k before.0.known ≡ Some log → hold.log ≡ log
   -- an element whose home was read, and is known to be this lock, is listed under it
-  pub at_home : (e c : ℕ) (lock : DomainId) → c < before.0.shape.cpus → home_known e c after.0.readings ≡ Some (homes.In lock) → lock_number before.0.shape lock ≡ k → IsIn e (rows hold.now)
+  pub at_home : (e c : ℕ) (lock : DomainId) → c < before.0.shape.cpus → home_known e c after.0.readings ≡ Some (homes.In lock) → lock_number before.0.shape lock ≡ k
+      → IsIn e (rows hold.now)
   -- and one whose home was read as local lists under this lock, and which is pending there no more, was flushed from them
-  pub moved_on : (e c d : ℕ) → c < before.0.shape.cpus → lock_named before.0.shape k ≡ Local d → home_known e c before.0.readings ≡ Some (homes.In (Local d)) → times e (rows hold.now) ≡ 0 → flushed_last before.0.shape (lock_named before.0.shape k) e hold.log ≡ true
+  pub moved_on : (e c d : ℕ) → c < before.0.shape.cpus → lock_named before.0.shape k ≡ Local d → home_known e c before.0.readings ≡ Some (homes.In (Local d)) → times e (rows hold.now) ≡ 0
+      → flushed_last before.0.shape (lock_named before.0.shape k) e hold.log ≡ true
   -- what lies on the lists of this lock lies on those of no other that is held
-  pub alone : IsTrue (is_lru before.0.shape.kind) → IsFalse (is_bucket (lock_named before.0.shape k)) → (j e : ℕ) (other : Hold) → hold_at j before.0.held ≡ Some other → IsFalse (is_bucket (lock_named before.0.shape j)) → IsIn e (all_of hold.now) → times e (all_of other.now) ≡ 0
+  pub alone : IsTrue (is_lru before.0.shape.kind) → IsFalse (is_bucket (lock_named before.0.shape k))
+      → (j e : ℕ) (other : Hold) → hold_at j before.0.held ≡ Some other → IsFalse (is_bucket (lock_named before.0.shape j)) → IsIn e (all_of hold.now)
+      → times e (all_of other.now) ≡ 0
   -- where each CPU has a list set of its own, what is in the hand of a CPU of the pass is listed in the set where it lives
-  pub lives : IsTrue (is_lru before.0.shape.kind) → before.0.shape.common ≡ false → (e c : ℕ) → e < before.0.shape.elements → is_among c before.0.cpus ≡ true → is_in_hand_of e c before.0.hand ≡ true → lock_number before.0.shape (CpuLru (set_of before.0.shape e)) ≡ k → IsIn e (rows hold.now)
+  pub lives : IsTrue (is_lru before.0.shape.kind) → before.0.shape.common ≡ false
+      → (e c : ℕ) → e < before.0.shape.elements → is_among c before.0.cpus ≡ true → is_in_hand_of e c before.0.hand ≡ true → lock_number before.0.shape (CpuLru (set_of before.0.shape e)) ≡ k
+      → IsIn e (rows hold.now)
 
 -- a lock is tried: it is taken where nobody held it, else nothing changes
 abbrev pub Tries : table.Step Behind → Seated → ℕ → Seated → Type 0
 Tries step before found after =
     (found ≡ step.first → Took step.word (step.second - 1) before after) × (found ≢ step.first → after ≡ before)
 
--- What is put back: a part of a CPU that is allowed leads to it, and it has the elements that lie there at this step.
+-- what lay under a lock when it was taken, and what is put back there, as histories tell it
+abbrev pub taken_out : Shape → Hold → histories.Content
+taken_out shape hold = content shape (lock_named shape hold.lock) hold.log
+
+abbrev pub put_back : Shape → Hold → Content → histories.Content
+put_back shape hold here = content_told (lock_named shape hold.lock) here
+
+-- an element came in the turn under way, and is in the CPU's hand
+abbrev pub has_come_to_hand : View → Hold → ℕ → Bool
+has_come_to_hand v hold e = is_in_hand_of e hold.cpu v.hand && is_among e (came_last v.notes)
+
+-- Of any other element the row that is put back has the hash of each row that the element had, when that was taken, under this lock or
+-- another one that the pass holds.
+abbrev pub KeepsHashes : Shape → View → Hold → Content → Type 0
+KeepsHashes shape v hold here =
+    (j e h n : ℕ) (other : Hold) → hold_at j v.held ≡ Some other → has_come_to_hand v hold e ≡ false
+    → stored_in (content shape (lock_named shape j) other.log) e ≡ Some h → stored_in (put_back shape hold here) e ≡ Some n → h ≡ n
+
+-- what was pending when a local lock was taken, and is on its lists no more, was flushed by the turn, or the CPU carries it
+abbrev pub WentOff : Shape → View → Hold → Part → Type 0
+WentOff shape v hold part =
+    (c e h : ℕ) → lock_named shape hold.lock ≡ Local c → stored_in (taken_out shape hold) e ≡ Some h → times e (all_of hold.now) ≡ 0
+    → (is_in_hand_of e hold.cpu v.carried ≡ true) ⊎ (flushes e part ≡ true)
+
+-- What is put back: a part of a CPU that is allowed leads to it, and it has the elements that lie there at this step. On a map that
+-- evicts a row has a new hash only where its element came in this turn and is in the CPU's hand, and what is gone from local lists is
+-- flushed or carried.
 pub record MayPut (shape : Shape) (v : View) (hold : Hold) (by : ℕ) (part : Part) (here : Content) : Type 0 where
   pub cpu : is_among by v.cpus ≡ true
-  pub told_is : content_told (lock_named shape hold.lock) here ≡ content_after shape by part (content shape (lock_named shape hold.lock) hold.log)
+  pub told_is : put_back shape hold here ≡ content_after shape by part (taken_out shape hold)
   pub fits : FitsLock shape (lock_named shape hold.lock) here
-  pub allowed : Allows shape by part (content shape (lock_named shape hold.lock) hold.log)
-  pub same_free : (e : ℕ) → times e (lists_of (content_told (lock_named shape hold.lock) here)).free ≡ times e hold.now.free
-  pub same_rows : (e : ℕ) → times e (rows (lists_of (content_told (lock_named shape hold.lock) here))) ≡ times e (rows hold.now)
-  -- on a map that evicts a row has a new hash only where its element came in this turn and is in the CPU's hand: else it is that
-  -- of the row that the element had when this lock was taken, or another one that the pass holds
-  pub rows_kept : IsTrue (is_lru shape.kind) → (j e h n : ℕ) (other : Hold) → hold_at j v.held ≡ Some other → (is_in_hand_of e hold.cpu v.hand && is_among e (came_last v.notes)) ≡ false → stored_in (content shape (lock_named shape j) other.log) e ≡ Some h → stored_in (content_told (lock_named shape hold.lock) here) e ≡ Some n → h ≡ n
-  -- and what was pending when a local lock was taken, and is on its lists no more, was flushed by the turn, or the CPU carries it
-  pub gone : IsTrue (is_lru shape.kind) → (c e h : ℕ) → lock_named shape hold.lock ≡ Local c → stored_in (content shape (lock_named shape hold.lock) hold.log) e ≡ Some h → times e (all_of hold.now) ≡ 0 → (is_in_hand_of e hold.cpu v.carried ≡ true) ⊎ (flushes e part ≡ true)
+  pub allowed : Allows shape by part (taken_out shape hold)
+  pub same_free : (e : ℕ) → times e (lists_of (put_back shape hold here)).free ≡ times e hold.now.free
+  pub same_rows : (e : ℕ) → times e (rows (lists_of (put_back shape hold here))) ≡ times e (rows hold.now)
+  pub rows_kept : IsTrue (is_lru shape.kind) → KeepsHashes shape v hold here
+  pub gone : IsTrue (is_lru shape.kind) → WentOff shape v hold part
 
 -- the history has the entry where it isn't lost, and then the strand has its step
 abbrev pub IsRecorded : Shape → View → Hold → Entry → List StrandStep → Behind → Type 0
 IsRecorded shape v hold entry kept behind =
-    MatchOption behind.history (kept ≡ v.kept) (λ u. (hold.lost ≡ false) × (u.items ≡ hold.log ++ entry ∷ []) × (kept ≡ v.kept ++ kept_step shape hold.lock (length hold.log) ∷ []))
+    MatchOption behind.history (kept ≡ v.kept)
+    (λ u. (hold.lost ≡ false) × (u.items ≡ hold.log ++ entry ∷ []) × (kept ≡ v.kept ++ kept_step shape hold.lock (length hold.log) ∷ []))
 
 -- where it has the entry, the entry has the ticket that was drawn
 abbrev pub HasItsTicket : View → Entry → Behind → Type 0
@@ -213,13 +244,22 @@ pub record SeesTicket (before : Seated) (found : ℕ) (after : Seated) : Type 0 
 
 -- Both, one after the other: no ticket was drawn where the word was too high.
 abbrev pub TakesTicket : Seated → Option ℕ → Seated → Type 0
-TakesTicket before None after = (found : ℕ) × (at : ℕ) × WordFits before.0 found × (ticket_bound ≤ found) × (after ≡ (ticket_read at found before.0, before.1))
+TakesTicket before None after =
+    (found : ℕ) × (at : ℕ) × WordFits before.0 found × (ticket_bound ≤ found)
+    × (after ≡ (ticket_read at found before.0, before.1))
 TakesTicket before (Some t) after =
-    (found : ℕ) × (at : ℕ) × (behind : ℕ) × WordFits before.0 found × (found < ticket_bound) × WordFits (ticket_read at found before.0) t × (after ≡ (ticket_drawn behind t (ticket_read at found before.0), before.1))
+    (found : ℕ) × (at : ℕ) × (behind : ℕ) × WordFits before.0 found × (found < ticket_bound)
+    × WordFits (ticket_read at found before.0) t
+    × (after ≡ (ticket_drawn behind t (ticket_read at found before.0), before.1))
 
 -- a bit was set
 abbrev pub Marks : ℕ → Seated → Seated → Type 0
 Marks e before after = (at : ℕ) × (after ≡ (marked at e before.0, before.1))
+
+-- the last hash that an element in the CPU's hand was given is of this bucket, and no lock but the bucket's is held
+abbrev pub IsHashedInto : Shape → View → ℕ → ℕ → ℕ → Type 0
+IsHashedInto shape v bucket e cpu =
+    (bucket_known e cpu v.hashes ≡ Some bucket) × ((k : ℕ) (other : Hold) → hold_at k v.held ≡ Some other → k ≡ lock_number shape (Bucket bucket))
 
 -- where the pass knew the bit, this is it
 abbrev pub IsKnownBit : ℕ → Bool → View → Type 0
@@ -257,11 +297,13 @@ pub record IsListedHere (shape : Shape) (v : View) (e : ℕ) : Type 0 where
 -- it is free where it lies on a free list that is held and not where it is listed under such a lock, and it is in the hand of
 -- a CPU of the pass exactly where the pass knows of it. One that is listed here is in no bucket but that of its stored hash.
 pub record OwnerFits (shape : Shape) (v : View) (e : ℕ) (owner : Owner) : Type 0 where
-  pub in_held_bucket : (bucket : ℕ) (hold : Hold) → bucket < shape.buckets → hold_at (lock_number shape (Bucket bucket)) v.held ≡ Some hold → times e (rows hold.now) ≡ one (is_in_bucket bucket owner)
+  pub in_held_bucket : (bucket : ℕ) (hold : Hold) → bucket < shape.buckets → hold_at (lock_number shape (Bucket bucket)) v.held ≡ Some hold
+      → times e (rows hold.now) ≡ one (is_in_bucket bucket owner)
   pub on_held_free_list : (k : ℕ) (hold : Hold) → hold_at k v.held ≡ Some hold → IsIn e hold.now.free → owner ≡ Free
   pub listed : owner ≡ Free → IsNoneListed v e
   pub in_own_hand : (cpu : ℕ) → is_among cpu v.cpus ≡ true → is_hand_of cpu owner ≡ is_in_hand_of e cpu v.hand
-  pub of_hash : IsTrue (is_lru shape.kind) → (hash bucket : ℕ) → IsListedHere shape v e → HasOnlyHash shape v e hash → owner ≡ owners.Bucket bucket → bucket ≡ bucket_number hash shape.buckets
+  pub of_hash : IsTrue (is_lru shape.kind) → (hash bucket : ℕ) → IsListedHere shape v e → HasOnlyHash shape v e hash → owner ≡ owners.Bucket bucket
+      → bucket ≡ bucket_number hash shape.buckets
 
 -- an owner was read
 pub record SeesOwner (e : ℕ) (before : Seated) (found : ℕ) (after : Seated) : Type 0 where
@@ -304,7 +346,8 @@ pub record HomeFits (shape : Shape) (v : View) (e : ℕ) (home : Home) : Type 0 
   pub known : IsTrue (is_lru shape.kind) → (cpu : ℕ) (known : Home) → is_among cpu v.cpus ≡ true → IsKnownHome shape v cpu e known → home ≡ known
   pub is_there : IsTrue (is_lru shape.kind) → MayBeHome shape home
   pub of_hand : (cpu holder : ℕ) → is_among cpu v.cpus ≡ true → is_in_hand_of e cpu v.hand ≡ true → is_in_hand_of e cpu v.carried ≡ false → home ≢ homes.Hand holder
-  pub under_home : IsTrue (is_lru shape.kind) → (lock : DomainId) (log : List Entry) → home ≡ homes.In lock → hold_at (lock_number shape lock) v.held ≡ None → known_log (lock_number shape lock) v.known ≡ Some log → IsIn e (all_of (lists_of (content shape lock log)))
+  pub under_home : IsTrue (is_lru shape.kind) → (lock : DomainId) (log : List Entry) → home ≡ homes.In lock → hold_at (lock_number shape lock) v.held ≡ None → known_log (lock_number shape lock) v.known ≡ Some log
+      → IsIn e (all_of (lists_of (content shape lock log)))
 
 -- a home was read
 pub record SeesHome (e : ℕ) (before : Seated) (found : ℕ) (after : Seated) : Type 0 where
@@ -331,14 +374,11 @@ pub record IsKnownFree (v : View) (e : ℕ) : Type 0 where
 -- Where it may go: to the lists of a lock that the CPU holds, or to its hand. To local lists goes only what is free or in
 -- the CPU's hand, to its hand only what is in it.
 abbrev pub MayGoHome : Shape → View → ℕ → ℕ → Home → Type 0
-MayGoHome shape v cpu e homes.Unlisted = ⊥
 MayGoHome shape v cpu e (homes.In (Local c)) =
     HoldsLock shape v cpu (Local c) × (IsKnownFree v e ⊎ (is_in_hand_of e cpu v.hand ≡ true))
 MayGoHome shape v cpu e (homes.In Global) = HoldsLock shape v cpu Global
-MayGoHome shape v cpu e (homes.In (CpuLru c)) = ⊥
-MayGoHome shape v cpu e (homes.In (Bucket bucket)) = ⊥
-MayGoHome shape v cpu e (homes.In (Freelist c)) = ⊥
 MayGoHome shape v cpu e (homes.Hand c) = (c ≡ cpu) × (is_in_hand_of e cpu v.hand ≡ true)
+MayGoHome shape v cpu e to = ⊥
 
 -- An element went to this home from the one that it had, and each home that the pass knew it to have is that one. Which of
 -- the lists it left and joined goes by its owner.

@@ -20,13 +20,13 @@ use Rattle.map_types.specs.ElementLists.{one, IsIn}
 use Rattle.place_words.specs.Histories.{content, IsLegal}
 use Rattle.place_words.specs.Locks.{is_lock, lock_named, lock_number, lock_count, rank_of}
 use Rattle.place_words.specs.Strands.{places_on}
-use Rattle.place_core.specs.declared.step.Lists.{Lists}
+use Rattle.place_words.specs.declared.step.Lists.{Lists}
 use Rattle.key_hash.specs.Bucket.{bucket_number}
-use Rattle.place_core.specs.State as cores
-use Rattle.place_core.specs.State.{rows, is_bucket}
+use Rattle.place_words.specs.State as cores
+use Rattle.place_words.specs.State.{rows, is_bucket}
 use Rattle.place_table.specs.StoredHashes.{stored_in}
-use Rattle.place_core.specs.Places.{Placed}
-use Rattle.place_core.specs.Ranks.{Ranked}
+use Rattle.place_words.specs.Places.{Placed}
+use Rattle.place_words.specs.Ranks.{Ranked}
 use Rattle.place_table.specs.declared.content.Content.{Content}
 use Rattle.place_table.specs.declared.content.Behind.{Behind}
 use Rattle.place_table.specs.declared.view.View.{View}
@@ -106,14 +106,12 @@ hold_of pass pass_of_cpu k None log lists lost = None
 hold_of pass pass_of_cpu k (Some cpu) log lists lost = if pass_of_cpu cpu == pass then Some (hold k cpu log lists lost) else None
 
 abbrev pub is_hand_of : ℕ → Owner → Bool
-is_hand_of cpu owners.Free = false
-is_hand_of cpu (owners.Bucket bucket) = false
 is_hand_of cpu (owners.Hand c) = c == cpu
+is_hand_of cpu owner = false
 
 abbrev pub is_home_of : ℕ → Home → Bool
-is_home_of cpu homes.Unlisted = false
-is_home_of cpu (homes.In lock) = false
 is_home_of cpu (homes.Hand c) = c == cpu
+is_home_of cpu home = false
 
 -- Locks are taken in the order of their ranks: each lock held has a rank above those of the locks taken before it.
 abbrev pub IsAboveAll : Shape → ℕ → List Hold → Type 0
@@ -295,18 +293,15 @@ pub record IsHashed (shape : Shape) (holder : ℕ → Option ℕ) (log : ℕ →
 -- when it was taken, or the last turn that put the element on pending or took it off flushed it.
 abbrev pub WasFlushed : Shape → (ℕ → Option ℕ) → (ℕ → List Tagged) → ℕ → ℕ → Type 0
 WasFlushed shape holder log k e =
-    ((cpu : ℕ) × (h : ℕ) × (holder k ≡ Some cpu) × (stored_in (content shape (lock_named shape k) (entries (log k))) e ≡ Some h)) ⊎ (flushed_last shape (lock_named shape k) e (entries (log k)) ≡ true)
+    ((cpu : ℕ) × (h : ℕ) × (holder k ≡ Some cpu) × (stored_in (content shape (lock_named shape k) (entries (log k))) e ≡ Some h))
+    ⊎ (flushed_last shape (lock_named shape k) e (entries (log k)) ≡ true)
 
 -- What a reading of a home still says of the home that is: a local lock is still the home, or the home is the global lists and
 -- the element was flushed from the local ones; any other home is still the home.
 abbrev pub StillHome : Shape → (ℕ → Option ℕ) → (ℕ → List Tagged) → ℕ → Home → Home → Type 0
-StillHome shape holder log e now homes.Unlisted = now ≡ homes.Unlisted
-StillHome shape holder log e now (homes.In (Local c)) = (now ≡ homes.In (Local c)) ⊎ ((now ≡ homes.In Global) × IsTrue (is_lock shape (Local c)) × WasFlushed shape holder log (lock_number shape (Local c)) e)
-StillHome shape holder log e now (homes.In Global) = now ≡ homes.In Global
-StillHome shape holder log e now (homes.In (CpuLru c)) = now ≡ homes.In (CpuLru c)
-StillHome shape holder log e now (homes.In (Bucket b)) = now ≡ homes.In (Bucket b)
-StillHome shape holder log e now (homes.In (Freelist c)) = now ≡ homes.In (Freelist c)
-StillHome shape holder log e now (homes.Hand c) = now ≡ homes.Hand c
+StillHome shape holder log e now (homes.In (Local c)) =
+    (now ≡ homes.In (Local c)) ⊎ ((now ≡ homes.In Global) × IsTrue (is_lock shape (Local c)) × WasFlushed shape holder log (lock_number shape (Local c)) e)
+StillHome shape holder log e now read = now ≡ read
 
 -- a reading of the home of an element in the hand of a CPU
 pub record IsReading (shape : Shape) (holder : ℕ → Option ℕ) (log : ℕ → List Tagged) (home : ℕ → Home) (hand : List InHand) (e c : ℕ) (read : Home) : Type 0 where
@@ -365,7 +360,8 @@ abbrev pub AreNoted : Shape → List WordStep → List Hold → List Notes → T
 AreNoted shape steps [] notes = Unit {0}
 AreNoted shape steps (hold ∷ holds) [] = ⊥
 AreNoted shape steps (hold ∷ holds) (n ∷ notes) =
-    (before : List WordStep) × (behind : List WordStep) × (at : ℕ) × (steps ≡ before ++ take_step hold at ∷ behind) × (hold.lock < lock_count shape) × AreOffHeld (hold ∷ holds) behind × IsDone shape behind n × AreNoted shape before holds notes
+    (before : List WordStep) × (behind : List WordStep) × (at : ℕ) × (steps ≡ before ++ take_step hold at ∷ behind)
+    × (hold.lock < lock_count shape) × AreOffHeld (hold ∷ holds) behind × IsDone shape behind n × AreNoted shape before holds notes
 
 -- What a pass knows is so.
 pub record PassKnows (shape : Shape) (world : World) (pass : ℕ) (v : View) : Type 0 where
@@ -382,7 +378,8 @@ pub record PassKnows (shape : Shape) (world : World) (pass : ℕ) (v : View) : T
   pub carried : (e c : ℕ) → c < shape.cpus → is_in_hand_of e c v.carried ≡ (is_home_of c (world.core.home e) && (world.pass_of_cpu c == pass))
   -- and the buckets of stored hashes, on a map that evicts of each that is listed
   pub hashes : (e c : ℕ) (noted : HashIn) → c < shape.cpus → hash_known e c v.hashes ≡ Some noted → IsHashOf shape world.hash v.hand e c noted.bucket
-  pub hashed : IsTrue (is_lru shape.kind) → (e c : ℕ) (lock : DomainId) → e < shape.elements → c < shape.cpus → is_in_hand_of e c v.hand ≡ true → world.core.home e ≡ homes.In lock → IsHashed shape world.core.holder world.log world.hash v.hashes (came_at (lock_number shape lock) v.held v.notes) (lock_number shape lock) e c
+  pub hashed : IsTrue (is_lru shape.kind) → (e c : ℕ) (lock : DomainId) → e < shape.elements → c < shape.cpus → is_in_hand_of e c v.hand ≡ true → world.core.home e ≡ homes.In lock
+      → IsHashed shape world.core.holder world.log world.hash v.hashes (came_at (lock_number shape lock) v.held v.notes) (lock_number shape lock) e c
   -- and the homes that were read of them
   pub readings : (e c : ℕ) (read : Home) → c < shape.cpus → home_known e c v.readings ≡ Some read → IsReading shape world.core.holder world.log world.core.home v.hand e c read
   -- what only a pass with all CPUs keeps: turns of locks and bits
@@ -417,7 +414,8 @@ pub record Rule (shape : Shape) (s : table.State Behind View) : Type 0 where
   pub hashes : IsTrue (is_lru shape.kind) → HashesRight shape world.core.holder world.core.lists world.core.owner world.log world.hash
   -- every history replays, and leads to what lies at home
   pub legal : (k : ℕ) → IsLegal shape (lock_named shape k) (entries (world.log k))
-  pub homes : (k : ℕ) → k < lock_count shape → IsTrue (is_lock shape (lock_named shape k)) → AtHome shape k (world.core.holder k) (entries (world.log k)) (world.core.lists k) (world.lost k) (get_elem? s.homes k)
+  pub homes : (k : ℕ) → k < lock_count shape → IsTrue (is_lock shape (lock_named shape k))
+      → AtHome shape k (world.core.holder k) (entries (world.log k)) (world.core.lists k) (world.lost k) (get_elem? s.homes k)
   -- each CPU is in a pass, each turn in a strand, and what each pass knows is so
   pub seated : (c : ℕ) → c < shape.cpus → world.pass_of_cpu c < length s.views
   pub tagged : (k : ℕ) → AreTagged world (length s.views) (world.log k)

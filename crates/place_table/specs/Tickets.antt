@@ -68,10 +68,9 @@ TicketFits word drawing stand v Refused = ticket_bound ≤ v.reached
 
 -- the ticket word was read: a ticket was drawn, or there was none to be had
 abbrev pub IsTaken : Ticket → Type 0
-IsTaken Unread = ⊥
-IsTaken Drawing = ⊥
 IsTaken (Drawn t) = Unit {0}
 IsTaken Refused = Unit {0}
+IsTaken ticket = ⊥
 
 -- Each view knows a number that the ticket word has reached. The numbers of the turns of each strand ascend, and are below the next
 -- one.

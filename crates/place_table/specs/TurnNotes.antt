@@ -82,22 +82,17 @@ TellsFlush (x ∷ xs) visit = (flush_visit x ≡ visit) ⊎ TellsFlush xs visit
 -- A refill tells of each element that it flushed what a turn of the global lists inside it told. That turn told the hash that the
 -- element had in its row when the local lists were taken.
 abbrev pub FlushedFitLocal : LocalPart → List Flush → Type 0
-FlushedFitLocal (local.Pop hash e) inside = Unit {0}
 FlushedFitLocal (local.Refill hash flushed gained got) inside = All (TellsFlush inside) flushed
-FlushedFitLocal (local.Steal got first second) inside = Unit {0}
-FlushedFitLocal (local.Add hash e cursor) inside = Unit {0}
-FlushedFitLocal (local.Push e done) inside = Unit {0}
+FlushedFitLocal part inside = Unit {0}
 
 abbrev pub FlushedFitGlobal : Shape → View → GlobalPart → Type 0
 FlushedFitGlobal shape v (global.Turn flushed active inactive free shrink) = All (λ (flush : Flush). HasOnlyHash shape v flush.element flush.hash) flushed
 FlushedFitGlobal shape v (global.Push e) = Unit {0}
 
 abbrev pub FlushedFit : Shape → View → Part → List Flush → Type 0
-FlushedFit shape v (parts.Bucket part) inside = Unit {0}
-FlushedFit shape v (parts.Free part) inside = Unit {0}
 FlushedFit shape v (parts.Local part) inside = FlushedFitLocal part inside
 FlushedFit shape v (parts.Global part) inside = FlushedFitGlobal shape v part
-FlushedFit shape v (parts.Own part) inside = Unit {0}
+FlushedFit shape v part inside = Unit {0}
 
 -- Elements that are given out
 
@@ -105,20 +100,17 @@ FlushedFit shape v (parts.Own part) inside = Unit {0}
 abbrev pub given_by_local : LocalPart → List ℕ
 given_by_local (local.Pop hash e) = e ∷ []
 given_by_local (local.Refill hash flushed gained got) = option_to_list got
-given_by_local (local.Steal got first second) = []
 given_by_local (local.Add hash e cursor) = e ∷ []
-given_by_local (local.Push e done) = []
+given_by_local part = []
 
 abbrev pub given_by_own : OwnPart → List ℕ
 given_by_own (own.Turn hash active inactive shrink got) = option_to_list got
 given_by_own (own.Push e) = []
 
 abbrev pub given_out_by : Part → List ℕ
-given_out_by (parts.Bucket part) = []
-given_out_by (parts.Free part) = []
 given_out_by (parts.Local part) = given_by_local part
-given_out_by (parts.Global part) = []
 given_out_by (parts.Own part) = given_by_own part
+given_out_by part = []
 
 -- it came to the CPU in this turn, and is in the CPU's hand
 abbrev pub CameToHand : View → Hold → Notes → ℕ → Type 0

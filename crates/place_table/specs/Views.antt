@@ -24,9 +24,9 @@ use Rattle.place_words.specs.Histories.{Content, content, content_after}
 use Rattle.place_words.specs.Locks.{lock_count, lock_named, lock_number}
 use Rattle.place_words.specs.Openings.{first_spares}
 use Rattle.map_types.specs.declared.kind.MapKind.{MapKind}
-use Rattle.place_core.specs.declared.step.Lists.{Lists}
-use Rattle.place_core.specs.State.{no_lists, rows}
-use Rattle.place_core.specs.Steps.{with_free, without_free, with_row, without_row, left_by, joined_by}
+use Rattle.place_words.specs.declared.step.Lists.{Lists}
+use Rattle.place_words.specs.State.{no_lists, rows}
+use Rattle.place_words.specs.Steps.{with_free, without_free, with_row, without_row, left_by, joined_by}
 use Rattle.place_table.specs.StoredHashes.{stored_in}
 use Rattle.place_table.specs.declared.view.View.{View}
 use Rattle.place_table.specs.declared.view.Hold.{Hold}
@@ -95,19 +95,14 @@ with_reading e home (x ∷ xs) readings =
 
 -- A lock is taken: an element that was read to be on the local lists under it, and is on them no more, is on the global ones.
 abbrev pub home_then : Shape → Hold → ℕ → Home → Home
-home_then shape hold e homes.Unlisted = homes.Unlisted
 home_then shape hold e (homes.In (Local c)) =
     if (lock_number shape (Local c) == hold.lock) && (times e (rows hold.now) == 0) then homes.In Global else homes.In (Local c)
-home_then shape hold e (homes.In Global) = homes.In Global
-home_then shape hold e (homes.In (CpuLru c)) = homes.In (CpuLru c)
-home_then shape hold e (homes.In (Bucket b)) = homes.In (Bucket b)
-home_then shape hold e (homes.In (Freelist c)) = homes.In (Freelist c)
-home_then shape hold e (homes.Hand c) = homes.Hand c
+home_then shape hold e home = home
 
 abbrev pub readings_then : Shape → Hold → List HomeIn → List HomeIn
 readings_then shape hold [] = []
 readings_then shape hold (x ∷ xs) =
-    record { element = x.element; cpu = x.cpu; home = home_then shape hold x.element x.home } ∷ readings_then shape hold xs
+    record x { home = home_then shape hold x.element x.home } ∷ readings_then shape hold xs
 
 abbrev pub hash_given : ℕ → InHand → Option ℕ → List HashIn → List HashIn
 hash_given buckets x None rest = rest
@@ -142,6 +137,29 @@ abbrev pub numbers_below : ℕ → List ℕ
 numbers_below zero = []
 numbers_below (suc n) = n ∷ numbers_below n
 
+-- what a pass with no CPU knows, as what is left of one that was joined to another
+abbrev pub spent : Shape → View
+spent shape = record {
+  shape = shape;
+  cpus = [];
+  held = [];
+  hand = [];
+  carried = [];
+  hashes = [];
+  readings = [];
+  notes = [];
+  known = [];
+  bits = [];
+  ticket = tickets.Unread;
+  reached = 0;
+  refused = 0;
+  steps = [];
+  kept = [];
+  touched = [];
+  ended = [];
+  lost = [];
+}
+
 -- the first pass has all CPUs and all spares, and knows that no turn was made and no bit is set
 abbrev pub no_turns : ℕ → List Known
 no_turns zero = []
@@ -159,25 +177,11 @@ abbrev pub first_hand : MapKind → Shape → List InHand
 first_hand kind shape = spares_from 0 (first_spares shape kind)
 
 abbrev pub first_view : Shape → View
-first_view shape = record {
-  shape = shape;
+first_view shape = record (spent shape) {
   cpus = numbers_below shape.cpus;
-  held = [];
   hand = first_hand shape.kind shape;
-  carried = [];
-  hashes = [];
-  readings = [];
-  notes = [];
   known = no_turns (lock_count shape);
   bits = no_bits shape.elements;
-  ticket = tickets.Unread;
-  reached = 0;
-  refused = 0;
-  steps = [];
-  kept = [];
-  touched = [];
-  ended = [];
-  lost = [];
 }
 
 abbrev pub no_notes : Notes
@@ -212,17 +216,13 @@ learning known v = record v { known = known }
 
 -- what the ticket word is known to have reached once the turn with this ticket is over
 abbrev pub reached_by : Ticket → ℕ → ℕ
-reached_by tickets.Unread n = n
-reached_by tickets.Drawing n = n
 reached_by (tickets.Drawn t) n = suc t
-reached_by tickets.Refused n = n
+reached_by ticket n = n
 
 -- and what `refused` is then
 abbrev pub refused_by : Ticket → ℕ → ℕ
-refused_by tickets.Unread n = suc n
-refused_by tickets.Drawing n = suc n
 refused_by (tickets.Drawn t) n = n
-refused_by tickets.Refused n = suc n
+refused_by ticket n = suc n
 
 -- No turn that the pass has made has this number or a higher one: a turn that gets no ticket is told with this number, which is above
 -- those of the turns before it.
@@ -230,10 +230,8 @@ abbrev pub next : View → ℕ
 next v = v.reached + v.refused
 
 abbrev pub number_by : Ticket → ℕ → ℕ
-number_by tickets.Unread n = n
-number_by tickets.Drawing n = n
 number_by (tickets.Drawn t) n = t
-number_by tickets.Refused n = n
+number_by ticket n = n
 
 -- the number of the turn that is given back next: its ticket, where it has one
 abbrev pub ticket_of : View → ℕ
@@ -241,33 +239,19 @@ ticket_of v = number_by v.ticket (next v)
 
 -- the entry with it
 abbrev pub numbered_entry : View → Entry → Entry
-numbered_entry v e = record { ticket = ticket_of v; cpu = e.cpu; call = e.call; part = e.part }
+numbered_entry v e = record e { ticket = ticket_of v }
 
 -- a hold with other lists
 abbrev pub hold_with : Hold → Lists → Hold
-hold_with hold now = record { lock = hold.lock; cpu = hold.cpu; log = hold.log; now = now; lost = hold.lost }
+hold_with hold now = record hold { now = now }
 
 -- one lock more is held
 abbrev pub holding : ℕ → Hold → View → View
-holding at hold v = record {
-  shape = v.shape;
-  cpus = v.cpus;
+holding at hold v = record v {
   held = hold ∷ v.held;
-  hand = v.hand;
-  carried = v.carried;
-  hashes = v.hashes;
   readings = readings_then v.shape hold v.readings;
   notes = no_notes ∷ v.notes;
-  known = v.known;
-  bits = v.bits;
-  ticket = v.ticket;
-  reached = v.reached;
-  refused = v.refused;
-  steps = v.steps;
-  kept = v.kept;
   touched = touching at hold.lock (Some 0) (1 + hold.cpu) v;
-  ended = v.ended;
-  lost = v.lost;
 }
 
 abbrev pub holds_below : List Hold → List Hold
@@ -315,14 +299,8 @@ owners_probed e Removed below = below
 owners_probed e (Held holder) below = with_owner_read e (owners.Hand holder) below
 
 abbrev pub passed_on_by_bucket : BucketPart → List Notes → List Notes
-passed_on_by_bucket (Lookup side key got) below = below
-passed_on_by_bucket (Update side flags key value offer put) below = below
-passed_on_by_bucket (Delete key removed) below = below
-passed_on_by_bucket (Take key taken) below = below
-passed_on_by_bucket (Next key found) below = below
-passed_on_by_bucket (First key) below = below
-passed_on_by_bucket (Walk remove room result) below = below
 passed_on_by_bucket (Evict e probed) below = owners_probed e probed below
+passed_on_by_bucket part below = below
 
 -- What a turn of the global lists flushed belongs to the turn of the local lists around it.
 abbrev pub with_flushed : List Flush → List Notes → List Notes
@@ -336,82 +314,41 @@ passed_on_by_global (global.Push e) below = below
 -- what a turn hands on to the notes of the turn around it
 abbrev pub passed_on : Part → List Notes → List Notes
 passed_on (parts.Bucket part) below = passed_on_by_bucket part below
-passed_on (parts.Free part) below = below
-passed_on (parts.Local part) below = below
 passed_on (parts.Global part) below = passed_on_by_global part below
-passed_on (parts.Own part) below = below
+passed_on part below = below
+
+-- What is known of hashes once a turn is given back: on a map that evicts, those of what came in it too.
+abbrev pub hashes_after : Hold → Entry → View → List HashIn
+hashes_after hold entry v =
+    if is_lru v.shape.kind then
+    hashes_given hold.cpu v.shape.buckets (content_after v.shape entry.cpu entry.part (content v.shape (lock_named v.shape hold.lock) hold.log)) (came_last v.notes) v.hand v.hashes
+    else v.hashes
 
 -- the lock taken last is given back with this entry, and these steps are recorded then
 abbrev pub given : ℕ → Hold → Entry → List StrandStep → View → View
-given at hold entry kept v = record {
-  shape = v.shape;
-  cpus = v.cpus;
+given at hold entry kept v = record v {
   held = holds_below v.held;
-  hand = v.hand;
-  carried = v.carried;
-  hashes = if is_lru v.shape.kind then hashes_given hold.cpu v.shape.buckets (content_after v.shape entry.cpu entry.part (content v.shape (lock_named v.shape hold.lock) hold.log)) (came_last v.notes) v.hand v.hashes else v.hashes;
-  readings = v.readings;
+  hashes = hashes_after hold entry v;
   notes = passed_on entry.part (notes_below v.notes);
   known = learned hold entry v;
-  bits = v.bits;
   ticket = tickets.Unread;
   reached = reached_by v.ticket v.reached;
   refused = refused_by v.ticket v.refused;
   steps = v.steps ++ turned hold.lock hold.log entry ∷ [];
   kept = kept;
   touched = touching at hold.lock None 0 v;
-  ended = v.ended;
-  lost = v.lost;
 }
 
 -- and without a part: the record of its turns is lost
 abbrev pub with_lost : List ℕ → View → View
-with_lost lost v = record {
-  shape = v.shape;
-  cpus = v.cpus;
-  held = v.held;
-  hand = v.hand;
-  carried = v.carried;
-  hashes = v.hashes;
-  readings = v.readings;
-  notes = v.notes;
-  known = v.known;
-  bits = v.bits;
-  ticket = v.ticket;
-  reached = v.reached;
-  refused = v.refused;
-  steps = v.steps;
-  kept = v.kept;
-  touched = v.touched;
-  ended = v.ended;
-  lost = lost;
-}
+with_lost lost v = record v { lost = lost }
 
 abbrev pub losing : ℕ → Hold → Entry → View → View
 losing at hold entry v = with_lost (hold.lock ∷ v.lost) (given at hold entry v.kept v)
 
 -- other notes and other bits known
 abbrev pub noted : List Notes → List BitSeen → List WordStep → List HomeIn → View → View
-noted notes bits touched readings v = record {
-  shape = v.shape;
-  cpus = v.cpus;
-  held = v.held;
-  hand = v.hand;
-  carried = v.carried;
-  hashes = v.hashes;
-  readings = readings;
-  notes = notes;
-  known = v.known;
-  bits = bits;
-  ticket = v.ticket;
-  reached = v.reached;
-  refused = v.refused;
-  steps = v.steps;
-  kept = v.kept;
-  touched = touched;
-  ended = v.ended;
-  lost = v.lost;
-}
+noted notes bits touched readings v = record v { notes = notes; bits = bits; touched = touched; readings = readings }
 
 -- a note belongs to the lock taken last, and is dropped where none is held
 abbrev pub with_mark : ℕ → List Notes → List Notes
@@ -462,7 +399,7 @@ now_at k (hold ∷ holds) = if hold.lock == k then hold.now else now_at k holds
 abbrev pub with_now : ℕ → Lists → List Hold → List Hold
 with_now k now [] = []
 with_now k now (hold ∷ holds) =
-    if hold.lock == k then record { lock = hold.lock; cpu = hold.cpu; log = hold.log; now = now; lost = hold.lost } ∷ holds
+    if hold.lock == k then record hold { now = now } ∷ holds
     else hold ∷ with_now k now holds
 
 -- an element comes from the free list of a lock, or to its lists from another home, in the turn of that lock
@@ -482,10 +419,9 @@ without_in_hand e cpu (x ∷ xs) =
 
 -- one that comes from one home to another, which is noted where that is a lock
 abbrev pub with_come_home : Shape → Home → Home → ℕ → List Hold → List Notes → List Notes
-with_come_home shape from homes.Unlisted e held notes = notes
 with_come_home shape from (homes.In lock) e held notes =
     if home_code from == home_code (homes.In lock) then notes else with_came (lock_number shape lock) e held notes
-with_come_home shape from (homes.Hand cpu) e held notes = notes
+with_come_home shape from to e held notes = notes
 
 -- one that goes from local lists to the global ones, which is noted of the turn of the local lists
 abbrev pub with_off : ℕ → ℕ → List Hold → List Notes → List Notes
@@ -494,44 +430,23 @@ with_off k e (hold ∷ holds) [] = []
 with_off k e (hold ∷ holds) (n ∷ notes) = if hold.lock == k then record n { off = e ∷ n.off } ∷ notes else n ∷ with_off k e holds notes
 
 abbrev pub left_local : Shape → Home → ℕ → List Hold → List Notes → List Notes
-left_local shape homes.Unlisted e held notes = notes
 left_local shape (homes.In (Local cpu)) e held notes = with_off (lock_number shape (Local cpu)) e held notes
-left_local shape (homes.In Global) e held notes = notes
-left_local shape (homes.In (CpuLru cpu)) e held notes = notes
-left_local shape (homes.In (Bucket bucket)) e held notes = notes
-left_local shape (homes.In (Freelist cpu)) e held notes = notes
-left_local shape (homes.Hand cpu) e held notes = notes
+left_local shape from e held notes = notes
 
 abbrev pub with_left_home : Shape → Home → Home → ℕ → List Hold → List Notes → List Notes
-with_left_home shape from homes.Unlisted e held notes = notes
-with_left_home shape from (homes.In (Local cpu)) e held notes = notes
 with_left_home shape from (homes.In Global) e held notes = left_local shape from e held notes
-with_left_home shape from (homes.In (CpuLru cpu)) e held notes = notes
-with_left_home shape from (homes.In (Bucket bucket)) e held notes = notes
-with_left_home shape from (homes.In (Freelist cpu)) e held notes = notes
-with_left_home shape from (homes.Hand cpu) e held notes = notes
+with_left_home shape from to e held notes = notes
 
 -- other lists lie under locks that are held, other elements are in hand or carried, and other notes are made
 abbrev pub with_places : List Hold → List InHand → List InHand → List HomeIn → List Notes → List WordStep → View → View
-with_places held hand carried readings notes touched v = record {
-  shape = v.shape;
-  cpus = v.cpus;
+with_places held hand carried readings notes touched v = record v {
   held = held;
   hand = hand;
   carried = carried;
   hashes = kept_hashes hand v.hashes;
   readings = readings;
   notes = notes;
-  known = v.known;
-  bits = v.bits;
-  ticket = v.ticket;
-  reached = v.reached;
-  refused = v.refused;
-  steps = v.steps;
-  kept = v.kept;
   touched = touched;
-  ended = v.ended;
-  lost = v.lost;
 }
 
 -- by a step that leaves a word so, other lists lie under one lock that is held, other elements are in hand, and these notes are
@@ -547,7 +462,8 @@ now_under lock v = now_at (lock_number v.shape lock) v.held
 -- the head of a lock's free list comes to a CPU's hand, which is noted in the turn of that lock
 abbrev pub claimed : ℕ → DomainId → ℕ → ℕ → View → View
 claimed at lock e cpu v =
-    moved at (lock_number v.shape lock) (with_row lock e (without_free e (now_under lock v))) (with_in_hand e cpu v.hand) (with_came (lock_number v.shape lock) e v.held v.notes) (owner_word v.shape e) (1 + cpu) v
+    moved at (lock_number v.shape lock) (with_row lock e (without_free e (now_under lock v))) (with_in_hand e cpu v.hand)
+    (with_came (lock_number v.shape lock) e v.held v.notes) (owner_word v.shape e) (1 + cpu) v
 
 -- an element in a CPU's hand goes to the head of a lock's free list
 abbrev pub settled : ℕ → DomainId → ℕ → ℕ → View → View
@@ -571,35 +487,34 @@ with_hash_of bucket e cpu v =
 -- an element of a bucket comes to a CPU's hand
 abbrev pub detached : ℕ → ℕ → ℕ → ℕ → View → View
 detached at bucket e cpu v =
-    with_hash_of bucket e cpu (moved at (lock_number v.shape (Bucket bucket)) (without_row e (now_under (Bucket bucket) v)) (with_in_hand e cpu v.hand) v.notes (owner_word v.shape e) (1 + cpu) v)
+    with_hash_of bucket e cpu
+    (moved at (lock_number v.shape (Bucket bucket)) (without_row e (now_under (Bucket bucket) v)) (with_in_hand e cpu v.hand) v.notes (owner_word v.shape e) (1 + cpu) v)
 
 -- An element leaves a home or comes to one: the lists of a lock that is held, or the hand of a CPU that carries it.
 abbrev pub held_without : Shape → Home → Owner → ℕ → List Hold → List Hold
-held_without shape homes.Unlisted owner e held = held
 held_without shape (homes.In lock) owner e held =
     with_now (lock_number shape lock) (left_by owner e (now_at (lock_number shape lock) held)) held
-held_without shape (homes.Hand cpu) owner e held = held
+held_without shape from owner e held = held
 
 abbrev pub held_with : Shape → Home → Owner → ℕ → List Hold → List Hold
-held_with shape homes.Unlisted owner e held = held
 held_with shape (homes.In lock) owner e held =
     with_now (lock_number shape lock) (joined_by lock owner e (now_at (lock_number shape lock) held)) held
-held_with shape (homes.Hand cpu) owner e held = held
+held_with shape to owner e held = held
 
 abbrev pub carried_without : Home → ℕ → List InHand → List InHand
-carried_without homes.Unlisted e carried = carried
-carried_without (homes.In lock) e carried = carried
 carried_without (homes.Hand cpu) e carried = without_in_hand e cpu carried
+carried_without from e carried = carried
 
 abbrev pub carried_with : Home → ℕ → List InHand → List InHand
-carried_with homes.Unlisted e carried = carried
-carried_with (homes.In lock) e carried = carried
 carried_with (homes.Hand cpu) e carried = with_in_hand e cpu carried
+carried_with to e carried = carried
 
 -- an element of this owner goes from one home to the head of another, which is noted in the turn of a lock that it comes to
 abbrev pub rehomed : ℕ → Home → Home → Owner → ℕ → View → View
 rehomed at from to owner e v =
-    with_places (held_with v.shape to owner e (held_without v.shape from owner e v.held)) v.hand (carried_with to e (carried_without from e v.carried)) (without_readings e v.readings) (with_come_home v.shape from to e v.held (with_left_home v.shape from to e v.held v.notes)) (touching at (home_word v.shape e) None (home_code to) v) v
+    with_places (held_with v.shape to owner e (held_without v.shape from owner e v.held)) v.hand (carried_with to e (carried_without from e v.carried))
+    (without_readings e v.readings) (with_come_home v.shape from to e v.held (with_left_home v.shape from to e v.held v.notes))
+    (touching at (home_word v.shape e) None (home_code to) v) v
 
 -- the CPUs of a pass without one
 abbrev pub without_cpu : ℕ → List ℕ → List ℕ
@@ -626,97 +541,52 @@ all_strands v = v.ended ++ current_strand v ∷ []
 abbrev pub is_recorded : Ended → Bool
 is_recorded strand = not (length strand.kept == 0)
 
--- A CPU is split off. What stays: the other CPUs, with what is in their hands, and a new strand. What only a pass with all CPUs
--- knows is known no more.
-abbrev pub split_from : ℕ → View → View
-split_from cpu v = record {
-  shape = v.shape;
-  cpus = without_cpu cpu v.cpus;
+-- A new strand begins, with no lock held. What only a pass with all CPUs knows is known no more.
+abbrev pub begun_anew : View → View
+begun_anew v = record v {
   held = [];
-  hand = in_other_hands cpu v.hand;
-  carried = in_other_hands cpu v.carried;
-  hashes = kept_hashes (in_other_hands cpu v.hand) v.hashes;
-  readings = kept_readings (in_other_hands cpu v.hand) v.readings;
   notes = [];
   known = [];
   bits = [];
   ticket = tickets.Unread;
-  reached = v.reached;
-  refused = v.refused;
   steps = [];
   kept = [];
   touched = [];
+}
+
+-- A CPU is split off. What stays: the other CPUs, with what is in their hands, and a new strand.
+abbrev pub split_from : ℕ → View → View
+split_from cpu v = record (begun_anew v) {
+  cpus = without_cpu cpu v.cpus;
+  hand = in_other_hands cpu v.hand;
+  carried = in_other_hands cpu v.carried;
+  hashes = kept_hashes (in_other_hands cpu v.hand) v.hashes;
+  readings = kept_readings (in_other_hands cpu v.hand) v.readings;
   ended = [];
-  lost = v.lost;
 }
 
 -- What is split off: the CPU, with what is in its hand, a new strand, and the strand that was under way, which ends, with all
 -- that had ended before it.
 abbrev pub split_off : ℕ → View → View
-split_off cpu v = record {
-  shape = v.shape;
+split_off cpu v = record (begun_anew v) {
   cpus = cpu ∷ [];
-  held = [];
   hand = in_hand_of cpu v.hand;
   carried = in_hand_of cpu v.carried;
   hashes = kept_hashes (in_hand_of cpu v.hand) v.hashes;
   readings = kept_readings (in_hand_of cpu v.hand) v.readings;
-  notes = [];
-  known = [];
-  bits = [];
-  ticket = tickets.Unread;
-  reached = v.reached;
-  refused = v.refused;
-  steps = [];
-  kept = [];
-  touched = [];
   ended = all_strands v;
-  lost = v.lost;
 }
 
--- A pass takes in another's CPUs, with what is in their hands. The strands of both end, and a new one begins. What only a pass
--- with all CPUs knows is known no more.
+-- A pass takes in another's CPUs, with what is in their hands. The strands of both end, and a new one begins.
 abbrev pub joined : View → View → View
-joined v other = record {
-  shape = v.shape;
+joined v other = record (begun_anew v) {
   cpus = v.cpus ++ other.cpus;
-  held = [];
   hand = v.hand ++ other.hand;
   carried = v.carried ++ other.carried;
   hashes = v.hashes ++ other.hashes;
   readings = v.readings ++ other.readings;
-  notes = [];
-  known = [];
-  bits = [];
-  ticket = tickets.Unread;
   reached = max v.reached other.reached;
   refused = v.refused + other.refused;
-  steps = [];
-  kept = [];
-  touched = [];
   ended = all_strands v ++ all_strands other;
   lost = v.lost ++ other.lost;
-}
-
--- what is left of the other
-abbrev pub spent : Shape → View
-spent shape = record {
-  shape = shape;
-  cpus = [];
-  held = [];
-  hand = [];
-  carried = [];
-  hashes = [];
-  readings = [];
-  notes = [];
-  known = [];
-  bits = [];
-  ticket = tickets.Unread;
-  reached = 0;
-  refused = 0;
-  steps = [];
-  kept = [];
-  touched = [];
-  ended = [];
-  lost = [];
 }

@@ -5,7 +5,7 @@ use Rattle.map_types.specs.declared.attr.Shape.{Shape}
 use Rattle.place_words.specs.Codes.{owner_code, home_code}
 use Rattle.place_words.specs.Locks.{lock_count}
 use Rattle.place_words.specs.Openings.{opening_owner}
-use Rattle.place_core.specs.Opening.{opening_home}
+use Rattle.place_words.specs.OpeningState.{opening_home}
 
 -- First those of the locks, then the owners of the elements, their homes, and their bits, and last the one that tickets are drawn
 -- from.

@@ -9,7 +9,7 @@ ghost use Rattle.place_words.specs.Codes.{owner_code, HasOwnerCode};
 ghost use Rattle.place_words.specs.Locks.{lock_count};
 ghost use Rattle.place_words.specs.Openings.{first_spares};
 ghost use Rattle.place_words.specs.Sets.{new_set};
-ghost use Rattle.place_core.specs.OpeningView.{AreOpeningOwners};
+ghost use Rattle.place_words.specs.OpeningState.{AreOpeningOwners};
 ghost use Rattle.place_table.specs.Contents.{FitsSet, set_told};
 ghost use Rattle.place_table.specs.Opening.{IsFirstContent, IsFirstSlot, AreFirstSlots, AreBodiesOf};
 ghost use Rattle.place_table.specs.Words.{opening_words, opening_home_codes};
@@ -26,8 +26,10 @@ use local_lists::LocalSet;
 use lru_lists::ListSet;
 use map_types::{DomainId, MapKind, NoMemory, Shape};
 use percpu_values::BoxedBody;
-use place_core::{free_at_first, home_at_first, owners_at_first, spares_at_first};
-use place_words::{Owner, home_code, is_lock, lock_named, owner_code};
+use place_words::{
+    Owner, free_at_first, home_at_first, home_code, is_lock, lock_named, owner_code,
+    owners_at_first, spares_at_first,
+};
 use std::alloc::Global;
 
 impl PlaceTable {
@@ -62,6 +64,11 @@ impl PlaceTable {
             )),
             Err(_) => Err(NoMemory),
         }
+    }
+
+    /// The allocator that the table was created with, and keeps. Entries take their memory from it.
+    pub fn alloc(&self) -> Global {
+        self.alloc
     }
 }
 

@@ -3,27 +3,13 @@
 
 ghost use Rattle.std.specs.Prelude.{◌≡◌, ◌<◌, true, IsTrue};
 ghost use Rattle.place_words.specs.declared.home.Home as homes;
-ghost use Rattle.place_words.specs.Codes.{home_code};
+ghost use Rattle.place_words.specs.Codes.{HasHomeCode};
 ghost use Rattle.place_table.specs.Views.{is_among};
 ghost use Rattle.place_table.specs.Words.{word_count, home_word};
 ghost use Rattle.place_table.specs.Plays.{IsKnownHome, MayGoHome, Rehomes};
 
 use crate::rule::{Rehoming, SharedTable, TableSeat, Way};
-use map_types::DomainId;
-use place_words::Home;
-
-/// The number by which a home is kept, for any home.
-fn code_of(home: Home) -> u64
-    ensures { result ≡ home_code home }
-{
-    match home {
-        Home::Hand(cpu) => 1 + cpu as u64,
-        Home::In(DomainId::Local(cpu)) => 32 + cpu as u64,
-        Home::In(DomainId::Global) => 64,
-        Home::In(DomainId::CpuLru(cpu)) => 96 + cpu as u64,
-        Home::Unlisted | Home::In(DomainId::Bucket(_) | DomainId::Freelist(_)) => 0,
-    }
-}
+use place_words::{Home, home_code};
 
 /// Takes an element from the home that it has to the head of another, on a map whose CPUs share its lists.
 pub(crate) fn rehome_word<N: Way>(
@@ -38,6 +24,7 @@ pub(crate) fn rehome_word<N: Way>(
     requires words { (shared.now.table_id.words ≡ word_count shared.now.key)
         × (word ≡ home_word shared.now.key element) }
     requires way { (N.element ≡ element) × (N.to ≡ to) }
+    requires code { HasHomeCode to }
     requires element { IsTrue shared.now.key.common × (element < shared.now.key.elements) }
     requires cpu { is_among cpu seat.old.me.0.cpus ≡ true }
     requires home { (from : homes.Home)
@@ -49,5 +36,5 @@ pub(crate) fn rehome_word<N: Way>(
     // Only the clauses name these.
     let _ = element;
     let _ = cpu;
-    shared.store::<Rehoming<N>>(seat, word, code_of(to));
+    shared.store::<Rehoming<N>>(seat, word, home_code(to));
 }

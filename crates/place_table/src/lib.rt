@@ -2,17 +2,17 @@
 //! elements, and the history of each lock.
 #![tactic(auto)]
 
+mod body_copies;
 mod close;
 mod closed;
 mod content;
 mod cpus;
 mod create;
+mod gate_points;
 mod homes;
-mod kept;
 mod laws;
 mod owners;
 mod pass;
-mod points;
 mod read_slots;
 mod rule;
 mod spares;
@@ -24,9 +24,9 @@ mod view;
 
 pub use closed::Closed;
 pub use content::{Behind, Content, Listing};
+pub use gate_points::{At, Points};
 pub use laws::{told_laws, word_laws};
 pub use pass::Pass;
-pub use points::{At, Points};
 pub use rule::{
     About, Caller, Clearing, Cut, Cutting, Deed, Giving, Law, Losing, Marking, Merge, Merging,
     Moving, ReadingBit, ReadingHome, ReadingOwner, Rehoming, SharedTable, TableSeat, Trying, Turn,

@@ -15,9 +15,9 @@ ghost use Rattle.place_table.specs.Contents.{set_told};
 ghost use Rattle.place_table.specs.Leaving.{Logs, bodies_in, numbers_in, set_in, locals_in, freelists_in, sets_in, all_locals_in, spares_in, HasSizedBodies, IsHistory, HaveHistories, AreContents, AreKept, finished_told, AreTold, WasLeft};
 ghost use Rattle.place_table.specs.Passes.{AreFinished};
 
+use crate::body_copies::bucket_copy;
 use crate::closed::Closed;
 use crate::content::{Content, Listing};
-use crate::kept::bucket_copy;
 use crate::strands::FinishedStrand;
 use cpu_freelist::Freelist;
 use local_lists::LocalSet;

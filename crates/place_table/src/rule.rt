@@ -92,7 +92,7 @@ impl<N: Caller> Play<Behind, View> for Losing<N> {
 /// the word that tells it, with what it is from then on.
 pub trait Deed {
     ghost use Rattle.std.specs.Prelude.{ℕ, List};
-    ghost use Rattle.place_core.specs.declared.step.Lists.{Lists};
+    ghost use Rattle.place_words.specs.declared.step.Lists.{Lists};
     ghost use Rattle.place_table.specs.declared.view.InHand.{InHand};
     ghost use Rattle.place_table.specs.declared.view.HashIn.{HashIn};
     ghost use Rattle.place_table.specs.declared.view.Notes.{Notes};
@@ -114,7 +114,7 @@ pub trait Deed {
 
 impl Deed for Brand {
     ghost use Rattle.std.specs.Prelude.{[]};
-    ghost use Rattle.place_core.specs.State.{no_lists};
+    ghost use Rattle.place_words.specs.State.{no_lists};
 
     ghost lock = { 0 };
 

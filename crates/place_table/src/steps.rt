@@ -5,7 +5,7 @@ ghost use Rattle.atomic_table.specs.Table.{rest};
 ghost use Rattle.map_types.specs.declared.kind.DomainId.TheVariants as locks;
 ghost use Rattle.place_words.specs.Locks.{lock_count, lock_named, lock_number, is_lock, rank_of};
 ghost use Rattle.map_types.specs.ElementLists.{IsIn};
-ghost use Rattle.place_core.specs.State.{rows};
+ghost use Rattle.place_words.specs.State.{rows};
 ghost use Rattle.place_table.specs.declared.content.Behind.{Behind};
 ghost use Rattle.place_table.specs.declared.content.Content.{Content};
 ghost use Rattle.place_table.specs.declared.view.Hold.{Hold};

@@ -8,10 +8,10 @@ ghost use Rattle.place_table.specs.Words.{word_count, owner_word, home_word, bit
 ghost use Rattle.place_table.specs.Passes.{IsPassOf, HasBegun, HasOnlySpares, begun, CanTake, TookLock, CanGive, CanGiveSome, MayGiveBack, Gave, GaveSome, GaveBack, CanClaim, Claimed, CanSettle, Settled, CanAttach, Attached, Detached, CanMark, Marked, CanRehome, Rehomed, CanClear, CanLook, Cleared, SawBit, SawOwner, SawHome, SawTicket, IsInNoCall};
 
 use crate::content::{Behind, Content};
+use crate::gate_points::{At, Points};
 use crate::homes::rehome_word;
 use crate::owners::{attach_word, claim_word, detach_word, settle_word};
 use crate::pass::Pass;
-use crate::points::{At, Points};
 use crate::rule::Law;
 use crate::steps::{
     Recorded, clear_bit, give_lock, kept_with, lose_lock, read_bit, read_home, read_owner,

@@ -1,8 +1,7 @@
 //! What a pass knows. No value of these types is made: they are what contracts see.
 
 use map_types::Shape;
-use place_core::Lists;
-use place_words::{Entry, Flush, Home, Owner, StrandStep};
+use place_words::{Entry, Flush, Home, Lists, Owner, StrandStep};
 use std::collections::LinkedList;
 
 /// A lock that is held: its number, the CPU, the turns before, what lies there at this step, and whether the record of

@@ -88,3 +88,15 @@ pub mod BodiesKept
 pub mod Balances
 pub mod PlainRests
 pub mod PlainOpening
+pub mod ElementLemmas
+pub mod FrameLemmas
+pub mod RowLemmas
+pub mod OwnerSteps
+pub mod HomeSteps
+pub mod LockSteps
+pub mod OpeningLemmas
+pub mod OpeningLaws
+pub mod StartLemmas
+pub mod StepLaws
+pub mod TotalLemmas
+pub mod WholeLemmas

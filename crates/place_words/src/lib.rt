@@ -1,6 +1,6 @@
 //! Where an element is, in words: who owns it, where its home is, the numbers by which a shared table keeps both, and
-//! the order in which locks are taken. And what is recorded of the turns of each lock, with the rules by which each
-//! changes what lies under it.
+//! the order in which locks are taken. Where all elements of a map are at first, and by which steps of its CPUs they
+//! move. And what is recorded of the turns of each lock, with the rules by which each changes what lies under it.
 #![tactic(auto)]
 
 mod bucket_part;
@@ -12,8 +12,11 @@ mod home;
 mod laws;
 mod list_part;
 mod lock;
+mod opening;
 mod owner;
 mod packed;
+mod shares;
+mod step;
 mod visits;
 
 pub use bucket_part::{BucketPart, NextFound, Put, Seen, Walked};
@@ -24,6 +27,9 @@ pub use home::{Home, home_code, home_of_code};
 pub use laws::{bound_laws, keep_laws, serial_laws};
 pub use list_part::{GlobalPart, LocalPart, OwnPart, Stolen};
 pub use lock::{is_lock, lock_named, lock_number, rank};
-pub use owner::{Owner, owner_code, owner_of_code};
+pub use opening::{free_at_first, home_at_first, owners_at_first, spares_at_first};
+pub use owner::{Owner, is_free, owner_code, owner_of_code};
 pub use packed::{PackedGlobal, PackedOwn};
+pub use shares::share;
+pub use step::{Lists, Step};
 pub use visits::{Flush, Look, ShrinkNote, Try, Visit};

@@ -2,6 +2,7 @@
 
 ghost use Rattle.std.specs.Prelude.{◌≡◌, ◌≢◌, MatchOption};
 ghost use Rattle.place_words.specs.Codes.{HasOwnerCode, owner_code};
+ghost use Rattle.place_words.specs.Openings.{is_free};
 ghost use Rattle.place_words.specs.declared.owner.Owner as owners;
 
 /// Who has an element.
@@ -13,6 +14,13 @@ pub enum Owner {
     Bucket(u32),
     /// A CPU works on it, or keeps it as its spare. CPUs are numbered below 16.
     Hand(u32),
+}
+
+/// Whether an owner is none: the element is free.
+pub fn is_free(owner: Owner) -> bool
+    ensures { result ≡ is_free owner }
+{
+    matches!(owner, Owner::Free)
 }
 
 /// The number by which an owner is kept: 0 for free, 1 and the CPU for a hand, 32 and the bucket for a bucket.

@@ -4,7 +4,7 @@ use Rattle.place_words.specs.declared.bucket_part.BucketPart.TheVariants.{Evict}
 use Rattle.place_words.specs.declared.bucket_part.Seen.TheVariants.{Held}
 use Rattle.place_words.specs.declared.history.Part.TheVariants as parts
 use Rattle.place_words.specs.declared.owner.Owner.{Owner}
-use Rattle.place_core.specs.Places.{MayOwn}
+use Rattle.place_words.specs.Places.{MayOwn}
 use Rattle.place_table.specs.declared.content.Content.TheVariants as contents
 use Rattle.place_table.specs.Passes.{PassView, CanGive, Gave}
 use Rattle.lru_ops.proofs.EvictTurns.{is_in_hand, not_own_hand, can_give_held, ended_held}

@@ -1,5 +1,5 @@
 use Rattle.std.proofs.Common.{refl, ◌≡◌, inl, inr, ◌∙◌, subst}
-use Rattle.map_run.specs.Writes.{AddsWhole, AddsPrefix}
+use Rattle.run_ends.specs.Writes.{AddsWhole, AddsPrefix}
 use Rattle.map_run.specs.Finish.{Ran, OutOfMemory, form_of, out, script_run}
 use Rattle.map_run.proofs.FewEntries.{IsScript-read_as}
 use Rattle.map_run.proofs.finish.end_with_run.Goals as goal

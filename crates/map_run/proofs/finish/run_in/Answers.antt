@@ -1,7 +1,7 @@
 use Rattle.std.proofs.Common.{sym, subst}
 use Rattle.std.specs.Prelude.{All}
 use Rattle.map_script.specs.declared.script.Script.{Script}
-use Rattle.map_run.specs.Served.{HasFewEntries}
+use Rattle.serial_laws.specs.Served.{HasFewEntries}
 use Rattle.map_run.proofs.FewEntries.{generated_few}
 use Rattle.map_run.proofs.finish.run_in.Goals as goal
 

@@ -7,7 +7,7 @@ use Rattle.map_types.specs.declared.call.Call.{Call}
 use Rattle.map_types.specs.declared.reply.Reply.{Reply}
 use Rattle.map_batch.specs.Calls.{table_of}
 use Rattle.place_table.specs.Passes.{TableView, CanJoin}
-use Rattle.map_run.specs.Served.{IsServedCall}
+use Rattle.serial_laws.specs.Served.{IsServedCall}
 use Rattle.map_run.proofs.Joining.{HaveJoined, WorkerAt, none_joined, can_join, joined_more, worker_at, raced}
 use Rattle.map_run.proofs.race.join_all.Goals as goal
 

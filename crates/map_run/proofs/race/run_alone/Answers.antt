@@ -1,7 +1,7 @@
 use Rattle.std.proofs.Common.{◌-◌, ◌∷◌, ◌++◌, [], None, ◌∙◌, arith}
 use Rattle.std.proofs.lemmas.List.Elements.{All-nil}
 use Rattle.map_batch.specs.Calls.{table_of}
-use Rattle.map_run.specs.Served.{IsServedCall}
+use Rattle.serial_laws.specs.Served.{IsServedCall}
 use Rattle.map_run.proofs.LoneCalls.{lone_is}
 use Rattle.map_run.proofs.RunPhases.{kept_span}
 use Rattle.map_run.proofs.race.run_alone.Goals as goal

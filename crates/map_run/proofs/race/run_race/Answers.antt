@@ -1,4 +1,4 @@
-use Rattle.map_run.proofs.ServedLemmas.{well_formed, IsServed-from_script}
+use Rattle.serial_laws.proofs.ServedLemmas.{well_formed, IsServed-from_script}
 use Rattle.map_run.proofs.race.run_race.Goals as goal
 
 pub race_script-requires-clause-shape : goal.race_script-requires-clause-shape

@@ -5,7 +5,7 @@ use Rattle.map_batch.specs.Calls.{table_of}
 use Rattle.place_words.specs.AtRest.{IsStart}
 use Rattle.map_run.specs.ByLogs.{RunStart, HaveRunFrom}
 use Rattle.map_run.specs.Phased.{HasGone, IsWhole}
-use Rattle.map_run.specs.Served.{IsServedCall}
+use Rattle.serial_laws.specs.Served.{IsServedCall}
 use Rattle.map_run.specs.Work.{HasWorked}
 use Rattle.map_run.proofs.serial.run_calls.Given as goal
 

@@ -1,5 +1,5 @@
-use Rattle.map_run.proofs.SerialLaws.{serial_laws}
-use Rattle.map_run.proofs.ServedLemmas.{well_formed, IsServed-from_script}
+use Rattle.serial_laws.proofs.SerialLaws.{serial_laws}
+use Rattle.serial_laws.proofs.ServedLemmas.{well_formed, IsServed-from_script}
 use Rattle.map_run.proofs.serial.run_serial.Goals as goal
 
 pub run_script-requires-clause-shape : goal.run_script-requires-clause-shape

@@ -1,5 +1,5 @@
-use Rattle.place_core.proofs.TotalLemmas.{totals}
-use Rattle.place_core.proofs.WholeLemmas.{each_in_one_place}
+use Rattle.place_words.proofs.TotalLemmas.{totals}
+use Rattle.place_words.proofs.WholeLemmas.{each_in_one_place}
 use Rattle.place_core.proofs.laws.place_laws.Goals as goal
 
 pub returns-clause-in_one_place : goal.returns-clause-in_one_place

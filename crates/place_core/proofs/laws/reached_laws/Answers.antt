@@ -1,7 +1,7 @@
 use Rattle.map_types.proofs.CreationLemmas.{bounds_of_shape}
-use Rattle.place_core.proofs.StepLaws.{reached_placed, reached_ranked}
-use Rattle.place_core.proofs.TotalLemmas.{totals}
-use Rattle.place_core.proofs.WholeLemmas.{each_in_one_place}
+use Rattle.place_words.proofs.StepLaws.{reached_placed, reached_ranked}
+use Rattle.place_words.proofs.TotalLemmas.{totals}
+use Rattle.place_words.proofs.WholeLemmas.{each_in_one_place}
 use Rattle.place_core.proofs.laws.reached_laws.Goals as goal
 
 pub returns-clause-placed : goal.returns-clause-placed

@@ -1,5 +1,5 @@
 use Rattle.map_types.proofs.CreationLemmas.{bounds_of_shape}
-use Rattle.place_core.proofs.StepLaws.{core_step_placed, core_step_ranked}
+use Rattle.place_words.proofs.StepLaws.{core_step_placed, core_step_ranked}
 use Rattle.place_core.proofs.laws.step_laws.Goals as goal
 
 pub returns-clause-placed : goal.returns-clause-placed

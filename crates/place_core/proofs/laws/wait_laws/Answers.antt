@@ -1,4 +1,4 @@
-use Rattle.place_core.proofs.LockSteps.{never_stuck}
+use Rattle.place_words.proofs.LockSteps.{never_stuck}
 use Rattle.place_core.proofs.laws.wait_laws.Goals as goal
 
 pub returns : goal.returns

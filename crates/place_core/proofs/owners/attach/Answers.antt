@@ -4,7 +4,7 @@ use Rattle.place_words.specs.declared.owner.Owner.TheVariants as owners
 use Rattle.place_words.specs.declared.home.Home.{Home}
 use Rattle.place_words.specs.declared.home.Home.TheVariants as homes
 use Rattle.place_core.specs.Answers.{view_of}
-use Rattle.place_core.specs.Steps.{IsLockHome}
+use Rattle.place_words.specs.Steps.{IsLockHome}
 use Rattle.place_core.proofs.CoreLemmas.{reads, did_attach, at_any}
 use Rattle.place_core.proofs.owners.attach.Goals as goal
 

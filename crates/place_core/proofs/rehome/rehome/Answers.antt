@@ -1,7 +1,7 @@
 use Rattle.std.proofs.Common.{ℕ, List, arith, ◌<◌, length, get_or, ap, ◌∙◌}
-use Rattle.place_core.specs.declared.step.Lists.{Lists}
+use Rattle.place_words.specs.declared.step.Lists.{Lists}
 use Rattle.map_types.specs.ElementLists.{put}
-use Rattle.place_core.specs.State.{no_lists}
+use Rattle.place_words.specs.State.{no_lists}
 use Rattle.place_core.specs.Answers.{view_of}
 use Rattle.place_core.proofs.RehomeLemmas.{reads_words, can_rehome, rehome_both, rehome_off, rehome_on, rehome_carried}
 use Rattle.place_core.proofs.rehome.rehome.Goals as goal

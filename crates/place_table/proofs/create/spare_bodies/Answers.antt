@@ -1,7 +1,7 @@
 use Rattle.std.proofs.Common.{arith, ◌≡◌, ◌≤◌, ◌∙◌, List, ℕ, length, subst, sym}
 use Rattle.map_types.proofs.CreationLemmas.{bounds_of_shape}
 use Rattle.place_words.specs.Openings.{opening_spares}
-use Rattle.place_core.proofs.StartLemmas.{spares_length}
+use Rattle.place_words.proofs.StartLemmas.{spares_length}
 use Rattle.place_table.proofs.create.spare_bodies.Goals as goal
 
 pub bodies_of-requires : goal.bodies_of-requires

@@ -13,7 +13,7 @@ use Rattle.place_words.specs.declared.history.Part.TheVariants as parts
 use Rattle.map_types.specs.ElementLists.{IsIn}
 use Rattle.place_words.specs.Buckets.{new_stored}
 use Rattle.place_words.specs.Bodies.{numbers}
-use Rattle.place_core.specs.Steps.{with_row}
+use Rattle.place_words.specs.Steps.{with_row}
 use Rattle.place_table.specs.declared.content.Content.TheVariants as contents
 use Rattle.place_table.specs.Passes.{PassView, TableView, MayGiveBack, GaveBack, CanMark, CanKeepSpare, spare_of}
 use Rattle.place_table.specs.Views.{is_among, is_in_hand_of, with_in_hand, without_in_hand}

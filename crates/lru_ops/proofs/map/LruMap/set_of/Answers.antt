@@ -1,7 +1,7 @@
 use Rattle.std.proofs.Common.{◌≡◌, ◌<◌, ◌/◌, false, arith, sym, subst}
 use Rattle.map_types.specs.declared.attr.Shape.{Shape}
 use Rattle.map_types.proofs.CreationLemmas.{bounds_of_shape}
-use Rattle.place_core.proofs.StartLemmas.{set_some}
+use Rattle.place_words.proofs.StartLemmas.{set_some}
 use Rattle.place_table.specs.Passes.{TableView}
 use Rattle.place_words.specs.Takings.{set_of}
 use Rattle.lru_ops.proofs.Pushes.{set_within}

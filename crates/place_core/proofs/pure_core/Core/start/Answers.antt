@@ -1,10 +1,10 @@
 use Rattle.std.proofs.Common.{subst, sym}
 use Rattle.map_types.proofs.CreationLemmas.{bounds_of_shape}
 use Rattle.place_core.specs.Answers.{view_of}
-use Rattle.place_core.specs.Places.{Placed}
-use Rattle.place_core.specs.State.{State}
-use Rattle.place_core.proofs.OpeningLaws.{opening_placed}
-use Rattle.place_core.proofs.StartLemmas.{opening_core, opening_state}
+use Rattle.place_words.specs.Places.{Placed}
+use Rattle.place_words.specs.State.{State}
+use Rattle.place_words.proofs.OpeningLaws.{opening_placed}
+use Rattle.place_core.proofs.OpeningCore.{opening_core, opening_state}
 use Rattle.place_core.proofs.pure_core.Core.start.Goals as goal
 
 pub invariant_of-result : goal.invariant_of-result

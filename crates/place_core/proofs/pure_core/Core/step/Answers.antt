@@ -1,5 +1,5 @@
 use Rattle.place_core.specs.Answers.{view_of}
-use Rattle.place_core.proofs.StepLaws.{answered_core}
+use Rattle.place_core.proofs.Answered.{answered_core}
 use Rattle.place_core.proofs.pure_core.Core.step.Goals as goal
 
 pub invariant_of-self : goal.invariant_of-self

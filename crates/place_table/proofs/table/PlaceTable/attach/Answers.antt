@@ -1,6 +1,9 @@
 use Rattle.std.proofs.Common.{◌≡◌, ap, sym, subst, ◌∙◌, ◌<◌, true}
 use Rattle.map_types.specs.declared.attr.Shape.{Shape}
+use Rattle.map_types.specs.Creation.{IsShape}
+use Rattle.place_words.specs.declared.owner.Owner.TheVariants as owners
 use Rattle.place_table.specs.Passes.{PassView, TableView}
+use Rattle.place_table.proofs.CodeLemmas.{has_owner_code}
 use Rattle.place_table.specs.Views.{is_in_hand_of}
 use Rattle.place_table.proofs.Hands.{carries_now, is_pass_moved, real_without}
 use Rattle.place_table.proofs.table.PlaceTable.attach.Goals as goal
@@ -17,6 +20,11 @@ attach_word-requires-clause-element c =
     let real = (c.pass.invariant.hands_real _ _ in_hand).0 in
     let shape_is = c.self.invariant.0 ∙ ap (λ (t : TableView). t.shape) c.self.view_is in
     subst (λ (s : Shape). c.args.element < s.elements) (ap (λ (p : PassView). p.view.shape) c.pass.view_is ∙ (c.requires.of_table.1 ∙ sym shape_is)) real
+
+pub attach_word-requires-clause-code : goal.attach_word-requires-clause-code
+attach_word-requires-clause-code c =
+    let is : IsShape c.args.self.now.shape = subst IsShape (ap (λ (t : TableView). t.shape) c.self.view_is) c.self.invariant.2 in
+    has_owner_code c.args.self.now.shape (owners.Bucket c.args.bucket) is c.requires.there
 
 pub invariant_of-pass : goal.invariant_of-pass
 invariant_of-pass c = is_pass_moved _ _ _ _ _ _ _ _ _ _ _ _ c.pass.invariant (carries_now _ _ _ _ c.pass.invariant.carries) (real_without c.pass.inside.seat.me.0.shape _ _ _ _ c.pass.invariant.hands_real) c.attach_word.ensures.attached.1

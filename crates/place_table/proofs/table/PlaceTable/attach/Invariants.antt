@@ -1,7 +1,7 @@
 use Rattle.std.specs.Prelude.{◌+◌}
 use Rattle.map_types.specs.declared.kind.DomainId.TheVariants as locks
 use Rattle.place_words.specs.Locks.{lock_number}
-use Rattle.place_core.specs.Steps.{with_row}
+use Rattle.place_words.specs.Steps.{with_row}
 use Rattle.place_table.specs.Views.{now_under, without_in_hand, kept_hashes}
 use Rattle.place_table.specs.Words.{owner_word}
 use Rattle.place_table.proofs.table.PlaceTable.attach.Given as goal

@@ -1,6 +1,6 @@
 use Rattle.std.specs.Prelude.{◌+◌}
 use Rattle.place_words.specs.Locks.{lock_number}
-use Rattle.place_core.specs.Steps.{with_row, without_free}
+use Rattle.place_words.specs.Steps.{with_row, without_free}
 use Rattle.place_table.specs.Views.{now_under, with_came, with_in_hand, kept_hashes}
 use Rattle.place_table.specs.Words.{owner_word}
 use Rattle.place_table.proofs.table.PlaceTable.claim.Given as goal

@@ -2,7 +2,7 @@ use Rattle.std.specs.Prelude.{◌+◌, false, ◌∷◌, if◌then◌else◌}
 use Rattle.map_types.specs.Kind.{is_lru}
 use Rattle.map_types.specs.declared.kind.DomainId.TheVariants as locks
 use Rattle.place_words.specs.Locks.{lock_number}
-use Rattle.place_core.specs.Steps.{without_row}
+use Rattle.place_words.specs.Steps.{without_row}
 use Rattle.place_table.specs.Views.{now_under, with_in_hand, kept_hashes}
 use Rattle.place_table.specs.Words.{owner_word}
 use Rattle.place_table.proofs.table.PlaceTable.detach.Given as goal

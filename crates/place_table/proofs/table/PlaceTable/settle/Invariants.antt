@@ -1,5 +1,5 @@
 use Rattle.place_words.specs.Locks.{lock_number}
-use Rattle.place_core.specs.Steps.{with_free, without_row}
+use Rattle.place_words.specs.Steps.{with_free, without_row}
 use Rattle.place_table.specs.Views.{now_under, without_in_hand, kept_hashes}
 use Rattle.place_table.specs.Words.{owner_word}
 use Rattle.place_table.proofs.table.PlaceTable.settle.Given as goal

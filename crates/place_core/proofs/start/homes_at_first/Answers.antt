@@ -1,7 +1,0 @@
-use Rattle.place_core.specs.Opening.{opening_home}
-use Rattle.place_core.proofs.StartLemmas.{map_next}
-use Rattle.place_core.proofs.start.homes_at_first.Goals as goal
-
-pub loop-element-preserved : goal.loop-element-preserved
-loop-element-preserved c =
-    map_next (opening_home c.args.shape.now) c.loop-element.element c.loop-element.homes.items c.push.new.self.items c.home_at_first.result c.loop-element.invariant c.home_at_first.ensures c.in_ok-push.ensures.items

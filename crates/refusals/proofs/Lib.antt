@@ -1,0 +1,16 @@
+pub mod BatchLemmas
+pub mod BatchTraces
+pub mod Counts
+pub mod EvictingLemmas
+pub mod EvictionTraces
+pub mod FlushLemmas
+pub mod KeyLemmas
+pub mod KeyTraces
+pub mod MadeLemmas
+pub mod PlainLemmas
+pub mod ScriptLemmas
+pub mod StepLemmas
+pub mod TableLemmas
+pub mod TheftLemmas
+pub mod ToldLemmas
+pub mod WalkLemmas

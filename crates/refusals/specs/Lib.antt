@@ -1,0 +1,10 @@
+pub mod Batch
+pub mod Evicting
+pub mod Keys
+pub mod Made
+pub mod Plain
+pub mod Script
+pub mod Steps
+pub mod Table
+pub mod Walks
+pub mod Words

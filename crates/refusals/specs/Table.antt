@@ -1,0 +1,60 @@
+-- What steps on words and calls on a table do: what does otherwise is refused.
+use Rattle.std.specs.Prelude.{◌≡◌, ◌≢◌, ℕ, ◌<◌, [], length, filter, slice_index_or}
+use mathlib.Core.Option.{some}
+use lib.ListN.{get_elem?}
+use Rattle.atomic_table.specs.Table as table
+use Rattle.atomic_table.specs.Table.{Allows}
+use Rattle.map_types.specs.declared.attr.Shape.{Shape}
+use Rattle.map_types.specs.Creation.{IsShape}
+use Rattle.place_words.specs.declared.history.Part.{Part}
+use Rattle.place_words.specs.declared.home.Home.{Home}
+use Rattle.place_words.specs.declared.owner.Owner.{Owner}
+use Rattle.place_words.specs.Codes.{home_code}
+use Rattle.place_table.specs.declared.content.Behind.{Behind}
+use Rattle.place_table.specs.declared.view.View.{View}
+use Rattle.place_table.specs.Closing.{ClosedView, IsClosed}
+use Rattle.place_table.specs.Passes.{PassView, TableView, Gave, SawOwner}
+use Rattle.place_table.specs.Plays.{Seated, Marks, Clears, Rehomes}
+use Rattle.place_table.specs.Rules.{Rule}
+use Rattle.place_table.specs.Views.{all_strands, is_recorded}
+use Rattle.place_table.specs.Words.{bit_word, home_word}
+
+-- a word has 64 bits
+abbrev pub FitsWord : ℕ → Type 0
+FitsWord n = n < 18446744073709551616
+
+-- A mark leaves the bit word at 1.
+abbrev pub MarkSetsTheBit : Type 0
+MarkSetsTheBit =
+    (shape : Shape) (slots pass e : ℕ) (f : ℕ → ℕ) (me : Seated) (s : table.State Behind View) → Rule shape s → length s.homes ≡ slots → get_elem? s.views pass ≡ some me.0 → e < shape.elements
+    → FitsWord (slice_index_or s.words (bit_word shape e) 0) → f (slice_index_or s.words (bit_word shape e) 0) ≢ 1
+    → ¬ Allows (Rule shape) slots pass me (bit_word shape e) f (λ _. Marks e me)
+
+-- A clear leaves it at 0.
+abbrev pub ClearTakesTheBit : Type 0
+ClearTakesTheBit =
+    (shape : Shape) (slots pass e : ℕ) (f : ℕ → ℕ) (me : Seated) (s : table.State Behind View) → Rule shape s → length s.homes ≡ slots → get_elem? s.views pass ≡ some me.0 → e < shape.elements
+    → FitsWord (slice_index_or s.words (bit_word shape e) 0) → f (slice_index_or s.words (bit_word shape e) 0) ≢ 0
+    → ¬ Allows (Rule shape) slots pass me (bit_word shape e) f (Clears e me)
+
+-- An element that goes to a home has its home word left with this home's number.
+abbrev pub RehomeStoresTheHome : Type 0
+RehomeStoresTheHome =
+    (shape : Shape) (slots pass e stored : ℕ) (to : Home) (me : Seated) (s : table.State Behind View) → Rule shape s → length s.homes ≡ slots → get_elem? s.views pass ≡ some me.0 → e < shape.elements
+    → FitsWord (slice_index_or s.words (home_word shape e) 0) → stored ≢ home_code to
+    → ¬ Allows (Rule shape) slots pass me (home_word shape e) (λ _. stored) (λ _. Rehomes e to me)
+
+-- A lock that is given back tells the part that it is given back with.
+abbrev pub TurnTellsItsPart : Type 0
+TurnTellsItsPart = (before after : PassView) (part other : Part) → Gave before after other → part ≢ other → ¬ Gave before after part
+
+-- The owner that is answered is the one that was read: no other leaves the same.
+abbrev pub OwnerIsTheOneRead : Type 0
+OwnerIsTheOneRead =
+    (t : TableView) (e : ℕ) (before after : PassView) (owner other : Owner) → IsShape t.shape → SawOwner t e before after owner → other ≢ owner → ¬ SawOwner t e before after other
+
+-- Where a history is handed out, and a strand has a step that is recorded, a closed table has a strand.
+abbrev pub StrandsAreHandedOut : Type 0
+StrandsAreHandedOut =
+    (shape : Shape) (pass : PassView) (closed : ClosedView) → closed.histories ≢ [] → filter is_recorded (all_strands pass.view) ≢ [] → closed.strands ≡ []
+    → ¬ IsClosed shape pass closed

@@ -1,0 +1,3 @@
+pub mod InMemory
+pub mod SourceReads
+pub mod Writes

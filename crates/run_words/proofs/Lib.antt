@@ -1,0 +1,7 @@
+pub mod WordLemmas
+pub mod WordLemmasCommand
+pub mod WordLemmasCounts
+pub mod WordLemmasRows
+pub mod WordLemmasShapes
+pub mod WordLemmasTurns
+pub mod WordLemmasWalk

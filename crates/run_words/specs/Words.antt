@@ -1,0 +1,60 @@
+-- The words of a command line: the program's name, which isn't looked at, and behind it the mode and the options.
+use Rattle.std.specs.Prelude.{ℕ, Bool, false, ◌&&◌, ◌||◌, ◌==◌, if◌then◌else◌, nat_le, List, [], ◌∷◌, codes, bytes_eq, count_by}
+use Rattle.std.specs.List.{list_all, list_any, before_first, after_first}
+use Rattle.map_report.specs.declared.record.Options.{Options}
+use Rattle.run_words.specs.declared.words.Asked.{Asked}
+use Rattle.run_words.specs.declared.words.Mode.{Mode}
+use Rattle.run_words.specs.declared.words.Mode.TheVariants.{Serial, Race, Gen}
+
+-- the word of a mode
+abbrev pub mode_word : Mode → List ℕ
+mode_word Serial = codes "serial"
+mode_word Race = codes "race"
+mode_word Gen = codes "gen"
+
+abbrev pub is_mode : List ℕ → Bool
+is_mode word = bytes_eq word (mode_word Serial) || bytes_eq word (mode_word Race) || bytes_eq word (mode_word Gen)
+
+-- the words of the options
+abbrev pub option_words : List (List ℕ)
+option_words = codes "--history" ∷ codes "--dump" ∷ codes "--json" ∷ []
+
+abbrev pub is_option : List ℕ → Bool
+is_option word = list_any (λ option. bytes_eq word option) option_words
+
+-- the word after which no option follows
+abbrev pub is_end_of_options : List ℕ → Bool
+is_end_of_options word = bytes_eq word (codes "--")
+
+-- One mode stands once and each option at most once, in any order. One `--` may stand among them, after which no option
+-- follows. There is no other word.
+abbrev pub are_arguments : List (List ℕ) → Bool
+are_arguments words =
+    list_all (λ word. is_mode word || is_option word) (before_first is_end_of_options words)
+    && list_all is_mode (after_first is_end_of_options words)
+    && count_by is_mode words == 1
+    && list_all (λ option. nat_le (count_by (λ word. bytes_eq word option) words) 1) option_words
+
+abbrev pub are_words : List (List ℕ) → Bool
+are_words [] = false
+are_words (name ∷ words) = are_arguments words
+
+-- whether the word stands among the words
+abbrev pub stands : List ℕ → List (List ℕ) → Bool
+stands sought words = list_any (λ word. bytes_eq word sought) words
+
+-- what the words ask for
+abbrev pub options_of : List (List ℕ) → Options
+options_of [] = record { history = false; dump = false; json = false }
+options_of (name ∷ words) = record {
+  history = stands (codes "--history") words;
+  dump = stands (codes "--dump") words;
+  json = stands (codes "--json") words;
+}
+
+abbrev pub mode_of : List (List ℕ) → Mode
+mode_of [] = Serial
+mode_of (name ∷ words) = if stands (mode_word Race) words then Race else if stands (mode_word Gen) words then Gen else Serial
+
+abbrev pub asked_of : List (List ℕ) → Asked
+asked_of words = record { mode = mode_of words; options = options_of words }
