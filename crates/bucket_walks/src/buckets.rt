@@ -9,8 +9,7 @@ ghost use Rattle.bucket_walks.specs.Looks.{CanEnter, Enters, HasKeyOf, LooksInto
 ghost use Rattle.bucket_walks.specs.declared.parts.After.TheVariants as afters;
 
 use crate::parts::{After, first_part, next_part};
-use bucket_chain::Chain;
-use bucket_entries::body_at;
+use bucket_chain::{Chain, body_at};
 use map_types::{DomainId, Gate};
 use place_table::{Content, Pass, PlaceTable};
 use std::sync::Wait;

@@ -8,7 +8,7 @@ ghost use Rattle.bucket_walks.specs.Looks.{CanWalk, WalksOn};
 
 use crate::buckets::{BucketKey, first_in, next_in};
 use crate::parts::After;
-use bucket_entries::bucket_number;
+use bucket_chain::bucket_number;
 use map_types::{Absent, Gate};
 use place_table::{Pass, PlaceTable};
 use std::sync::Wait;

@@ -13,8 +13,7 @@ ghost use Rattle.place_words.specs.declared.history.Part.TheVariants as parts;
 ghost use Rattle.bucket_walks.specs.Looks.{key_where, found_after};
 ghost use Rattle.bucket_walks.specs.BatchReads.{all_read, walked_by};
 
-use bucket_chain::Chain;
-use bucket_entries::{body_at, read_value};
+use bucket_chain::{Chain, body_at, read_value};
 use map_types::{Bytes, List, NoMemory, Shape, Side, value_len};
 use percpu_values::Body;
 use place_words::{BucketPart, Kept, NextFound, Part, Walked};

@@ -8,7 +8,7 @@ ghost use Rattle.map_types.specs.ValueLen.{value_len_of};
 ghost use Rattle.map_types.specs.Stored.{IsSized};
 ghost use Rattle.bucket_walks.specs.BatchReads.{IsOfMap};
 
-use bucket_entries::read_value;
+use bucket_chain::read_value;
 use map_types::{NoMemory, PairBlock, Pairs, Shape, Side};
 use percpu_values::Body;
 use std::alloc::Global;

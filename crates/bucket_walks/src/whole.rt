@@ -11,8 +11,7 @@ ghost use Rattle.bucket_walks.specs.BatchReads.{IsOfMap, IsGathered, ReadsInto, 
 use crate::buckets::enter;
 use crate::parts::walk_part;
 use crate::room::ReadRoom;
-use bucket_chain::Chain;
-use bucket_entries::body_at;
+use bucket_chain::{Chain, body_at};
 use map_types::{DomainId, Gate, Shape};
 use place_table::{Content, Pass, PlaceTable};
 use std::alloc::Global;

@@ -1,10 +1,12 @@
 pub mod Crossing
 pub mod Added
 pub mod AfterJoin
+pub mod Between
 pub mod Ends
 pub mod FreeTurns
 pub mod Gone
 pub mod HandLemmas
+pub mod Keyed
 pub mod Looks
 pub mod Pops
 pub mod Pushes

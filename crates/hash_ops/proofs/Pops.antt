@@ -1,5 +1,5 @@
 -- A pop looks at freelists in their order.
-use Rattle.std.proofs.Common.{◌≡◌, ℕ, zero, suc, ◌+◌, ◌-◌, ◌<◌, ◌≤◌, min, List, [], ◌∷◌, ◌++◌, sym, refl, ap, ◌∙◌, subst, append_assoc, arith, Option, Some, None}
+use Rattle.std.proofs.Common.{◌≡◌, ℕ, ◌+◌, ◌-◌, ◌<◌, ◌≤◌, min, List, [], ◌∷◌, ◌++◌, sym, refl, ap, ◌∙◌, subst, append_assoc, arith, Option, Some, None}
 use Rattle.std.specs.List.{range_with_len}
 use Rattle.std.proofs.lemmas.List.{map-append}
 use Rattle.map_types.specs.Stored.{Stored}
@@ -7,6 +7,7 @@ use Rattle.place_words.specs.declared.free_part.FreePart.TheVariants as turns
 use Rattle.place_words.specs.Traces.{Turn, ring, found_empty, on_freelist_of}
 use Rattle.place_table.specs.Passes.{PassView, TableView}
 use Rattle.place_table.specs.Views.{is_among, is_in_hand_of, with_in_hand}
+use Rattle.place_table.proofs.Ranges.{range_split, range_at}
 use Rattle.hash_ops.specs.Calls.{turn_of}
 use Rattle.hash_ops.specs.Free.{IsFresh, PoppedAmong, Popped}
 use Rattle.hash_ops.proofs.FreeTurns.{reached_nowhere, reached_on}
@@ -75,25 +76,6 @@ popped_ring t p q (Some body) a = record {
   hand = a.hand;
   fresh = a.fresh;
 }
-
--- The CPUs from one to another, cut at one between them
-
-pub range_split : (from m n : ℕ) → range_with_len from (m + n) ≡ range_with_len from m ++ range_with_len (from + m) n
-range_split from zero n =
-    let none : 0 + n ≡ n = omega arith in
-    let start : from ≡ from + 0 = omega arith in
-    ap (range_with_len from) none ∙ ap (λ k. range_with_len k n) start
-range_split from (suc m) n =
-    let count : suc m + n ≡ suc (m + n) = omega arith in
-    let start : from + 1 + m ≡ from + suc m = omega arith in
-    ap (range_with_len from) count ∙ (ap (λ l. from ∷ l) (range_split (from + 1) m n) ∙ ap (λ k. from ∷ (range_with_len (from + 1) m ++ range_with_len k n)) start)
-
--- those before a CPU, itself, and those after it
-range_at : (from cpu to : ℕ) → from ≤ cpu → cpu < to → range_with_len from (to - from) ≡ range_with_len from (cpu - from) ++ cpu ∷ range_with_len (cpu + 1) (to - (cpu + 1))
-range_at from cpu to after before =
-    let count : to - from ≡ cpu - from + suc (to - (cpu + 1)) = omega arith in
-    let start : from + (cpu - from) ≡ cpu = omega arith in
-    ap (range_with_len from) count ∙ (range_split from (cpu - from) (suc (to - (cpu + 1))) ∙ ap (λ k. range_with_len from (cpu - from) ++ range_with_len k (suc (to - (cpu + 1)))) start)
 
 -- the looks so far, where the next is at this CPU
 abbrev pub LookedBefore : TableView → ℕ → ℕ → ℕ → PassView → PassView → Type 0

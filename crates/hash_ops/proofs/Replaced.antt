@@ -1,39 +1,32 @@
 -- A present key of a map of kind HASH: the spare element takes its place, and its element becomes the spare.
-use Rattle.std.proofs.Common.{◌≡◌, ◌≢◌, ℕ, ◌<◌, cond, true, false, List, [], ◌∷◌, ◌++◌, map, sym, refl, ap, ◌∙◌, subst, Option, Some, None}
-use Rattle.std.specs.Prelude.{suc, IfSome}
+use Rattle.std.proofs.Common.{◌≡◌, ℕ, ◌≤◌, true, false, List, [], ◌∷◌, refl, sym, ap, ◌∙◌, subst, Option, Some, None}
 use Rattle.map_types.specs.declared.attr.Shape.{Shape}
 use Rattle.map_types.specs.declared.call.Verb.TheVariants as verbs
 use Rattle.map_types.specs.declared.kind.DomainId.TheVariants.{Bucket}
-use Rattle.map_types.specs.declared.kind.MapKind.TheVariants.{Hash}
+use Rattle.map_types.specs.declared.kind.MapKind.{MapKind}
+use Rattle.map_types.specs.declared.kind.MapKind.TheVariants.{Hash, PercpuHash, LruHash, LruPercpuHash}
 use Rattle.map_types.specs.declared.kind.Side.{Side}
 use Rattle.map_types.specs.declared.reply.Reply.TheVariants.{Done}
-use Rattle.map_types.specs.Kind.{is_lru}
-use Rattle.map_types.specs.Stored.{Stored}
-use Rattle.percpu_values.specs.BodyList.{BodyList}
-use Rattle.place_words.specs.declared.bucket_part.BucketPart.TheVariants.{Update}
-use Rattle.place_words.specs.declared.bucket_part.Put.TheVariants as puts
-use Rattle.place_words.specs.declared.history.Part.{Part}
-use Rattle.place_words.specs.declared.history.Part.TheVariants as parts
-use Rattle.place_words.specs.Bodies.{numbers}
-use Rattle.map_types.specs.ElementLists.{times, without, IsIn}
+use Rattle.map_types.specs.Kind.{is_lru, is_percpu}
+use Rattle.std.specs.Prelude.{IfSome}
+use Rattle.map_types.specs.Stored.{Stored, IsSized}
 use Rattle.map_types.proofs.RowLemmas.{by_test}
-use Rattle.place_words.specs.declared.step.Lists.{Lists}
-use Rattle.place_words.specs.State.{rows}
-use Rattle.place_words.specs.Steps.{with_row, without_row}
-use Rattle.place_table.specs.declared.content.Content.TheVariants as contents
+use Rattle.place_words.specs.declared.bucket_part.Put.TheVariants as puts
+use Rattle.place_words.specs.Traces.{Turn}
+use Rattle.place_words.specs.Turns.{on_lock}
 use Rattle.place_table.specs.declared.view.InHand.{InHand}
-use Rattle.place_table.specs.Passes.{PassView, TableView, IsInNoCall, CanGive, Attached, Detached, GaveBack, SparesDiffer, spare_of, with_spares}
-use Rattle.place_table.specs.Views.{is_among, is_in_hand_of, with_in_hand, without_in_hand, hold_with}
-use Rattle.place_table.proofs.Entries.{append_nil}
+use Rattle.place_table.specs.InBucket.{InBucket}
+use Rattle.place_table.specs.Passes.{PassView, TableView, IsInNoCall, SparesDiffer, CanSpare, Spared, CanKeepSpare, KeptSpare, spare_of}
+use Rattle.place_table.specs.Views.{is_among, is_in_hand_of, with_in_hand, without_in_hand}
+use Rattle.place_table.proofs.Going.{goes_of_table, goes_begun}
 use Rattle.place_table.proofs.Hands.{in_hand_more, in_hand_more_else, in_hand_less, in_hand_less_else}
 use Rattle.place_table.proofs.Worlds.{true_false, some_is}
-use Rattle.place_words.specs.Traces.{IsPlainTrace, spare_after}
-use Rattle.place_table.specs.Known.{turn_of}
+use Rattle.place_table.specs.BucketHeld.{HoldsBucket}
+use Rattle.place_table.specs.BucketPuts.{AreUpdateArguments, IsOffered, Replaces, update_part}
+use Rattle.place_table.proofs.BucketUnder.{holds_bucket}
 use Rattle.hash_ops.specs.Calls.{spare_element, element_of}
-use Rattle.place_table.specs.InBucket.{InBucket}
-use Rattle.hash_ops.specs.Under.{HasItsSpares, AnsweredAt, AreUpdateArguments}
-use Rattle.place_table.proofs.BucketTurns.{IsTurnWith}
-use Rattle.hash_ops.proofs.Under.{Under, none_noted, under_nothing, under_spared, under_attached, under_detached, can_give, left_at, update_trace, not_in_hand}
+use Rattle.hash_ops.specs.Under.{HasItsSpares, AnsweredAt}
+use Rattle.hash_ops.proofs.Between.{holds_spared, between_spared, kept_on, answered, update_trace}
 
 -- Hands, with the old element in the place of the new one
 
@@ -74,71 +67,70 @@ idle_replaced q s cpu new old was now has held cpus shape kept_was was_is kept_n
   carries_nothing = carried ∙ has.carries_nothing;
 }
 
--- The bucket, from where it was taken to where it is given back
+-- The kind is HASH
 
-module _ (t : TableView) (bucket : ℕ) (q : PassView) (bodies : List Stored) (b : InBucket t bucket q bodies) (plain : is_lru t.shape.kind ≡ false) (new old : ℕ) (new_in_hand : is_in_hand_of new q.cpu q.view.hand ≡ true) (old_inside : IsIn old (numbers bodies)) where
-  new_is_not_old : new ≢ old
-  new_is_not_old same = true_false (sym new_in_hand ∙ (ap (λ (e : ℕ). is_in_hand_of e q.cpu q.view.hand) same ∙ not_in_hand t bucket q bodies b old q.cpu plain b.begun old_inside))
+hash_of : (kind : MapKind) → is_lru kind ≡ false → is_percpu kind ≡ false → kind ≡ Hash
+hash_of Hash plain single = refl
+hash_of PercpuHash plain single = absurd cc
+hash_of LruHash plain single = absurd cc
+hash_of LruPercpuHash plain single = absurd cc
 
-  -- what lies there after both steps
-  abbrev pub now_replaced : Lists
-  now_replaced = without_row old (with_row (Bucket bucket) new b.hold.now)
+module _ {t : TableView} {bucket : ℕ} {q : PassView} {bodies : List Stored} (plain : is_lru t.shape.kind ≡ false) (single : is_percpu t.shape.kind ≡ false) (b : InBucket t bucket q bodies) (has : HasItsSpares q) where
+  pub can_spare : CanSpare t q
+  can_spare = record { of_table = b.of_table; begun = b.begun; hash = hash_of t.shape.kind plain single }
 
-  pub old_there : IsIn old (with_row (Bucket bucket) new b.hold.now).first
-  old_there =
-      let inside : 0 < times old b.hold.now.first = subst (λ (l : Lists). 0 < times old l.first) (sym b.now) old_inside in
-      by_test new old (λ x. 0 < cond x (suc (times old b.hold.now.first)) (times old b.hold.now.first)) (λ same. absurd (new_is_not_old same)) (λ _. inside)
+  -- The spare is handed out
+  module _ {r : PassView} {found : Option Stored} (spared : Spared t q r found) {was : Stored} (is : found ≡ Some was) where
+    kept_was : spare_of q.cpu q.spares ≡ Some was
+    kept_was = sym spared.body_is ∙ is
 
-  pub counts_replaced : (x : ℕ) → times x (new ∷ without old (numbers bodies)) ≡ times x (rows now_replaced)
-  counts_replaced x =
-      let skip : without old (new ∷ numbers bodies) ≡ new ∷ without old (numbers bodies) = by_test new old (λ y. cond y (numbers bodies) (new ∷ without old (numbers bodies)) ≡ new ∷ without old (numbers bodies)) (λ same. absurd (new_is_not_old same)) (λ _. refl) in
-      ap (times x) (sym skip) ∙ sym (ap (λ (l : Lists). times x (without old (new ∷ l.first) ++ without old l.second)) b.now ∙ ap (times x) (append_nil (without old (new ∷ numbers bodies))))
+    was_in_hand : is_in_hand_of was.element q.cpu q.view.hand ≡ true
+    was_in_hand = has.spares_in_hand q.cpu was kept_was
 
-  pub under_replaced : (r1 r2 r3 r4 : PassView) → r1 ≡ with_spares q r1.spares → Attached bucket new r1 r2 → Detached bucket old r2 r3 → r4 ≡ with_spares r3 r4.spares → Under t b.hold b.below q r4 now_replaced []
-  under_replaced r1 r2 r3 r4 one two three four =
-      let u0 = under_nothing t bucket q bodies b in
-      let u1 = under_spared t b.hold b.below q q r1 b.hold.now [] u0 one in
-      let u2 = under_attached t bucket q r1 r2 bodies b b.hold.now [] new u1 two in
-      let u3 = under_detached t bucket q r2 r3 bodies b (with_row (Bucket bucket) new b.hold.now) [] old u2 three in
-      under_spared t b.hold b.below q r3 r4 (without_row old (with_row (Bucket bucket) new b.hold.now)) [] u3 four
+    pub holds_out : HoldsBucket t bucket r bodies
+    holds_out = holds_spared (holds_bucket b) r spared.after_is
 
-  pub under_new : (r1 r2 : PassView) → r1 ≡ with_spares q r1.spares → Attached bucket new r1 r2 → Under t b.hold b.below q r2 (with_row (Bucket bucket) new b.hold.now) []
-  under_new r1 r2 one two =
-      under_attached t bucket q r1 r2 bodies b b.hold.now [] new (under_spared t b.hold b.below q q r1 b.hold.now [] (under_nothing t bucket q bodies b) one) two
+    pub is_offered : IsOffered t bucket r was
+    is_offered = record {
+      real = λ lru. true_false (sym lru ∙ plain);
+      sized = subst (λ (o : Option Stored). IfSome o (IsSized t.shape)) is spared.sized;
+      in_hand = ap (λ (z : PassView). is_in_hand_of was.element z.cpu z.view.hand) spared.after_is ∙ was_in_hand;
+      not_carried = λ lru. true_false (sym lru ∙ plain);
+      hashed = λ lru. true_false (sym lru ∙ plain);
+    }
 
-  pub can_replace : (r4 : PassView) (back : BodyList) (side : Side) (flags : ℕ) (key value : List ℕ) → Under t b.hold b.below q r4 now_replaced [] → IsTurnWith t.shape q.cpu (Update side flags key value None (puts.Replaced new old)) bodies back.bodies (new ∷ without old (numbers bodies))
-      → CanGive t (Bucket bucket) r4 (contents.Bucket back) (parts.Bucket (Update side flags key value None (puts.Replaced new old)))
-  can_replace r4 back side flags key value u turn =
-      can_give t bucket q r4 bodies b now_replaced [] back (Update side flags key value None (puts.Replaced new old)) u turn.turn turn.sized (λ x. turn.counts x ∙ counts_replaced x) (ap (λ (l : Lists). l.free) b.now)
-      (none_noted t.shape r4.view (hold_with b.hold now_replaced) (Update side flags key value None (puts.Replaced new old)) plain refl)
+    -- it took the place of another, which is kept
+    module _ {s : PassView} {side : Side} {flags : ℕ} {key value : List ℕ} {old : Stored} (puts_it : Replaces t bucket r s side flags key value None was.element old) where
+      cpu_is : s.cpu ≡ q.cpu
+      cpu_is = puts_it.gives.goes.cpu ∙ ap (λ (z : PassView). z.cpu) spared.after_is
 
-  pub answered_replaced : (r4 s : PassView) (back : BodyList) (side : Side) (flags : ℕ) (key value : List ℕ) (found : Option Part) (was now : Stored) → HasItsSpares q → AreUpdateArguments t bucket side flags key value → (u : Under t b.hold b.below q r4 now_replaced []) → IsTurnWith t.shape q.cpu (Update side flags key value None (puts.Replaced new old)) bodies back.bodies (new ∷ without old (numbers bodies))
-      → IfSome found (λ x. x ≡ parts.Bucket (Update side flags key value None (puts.Replaced new old))) → GaveBack t (Bucket bucket) r4 s (contents.Bucket back) found
-      → spare_of q.cpu q.spares ≡ Some was → was.element ≡ new → spare_of q.cpu r4.spares ≡ Some now → now.element ≡ old → SparesDiffer q.cpu q.spares r4.spares → r4.view.hand ≡ handed new old q.cpu q.view.hand
-      → AnsweredAt t bucket q s (verbs.Update side flags key value) Done
-  answered_replaced r4 s back side flags key value found was now has gives u turn is gave kept_was was_is kept_now now_is others hand_is =
-      let part : Part = parts.Bucket (Update side flags key value None (puts.Replaced new old)) in
-      let x = left_at t bucket q r4 s bodies b now_replaced [] (contents.Bucket back) part found u (can_replace r4 back side flags key value u turn) is gave in
-      let l = x.0 in
-      let told : map (turn_of t.shape) (l.told ∷ []) ≡ record { lock = Bucket bucket; part = part } ∷ [] = ap (λ x. x ∷ []) l.told_is in
-      let hash = (has.spares_only new q.cpu b.begun new_in_hand).3 in (
-        record {
-          steps = l.last ∷ [];
-          lost = l.lost;
-          finished = record {
-            goes = l.goes;
-            notes = l.notes;
-            bits = l.bits;
-            in_no_call = idle_replaced q s q.cpu new old was now has l.held l.goes.cpus l.goes.shape kept_was was_is (ap (spare_of q.cpu) l.spares ∙ kept_now) now_is (λ other ne. ap (spare_of other) l.spares ∙ others other ne) (l.hand ∙ hand_is) l.carried (ap (λ (z : Shape). z.kind) l.goes.shape ∙ hash);
-            by_call = l.by_call;
-            other_spares = λ other ne. ap (spare_of other) l.spares ∙ others other ne;
-            learns = l.learns;
-          };
-          told = l.told ∷ [];
-          told_are = (l.is_told, tt);
-          trace = subst (λ ts. IsPlainTrace t.shape q.cpu (spare_element q) (verbs.Update side flags key value) ts Done) (sym told)
-              (update_trace t bucket q.cpu (spare_element q) side flags key value (puts.Replaced new old) [] gives (refl, ap element_of kept_was ∙ ap Some was_is));
-          spare = (λ i. element_of (spare_of (l.goes.cpu i) (l.spares i))) ∙ (ap element_of kept_now ∙ (ap Some now_is ∙ ap (spare_after (spare_element q)) (sym told)));
-        },
-        x.1,
-      )
+      hand_is : s.view.hand ≡ handed was.element old.element q.cpu q.view.hand
+      hand_is = puts_it.gives.hand_is ∙ ap (λ (z : PassView). handed was.element old.element z.cpu z.view.hand) spared.after_is
+
+      pub can_keep : CanKeepSpare t old s
+      can_keep =
+          let g = puts_it.gives in record {
+            of_table = goes_of_table t r s (g.step ∷ []) g.lost g.goes (holds_out).of_table;
+            begun = goes_begun r s (g.step ∷ []) g.lost g.goes (holds_out).begun;
+            hash = hash_of t.shape.kind plain single;
+            out = (λ i. spare_of (cpu_is i) (g.spares i)) ∙ spared.out;
+            in_hand = (λ i. is_in_hand_of old.element (cpu_is i) (hand_is i)) ∙ in_hand_more old.element q.cpu (without_in_hand was.element q.cpu q.view.hand);
+            sized = puts_it.is_out.1;
+          }
+
+      pub answered_replaced : (z : PassView) → KeptSpare old s z → flags ≤ 2 → AreUpdateArguments t bucket side key value → AnsweredAt t bucket q z (verbs.Update side flags key value) Done
+      answered_replaced z kept known gives =
+          let g = puts_it.gives in
+          let between = between_spared spared.after_is in
+          let goes = kept_on plain between g z kept.after_is in
+          let turn : Turn = on_lock (Bucket bucket) (update_part side flags key value None (puts.Replaced was.element old.element)) in
+          let here : spare_of q.cpu z.spares ≡ Some old = ap (λ (c : ℕ). spare_of c z.spares) (sym cpu_is) ∙ kept.here in
+          let others : SparesDiffer q.cpu q.spares z.spares = λ other ne. kept.others other (λ same. ne (same ∙ cpu_is)) ∙ (ap (spare_of other) g.spares ∙ spared.others other ne) in
+          answered plain between g z kept.after_is (verbs.Update side flags key value) Done []
+          (idle_replaced q z q.cpu was.element old.element was old has (ap (λ (y : PassView). y.view.held) kept.after_is ∙ g.held) goes.cpus goes.shape kept_was refl here refl others
+          (ap (λ (y : PassView). y.view.hand) kept.after_is ∙ hand_is)
+          (ap (λ (y : PassView). y.view.carried) kept.after_is ∙ (g.carried ∙ ap (λ (y : PassView). y.view.carried) spared.after_is))
+          (ap (λ (y : Shape). y.kind) (goes.shape ∙ b.of_table.1) ∙ hash_of t.shape.kind plain single))
+          others refl
+          (update_trace t bucket q.cpu (spare_element q) side flags key value (puts.Replaced was.element old.element) [] known gives (refl, ap element_of kept_was))
+          ((λ i. element_of (spare_of (goes.cpu i) z.spares)) ∙ ap element_of here)

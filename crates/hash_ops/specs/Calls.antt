@@ -1,5 +1,5 @@
 -- What an update of a map that doesn't evict answers. What each call leaves of its pass is defined below it, for all kinds.
-use Rattle.std.specs.Prelude.{◌≡◌, ◌⊎◌, ℕ, ◌<◌, List, [], ◌∷◌, Result, Ok, Err}
+use Rattle.std.specs.Prelude.{◌≡◌, ℕ, ◌<◌, List, Result, Ok, Err}
 use Rattle.map_types.specs.declared.call.Verb.TheVariants.{Update}
 use Rattle.map_types.specs.declared.kind.DomainId.TheVariants.{Bucket}
 use Rattle.map_types.specs.declared.kind.Side.{Side}
@@ -11,12 +11,9 @@ use Rattle.place_words.specs.Traces.{bucket_of_key}
 pub use Rattle.place_table.specs.Calls.{CanCall, element_of, spare_element, Leaves, CouldBe, IsTold, AreTold, Called, CalledWhole, reply_of_value, reply_of_done}
 pub use Rattle.place_table.specs.Known.{turn_of, turn_at, IsBy}
 use Rattle.place_table.specs.Passes.{PassView, TableView}
+pub use Rattle.place_table.specs.BucketTurns.{LosesAtMost}
 use Rattle.hash_ops.specs.declared.map.PlainRefusal.{PlainRefusal}
 use Rattle.hash_ops.specs.declared.map.PlainRefusal.TheVariants as refusals
-
--- No lock but this one was given back without a part, and this one once at most.
-abbrev pub LosesAtMost : ℕ → List ℕ → Type 0
-LosesAtMost lock lost = (lost ≡ []) ⊎ (lost ≡ lock ∷ [])
 
 -- An update did what its turns tell, and answered so. No lock but the key's bucket was given back without a part.
 abbrev pub Updated : TableView → PassView → PassView → Side → ℕ → List ℕ → List ℕ → Reply → Type 0

@@ -1,16 +1,14 @@
 -- A call from where it holds the bucket of its key to its end.
-use Rattle.std.specs.Prelude.{◌≡◌, ℕ, ◌≤◌, false, List, [], length, map, All, Result, Ok, Err}
+use Rattle.std.specs.Prelude.{◌≡◌, ℕ, false, List, [], map, All, Result, Ok, Err}
 use Rattle.map_types.specs.declared.call.Verb.{Verb}
 use Rattle.map_types.specs.declared.kind.DomainId.TheVariants.{Bucket}
 use Rattle.map_types.specs.declared.refusal.Errno.TheVariants as errnos
 use Rattle.map_types.specs.declared.reply.Reply.{Reply}
 use Rattle.map_types.specs.declared.reply.Reply.TheVariants.{Done, Refused}
-use Rattle.map_types.specs.declared.kind.Side.{Side}
 use Rattle.map_types.specs.Kind.{is_lru}
-use Rattle.map_types.specs.ValueLen.{value_len_of}
 use Rattle.percpu_values.specs.BodyList.{BodyList}
 use Rattle.place_words.specs.Locks.{lock_number}
-use Rattle.place_words.specs.Traces.{bucket_of_key, IsPlainTrace, spare_after}
+use Rattle.place_words.specs.Traces.{IsPlainTrace, spare_after}
 use Rattle.place_table.specs.declared.content.Content.TheVariants as contents
 use Rattle.place_table.specs.declared.view.Turned.{Turned}
 use Rattle.place_table.specs.InBucket.{InBucket}
@@ -65,10 +63,3 @@ UpdateEnds t bucket q s verb (Err refusals.Einval) = ⊥
 UpdateEnds t bucket q s verb (Err refusals.Enoent) = AnsweredAt t bucket q s verb (Refused errnos.Enoent)
 UpdateEnds t bucket q s verb (Err refusals.Eexist) = AnsweredAt t bucket q s verb (Refused errnos.Eexist)
 UpdateEnds t bucket q s verb (Err refusals.E2big) = AnsweredAt t bucket q s verb (Refused errnos.E2big)
-
--- what an update gives: a key of the bucket and a value of its side, and flags that are known
-pub record AreUpdateArguments (t : TableView) (bucket : ℕ) (side : Side) (flags : ℕ) (key value : List ℕ) : Type 0 where
-  pub bucket_is : bucket ≡ bucket_of_key t.shape key
-  pub key_sized : length key ≡ t.shape.key_size
-  pub value_sized : length value ≡ value_len_of t.shape side
-  pub flags_known : flags ≤ 2

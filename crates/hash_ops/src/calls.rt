@@ -7,9 +7,9 @@ ghost use Rattle.map_types.specs.ValueLen.{value_len_of};
 ghost use Rattle.hash_ops.specs.Calls.{CanCall, Called, MayRefuse, Updates, reply_of_value, reply_of_done};
 
 use crate::map::{PlainMap, PlainRefusal};
-use bucket_entries::{BPF_EXIST, TakenBucket, Write};
+use bucket_chain::{BPF_EXIST, TakenBucket, Write};
 use map_types::{Absent, Gate, Side};
-use place_table::Pass;
+use place_table::{Pass, TakenOut, delete_from, give_deleted, give_taken, look_up, take_from};
 use std::sync::Wait;
 
 impl PlainMap {
@@ -33,13 +33,10 @@ impl PlainMap {
             (reply_of_value result out.new) }
         ensures refused { IfErr result (λ _. out.new ≡ out.old) }
     {
-        let bucket = self.bucket_of_key(key);
-        let chain = self.enter(rt, pass, bucket, gate);
-        let taken = TakenBucket {
-            number: bucket,
-            chain,
-        };
-        self.lookup_in(pass, taken, side, key, out, gate)
+        let number = self.bucket_of_key(key);
+        let chain = self.enter(rt, pass, number, gate);
+        let taken = TakenBucket { number, chain };
+        look_up(self.alloc, &self.table, pass, taken, side, key, out, gate)
     }
 
     /// Updates a key with a value of a side's length, by flags: BPF_ANY (0), BPF_NOEXIST (1) or BPF_EXIST (2). It is refused
@@ -68,15 +65,16 @@ impl PlainMap {
         if flags > BPF_EXIST {
             return Err(PlainRefusal::Einval);
         }
-        let bucket = self.bucket_of_key(key);
-        let chain = self.enter(rt, pass, bucket, gate);
+        let number = self.bucket_of_key(key);
+        let chain = self.enter(rt, pass, number, gate);
+        let taken = TakenBucket { number, chain };
         let write = Write {
             side,
             flags,
             key,
             value,
         };
-        self.update_in(rt, pass, bucket, chain, write, gate)
+        self.update_in(rt, pass, taken, write, gate)
     }
 
     /// Takes a key out of the map. It is `Absent` (ENOENT) exactly where the bucket's turn found no such key. The element goes
@@ -92,9 +90,19 @@ impl PlainMap {
         requires key { length key.now ≡ self.now.shape.key_size }
         ensures { Called self.now pass.old pass.new (verbs.Delete key.now) (reply_of_done result) }
     {
-        let bucket = self.bucket_of_key(key);
-        let chain = self.enter(rt, pass, bucket, gate);
-        self.delete_in(rt, pass, bucket, chain, key, gate)
+        let number = self.bucket_of_key(key);
+        let chain = self.enter(rt, pass, number, gate);
+        let taken = TakenBucket { number, chain };
+        match delete_from(self.alloc, &self.table, pass, taken, key, gate) {
+            Some(removed) => {
+                let TakenOut { body, chain } = removed;
+                let element = self.push_out(rt, pass, body, gate);
+                let left = TakenBucket { number, chain };
+                give_deleted(self.alloc, &self.table, pass, left, key, element, gate);
+                Ok(())
+            }
+            None => Err(Absent),
+        }
     }
 
     /// The same, and copies to `out` what the system call reads of the key. Where it is `Absent`, `out` is as it was. The rules
@@ -114,12 +122,18 @@ impl PlainMap {
             (reply_of_value result out.new) }
         ensures refused { IfErr result (λ _. out.new ≡ out.old) }
     {
-        let bucket = self.bucket_of_key(key);
-        let chain = self.enter(rt, pass, bucket, gate);
-        let taken = TakenBucket {
-            number: bucket,
-            chain,
-        };
-        self.take_in(rt, pass, taken, key, out, gate)
+        let number = self.bucket_of_key(key);
+        let chain = self.enter(rt, pass, number, gate);
+        let taken = TakenBucket { number, chain };
+        match take_from(self.alloc, &self.table, pass, taken, key, out, gate) {
+            Some(removed) => {
+                let TakenOut { body, chain } = removed;
+                let element = self.push_out(rt, pass, body, gate);
+                let left = TakenBucket { number, chain };
+                give_taken(self.alloc, &self.table, pass, left, key, element, out, gate);
+                Ok(())
+            }
+            None => Err(Absent),
+        }
     }
 }

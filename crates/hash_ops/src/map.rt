@@ -8,7 +8,7 @@ ghost use Rattle.place_table.specs.Views.{is_among};
 ghost use Rattle.place_table.specs.Passes.{IsFirstPass, IsPassOf, IsInNoCall};
 ghost use Rattle.place_table.specs.Closing.{IsClosed};
 
-use bucket_entries::bucket_number;
+use bucket_chain::bucket_number;
 use map_types::{NoMemory, Shape};
 use place_table::{Closed, Pass, PlaceTable};
 use std::alloc::Global;

@@ -1,19 +1,19 @@
 //! Updates in a key's bucket.
 
-ghost use Rattle.std.specs.Prelude.{◌≡◌, ◌≢◌, ◌<◌, ◌≤◌, IsTrue, IfErr, Ok, Err, false, None, Some};
+ghost use Rattle.std.specs.Prelude.{◌≡◌, ◌≢◌, ◌≤◌, IfErr, None, false};
 ghost use Rattle.map_types.specs.declared.call.Verb.TheVariants as verbs;
 ghost use Rattle.map_types.specs.declared.reply.Reply.TheVariants as replies;
 ghost use Rattle.map_types.specs.Kind.{is_percpu};
 ghost use Rattle.place_words.specs.Bodies.{present};
-ghost use Rattle.hash_ops.specs.Calls.{MayRefuse};
 ghost use Rattle.place_table.specs.InBucket.{InBucket, IsAt};
-ghost use Rattle.hash_ops.specs.Under.{HasItsSpares, AreUpdateArguments, AnsweredAt, UpdateEnds};
+ghost use Rattle.place_table.specs.BucketPuts.{AreUpdateArguments};
+ghost use Rattle.hash_ops.specs.Calls.{MayRefuse};
+ghost use Rattle.hash_ops.specs.Under.{HasItsSpares, AnsweredAt, UpdateEnds};
 
 use crate::map::{PlainMap, PlainRefusal};
-use bucket_chain::Chain;
-use bucket_entries::{BPF_EXIST, BPF_NOEXIST, Write, body_at, fill_body, updated, write_value};
-use map_types::{DomainId, Gate};
-use place_table::{Content, Pass};
+use bucket_chain::{BPF_EXIST, BPF_NOEXIST, TakenBucket, Write};
+use map_types::Gate;
+use place_table::{Pass, refuse};
 use place_words::Put;
 use std::sync::Wait;
 
@@ -25,23 +25,23 @@ impl PlainMap {
         &self,
         rt: &R,
         pass: &mut Pass,
-        bucket: u32,
-        chain: Chain,
+        taken: TakenBucket,
         write: Write,
         gate: &G,
     ) -> Result<(), PlainRefusal>
-        requires inside { InBucket self.now bucket pass.old chain.bodies }
+        requires inside { InBucket self.now taken.number pass.old taken.chain.bodies }
         requires spares { HasItsSpares pass.old }
-        requires gives { AreUpdateArguments self.now bucket write.side write.flags write.key.now
+        requires gives { AreUpdateArguments self.now taken.number write.side write.key.now
             write.value.now }
-        ensures ends { UpdateEnds self.now bucket pass.old pass.new
+        requires known { write.flags ≤ 2 }
+        ensures ends { UpdateEnds self.now taken.number pass.old pass.new
             (verbs.Update write.entry.side write.entry.flags write.entry.key.now
             write.entry.value.now) result }
         ensures refuses { IfErr result (MayRefuse write.entry.flags) }
     {
-        match chain.find(write.key) {
-            Some(place) => { self.update_present(pass, bucket, chain, place, write, gate) }
-            None => { self.update_absent(rt, pass, bucket, chain, write, gate) }
+        match taken.chain.find(write.key) {
+            Some(place) => { self.update_present(pass, taken, place, write, gate) }
+            None => { self.update_absent(rt, pass, taken, write, gate) }
         }
     }
 
@@ -49,256 +49,150 @@ impl PlainMap {
     fn update_present<G: Gate>(
         &self,
         pass: &mut Pass,
-        bucket: u32,
-        chain: Chain,
+        taken: TakenBucket,
         place: u32,
         write: Write,
         gate: &G,
     ) -> Result<(), PlainRefusal>
-        requires inside { InBucket self.now bucket pass.old chain.bodies }
+        requires inside { InBucket self.now taken.number pass.old taken.chain.bodies }
         requires spares { HasItsSpares pass.old }
-        requires gives { AreUpdateArguments self.now bucket write.side write.flags write.key.now
+        requires gives { AreUpdateArguments self.now taken.number write.side write.key.now
             write.value.now }
-        requires at { IsAt write.key.now place chain.bodies }
-        ensures ends { UpdateEnds self.now bucket pass.old pass.new
+        requires known { write.flags ≤ 2 }
+        requires at { IsAt write.key.now place taken.chain.bodies }
+        ensures ends { UpdateEnds self.now taken.number pass.old pass.new
             (verbs.Update write.entry.side write.entry.flags write.entry.key.now
             write.entry.value.now) result }
         ensures refuses { IfErr result (MayRefuse write.entry.flags) }
     {
         if write.flags == BPF_NOEXIST {
-            let part = updated(
+            refuse(
                 self.alloc,
-                write.side,
-                write.flags,
-                write.key,
-                write.value,
+                &self.table,
+                pass,
+                taken,
+                write,
                 None,
                 Put::Exists,
-            );
-            self.table.give(
-                pass,
-                DomainId::Bucket(bucket),
-                Content::Bucket(chain),
-                part,
                 gate,
             );
             return Err(PlainRefusal::Eexist);
         }
         if self.table.shape().kind.is_percpu() {
-            self.write(pass, bucket, chain, place, write, gate);
+            place_table::write(
+                self.alloc,
+                &self.table,
+                pass,
+                taken,
+                place,
+                write,
+                None,
+                gate,
+            );
             return Ok(());
         }
-        self.replace(pass, bucket, chain, place, write, gate);
+        self.replace(pass, taken, place, write, gate);
         Ok(())
     }
 
-    /// An update of a key that is absent.
+    /// An update of a key that is absent: where it may be added, a freelist gives an element for it.
     fn update_absent<R: Wait, G: Gate>(
         &self,
         rt: &R,
         pass: &mut Pass,
-        bucket: u32,
-        mut chain: Chain,
+        taken: TakenBucket,
         write: Write,
         gate: &G,
     ) -> Result<(), PlainRefusal>
-        requires inside { InBucket self.now bucket pass.old chain.bodies }
+        requires inside { InBucket self.now taken.number pass.old taken.chain.bodies }
         requires spares { HasItsSpares pass.old }
-        requires gives { AreUpdateArguments self.now bucket write.side write.flags write.key.now
+        requires gives { AreUpdateArguments self.now taken.number write.side write.key.now
             write.value.now }
-        requires absent { present write.key.now chain.bodies ≡ None }
-        ensures ends { UpdateEnds self.now bucket pass.old pass.new
+        requires known { write.flags ≤ 2 }
+        requires absent { present write.key.now taken.chain.bodies ≡ None }
+        ensures ends { UpdateEnds self.now taken.number pass.old pass.new
             (verbs.Update write.entry.side write.entry.flags write.entry.key.now
             write.entry.value.now) result }
         ensures refuses { IfErr result (MayRefuse write.entry.flags) }
     {
-        let lock = DomainId::Bucket(bucket);
         if write.flags == BPF_EXIST {
-            let part = updated(
+            refuse(
                 self.alloc,
-                write.side,
-                write.flags,
-                write.key,
-                write.value,
+                &self.table,
+                pass,
+                taken,
+                write,
                 None,
                 Put::Absent,
+                gate,
             );
-            self.table
-                .give(pass, lock, Content::Bucket(chain), part, gate);
             return Err(PlainRefusal::Enoent);
         }
-        // There is always room for one more.
-        let _ = chain.reserve_one(self.alloc);
-        self.add(rt, pass, bucket, chain, write, gate)
-    }
-
-    /// Adds an absent key, where a freelist gives an element for it. The chain has room for one.
-    fn add<R: Wait, G: Gate>(
-        &self,
-        rt: &R,
-        pass: &mut Pass,
-        bucket: u32,
-        mut chain: Chain,
-        write: Write,
-        gate: &G,
-    ) -> Result<(), PlainRefusal>
-        requires inside { InBucket self.now bucket pass.old chain.bodies }
-        requires spares { HasItsSpares pass.old }
-        requires gives { AreUpdateArguments self.now bucket write.side write.flags write.key.now
-            write.value.now }
-        requires absent { present write.key.now chain.bodies ≡ None }
-        requires adds { write.flags ≢ 2 }
-        requires room { 1 ≤ chain.spare }
-        ensures ends { UpdateEnds self.now bucket pass.old pass.new
-            (verbs.Update write.entry.side write.entry.flags write.entry.key.now
-            write.entry.value.now) result }
-        ensures refuses { IfErr result (MayRefuse write.entry.flags) }
-    {
-        let lock = DomainId::Bucket(bucket);
-        let cpu = self.table.cpu_of(pass);
-        let Some(mut body) = self.pop(rt, pass, gate) else {
-            let part = updated(
-                self.alloc,
-                write.side,
-                write.flags,
-                write.key,
-                write.value,
-                None,
-                Put::Full,
-            );
-            self.table
-                .give(pass, lock, Content::Bucket(chain), part, gate);
-            return Err(PlainRefusal::E2big);
-        };
-        fill_body(
-            self.table.shape(),
-            write.side,
-            cpu,
-            &mut body,
-            write.key,
-            write.value,
-        );
-        let element = body.body().element();
-        self.table.attach(pass, element, bucket);
-        chain.add_head(body);
-        let part = updated(
-            self.alloc,
-            write.side,
-            write.flags,
-            write.key,
-            write.value,
-            None,
-            Put::Added(element),
-        );
-        self.table
-            .give(pass, lock, Content::Bucket(chain), part, gate);
-        Ok(())
-    }
-
-    /// Writes the value of a present key in place.
-    fn write<G: Gate>(
-        &self,
-        pass: &mut Pass,
-        bucket: u32,
-        mut chain: Chain,
-        place: u32,
-        write: Write,
-        gate: &G,
-    )
-        requires inside { InBucket self.now bucket pass.old chain.bodies }
-        requires spares { HasItsSpares pass.old }
-        requires gives { AreUpdateArguments self.now bucket write.side write.flags write.key.now
-            write.value.now }
-        requires at { IsAt write.key.now place chain.bodies }
-        requires percpu { IsTrue (is_percpu self.now.shape.kind) }
-        requires replaces { write.flags ≢ 1 }
-        ensures { AnsweredAt self.now bucket pass.old pass.new
-            (verbs.Update write.entry.side write.entry.flags write.entry.key.now
-            write.entry.value.now) replies.Done }
-    {
-        let cpu = self.table.cpu_of(pass);
-        let element = body_at(&chain, place).element();
-        write_value(
-            self.table.shape(),
-            write.side,
-            cpu,
-            &mut chain,
-            place,
-            write.key,
-            write.value,
-        );
-        let part = updated(
-            self.alloc,
-            write.side,
-            write.flags,
-            write.key,
-            write.value,
-            None,
-            Put::Written(element),
-        );
-        self.table.give(
-            pass,
-            DomainId::Bucket(bucket),
-            Content::Bucket(chain),
-            part,
-            gate,
-        );
+        match self.pop(rt, pass, gate) {
+            Some(body) => {
+                place_table::add(
+                    self.alloc,
+                    &self.table,
+                    pass,
+                    taken,
+                    write,
+                    body,
+                    None,
+                    gate,
+                );
+                Ok(())
+            }
+            None => {
+                refuse(
+                    self.alloc,
+                    &self.table,
+                    pass,
+                    taken,
+                    write,
+                    None,
+                    Put::Full,
+                    gate,
+                );
+                Err(PlainRefusal::E2big)
+            }
+        }
     }
 
     /// Puts the CPU's spare element in the place of a present key's, which becomes the spare.
     fn replace<G: Gate>(
         &self,
         pass: &mut Pass,
-        bucket: u32,
-        mut chain: Chain,
+        taken: TakenBucket,
         place: u32,
         write: Write,
         gate: &G,
     )
-        requires inside { InBucket self.now bucket pass.old chain.bodies }
+        requires inside { InBucket self.now taken.number pass.old taken.chain.bodies }
         requires spares { HasItsSpares pass.old }
-        requires gives { AreUpdateArguments self.now bucket write.side write.flags write.key.now
+        requires gives { AreUpdateArguments self.now taken.number write.side write.key.now
             write.value.now }
-        requires at { IsAt write.key.now place chain.bodies }
+        requires known { write.flags ≤ 2 }
+        requires at { IsAt write.key.now place taken.chain.bodies }
         requires single { is_percpu self.now.shape.kind ≡ false }
         requires replaces { write.flags ≢ 1 }
-        ensures { AnsweredAt self.now bucket pass.old pass.new
+        ensures { AnsweredAt self.now taken.number pass.old pass.new
             (verbs.Update write.entry.side write.entry.flags write.entry.key.now
             write.entry.value.now) replies.Done }
     {
-        let cpu = self.table.cpu_of(pass);
-        let Some(mut body) = self.table.spare(pass) else {
+        let Some(body) = self.table.spare(pass) else {
             unreachable!()
         };
-        fill_body(
-            self.table.shape(),
-            write.side,
-            cpu,
-            &mut body,
-            write.key,
-            write.value,
-        );
-        let new = body.body().element();
-        self.table.attach(pass, new, bucket);
-        let spare = chain.replace_head(place, body);
-        let old = spare.body().element();
-        self.table.detach(pass, old, bucket);
-        self.table.keep_spare(pass, spare);
-        let part = updated(
+        let spare = place_table::replace(
             self.alloc,
-            write.side,
-            write.flags,
-            write.key,
-            write.value,
-            None,
-            Put::Replaced { new, old },
-        );
-        self.table.give(
+            &self.table,
             pass,
-            DomainId::Bucket(bucket),
-            Content::Bucket(chain),
-            part,
+            taken,
+            place,
+            write,
+            body,
+            None,
             gate,
         );
+        self.table.keep_spare(pass, spare);
     }
 }

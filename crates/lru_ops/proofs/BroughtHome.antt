@@ -1,15 +1,13 @@
 -- An element that was stolen comes to the own pending list: a turn of the own local lists, from its take to its give.
 use Rattle.std.proofs.Common.{inl, inr, ◌≡◌, ◌≢◌, ℕ, ◌<◌, ◌≤◌, ◌+◌, cond, true, false, Bool, List, [], ◌∷◌, ◌++◌, sym, refl, ap, ◌∙◌, subst, Option, Some, None, ⊎_elim, suc, arith}
-use Rattle.std.specs.Prelude.{◌==◌, ◌&&◌, IsTrue, find, option_map}
+use Rattle.std.specs.Prelude.{◌==◌, ◌&&◌, find, option_map}
 use Rattle.std.proofs.Math.Nat.{eq-zero-or-pos}
 use Rattle.std.proofs.lemmas.Bool.{eqb-true}
 use Rattle.std.proofs.lemmas.List.Elements.{All-nil, All-cons}
 use Rattle.map_types.specs.declared.attr.Shape.{Shape}
 use Rattle.map_types.specs.declared.kind.DomainId.TheVariants.{Local}
 use Rattle.map_types.specs.declared.row.Row.{Row}
-use Rattle.map_types.specs.Creation.{IsShape}
 use Rattle.map_types.specs.ElementLists.{times, IsIn}
-use Rattle.map_types.specs.Kind.{is_lru}
 use Rattle.map_types.specs.Listed.{elements_of}
 use Rattle.map_types.proofs.RowLemmas.{times_append, by_test}
 use Rattle.key_hash.specs.Bucket.{bucket_number}
@@ -50,6 +48,7 @@ use Rattle.place_table.proofs.Going.{goes_on, given_turn, goes_noted, goes_of_ta
 use Rattle.place_table.proofs.StoredHashes.{stored_is_in}
 use Rattle.place_table.proofs.Worlds.{both_true, hand_is, hold_at_first, some_is, true_false}
 use Rattle.local_lists.specs.LocalLists.{LocalView, IsLocal, local_told, times_on, with_pending_row, with_steal}
+use Rattle.lru_ops.specs.Lists.{MapEvicts}
 use Rattle.lru_ops.specs.Shared.{CanBringHome, BroughtHome}
 use Rattle.lru_ops.proofs.GivingOut.{came_first, forget_seen, skip_row}
 use Rattle.lru_ops.proofs.Holders.{saw_on_none, saw_none}
@@ -297,31 +296,28 @@ module _ {t : TableView} {e : ℕ} {lists : LocalView} {p q : PassView} (can : C
             }
 
 -- The whole turn, from the clauses of its calls
-module _ {t now : TableView} {e cpu : ℕ} {p q : PassView} {here : Slot} {lists : LocalView} (is : t ≡ now) (is_shape : IsShape t.shape) (evicts : IsTrue (is_lru t.shape.kind)) (can : CanBringHome now e p)
+module _ {t : TableView} {e cpu : ℕ} {p q : PassView} {here : Slot} {lists : LocalView} (lru : MapEvicts t) (can : CanBringHome t e p)
     (mine : cpu ≡ p.cpu) (few : cpu < t.shape.cpus) (here_is : here ≡ contents.Local lists) (took : TookLock t (Local cpu) p q here) where
-  abbrev may : CanBringHome t e p
-  may = subst (λ (z : TableView). CanBringHome z e p) (sym is) can
-
   abbrev on_own : OnLocal t p.cpu lists p q
   on_own = record {
-    is_shape = is_shape;
-    evicts = evicts;
-    there = local_there t.shape p.cpu may.common (subst (λ (n : ℕ). n < t.shape.cpus) mine few);
-    of_table = may.of_table;
-    begun = may.begun;
-    alone = may.no_lock;
+    is_shape = lru.0;
+    evicts = lru.1;
+    there = local_there t.shape p.cpu can.common (subst (λ (n : ℕ). n < t.shape.cpus) mine few);
+    of_table = can.of_table;
+    begun = can.begun;
+    alone = can.no_lock;
     took = subst (λ (z : ℕ × Slot). TookLock t (Local z.0) p q z.1) (λ i. (mine i, here_is i)) took;
   }
 
   pub may_come : CanRehome t e (homes.In (Local cpu)) q
-  may_come = can_come_here may on_own cpu mine
+  may_come = can_come_here can on_own cpu mine
 
   module _ {r : PassView} (home : Rehomed t e (homes.In (Local cpu)) q r) where
     abbrev came : Rehomed t e (homes.In (Local p.cpu)) q r
     came = subst (λ (c : ℕ). Rehomed t e (homes.In (Local c)) q r) mine home
 
     pub is_absent : times_on e lists ≡ 0
-    is_absent = none_on may on_own came
+    is_absent = none_on can on_own came
 
     module _ (from : ℕ) {s : PassView} {bit : Bool} {hash cursor : ℕ} {shape : Shape} {added out : LocalView} (clear : Cleared e r s bit) (shape_is : shape ≡ t.shape) (cursor_is : cursor ≡ ring_next from shape.cpus) (below : cursor < shape.cpus)
         (added_is : added ≡ with_pending_row (record { element = e; hash = hash }) lists) (out_is : out ≡ with_steal cursor added) (whole : IsLocal out) where
@@ -337,9 +333,8 @@ module _ {t now : TableView} {e cpu : ℕ} {p q : PassView} {here : Slot} {lists
       pub may_give_brought : CanGive t (Local cpu) s (contents.Local out) (parts.Local (local.Add hash e cursor))
       may_give_brought =
           subst (λ (z : ℕ × LocalView). CanGive t (Local z.0) s (contents.Local z.1) (parts.Local (local.Add hash e cursor))) (λ i. (sym mine i, sym then_is i))
-          (can_give_brought may on_own came clear few_cursor (subst IsLocal then_is whole))
+          (can_give_brought can on_own came clear few_cursor (subst IsLocal then_is whole))
 
-      pub brought_home : {u : PassView} → Gave s u (parts.Local (local.Add hash e cursor)) → BroughtHome now hash from e p u
+      pub brought_home : {u : PassView} → Gave s u (parts.Local (local.Add hash e cursor)) → BroughtHome t hash from e p u
       brought_home {u} gave =
-          subst (λ (z : TableView). BroughtHome z hash from e p u) is
-          (brought may on_own came clear few_cursor (subst IsLocal then_is whole) from (cursor_is ∙ ap (λ (z : Shape). ring_next from z.cpus) shape_is) gave)
+          brought can on_own came clear few_cursor (subst IsLocal then_is whole) from (cursor_is ∙ ap (λ (z : Shape). ring_next from z.cpus) shape_is) gave

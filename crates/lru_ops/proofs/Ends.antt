@@ -1,5 +1,5 @@
 -- From the turns of a call to what it leaves: turns one after another, and the end of the call.
-use Rattle.std.proofs.Common.{◌≡◌, ℕ, cond, true, false, List, [], ◌∷◌, ◌++◌, map, inl, inr, ⊎_elim, sym, refl, ap, ◌∙◌, subst, Option}
+use Rattle.std.proofs.Common.{◌≡◌, ℕ, cond, true, false, List, [], ◌∷◌, ◌++◌, map, sym, refl, ap, ◌∙◌, subst, Option}
 use Rattle.std.specs.Prelude.{IsTrue, IsFalse, All, flat_map, MatchBool}
 use Rattle.std.proofs.lemmas.Grind.{flat_map-append}
 use Rattle.std.proofs.lemmas.List.Elements.{All-nil, All-cons, All-append}
@@ -10,7 +10,6 @@ use Rattle.map_types.specs.declared.kind.MapKind.{MapKind}
 use Rattle.map_types.specs.declared.kind.MapKind.TheVariants.{Hash}
 use Rattle.map_types.specs.declared.reply.Reply.{Reply}
 use Rattle.map_types.specs.Kind.{is_lru}
-use Rattle.map_types.proofs.RowLemmas.{by_test}
 use Rattle.percpu_values.specs.BodyList.{BodyList}
 use Rattle.place_words.specs.declared.bucket_part.BucketPart.{BucketPart}
 use Rattle.place_words.specs.declared.history.Part.TheVariants as parts
@@ -22,43 +21,19 @@ use Rattle.place_words.specs.Walks.{IsKeyTrace}
 use Rattle.place_table.specs.declared.content.Content.TheVariants as contents
 use Rattle.place_table.specs.declared.view.InHand.{InHand}
 use Rattle.place_table.specs.declared.view.Turned.{Turned}
-use Rattle.place_table.specs.Calls.{CanCall, Called, Leaves, CouldBe, AreTold, bits_of_part, bits_of_turns, finds_moved_on, spare_element, element_of}
+use Rattle.place_table.specs.Calls.{CanCall, Called, Leaves, bits_of_part, bits_of_turns, finds_moved_on, spare_element, element_of}
 use Rattle.place_table.specs.Known.{BitTouch, Learns, turn_at, IsBy, logs_after}
 use Rattle.place_table.specs.Passes.{PassView, TableView, IsInNoCall, Goes, spare_of}
 use Rattle.place_table.specs.Views.{is_among, is_in_hand_of, notes_below}
 use Rattle.place_table.proofs.Entries.{append_nil}
 use Rattle.place_table.proofs.Going.{goes_on, goes_took, made_on, learns_on, learns_after, learns_took, learns_all}
 use Rattle.place_table.proofs.Worlds.{true_false, by_bool}
+use Rattle.place_table.proofs.TurnsOn.{among_behind, among_before, told_where, told_append}
 use Rattle.lru_ops.specs.Lists.{Changed}
 use Rattle.lru_ops.specs.Shared.{ChangedHands}
 use Rattle.lru_ops.specs.Under.{Enters, GivenBack}
 
 -- Turns one after another
-
-pub among_behind : (n : ℕ) (first second : List ℕ) → is_among n second ≡ true → is_among n (first ++ second) ≡ true
-among_behind n [] second among = among
-among_behind n (x ∷ first) second among = by_test x n (λ b. cond b true (is_among n (first ++ second)) ≡ true) (λ _. refl) (λ _. among_behind n first second among)
-
-pub among_before : (n : ℕ) (first second : List ℕ) → is_among n first ≡ true → is_among n (first ++ second) ≡ true
-among_before n [] second among = absurd (true_false (sym among))
-among_before n (x ∷ first) second among =
-    by_test x n (λ b. cond b true (is_among n first) ≡ true → cond b true (is_among n (first ++ second)) ≡ true) (λ _ _. refl) (λ _ later. among_before n first second later) among
-
--- what is told of turns where some records are lost is so where more are
-pub told_where : (shape : Shape) (lost more : List ℕ) → ((n : ℕ) → is_among n lost ≡ true → is_among n more ≡ true) → (steps told : List Turned) → AreTold shape lost steps told → AreTold shape more steps told
-told_where shape lost more are [] [] is = tt
-told_where shape lost more are [] (told ∷ others) is = absurd is
-told_where shape lost more are (step ∷ steps) [] is = absurd is
-told_where shape lost more are (step ∷ steps) (told ∷ others) is = (
-  ⊎_elim (λ (same : told ≡ step). inl same) (λ (x : (is_among step.lock lost ≡ true) × CouldBe shape step told). inr (are step.lock x.0, x.1)) is.0,
-  told_where shape lost more are steps others is.1,
-)
-
-pub told_append : (shape : Shape) (lost : List ℕ) (first second told others : List Turned) → AreTold shape lost first told → AreTold shape lost second others → AreTold shape lost (first ++ second) (told ++ others)
-told_append shape lost [] second [] others is later = later
-told_append shape lost [] second (one ∷ told) others is later = absurd is
-told_append shape lost (step ∷ first) second [] others is later = absurd is
-told_append shape lost (step ∷ first) second (one ∷ told) others is later = (is.0, told_append shape lost first second told others is.1 later)
 
 abbrev bits_at : Shape → Turned → List BitTouch
 bits_at shape step = bits_of_part shape step.entry.part
@@ -186,3 +161,7 @@ called_changed {t} {p} {s} {steps} {told} {lost} verb reply can lru changed hand
 pub trace_here : (shape : Shape) (cpu : ℕ) (spare : Option ℕ) (verb : Verb) (turns : List TurnAt) (reply : Reply) → IsTrue (is_lru shape.kind) → IsEvictingTrace shape cpu verb turns reply → IsKeyTrace shape cpu spare verb turns reply
 trace_here shape cpu spare verb turns reply lru trace =
     subst (λ b. MatchBool b (IsEvictingTrace shape cpu verb turns reply) (IsPlainTrace shape cpu spare verb (turns_of turns) reply)) (sym lru) trace
+
+-- the map of a call
+pub lru_of : (inside t : TableView) → inside ≡ t → IsTrue (is_lru inside.shape.kind) → IsTrue (is_lru t.shape.kind)
+lru_of inside t is lru = subst (λ (z : TableView). IsTrue (is_lru z.shape.kind)) is lru

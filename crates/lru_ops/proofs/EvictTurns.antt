@@ -4,7 +4,7 @@ use Rattle.std.proofs.Common.{◌≡◌, ◌≢◌, ℕ, ◌<◌, ◌≤◌, ◌
 use Rattle.std.proofs.lemmas.List.Elements.{recursion_from_All, All-nil, All-cons}
 use Rattle.std.specs.List.{AllByRecursion}
 use Rattle.std.specs.Prelude.{◌==◌, find, reverse, IsTrue, IsFalse, is_some, All, suc}
-use Rattle.std.proofs.lemmas.Bool.{eqb-true}
+use Rattle.std.proofs.lemmas.Bool.{eqb-true, lt-ltb}
 use Rattle.map_types.specs.declared.attr.Shape.{Shape}
 use Rattle.map_types.specs.declared.kind.DomainId.{DomainId}
 use Rattle.map_types.specs.declared.kind.DomainId.TheVariants.{Bucket, CpuLru, Freelist, Global, Local}
@@ -60,7 +60,6 @@ use Rattle.place_table.proofs.Worlds.{hold_at_first, hold_at_other, some_is, non
 use Rattle.place_table.proofs.BucketTurns.{left_is}
 use Rattle.lru_ops.specs.Evictions.{HoldsLists, CanProbe, Inside, IsEvict, hand_with, EndedWith, EvictedWith}
 use Rattle.lru_ops.proofs.Holders.{SawSeen, saw_on, saw_none, saw_probe}
-use Rattle.lru_ops.proofs.Under.{bucket_there}
 
 -- The body of an element that was found
 
@@ -140,14 +139,14 @@ can_take_bucket t bucket e p can =
     let h = can.holds in record {
       of_table = h.of_table;
       begun = h.begun;
-      there = bucket_there t.shape bucket can.there;
+      there = lt-ltb bucket t.shape.buckets can.there;
       above = subst (IsAboveAll t.shape 3) (sym h.held) (above_lists t can.lock p h);
     }
 
 -- no row under a bucket that was taken has a hash: the hash of the others is that of all
 hashed_inside : (t : TableView) (bucket e hash : ℕ) (p q : PassView) (chain : BodyList) → bucket < t.shape.buckets → HasOnlyHash t.shape p.view e hash → TookLock t (Bucket bucket) p q (contents.Bucket chain) → HasOnlyHash t.shape q.view e hash
 hashed_inside t bucket e hash p q chain there hashed took k h hold held stored =
-    let named : lock_named t.shape took.hold.lock ≡ Bucket bucket = ap (lock_named t.shape) took.lock_is ∙ named_by_number t.shape (Bucket bucket) (bucket_there t.shape bucket there) in
+    let named : lock_named t.shape took.hold.lock ≡ Bucket bucket = ap (lock_named t.shape) took.lock_is ∙ named_by_number t.shape (Bucket bucket) (lt-ltb bucket t.shape.buckets there) in
     by_test took.hold.lock k (λ b. cond b (Some took.hold) (hold_at k p.view.held) ≡ Some hold → h ≡ hash)
     (λ same found.
     let bare : stored_in (content t.shape (Bucket bucket) took.hold.log) e ≡ Some h = (λ i. stored_in (content t.shape ((sym named ∙ ap (lock_named t.shape) same) i) ((some_is found) i).log) e) ∙ stored in
@@ -216,7 +215,7 @@ pub record Worked (t : TableView) (bucket e : ℕ) (q r : PassView) (bodies : Li
 
 module _ {t : TableView} {bucket e : ℕ} {q : PassView} {bodies : List Stored} (b : Inside t bucket e q bodies) where
   is_there : IsTrue (is_lock t.shape (Bucket bucket))
-  is_there = bucket_there t.shape bucket b.there
+  is_there = lt-ltb bucket t.shape.buckets b.there
 
   held_here : (k : ℕ) → k ≡ b.hold.lock → hold_at k q.view.held ≡ Some b.hold
   held_here k is =

@@ -41,7 +41,7 @@ use Rattle.lru_ops.specs.declared.probing.Destination.TheVariants.{LocalFree}
 use Rattle.lru_ops.specs.Askings.{AreEvicts, Does, held_after, lists_after, notes_after, came_after}
 use Rattle.lru_ops.specs.Evictions.{SawHolders}
 use Rattle.lru_ops.specs.Filling.{AreFresh, FilledUp, MovedAll, MovesFree, turn_told, CanFill, Flushes, FlushedAll, flushed_notes, off_notes}
-use Rattle.lru_ops.specs.GlobalWork.{HoldsGlobal, Rotated}
+use Rattle.lru_ops.specs.GlobalWork.{HoldsGlobal, Rotated, both_lists}
 use Rattle.lru_ops.specs.OwnTurns.{rows_on}
 use Rattle.lru_ops.proofs.Asked.{log_at, log_first, only_hash_on}
 use Rattle.lru_ops.proofs.FilledOn.{same_tail}
@@ -170,8 +170,8 @@ noted_moved {moved = moved} f n m below was =
 -- The whole work
 
 module _ {t : TableView} {set flushed_set rotated moved_set out : SetView} {lists flushed_lists moved_lists lists_out : LocalView} {flushing flushing_after : Noted Flush} {turning turning_after : RotateNotes} {moving moving_after : Noted ℕ} {shrinking shrinking_after : ShrinkNotes} {q u v w s : PassView} {count target : ℕ}
-    (can : CanFill t set lists q) (none_free : lists.free.bodies ≡ []) (fresh : AreFresh q) (f : FlushedAll t set flushed_set lists flushed_lists flushing flushing_after q u) (r : Rotated t flushed_set rotated turning turning_after u v)
-    (m : MovedAll t rotated moved_set flushed_lists moved_lists moving moving_after v w count) (target_is : target ≡ global_target - count) (l : Lacked t target moved_set out moved_lists lists_out shrinking shrinking_after w s) where
+    (can : CanFill t set lists q) (none_free : lists.free.bodies ≡ []) (fresh : AreFresh q) (f : FlushedAll t (both_lists set lists q) (both_lists flushed_set flushed_lists u) flushing flushing_after) (r : Rotated t flushed_set rotated turning turning_after u v)
+    (m : MovedAll t (both_lists rotated flushed_lists v) (both_lists moved_set moved_lists w) moving moving_after count) (target_is : target ≡ global_target - count) (l : Lacked t target moved_set out moved_lists lists_out shrinking shrinking_after w s) where
   abbrev active : List Visit
   active = r.rotation.active
 
@@ -277,7 +277,7 @@ module _ {t : TableView} {set flushed_set rotated moved_set out : SetView} {list
       (noted_walked rotates first_notes first_around fresh.0
       (noted_flushed f.flushes no_notes no_notes fresh.0 fresh.1)))
 
-  pub filled_up : FilledUp t set out lists lists_out flushing flushing_after turning turning_after moving moving_after shrinking shrinking_after q s target
+  pub filled_up : FilledUp t (both_lists set lists q) (both_lists out lists_out s) (record { flushed = flushing; turning = turning; moved = moving; shrinking = shrinking }) (record { flushed = flushing_after; turning = turning_after; moved = moving_after; shrinking = shrinking_after }) target
   filled_up = record {
     flushed = f.flushed;
     active = active;
@@ -344,11 +344,11 @@ module _ {t : TableView} {set flushed_set rotated moved_set out : SetView} {list
 
 -- nothing is pending on the local lists once all was flushed and free elements moved
 pub none_pending_moved : {t : TableView} {set flushed_set rotated moved_set : SetView} {lists flushed_lists moved_lists : LocalView} {flushing flushing_after : Noted Flush} {moving moving_after : Noted ℕ} {q u v w : PassView} {count : ℕ}
-    → FlushedAll t set flushed_set lists flushed_lists flushing flushing_after q u → MovedAll t rotated moved_set flushed_lists moved_lists moving moving_after v w count → moved_lists.pending ≡ []
+    → FlushedAll t (both_lists set lists q) (both_lists flushed_set flushed_lists u) flushing flushing_after → MovedAll t (both_lists rotated flushed_lists v) (both_lists moved_set moved_lists w) moving moving_after count → moved_lists.pending ≡ []
 none_pending_moved f m = m.pending_is ∙ ap (λ (z : LocalView). z.pending) f.lists_are
 
 -- and as many moved at most as a turn is to give
-pub few_moved : {t : TableView} {set set_after : SetView} {lists lists_after : LocalView} {notes notes_after : Noted ℕ} {p q : PassView} {count : ℕ} → MovedAll t set set_after lists lists_after notes notes_after p q count → count ≤ global_target
+pub few_moved : {t : TableView} {set set_after : SetView} {lists lists_after : LocalView} {notes notes_after : Noted ℕ} {p q : PassView} {count : ℕ} → MovedAll t (both_lists set lists p) (both_lists set_after lists_after q) notes notes_after count → count ≤ global_target
 few_moved {set = set} m =
     let long : length m.moved ≡ min global_target (length (numbers set.free.bodies)) = ap length m.moved_are ∙ length-take global_target (numbers set.free.bodies) in
     let all = m.count_is in

@@ -49,7 +49,7 @@ use Rattle.lru_lists.specs.Notes.{AreNoted}
 use Rattle.lru_lists.specs.Sets.{SetView, IsSet, moved_in, row_on, times_listed, times_on as times_on_set}
 use Rattle.lru_lists.proofs.NoteLemmas.{noted_none, noted_more}
 use Rattle.lru_ops.specs.Askings.{asked_after}
-use Rattle.lru_ops.specs.GlobalWork.{HoldsGlobal}
+use Rattle.lru_ops.specs.GlobalWork.{HoldsGlobal, both_lists}
 use Rattle.lru_ops.specs.Filling.{CanFill, Flushes, FlushedOne, FlushedAll, flushed_to, flushed_notes, off_notes}
 use Rattle.lru_ops.proofs.Asked.{log_at, log_first, only_hash_on, other_local}
 use Rattle.lru_ops.proofs.FlushRows.{tail_split, no_tail, without_tail, before_tail, found_front, found_tail, not_free, came_top, off_second, flushed_more}
@@ -413,7 +413,7 @@ module _ {t : TableView} {set : SetView} {lists : LocalView} {p : PassView} (can
                   (can.hashed x.element x.hash (ap (stored_hash x.element) pending_is ∙ (ap (λ (z : Row). stored_hash z.element (front ++ row ∷ [])) same ∙ (found_tail front row none_in_front ∙ ap (λ (z : Row). Some z.hash) (sym same)))))
               hashed_then x (inr was) = only_hash_on t.shape p.view r.view x.element x.hash logs_r (can.walk.hashed x was)
 
-          pub flushed_one : FlushedOne t row set set_then lists lists_then p r flush
+          pub flushed_one : FlushedOne t row (both_lists set lists p) (both_lists set_then lists_then r) flush
           flushed_one = record {
             row_is = refl;
             set_is = refl;
@@ -424,9 +424,9 @@ module _ {t : TableView} {set : SetView} {lists : LocalView} {p : PassView} (can
 
 -- From the clauses of the calls
 pub flushed_tail : {t : TableView} {set set_after : SetView} {lists lists_after : LocalView} {p m r : PassView} {row : Row} {bit : Bool} (can : CanFill t set lists p) (tail : Some row ≡ tail_row lists.pending) (clear : Cleared row.element p m bit) (home : Rehomed t row.element (homes.In Global) m r)
-    → lists_after ≡ without_pending row.element lists → IsLocal lists_after → set_after ≡ moved_in row (flushed_to bit) set → IsSet set_after → FlushedOne t row set set_after lists lists_after p r (record { element = row.element; hash = row.hash; bit = bit })
+    → lists_after ≡ without_pending row.element lists → IsLocal lists_after → set_after ≡ moved_in row (flushed_to bit) set → IsSet set_after → FlushedOne t row (both_lists set lists p) (both_lists set_after lists_after r) (record { element = row.element; hash = row.hash; bit = bit })
 flushed_tail {t} {set} {set_after} {lists} {lists_after} {p} {m} {r} {row} {bit} can tail clear home lists_are lists_whole set_is set_whole =
-    subst (λ (z : SetView × LocalView). FlushedOne t row set z.0 lists z.1 p r (record { element = row.element; hash = row.hash; bit = bit })) (λ i. (sym set_is i, sym lists_are i))
+    subst (λ (z : SetView × LocalView). FlushedOne t row (both_lists set lists p) (both_lists z.0 z.1 r) (record { element = row.element; hash = row.hash; bit = bit })) (λ i. (sym set_is i, sym lists_are i))
     (flushed_one can tail clear home (subst IsSet set_is set_whole) (subst IsLocal lists_are lists_whole))
 
 -- One flush after others
@@ -523,7 +523,7 @@ flushed_nothing {t} {set} {lists} {p} notes can = record {
 }
 
 -- what is left of pending then, which is shorter
-left_pending : {t : TableView} {middle set_after : SetView} {between lists_after : LocalView} {q r : PassView} {row : Row} {flush : Flush} → CanFill t middle between q → (tail : Some row ≡ tail_row between.pending) → FlushedOne t row middle set_after between lists_after q r flush → lists_after.pending ≡ (tail_split between.pending row tail).0
+left_pending : {t : TableView} {middle set_after : SetView} {between lists_after : LocalView} {q r : PassView} {row : Row} {flush : Flush} → CanFill t middle between q → (tail : Some row ≡ tail_row between.pending) → FlushedOne t row (both_lists middle between q) (both_lists set_after lists_after r) flush → lists_after.pending ≡ (tail_split between.pending row tail).0
 left_pending {t} {middle} {set_after} {between} {lists_after} {q} {r} {row} {flush} can tail one =
     let split = tail_split between.pending row tail in
     let front : List Row = split.0 in
@@ -531,7 +531,7 @@ left_pending {t} {middle} {set_after} {between} {lists_after} {q} {r} {row} {flu
     let none : times row.element (elements_of front) ≡ 0 = before_tail front row (let same : times row.element (elements_of between.pending) ≡ times row.element (elements_of (front ++ row ∷ [])) = ap (λ (l : List Row). times row.element (elements_of l)) split.1 in omega (arith, once, same)) in
     ap (λ (z : LocalView). z.pending) one.lists_are ∙ (ap (without_its_row row.element) split.1 ∙ without_tail row.element front row refl none)
 
-pub fewer_pending : {t : TableView} {middle set_after : SetView} {between lists_after : LocalView} {q r : PassView} {row : Row} {flush : Flush} → CanFill t middle between q → Some row ≡ tail_row between.pending → FlushedOne t row middle set_after between lists_after q r flush → length lists_after.pending < length between.pending
+pub fewer_pending : {t : TableView} {middle set_after : SetView} {between lists_after : LocalView} {q r : PassView} {row : Row} {flush : Flush} → CanFill t middle between q → Some row ≡ tail_row between.pending → FlushedOne t row (both_lists middle between q) (both_lists set_after lists_after r) flush → length lists_after.pending < length between.pending
 fewer_pending {t} {middle} {set_after} {between} {lists_after} {q} {r} {row} {flush} can tail one =
     let split = tail_split between.pending row tail in
     let left : length lists_after.pending ≡ length split.0 = ap length (left_pending can tail one) in
@@ -539,7 +539,7 @@ fewer_pending {t} {middle} {set_after} {between} {lists_after} {q} {r} {row} {fl
     omega (arith, left, all)
 
 pub flushed_one_more : {t : TableView} {set middle set_after : SetView} {lists between lists_after : LocalView} {notes noted_before notes_after : Noted Flush} {p q r : PassView} {row : Row} {flush : Flush}
-    → FlushedSome t set middle lists between notes noted_before p q → Some row ≡ tail_row between.pending → FlushedOne t row middle set_after between lists_after q r flush → AreNoted (flush ∷ []) noted_before notes_after → FlushedSome t set set_after lists lists_after notes notes_after p r
+    → FlushedSome t set middle lists between notes noted_before p q → Some row ≡ tail_row between.pending → FlushedOne t row (both_lists middle between q) (both_lists set_after lists_after r) flush → AreNoted (flush ∷ []) noted_before notes_after → FlushedSome t set set_after lists lists_after notes notes_after p r
 flushed_one_more {t} {set} {middle} {set_after} {lists} {between} {lists_after} {notes} {noted_before} {notes_after} {p} {q} {r} {row} {flush} so_far tail one noted =
     let split = tail_split between.pending row tail in
     let front : List Row = split.0 in
@@ -558,7 +558,7 @@ flushed_one_more {t} {set} {middle} {set_after} {lists} {between} {lists_after} 
       flushes = flushes_on so_far.flushes one.flushes;
     }
 
-pub flushed_all : {t : TableView} {set set_after : SetView} {lists lists_after : LocalView} {notes notes_after : Noted Flush} {p q : PassView} → FlushedSome t set set_after lists lists_after notes notes_after p q → None ≡ tail_row lists_after.pending → FlushedAll t set set_after lists lists_after notes notes_after p q
+pub flushed_all : {t : TableView} {set set_after : SetView} {lists lists_after : LocalView} {notes notes_after : Noted Flush} {p q : PassView} → FlushedSome t set set_after lists lists_after notes notes_after p q → None ≡ tail_row lists_after.pending → FlushedAll t (both_lists set lists p) (both_lists set_after lists_after q) notes notes_after
 flushed_all {t} {set} {set_after} {lists} {lists_after} {notes} {notes_after} {p} {q} so_far none =
     let empty : lists_after.pending ≡ [] = no_tail lists_after.pending none in
     record {

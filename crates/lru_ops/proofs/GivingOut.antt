@@ -57,7 +57,7 @@ use Rattle.lru_lists.specs.Notes.{AreNoted}
 use Rattle.lru_lists.specs.Sets.{SetView, IsSet, listed, moved_in, with_free}
 use Rattle.lru_ops.specs.Askings.{asked_by, asked_after, owners_with, owners_after, notes_after, lists_after, touch_by, AreEvicts}
 use Rattle.lru_ops.specs.Evictions.{SawHolders}
-use Rattle.lru_ops.specs.OwnTurns.{note_of, rows_on, try_of, CanWork, Worked, CanGiveOut, GaveOut, GivesOut}
+use Rattle.lru_ops.specs.OwnTurns.{note_of, rows_on, try_of, CanWork, Worked, CanGiveOut, GaveOut, GivesOut, in_turn}
 use Rattle.lru_ops.proofs.OwnWalk.{now_first, DidOwn, did_own}
 use Rattle.lru_ops.proofs.PassWork.{held_alone}
 use Rattle.lru_ops.proofs.Holders.{saw_on_none, saw_none}
@@ -281,7 +281,7 @@ none_first : (bodies : List Stored) → bodies ≡ [] → slice_get bodies 0 ≡
 none_first bodies none = ap (λ (l : List Stored). slice_get l 0) none
 
 module _ {t : TableView} {set worked : SetView} {turning turning_after : RotateNotes} {shrinking shrinking_after : ShrinkNotes} {shrunk : Bool} {q r : PassView}
-    (can : CanWork t set q) (w : Worked t set worked turning turning_after shrinking shrinking_after shrunk q r) where
+    (can : CanWork t set q) (w : Worked t (in_turn set turning shrinking) (in_turn worked turning_after shrinking_after) shrunk q r) where
   abbrev hold_there : Hold
   hold_there = can.holds.lists.hold
 

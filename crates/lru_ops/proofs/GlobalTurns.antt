@@ -58,10 +58,12 @@ use Rattle.lru_lists.specs.declared.notes.ShrinkNotes.{ShrinkNotes}
 use Rattle.lru_lists.specs.Notes.{AreNoted}
 use Rattle.lru_lists.specs.Sets.{SetView, row_on}
 use Rattle.lru_lists.proofs.SetLemmas.{its_row}
+use Rattle.lru_ops.specs.declared.refill.GlobalNotes.{GlobalNotes}
 use Rattle.lru_ops.specs.declared.refill.Refilled.{Refilled}
 use Rattle.lru_ops.specs.Askings.{AreEvicts, owners_after}
 use Rattle.lru_ops.specs.Evictions.{SawHolders}
 use Rattle.lru_ops.specs.Filling.{FilledUp, lacks, turn_told, IsGlobalTurn, global_note}
+use Rattle.lru_ops.specs.GlobalWork.{both_lists}
 use Rattle.lru_ops.specs.Refills.{CanRefill, FilledFrom, IsToldRefill}
 use Rattle.lru_ops.specs.Lists.{GaveNone, IsHeldByOther}
 use Rattle.lru_ops.specs.OwnTurns.{rows_on}
@@ -114,8 +116,8 @@ module _ {t : TableView} {lists : LocalView} {p q : PassView} {set : SetView} (r
   noted_q = ap (λ (z : PassView). z.view.notes) took.after_is ∙ ap (λ (l : List Notes). no_notes ∷ l) r.noted
 
   -- Before they are given back
-  module _ {out : SetView} {lists_out : LocalView} {flushing flushing_after : Noted Flush} {turning turning_after : RotateNotes} {moving moving_after : Noted ℕ} {shrinking shrinking_after : ShrinkNotes} {s : PassView} {target : ℕ}
-      (y : FilledUp t set out lists lists_out flushing flushing_after turning turning_after moving moving_after shrinking shrinking_after q s target) where
+  module _ {out : SetView} {lists_out : LocalView} {noting noting_after : GlobalNotes} {s : PassView} {target : ℕ}
+      (y : FilledUp t (both_lists set lists q) (both_lists out lists_out s) noting noting_after target) where
     abbrev turn : GlobalPart
     turn = turn_told y.flushed y.active y.inactive y.free target y.looks y.forced
 
@@ -390,33 +392,33 @@ some_lack (suc n) = lt-ltb 0 (suc n) (omega arith)
 
 -- The whole turn, from the clauses of its calls. No note was made before it.
 module _ {t : TableView} {lists : LocalView} {p q : PassView} {set : SetView} (r : CanRefill t lists p) (took : TookLock t Global p q (contents.Set set))
-    {out : SetView} {lists_out : LocalView} {flushing flushing_after : Noted Flush} {turning turning_after : RotateNotes} {moving moving_after : Noted ℕ} {shrinking shrinking_after : ShrinkNotes} {s : PassView} {target : ℕ}
-    (y : FilledUp t set out lists lists_out flushing flushing_after turning turning_after moving moving_after shrinking shrinking_after q s target)
-    (no_flush : flushing ≡ noted.Kept []) (no_turning : turning ≡ record { active = noted.Kept []; inactive = noted.Kept [] }) (no_moving : moving ≡ noted.Kept []) (no_shrinking : shrinking ≡ record { looks = noted.Kept []; forced = noted.Kept [] })
-    {shrunk : Bool} (shrunk_is : shrunk ≡ lacks target) (given_part : Option Part) (part_told : IfSome given_part (IsGlobalTurn flushing_after turning_after moving_after shrunk target shrinking_after)) where
-  as_told : (given_part : Option Part) → IfSome given_part (IsGlobalTurn flushing_after turning_after moving_after shrunk target shrinking_after) → IfSome given_part (λ x. x ≡ part r took y)
+    {out : SetView} {lists_out : LocalView} {noting noting_after : GlobalNotes} {s : PassView} {target : ℕ}
+    (y : FilledUp t (both_lists set lists q) (both_lists out lists_out s) noting noting_after target)
+    (no_flush : noting.flushed ≡ noted.Kept []) (no_turning : noting.turning ≡ record { active = noted.Kept []; inactive = noted.Kept [] }) (no_moving : noting.moved ≡ noted.Kept []) (no_shrinking : noting.shrinking ≡ record { looks = noted.Kept []; forced = noted.Kept [] })
+    {shrunk : Bool} (shrunk_is : shrunk ≡ lacks target) (given_part : Option Part) (part_told : IfSome given_part (IsGlobalTurn noting_after.flushed noting_after.turning noting_after.moved shrunk target noting_after.shrinking)) where
+  as_told : (given_part : Option Part) → IfSome given_part (IsGlobalTurn noting_after.flushed noting_after.turning noting_after.moved shrunk target noting_after.shrinking) → IfSome given_part (λ x. x ≡ part r took y)
   as_told None is = tt
   as_told (Some x) is =
       is y.flushed y.active y.inactive y.free y.looks y.forced
-      (subst (λ (z : Noted Flush). AreNoted y.flushed z flushing_after) no_flush y.noted_flushed)
-      (subst (λ (z : RotateNotes). AreNoted y.active z.active turning_after.active) no_turning y.noted_active)
-      (subst (λ (z : RotateNotes). AreNoted y.inactive z.inactive turning_after.inactive) no_turning y.noted_inactive)
-      (subst (λ (z : Noted ℕ). AreNoted y.free z moving_after) no_moving y.noted_free)
-      (subst (λ (z : ShrinkNotes). AreNoted y.looks z.looks shrinking_after.looks) no_shrinking y.noted_looks)
-      (subst (λ (z : ShrinkNotes). AreNoted y.forced z.forced shrinking_after.forced) no_shrinking y.noted_forced)
+      (subst (λ (z : Noted Flush). AreNoted y.flushed z noting_after.flushed) no_flush y.noted_flushed)
+      (subst (λ (z : RotateNotes). AreNoted y.active z.active noting_after.turning.active) no_turning y.noted_active)
+      (subst (λ (z : RotateNotes). AreNoted y.inactive z.inactive noting_after.turning.inactive) no_turning y.noted_inactive)
+      (subst (λ (z : Noted ℕ). AreNoted y.free z noting_after.moved) no_moving y.noted_free)
+      (subst (λ (z : ShrinkNotes). AreNoted y.looks z.looks noting_after.shrinking.looks) no_shrinking y.noted_looks)
+      (subst (λ (z : ShrinkNotes). AreNoted y.forced z.forced noting_after.shrinking.forced) no_shrinking y.noted_forced)
       ∙ ap (λ (b : Bool). parts.Global (global.Turn y.flushed y.active y.inactive y.free (global_note b target y.looks y.forced))) shrunk_is
 
   pub may_give_refill : MayGiveBack t Global s (contents.Set out) given_part
   may_give_refill = may_give_global r took y given_part (as_told given_part part_told)
 
-  refilled_is : (refilled : Option Refilled) → IfSome refilled (IsToldRefill flushing_after moving_after shrinking_after) → IfSome refilled (λ (z : Refilled). (z.flushed ≡ map flush_visit y.flushed) × (z.gained ≡ y.free ++ freed y.looks y.forced))
+  refilled_is : (refilled : Option Refilled) → IfSome refilled (IsToldRefill noting_after.flushed noting_after.moved noting_after.shrinking) → IfSome refilled (λ (z : Refilled). (z.flushed ≡ map flush_visit y.flushed) × (z.gained ≡ y.free ++ freed y.looks y.forced))
   refilled_is None is = tt
   refilled_is (Some z) is =
       is y.flushed y.free y.looks y.forced
-      (subst (λ (z : Noted Flush). AreNoted y.flushed z flushing_after) no_flush y.noted_flushed)
-      (subst (λ (z : Noted ℕ). AreNoted y.free z moving_after) no_moving y.noted_free)
-      (subst (λ (z : ShrinkNotes). AreNoted y.looks z.looks shrinking_after.looks) no_shrinking y.noted_looks)
-      (subst (λ (z : ShrinkNotes). AreNoted y.forced z.forced shrinking_after.forced) no_shrinking y.noted_forced)
+      (subst (λ (z : Noted Flush). AreNoted y.flushed z noting_after.flushed) no_flush y.noted_flushed)
+      (subst (λ (z : Noted ℕ). AreNoted y.free z noting_after.moved) no_moving y.noted_free)
+      (subst (λ (z : ShrinkNotes). AreNoted y.looks z.looks noting_after.shrinking.looks) no_shrinking y.noted_looks)
+      (subst (λ (z : ShrinkNotes). AreNoted y.forced z.forced noting_after.shrinking.forced) no_shrinking y.noted_forced)
 
   filled_as : (u : PassView) (refilled : Option Refilled) → IfSome refilled (λ (z : Refilled). (z.flushed ≡ map flush_visit y.flushed) × (z.gained ≡ y.free ++ freed y.looks y.forced)) → (given_part : Option Part) → IfSome given_part (λ x. x ≡ part r took y)
       → GaveBack t Global s u (contents.Set out) given_part → FilledFrom t lists lists_out p u refilled
@@ -428,5 +430,5 @@ module _ {t : TableView} {lists : LocalView} {p q : PassView} {set : SetView} (r
       let one : made.hold ≡ can.hold = same_head (sym made.innermost ∙ can.innermost) in
       filled_by r took y this can (subst (λ (h : Hold). GaveAs t s u h this []) one (gave_as t s u this made)) (inl refl) refilled told
 
-  pub filled_from : (u : PassView) (refilled : Option Refilled) → IfSome refilled (IsToldRefill flushing_after moving_after shrinking_after) → GaveBack t Global s u (contents.Set out) given_part → FilledFrom t lists lists_out p u refilled
+  pub filled_from : (u : PassView) (refilled : Option Refilled) → IfSome refilled (IsToldRefill noting_after.flushed noting_after.moved noting_after.shrinking) → GaveBack t Global s u (contents.Set out) given_part → FilledFrom t lists lists_out p u refilled
   filled_from u refilled told gave = filled_as u refilled (refilled_is refilled told) given_part (as_told given_part part_told) gave

@@ -34,12 +34,13 @@ use Rattle.lru_lists.specs.declared.notes.ShrinkNotes.{ShrinkNotes}
 use Rattle.lru_lists.specs.Sets.{SetView, IsSet, IsListed, row_on, times_listed}
 use Rattle.lru_lists.proofs.SetLemmas.{listed_present}
 use Rattle.lru_rotate.specs.Rotating.{Rotation, cleared as cleared_visits}
+use Rattle.lru_shrink.specs.Asking.{Questions}
 use Rattle.lru_shrink.specs.Shrunk.{Shrink, AreStacked, look_probes, try_probes, cleared as cleared_looks}
 use Rattle.lru_ops.specs.declared.probing.Destination.{Destination}
 use Rattle.lru_ops.specs.declared.probing.Destination.TheVariants.{LocalFree}
 use Rattle.lru_ops.specs.Askings.{calls_noted, probes_made, held_after, lists_after, Does, hash_in, Since, MayAsk, MayChase}
 use Rattle.lru_ops.specs.Evictions.{HoldsLists, HoldsFor}
-use Rattle.lru_ops.specs.GlobalWork.{HoldsGlobal, CanWalk, Rotated, CanShrinkInto, ShrinksInto, ShrunkInto}
+use Rattle.lru_ops.specs.GlobalWork.{HoldsGlobal, CanWalk, Rotated, CanShrinkInto, ShrinksInto, ShrunkInto, both_lists}
 use Rattle.lru_ops.specs.OwnTurns.{rows_on}
 use Rattle.lru_ops.proofs.Asked.{log_at, log_after, only_hash_on, same_table, since_start}
 use Rattle.lru_ops.proofs.LocalWalk.{left_after, left_free, left_rows, local_held, local_taken}
@@ -48,8 +49,8 @@ use Rattle.lru_ops.proofs.SetWork.{stacked_on, stacked_all, stacked_rooms, lengt
 
 -- What a shrink stacked on what lay there
 
-module _ {scans target : ℕ} {before after : SetView} {calls calls_after : List BitCall} {probes probes_after : List ProbeCall} {gives : Stored → Type 0} {out out_after : BodyList} {notes notes_after : ShrinkNotes} {answer : ℕ}
-    (s : Shrink scans target before after calls calls_after probes probes_after gives out out_after notes notes_after answer) where
+module _ {scans target : ℕ} {before after : SetView} {asked asked_after : Questions} {gives : Stored → Type 0} {out out_after : BodyList} {notes notes_after : ShrinkNotes} {answer : ℕ}
+    (s : Shrink scans target gives (record { set = before; asked = asked; out = out; notes = notes }) (record { set = after; asked = asked_after; out = out_after; notes = notes_after }) answer) where
   pub stacked_times : (e : ℕ) → times e (numbers out_after.bodies) ≡ times e (freed s.looks s.forced) + times e (numbers out.bodies)
   stacked_times e =
       ap (times e) (stacked_on gives (freed s.looks s.forced) out out_after s.left)
@@ -254,7 +255,8 @@ module _ {t u : TableView} {to : Destination} {lock : DomainId} {rows : List Row
 -- a shrink into the local free list
 module _ {t u : TableView} {to : Destination} {lock : DomainId} {rows : List Row} {start p q : PassView} {before after : SetView} {lists lists_after : LocalView} {target : ℕ} {shrinking shrinking_after : ShrinkNotes}
     (into : CanShrinkInto t before lists p) (is : start ≡ p) (lock_is : lock ≡ Global) (to_is : to ≡ LocalFree) (rows_are : rows ≡ rows_on before) (since : Since u to lock rows start q)
-    (s : ShrinksInto target before after lists lists_after (calls_noted p.view.notes) (calls_noted q.view.notes) (probes_made (hash_in rows) p.view.steps) (probes_made (hash_in rows) q.view.steps) (IsSized u.shape) shrinking shrinking_after)
+    (s : ShrinksInto target (IsSized u.shape) (record { set = before; lists = lists; asked = record { calls = calls_noted p.view.notes; probes = probes_made (hash_in rows) p.view.steps }; notes = shrinking })
+    (record { set = after; lists = lists_after; asked = record { calls = calls_noted q.view.notes; probes = probes_made (hash_in rows) q.view.steps }; notes = shrinking_after }))
     (whole : IsSet after) (local_whole : IsLocal lists_after) where
   abbrev gone : List ℕ
   gone = freed s.shrink.looks s.shrink.forced
@@ -324,7 +326,7 @@ module _ {t u : TableView} {to : Destination} {lock : DomainId} {rows : List Row
     apart = λ e. subst (λ (z : LocalView). times_listed e after + times e (numbers z.free.bodies) ≤ 1) (sym s.lists_are) (stacked_apart s.shrink e (into.apart e));
   }
 
-  pub shrunk_into : ShrunkInto t target before after lists lists_after shrinking shrinking_after p q
+  pub shrunk_into : ShrunkInto t target (both_lists before lists p) (both_lists after lists_after q) shrinking shrinking_after
   shrunk_into = record {
     calls = end.calls;
     probes = end.probes;

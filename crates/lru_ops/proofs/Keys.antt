@@ -9,6 +9,7 @@ use Rattle.map_types.specs.declared.reply.Reply.TheVariants.{Done, Value, Refuse
 use Rattle.map_types.specs.Stored.{Stored}
 use Rattle.percpu_values.specs.BodyList.{BodyList}
 use Rattle.place_words.specs.declared.bucket_part.BucketPart.{BucketPart}
+use Rattle.place_words.specs.declared.bucket_part.BucketPart.TheVariants.{Delete, Take}
 use Rattle.place_words.specs.declared.history.Part.{Part}
 use Rattle.place_words.specs.declared.history.Part.TheVariants as parts
 use Rattle.place_words.specs.Turns.{Turn, bucket_of_key, on_lock, on_bucket_of}
@@ -17,9 +18,12 @@ use Rattle.place_table.specs.Calls.{CanCall, Called, spare_element}
 use Rattle.place_table.specs.Known.{turn_of, turn_at}
 use Rattle.place_table.specs.Passes.{PassView, TableView}
 use Rattle.place_table.specs.Views.{is_in_hand_of, with_in_hand, without_in_hand}
-use Rattle.place_table.proofs.Hands.{hand_back}
-use Rattle.lru_ops.specs.Lists.{Changed, Freed}
-use Rattle.lru_ops.specs.Under.{Enters, GivenBack, LooksUp, IsOut, Deletes, TakesOut}
+use Rattle.place_table.proofs.Going.{goes_of_table, goes_begun}
+use Rattle.place_table.proofs.Hands.{in_hand_more, hand_back}
+use Rattle.place_table.specs.BucketTurns.{TookOut}
+use Rattle.place_table.proofs.BucketTurned.{given_after}
+use Rattle.lru_ops.specs.Lists.{Changed, CanFree, Freed}
+use Rattle.lru_ops.specs.Under.{Enters, GivenBack, LooksUp}
 use Rattle.lru_ops.proofs.Ends.{changed_on, changed_given, in_no_hand, called_changed, trace_here}
 
 -- From where a call has entered the bucket of its key
@@ -41,9 +45,35 @@ module _ {t : TableView} {bucket : ℕ} {p q : PassView} {chain : BodyList} (can
       (trace_here t.shape p.cpu (spare_element p) (verbs.Lookup side key) (map (turn_at t.shape) (looks.gives.told ∷ [])) reply enters.evicts
       record { got = looks.got; turns_are = ap (λ (x : Turn). x ∷ []) (turn_here key here looks.gives); reply_is = looks.reply_is })
 
-  -- An element that was taken out is freed
-  module _ {r : PassView} {part : BucketPart} {body : Stored} (out : IsOut t (Some body)) (given : GivenBack t bucket q r (parts.Bucket part) (with_in_hand body.element q.cpu q.view.hand)) where
-    module _ {s : PassView} (freed : Freed t body r s) where
+  pub delete_missed : {s : PassView} {key : List ℕ} → bucket ≡ bucket_of_key t.shape key → GivenBack t bucket q s (parts.Bucket (Delete key None)) q.view.hand → Called t p s (verbs.Delete key) (Refused Enoent)
+  delete_missed {s} {key} here given =
+      called_changed (verbs.Delete key) (Refused Enoent) can enters.evicts (changed_here given) (hand_kept given)
+      (trace_here t.shape p.cpu (spare_element p) (verbs.Delete key) (map (turn_at t.shape) (given.told ∷ [])) (Refused Enoent) enters.evicts
+      record { gone = None; at_bucket = turn_at t.shape given.told; freeing = []; turns_are = refl; bucket_is = turn_here key here given; frees = refl; reply_is = refl })
+
+  pub take_missed : {s : PassView} {key : List ℕ} → bucket ≡ bucket_of_key t.shape key → GivenBack t bucket q s (parts.Bucket (Take key None)) q.view.hand → Called t p s (verbs.Take key) (Refused Enoent)
+  take_missed {s} {key} here given =
+      called_changed (verbs.Take key) (Refused Enoent) can enters.evicts (changed_here given) (hand_kept given)
+      (trace_here t.shape p.cpu (spare_element p) (verbs.Take key) (map (turn_at t.shape) (given.told ∷ [])) (Refused Enoent) enters.evicts
+      record { gone = None; at_bucket = turn_at t.shape given.told; freeing = []; turns_are = refl; bucket_is = turn_here key here given; frees = refl; reply_is = refl })
+
+  -- An element that was taken out may be freed once the bucket was given back
+  module _ {r m : PassView} {bodies left : List Stored} {key : List ℕ} {body : Stored} (out : TookOut t bucket q r bodies key body left) {part : BucketPart} (gave : GivenBack t bucket r m (parts.Bucket part) r.view.hand) where
+    abbrev given : GivenBack t bucket q m (parts.Bucket part) (with_in_hand body.element q.cpu q.view.hand)
+    given = given_after out gave
+
+    pub can_free : CanFree t body m
+    can_free = record {
+      of_table = goes_of_table t q m (given.step ∷ []) given.lost given.goes enters.inside.of_table;
+      begun = goes_begun q m (given.step ∷ []) given.lost given.goes enters.inside.begun;
+      no_lock = given.held;
+      real = out.is_out.0;
+      sized = out.is_out.1;
+      in_hand = (λ i. is_in_hand_of body.element (given.goes.cpu i) (given.hand_is i)) ∙ in_hand_more body.element q.cpu q.view.hand;
+      not_carried = ap (is_in_hand_of body.element m.cpu) (given.carried ∙ (ap (λ (z : PassView). z.view.carried) enters.took.after_is ∙ can.in_no_call.carries_nothing));
+    }
+
+    module _ {s : PassView} (freed : Freed t body m s) where
       pub changed_gone : Changed t p s (given.step ∷ freed.steps) (given.told ∷ freed.steps) given.lost
       changed_gone = changed_on (changed_here given) freed.changed
 
@@ -53,26 +83,16 @@ module _ {t : TableView} {bucket : ℕ} {p q : PassView} {chain : BodyList} (can
           ∙ (ap (λ (z : PassView). is_in_hand_of e c (without_in_hand body.element z.cpu (with_in_hand body.element z.cpu z.view.hand))) enters.took.after_is
           ∙ hand_back body.element p.cpu p.view.hand (in_no_hand can enters.evicts body.element p.cpu can.begun) e c)
 
-  pub delete_missed : {s : PassView} {key : List ℕ} → bucket ≡ bucket_of_key t.shape key → Deletes t bucket q s key None → Called t p s (verbs.Delete key) (Refused Enoent)
-  delete_missed {s} {key} here d =
-      called_changed (verbs.Delete key) (Refused Enoent) can enters.evicts (changed_here d.gives) (hand_kept d.gives)
-      (trace_here t.shape p.cpu (spare_element p) (verbs.Delete key) (map (turn_at t.shape) (d.gives.told ∷ [])) (Refused Enoent) enters.evicts
-      record { gone = None; at_bucket = turn_at t.shape d.gives.told; freeing = []; turns_are = refl; bucket_is = turn_here key here d.gives; frees = refl; reply_is = refl })
+  pub delete_done : {r m s : PassView} {bodies left : List Stored} {key : List ℕ} {body : Stored} → bucket ≡ bucket_of_key t.shape key → (out : TookOut t bucket q r bodies key body left) → (gave : GivenBack t bucket r m (parts.Bucket (Delete key (Some body.element))) r.view.hand) → Freed t body m s → Called t p s (verbs.Delete key) Done
+  delete_done {r} {m} {s} {bodies} {left} {key} {body} here out gave freed =
+      let whole = given_after out gave in
+      called_changed (verbs.Delete key) Done can enters.evicts (changed_gone out gave freed) (hand_gone out gave freed)
+      (trace_here t.shape p.cpu (spare_element p) (verbs.Delete key) (map (turn_at t.shape) (whole.told ∷ freed.steps)) Done enters.evicts
+      record { gone = Some body.element; at_bucket = turn_at t.shape whole.told; freeing = map (turn_at t.shape) freed.steps; turns_are = refl; bucket_is = turn_here key here whole; frees = freed.trace; reply_is = refl })
 
-  pub delete_done : {r s : PassView} {key : List ℕ} {body : Stored} → bucket ≡ bucket_of_key t.shape key → Deletes t bucket q r key (Some body) → Freed t body r s → Called t p s (verbs.Delete key) Done
-  delete_done {r} {s} {key} {body} here d freed =
-      called_changed (verbs.Delete key) Done can enters.evicts (changed_gone d.is_out d.gives freed) (hand_gone d.is_out d.gives freed)
-      (trace_here t.shape p.cpu (spare_element p) (verbs.Delete key) (map (turn_at t.shape) (d.gives.told ∷ freed.steps)) Done enters.evicts
-      record { gone = Some body.element; at_bucket = turn_at t.shape d.gives.told; freeing = map (turn_at t.shape) freed.steps; turns_are = refl; bucket_is = turn_here key here d.gives; frees = freed.trace; reply_is = refl })
-
-  pub take_missed : {s : PassView} {key value : List ℕ} → bucket ≡ bucket_of_key t.shape key → TakesOut t bucket q s key value None → Called t p s (verbs.Take key) (Refused Enoent)
-  take_missed {s} {key} here d =
-      called_changed (verbs.Take key) (Refused Enoent) can enters.evicts (changed_here d.gives) (hand_kept d.gives)
-      (trace_here t.shape p.cpu (spare_element p) (verbs.Take key) (map (turn_at t.shape) (d.gives.told ∷ [])) (Refused Enoent) enters.evicts
-      record { gone = None; at_bucket = turn_at t.shape d.gives.told; freeing = []; turns_are = refl; bucket_is = turn_here key here d.gives; frees = refl; reply_is = refl })
-
-  pub take_done : {r s : PassView} {key value : List ℕ} {body : Stored} → bucket ≡ bucket_of_key t.shape key → TakesOut t bucket q r key value (Some body) → Freed t body r s → Called t p s (verbs.Take key) (Value value)
-  take_done {r} {s} {key} {value} {body} here d freed =
-      called_changed (verbs.Take key) (Value value) can enters.evicts (changed_gone d.is_out d.gives freed) (hand_gone d.is_out d.gives freed)
-      (trace_here t.shape p.cpu (spare_element p) (verbs.Take key) (map (turn_at t.shape) (d.gives.told ∷ freed.steps)) (Value value) enters.evicts
-      record { gone = Some (body.element, value); at_bucket = turn_at t.shape d.gives.told; freeing = map (turn_at t.shape) freed.steps; turns_are = refl; bucket_is = turn_here key here d.gives; frees = freed.trace; reply_is = refl })
+  pub take_done : {r m s : PassView} {bodies left : List Stored} {key value : List ℕ} {body : Stored} → bucket ≡ bucket_of_key t.shape key → (out : TookOut t bucket q r bodies key body left) → (gave : GivenBack t bucket r m (parts.Bucket (Take key (Some (body.element, value)))) r.view.hand) → Freed t body m s → Called t p s (verbs.Take key) (Value value)
+  take_done {r} {m} {s} {bodies} {left} {key} {value} {body} here out gave freed =
+      let whole = given_after out gave in
+      called_changed (verbs.Take key) (Value value) can enters.evicts (changed_gone out gave freed) (hand_gone out gave freed)
+      (trace_here t.shape p.cpu (spare_element p) (verbs.Take key) (map (turn_at t.shape) (whole.told ∷ freed.steps)) (Value value) enters.evicts
+      record { gone = Some (body.element, value); at_bucket = turn_at t.shape whole.told; freeing = map (turn_at t.shape) freed.steps; turns_are = refl; bucket_is = turn_here key here whole; frees = freed.trace; reply_is = refl })

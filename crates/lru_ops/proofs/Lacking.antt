@@ -26,7 +26,7 @@ use Rattle.lru_lists.proofs.NoteLemmas.{noted_none}
 use Rattle.lru_ops.specs.declared.probing.Destination.TheVariants.{LocalFree}
 use Rattle.lru_ops.specs.Askings.{Does}
 use Rattle.lru_ops.specs.Filling.{ShrinksLacking, lacks, CanFill, global_note}
-use Rattle.lru_ops.specs.GlobalWork.{CanShrinkInto, ShrunkInto}
+use Rattle.lru_ops.specs.GlobalWork.{CanShrinkInto, ShrunkInto, both_lists}
 use Rattle.lru_ops.specs.OwnTurns.{rows_on, try_of}
 use Rattle.lru_ops.proofs.DoesOn.{does_nothing}
 use Rattle.lru_ops.proofs.SetWork.{looks_cleared, stacked_on, walk_tried}
@@ -37,12 +37,12 @@ lacking_note target looks forced = global_note (lacks target) target looks force
 
 -- From the clauses of the calls
 
-pub nothing_lacks : (t : TableView) (set : SetView) (lists : LocalView) (notes : ShrinkNotes) (p : PassView) (target : ℕ) → target ≡ 0 → ShrinksLacking t target set set lists lists notes notes p p
+pub nothing_lacks : (t : TableView) (set : SetView) (lists : LocalView) (notes : ShrinkNotes) (p : PassView) (target : ℕ) → target ≡ 0 → ShrinksLacking t target (both_lists set lists p) (both_lists set lists p) notes notes
 nothing_lacks t set lists notes p zero is = (refl, refl, refl, refl)
 nothing_lacks t set lists notes p (suc n) is = absurd (omega (arith, is))
 
-pub shrunk_lacking : {t : TableView} {set set_after : SetView} {lists lists_after : LocalView} {notes notes_after : ShrinkNotes} {p q : PassView} (target : ℕ) → 1 ≤ target → ShrunkInto t target set set_after lists lists_after notes notes_after p q
-    → ShrinksLacking t target set set_after lists lists_after notes notes_after p q
+pub shrunk_lacking : {t : TableView} {set set_after : SetView} {lists lists_after : LocalView} {notes notes_after : ShrinkNotes} {p q : PassView} (target : ℕ) → 1 ≤ target → ShrunkInto t target (both_lists set lists p) (both_lists set_after lists_after q) notes notes_after
+    → ShrinksLacking t target (both_lists set lists p) (both_lists set_after lists_after q) notes notes_after
 shrunk_lacking zero some into = absurd (omega (arith, some))
 shrunk_lacking (suc n) some into = into
 
@@ -93,7 +93,7 @@ none_lacked {t} {set} {lists} {p} notes into = record {
   leaves = into;
 }
 
-some_lacked : {t : TableView} {set set_after : SetView} {lists lists_after : LocalView} {notes notes_after : ShrinkNotes} {p q : PassView} (n : ℕ) → ShrunkInto t (suc n) set set_after lists lists_after notes notes_after p q → Lacked t (suc n) set set_after lists lists_after notes notes_after p q
+some_lacked : {t : TableView} {set set_after : SetView} {lists lists_after : LocalView} {notes notes_after : ShrinkNotes} {p q : PassView} (n : ℕ) → ShrunkInto t (suc n) (both_lists set lists p) (both_lists set_after lists_after q) notes notes_after → Lacked t (suc n) set set_after lists lists_after notes notes_after p q
 some_lacked {t} {set} {set_after} {lists} {lists_after} {notes} {notes_after} {p} {q} n s =
     let shrink = s.shrinks.shrink in
     record {
@@ -112,7 +112,7 @@ some_lacked {t} {set} {set_after} {lists} {lists_after} {notes} {notes_after} {p
       leaves = s.leaves;
     }
 
-pub lacked : {t : TableView} {set set_after : SetView} {lists lists_after : LocalView} {notes notes_after : ShrinkNotes} {p q : PassView} (target : ℕ) → CanShrinkInto t set lists p → ShrinksLacking t target set set_after lists lists_after notes notes_after p q
+pub lacked : {t : TableView} {set set_after : SetView} {lists lists_after : LocalView} {notes notes_after : ShrinkNotes} {p q : PassView} (target : ℕ) → CanShrinkInto t set lists p → ShrinksLacking t target (both_lists set lists p) (both_lists set_after lists_after q) notes notes_after
     → Lacked t target set set_after lists lists_after notes notes_after p q
 lacked {t} {set} {set_after} {lists} {lists_after} {notes} {notes_after} {p} {q} zero into s =
     subst (λ (z : SetView × LocalView × ShrinkNotes × PassView). Lacked t 0 set z.0 lists z.1 notes z.2 p z.3) (λ i. (sym s.0 i, sym s.1 i, sym s.2 i, sym s.3 i)) (none_lacked notes into)

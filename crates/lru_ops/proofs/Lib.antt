@@ -27,7 +27,6 @@ pub mod OwnWalk
 pub mod PassWork
 pub mod Popped
 pub mod Pushes
-pub mod Puts
 pub mod RefillTurns
 pub mod Removed
 pub mod SameFlushes
@@ -38,5 +37,3 @@ pub mod StolenPending
 pub mod StolenRounds
 pub mod ThiefWalk
 pub mod TookShared
-pub mod Turned
-pub mod Under

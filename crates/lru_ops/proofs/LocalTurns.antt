@@ -53,7 +53,8 @@ use Rattle.lru_ops.specs.Askings.{AreEvicts}
 use Rattle.lru_ops.specs.Evictions.{SawHolder, SawHolders}
 use Rattle.lru_ops.specs.OwnTurns.{try_of}
 use Rattle.lru_ops.specs.Shared.{ChangedHands}
-use Rattle.lru_ops.proofs.Ends.{among_behind, among_before, told_where, told_append, bits_append}
+use Rattle.place_table.proofs.TurnsOn.{among_behind, among_before, told_where, told_append}
+use Rattle.lru_ops.proofs.Ends.{bits_append}
 use Rattle.lru_ops.proofs.EvictTurns.{bucket_apart}
 use Rattle.lru_ops.proofs.Holders.{TellsNoHolder, saw_on, saw_none, saw_nothing, saw_on_both, saw_both}
 use Rattle.lru_ops.proofs.OwnTurns.{GaveAs, evict_lock, evicts_by, evicts_bits, chase_of, cleared_times}

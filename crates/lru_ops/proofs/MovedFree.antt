@@ -39,7 +39,7 @@ use Rattle.lru_lists.specs.Notes.{AreNoted}
 use Rattle.lru_lists.specs.Sets.{SetView, IsSet, with_free as with_set_free}
 use Rattle.lru_lists.proofs.NoteLemmas.{noted_none, noted_more}
 use Rattle.lru_ops.specs.Filling.{MovesFree, MovedOne, MovesOne, MovedAll, CanFill}
-use Rattle.lru_ops.specs.GlobalWork.{HoldsGlobal}
+use Rattle.lru_ops.specs.GlobalWork.{HoldsGlobal, both_lists}
 use Rattle.lru_ops.proofs.Asked.{log_at, log_first, only_hash_on}
 use Rattle.lru_ops.proofs.Flushes.{both_held, global_hold, local_hold, global_at, global_number, local_number, apart_locks, holds_own_local, same_rest, same_second, times_one}
 use Rattle.lru_ops.proofs.GivingOut.{popped_numbers, popped_room, popped_sized, some_first, first_of, head_number, without_head}
@@ -284,7 +284,7 @@ module _ {t : TableView} {set : SetView} {lists : LocalView} {p : PassView} {bod
         hands_empty = hands_r;
       }
 
-      pub went_one : MovedOne t set set_then lists lists_then p r body
+      pub went_one : MovedOne t (both_lists set lists p) (both_lists set_then lists_then r) body
       went_one = record {
         set_is = refl;
         lists_are = refl;
@@ -298,13 +298,13 @@ module _ {t : TableView} {set : SetView} {lists : LocalView} {p : PassView} {bod
   may_go_local = subst (λ (z : ℕ × ℕ). CanRehome t z.0 (homes.In (Local z.1)) p) (λ i. (sym element_is i, sym mine i)) (can_go_local can top)
 
   pub moved_one : {set_after : SetView} {lists_after : LocalView} {r : PassView} → Rehomed t element (homes.In (Local cpu)) p r → set_after ≡ with_set_free (popped set.free) set → IsSet set_after
-      → lists_after ≡ with_local_free (pushed body lists.free) lists → IsLocal lists_after → MovesOne t set set_after lists lists_after p r (Some element)
+      → lists_after ≡ with_local_free (pushed body lists.free) lists → IsLocal lists_after → MovesOne t (both_lists set lists p) (both_lists set_after lists_after r) (Some element)
   moved_one {set_after} {lists_after} {r} home set_is set_whole lists_are lists_whole =
       let there : Rehomed t body.element (homes.In (Local p.cpu)) p r = subst (λ (z : ℕ × ℕ). Rehomed t z.0 (homes.In (Local z.1)) p r) (λ i. (element_is i, mine i)) home in (
         body,
         sym top,
         element_is,
-        subst (λ (z : SetView × LocalView). MovedOne t set z.0 lists z.1 p r body) (λ i. (sym set_is i, sym lists_are i))
+        subst (λ (z : SetView × LocalView). MovedOne t (both_lists set lists p) (both_lists z.0 z.1 r) body) (λ i. (sym set_is i, sym lists_are i))
             (went_one can top there (subst IsSet set_is set_whole) (subst IsLocal lists_are lists_whole)),
       )
 
@@ -386,10 +386,10 @@ moved_nothing {t} {set} {lists} {p} notes can = record {
 }
 
 pub moved_one_more : {t : TableView} {set middle set_after : SetView} {lists between lists_after : LocalView} {notes noted_before notes_after : Noted ℕ} {p q r : PassView} {count element : ℕ}
-    → MovedSome t set middle lists between notes noted_before p q count → count < global_target → MovesOne t middle set_after between lists_after q r (Some element) → AreNoted (element ∷ []) noted_before notes_after → MovedSome t set set_after lists lists_after notes notes_after p r (count + 1)
+    → MovedSome t set middle lists between notes noted_before p q count → count < global_target → MovesOne t (both_lists middle between q) (both_lists set_after lists_after r) (Some element) → AreNoted (element ∷ []) noted_before notes_after → MovedSome t set set_after lists lists_after notes notes_after p r (count + 1)
 moved_one_more {t} {set} {middle} {set_after} {lists} {between} {lists_after} {notes} {noted_before} {notes_after} {p} {q} {r} {count} {element} so_far under one noted =
     let body : Stored = one.0 in
-    let did : MovedOne t middle set_after between lists_after q r body = one.3 in
+    let did : MovedOne t (both_lists middle between q) (both_lists set_after lists_after r) body = one.3 in
     let free_after : numbers set_after.free.bodies ≡ drop 1 (numbers middle.free.bodies) = ap (λ (z : SetView). numbers z.free.bodies) did.set_is ∙ popped_numbers middle.free.bodies middle.free.spare in
     let split : numbers middle.free.bodies ≡ body.element ∷ numbers set_after.free.bodies = head_number middle.free.bodies body one.1 ∙ ap (λ (l : List ℕ). body.element ∷ l) (sym free_after) in
     let moved : List ℕ = so_far.moved ++ body.element ∷ [] in
@@ -409,7 +409,7 @@ moved_one_more {t} {set} {middle} {set_after} {lists} {between} {lists_after} {n
     }
 
 -- as many as a turn is to give
-pub moved_enough : {t : TableView} {set set_after : SetView} {lists lists_after : LocalView} {notes notes_after : Noted ℕ} {p q : PassView} {count : ℕ} → MovedSome t set set_after lists lists_after notes notes_after p q count → global_target ≤ count → MovedAll t set set_after lists lists_after notes notes_after p q count
+pub moved_enough : {t : TableView} {set set_after : SetView} {lists lists_after : LocalView} {notes notes_after : Noted ℕ} {p q : PassView} {count : ℕ} → MovedSome t set set_after lists lists_after notes notes_after p q count → global_target ≤ count → MovedAll t (both_lists set lists p) (both_lists set_after lists_after q) notes notes_after count
 moved_enough {t} {set} {set_after} {lists} {lists_after} {notes} {notes_after} {p} {q} {count} so_far all =
     let few = so_far.few in
     let count_is = so_far.count_is in
@@ -428,9 +428,9 @@ moved_enough {t} {set} {set_after} {lists} {lists_after} {notes} {notes_after} {
     }
 
 -- or all, where they are fewer
-pub moved_every : {t : TableView} {set middle set_after : SetView} {lists between lists_after : LocalView} {notes notes_after : Noted ℕ} {p q r : PassView} {count : ℕ} → MovedSome t set middle lists between notes notes_after p q count → MovesOne t middle set_after between lists_after q r None → MovedAll t set set_after lists lists_after notes notes_after p r count
+pub moved_every : {t : TableView} {set middle set_after : SetView} {lists between lists_after : LocalView} {notes notes_after : Noted ℕ} {p q r : PassView} {count : ℕ} → MovedSome t set middle lists between notes notes_after p q count → MovesOne t (both_lists middle between q) (both_lists set_after lists_after r) None → MovedAll t (both_lists set lists p) (both_lists set_after lists_after r) notes notes_after count
 moved_every {t} {set} {middle} {set_after} {lists} {between} {lists_after} {notes} {notes_after} {p} {q} {r} {count} so_far none =
-    subst (λ (z : SetView × (LocalView × PassView)). MovedAll t set z.0 lists z.1.0 notes notes_after p z.1.1 count) (λ i. (sym none.1 i, (sym none.2 i, sym none.3 i)))
+    subst (λ (z : SetView × (LocalView × PassView)). MovedAll t (both_lists set lists p) (both_lists z.0 z.1.0 z.1.1) notes notes_after count) (λ i. (sym none.1 i, (sym none.2 i, sym none.3 i)))
     (let few = so_far.few in
     let count_is = so_far.count_is in
     let short : length so_far.moved ≤ global_target = omega (arith, few, count_is) in

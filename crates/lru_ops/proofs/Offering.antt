@@ -21,6 +21,7 @@ use Rattle.place_words.specs.declared.history.Part.{Part}
 use Rattle.place_words.specs.declared.history.Part.TheVariants as parts
 use Rattle.place_words.specs.Evicting.{FreesOne, left_over, IsOfferTrace, IsWriteTrace, IsEvictingUpdate}
 use Rattle.place_words.specs.Turns.{Turn, TurnAt, bucket_of_key, on_lock, on_bucket_of}
+use Rattle.place_table.specs.BucketPuts.{PutsInPlace, Writes, Adds, Replaces, update_part}
 use Rattle.place_table.specs.declared.view.InHand.{InHand}
 use Rattle.place_table.specs.declared.view.Turned.{Turned}
 use Rattle.place_table.specs.Calls.{CanCall, Called, spare_element, finds_moved_on}
@@ -35,7 +36,7 @@ use Rattle.lru_ops.specs.declared.map.LruRefusal.{LruRefusal}
 use Rattle.lru_ops.specs.declared.map.LruRefusal.TheVariants as refusals
 use Rattle.lru_ops.specs.Calls.{FoundNoElement, Updates}
 use Rattle.lru_ops.specs.Lists.{Changed, Acquired, CanFree}
-use Rattle.lru_ops.specs.Offers.{IsOffered, Offers, PutsAlone, OfferEnds, AloneEnds, CanFreeLeft, HasFreedLeft, CanOffer, IsOutOfHand, HasOffered, OfferAnswers, hand_after}
+use Rattle.lru_ops.specs.Offers.{IsOffered, Offers, PutsAlone, OfferEnds, AloneEnds, CanFreeLeft, HasFreedLeft, CanOffer, IsOutOfHand, HasOffered, OfferAnswers, hand_after, offer_of, update_call}
 use Rattle.lru_ops.specs.Under.{Enters, GivenBack, IsOut}
 use Rattle.lru_ops.proofs.Ends.{changed_on, changed_given, in_no_hand, called_changed, trace_here}
 
@@ -56,7 +57,7 @@ module _ {t : TableView} {bucket : ℕ} {p q : PassView} {chain : BodyList} (can
 
   -- a value for each CPU, and BPF_EXIST
   module _ (s : PassView) (side : Side) (key value : List ℕ) (here : bucket ≡ bucket_of_key t.shape key) (percpu : is_percpu t.shape.kind ≡ true) where
-    wrote_alone : (reply : Reply) → PutsAlone t bucket q s side 2 key value reply → Called t p s (verbs.Update side 2 key value) reply
+    wrote_alone : (reply : Reply) → PutsAlone t bucket q s (update_call side 2 key value) reply → Called t p s (verbs.Update side 2 key value) reply
     wrote_alone reply a =
         let turns : List TurnAt = map (turn_at t.shape) (a.gives.told ∷ []) in
         let trace : IsWriteTrace t.shape side 2 key value turns reply = record { put = a.put; may_put = a.may_put; turns_are = ap (λ (x : Turn). x ∷ []) (turn_here key here a.gives); reply_is = a.reply_is } in
@@ -67,12 +68,48 @@ module _ {t : TableView} {bucket : ℕ} {p q : PassView} {chain : BodyList} (can
         known : 2 ≤ 2
         known = omega arith
 
-    pub updates_alone : (result : Result (Unit {0}) LruRefusal) → AloneEnds t bucket q s side 2 key value result → Updates t p s side 2 key value result
+    pub updates_alone : (result : Result (Unit {0}) LruRefusal) → AloneEnds t bucket q s (update_call side 2 key value) result → Updates t p s side 2 key value result
     updates_alone (Ok done) ends = wrote_alone Done ends
     updates_alone (Err refusals.Einval) ends = absurd ends
     updates_alone (Err refusals.Enoent) ends = wrote_alone (Refused errnos.Enoent) ends
     updates_alone (Err refusals.Eexist) ends = absurd ends
     updates_alone (Err refusals.Enomem) ends = absurd ends
+
+-- The turn of an update that was offered an element, from what was put there by a pass that holds the bucket
+
+-- what was offered may be left over
+stays_out : {t : TableView} {bucket : ℕ} {q : PassView} {body : Stored} → IsTrue (is_lru t.shape.kind) → IsOffered t bucket q body → IsOut t (Some body)
+stays_out lru offered = (offered.real lru, offered.sized)
+
+module _ {t : TableView} {bucket : ℕ} {q s : PassView} {side : Side} {flags : ℕ} {key value : List ℕ} {body : Stored} (lru : IsTrue (is_lru t.shape.kind)) (offered : IsOffered t bucket q body) {e : ℕ} (e_is : e ≡ body.element) where
+  pub offers_exists : PutsInPlace t bucket q s side flags key value (Some e) puts.Exists → Offers t bucket q s (offer_of side flags key value body.element) (Some body) (Refused errnos.Eexist)
+  offers_exists given = record { put = puts.Exists; may_put = tt; gives = subst (λ (n : ℕ). PutsInPlace t bucket q s side flags key value (Some n) puts.Exists) e_is given; left_is = refl; is_out = stays_out lru offered; reply_is = refl }
+
+  pub offers_absent : PutsInPlace t bucket q s side flags key value (Some e) puts.Absent → Offers t bucket q s (offer_of side flags key value body.element) (Some body) (Refused errnos.Enoent)
+  offers_absent given = record { put = puts.Absent; may_put = tt; gives = subst (λ (n : ℕ). PutsInPlace t bucket q s side flags key value (Some n) puts.Absent) e_is given; left_is = refl; is_out = stays_out lru offered; reply_is = refl }
+
+  pub offers_written : IsTrue (is_percpu t.shape.kind) → Writes t bucket q s side flags key value (Some e) → Offers t bucket q s (offer_of side flags key value body.element) (Some body) Done
+  offers_written percpu w = record { put = puts.Written w.written; may_put = percpu; gives = subst (λ (n : ℕ). PutsInPlace t bucket q s side flags key value (Some n) (puts.Written w.written)) e_is w.gives; left_is = refl; is_out = stays_out lru offered; reply_is = refl }
+
+  pub offers_added : Adds t bucket q s side flags key value (Some e) body.element → Offers t bucket q s (offer_of side flags key value body.element) None Done
+  offers_added given = record {
+    put = puts.Added body.element;
+    may_put = refl;
+    gives = subst (λ (n : ℕ). Adds t bucket q s side flags key value (Some n) body.element) e_is given;
+    left_is = refl;
+    is_out = tt;
+    reply_is = refl;
+  }
+
+  pub offers_replaced : {old : Stored} → is_percpu t.shape.kind ≡ false → Replaces t bucket q s side flags key value (Some e) body.element old → Offers t bucket q s (offer_of side flags key value body.element) (Some old) Done
+  offers_replaced {old} single r = record {
+    put = puts.Replaced body.element old.element;
+    may_put = (refl, single);
+    gives = subst (λ (n : ℕ). GivenBack t bucket q s (update_part side flags key value (Some n) (puts.Replaced body.element old.element)) (with_in_hand old.element q.cpu (without_in_hand body.element q.cpu q.view.hand))) e_is r.gives;
+    left_is = refl;
+    is_out = r.is_out;
+    reply_is = refl;
+  }
 
 -- Hands
 
@@ -142,11 +179,11 @@ module _ {t : TableView} {bucket : ℕ} {p q : PassView} {chain : BodyList} {key
   pub is_offered : IsOffered t bucket q body
   is_offered =
       let after_is = enters.took.after_is in record {
-        real = can.taken.real;
+        real = λ _. can.taken.real;
         sized = can.taken.sized;
         in_hand = ap (λ (z : PassView). is_in_hand_of body.element z.cpu z.view.hand) after_is ∙ can.in_hand;
-        not_carried = ap (λ (z : PassView). is_in_hand_of body.element z.cpu z.view.carried) after_is ∙ ap (is_in_hand_of body.element p.cpu) can.carries_nothing;
-        hashed = ap (λ (z : PassView). bucket_known body.element z.cpu z.view.hashes) after_is ∙ (can.taken.hashed ∙ ap Some (sym here));
+        not_carried = λ _. ap (λ (z : PassView). is_in_hand_of body.element z.cpu z.view.carried) after_is ∙ ap (is_in_hand_of body.element p.cpu) can.carries_nothing;
+        hashed = λ _. ap (λ (z : PassView). bucket_known body.element z.cpu z.view.hashes) after_is ∙ (can.taken.hashed ∙ ap Some (sym here));
       }
 
   -- what is in the CPU's hand once the bucket was given back can be freed
@@ -170,14 +207,14 @@ module _ {t : TableView} {bucket : ℕ} {p q : PassView} {chain : BodyList} {key
       ∙ out_after body.element p.cpu p.view.hand can.no_other put x c)
 
   module _ (r : PassView) (side : Side) (flags : ℕ) (value : List ℕ) (left : Option Stored) where
-    can_free_over : {reply : Reply} → Offers t bucket q r side flags key value body.element left reply → CanFreeLeft t left r
+    can_free_over : {reply : Reply} → Offers t bucket q r (offer_of side flags key value body.element) left reply → CanFreeLeft t left r
     can_free_over {reply} o = go left o.is_out o.left_is
       where
         go : (left : Option Stored) → IsOut t left → option_map (λ (one : Stored). one.element) left ≡ left_over body.element o.put → CanFreeLeft t left r
         go None out is = tt
         go (Some one) out is = can_free_here o.gives one out.0 out.1 (left_in_hand body.element q.cpu q.view.hand is_offered.in_hand o.put one.element is)
 
-    offered_done : (s : PassView) {reply : Reply} → Offers t bucket q r side flags key value body.element left reply → HasFreedLeft t left r s → HasOffered t p s side flags key value body.element reply
+    offered_done : (s : PassView) {reply : Reply} → Offers t bucket q r (offer_of side flags key value body.element) left reply → HasFreedLeft t left r s → HasOffered t p s (offer_of side flags key value body.element) reply
     offered_done s {reply} o freed =
         let f : LeftFreed t (option_map (λ (one : Stored). one.element) left) r s = left_freed left freed in record {
           steps = o.gives.step ∷ f.steps;
@@ -197,14 +234,14 @@ module _ {t : TableView} {bucket : ℕ} {p q : PassView} {chain : BodyList} {key
           hand = hand_from r s (option_map (λ (one : Stored). one.element) left) o.put o.gives o.left_is f.hand;
         }
 
-    pub can_free_ends : (answer : Result (Unit {0}) LruRefusal) → OfferEnds t bucket q r side flags key value body left answer → CanFreeLeft t left r
+    pub can_free_ends : (answer : Result (Unit {0}) LruRefusal) → OfferEnds t bucket q r (offer_of side flags key value body.element) left answer → CanFreeLeft t left r
     can_free_ends (Ok done) ends = can_free_over ends
     can_free_ends (Err refusals.Einval) ends = absurd ends
     can_free_ends (Err refusals.Enoent) ends = can_free_over ends
     can_free_ends (Err refusals.Eexist) ends = can_free_over ends
     can_free_ends (Err refusals.Enomem) ends = absurd ends
 
-    pub offer_answers : (s : PassView) (answer : Result (Unit {0}) LruRefusal) → OfferEnds t bucket q r side flags key value body left answer → HasFreedLeft t left r s → OfferAnswers t p s side flags key value body.element answer
+    pub offer_answers : (s : PassView) (answer : Result (Unit {0}) LruRefusal) → OfferEnds t bucket q r (offer_of side flags key value body.element) left answer → HasFreedLeft t left r s → OfferAnswers t p s (offer_of side flags key value body.element) answer
     offer_answers s (Ok done) ends freed = offered_done s ends freed
     offer_answers s (Err refusals.Einval) ends freed = absurd ends
     offer_answers s (Err refusals.Enoent) ends freed = offered_done s ends freed
@@ -249,7 +286,7 @@ module _ {t : TableView} {p : PassView} (q : PassView) (side : Side) (flags : �
         hand x c ∙ ((λ i. is_in_hand_of x c (without_in_hand body.element (a.changed.made.goes.cpu i) (a.hand i)))
         ∙ hand_back body.element p.cpu p.view.hand (in_no_hand can lru body.element p.cpu can.begun) x c)
 
-    took_one : (s : PassView) (reply : Reply) → HasOffered t q s side flags key value body.element reply → Called t p s (verbs.Update side flags key value) reply
+    took_one : (s : PassView) (reply : Reply) → HasOffered t q s (offer_of side flags key value body.element) reply → Called t p s (verbs.Update side flags key value) reply
     took_one s reply o =
         called_changed (verbs.Update side flags key value) reply can lru (changed_on a.changed o.changed) (hand_out s o.hand)
         (trace_here t.shape p.cpu (spare_element p) (verbs.Update side flags key value) (map (turn_at t.shape) (a.told ++ o.told)) reply lru
@@ -262,7 +299,7 @@ module _ {t : TableView} {p : PassView} (q : PassView) (side : Side) (flags : �
           offers = o.trace;
         }))
 
-    pub updates_offered : (s : PassView) (answer : Result (Unit {0}) LruRefusal) → OfferAnswers t q s side flags key value body.element answer → Updates t p s side flags key value answer
+    pub updates_offered : (s : PassView) (answer : Result (Unit {0}) LruRefusal) → OfferAnswers t q s (offer_of side flags key value body.element) answer → Updates t p s side flags key value answer
     updates_offered s (Ok done) answers = took_one s Done answers
     updates_offered s (Err refusals.Einval) answers = absurd answers
     updates_offered s (Err refusals.Enoent) answers = took_one s (Refused errnos.Enoent) answers

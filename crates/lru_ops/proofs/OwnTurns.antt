@@ -63,14 +63,13 @@ use Rattle.lru_lists.specs.Sets.{SetView}
 use Rattle.lru_ops.specs.Askings.{AreEvicts}
 use Rattle.lru_ops.specs.Evictions.{IsEvict, SawHolders}
 use Rattle.lru_ops.specs.Lists.{Acquired, Changed, FoundNone, FoundNoneOwn, FoundNoneShared, IsHeldByOther, IsTakenFor}
-use Rattle.lru_ops.specs.OwnTurns.{note_of, rows_on, try_of, own_part, IsOwnTurn, CanWork, Worked, GaveOut, GivesOut}
+use Rattle.lru_ops.specs.OwnTurns.{note_of, rows_on, try_of, own_part, IsOwnTurn, CanWork, Worked, GaveOut, GivesOut, in_turn}
 use Rattle.lru_ops.proofs.OwnWalk.{hold_at_only}
 use Rattle.lru_ops.proofs.EvictTurns.{other_lock}
 use Rattle.lru_ops.proofs.GivingOut.{Ready, ready, hand_with_got, found_new, row_more}
 use Rattle.lru_ops.proofs.Holders.{saw_on, saw_none, saw_both, own_tells_none}
 use Rattle.lru_ops.proofs.NoneFound.{shrank_none, held_elsewhere}
 use Rattle.lru_ops.proofs.PassWork.{stored_here}
-use Rattle.lru_ops.proofs.Under.{bucket_there}
 
 -- Where each CPU has lists of its own, the map has their locks.
 pub own_set_there : (shape : Shape) (cpu : ℕ) → IsTrue (is_lru shape.kind) → shape.common ≡ false → cpu < shape.cpus → IsTrue (is_lock shape (CpuLru cpu))
@@ -120,7 +119,7 @@ can_work t p q set is_shape evicts there can took =
 -- The turns of probes
 
 pub evict_lock : (shape : Shape) (cpu call hash e : ℕ) (seen : Seen) (turn : Turned) → IsPowerOfTwo shape.buckets → IsEvict shape cpu call (bucket_number hash shape.buckets) e seen turn → IsTrue (is_lock shape (Bucket (bucket_number hash shape.buckets)))
-evict_lock shape cpu call hash e seen turn power is = bucket_there shape (bucket_number hash shape.buckets) (bucket_number-lt hash shape.buckets power)
+evict_lock shape cpu call hash e seen turn power is = lt-ltb (bucket_number hash shape.buckets) shape.buckets (bucket_number-lt hash shape.buckets power)
 
 evicts_elsewhere : (shape : Shape) (cpu call own_cpu : ℕ) (rows : List Row) (probes : List ProbeCall) (turns : List Turned) → IsPowerOfTwo shape.buckets → IsTrue (is_lock shape (CpuLru own_cpu)) → AreEvicts shape cpu call rows probes turns → AreElsewhere (lock_number shape (CpuLru own_cpu)) turns
 evicts_elsewhere shape cpu call own_cpu rows [] [] power own_there are = tt
@@ -555,7 +554,7 @@ as_noted t hash turning_after shrinking_after shrunk set out q s got (Some x) y 
 -- The whole turn, from what the pass was before it.
 module _ {t : TableView} {p q r : PassView} {set worked : SetView} {turning_after : RotateNotes} {shrinking_after : ShrinkNotes} {shrunk : Bool} (hash : ℕ) (out : SetView) (s : PassView) (found : Option Stored)
     (is_shape : IsShape t.shape) (evicts : IsTrue (is_lru t.shape.kind)) (apart : t.shape.common ≡ false) (few : p.cpu < t.shape.cpus) (begins : CanCall t p) (took : TookLock t (CpuLru p.cpu) p q (contents.Set set))
-    (w : Worked t set worked (record { active = noted.Kept []; inactive = noted.Kept [] }) turning_after (record { looks = noted.Kept []; forced = noted.Kept [] }) shrinking_after shrunk q r) (gives : GivesOut t hash worked out r s found)
+    (w : Worked t (in_turn set (record { active = noted.Kept []; inactive = noted.Kept [] }) (record { looks = noted.Kept []; forced = noted.Kept [] })) (in_turn worked turning_after shrinking_after) shrunk q r) (gives : GivesOut t hash worked out r s found)
     (given_part : Option Part) (told_part : IfSome given_part (IsOwnTurn hash turning_after shrunk shrinking_after (option_map (λ (body : Stored). body.element) found))) where
   abbrev own_there : IsTrue (is_lock t.shape (CpuLru p.cpu))
   own_there = own_set_there t.shape p.cpu evicts apart few

@@ -37,7 +37,7 @@ use Rattle.lru_shrink.specs.Shrunk.{look_probes, try_probes, cleared as cleared_
 use Rattle.lru_ops.specs.declared.probing.Destination.{Destination}
 use Rattle.lru_ops.specs.declared.probing.Destination.TheVariants.{OwnFree}
 use Rattle.lru_ops.specs.Askings.{calls_noted, probes_made, Does, hash_in, Since, MayAsk, MayChase}
-use Rattle.lru_ops.specs.OwnTurns.{no_bodies, ShrinksFree, rows_on, CanWork, Worked}
+use Rattle.lru_ops.specs.OwnTurns.{no_bodies, ShrinksFree, rows_on, CanWork, Worked, in_turn}
 use Rattle.lru_ops.proofs.Asked.{same_table, since_start}
 use Rattle.lru_ops.proofs.OwnWalk.{hold_at_only}
 use Rattle.lru_ops.proofs.SetWork.{listed_times, rotated_row, rotated_works, shrunk_works}
@@ -132,7 +132,7 @@ module _ {t u : TableView} {to : Destination} {lock : DomainId} {rows : List Row
 
   -- a rotation alone
   pub rotated_worked : {middle : SetView} {turning turning_after : RotateNotes} (shrinking : ShrinkNotes) → (r : Rotation own_scans before middle (calls_noted p.view.notes) (calls_noted q.view.notes) turning turning_after) → IsPermutation (rows_on before) (rows_on middle) → IsSet middle
-      → probes_made (hash_in rows) q.view.steps ≡ probes_made (hash_in rows) p.view.steps → 0 < length middle.free.bodies → Worked t before middle turning turning_after shrinking shrinking false p q
+      → probes_made (hash_in rows) q.view.steps ≡ probes_made (hash_in rows) p.view.steps → 0 < length middle.free.bodies → Worked t (in_turn before turning shrinking) (in_turn middle turning_after shrinking) false p q
   rotated_worked shrinking r moved whole probed long =
       let none : since.probes ≡ [] = probes_since [] (probed ∙ sym (append_nil (probes_made (hash_in rows) p.view.steps))) in
       record {
@@ -144,8 +144,8 @@ module _ {t u : TableView} {to : Destination} {lock : DomainId} {rows : List Row
 
   -- a rotation and a shrink
   pub shrunk_worked : {middle after : SetView} {calls_middle : List BitCall} {probes_middle : List ProbeCall} {turning turning_after : RotateNotes} {shrinking shrinking_after : ShrinkNotes} → (r : Rotation own_scans before middle (calls_noted p.view.notes) calls_middle turning turning_after) → IsPermutation (rows_on before) (rows_on middle) → IsSet middle
-      → probes_middle ≡ probes_made (hash_in rows) p.view.steps → (s : ShrinksFree middle after calls_middle (calls_noted q.view.notes) probes_middle (probes_made (hash_in rows) q.view.steps) (IsSized u.shape) shrinking shrinking_after) → middle.free.bodies ≡ [] → IsSet after
-      → Worked t before after turning turning_after shrinking shrinking_after true p q
+      → probes_middle ≡ probes_made (hash_in rows) p.view.steps → (s : ShrinksFree (IsSized u.shape) middle after (record { calls = calls_middle; probes = probes_middle }) (record { calls = calls_noted q.view.notes; probes = probes_made (hash_in rows) q.view.steps }) shrinking shrinking_after) → middle.free.bodies ≡ [] → IsSet after
+      → Worked t (in_turn before turning shrinking) (in_turn after turning_after shrinking_after) true p q
   shrunk_worked {middle} {after} {calls_middle} {probes_middle} {turning} {turning_after} {shrinking} {shrinking_after} r moved whole probed s none whole_after =
       let made : List ProbeCall = look_probes (with_free no_bodies middle) s.shrink.looks ++ try_probes (with_free no_bodies middle) s.shrink.forced in
       record {

@@ -4,9 +4,7 @@ use Rattle.std.specs.Prelude.{◌⊎◌, ◌&&◌, IsTrue, MatchBool}
 use Rattle.std.proofs.lemmas.List.Elements.{All-nil, All-cons}
 use Rattle.map_types.specs.declared.kind.DomainId.TheVariants.{Local}
 use Rattle.map_types.specs.declared.row.Row.{Row}
-use Rattle.map_types.specs.Creation.{IsShape}
 use Rattle.map_types.specs.ElementLists.{times, IsIn}
-use Rattle.map_types.specs.Kind.{is_lru}
 use Rattle.map_types.specs.Listed.{elements_of}
 use Rattle.map_types.specs.Stored.{Stored}
 use Rattle.map_types.proofs.RowLemmas.{times_append, by_test}
@@ -37,7 +35,7 @@ use Rattle.place_table.proofs.StoredHashes.{stored_is_in}
 use Rattle.place_table.proofs.Worlds.{some_is, true_false}
 use Rattle.local_lists.specs.LocalLists.{LocalView, local_told}
 use Rattle.local_lists.proofs.ToldLemmas.{top_is_head, popped_numbers}
-use Rattle.lru_ops.specs.Lists.{Acquired}
+use Rattle.lru_ops.specs.Lists.{MapEvicts, Acquired}
 use Rattle.lru_ops.specs.LocalWork.{CanMakePending, MadePending}
 use Rattle.lru_ops.specs.Shared.{CanTakeShared}
 use Rattle.lru_ops.proofs.Ends.{changed_all}
@@ -162,19 +160,16 @@ module _ {t : TableView} {lists : LocalView} {p q : PassView} (b : OnLocal t p.c
         }
 
 -- From the clauses of the calls
-module _ {t now : TableView} {cpu : ℕ} {p q : PassView} {here : Slot} {lists : LocalView} (is : t ≡ now) (is_shape : IsShape t.shape) (evicts : IsTrue (is_lru t.shape.kind)) (can : CanTakeShared now p)
+module _ {t : TableView} {cpu : ℕ} {p q : PassView} {here : Slot} {lists : LocalView} (lru : MapEvicts t) (can : CanTakeShared t p)
     (mine : cpu ≡ p.cpu) (few : cpu < t.shape.cpus) (here_is : here ≡ contents.Local lists) (took : TookLock t (Local cpu) p q here) where
-  abbrev may : CanTakeShared t p
-  may = subst (λ (z : TableView). CanTakeShared z p) (sym is) can
-
   abbrev pub on_taken : OnLocal t p.cpu lists p q
   on_taken = record {
-    is_shape = is_shape;
-    evicts = evicts;
-    there = local_there t.shape p.cpu may.common (subst (λ (n : ℕ). n < t.shape.cpus) mine few);
-    of_table = may.can.of_table;
-    begun = may.can.begun;
-    alone = may.can.in_no_call.holds_nothing;
+    is_shape = lru.0;
+    evicts = lru.1;
+    there = local_there t.shape p.cpu can.common (subst (λ (n : ℕ). n < t.shape.cpus) mine few);
+    of_table = can.can.of_table;
+    begun = can.can.begun;
+    alone = can.can.in_no_call.holds_nothing;
     took = subst (λ (z : ℕ × Slot). TookLock t (Local z.0) p q z.1) (λ i. (mine i, here_is i)) took;
   }
 
@@ -189,7 +184,6 @@ module _ {t now : TableView} {cpu : ℕ} {p q : PassView} {here : Slot} {lists :
     may_give_popped =
         subst (λ (z : ℕ × ℕ). CanGive t (Local z.0) s (contents.Local out) (parts.Local (local.Pop hash z.1))) (λ i. (sym mine i, sym number i)) (can_give_popped on_taken made)
 
-    pub got_free : {u : PassView} → Gave s u (parts.Local (local.Pop hash element)) → Acquired now hash p u (Some body)
+    pub got_free : {u : PassView} → Gave s u (parts.Local (local.Pop hash element)) → Acquired t hash p u (Some body)
     got_free {u} gave =
-        subst (λ (z : TableView). Acquired z hash p u (Some body)) is
-        (took_free on_taken made may.common (subst (λ (n : ℕ). Gave s u (parts.Local (local.Pop hash n))) number gave))
+        took_free on_taken made can.common (subst (λ (n : ℕ). Gave s u (parts.Local (local.Pop hash n))) number gave)

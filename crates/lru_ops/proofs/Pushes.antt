@@ -538,19 +538,17 @@ on_own_set shape c e = record {
   fit = λ set fits. fits;
 }
 
-pub pushing : (t now : TableView) (p q r s : PassView) (body : Stored) (set : SetView) (c e : ℕ) (bit : Bool) → t ≡ now → IsTrue (is_lru t.shape.kind) → now.shape.common ≡ false → CanFree now body p → e ≡ body.element → c ≡ set_of now.shape e → c < now.shape.cpus
+pub pushing : (t : TableView) (p q r s : PassView) (body : Stored) (set : SetView) (c e : ℕ) (bit : Bool) → IsTrue (is_lru t.shape.kind) → t.shape.common ≡ false → CanFree t body p → e ≡ body.element → c ≡ set_of t.shape e → c < t.shape.cpus
     → TookLock t (CpuLru c) p q (contents.Set set) → Cleared e q r bit → Settled (CpuLru c) e r s → Pushing t (CpuLru c) own_push p q r s body set bit
-pushing t now p q r s body set c e bit is lru own_lists can e_is c_is few took clear settle =
-    let may : CanFree t body p = subst (λ (z : TableView). CanFree z body p) (sym is) can in
-    let apart : t.shape.common ≡ false = subst (λ (z : TableView). z.shape.common ≡ false) (sym is) own_lists in
-    let its : c ≡ set_of t.shape body.element = c_is ∙ (λ i. set_of ((sym is i).shape) (e_is i)) in record {
+pushing t p q r s body set c e bit lru own_lists can e_is c_is few took clear settle =
+    let its : c ≡ set_of t.shape body.element = c_is ∙ ap (set_of t.shape) e_is in record {
       lru = lru;
       push = is_own_push t.shape body.element;
       on = on_own_set t.shape c body.element;
-      is_there = set_there t.shape c lru apart (subst (λ (z : TableView). c < z.shape.cpus) (sym is) few);
-      can = may;
+      is_there = set_there t.shape c lru own_lists few;
+      can = can;
       took = took;
-      listed = took.lives lru apart body.element p.cpu may.begun may.in_hand (ap CpuLru its);
+      listed = took.lives lru own_lists body.element p.cpu can.begun can.in_hand (ap CpuLru its);
       clear = subst (λ (x : ℕ). Cleared x q r bit) e_is clear;
       settle = subst (λ (x : ℕ). Settled (CpuLru c) x r s) e_is settle;
     }

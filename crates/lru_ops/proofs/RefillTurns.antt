@@ -6,9 +6,7 @@ use Rattle.std.specs.List.{AllByRecursion}
 use Rattle.std.proofs.lemmas.List.Elements.{recursion_from_All, All-nil, All-cons}
 use Rattle.map_types.specs.declared.kind.DomainId.TheVariants.{Local}
 use Rattle.map_types.specs.declared.row.Row.{Row}
-use Rattle.map_types.specs.Creation.{IsShape}
 use Rattle.map_types.specs.ElementLists.{times, IsIn}
-use Rattle.map_types.specs.Kind.{is_lru}
 use Rattle.map_types.specs.Listed.{elements_of}
 use Rattle.map_types.specs.Stored.{Stored}
 use Rattle.map_types.proofs.RowLemmas.{by_test}
@@ -51,7 +49,7 @@ use Rattle.local_lists.specs.LocalLists.{LocalView, local_told}
 use Rattle.local_lists.proofs.ToldLemmas.{popped_numbers}
 use Rattle.lru_ops.specs.declared.refill.Refilled.{Refilled}
 use Rattle.lru_ops.specs.Refills.{CanRefill, FilledFrom}
-use Rattle.lru_ops.specs.Lists.{Acquired, GaveNone}
+use Rattle.lru_ops.specs.Lists.{MapEvicts, Acquired, GaveNone}
 use Rattle.lru_ops.specs.LocalWork.{CanMakePending, MadePending, MakesPending}
 use Rattle.lru_ops.specs.Shared.{CanTakeShared, IsRefillPart, RefilledNone}
 use Rattle.lru_ops.proofs.BroughtHome.{given_hash, row_behind, row_first}
@@ -441,23 +439,20 @@ module _ {t : TableView} {lists : LocalView} {p q : PassView} (b : OnLocal t p.c
             filled_none made.0 cursor_filled part meant (subst (λ (h : Hold). GaveAs t r u h part []) one (gave_as t r u part given)) (inl refl)
 
 -- From the clauses of the calls
-module _ {t now : TableView} {cpu : ℕ} {p q again : PassView} {here : Slot} {lists left : LocalView} (is : t ≡ now) (is_shape : IsShape t.shape) (evicts : IsTrue (is_lru t.shape.kind)) (can : CanTakeShared now p)
+module _ {t : TableView} {cpu : ℕ} {p q again : PassView} {here : Slot} {lists left : LocalView} (lru : MapEvicts t) (can : CanTakeShared t p)
     (mine : cpu ≡ p.cpu) (few : cpu < t.shape.cpus) (here_is : here ≡ contents.Local lists) (took : TookLock t (Local cpu) p q here) (none : (lists.free.bodies ≡ []) × (left ≡ lists) × (again ≡ q)) where
-  abbrev may : CanTakeShared t p
-  may = subst (λ (z : TableView). CanTakeShared z p) (sym is) can
-
   abbrev on_lists : OnLocal t p.cpu lists p q
-  on_lists = on_taken is is_shape evicts can mine few here_is took
+  on_lists = on_taken lru can mine few here_is took
 
   pub may_refill : CanRefill t left again
-  may_refill = subst (λ (z : LocalView × PassView). CanRefill t z.0 z.1) (λ i. (sym none.1 i, sym none.2 i)) (can_refill on_lists may.common may.can none.0)
+  may_refill = subst (λ (z : LocalView × PassView). CanRefill t z.0 z.1) (λ i. (sym none.1 i, sym none.2 i)) (can_refill on_lists can.common can.can none.0)
 
   module _ {filled : LocalView} {r : PassView} {told_refill : Option Refilled} (refilled : FilledFrom t left filled again r told_refill) where
     abbrev f : FilledFrom t lists filled q r told_refill
     f = subst (λ (z : LocalView × PassView). FilledFrom t z.0 filled z.1 r told_refill) (λ i. (none.1 i, none.2 i)) refilled
 
     pub may_make_more : CanMakePending t filled r
-    may_make_more = can_make_filled on_lists may.common may.can none.0 f
+    may_make_more = can_make_filled on_lists can.common can.can none.0 f
 
     pub lock_still : Local cpu ≡ Local r.cpu
     lock_still = ap Local (mine ∙ sym (f.goes.cpu ∙ (to_q on_lists).cpu))
@@ -466,24 +461,22 @@ module _ {t now : TableView} {cpu : ℕ} {p q again : PassView} {here : Slot} {l
         → MatchOption given_part (told_refill ≡ None) (IsRefillPart hash told_refill got) → MayGiveBack t (Local cpu) s (contents.Local out) given_part
     may_give_refilled {got} hash out s found given_part made got_is told =
         subst (λ (n : ℕ). MayGiveBack t (Local n) s (contents.Local out) given_part) (sym mine)
-        (may_give_filled on_lists may.common may.can none.0 f hash out s found given_part made (subst (λ (z : Option ℕ). MatchOption given_part (told_refill ≡ None) (IsRefillPart hash told_refill z)) got_is told))
+        (may_give_filled on_lists can.common can.can none.0 f hash out s found given_part made (subst (λ (z : Option ℕ). MatchOption given_part (told_refill ≡ None) (IsRefillPart hash told_refill z)) got_is told))
 
     pub refilled_got : {u : PassView} {got : Option ℕ} {found : Option Stored} {body : Stored} (hash : ℕ) (out : LocalView) (s : PassView) (given_part : Option Part) → found ≡ Some body → MakesPending t hash filled out r s found → got ≡ option_map (λ (body : Stored). body.element) found
-        → MatchOption given_part (told_refill ≡ None) (IsRefillPart hash told_refill got) → GaveBack t (Local cpu) s u (contents.Local out) given_part → Acquired now hash p u (Some body)
+        → MatchOption given_part (told_refill ≡ None) (IsRefillPart hash told_refill got) → GaveBack t (Local cpu) s u (contents.Local out) given_part → Acquired t hash p u (Some body)
     refilled_got {u} {got} {found} {body} hash out s given_part found_is made got_is told gave =
-        subst (λ (z : TableView). Acquired z hash p u (Some body)) is
-        (filled_got on_lists may.common may.can none.0 f given_part (subst (MakesPending t hash filled out r s) found_is made)
+        filled_got on_lists can.common can.can none.0 f given_part (subst (MakesPending t hash filled out r s) found_is made)
         (subst (λ (z : Option ℕ). MatchOption given_part (told_refill ≡ None) (IsRefillPart hash told_refill z)) (got_is ∙ ap (option_map (λ (x : Stored). x.element)) found_is) told)
-        (subst (λ (n : ℕ). GaveBack t (Local n) s u (contents.Local out) given_part) mine gave))
+        (subst (λ (n : ℕ). GaveBack t (Local n) s u (contents.Local out) given_part) mine gave)
 
     pub refilled_none : {u : PassView} {got : Option ℕ} {found : Option Stored} {cursor : ℕ} (hash : ℕ) (out : LocalView) (s : PassView) (given_part : Option Part) → found ≡ None → MakesPending t hash filled out r s found → got ≡ option_map (λ (body : Stored). body.element) found → cursor ≡ out.steal
-        → MatchOption given_part (told_refill ≡ None) (IsRefillPart hash told_refill got) → GaveBack t (Local cpu) s u (contents.Local out) given_part → (cursor < now.shape.cpus) × RefilledNone now hash cursor p u
+        → MatchOption given_part (told_refill ≡ None) (IsRefillPart hash told_refill got) → GaveBack t (Local cpu) s u (contents.Local out) given_part → (cursor < t.shape.cpus) × RefilledNone t hash cursor p u
     refilled_none {u} {got} {found} {cursor} hash out s given_part found_is made got_is cursor_is told gave =
         let made_none : MakesPending t hash filled out r s None = subst (MakesPending t hash filled out r s) found_is made in
-        let few_cpus : cursor < t.shape.cpus = subst (λ (n : ℕ). n < t.shape.cpus) (sym (cursor_is ∙ ap (λ (z : LocalView). z.steal) made_none.1)) f.fits.steal in
-        subst (λ (z : TableView). (cursor < z.shape.cpus) × RefilledNone z hash cursor p u) is (
+        let few_cpus : cursor < t.shape.cpus = subst (λ (n : ℕ). n < t.shape.cpus) (sym (cursor_is ∙ ap (λ (z : LocalView). z.steal) made_none.1)) f.fits.steal in (
           few_cpus,
-          filled_nothing on_lists may.common may.can none.0 f out s given_part made_none cursor_is
+          filled_nothing on_lists can.common can.can none.0 f out s given_part made_none cursor_is
               (subst (λ (z : Option ℕ). MatchOption given_part (told_refill ≡ None) (IsRefillPart hash told_refill z)) (got_is ∙ ap (option_map (λ (x : Stored). x.element)) found_is) told)
               (subst (λ (n : ℕ). GaveBack t (Local n) s u (contents.Local out) given_part) mine gave),
         )

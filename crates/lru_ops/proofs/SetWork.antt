@@ -42,10 +42,11 @@ use Rattle.lru_lists.proofs.NoteLemmas.{noted_none}
 use Rattle.lru_lists.proofs.SetLemmas.{listed_present, its_row}
 use Rattle.lru_rotate.specs.Rotating.{Rotation, cleared as cleared_visits}
 use Rattle.lru_rotate.proofs.RowsStay.{times_permuted}
+use Rattle.lru_shrink.specs.Asking.{Questions}
 use Rattle.lru_shrink.specs.Shrunk.{probe_by, probes_of_looks, probes_of_tries, Shrink, AreStacked, look_probes, try_probes, cleared as cleared_looks}
 use Rattle.lru_ops.specs.Askings.{lists_after}
 use Rattle.lru_ops.specs.Evictions.{lists_with}
-use Rattle.lru_ops.specs.OwnTurns.{no_bodies, ShrinksFree, rows_on, try_of, WorksOn}
+use Rattle.lru_ops.specs.OwnTurns.{no_bodies, ShrinksFree, rows_on, try_of, WorksOn, in_turn}
 use Rattle.lru_ops.proofs.EvictTurns.{found_has}
 
 -- Stacks of bodies
@@ -300,8 +301,8 @@ looks_cleared (look ∷ looks) = ap (λ (l : List BitCall). calls.Cleared (look_
 
 -- What a shrink stacked
 
-module _ {before after : SetView} {calls_before calls_after : List BitCall} {probes probes_after : List ProbeCall} {gives : Stored → Type 0} {out out_after : BodyList} {notes notes_after : ShrinkNotes} {answer : ℕ}
-    (s : Shrink own_scans own_target before after calls_before calls_after probes probes_after gives out out_after notes notes_after answer) (whole : IsSet before) (none : out.bodies ≡ []) where
+module _ {before after : SetView} {asked asked_after : Questions} {gives : Stored → Type 0} {out out_after : BodyList} {notes notes_after : ShrinkNotes} {answer : ℕ}
+    (s : Shrink own_scans own_target gives (record { set = before; asked = asked; out = out; notes = notes }) (record { set = after; asked = asked_after; out = out_after; notes = notes_after }) answer) (whole : IsSet before) (none : out.bodies ≡ []) where
   freed_times : (e : ℕ) → times e (numbers out_after.bodies) ≡ times e (freed s.looks s.forced)
   freed_times e = ap (times e) (stacked_numbers gives (freed s.looks s.forced) out out_after s.left none) ∙ times_reverse e (freed s.looks s.forced)
 
@@ -359,7 +360,7 @@ module _ {shape : Shape} {before middle : SetView} {calls_before calls_after : L
   some_free : {A : Type 0} (xs : List A) → 0 < length xs → xs ≢ []
   some_free xs long none = let zero = ap length none in omega (arith, long, zero)
 
-  pub rotated_works : (shrinking : ShrinkNotes) (asked : List BitCall) → 0 < length middle.free.bodies → asked ≡ cleared_visits (r.active ++ r.inactive) → WorksOn shape before middle turning turning_after shrinking shrinking false asked []
+  pub rotated_works : (shrinking : ShrinkNotes) (asked : List BitCall) → 0 < length middle.free.bodies → asked ≡ cleared_visits (r.active ++ r.inactive) → WorksOn shape (in_turn before turning shrinking) (in_turn middle turning_after shrinking) false (record { calls = asked; probes = [] })
   rotated_works shrinking asked long asked_is = record {
     active = r.active;
     inactive = r.inactive;
@@ -381,8 +382,8 @@ module _ {shape : Shape} {before middle : SetView} {calls_before calls_after : L
   }
 
   -- and then a shrink into the free list, which was empty
-  module _ {after : SetView} {asked_after : List BitCall} {probes probes_after : List ProbeCall} {gives : Stored → Type 0} {shrinking shrinking_after : ShrinkNotes}
-      (s : ShrinksFree middle after calls_after asked_after probes probes_after gives shrinking shrinking_after) (none : middle.free.bodies ≡ []) (whole_after : IsSet after) where
+  module _ {after : SetView} {told told_after : Questions} {gives : Stored → Type 0} {shrinking shrinking_after : ShrinkNotes}
+      (s : ShrinksFree gives middle after told told_after shrinking shrinking_after) (none : middle.free.bodies ≡ []) (whole_after : IsSet after) where
     abbrev note : ShrinkNote
     note = record { target = own_target; looks = s.shrink.looks; forced = s.shrink.forced }
 
@@ -425,7 +426,7 @@ module _ {shape : Shape} {before middle : SetView} {calls_before calls_after : L
         row_was e row (sym (s.shrink.same_rows e kept) ∙ there)
 
     pub shrunk_works : (asked : List BitCall) (made : List ProbeCall) → ((body : Stored) → gives body → IsSized shape body) → asked ≡ cleared_visits (r.active ++ r.inactive) ++ cleared_looks s.shrink.looks → made ≡ look_probes (with_free no_bodies middle) s.shrink.looks ++ try_probes (with_free no_bodies middle) s.shrink.forced
-        → WorksOn shape before after turning turning_after shrinking shrinking_after true asked made
+        → WorksOn shape (in_turn before turning shrinking) (in_turn after turning_after shrinking_after) true (record { calls = asked; probes = made })
     shrunk_works asked made is_sized asked_is made_is =
         let taken : taken_by made ≡ gone = ap taken_by made_is ∙ shrink_taken (with_free no_bodies middle) s.shrink.looks s.shrink.forced in
         record {

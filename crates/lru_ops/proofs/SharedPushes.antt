@@ -109,12 +109,12 @@ pub record ReadsHome (t : TableView) (p q : PassView) (body : Stored) (home : Ho
   pub can : CanFree t body p
   pub saw : SawHome t body.element p q home
 
-pub reads_home : (inside t : TableView) (p q : PassView) (body : Stored) (home : Home) (e : ℕ) → inside ≡ t → IsTrue (is_lru inside.shape.kind) → IsTrue t.shape.common → CanFree t body p → e ≡ body.element → SawHome inside e p q home → ReadsHome t p q body home
-reads_home inside t p q body home e is lru common can e_is saw = record {
-  lru = subst (λ (z : TableView). IsTrue (is_lru z.shape.kind)) is lru;
+pub reads_home : (t : TableView) (p q : PassView) (body : Stored) (home : Home) (e : ℕ) → IsTrue (is_lru t.shape.kind) → IsTrue t.shape.common → CanFree t body p → e ≡ body.element → SawHome t e p q home → ReadsHome t p q body home
+reads_home t p q body home e lru common can e_is saw = record {
+  lru = lru;
   common = common;
   can = can;
-  saw = subst (λ (z : TableView). SawHome z body.element p q home) is (subst (λ (x : ℕ). SawHome inside x p q home) e_is saw);
+  saw = subst (λ (x : ℕ). SawHome t x p q home) e_is saw;
 }
 
 module _ {t : TableView} {p q : PassView} {body : Stored} {home : Home} (x : ReadsHome t p q body home) where
@@ -195,26 +195,24 @@ listed_there {t} {p} {q} {body} {set} can took =
     took.at_home body.element p.cpu took.within
     (ap (λ (z : PassView). home_known body.element p.cpu z.view.readings) took.after_is ∙ known_then body.element p.cpu p.view.shape took.hold p.view.readings (homes.In Global) can.read)
 
-pub pushing_global : (t now : TableView) (p q r s : PassView) (body : Stored) (set : SetView) (e : ℕ) (bit : Bool) → t ≡ now → IsTrue (is_lru t.shape.kind) → CanPushAt now Global body p → e ≡ body.element
+pub pushing_global : (t : TableView) (p q r s : PassView) (body : Stored) (set : SetView) (e : ℕ) (bit : Bool) → IsTrue (is_lru t.shape.kind) → CanPushAt t Global body p → e ≡ body.element
     → TookLock t Global p q (contents.Set set) → Cleared e q r bit → Settled Global e r s → Pushing t Global global_push p q r s body set bit
-pushing_global t now p q r s body set e bit is lru can e_is took clear settle =
-    let may : CanPushAt t Global body p = subst (λ (z : TableView). CanPushAt z Global body p) (sym is) can in record {
-      lru = lru;
-      push = is_global_push t.shape body.element;
-      on = on_global_lists t.shape body.element;
-      is_there = may.there;
-      can = may.can;
-      took = took;
-      listed = listed_there may took;
-      clear = subst (λ (x : ℕ). Cleared x q r bit) e_is clear;
-      settle = subst (λ (x : ℕ). Settled Global x r s) e_is settle;
-    }
+pushing_global t p q r s body set e bit lru can e_is took clear settle = record {
+  lru = lru;
+  push = is_global_push t.shape body.element;
+  on = on_global_lists t.shape body.element;
+  is_there = can.there;
+  can = can.can;
+  took = took;
+  listed = listed_there can took;
+  clear = subst (λ (x : ℕ). Cleared x q r bit) e_is clear;
+  settle = subst (λ (x : ℕ). Settled Global x r s) e_is settle;
+}
 
 -- where its bit was cleared it may settle
-pub can_settle_global : (t now : TableView) (p q r : PassView) (body : Stored) (set : SetView) (e : ℕ) (bit : Bool) → t ≡ now → CanPushAt now Global body p → e ≡ body.element → TookLock t Global p q (contents.Set set) → Cleared e q r bit → CanSettle t e Global r
-can_settle_global t now p q r body set e bit is can e_is took clear =
-    let may : CanPushAt t Global body p = subst (λ (z : TableView). CanPushAt z Global body p) (sym is) can in
-    subst (λ (x : ℕ). CanSettle t x Global r) (sym e_is) (can_settle_listed may.there may.can took (subst (λ (x : ℕ). Cleared x q r bit) e_is clear) refl (listed_there may took))
+pub can_settle_global : (t : TableView) (p q r : PassView) (body : Stored) (set : SetView) (e : ℕ) (bit : Bool) → CanPushAt t Global body p → e ≡ body.element → TookLock t Global p q (contents.Set set) → Cleared e q r bit → CanSettle t e Global r
+can_settle_global t p q r body set e bit can e_is took clear =
+    subst (λ (x : ℕ). CanSettle t x Global r) (sym e_is) (can_settle_listed can.there can.can took (subst (λ (x : ℕ). Cleared x q r bit) e_is clear) refl (listed_there can took))
 
 -- Local lists
 
@@ -401,11 +399,11 @@ pub record PushingLocal (t : TableView) (c : ℕ) (p q r s : PassView) (body : S
   pub clear : Cleared body.element q r bit
   pub settle : Settled (Local c) body.element r s
 
-pub pushing_local : (t now : TableView) (p q r s : PassView) (body : Stored) (lists : LocalView) (c e : ℕ) (bit : Bool) → t ≡ now → IsTrue (is_lru t.shape.kind) → CanPushAt now (Local c) body p → e ≡ body.element
+pub pushing_local : (t : TableView) (p q r s : PassView) (body : Stored) (lists : LocalView) (c e : ℕ) (bit : Bool) → IsTrue (is_lru t.shape.kind) → CanPushAt t (Local c) body p → e ≡ body.element
     → TookLock t (Local c) p q (contents.Local lists) → IsIn e (elements_of lists.pending) → Cleared e q r bit → Settled (Local c) e r s → PushingLocal t c p q r s body lists bit
-pushing_local t now p q r s body lists c e bit is lru can e_is took pending clear settle = record {
+pushing_local t p q r s body lists c e bit lru can e_is took pending clear settle = record {
   lru = lru;
-  can = subst (λ (z : TableView). CanPushAt z (Local c) body p) (sym is) can;
+  can = can;
   took = took;
   pending = subst (λ (x : ℕ). IsIn x (elements_of lists.pending)) e_is pending;
   clear = subst (λ (x : ℕ). Cleared x q r bit) e_is clear;
@@ -435,12 +433,12 @@ pub record Missing (t : TableView) (c : ℕ) (p q : PassView) (body : Stored) (l
   pub took : TookLock t (Local c) p q (contents.Local lists)
   pub none : times body.element (elements_of lists.pending) ≡ 0
 
-pub missing : (t now : TableView) (p q : PassView) (body : Stored) (lists : LocalView) (c e : ℕ) → t ≡ now → IsTrue (is_lru t.shape.kind) → CanPushAt now (Local c) body p → LiesUnder now (Local c) body.element p → e ≡ body.element
+pub missing : (t : TableView) (p q : PassView) (body : Stored) (lists : LocalView) (c e : ℕ) → IsTrue (is_lru t.shape.kind) → CanPushAt t (Local c) body p → LiesUnder t (Local c) body.element p → e ≡ body.element
     → TookLock t (Local c) p q (contents.Local lists) → times e (elements_of lists.pending) ≡ 0 → Missing t c p q body lists
-missing t now p q body lists c e is lru can lies e_is took none = record {
+missing t p q body lists c e lru can lies e_is took none = record {
   lru = lru;
-  can = subst (λ (z : TableView). CanPushAt z (Local c) body p) (sym is) can;
-  lies = subst (λ (z : TableView). LiesUnder z (Local c) body.element p) (sym is) lies;
+  can = can;
+  lies = lies;
   took = took;
   none = subst (λ (x : ℕ). times x (elements_of lists.pending) ≡ 0) e_is none;
 }

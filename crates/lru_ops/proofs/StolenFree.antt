@@ -1,12 +1,10 @@
 -- An element that is stolen from the head of the free list of the local lists of a CPU: a turn of them, from its take to its give.
 use Rattle.std.proofs.Common.{inl, ◌≡◌, ℕ, ◌<◌, ◌+◌, true, List, [], ◌∷◌, ◌++◌, drop, sym, refl, ap, ◌∙◌, subst, Some, arith}
-use Rattle.std.specs.Prelude.{IsTrue, slice_get}
+use Rattle.std.specs.Prelude.{slice_get}
 use Rattle.std.proofs.lemmas.List.Elements.{recursion_from_All, All-from_recursion, All-nil}
 use Rattle.map_types.specs.declared.attr.Shape.{Shape}
 use Rattle.map_types.specs.declared.kind.DomainId.TheVariants.{Local}
-use Rattle.map_types.specs.Creation.{IsShape}
 use Rattle.map_types.specs.ElementLists.{times, without, IsHead, IsIn}
-use Rattle.map_types.specs.Kind.{is_lru}
 use Rattle.map_types.specs.Listed.{elements_of}
 use Rattle.map_types.specs.Stored.{Stored, IsSized}
 use Rattle.map_types.proofs.RowLemmas.{times_append}
@@ -42,6 +40,7 @@ use Rattle.place_table.proofs.StoredHashes.{stored_is_in}
 use Rattle.place_table.proofs.Worlds.{hand_is, hold_at_first, some_is}
 use Rattle.local_lists.specs.LocalLists.{LocalView, IsLocal, local_told, with_free}
 use Rattle.local_lists.proofs.ToldLemmas.{top_is_head, popped_numbers, popped_room}
+use Rattle.lru_ops.specs.Lists.{MapEvicts}
 use Rattle.lru_ops.specs.Shared.{CanSteal, StoleFrom}
 use Rattle.lru_ops.proofs.GivingOut.{came_first, popped_sized, first_of, head_number, without_head}
 use Rattle.lru_ops.proofs.Holders.{saw_on_none, saw_none}
@@ -260,19 +259,16 @@ module _ {t : TableView} {from : ℕ} {lists : LocalView} {p q : PassView} {body
           }
 
 -- The whole turn, from the clauses of its calls
-module _ {t now : TableView} {from : ℕ} {p q : PassView} {here : Slot} {lists : LocalView} (is : t ≡ now) (is_shape : IsShape t.shape) (evicts : IsTrue (is_lru t.shape.kind)) (can : CanSteal now p) (there : from < now.shape.cpus)
+module _ {t : TableView} {from : ℕ} {p q : PassView} {here : Slot} {lists : LocalView} (lru : MapEvicts t) (can : CanSteal t p) (there : from < t.shape.cpus)
     (here_is : here ≡ contents.Local lists) (took : TookLock t (Local from) p q here) where
-  abbrev pub may_steal : CanSteal t p
-  may_steal = subst (λ (z : TableView). CanSteal z p) (sym is) can
-
   abbrev pub on_lists : OnLocal t from lists p q
   on_lists = record {
-    is_shape = is_shape;
-    evicts = evicts;
-    there = local_there t.shape from may_steal.common (subst (λ (z : TableView). from < z.shape.cpus) (sym is) there);
-    of_table = may_steal.of_table;
-    begun = may_steal.begun;
-    alone = may_steal.no_lock;
+    is_shape = lru.0;
+    evicts = lru.1;
+    there = local_there t.shape from can.common there;
+    of_table = can.of_table;
+    begun = can.begun;
+    alone = can.no_lock;
     took = subst (TookLock t (Local from) p q) here_is took;
   }
 
@@ -282,7 +278,7 @@ module _ {t now : TableView} {from : ℕ} {p q : PassView} {here : Slot} {lists 
     claimed_here = subst (λ (n : ℕ). Claimed (Local from) n q m) e_is claim
 
     pub may_carry : CanRehome t e (homes.Hand cpu) m
-    may_carry = subst (λ (n : ℕ). CanRehome t n (homes.Hand cpu) m) (sym e_is) (can_carry may_steal on_lists top claimed_here cpu mine)
+    may_carry = subst (λ (n : ℕ). CanRehome t n (homes.Hand cpu) m) (sym e_is) (can_carry can on_lists top claimed_here cpu mine)
 
     module _ {s : PassView} {first : List Look} {second : List Try} (off : Rehomed t e (homes.Hand cpu) m s) (first_is : first ≡ []) (second_is : second ≡ []) where
       abbrev off_here : Rehomed t body.element (homes.Hand p.cpu) m s
@@ -294,9 +290,8 @@ module _ {t now : TableView} {from : ℕ} {p q : PassView} {here : Slot} {lists 
       pub may_give_free : CanGive t (Local from) s (contents.Local left) (parts.Local (local.Steal (Free e) first second))
       may_give_free =
           subst (λ (z : LocalView × Part). CanGive t (Local from) s (contents.Local z.0) z.1) (λ i. (sym left_is i, sym part_is i))
-          (can_give_free may_steal on_lists top claimed_here off_here (subst IsLocal left_is whole))
+          (can_give_free can on_lists top claimed_here off_here (subst IsLocal left_is whole))
 
-      pub free_stolen : {u : PassView} → Gave s u (parts.Local (local.Steal (Free e) first second)) → StoleFrom now from p u (Some body)
+      pub free_stolen : {u : PassView} → Gave s u (parts.Local (local.Steal (Free e) first second)) → StoleFrom t from p u (Some body)
       free_stolen {u} gave =
-          subst (λ (z : TableView). StoleFrom z from p u (Some body)) is
-          (stole_free may_steal on_lists top claimed_here off_here (subst IsLocal left_is whole) (subst (Gave s u) part_is gave))
+          stole_free can on_lists top claimed_here off_here (subst IsLocal left_is whole) (subst (Gave s u) part_is gave)

@@ -1,14 +1,12 @@
 -- A theft that searches the pending list of the local lists of a CPU: a turn of them, from its take to its give.
 use Rattle.std.proofs.Common.{inl, inr, ◌≡◌, ℕ, ◌<◌, ◌≤◌, ◌-◌, ◌+◌, cond, true, false, List, [], ◌∷◌, ◌++◌, map, sym, refl, ap, ◌∙◌, subst, Option, Some, None, arith}
-use Rattle.std.specs.Prelude.{◌⊎◌, ◌==◌, reverse, slice_get, option_map, MatchBool, MatchOption, IfSome, IsTrue, All}
+use Rattle.std.specs.Prelude.{◌⊎◌, ◌==◌, reverse, slice_get, option_map, MatchBool, MatchOption, IfSome, All}
 use Rattle.std.proofs.lemmas.List.{reverse-reverse}
 use Rattle.std.proofs.lemmas.List.Elements.{All-nil, All-cons}
 use Rattle.map_types.specs.declared.attr.Shape.{Shape}
 use Rattle.map_types.specs.declared.kind.DomainId.TheVariants.{Local}
 use Rattle.map_types.specs.declared.row.Row.{Row}
-use Rattle.map_types.specs.Creation.{IsShape}
 use Rattle.map_types.specs.ElementLists.{times, IsIn}
-use Rattle.map_types.specs.Kind.{is_lru}
 use Rattle.map_types.specs.Listed.{elements_of}
 use Rattle.map_types.specs.Stored.{Stored, IsSized}
 use Rattle.map_types.proofs.RowLemmas.{times_append, by_test}
@@ -57,10 +55,10 @@ use Rattle.lru_lists.specs.declared.notes.Noted.TheVariants as noted
 use Rattle.lru_shrink.specs.Searches.{bits_read, IsFound}
 use Rattle.lru_ops.specs.declared.probing.Destination.TheVariants.{OwnHand}
 use Rattle.lru_ops.specs.Askings.{asked_by, asked_after, notes_after, held_after, owners_after, touch_by}
-use Rattle.lru_ops.specs.Lists.{StoleNone, IsHeldByOther}
+use Rattle.lru_ops.specs.Lists.{MapEvicts, StoleNone, IsHeldByOther}
 use Rattle.lru_ops.specs.OwnTurns.{try_of}
 use Rattle.lru_ops.specs.Shared.{CanSteal, StoleFrom}
-use Rattle.lru_ops.specs.Thefts.{CanSearch, Walked, Searched, lists_without, stolen_of, IsTheft}
+use Rattle.lru_ops.specs.Thefts.{CanSearch, Walked, Searched, lists_without, stolen_of, IsTheft, both_walks}
 use Rattle.lru_ops.proofs.GivingOut.{asked_are, probes_fit}
 use Rattle.lru_ops.proofs.LocalTurns.{OnLocal, ReadyLocal, to_q, taken_held, taken_noted, may_give_local, changed_local, chased_local, saw_local, lists_there, named_there, can_give_local}
 use Rattle.lru_ops.proofs.LocalWalk.{left_after, left_free, left_rows}
@@ -68,7 +66,7 @@ use Rattle.lru_ops.proofs.NoneFound.{nothing_freed, tries_all, none_removed, hel
 use Rattle.lru_ops.proofs.OwnTurns.{GaveAs, gave_as, gave_some_as, lock_among}
 use Rattle.lru_ops.proofs.Pushes.{left_row}
 use Rattle.lru_ops.proofs.SetWork.{taken_by, walk_taken, walk_tried}
-use Rattle.lru_ops.proofs.StolenFree.{may_steal, on_lists}
+use Rattle.lru_ops.proofs.StolenFree.{on_lists}
 use Rattle.lru_ops.proofs.ThiefWalk.{hand_held, hand_came, hand_taken, in_hands}
 
 -- Bits that were only read
@@ -186,7 +184,7 @@ module _ {t : TableView} {from : ℕ} {lists : LocalView} {p q : PassView} (can 
   }
 
   -- and searched
-  module _ {first first_after : Noted Look} {second second_after : Noted Try} {s : PassView} {found : Option Stored} (w : Walked t lists first first_after second second_after q s found) where
+  module _ {first first_after : Noted Look} {second second_after : Noted Try} {s : PassView} {found : Option Stored} (w : Walked t lists (both_walks first second q) (both_walks first_after second_after s) found) where
     abbrev hold : Hold
     hold = b.took.hold
 
@@ -361,20 +359,20 @@ none_popped lists none = by lists.free.bodies none
     by [] none = refl
     by (body ∷ bodies) none = absurd (none_some none)
 
-module _ {t now : TableView} {from : ℕ} {p q : PassView} {here : Slot} {lists left : LocalView} (is : t ≡ now) (is_shape : IsShape t.shape) (evicts : IsTrue (is_lru t.shape.kind)) (can : CanSteal now p) (there : from < now.shape.cpus)
+module _ {t : TableView} {from : ℕ} {p q : PassView} {here : Slot} {lists left : LocalView} (lru : MapEvicts t) (can : CanSteal t p) (there : from < t.shape.cpus)
     (here_is : here ≡ contents.Local lists) (took : TookLock t (Local from) p q here) (none : None ≡ slice_get lists.free.bodies 0) (left_is : left ≡ with_free (popped lists.free) lists) where
   same_lists : left ≡ lists
   same_lists = left_is ∙ none_popped lists none
 
-  pub may_search : CanSearch now left q
+  pub may_search : CanSearch t left q
   may_search =
-      subst (λ (z : TableView × LocalView). CanSearch z.0 z.1 q) (λ i. (is i, sym same_lists i))
-      (can_search (may_steal is is_shape evicts can there here_is took) (on_lists is is_shape evicts can there here_is took))
+      subst (λ (z : LocalView). CanSearch t z q) (sym same_lists)
+      (can_search can (on_lists lru can there here_is took))
 
   module _ (given_part : Option Part) {out : LocalView} {first first_after : Noted Look} {second second_after : Noted Try} {s : PassView} {found : Option Stored} {stolen : Stolen} (first_is : first ≡ noted.Kept []) (second_is : second ≡ noted.Kept [])
-      (searched : Searched now left out first first_after second second_after q s found) (stolen_is : stolen ≡ stolen_of found) (told : IfSome given_part (IsTheft stolen first_after second_after)) where
-    abbrev w : Walked t lists (noted.Kept []) first_after (noted.Kept []) second_after q s found
-    w = subst (λ (z : TableView × LocalView × Noted Look × Noted Try). Walked z.0 z.1 z.2 first_after z.3 second_after q s found) (λ i. (sym is i, same_lists i, first_is i, second_is i)) searched.walked
+      (searched : Searched t left out (both_walks first second q) (both_walks first_after second_after s) found) (stolen_is : stolen ≡ stolen_of found) (told : IfSome given_part (IsTheft stolen first_after second_after)) where
+    abbrev w : Walked t lists (both_walks (noted.Kept []) (noted.Kept []) q) (both_walks first_after second_after s) found
+    w = subst (λ (z : LocalView × Noted Look × Noted Try). Walked t z.0 (both_walks z.1 z.2 q) (both_walks first_after second_after s) found) (λ i. (same_lists i, first_is i, second_is i)) searched.walked
 
     abbrev left_out : out ≡ lists_without found lists
     left_out = searched.after_is ∙ ap (lists_without found) same_lists
@@ -386,10 +384,9 @@ module _ {t now : TableView} {from : ℕ} {p q : PassView} {here : Slot} {lists 
     pub may_give_found : MayGiveBack t (Local from) s (contents.Local out) given_part
     may_give_found =
         subst (λ (z : LocalView). MayGiveBack t (Local from) s (contents.Local z) given_part) (sym left_out)
-        (may_give_search (may_steal is is_shape evicts can there here_is took) (on_lists is is_shape evicts can there here_is took) w given_part (by_notes given_part told))
+        (may_give_search can (on_lists lru can there here_is took) w given_part (by_notes given_part told))
 
-    pub found_stolen : {u : PassView} → GaveBack t (Local from) s u (contents.Local out) given_part → StoleFrom now from p u found
+    pub found_stolen : {u : PassView} → GaveBack t (Local from) s u (contents.Local out) given_part → StoleFrom t from p u found
     found_stolen {u} gave =
-        subst (λ (z : TableView). StoleFrom z from p u found) is
-        (stole_searched (may_steal is is_shape evicts can there here_is took) (on_lists is is_shape evicts can there here_is took) w given_part (by_notes given_part told)
-        (subst (λ (z : LocalView). GaveBack t (Local from) s u (contents.Local z) given_part) left_out gave))
+        stole_searched can (on_lists lru can there here_is took) w given_part (by_notes given_part told)
+        (subst (λ (z : LocalView). GaveBack t (Local from) s u (contents.Local z) given_part) left_out gave)

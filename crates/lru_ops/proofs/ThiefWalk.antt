@@ -41,13 +41,13 @@ use Rattle.lru_lists.specs.declared.bits.BitCall.{BitCall}
 use Rattle.lru_lists.specs.declared.bits.ProbeCall.{ProbeCall}
 use Rattle.lru_lists.specs.declared.notes.Noted.{Noted}
 use Rattle.lru_lists.proofs.NoteLemmas.{noted_none}
-use Rattle.lru_shrink.specs.Searches.{bits_read, IsFound, SparingSearch, UnsparingSearch}
+use Rattle.lru_shrink.specs.Searches.{bits_read, IsFound, SearchMoment, SparingSearch, UnsparingSearch}
 use Rattle.lru_shrink.specs.Shrunk.{probes_of_looks, probes_of_tries, removed_by_looks, removed_by_tries}
 use Rattle.lru_ops.specs.declared.probing.Destination.{Destination}
 use Rattle.lru_ops.specs.declared.probing.Destination.TheVariants.{LocalFree, OwnHand}
 use Rattle.lru_ops.specs.Askings.{calls_noted, probes_made, hash_in, notes_after, came_after, held_after, taken_after, Does, Since, MayAsk, MayChase}
 use Rattle.lru_ops.specs.Evictions.{held_with, taken_with}
-use Rattle.lru_ops.specs.Thefts.{last_lock, CanSearch, SearchedSparing, SearchedAll, Walked}
+use Rattle.lru_ops.specs.Thefts.{last_lock, CanSearch, SearchedSparing, SearchedAll, Walked, both_walks}
 use Rattle.lru_ops.proofs.Asked.{now_with, same_table, since_start}
 use Rattle.lru_ops.proofs.DoesOn.{does_on}
 use Rattle.lru_ops.proofs.LocalTurns.{stored_pending}
@@ -177,7 +177,11 @@ module _ {t u : TableView} {to : Destination} {lock : DomainId} {rows : List Row
   sized_same removed None answer = answer
   sized_same removed (Some body) answer = (answer.0, subst (λ (z : TableView). IsSized z.shape body) same answer.1)
 
-  by_sparing : {notes notes_after : Noted Look} {found : Option Stored} → SparingSearch lists.pending (calls_noted p.view.notes) (calls_noted q.view.notes) (probes_made (hash_in rows) p.view.steps) (probes_made (hash_in rows) q.view.steps) (IsSized u.shape) notes notes_after found
+  -- a moment of a search, by the pass that makes it
+  abbrev looking : {Notes : Type 0} → PassView → Notes → SearchMoment Notes
+  looking pass notes = record { asked = record { calls = calls_noted pass.view.notes; probes = probes_made (hash_in rows) pass.view.steps }; notes = notes }
+
+  by_sparing : {notes notes_after : Noted Look} {found : Option Stored} → SparingSearch lists.pending (IsSized u.shape) (looking p notes) (looking q notes_after) found
       → SearchedSparing t lists.pending notes notes_after p q found
   by_sparing {notes} {notes_after} {found} s = record {
     calls = since.calls;
@@ -195,12 +199,12 @@ module _ {t u : TableView} {to : Destination} {lock : DomainId} {rows : List Row
     does = does;
   }
 
-  pub sparing_searched : {walked : List Row} {notes notes_after : Noted Look} {found : Option Stored} → walked ≡ lists.pending → SparingSearch walked (calls_noted p.view.notes) (calls_noted q.view.notes) (probes_made (hash_in rows) p.view.steps) (probes_made (hash_in rows) q.view.steps) (IsSized u.shape) notes notes_after found
+  pub sparing_searched : {walked : List Row} {notes notes_after : Noted Look} {found : Option Stored} → walked ≡ lists.pending → SparingSearch walked (IsSized u.shape) (looking p notes) (looking q notes_after) found
       → SearchedSparing t lists.pending notes notes_after p q found
   sparing_searched {walked} {notes} {notes_after} {found} walked_is s =
-      by_sparing (subst (λ (l : List Row). SparingSearch l (calls_noted p.view.notes) (calls_noted q.view.notes) (probes_made (hash_in rows) p.view.steps) (probes_made (hash_in rows) q.view.steps) (IsSized u.shape) notes notes_after found) walked_is s)
+      by_sparing (subst (λ (l : List Row). SparingSearch l (IsSized u.shape) (looking p notes) (looking q notes_after) found) walked_is s)
 
-  by_all : {notes notes_after : Noted Try} {found : Option Stored} → UnsparingSearch lists.pending (probes_made (hash_in rows) p.view.steps) (probes_made (hash_in rows) q.view.steps) (IsSized u.shape) notes notes_after found
+  by_all : {notes notes_after : Noted Try} {found : Option Stored} → UnsparingSearch lists.pending (IsSized u.shape) (looking p notes) (looking q notes_after) found
       → calls_noted q.view.notes ≡ calls_noted p.view.notes → SearchedAll t lists.pending notes notes_after p q found
   by_all {notes} {notes_after} {found} s asked = record {
     probes = since.probes;
@@ -208,6 +212,7 @@ module _ {t u : TableView} {to : Destination} {lock : DomainId} {rows : List Row
       tries = s.tries;
       are = s.are;
       few = s.few;
+      asked = refl;
       probed = probes_since (probes_of_tries lists.pending s.tries) s.probed;
       noted = s.noted;
       answer = sized_same _ found s.answer;
@@ -216,10 +221,10 @@ module _ {t u : TableView} {to : Destination} {lock : DomainId} {rows : List Row
     does = subst (λ (l : List BitCall). Does t OwnHand lists.pending l since.probes p q) (calls_since [] (asked ∙ sym (append_nil (calls_noted p.view.notes)))) does;
   }
 
-  pub all_searched : {walked : List Row} {notes notes_after : Noted Try} {found : Option Stored} → walked ≡ lists.pending → UnsparingSearch walked (probes_made (hash_in rows) p.view.steps) (probes_made (hash_in rows) q.view.steps) (IsSized u.shape) notes notes_after found
+  pub all_searched : {walked : List Row} {notes notes_after : Noted Try} {found : Option Stored} → walked ≡ lists.pending → UnsparingSearch walked (IsSized u.shape) (looking p notes) (looking q notes_after) found
       → calls_noted q.view.notes ≡ calls_noted p.view.notes → SearchedAll t lists.pending notes notes_after p q found
   all_searched {walked} {notes} {notes_after} {found} walked_is s asked =
-      by_all (subst (λ (l : List Row). UnsparingSearch l (probes_made (hash_in rows) p.view.steps) (probes_made (hash_in rows) q.view.steps) (IsSized u.shape) notes notes_after found) walked_is s) asked
+      by_all (subst (λ (l : List Row). UnsparingSearch l (IsSized u.shape) (looking p notes) (looking q notes_after) found) walked_is s) asked
 
 -- Both walks
 
@@ -229,7 +234,7 @@ none_counted_here looks n removed long is =
 
 module _ {t : TableView} {lists : LocalView} {first first_after : Noted Look} {p q : PassView} (can : CanSearch t lists p) (free : lists.free.bodies ≡ []) where
   -- the first one removed an element
-  pub walked_once : (second : Noted Try) (body : Stored) → SearchedSparing t lists.pending first first_after p q (Some body) → Walked t lists first first_after second second p q (Some body)
+  pub walked_once : (second : Noted Try) (body : Stored) → SearchedSparing t lists.pending first first_after p q (Some body) → Walked t lists (both_walks first second p) (both_walks first_after second q) (Some body)
   walked_once second body s =
       let k = s.search in
       let counted : count_by look_removed k.looks ≡ 1 = none_counted_here k.looks 1 (body.element ∷ []) refl k.answer.0 in
@@ -292,7 +297,7 @@ module _ {t : TableView} {lists : LocalView} {first first_after : Noted Look} {p
 
   -- and the second was made
   module _ {second second_after : Noted Try} {r : PassView} (s : SearchedSparing t lists.pending first first_after p q None) where
-    pub walked_twice : (found : Option Stored) → SearchedAll t lists.pending second second_after q r found → Walked t lists first first_after second second_after p r found
+    pub walked_twice : (found : Option Stored) → SearchedAll t lists.pending second second_after q r found → Walked t lists (both_walks first second p) (both_walks first_after second_after r) found
     walked_twice found a =
         let counted : count_by look_removed s.search.looks ≡ 0 = none_counted_here s.search.looks 0 [] refl s.search.answer in
         let both : freed s.search.looks a.search.tries ≡ removed_by_tries a.search.tries = ap (λ (l : List ℕ). l ++ removed_by_tries a.search.tries) s.search.answer in
@@ -314,19 +319,14 @@ module _ {t : TableView} {lists : LocalView} {first first_after : Noted Look} {p
         }
 
 -- The same from the clauses of the calls
-module _ {t now : TableView} {lists : LocalView} {first first_after : Noted Look} {p q : PassView} {answer : Option Stored} (is : t ≡ now) (can : CanSearch now lists p) (free : lists.free.bodies ≡ []) (s : SearchedSparing t lists.pending first first_after p q answer) where
-  abbrev may : CanSearch t lists p
-  may = subst (λ (z : TableView). CanSearch z lists p) (sym is) can
-
+module _ {t : TableView} {lists : LocalView} {first first_after : Noted Look} {p q : PassView} {answer : Option Stored} (can : CanSearch t lists p) (free : lists.free.bodies ≡ []) (s : SearchedSparing t lists.pending first first_after p q answer) where
   pub may_go_on : answer ≡ None → CanSearch t lists q
-  may_go_on none = searches_on may free (subst (SearchedSparing t lists.pending first first_after p q) none s)
+  may_go_on none = searches_on can free (subst (SearchedSparing t lists.pending first first_after p q) none s)
 
-  pub found_first : {body : Stored} (second : Noted Try) → answer ≡ Some body → Walked now lists first first_after second second p q (Some body)
+  pub found_first : {body : Stored} (second : Noted Try) → answer ≡ Some body → Walked t lists (both_walks first second p) (both_walks first_after second q) (Some body)
   found_first {body} second some =
-      subst (λ (z : TableView). Walked z lists first first_after second second p q (Some body)) is
-      (walked_once may free second body (subst (SearchedSparing t lists.pending first first_after p q) some s))
+      walked_once can free second body (subst (SearchedSparing t lists.pending first first_after p q) some s)
 
-  pub found_second : {second second_after : Noted Try} {r : PassView} {found : Option Stored} → answer ≡ None → SearchedAll t lists.pending second second_after q r found → Walked now lists first first_after second second_after p r found
+  pub found_second : {second second_after : Noted Try} {r : PassView} {found : Option Stored} → answer ≡ None → SearchedAll t lists.pending second second_after q r found → Walked t lists (both_walks first second p) (both_walks first_after second_after r) found
   found_second {second} {second_after} {r} {found} none a =
-      subst (λ (z : TableView). Walked z lists first first_after second second_after p r found) is
-      (walked_twice may free (subst (SearchedSparing t lists.pending first first_after p q) none s) found a)
+      walked_twice can free (subst (SearchedSparing t lists.pending first first_after p q) none s) found a

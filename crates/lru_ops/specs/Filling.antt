@@ -36,9 +36,10 @@ use Rattle.lru_lists.specs.declared.notes.RotateNotes.{RotateNotes}
 use Rattle.lru_lists.specs.declared.notes.ShrinkNotes.{ShrinkNotes}
 use Rattle.lru_lists.specs.Notes.{AreNoted}
 use Rattle.lru_lists.specs.Sets.{SetView, moved_in, times_on as times_on_set, row_on, times_listed, with_free}
+use Rattle.lru_ops.specs.declared.refill.GlobalNotes.{GlobalNotes}
 use Rattle.lru_ops.specs.Askings.{asked_after, AreEvicts, owners_after}
 use Rattle.lru_ops.specs.Evictions.{SawHolders}
-use Rattle.lru_ops.specs.GlobalWork.{CanWalk, ShrunkInto}
+use Rattle.lru_ops.specs.GlobalWork.{BothLists, CanWalk, ShrunkInto}
 use Rattle.map_types.specs.Stored.{Stored}
 use Rattle.place_words.specs.declared.list_part.GlobalPart.{GlobalPart}
 use Rattle.place_words.specs.Histories.{bits_cleared}
@@ -101,22 +102,22 @@ pub record Flushes (t : TableView) (flushed : List Flush) (p q : PassView) : Typ
   pub learns : Learns t.shape p.view q.view [] (map clears_found (map flush_visit flushed))
 
 -- The row at the tail of pending was flushed.
-pub record FlushedOne (t : TableView) (row : Row) (set set_after : SetView) (lists lists_after : LocalView) (p q : PassView) (flush : Flush) : Type 0 where
+pub record FlushedOne (t : TableView) (row : Row) (before after : BothLists) (flush : Flush) : Type 0 where
   pub row_is : flush_row flush ≡ row
-  pub set_is : set_after ≡ moved_in row (flushed_to flush.bit) set
-  pub lists_are : lists_after ≡ without_pending row.element lists
-  pub leaves : CanFill t set_after lists_after q
-  pub flushes : Flushes t (flush ∷ []) p q
+  pub set_is : after.set ≡ moved_in row (flushed_to flush.bit) before.set
+  pub lists_are : after.lists ≡ without_pending row.element before.lists
+  pub leaves : CanFill t after.set after.lists after.pass
+  pub flushes : Flushes t (flush ∷ []) before.pass after.pass
 
 -- All that was pending was flushed, from the tail.
-pub record FlushedAll (t : TableView) (set set_after : SetView) (lists lists_after : LocalView) (notes notes_after : Noted Flush) (p q : PassView) : Type 0 where
+pub record FlushedAll (t : TableView) (before after : BothLists) (notes notes_after : Noted Flush) : Type 0 where
   pub flushed : List Flush
   pub noted : AreNoted flushed notes notes_after
-  pub with_hashes : flushed_rows flushed ≡ reverse lists.pending
-  pub set_is : set_told set_after ≡ with_flushed flushed (set_told set)
-  pub lists_are : lists_after ≡ record lists { pending = [] }
-  pub leaves : CanFill t set_after lists_after q
-  pub flushes : Flushes t flushed p q
+  pub with_hashes : flushed_rows flushed ≡ reverse before.lists.pending
+  pub set_is : set_told after.set ≡ with_flushed flushed (set_told before.set)
+  pub lists_are : after.lists ≡ record before.lists { pending = [] }
+  pub leaves : CanFill t after.set after.lists after.pass
+  pub flushes : Flushes t flushed before.pass after.pass
 
 -- Free elements that move
 
@@ -142,37 +143,37 @@ pub record MovesFree (t : TableView) (moved : List ℕ) (p q : PassView) : Type 
   pub learns : Learns t.shape p.view q.view [] []
 
 -- The body at the head of the free list of the set went to the head of the local free list.
-pub record MovedOne (t : TableView) (set set_after : SetView) (lists lists_after : LocalView) (p q : PassView) (body : Stored) : Type 0 where
-  pub set_is : set_after ≡ with_free (popped set.free) set
-  pub lists_are : lists_after ≡ with_local_free (pushed body lists.free) lists
-  pub leaves : CanFill t set_after lists_after q
-  pub moves : MovesFree t (body.element ∷ []) p q
+pub record MovedOne (t : TableView) (before after : BothLists) (body : Stored) : Type 0 where
+  pub set_is : after.set ≡ with_free (popped before.set.free) before.set
+  pub lists_are : after.lists ≡ with_local_free (pushed body before.lists.free) before.lists
+  pub leaves : CanFill t after.set after.lists after.pass
+  pub moves : MovesFree t (body.element ∷ []) before.pass after.pass
 
-abbrev pub MovesOne : TableView → SetView → SetView → LocalView → LocalView → PassView → PassView → Option ℕ → Type 0
-MovesOne t set set_after lists lists_after p q None = (set.free.bodies ≡ []) × (set_after ≡ set) × (lists_after ≡ lists) × (q ≡ p)
-MovesOne t set set_after lists lists_after p q (Some e) =
-    (body : Stored) × (slice_get set.free.bodies 0 ≡ Some body) × (e ≡ body.element) × MovedOne t set set_after lists lists_after p q body
+abbrev pub MovesOne : TableView → BothLists → BothLists → Option ℕ → Type 0
+MovesOne t before after None = (before.set.free.bodies ≡ []) × (after.set ≡ before.set) × (after.lists ≡ before.lists) × (after.pass ≡ before.pass)
+MovesOne t before after (Some e) =
+    (body : Stored) × (slice_get before.set.free.bodies 0 ≡ Some body) × (e ≡ body.element) × MovedOne t before after body
 
 -- Free elements of the set went over, one after another from the head: as many as a turn is to give, or all where they are fewer.
-pub record MovedAll (t : TableView) (set set_after : SetView) (lists lists_after : LocalView) (notes notes_after : Noted ℕ) (p q : PassView) (count : ℕ) : Type 0 where
+pub record MovedAll (t : TableView) (before after : BothLists) (notes notes_after : Noted ℕ) (count : ℕ) : Type 0 where
   pub moved : List ℕ
   pub noted : AreNoted moved notes notes_after
-  pub moved_are : moved ≡ take global_target (numbers set.free.bodies)
+  pub moved_are : moved ≡ take global_target (numbers before.set.free.bodies)
   pub count_is : count ≡ length moved
-  pub set_is : set_told set_after ≡ record (set_told set) { free = drop global_target (numbers set.free.bodies) }
-  pub free_is : numbers lists_after.free.bodies ≡ reverse moved ++ numbers lists.free.bodies
-  pub pending_is : lists_after.pending ≡ lists.pending
-  pub steal_is : lists_after.steal ≡ lists.steal
-  pub leaves : CanFill t set_after lists_after q
-  pub moves : MovesFree t moved p q
+  pub set_is : set_told after.set ≡ record (set_told before.set) { free = drop global_target (numbers before.set.free.bodies) }
+  pub free_is : numbers after.lists.free.bodies ≡ reverse moved ++ numbers before.lists.free.bodies
+  pub pending_is : after.lists.pending ≡ before.lists.pending
+  pub steal_is : after.lists.steal ≡ before.lists.steal
+  pub leaves : CanFill t after.set after.lists after.pass
+  pub moves : MovesFree t moved before.pass after.pass
 
 -- The whole turn
 
 -- the set was shrunk for so many as lack, where some do
-abbrev pub ShrinksLacking : TableView → ℕ → SetView → SetView → LocalView → LocalView → ShrinkNotes → ShrinkNotes → PassView → PassView → Type 0
-ShrinksLacking t zero set set_after lists lists_after notes notes_after p q =
-    (set_after ≡ set) × (lists_after ≡ lists) × (notes_after ≡ notes) × (q ≡ p)
-ShrinksLacking t (suc n) set set_after lists lists_after notes notes_after p q = ShrunkInto t (suc n) set set_after lists lists_after notes notes_after p q
+abbrev pub ShrinksLacking : TableView → ℕ → BothLists → BothLists → ShrinkNotes → ShrinkNotes → Type 0
+ShrinksLacking t zero before after notes notes_after =
+    (after.set ≡ before.set) × (after.lists ≡ before.lists) × (notes_after ≡ notes) × (after.pass ≡ before.pass)
+ShrinksLacking t (suc n) before after notes notes_after = ShrunkInto t (suc n) before after notes notes_after
 
 -- nothing was done under the two locks that were taken last
 abbrev pub AreFresh : PassView → Type 0
@@ -194,57 +195,57 @@ turn_told flushed active inactive free target looks forced = global.Turn flushed
 
 -- The global lists before they are given back: what was done since they were taken, as the turn tells it, and what it noted. `target`
 -- elements lacked.
-pub record FilledUp (t : TableView) (set out : SetView) (lists lists_out : LocalView) (flushing flushing_after : Noted Flush) (turning turning_after : RotateNotes) (moving moving_after : Noted ℕ) (shrinking shrinking_after : ShrinkNotes) (q s : PassView) (target : ℕ) : Type 0 where
+pub record FilledUp (t : TableView) (before after : BothLists) (noting noting_after : GlobalNotes) (target : ℕ) : Type 0 where
   pub flushed : List Flush
   pub active : List Visit
   pub inactive : List Visit
   pub free : List ℕ
   pub looks : List Look
   pub forced : List Try
-  pub noted_flushed : AreNoted flushed flushing flushing_after
-  pub noted_active : AreNoted active turning.active turning_after.active
-  pub noted_inactive : AreNoted inactive turning.inactive turning_after.inactive
-  pub noted_free : AreNoted free moving moving_after
-  pub noted_looks : AreNoted looks shrinking.looks shrinking_after.looks
-  pub noted_forced : AreNoted forced shrinking.forced shrinking_after.forced
+  pub noted_flushed : AreNoted flushed noting.flushed noting_after.flushed
+  pub noted_active : AreNoted active noting.turning.active noting_after.turning.active
+  pub noted_inactive : AreNoted inactive noting.turning.inactive noting_after.turning.inactive
+  pub noted_free : AreNoted free noting.moved noting_after.moved
+  pub noted_looks : AreNoted looks noting.shrinking.looks noting_after.shrinking.looks
+  pub noted_forced : AreNoted forced noting.shrinking.forced noting_after.shrinking.forced
   -- the turn may be so, and what it leaves of the set is there
-  pub allowed : AllowsOnGlobal (turn_told flushed active inactive free target looks forced) (set_told set)
-  pub left : global_after (turn_told flushed active inactive free target looks forced) (set_told set) ≡ set_told out
-  pub fits : FitsSet t.shape out
+  pub allowed : AllowsOnGlobal (turn_told flushed active inactive free target looks forced) (set_told before.set)
+  pub left : global_after (turn_told flushed active inactive free target looks forced) (set_told before.set) ≡ set_told after.set
+  pub fits : FitsSet t.shape after.set
   pub freed_is : freed looks forced ≡ freed_by (global_note (lacks target) target looks forced)
   -- all that was pending was flushed, with its hashes, and what moved and what was freed is on the local free list
-  pub with_hashes : flushed_rows flushed ≡ reverse lists.pending
-  pub none_pending : lists_out.pending ≡ []
-  pub steal_is : lists_out.steal ≡ lists.steal
-  pub free_is : numbers lists_out.free.bodies ≡ reverse (free ++ freed looks forced)
-  pub lists_fit : FitsLocal t.shape lists_out
+  pub with_hashes : flushed_rows flushed ≡ reverse before.lists.pending
+  pub none_pending : after.lists.pending ≡ []
+  pub steal_is : after.lists.steal ≡ before.lists.steal
+  pub free_is : numbers after.lists.free.bodies ≡ reverse (free ++ freed looks forced)
+  pub lists_fit : FitsLocal t.shape after.lists
   -- the turns that were made are probes of the rows that were there or flushed
   pub turns : List Turned
   pub probes : List ProbeCall
-  pub goes : Goes q s turns []
+  pub goes : Goes before.pass after.pass turns []
   pub walked : List Row
-  pub are_evicts : AreEvicts t.shape q.cpu q.call walked probes turns
-  pub stored : (e h : ℕ) → stored_hash e walked ≡ Some h → stored_hash e (flushed_rows flushed ++ (set.active ++ set.inactive)) ≡ Some h
+  pub are_evicts : AreEvicts t.shape before.pass.cpu before.pass.call walked probes turns
+  pub stored : (e h : ℕ) → stored_hash e walked ≡ Some h → stored_hash e (flushed_rows flushed ++ (before.set.active ++ before.set.inactive)) ≡ Some h
   pub tried : map try_of probes ≡ shrink_probes (global_note (lacks target) target looks forced)
   -- what lies under the two locks
   pub global : Hold
   pub local : Hold
-  pub was : q.view.held ≡ global ∷ local ∷ []
+  pub was : before.pass.view.held ≡ global ∷ local ∷ []
   pub global_now : Lists
   pub local_now : Lists
-  pub held : s.view.held ≡ hold_with global global_now ∷ hold_with local local_now ∷ []
-  pub same_free : global_now.free ≡ numbers out.free.bodies
-  pub same_rows : (e : ℕ) → times e (rows global_now) ≡ times_listed e out
-  pub local_free : local_now.free ≡ numbers lists_out.free.bodies
+  pub held : after.pass.view.held ≡ hold_with global global_now ∷ hold_with local local_now ∷ []
+  pub same_free : global_now.free ≡ numbers after.set.free.bodies
+  pub same_rows : (e : ℕ) → times e (rows global_now) ≡ times_listed e after.set
+  pub local_free : local_now.free ≡ numbers after.lists.free.bodies
   pub no_rows : (e : ℕ) → times e (rows local_now) ≡ 0
-  pub hashed : (row : Row) → row_on row.element out ≡ Some row → HasOnlyHash t.shape s.view row.element row.hash
-  pub flushed_hashed : All (λ (flush : Flush). HasOnlyHash t.shape s.view flush.element flush.hash) flushed
+  pub hashed : (row : Row) → row_on row.element after.set ≡ Some row → HasOnlyHash t.shape after.pass.view row.element row.hash
+  pub flushed_hashed : All (λ (flush : Flush). HasOnlyHash t.shape after.pass.view flush.element flush.hash) flushed
   -- what was noted
   pub notes : Notes
   pub around : Notes
   pub below : List Notes
-  pub was_noted : q.view.notes ≡ no_notes ∷ no_notes ∷ below
-  pub noted : s.view.notes ≡ notes ∷ around ∷ below
+  pub was_noted : before.pass.view.notes ≡ no_notes ∷ no_notes ∷ below
+  pub noted : after.pass.view.notes ≡ notes ∷ around ∷ below
   pub no_marks : notes.marks ≡ []
   pub asked_is : notes.asked ≡ asked_after (map calls.Cleared (bits_cleared (parts.Global (turn_told flushed active inactive free target looks forced)))) []
   pub owners_are : notes.owners ≡ owners_after probes []
@@ -254,11 +255,11 @@ pub record FilledUp (t : TableView) (set out : SetView) (lists lists_out : Local
   pub around_flushed : around.flushed ≡ []
   pub around_off : around.off ≡ reverse (flushed_elements flushed)
   -- and the rest of the pass
-  pub hand : s.view.hand ≡ q.view.hand
-  pub carried : s.view.carried ≡ q.view.carried
-  pub spares : s.spares ≡ q.spares
-  pub saw : SawHolders t.shape q s turns
-  pub learns : Learns t.shape q.view s.view turns (map clears_found (bits_cleared (parts.Global (turn_told flushed active inactive free target looks forced))))
+  pub hand : after.pass.view.hand ≡ before.pass.view.hand
+  pub carried : after.pass.view.carried ≡ before.pass.view.carried
+  pub spares : after.pass.spares ≡ before.pass.spares
+  pub saw : SawHolders t.shape before.pass after.pass turns
+  pub learns : Learns t.shape before.pass.view after.pass.view turns (map clears_found (bits_cleared (parts.Global (turn_told flushed active inactive free target looks forced))))
 
 -- the entry of the turn, where all notes were kept
 abbrev pub IsGlobalTurn : Noted Flush → RotateNotes → Noted ℕ → Bool → ℕ → ShrinkNotes → Part → Type 0

@@ -22,6 +22,7 @@ use Rattle.lru_lists.specs.declared.notes.RotateNotes.{RotateNotes}
 use Rattle.lru_lists.specs.declared.notes.ShrinkNotes.{ShrinkNotes}
 use Rattle.lru_lists.specs.Sets.{SetView, IsListed, row_on, times_listed}
 use Rattle.lru_rotate.specs.Rotating.{Rotation}
+use Rattle.lru_shrink.specs.Asking.{Questions}
 use Rattle.lru_shrink.specs.Shrunk.{Shrink}
 use Rattle.lru_ops.specs.declared.probing.Destination.TheVariants.{LocalFree}
 use Rattle.lru_ops.specs.Askings.{Does}
@@ -69,17 +70,37 @@ pub record CanShrinkInto (t : TableView) (set : SetView) (lists : LocalView) (p 
   pub no_rows : (e : ℕ) → times e (rows walk.holds.local.now) ≡ 0
   pub apart : (e : ℕ) → times_listed e set + times e (numbers lists.free.bodies) ≤ 1
 
+-- A moment of a shrink into local lists: the set and these lists, what was asked so far, and the notes.
+pub record IntoMoment : Type 0 where
+  pub set : SetView
+  pub lists : LocalView
+  pub asked : Questions
+  pub notes : ShrinkNotes
+
 -- A set was shrunk, and what was freed came on top of the free list of these local lists.
-pub record ShrinksInto (target : ℕ) (before after : SetView) (lists lists_after : LocalView) (calls calls_after : List BitCall) (probes probes_after : List ProbeCall) (gives : Stored → Type 0) (notes notes_after : ShrinkNotes) : Type 0 where
+pub record ShrinksInto (target : ℕ) (gives : Stored → Type 0) (before after : IntoMoment) : Type 0 where
   pub free : BodyList
   pub answer : ℕ
-  pub shrink : Shrink global_scans target before after calls calls_after probes probes_after gives lists.free free notes notes_after answer
-  pub lists_are : lists_after ≡ with_free free lists
+  pub shrink : Shrink global_scans target gives
+      (record { set = before.set; asked = before.asked; out = before.lists.free; notes = before.notes })
+      (record { set = after.set; asked = after.asked; out = free; notes = after.notes }) answer
+  pub lists_are : after.lists ≡ with_free free before.lists
+
+-- The set of the global lists and the local lists of a CPU, as a pass has them that holds the locks of both.
+pub record BothLists : Type 0 where
+  pub set : SetView
+  pub lists : LocalView
+  pub pass : PassView
+
+abbrev pub both_lists : SetView → LocalView → PassView → BothLists
+both_lists set lists pass = record { set = set; lists = lists; pass = pass }
 
 -- The set was shrunk so by this pass.
-pub record ShrunkInto (t : TableView) (target : ℕ) (before after : SetView) (lists lists_after : LocalView) (notes notes_after : ShrinkNotes) (p q : PassView) : Type 0 where
+pub record ShrunkInto (t : TableView) (target : ℕ) (before after : BothLists) (notes notes_after : ShrinkNotes) : Type 0 where
   pub calls : List BitCall
   pub probes : List ProbeCall
-  pub shrinks : ShrinksInto target before after lists lists_after [] calls [] probes (IsSized t.shape) notes notes_after
-  pub does : Does t LocalFree (rows_on before) calls probes p q
-  pub leaves : CanShrinkInto t after lists_after q
+  pub shrinks : ShrinksInto target (IsSized t.shape)
+      (record { set = before.set; lists = before.lists; asked = record { calls = []; probes = [] }; notes = notes })
+      (record { set = after.set; lists = after.lists; asked = record { calls = calls; probes = probes }; notes = notes_after })
+  pub does : Does t LocalFree (rows_on before.set) calls probes before.pass after.pass
+  pub leaves : CanShrinkInto t after.set after.lists after.pass

@@ -1,8 +1,10 @@
 -- How an element is taken for a new key, and how one is freed: what each leaves of a pass.
-use Rattle.std.specs.Prelude.{◌≡◌, ◌≢◌, ℕ, ◌<◌, true, false, All, List, [], ◌∷◌, ◌++◌, map, option_map, reverse, Option, None, Some, MatchOption, MatchBool}
+use Rattle.std.specs.Prelude.{IsTrue, ◌≡◌, ◌≢◌, ℕ, ◌<◌, true, false, All, List, [], ◌∷◌, ◌++◌, map, option_map, reverse, Option, None, Some, MatchOption, MatchBool}
 use Rattle.key_hash.specs.Bucket.{bucket_number}
 use Rattle.map_types.specs.declared.attr.Shape.{Shape}
 use Rattle.map_types.specs.declared.kind.DomainId.TheVariants.{Local, Global, CpuLru}
+use Rattle.map_types.specs.Creation.{IsShape}
+use Rattle.map_types.specs.Kind.{is_lru}
 use Rattle.map_types.specs.Listed.{elements_of}
 use Rattle.map_types.specs.Stored.{Stored, IsSized}
 use Rattle.place_words.specs.declared.bucket_part.Seen.TheVariants.{Held}
@@ -28,6 +30,10 @@ use Rattle.place_table.specs.Passes.{PassView, TableView, IsPassOf, HasBegun, Ma
 use Rattle.place_table.specs.Views.{is_in_hand_of, bucket_known, with_in_hand, without_in_hand}
 use Rattle.lru_ops.specs.Evictions.{SawHolders}
 use Rattle.lru_ops.specs.OwnTurns.{note_of, own_part}
+
+-- the table is that of a map that evicts
+abbrev pub MapEvicts : TableView → Type 0
+MapEvicts t = IsShape t.shape × IsTrue (is_lru t.shape.kind)
 
 -- These turns were made, which are told so. The locks that the pass holds, what is noted of them, its spares and what it carries stay.
 -- What may have changed is what it has in hand, what it knows of that, of turns and of bits, and its steps on words.

@@ -31,6 +31,7 @@ use Rattle.lru_lists.specs.declared.notes.RotateNotes.{RotateNotes}
 use Rattle.lru_lists.specs.declared.notes.ShrinkNotes.{ShrinkNotes}
 use Rattle.lru_lists.specs.Notes.{AreNoted}
 use Rattle.lru_lists.specs.Sets.{SetView, listed, moved_in, with_free}
+use Rattle.lru_shrink.specs.Asking.{Questions}
 use Rattle.lru_shrink.specs.Shrunk.{Shrink}
 use Rattle.lru_ops.specs.declared.probing.Destination.TheVariants.{OwnFree}
 use Rattle.lru_ops.specs.Askings.{Does, lists_after}
@@ -47,11 +48,13 @@ abbrev pub no_bodies : BodyList
 no_bodies = record { bodies = []; spare = 0 }
 
 -- A set was shrunk into its free list, which was empty.
-pub record ShrinksFree (before after : SetView) (calls calls_after : List BitCall) (probes probes_after : List ProbeCall) (gives : Stored → Type 0) (notes notes_after : ShrinkNotes) : Type 0 where
+pub record ShrinksFree (gives : Stored → Type 0) (before after : SetView) (asked asked_after : Questions) (notes notes_after : ShrinkNotes) : Type 0 where
   pub left : SetView
   pub freed : BodyList
   pub answer : ℕ
-  pub shrink : Shrink own_scans own_target (with_free no_bodies before) left calls calls_after probes probes_after gives before.free freed notes notes_after answer
+  pub shrink : Shrink own_scans own_target gives
+      (record { set = with_free no_bodies before; asked = asked; out = before.free; notes = notes })
+      (record { set = left; asked = asked_after; out = freed; notes = notes_after }) answer
   pub after_is : after ≡ with_free freed left
 
 -- what is told of a shrink, where there was one
@@ -65,26 +68,35 @@ rows_on set = set.active ++ set.inactive
 abbrev pub try_of : ProbeCall → Try
 try_of probe = record { element = probe.element; probed = probe.probed }
 
+-- A set at a moment of its turn, and what is noted of its rotation and of its shrink.
+pub record SetInTurn : Type 0 where
+  pub set : SetView
+  pub turning : RotateNotes
+  pub shrinking : ShrinkNotes
+
+abbrev pub in_turn : SetView → RotateNotes → ShrinkNotes → SetInTurn
+in_turn set turning shrinking = record { set = set; turning = turning; shrinking = shrinking }
+
 -- What a rotation and a shrink made of a set, which asked for these bits and probed these rows, in their order.
-pub record WorksOn (shape : Shape) (before after : SetView) (turning turning_after : RotateNotes) (shrinking shrinking_after : ShrinkNotes) (shrunk : Bool) (asked : List BitCall) (probes : List ProbeCall) : Type 0 where
+pub record WorksOn (shape : Shape) (before after : SetInTurn) (shrunk : Bool) (asked : Questions) : Type 0 where
   pub active : List Visit
   pub inactive : List Visit
   pub looks : List Look
   pub forced : List Try
-  pub noted_active : AreNoted active turning.active turning_after.active
-  pub noted_inactive : AreNoted inactive turning.inactive turning_after.inactive
-  pub noted_looks : AreNoted looks shrinking.looks shrinking_after.looks
-  pub noted_forced : AreNoted forced shrinking.forced shrinking_after.forced
-  pub visits : AreRotationVisits own_scans (listed before) active inactive
-  pub shrinks : AllowsOwnShrink (note_of shrunk looks forced) (rotated_set own_scans active inactive (set_told before))
-  pub after_is : set_told after ≡ shrunk_into_free (note_of shrunk looks forced) (rotated_set own_scans active inactive (set_told before))
-  pub fits : FitsSet shape after
-  pub calls_are : asked ≡ map calls.Cleared (active ++ (inactive ++ looks_told (note_of shrunk looks forced)))
-  pub probes_are : map try_of probes ≡ shrink_probes (note_of shrunk looks forced)
+  pub noted_active : AreNoted active before.turning.active after.turning.active
+  pub noted_inactive : AreNoted inactive before.turning.inactive after.turning.inactive
+  pub noted_looks : AreNoted looks before.shrinking.looks after.shrinking.looks
+  pub noted_forced : AreNoted forced before.shrinking.forced after.shrinking.forced
+  pub visits : AreRotationVisits own_scans (listed before.set) active inactive
+  pub shrinks : AllowsOwnShrink (note_of shrunk looks forced) (rotated_set own_scans active inactive (set_told before.set))
+  pub after_is : set_told after.set ≡ shrunk_into_free (note_of shrunk looks forced) (rotated_set own_scans active inactive (set_told before.set))
+  pub fits : FitsSet shape after.set
+  pub calls_are : asked.calls ≡ map calls.Cleared (active ++ (inactive ++ looks_told (note_of shrunk looks forced)))
+  pub probes_are : map try_of asked.probes ≡ shrink_probes (note_of shrunk looks forced)
   -- what the probes removed was settled as the set has it, and each row that is left is one that was there
-  pub same_free : (lists_after probes (lists_of_set (set_told before))).free ≡ numbers after.free.bodies
-  pub same_rows : (e : ℕ) → times e (rows (lists_after probes (lists_of_set (set_told before)))) ≡ times e (rows (lists_of_set (set_told after)))
-  pub rows_kept : (e h n : ℕ) → stored_hash e (rows_on before) ≡ Some h → stored_hash e (rows_on after) ≡ Some n → h ≡ n
+  pub same_free : (lists_after asked.probes (lists_of_set (set_told before.set))).free ≡ numbers after.set.free.bodies
+  pub same_rows : (e : ℕ) → times e (rows (lists_after asked.probes (lists_of_set (set_told before.set)))) ≡ times e (rows (lists_of_set (set_told after.set)))
+  pub rows_kept : (e h n : ℕ) → stored_hash e (rows_on before.set) ≡ Some h → stored_hash e (rows_on after.set) ≡ Some n → h ≡ n
 
 -- The pass holds its own set's lock, and this is the set, as it was taken.
 pub record CanWork (t : TableView) (set : SetView) (p : PassView) : Type 0 where
@@ -94,11 +106,11 @@ pub record CanWork (t : TableView) (set : SetView) (p : PassView) : Type 0 where
   pub now : holds.lists.hold.now ≡ lists_of_set (set_told set)
 
 -- The set was rotated, and shrunk where nothing was free, by this pass.
-pub record Worked (t : TableView) (before after : SetView) (turning turning_after : RotateNotes) (shrinking shrinking_after : ShrinkNotes) (shrunk : Bool) (p q : PassView) : Type 0 where
+pub record Worked (t : TableView) (before after : SetInTurn) (shrunk : Bool) (p q : PassView) : Type 0 where
   pub calls : List BitCall
   pub probes : List ProbeCall
-  pub works : WorksOn t.shape before after turning turning_after shrinking shrinking_after shrunk calls probes
-  pub does : Does t OwnFree (rows_on before) calls probes p q
+  pub works : WorksOn t.shape before after shrunk (record { calls = calls; probes = probes })
+  pub does : Does t OwnFree (rows_on before.set) calls probes p q
 
 -- The pass knows the free list of its own set, whose lock it holds.
 pub record CanGiveOut (t : TableView) (set : SetView) (p : PassView) : Type 0 where

@@ -53,27 +53,40 @@ pub record CanSearch (t : TableView) (lists : LocalView) (p : PassView) : Type 0
 pub record SearchedSparing (t : TableView) (rows : List Row) (notes notes_after : Noted Look) (p q : PassView) (found : Option Stored) : Type 0 where
   pub calls : List BitCall
   pub probes : List ProbeCall
-  pub search : SparingSearch rows [] calls [] probes (IsSized t.shape) notes notes_after found
+  pub search : SparingSearch rows (IsSized t.shape)
+      (record { asked = record { calls = []; probes = [] }; notes = notes })
+      (record { asked = record { calls = calls; probes = probes }; notes = notes_after }) found
   pub does : Does t OwnHand rows calls probes p q
 
 -- The walk that spares none was.
 pub record SearchedAll (t : TableView) (rows : List Row) (notes notes_after : Noted Try) (p q : PassView) (found : Option Stored) : Type 0 where
   pub probes : List ProbeCall
-  pub search : UnsparingSearch rows [] probes (IsSized t.shape) notes notes_after found
+  pub search : UnsparingSearch rows (IsSized t.shape)
+      (record { asked = record { calls = []; probes = [] }; notes = notes })
+      (record { asked = record { calls = []; probes = probes }; notes = notes_after }) found
   pub does : Does t OwnHand rows [] probes p q
 
+-- Both walks at a moment: the notes of each, and the pass that makes them.
+pub record BothWalks : Type 0 where
+  pub first : Noted Look
+  pub second : Noted Try
+  pub pass : PassView
+
+abbrev pub both_walks : Noted Look → Noted Try → PassView → BothWalks
+both_walks first second pass = record { first = first; second = second; pass = pass }
+
 -- Both walks as one, the second where the first removed nothing: what they looked at and tried, and what that removed.
-pub record Walked (t : TableView) (lists : LocalView) (first first_after : Noted Look) (second second_after : Noted Try) (p q : PassView) (found : Option Stored) : Type 0 where
+pub record Walked (t : TableView) (lists : LocalView) (before after : BothWalks) (found : Option Stored) : Type 0 where
   pub looks : List Look
   pub tries : List Try
-  pub noted_first : AreNoted looks first first_after
-  pub noted_second : AreNoted tries second second_after
+  pub noted_first : AreNoted looks before.first after.first
+  pub noted_second : AreNoted tries before.second after.second
   pub search : IsSearch (local_told lists) looks tries
   pub removed : IsFound (IsSized t.shape) (freed looks tries) found
   pub there : IfSome found (λ body. IsIn body.element (elements_of lists.pending))
   pub probes : List ProbeCall
   pub probes_are : probes ≡ probes_of_looks lists.pending looks ++ probes_of_tries lists.pending tries
-  pub does : Does t OwnHand lists.pending (bits_read looks) probes p q
+  pub does : Does t OwnHand lists.pending (bits_read looks) probes before.pass after.pass
 
 -- the lists without the element that was found, if any
 abbrev pub lists_without : Option Stored → LocalView → LocalView
@@ -81,8 +94,8 @@ lists_without None lists = lists
 lists_without (Some body) lists = without_pending body.element lists
 
 -- and what was found left the pending list
-pub record Searched (t : TableView) (lists lists_after : LocalView) (first first_after : Noted Look) (second second_after : Noted Try) (p q : PassView) (found : Option Stored) : Type 0 where
-  pub walked : Walked t lists first first_after second second_after p q found
+pub record Searched (t : TableView) (lists lists_after : LocalView) (before after : BothWalks) (found : Option Stored) : Type 0 where
+  pub walked : Walked t lists before after found
   pub after_is : lists_after ≡ lists_without found lists
 
 -- what is told to be stolen by what a search found

@@ -1,6 +1,6 @@
 //! The calls on a map.
 
-ghost use Rattle.std.specs.Prelude.{◌≡◌, ◌≤◌, ◌==◌, ◌&&◌, IfErr, IsTrue, length};
+ghost use Rattle.std.specs.Prelude.{◌≡◌, ◌<◌, ◌≤◌, ◌==◌, ◌&&◌, IfErr, IsTrue, length};
 ghost use Rattle.map_types.specs.declared.call.Verb.TheVariants as verbs;
 ghost use Rattle.map_types.specs.declared.kind.Side.TheVariants.{Sys};
 ghost use Rattle.map_types.specs.Kind.{is_lru, is_percpu};
@@ -8,14 +8,14 @@ ghost use Rattle.map_types.specs.ValueLen.{value_len_of};
 ghost use Rattle.place_words.specs.Turns.{bucket_of_key};
 ghost use Rattle.place_table.specs.Calls.{CanCall, Called, reply_of_value, reply_of_done};
 ghost use Rattle.lru_ops.specs.Calls.{MayRefuse, Updates};
-ghost use Rattle.lru_ops.specs.Offers.{AreUpdateArguments, CanFreeLeft, HasFreedLeft, CanOffer, OfferAnswers};
+ghost use Rattle.lru_ops.specs.Offers.{AreUpdateArguments, CanFreeLeft, HasFreedLeft, CanOffer, OfferAnswers, offer_of};
 
 use crate::map::{LruMap, LruRefusal};
 use crate::updates::Offered;
-use bucket_entries::{BPF_EXIST, TakenBucket, Write};
+use bucket_chain::{BPF_EXIST, TakenBucket, Write};
 use map_types::{Absent, Gate, Side};
 use percpu_values::BoxedBody;
-use place_table::Pass;
+use place_table::{Pass, TakenOut, delete_from, give_deleted, give_taken, look_up, take_from};
 use std::sync::Wait;
 
 impl LruMap {
@@ -43,7 +43,7 @@ impl LruMap {
         let number = self.bucket_of_key(key);
         let chain = self.enter(rt, pass, number, gate);
         let taken = TakenBucket { number, chain };
-        self.lookup_in(pass, taken, side, key, out, gate)
+        look_up(self.alloc, &self.table, pass, taken, side, key, out, gate)
     }
 
     /// Updates a key with a value of a side's length, by flags: BPF_ANY (0), BPF_NOEXIST (1) or BPF_EXIST (2). It is refused
@@ -86,7 +86,8 @@ impl LruMap {
                     key,
                     value,
                 };
-                self.offer(rt, pass, write, body, gate)
+                let number = self.bucket_of_hash(hash);
+                self.offer(rt, pass, number, write, body, gate)
             }
             None => Err(LruRefusal::Enomem),
         }
@@ -105,10 +106,15 @@ impl LruMap {
         requires key { length key.now ≡ self.now.shape.key_size }
         ensures { Called self.now pass.old pass.new (verbs.Delete key.now) (reply_of_done result) }
     {
-        let bucket = self.bucket_of_key(key);
-        let chain = self.enter(rt, pass, bucket, gate);
-        match self.delete_in(pass, bucket, chain, key, gate) {
-            Some(body) => {
+        let number = self.bucket_of_key(key);
+        let chain = self.enter(rt, pass, number, gate);
+        let taken = TakenBucket { number, chain };
+        match delete_from(self.alloc, &self.table, pass, taken, key, gate) {
+            Some(removed) => {
+                let TakenOut { body, chain } = removed;
+                let element = body.body().element();
+                let left = TakenBucket { number, chain };
+                give_deleted(self.alloc, &self.table, pass, left, key, element, gate);
                 self.push_free(rt, pass, body, gate);
                 Ok(())
             }
@@ -133,10 +139,15 @@ impl LruMap {
             (reply_of_value result out.new) }
         ensures refused { IfErr result (λ _. out.new ≡ out.old) }
     {
-        let bucket = self.bucket_of_key(key);
-        let chain = self.enter(rt, pass, bucket, gate);
-        match self.take_in(pass, bucket, chain, key, out, gate) {
-            Some(body) => {
+        let number = self.bucket_of_key(key);
+        let chain = self.enter(rt, pass, number, gate);
+        let taken = TakenBucket { number, chain };
+        match take_from(self.alloc, &self.table, pass, taken, key, out, gate) {
+            Some(removed) => {
+                let TakenOut { body, chain } = removed;
+                let element = body.body().element();
+                let left = TakenBucket { number, chain };
+                give_taken(self.alloc, &self.table, pass, left, key, element, out, gate);
                 self.push_free(rt, pass, body, gate);
                 Ok(())
             }
@@ -167,25 +178,26 @@ impl LruMap {
         self.write_present(pass, taken, side, key, value, gate)
     }
 
-    /// Updates a key in its bucket with an element that was taken for it, and frees what is left over.
+    /// Updates a key in its bucket, whose number this is, with an element that was taken for it, and frees what is left over.
     fn offer<R: Wait, G: Gate>(
         &self,
         rt: &R,
         pass: &mut Pass,
+        number: u32,
         write: Write,
         body: BoxedBody,
         gate: &G,
     ) -> Result<(), LruRefusal>
         requires can { CanOffer self.now write.key.now body pass.old }
-        requires gives { AreUpdateArguments self.now
-            (bucket_of_key self.now.shape write.key.now) write.side write.key.now
+        requires there { number < self.now.shape.buckets }
+        requires gives { AreUpdateArguments self.now number write.side write.key.now
             write.value.now }
         requires known { write.flags ≤ 2 }
-        ensures answers { OfferAnswers self.now pass.old pass.new write.entry.side
-            write.entry.flags write.entry.key.now write.entry.value.now body.element result }
+        ensures answers { OfferAnswers self.now pass.old pass.new
+            (offer_of write.entry.side write.entry.flags write.entry.key.now
+            write.entry.value.now body.element) result }
         ensures refuses { IfErr result (MayRefuse self.now.shape.kind write.entry.flags) }
     {
-        let number = self.bucket_of_key(write.key);
         let chain = self.enter(rt, pass, number, gate);
         let taken = TakenBucket { number, chain };
         let Offered { answer, left } = self.update_in(pass, taken, write, body, gate);

@@ -2,16 +2,18 @@
 //! different CPUs, and how elements are taken for new keys and freed.
 #![tactic(auto)]
 
-mod acquire;
 mod buckets;
 mod calls;
+mod elements;
 mod map;
+mod own_set;
 mod probe;
 mod probing;
 mod push;
 mod refill;
 mod shared;
 mod steal;
+mod taking;
 mod updates;
 
 pub use map::{LruMap, LruRefusal};

@@ -5,13 +5,14 @@ ghost use Rattle.map_types.specs.Creation.{IsShape};
 ghost use Rattle.map_types.specs.Kind.{is_lru};
 ghost use Rattle.map_types.specs.Shape.{HasBounds};
 ghost use Rattle.place_words.specs.Turns.{bucket_of_key};
+ghost use Rattle.key_hash.specs.Bucket.{bucket_number};
 ghost use Rattle.key_hash.specs.Jhash.{hash};
 ghost use Rattle.place_table.specs.Views.{is_among};
 ghost use Rattle.place_table.specs.Passes.{IsFirstPass, IsPassOf, IsInNoCall};
 ghost use Rattle.place_table.specs.Closing.{IsClosed};
 
-use bucket_entries::bucket_number;
-use key_hash::jhash;
+use bucket_chain::bucket_number;
+use key_hash::{bucket_of, jhash};
 use map_types::{NoMemory, Shape};
 use place_table::{Closed, Pass, PlaceTable};
 use std::alloc::Global;
@@ -95,6 +96,14 @@ impl LruMap {
         ensures { result ≡ hash key.now self.now.shape.seed }
     {
         key_hash(self.table.shape(), key)
+    }
+
+    /// The bucket of a hash.
+    pub(crate) fn bucket_of_hash(&self, hash: u32) -> u32
+        ensures value { result ≡ bucket_number hash self.now.shape.buckets }
+        ensures in_range { result < self.now.shape.buckets }
+    {
+        bucket_of(hash, self.table.shape().buckets)
     }
 
     /// The bucket of a key.

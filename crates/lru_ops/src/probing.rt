@@ -11,11 +11,11 @@ ghost use Rattle.lru_lists.specs.Sets.{IsListed, IsSet, row_on, times_listed};
 ghost use Rattle.map_types.specs.declared.kind.DomainId.TheVariants as locks;
 ghost use Rattle.lru_ops.specs.declared.probing.Destination.TheVariants as destinations;
 ghost use Rattle.lru_ops.specs.Evictions.{CanChase, ChasedFor, CanPut, PutThere};
-ghost use Rattle.lru_ops.specs.GlobalWork.{CanWalk, Rotated, CanShrinkInto, ShrinksInto, ShrunkInto};
-ghost use Rattle.lru_ops.specs.OwnTurns.{ShrinksFree, CanWork, Worked, rows_on};
+ghost use Rattle.lru_ops.specs.GlobalWork.{CanWalk, Rotated, CanShrinkInto, ShrinksInto, ShrunkInto, both_lists};
+ghost use Rattle.lru_ops.specs.OwnTurns.{ShrinksFree, CanWork, Worked, rows_on, in_turn};
 ghost use Rattle.lru_ops.specs.Thefts.{CanSearch, SearchedSparing, SearchedAll, last_lock};
 
-use crate::acquire::OWN_TARGET;
+use crate::own_set::OWN_TARGET;
 use crate::probe::probe_bucket;
 use key_hash::bucket_of;
 use local_lists::LocalSet;
@@ -37,7 +37,8 @@ const OWN_SCANS: u32 = 4;
 /// How many elements one walk over a list of the global lists looks at.
 const GLOBAL_SCANS: u32 = 128;
 
-/// What was so where the pass was lent: the pass, the lock of the walk, the rows there, and where what a probe removes goes.
+/// What was so where the pass was lent: the pass, the lock of the walk, the rows there, and where what a probe removes goes. Each
+/// walk is called at `Brand`, whose members the proof of the call picks.
 pub trait Begun {
     ghost use Rattle.std.specs.Prelude.{List};
     ghost use Rattle.map_types.specs.declared.kind.DomainId.{DomainId};
@@ -179,22 +180,7 @@ fn put_removed(table: &PlaceTable, pass: &mut Pass, to: Destination, element: u3
 }
 
 /// Rotates the own set, whose lock the pass holds, and shrinks it where nothing is free, which it answers.
-pub(crate) fn work_under<R: Wait, G: Gate>(
-    tools: &Tools<R, G>,
-    pass: &mut Pass,
-    set: &mut ListSet<Listing>,
-    turning: &mut RotateNotes,
-    shrinking: &mut ShrinkNotes,
-) -> bool
-    requires { CanWork tools.now.table.now set.old pass.old }
-    ensures { Worked tools.now.table.now set.old set.new turning.old turning.new shrinking.old
-        shrinking.new result pass.old pass.new }
-{
-    work_since::<R, G, Brand>(tools, pass, set, turning, shrinking)
-}
-
-/// The same, where what was so before is named.
-fn work_since<R: Wait, G: Gate, K: Begun>(
+pub(crate) fn work_under<R: Wait, G: Gate, K: Begun>(
     tools: &Tools<R, G>,
     pass: &mut Pass,
     set: &mut ListSet<Listing>,
@@ -206,8 +192,9 @@ fn work_since<R: Wait, G: Gate, K: Begun>(
     requires to { K.to ≡ destinations.OwnFree }
     requires rows { K.rows ≡ rows_on set.old }
     requires can { CanWork tools.now.table.now set.old pass.old }
-    ensures { Worked tools.now.table.now set.old set.new turning.old turning.new shrinking.old
-        shrinking.new result pass.old pass.new }
+    ensures { Worked tools.now.table.now
+        (in_turn set.old turning.old shrinking.old)
+        (in_turn set.new turning.new shrinking.new) result pass.old pass.new }
 {
     let points = At { gate: tools.gate };
     let mut probing: Probing<R, At<G>, K> = Probing {
@@ -241,8 +228,9 @@ fn shrink_free<S: Rows, P: Probe>(
     requires asked { (e : ℕ) → IsListed e set.old → P.may_ask probe.old e }
     requires probed { (row : row_record.Row) → row_on row.element set.old ≡ Some row
         → P.may_probe probe.old row }
-    ensures shrinks { ShrinksFree set.old set.new (P.calls probe.old) (P.calls probe.new)
-        (P.probes probe.old) (P.probes probe.new) (P.gives probe.new) notes.old notes.new }
+    ensures shrinks { ShrinksFree (P.gives probe.new) set.old set.new
+        (record { calls = P.calls probe.old; probes = P.probes probe.old })
+        (record { calls = P.calls probe.new; probes = P.probes probe.new }) notes.old notes.new }
     ensures whole { IsSet set.new }
     ensures noted { (n : ℕ) → P.can_note probe.old n
         → P.can_note probe.new
@@ -259,22 +247,7 @@ fn shrink_free<S: Rows, P: Probe>(
 }
 
 /// Rotates the global lists, whose lock the pass holds within that of the CPU's local lists.
-pub(crate) fn rotate_under<R: Wait, G: Gate>(
-    rt: &R,
-    table: &PlaceTable,
-    pass: &mut Pass,
-    set: &mut ListSet<Listing>,
-    turning: &mut RotateNotes,
-    gate: &G,
-)
-    requires { CanWalk table.now set.old pass.old }
-    ensures { Rotated table.now set.old set.new turning.old turning.new pass.old pass.new }
-{
-    rotate_since::<R, G, Brand>(rt, table, pass, set, turning, gate)
-}
-
-/// The same, where what was so before is named.
-fn rotate_since<R: Wait, G: Gate, K: Begun>(
+pub(crate) fn rotate_under<R: Wait, G: Gate, K: Begun>(
     rt: &R,
     table: &PlaceTable,
     pass: &mut Pass,
@@ -303,24 +276,7 @@ fn rotate_since<R: Wait, G: Gate, K: Begun>(
 
 /// Shrinks the global lists, whose lock the pass holds within that of the CPU's local lists, by up to `target` elements. What
 /// that frees comes on top of the local free list.
-pub(crate) fn shrink_under<R: Wait, G: Gate>(
-    tools: &Tools<R, G>,
-    pass: &mut Pass,
-    set: &mut ListSet<Listing>,
-    lists: &mut LocalSet<Listing>,
-    target: u32,
-    shrinking: &mut ShrinkNotes,
-)
-    requires target { 1 ≤ target }
-    requires can { CanShrinkInto tools.now.table.now set.old lists.old pass.old }
-    ensures { ShrunkInto tools.now.table.now target set.old set.new lists.old lists.new
-        shrinking.old shrinking.new pass.old pass.new }
-{
-    shrink_since::<R, G, Brand>(tools, pass, set, lists, target, shrinking)
-}
-
-/// The same, where what was so before is named.
-fn shrink_since<R: Wait, G: Gate, K: Begun>(
+pub(crate) fn shrink_under<R: Wait, G: Gate, K: Begun>(
     tools: &Tools<R, G>,
     pass: &mut Pass,
     set: &mut ListSet<Listing>,
@@ -334,8 +290,9 @@ fn shrink_since<R: Wait, G: Gate, K: Begun>(
     requires rows { K.rows ≡ rows_on set.old }
     requires target { 1 ≤ target }
     requires can { CanShrinkInto tools.now.table.now set.old lists.old pass.old }
-    ensures { ShrunkInto tools.now.table.now target set.old set.new lists.old lists.new
-        shrinking.old shrinking.new pass.old pass.new }
+    ensures { ShrunkInto tools.now.table.now target
+        (both_lists set.old lists.old pass.old)
+        (both_lists set.new lists.new pass.new) shrinking.old shrinking.new }
 {
     let points = At { gate: tools.gate };
     let mut probing: Probing<R, At<G>, K> = Probing {
@@ -370,9 +327,19 @@ fn shrink_into<S: Rows, P: Probe>(
     requires asked { (e : ℕ) → IsListed e set.old → P.may_ask probe.old e }
     requires probed { (row : row_record.Row) → row_on row.element set.old ≡ Some row
         → P.may_probe probe.old row }
-    ensures shrinks { ShrinksInto target set.old set.new lists.old lists.new (P.calls probe.old)
-        (P.calls probe.new) (P.probes probe.old) (P.probes probe.new)
-        (P.gives probe.new) notes.old notes.new }
+    ensures shrinks { ShrinksInto target (P.gives probe.new)
+        (record {
+          set = set.old;
+          lists = lists.old;
+          notes = notes.old;
+          asked = record { calls = P.calls probe.old; probes = P.probes probe.old };
+        })
+        (record {
+          set = set.new;
+          lists = lists.new;
+          notes = notes.new;
+          asked = record { calls = P.calls probe.new; probes = P.probes probe.new };
+        }) }
     ensures whole { IsSet set.new }
     ensures local { IsLocal lists.new }
     ensures noted { (n : ℕ) → P.can_note probe.old n
@@ -390,23 +357,7 @@ fn shrink_into<S: Rows, P: Probe>(
 }
 
 /// Walks over the pending list of local lists, whose lock alone the pass holds, and spares set bits.
-pub(crate) fn search_sparing<R: Wait, G: Gate>(
-    rt: &R,
-    table: &PlaceTable,
-    pass: &mut Pass,
-    lists: &LocalSet<Listing>,
-    first: &mut Noted<Look>,
-    gate: &G,
-) -> Option<BoxedBody>
-    requires { CanSearch table.now lists.now pass.old }
-    ensures { SearchedSparing table.now lists.now.pending first.old first.new pass.old pass.new
-        result }
-{
-    search_sparing_since::<R, G, Brand>(rt, table, pass, lists, first, gate)
-}
-
-/// The same, where what was so before is named.
-fn search_sparing_since<R: Wait, G: Gate, K: Begun>(
+pub(crate) fn search_sparing<R: Wait, G: Gate, K: Begun>(
     rt: &R,
     table: &PlaceTable,
     pass: &mut Pass,
@@ -435,23 +386,7 @@ fn search_sparing_since<R: Wait, G: Gate, K: Begun>(
 }
 
 /// Walks over it and spares none.
-pub(crate) fn search_all<R: Wait, G: Gate>(
-    rt: &R,
-    table: &PlaceTable,
-    pass: &mut Pass,
-    lists: &LocalSet<Listing>,
-    second: &mut Noted<Try>,
-    gate: &G,
-) -> Option<BoxedBody>
-    requires { CanSearch table.now lists.now pass.old }
-    ensures { SearchedAll table.now lists.now.pending second.old second.new pass.old pass.new
-        result }
-{
-    search_all_since::<R, G, Brand>(rt, table, pass, lists, second, gate)
-}
-
-/// The same, where what was so before is named.
-fn search_all_since<R: Wait, G: Gate, K: Begun>(
+pub(crate) fn search_all<R: Wait, G: Gate, K: Begun>(
     rt: &R,
     table: &PlaceTable,
     pass: &mut Pass,

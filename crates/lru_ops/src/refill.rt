@@ -7,9 +7,9 @@ ghost use Rattle.place_words.specs.Shrinking.{freed, look_removed, try_removed};
 ghost use Rattle.row_list.specs.RowWords.{tail_row};
 ghost use Rattle.lru_ops.specs.Filling.{AreFresh, FilledUp, MovedAll, MovesOne, ShrinksLacking, CanFill, FlushedOne, FlushedAll, flushed_to, IsGlobalTurn, LostInTurn};
 ghost use Rattle.lru_ops.specs.Refills.{CanRefill, FilledFrom, IsToldRefill};
-ghost use Rattle.lru_ops.specs.GlobalWork.{CanShrinkInto};
+ghost use Rattle.lru_ops.specs.GlobalWork.{CanShrinkInto, both_lists};
 
-use crate::acquire::kept;
+use crate::own_set::kept;
 use crate::probing::{Tools, rotate_under, shrink_under};
 use local_lists::LocalSet;
 use lru_lists::{ListName, ListSet, Noted, RotateNotes, ShrinkNotes};
@@ -21,6 +21,7 @@ use place_words::{
 };
 use row_list::Rows;
 use std::alloc::Global;
+use std::marker::Brand;
 use std::sync::Wait;
 
 /// How many elements a turn of the global lists is to give.
@@ -105,13 +106,13 @@ fn fill<R: Wait, G: Gate>(
     requires can { CanFill tools.now.table.now set.old lists.old pass.old }
     requires none_free { lists.old.free.bodies ≡ [] }
     requires fresh { AreFresh pass.old }
-    ensures { FilledUp tools.now.table.now set.old set.new lists.old lists.new notes.old.flushed
-        notes.new.flushed notes.old.turning notes.new.turning notes.old.moved notes.new.moved
-        notes.old.shrinking notes.new.shrinking pass.old pass.new result }
+    ensures { FilledUp tools.now.table.now
+        (both_lists set.old lists.old pass.old)
+        (both_lists set.new lists.new pass.new) notes.old notes.new result }
 {
     let table = tools.table;
     flush(table, pass, lists, set, &mut notes.flushed);
-    rotate_under(tools.rt, table, pass, set, &mut notes.turning, tools.gate);
+    rotate_under::<R, G, Brand>(tools.rt, table, pass, set, &mut notes.turning, tools.gate);
     let count = move_free(table, pass, lists, set, &mut notes.moved);
     let target = GLOBAL_TARGET - count;
     shrink_lacking(tools, pass, lists, set, target, &mut notes.shrinking);
@@ -128,13 +129,14 @@ fn shrink_lacking<R: Wait, G: Gate>(
     shrinking: &mut ShrinkNotes,
 )
     requires can { CanShrinkInto tools.now.table.now set.old lists.old pass.old }
-    ensures { ShrinksLacking tools.now.table.now target set.old set.new lists.old lists.new
-        shrinking.old shrinking.new pass.old pass.new }
+    ensures { ShrinksLacking tools.now.table.now target
+        (both_lists set.old lists.old pass.old)
+        (both_lists set.new lists.new pass.new) shrinking.old shrinking.new }
 {
     if target == 0 {
         return;
     }
-    shrink_under(tools, pass, set, lists, target, shrinking);
+    shrink_under::<R, G, Brand>(tools, pass, set, lists, target, shrinking);
 }
 
 /// Flushes all that is pending, from the tail, as in the kernel's `__local_list_flush`.
@@ -146,8 +148,9 @@ fn flush(
     flushed: &mut Noted<Flush>,
 )
     requires can { CanFill table.now set.old lists.old pass.old }
-    ensures { FlushedAll table.now set.old set.new lists.old lists.new flushed.old flushed.new
-        pass.old pass.new }
+    ensures { FlushedAll table.now
+        (both_lists set.old lists.old pass.old)
+        (both_lists set.new lists.new pass.new) flushed.old flushed.new }
 {
     while let Some(row) = lists.pending().tail() {
         let flush = flush_tail(table, pass, lists, set, row);
@@ -165,8 +168,9 @@ fn flush_tail(
 ) -> Flush
     requires can { CanFill table.now set.old lists.old pass.old }
     requires tail { Some row ≡ tail_row lists.old.pending }
-    ensures { FlushedOne table.now row set.old set.new lists.old lists.new pass.old pass.new
-        result }
+    ensures { FlushedOne table.now row
+        (both_lists set.old lists.old pass.old)
+        (both_lists set.new lists.new pass.new) result }
 {
     let bit = table.clear(pass, row.element);
     table.rehome(pass, row.element, Home::In(DomainId::Global));
@@ -200,8 +204,9 @@ fn move_free(
     moved: &mut Noted<u32>,
 ) -> u32
     requires can { CanFill table.now set.old lists.old pass.old }
-    ensures { MovedAll table.now set.old set.new lists.old lists.new moved.old moved.new pass.old
-        pass.new result }
+    ensures { MovedAll table.now
+        (both_lists set.old lists.old pass.old)
+        (both_lists set.new lists.new pass.new) moved.old moved.new result }
 {
     let mut count = 0;
     while count < GLOBAL_TARGET {
@@ -222,7 +227,9 @@ fn move_one(
     set: &mut ListSet<Listing>,
 ) -> Option<u32>
     requires can { CanFill table.now set.old lists.old pass.old }
-    ensures { MovesOne table.now set.old set.new lists.old lists.new pass.old pass.new result }
+    ensures { MovesOne table.now
+        (both_lists set.old lists.old pass.old)
+        (both_lists set.new lists.new pass.new) result }
 {
     let body = set.free_pop()?;
     let element = body.body().element();

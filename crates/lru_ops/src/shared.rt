@@ -2,18 +2,19 @@
 
 ghost use Rattle.std.specs.Prelude.{◌≡◌, MatchOption, None};
 ghost use Rattle.map_types.specs.declared.kind.DomainId.TheVariants as locks;
-ghost use Rattle.lru_ops.specs.Lists.{Acquired};
+ghost use Rattle.lru_ops.specs.Lists.{MapEvicts, Acquired};
 ghost use Rattle.lru_ops.specs.LocalWork.{CanMakePending, MakesPending};
 ghost use Rattle.lru_ops.specs.Shared.{CanTakeShared, IsRefillPart, TookLocal};
 
-use crate::acquire::element_of;
-use crate::map::LruMap;
+use crate::own_set::element_of;
 use crate::refill::{Refilled, refill};
+use crate::steal::steal_round;
 use local_lists::LocalSet;
 use map_types::{DomainId, Gate, Row};
 use percpu_values::BoxedBody;
 use place_table::{Content, Listing, Pass, PlaceTable};
 use place_words::{LocalPart, Part};
+use std::alloc::Global;
 use std::sync::Wait;
 
 /// What a CPU's local lists gave.
@@ -24,50 +25,56 @@ pub(crate) enum Taken {
     Nothing(u32),
 }
 
-impl LruMap {
-    /// Takes an element for a key of this hash where the CPUs share lists, as in the kernel's `bpf_common_lru_pop_free`.
-    pub(crate) fn take_shared<R: Wait, G: Gate>(
-        &self,
-        rt: &R,
-        pass: &mut Pass,
-        hash: u32,
-        gate: &G,
-    ) -> Option<BoxedBody>
-        requires can { CanTakeShared self.now pass.old }
-        ensures { Acquired self.now hash pass.old pass.new result }
-    {
-        match self.take_local(rt, pass, hash, gate) {
-            Taken::Got(body) => Some(body),
-            Taken::Nothing(cursor) => self.steal_round(rt, pass, cursor, hash, gate),
-        }
+/// Takes an element for a key of this hash where the CPUs share lists, as in the kernel's `bpf_common_lru_pop_free`.
+pub(crate) fn take_shared<R: Wait, G: Gate>(
+    rt: &R,
+    alloc: Global,
+    table: &PlaceTable,
+    pass: &mut Pass,
+    hash: u32,
+    gate: &G,
+) -> Option<BoxedBody>
+    requires can { CanTakeShared table.now pass.old }
+    requires evicts { MapEvicts table.now }
+    ensures { Acquired table.now hash pass.old pass.new result }
+{
+    match take_local(rt, alloc, table, pass, hash, gate) {
+        Taken::Got(body) => Some(body),
+        Taken::Nothing(cursor) => steal_round(rt, alloc, table, pass, cursor, hash, gate),
     }
+}
 
-    /// Takes the head of the CPU's local free list, which is filled from the global lists where it is empty.
-    fn take_local<R: Wait, G: Gate>(&self, rt: &R, pass: &mut Pass, hash: u32, gate: &G) -> Taken
-        requires can { CanTakeShared self.now pass.old }
-        ensures { TookLocal self.now hash pass.old pass.new result }
-    {
-        let lock = DomainId::Local(self.table.cpu_of(pass));
-        let Content::Local(mut lists) = self.table.take(rt, pass, lock, gate) else {
-            unreachable!()
-        };
-        if let Some(body) = make_pending(&self.table, pass, lock, &mut lists, hash) {
-            let element = body.body().element();
-            let part = Part::Local(LocalPart::Pop { hash, element });
-            self.table
-                .give(pass, lock, Content::Local(lists), Some(part), gate);
-            return Taken::Got(body);
-        }
-        let refilled = refill(rt, self.alloc, &self.table, pass, &mut lists, gate);
-        let got = make_pending(&self.table, pass, lock, &mut lists, hash);
-        let cursor = lists.steal_cursor();
-        let part = refill_part(hash, refilled, element_of(&got));
-        self.table
-            .give(pass, lock, Content::Local(lists), part, gate);
-        match got {
-            Some(body) => Taken::Got(body),
-            None => Taken::Nothing(cursor),
-        }
+/// Takes the head of the CPU's local free list, which is filled from the global lists where it is empty.
+fn take_local<R: Wait, G: Gate>(
+    rt: &R,
+    alloc: Global,
+    table: &PlaceTable,
+    pass: &mut Pass,
+    hash: u32,
+    gate: &G,
+) -> Taken
+    requires can { CanTakeShared table.now pass.old }
+    requires evicts { MapEvicts table.now }
+    ensures { TookLocal table.now hash pass.old pass.new result }
+{
+    let lock = DomainId::Local(table.cpu_of(pass));
+    let Content::Local(mut lists) = table.take(rt, pass, lock, gate) else {
+        unreachable!()
+    };
+    if let Some(body) = make_pending(table, pass, lock, &mut lists, hash) {
+        let element = body.body().element();
+        let part = Part::Local(LocalPart::Pop { hash, element });
+        table.give(pass, lock, Content::Local(lists), Some(part), gate);
+        return Taken::Got(body);
+    }
+    let refilled = refill(rt, alloc, table, pass, &mut lists, gate);
+    let got = make_pending(table, pass, lock, &mut lists, hash);
+    let cursor = lists.steal_cursor();
+    let part = refill_part(hash, refilled, element_of(&got));
+    table.give(pass, lock, Content::Local(lists), part, gate);
+    match got {
+        Some(body) => Taken::Got(body),
+        None => Taken::Nothing(cursor),
     }
 }
 

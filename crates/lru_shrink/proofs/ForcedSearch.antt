@@ -18,10 +18,11 @@ use Rattle.row_list.specs.RowWords.{row_of}
 use Rattle.row_list.proofs.ElementLemmas.{times_here}
 use Rattle.row_list.proofs.RowLemmas.{length_without, row_present, row_of_absent, row_of_left, row_of_right, row_of_split, splits}
 use Rattle.lru_lists.specs.Sets.{SetView, IsSet, listed, row_on, times_listed, taken_off, with_listed}
+use Rattle.lru_lists.specs.declared.bits.BitCall.{BitCall}
 use Rattle.lru_lists.specs.declared.bits.ProbeCall.{ProbeCall}
 use Rattle.lru_lists.specs.declared.notes.Noted.{Noted}
-use Rattle.lru_shrink.specs.Searches.{IsFound, UnsparingSearch}
-use Rattle.lru_shrink.specs.Shrunk.{AreStacked, TriesPart, probe_on, probes_of_tries, try_probes, removed_by_tries}
+use Rattle.lru_shrink.specs.Searches.{IsFound, SearchMoment, UnsparingSearch}
+use Rattle.lru_shrink.specs.Shrunk.{AreStacked, ShrinkMoment, TriesPart, probe_on, probes_of_tries, try_probes, removed_by_tries}
 use Rattle.lru_shrink.proofs.LookLoop.{cursor_none}
 use Rattle.lru_shrink.proofs.LookWalk.{same_listed, at_true, at_false}
 use Rattle.lru_shrink.proofs.Marks.{or_false, and_true, and_false, unmarked_stay}
@@ -29,6 +30,10 @@ use Rattle.lru_shrink.proofs.RowSteps.{times_off, row_off, number_off}
 use Rattle.lru_shrink.proofs.SearchLoop.{try_element}
 use Rattle.lru_shrink.proofs.SearchWalk.{length_removed}
 use Rattle.lru_shrink.proofs.StackLemmas.{stacked_none, stacked_one}
+
+-- a moment of the search
+abbrev moment : List BitCall → List ProbeCall → Noted Try → SearchMoment (Noted Try)
+moment calls probes notes = record { asked = record { calls = calls; probes = probes }; notes = notes }
 
 -- which elements tries took off, by those that they removed
 out_by : (tries : List Try) (e : ℕ) → forced_out tries e ≡ list_any (λ x. eqb x e) (removed_by_tries tries)
@@ -93,10 +98,17 @@ module _ (set : SetView) (whole : IsSet set) where
       behind e x es is_in = by_test x e (λ b. 0 < cond b (suc (times e es)) (times e es)) (λ _. omega arith) (λ _. is_in)
 
 -- What the search of the list found is what the shrink is to do.
-module _ {before : SetView} (whole : IsSet before) {probes probes_after : List ProbeCall} {gives : Stored → Type 0} {notes notes_after : Noted Try} {found : Option Stored}
-    {rows : List Row} (walked : rows ≡ forced_rows (listed before)) (searched : UnsparingSearch rows probes probes_after gives notes notes_after found) where
-  search : UnsparingSearch (forced_rows (listed before)) probes probes_after gives notes notes_after found
-  search = subst (λ (rows : List Row). UnsparingSearch rows probes probes_after gives notes notes_after found) walked searched
+module _ {before : SetView} (whole : IsSet before) {calls calls_after : List BitCall} {probes probes_after : List ProbeCall} {gives : Stored → Type 0} {notes notes_after : Noted Try} {found : Option Stored}
+    {rows : List Row} (walked : rows ≡ forced_rows (listed before)) (searched : UnsparingSearch rows gives (moment calls probes notes) (moment calls_after probes_after notes_after) found) where
+  search : UnsparingSearch (forced_rows (listed before)) gives (moment calls probes notes) (moment calls_after probes_after notes_after) found
+  search = subst (λ (rows : List Row). UnsparingSearch rows gives (moment calls probes notes) (moment calls_after probes_after notes_after) found) walked searched
+
+  -- the moments of the shrink around those of the search
+  abbrev first : BodyList → ShrinkMoment (Noted Try)
+  first out = record { set = before; asked = record { calls = calls; probes = probes }; out = out; notes = notes }
+
+  abbrev last : SetView → BodyList → ShrinkMoment (Noted Try)
+  last set out = record { set = set; asked = record { calls = calls_after; probes = probes_after }; out = out; notes = notes_after }
 
   were_on_list : (e : ℕ) → IsIn e (map try_element search.tries) → IsIn e (elements_of (forced_rows (listed before)))
   were_on_list e is_in =
@@ -123,7 +135,7 @@ module _ {before : SetView} (whole : IsSet before) {probes probes_after : List P
         nothing None is answer = answer
         nothing (Some body) is answer = absurd cc
 
-    pub forced_none : (out : BodyList) → TriesPart before before probes probes_after gives out out notes notes_after 0
+    pub forced_none : (out : BodyList) → TriesPart gives (first out) (last before out) 0
     forced_none out = record {
       tries = search.tries;
       tried = are_tries;
@@ -131,6 +143,7 @@ module _ {before : SetView} (whole : IsSet before) {probes probes_after : List P
       left = subst (λ (elements : List ℕ). AreStacked gives elements out out) (sym removed_none) (stacked_none gives out);
       count = ap (length {A = ℕ}) (sym removed_none) ∙ length_removed try_element try_removed search.tries;
       one = omega arith;
+      asked = search.asked;
       probed = probed_on;
       noted = search.noted;
       rows = λ e. let none = ap (times e) removed_none in omega arith;
@@ -174,7 +187,7 @@ module _ {before : SetView} (whole : IsSet before) {probes probes_after : List P
           let step = times_off before its.0 whole its_on e in
           omega arith
 
-      pub forced_one : {out out_after : BodyList} → 1 ≤ out.spare → out_after ≡ pushed body out → TriesPart before after probes probes_after gives out out_after notes notes_after 1
+      pub forced_one : {out out_after : BodyList} → 1 ≤ out.spare → out_after ≡ pushed body out → TriesPart gives (first out) (last after out_after) 1
       forced_one {out = out} {out_after = out_after} room push = record {
         tries = search.tries;
         tried = are_tries;
@@ -182,6 +195,7 @@ module _ {before : SetView} (whole : IsSet before) {probes probes_after : List P
         left = subst (λ (elements : List ℕ). AreStacked gives elements out out_after) (sym answer_is.0) (stacked_one gives body.element body out out_after refl answer_is.1 room push);
         count = ap (length {A = ℕ}) (sym answer_is.0) ∙ length_removed try_element try_removed search.tries;
         one = omega arith;
+        asked = search.asked;
         probed = probed_on;
         noted = search.noted;
         rows = times_after;

@@ -20,7 +20,7 @@ use Rattle.lru_lists.specs.Sets.{SetView, IsSet, IsListed, listed, row_on, times
 use Rattle.lru_lists.specs.declared.bits.BitCall.{BitCall}
 use Rattle.lru_lists.specs.declared.bits.ProbeCall.{ProbeCall}
 use Rattle.lru_lists.specs.declared.notes.Noted.{Noted}
-use Rattle.lru_shrink.specs.Asking.{LeavesBut}
+use Rattle.lru_shrink.specs.Asking.{LeavesBut, Terms}
 use Rattle.lru_shrink.specs.Shrunk.{AreStacked, LooksPart, after_look, cleared, probe_by, probe_on, probes_of_looks, look_probes, removed_by_looks}
 use Rattle.lru_shrink.proofs.AskingLemmas.{leaves_all, leaves_more, leaves_as}
 use Rattle.lru_shrink.proofs.Marks.{unmarked_stay}
@@ -65,7 +65,7 @@ few_probes rows (look ∷ looks) = let rest = few_probes rows looks in one_more_
     one_more_at_most None calls n few = omega arith
     one_more_at_most (Some call) calls n few = omega arith
 
-module _ {Asked : Type 0} (can_note may_ask : Asked → ℕ → Type 0) (may_probe : Asked → Row → Type 0) (gives : Asked → Stored → Type 0) (lender : Asked → ℕ) (calls : Asked → List BitCall) (probes : Asked → List ProbeCall) where
+module _ {Asked : Type 0} (terms : Terms Asked) (calls : Asked → List BitCall) (probes : Asked → List ProbeCall) where
   pub record Looking (target : ℕ) (before now : SetView) (asked_before asked_now : Asked) (out out_now : BodyList) (notes notes_now : Noted Look) (at : Option Row) (freed i : ℕ) : Type 0 where
     pub visited : List Row
     pub left : List Row
@@ -77,14 +77,14 @@ module _ {Asked : Type 0} (can_note may_ask : Asked → ℕ → Type 0) (may_pro
     pub bits : All (λ look. is_some look.probed ≡ not look.bit) looks
     pub early : (k : ℕ) → k < length looks → count_by look_removed (take k looks) < target
     pub set : now ≡ with_listed (after_looks (listed before) looks) before
-    pub stacked : AreStacked (gives asked_now) (removed_by_looks looks) out out_now
+    pub stacked : AreStacked (terms.gives asked_now) (removed_by_looks looks) out out_now
     pub count : freed ≡ count_by look_removed looks
     pub asked : calls asked_now ≡ calls asked_before ++ cleared looks
     pub probed : probes asked_now ≡ probes asked_before ++ look_probes before looks
     pub noted : AreNoted looks notes notes_now
     pub rows : (e : ℕ) → times_listed e now + times e (removed_by_looks looks) ≡ times_listed e before
     pub same_rows : (e : ℕ) → times e (removed_by_looks looks) ≡ 0 → row_on e now ≡ row_on e before
-    pub leaves : LeavesBut (λ e. times e (removed_by_looks looks) ≡ 0) can_note may_ask may_probe gives lender (length looks + length (look_probes before looks)) asked_before asked_now
+    pub leaves : LeavesBut terms (λ e. times e (removed_by_looks looks) ≡ 0) (length looks + length (look_probes before looks)) asked_before asked_now
     pub number : (length now.active + length now.inactive) + freed ≡ length before.active + length before.inactive
     pub was_whole : IsSet before
     pub whole : IsSet now
@@ -102,23 +102,23 @@ module _ {Asked : Type 0} (can_note may_ask : Asked → ℕ → Type 0) (may_pro
     bits = All-nil (λ (look : Look). is_some look.probed ≡ not look.bit);
     early = λ k none. absurd (omega arith);
     set = rw (unmarked_stay (λ _. false) set.inactive (λ e _. refl), cursor_none set.inactive set.cursor) refl;
-    stacked = stacked_none (gives asked) out;
+    stacked = stacked_none (terms.gives asked) out;
     count = refl;
     asked = sym (append-nil (calls asked));
     probed = sym (append-nil (probes asked));
     noted = noted_none notes;
     rows = λ e. omega arith;
     same_rows = λ e _. refl;
-    leaves = leaves_all can_note may_ask may_probe gives lender (λ e. times e [] ≡ 0) asked;
+    leaves = leaves_all terms (λ e. times e [] ≡ 0) asked;
     number = omega arith;
     was_whole = whole;
     whole = whole;
   }
 
 -- At the next row
-module _ {Asked : Type 0} {can_note may_ask : Asked → ℕ → Type 0} {may_probe : Asked → Row → Type 0} {gives : Asked → Stored → Type 0} {lender : Asked → ℕ} {calls : Asked → List BitCall} {probes : Asked → List ProbeCall}
+module _ {Asked : Type 0} {terms : Terms Asked} {calls : Asked → List BitCall} {probes : Asked → List ProbeCall}
     {target : ℕ} {before now : SetView} {asked_before asked_now : Asked} {out out_now : BodyList} {notes notes_now : Noted Look} {at : Option Row} {freed i : ℕ} {row : Row}
-    (so_far : Looking can_note may_ask may_probe gives lender calls probes target before now asked_before asked_now out out_now notes notes_now at freed i) (here : at ≡ Some row) where
+    (so_far : Looking terms calls probes target before now asked_before asked_now out out_now notes notes_now at freed i) (here : at ≡ Some row) where
   rest : List Row
   rest = (first_of so_far.left row (sym so_far.next ∙ here)).0
 
@@ -155,16 +155,16 @@ module _ {Asked : Type 0} {can_note may_ask : Asked → ℕ → Type 0} {may_pro
       let spare = ap (λ (stack : BodyList). stack.spare) so_far.stacked.stacked in
       omega arith
 
-  pub noted_now : (scans : ℕ) → i < scans → can_note asked_before (2 * scans) → ((m n : ℕ) → m ≤ n → can_note asked_now n → can_note asked_now m) → can_note asked_now 2
+  pub noted_now : (scans : ℕ) → i < scans → terms.can_note asked_before (2 * scans) → ((m n : ℕ) → m ≤ n → terms.can_note asked_now n → terms.can_note asked_now m) → terms.can_note asked_now 2
   noted_now scans below can fewer =
       let few = few_probes (before.active ++ before.inactive) so_far.looks in
       let many = so_far.many in
       fewer 2 (2 * scans - (length so_far.looks + length (look_probes before so_far.looks))) (omega arith) (so_far.leaves.noted (2 * scans) can)
 
-  pub asked_row : ((e : ℕ) → IsListed e before → may_ask asked_before e) → may_ask asked_now row.element
+  pub asked_row : ((e : ℕ) → IsListed e before → terms.may_ask asked_before e) → terms.may_ask asked_now row.element
   asked_row may = so_far.leaves.asked row.element (may row.element (walk.was_listed before so_far.was_whole so_far.visited rest row so_far.looks order_here so_far.seen))
 
-  pub probed_row : ((r : Row) → row_on r.element before ≡ Some r → may_probe asked_before r) → may_probe asked_now row
+  pub probed_row : ((r : Row) → row_on r.element before ≡ Some r → terms.may_probe asked_before r) → terms.may_probe asked_now row
   probed_row may = so_far.leaves.probing row not_removed (may row was_its)
 
   next_row : row_before row.element now.inactive ≡ head_row rest
@@ -173,11 +173,11 @@ module _ {Asked : Type 0} {can_note may_ask : Asked → ℕ → Type 0} {may_pro
   -- after one more look
   pub looking_more : {then : SetView} {asked_then : Asked} {out_then : BodyList} {at_then : Option Row} {freed_then : ℕ} (notes_then : Noted Look) (look : Look) →
       look.element ≡ row.element → is_some look.probed ≡ not look.bit → then ≡ after_look look now →
-      AreStacked (gives asked_then) (removed_by_looks (look ∷ [])) out_now out_then → calls asked_then ≡ calls asked_now ++ cleared (look ∷ []) →
+      AreStacked (terms.gives asked_then) (removed_by_looks (look ∷ [])) out_now out_then → calls asked_then ≡ calls asked_now ++ cleared (look ∷ []) →
       (row_on row.element now ≡ Some row → probes asked_then ≡ probes asked_now ++ look_probes now (look ∷ [])) →
-      (IsSet now → IsSet then) → LeavesBut (λ e. times e (removed_by_looks (look ∷ [])) ≡ 0) can_note may_ask may_probe gives lender (1 + length (look_probes now (look ∷ []))) asked_now asked_then →
+      (IsSet now → IsSet then) → LeavesBut terms (λ e. times e (removed_by_looks (look ∷ [])) ≡ 0) (1 + length (look_probes now (look ∷ []))) asked_now asked_then →
       AreNoted (look ∷ []) notes_now notes_then → at_then ≡ row_before row.element now.inactive → freed_then ≡ freed + count_by look_removed (look ∷ []) → freed < target →
-      Looking can_note may_ask may_probe gives lender calls probes target before then asked_before asked_then out out_then notes notes_then at_then freed_then (i + 1)
+      Looking terms calls probes target before then asked_before asked_then out out_then notes notes_then at_then freed_then (i + 1)
   looking_more {then = then} {asked_then = asked_then} {out_then = out_then} notes_then look named bit is stacked call probe whole only noted next count below =
       let looks : List Look = so_far.looks in
       let same : row_on look.element now ≡ row_on look.element before = ap (λ (e : ℕ). row_on e now) named ∙ its ∙ sym was_its ∙ ap (λ (e : ℕ). row_on e before) (sym named) in
@@ -194,7 +194,7 @@ module _ {Asked : Type 0} {can_note may_ask : Asked → ℕ → Type 0} {may_pro
         bits = All-push (λ (l : Look). is_some l.probed ≡ not l.bit) looks look so_far.bits bit;
         early = early_push looks look target (let had = so_far.count in omega arith);
         set = is ∙ ap (after_look look) so_far.set ∙ sym (walk.one_more before so_far.was_whole so_far.visited rest row looks order_here so_far.seen look named);
-        stacked = subst (λ (xs : List ℕ). AreStacked (gives asked_then) xs out out_then) (sym (removed_push walk.look_element look_removed looks look)) (stacked_more (gives asked_now) (gives asked_then) (removed_by_looks looks) (removed_by_looks (look ∷ [])) out out_now out_then (λ body. (only.given body).0) so_far.stacked stacked);
+        stacked = subst (λ (xs : List ℕ). AreStacked (terms.gives asked_then) xs out out_then) (sym (removed_push walk.look_element look_removed looks look)) (stacked_more (terms.gives asked_now) (terms.gives asked_then) (removed_by_looks looks) (removed_by_looks (look ∷ [])) out out_now out_then (λ body. (only.given body).0) so_far.stacked stacked);
         count = count ∙ ap (λ (n : ℕ). n + count_by look_removed (look ∷ [])) so_far.count ∙ sym (count_push looks look);
         asked = call ∙ ap (λ (xs : List BitCall). xs ++ cleared (look ∷ [])) so_far.asked ∙ append_assoc (calls asked_before) (cleared looks) (cleared (look ∷ [])) ∙ ap (λ (xs : List BitCall). calls asked_before ++ xs) (sym (map-append _ looks (look ∷ [])));
         probed = probe its ∙ ap (λ (xs : List ProbeCall). xs ++ look_probes now (look ∷ [])) so_far.probed ∙ append_assoc (probes asked_before) (look_probes before looks) (look_probes now (look ∷ [])) ∙ ap (λ (xs : List ProbeCall). probes asked_before ++ (look_probes before looks ++ xs)) alike ∙ ap (λ (xs : List ProbeCall). probes asked_before ++ xs) (sym both);
@@ -205,7 +205,7 @@ module _ {Asked : Type 0} {can_note may_ask : Asked → ℕ → Type 0} {may_pro
             let longer = length-append looks (look ∷ []) in
             let probes_longer = ap (length {A = ProbeCall}) both ∙ length-append (look_probes before looks) (look_probes before (look ∷ [])) in
             let same_number = ap (length {A = ProbeCall}) alike in
-            leaves_more can_note may_ask may_probe gives lender (λ e. times e (removed_by_looks looks) ≡ 0) (λ e. times e (removed_by_looks (look ∷ [])) ≡ 0) (λ e. times e (removed_by_looks (looks ++ look ∷ [])) ≡ 0)
+            leaves_more terms (λ e. times e (removed_by_looks looks) ≡ 0) (λ e. times e (removed_by_looks (look ∷ [])) ≡ 0) (λ e. times e (removed_by_looks (looks ++ look ∷ [])) ≡ 0)
             (length looks + length (look_probes before looks)) (1 + length (look_probes now (look ∷ []))) (length (looks ++ look ∷ []) + length (look_probes before (looks ++ look ∷ [])))
             asked_before asked_now asked_then
             (λ e none. let more = times_push walk.look_element look_removed e looks look in omega arith) (λ e none. let more = times_push walk.look_element look_removed e looks look in omega arith) (omega arith) so_far.leaves only;
@@ -220,9 +220,9 @@ module _ {Asked : Type 0} {can_note may_ask : Asked → ℕ → Type 0} {may_pro
       }
 
 -- At its end
-module _ {Asked : Type 0} {can_note may_ask : Asked → ℕ → Type 0} {may_probe : Asked → Row → Type 0} {gives : Asked → Stored → Type 0} {lender : Asked → ℕ} {calls : Asked → List BitCall} {probes : Asked → List ProbeCall}
+module _ {Asked : Type 0} {terms : Terms Asked} {calls : Asked → List BitCall} {probes : Asked → List ProbeCall}
     {target : ℕ} {before now : SetView} {asked_before asked_now : Asked} {out out_now : BodyList} {notes notes_now : Noted Look} {at : Option Row} {freed i : ℕ}
-    (so_far : Looking can_note may_ask may_probe gives lender calls probes target before now asked_before asked_now out out_now notes notes_now at freed i) where
+    (so_far : Looking terms calls probes target before now asked_before asked_now out out_now notes notes_now at freed i) where
   counted : length before.inactive ≡ length so_far.looks + length so_far.left
   counted =
       let same = ap (length {A = Row}) so_far.order in
@@ -236,11 +236,11 @@ module _ {Asked : Type 0} {can_note may_ask : Asked → ℕ → Type 0} {may_pro
       let looked = sym (length-map so_far.looks walk.look_element) ∙ ap (length {A = ℕ}) so_far.seen ∙ length-map so_far.visited (λ (r : Row). r.element) in
       so_far.seen ∙ sym (ap elements_of (ap (take (length so_far.looks)) so_far.order ∙ take_at so_far.visited so_far.left (length so_far.looks) (sym looked)))
 
-  pub looks_leave : LeavesBut (λ e. times_listed e now ≡ times_listed e before) can_note may_ask may_probe gives lender ((length (calls asked_now) - length (calls asked_before)) + (length (probes asked_now) - length (probes asked_before))) asked_before asked_now
+  pub looks_leave : LeavesBut terms (λ e. times_listed e now ≡ times_listed e before) ((length (calls asked_now) - length (calls asked_before)) + (length (probes asked_now) - length (probes asked_before))) asked_before asked_now
   looks_leave =
       let calls_long = ap (length {A = BitCall}) so_far.asked ∙ length-append (calls asked_before) (cleared so_far.looks) ∙ ap (λ (n : ℕ). length (calls asked_before) + n) (length-map so_far.looks _) in
       let probes_long = ap (length {A = ProbeCall}) so_far.probed ∙ length-append (probes asked_before) (look_probes before so_far.looks) in
-      leaves_as can_note may_ask may_probe gives lender (λ e. times e (removed_by_looks so_far.looks) ≡ 0) (λ e. times_listed e now ≡ times_listed e before)
+      leaves_as terms (λ e. times e (removed_by_looks so_far.looks) ≡ 0) (λ e. times_listed e now ≡ times_listed e before)
       (length so_far.looks + length (look_probes before so_far.looks)) ((length (calls asked_now) - length (calls asked_before)) + (length (probes asked_now) - length (probes asked_before))) asked_before asked_now
       (λ e same. let sum = so_far.rows e in omega arith) (omega arith) so_far.leaves
 
@@ -279,7 +279,10 @@ module _ {Asked : Type 0} {can_note may_ask : Asked → ℕ → Type 0} {may_pro
       until = record { here = done end; not_before = goes_on within };
     }
 
-    pub looks_done : (freed ≡ target) ⊎ ((i ≡ scans) ⊎ (at ≡ None)) → i ≤ scans → freed ≤ target → LooksPart scans target before now (calls asked_before) (calls asked_now) (probes asked_before) (probes asked_now) (gives asked_now) out out_now notes notes_now freed
+    pub looks_done : (freed ≡ target) ⊎ ((i ≡ scans) ⊎ (at ≡ None)) → i ≤ scans → freed ≤ target →
+        LooksPart scans target (terms.gives asked_now)
+        (record { set = before; asked = record { calls = calls asked_before; probes = probes asked_before }; out = out; notes = notes })
+        (record { set = now; asked = record { calls = calls asked_now; probes = probes asked_now }; out = out_now; notes = notes_now }) freed
     looks_done end within enough = record {
       looks = so_far.looks;
       looked = are_looks end within;

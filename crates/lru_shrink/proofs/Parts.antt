@@ -17,8 +17,8 @@ use Rattle.lru_lists.specs.declared.bits.BitCall.{BitCall}
 use Rattle.lru_lists.specs.declared.bits.ProbeCall.{ProbeCall}
 use Rattle.lru_lists.specs.declared.notes.Noted.{Noted}
 use Rattle.lru_lists.specs.declared.notes.ShrinkNotes.{ShrinkNotes}
-use Rattle.lru_shrink.specs.Asking.{LeavesBut}
-use Rattle.lru_shrink.specs.Shrunk.{AreStacked, LooksPart, TriesPart, Shrink, cleared, look_probes, try_probes, removed_by_looks, removed_by_tries}
+use Rattle.lru_shrink.specs.Asking.{LeavesBut, Terms}
+use Rattle.lru_shrink.specs.Shrunk.{AreStacked, ShrinkMoment, LooksPart, TriesPart, Shrink, cleared, look_probes, try_probes, removed_by_looks, removed_by_tries}
 use Rattle.lru_shrink.proofs.AskingLemmas.{leaves_more}
 use Rattle.lru_shrink.proofs.LookLoop.{few_probes}
 use Rattle.lru_shrink.proofs.LookWalk.{look_element}
@@ -28,6 +28,9 @@ use Rattle.lru_shrink.proofs.ShrinkLaws.{few_looks, few_tries, spares_used}
 use Rattle.lru_lists.proofs.NoteLemmas.{noted_none}
 use Rattle.lru_shrink.proofs.StackLemmas.{stacked_more, stacked_nothing}
 use Rattle.lru_shrink.proofs.ForcedSearch.{set_stays}
+
+abbrev moment : {Notes : Type 0} → SetView → List BitCall → List ProbeCall → BodyList → Notes → ShrinkMoment Notes
+moment set calls probes out notes = record { set = set; asked = record { calls = calls; probes = probes }; out = out; notes = notes }
 
 match_true : (b : Bool) (P Q : Type 0) → b ≡ true → P → MatchBool b P Q
 match_true true P Q is p = p
@@ -40,7 +43,7 @@ match_false false P Q is q = q
 -- Some look removed one, so none is tried by force.
 module _ {scans target : ℕ} {before after : SetView} {calls calls_after : List BitCall} {probes probes_after : List ProbeCall} {gives : Stored → Type 0}
     {out out_after : BodyList} {looks_after : Noted Look} {answer : ℕ} (notes : ShrinkNotes)
-    (some : 1 ≤ target) (part : LooksPart scans target before after calls calls_after probes probes_after gives out out_after notes.looks looks_after answer) where
+    (some : 1 ≤ target) (part : LooksPart scans target gives (moment before calls probes out notes.looks) (moment after calls_after probes_after out_after looks_after) answer) where
   all_freed : freed part.looks [] ≡ removed_by_looks part.looks
   all_freed = append-nil (removed_by_looks part.looks)
 
@@ -54,7 +57,7 @@ module _ {scans target : ℕ} {before after : SetView} {calls calls_after : List
   unfolding shrunk
   after_none = ap (λ (set : SetView). with_listed (listed set) before) (set_stays (with_listed (after_looks (listed before) part.looks) before) [] refl)
 
-  pub shrunk_by_looks : answer ≢ 0 → Shrink scans target before after calls calls_after probes probes_after gives out out_after notes (record { looks = looks_after; forced = notes.forced }) answer
+  pub shrunk_by_looks : answer ≢ 0 → Shrink scans target gives (moment before calls probes out notes) (moment after calls_after probes_after out_after (record { looks = looks_after; forced = notes.forced })) answer
   shrunk_by_looks not_zero = record {
     looks = part.looks;
     forced = [];
@@ -78,7 +81,7 @@ module _ {scans target : ℕ} {before after : SetView} {calls calls_after : List
 -- No look removed one.
 module _ {scans target : ℕ} {before middle : SetView} {calls calls_middle : List BitCall} {probes probes_middle : List ProbeCall} {gives : Stored → Type 0}
     {out out_middle : BodyList} {looks_after : Noted Look} {first : ℕ} (notes : ShrinkNotes) (none : first ≡ 0)
-    (part : LooksPart scans target before middle calls calls_middle probes probes_middle gives out out_middle notes.looks looks_after first) where
+    (part : LooksPart scans target gives (moment before calls probes out notes.looks) (moment middle calls_middle probes_middle out_middle looks_after) first) where
   none_left : removed_by_looks part.looks ≡ []
   none_left = empty (removed_by_looks part.looks) (length_removed look_element look_removed part.looks ∙ sym part.count ∙ none)
     where
@@ -103,9 +106,9 @@ module _ {scans target : ℕ} {before middle : SetView} {calls calls_middle : Li
       let same = ap (λ (stack : BodyList). stack.spare) (stacked_nothing gives (removed_by_looks part.looks) out out_middle none_left part.left) in
       omega arith
 
-  module _ {Asked : Type 0} {can_note may_ask : Asked → ℕ → Type 0} {may_probe : Asked → Row → Type 0} {knows : Asked → Stored → Type 0} {lender : Asked → ℕ} {asked_before asked_now : Asked}
-      (only : LeavesBut (λ e. times_listed e middle ≡ times_listed e before) can_note may_ask may_probe knows lender ((length calls_middle - length calls) + (length probes_middle - length probes)) asked_before asked_now) where
-    pub forced_noted : can_note asked_before (2 * scans + (length before.active + length before.inactive)) → ((m n : ℕ) → m ≤ n → can_note asked_now n → can_note asked_now m) → can_note asked_now (length (forced_rows (listed middle)))
+  module _ {Asked : Type 0} {terms : Terms Asked} {asked_before asked_now : Asked}
+      (only : LeavesBut terms (λ e. times_listed e middle ≡ times_listed e before) ((length calls_middle - length calls) + (length probes_middle - length probes)) asked_before asked_now) where
+    pub forced_noted : terms.can_note asked_before (2 * scans + (length before.active + length before.inactive)) → ((m n : ℕ) → m ≤ n → terms.can_note asked_now n → terms.can_note asked_now m) → terms.can_note asked_now (length (forced_rows (listed middle)))
     forced_noted can fewer =
         let few = forced_few in
         let calls_long = ap (length {A = BitCall}) part.asked ∙ length-append calls (cleared part.looks) ∙ ap (λ (n : ℕ). length calls + n) (length-map part.looks _) in
@@ -115,13 +118,13 @@ module _ {scans target : ℕ} {before middle : SetView} {calls calls_middle : Li
         let all : ℕ = 2 * scans + (length before.active + length before.inactive) in
         fewer (length (forced_rows (listed middle))) (all - ((length calls_middle - length calls) + (length probes_middle - length probes))) (omega arith) (only.noted all can)
 
-    pub forced_probed : ((row : Row) → row_on row.element before ≡ Some row → may_probe asked_before row) → (row : Row) → row_on row.element middle ≡ Some row → may_probe asked_now row
+    pub forced_probed : ((row : Row) → row_on row.element before ≡ Some row → terms.may_probe asked_before row) → (row : Row) → row_on row.element middle ≡ Some row → terms.may_probe asked_now row
     forced_probed may row its =
         only.probing row (let sum = part.rows row.element in let nothing = ap (times row.element) none_left in omega arith) (may row (sym (same_row row.element) ∙ its))
 
   module _ {after : SetView} {calls_after : List BitCall} {probes_after : List ProbeCall} {gives_after : Stored → Type 0} {out_after : BodyList} {forced_after : Noted Try} {answer : ℕ}
-      (some : 1 ≤ target) (more : TriesPart middle after probes_middle probes_after gives_after out_middle out_after notes.forced forced_after answer)
-      (same_calls : calls_after ≡ calls_middle) (keeps : (body : Stored) → gives body → gives_after body) where
+      (some : 1 ≤ target) (more : TriesPart gives_after (moment middle calls_middle probes_middle out_middle notes.forced) (moment after calls_after probes_after out_after forced_after) answer)
+      (keeps : (body : Stored) → gives body → gives_after body) where
     all_left : freed part.looks more.tries ≡ removed_by_tries more.tries
     all_left = ap (λ (xs : List ℕ). xs ++ removed_by_tries more.tries) none_left
 
@@ -143,7 +146,7 @@ module _ {scans target : ℕ} {before middle : SetView} {calls calls_middle : Li
         ap (λ (call : Try → ProbeCall). map call more.tries)
         (fun_ext (λ (try : Try). ap (λ (found : Option Row). let call : ProbeCall = record { element = try.element; hash = unwrap_or (option_map (λ (row : Row). row.hash) found) 0; probed = try.probed } in call) (same_row try.element)))
 
-    pub shrunk_by_force : Shrink scans target before after calls calls_after probes probes_after gives_after out out_after notes (record { looks = looks_after; forced = forced_after }) answer
+    pub shrunk_by_force : Shrink scans target gives_after (moment before calls probes out notes) (moment after calls_after probes_after out_after (record { looks = looks_after; forced = forced_after })) answer
     shrunk_by_force = record {
       looks = part.looks;
       forced = more.tries;
@@ -151,7 +154,7 @@ module _ {scans target : ℕ} {before middle : SetView} {calls calls_middle : Li
       set = after_all;
       left = stacked_more gives gives_after (removed_by_looks part.looks) (removed_by_tries more.tries) out out_middle out_after keeps part.left more.left;
       count = more.count ∙ sym (length_removed try_element try_removed more.tries) ∙ ap (length {A = ℕ}) (sym all_left);
-      asked = same_calls ∙ part.asked;
+      asked = more.asked ∙ part.asked;
       probed = more.probed ∙ ap (λ (xs : List ProbeCall). xs ++ try_probes middle more.tries) part.probed ∙ ap (λ (xs : List ProbeCall). (probes ++ look_probes before part.looks) ++ xs) same_probes;
       noted_looks = part.noted;
       noted_forced = more.noted;
@@ -164,15 +167,15 @@ module _ {scans target : ℕ} {before middle : SetView} {calls calls_middle : Li
       spared = spares_used scans target (listed before) part.looks more.tries some by_force_is;
     }
 
-    module _ {Asked : Type 0} {can_note may_ask : Asked → ℕ → Type 0} {may_probe : Asked → Row → Type 0} {knows : Asked → Stored → Type 0} {lender : Asked → ℕ} {asked_before asked_middle asked_after : Asked} where
-      pub shrunk_leaves : LeavesBut (λ e. times_listed e middle ≡ times_listed e before) can_note may_ask may_probe knows lender ((length calls_middle - length calls) + (length probes_middle - length probes)) asked_before asked_middle →
-          LeavesBut (λ e. times_listed e after ≡ times_listed e middle) can_note may_ask may_probe knows lender (length probes_after - length probes_middle) asked_middle asked_after →
-          LeavesBut (λ e. times_listed e after ≡ times_listed e before) can_note may_ask may_probe knows lender ((length calls_after - length calls) + (length probes_after - length probes)) asked_before asked_after
+    module _ {Asked : Type 0} {terms : Terms Asked} {asked_before asked_middle asked_after : Asked} where
+      pub shrunk_leaves : LeavesBut terms (λ e. times_listed e middle ≡ times_listed e before) ((length calls_middle - length calls) + (length probes_middle - length probes)) asked_before asked_middle →
+          LeavesBut terms (λ e. times_listed e after ≡ times_listed e middle) (length probes_after - length probes_middle) asked_middle asked_after →
+          LeavesBut terms (λ e. times_listed e after ≡ times_listed e before) ((length calls_after - length calls) + (length probes_after - length probes)) asked_before asked_after
       shrunk_leaves one two =
-          let calls_same = ap (length {A = BitCall}) same_calls in
+          let calls_same = ap (length {A = BitCall}) more.asked in
           let probes_long = ap (length {A = ProbeCall}) part.probed ∙ length-append probes (look_probes before part.looks) in
           let probes_longer = ap (length {A = ProbeCall}) more.probed ∙ length-append probes_middle (try_probes middle more.tries) in
-          leaves_more can_note may_ask may_probe knows lender (λ e. times_listed e middle ≡ times_listed e before) (λ e. times_listed e after ≡ times_listed e middle) (λ e. times_listed e after ≡ times_listed e before)
+          leaves_more terms (λ e. times_listed e middle ≡ times_listed e before) (λ e. times_listed e after ≡ times_listed e middle) (λ e. times_listed e after ≡ times_listed e before)
           ((length calls_middle - length calls) + (length probes_middle - length probes)) (length probes_after - length probes_middle) ((length calls_after - length calls) + (length probes_after - length probes))
           asked_before asked_middle asked_after
           (λ e same. let sum = part.rows e in let then = more.rows e in omega arith) (λ e same. let sum = part.rows e in let then = more.rows e in omega arith) (omega arith) one two

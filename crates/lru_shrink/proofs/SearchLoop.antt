@@ -20,8 +20,8 @@ use Rattle.lru_lists.specs.declared.bits.BitCall.{BitCall}
 use Rattle.lru_lists.specs.declared.bits.ProbeCall.{ProbeCall}
 use Rattle.lru_lists.specs.declared.notes.Noted.{Noted}
 use Rattle.lru_lists.proofs.NoteLemmas.{noted_none, noted_more}
-use Rattle.lru_shrink.specs.Asking.{LeavesBut}
-use Rattle.lru_shrink.specs.Searches.{SparingSearch, UnsparingSearch, IsFound, bits_read}
+use Rattle.lru_shrink.specs.Asking.{LeavesBut, Terms}
+use Rattle.lru_shrink.specs.Searches.{SearchMoment, SparingSearch, UnsparingSearch, IsFound, bits_read}
 use Rattle.lru_shrink.specs.Shrunk.{probe_by, probes_of_looks, probes_of_tries, removed_by_looks, removed_by_tries}
 use Rattle.lru_shrink.proofs.AskingLemmas.{leaves_all, leaves_more, leaves_as}
 use Rattle.lru_shrink.proofs.LookLoop.{few_probes, probes_alike}
@@ -31,6 +31,10 @@ use Rattle.lru_shrink.proofs.SearchWalk.{AreHeld, held_none, times_push, removed
 
 abbrev pub try_element : Try → ℕ
 try_element try = try.element
+
+-- a moment of a search, by the object that is asked
+abbrev moment : {Asked Notes : Type 0} → (Asked → List BitCall) → (Asked → List ProbeCall) → Asked → Notes → SearchMoment Notes
+moment calls probes asked notes = record { asked = record { calls = calls asked; probes = probes asked }; notes = notes }
 
 -- what is asked of an element that another one isn't
 others_stay : (e other : ℕ) → e ≢ other → times e (other ∷ []) ≡ 0
@@ -53,14 +57,14 @@ found_stays : (gives : Stored → Type 0) (removed : List ℕ) (found : Option S
 found_stays gives removed None answer e stays = ap (times e) answer
 found_stays gives removed (Some body) answer e stays = ap (times e) answer.0 ∙ others_stay e body.element stays
 
-module _ {Asked : Type 0} (can_note may_ask : Asked → ℕ → Type 0) (may_probe : Asked → Row → Type 0) (gives : Asked → Stored → Type 0) (lender : Asked → ℕ) (calls : Asked → List BitCall) (probes : Asked → List ProbeCall) where
+module _ {Asked : Type 0} (terms : Terms Asked) (calls : Asked → List BitCall) (probes : Asked → List ProbeCall) where
   -- looks, and what they asked
   pub record Looked (rows : List Row) (asked_before asked_now : Asked) (notes notes_now : Noted Look) (looks : List Look) : Type 0 where
     pub bits : All (λ look. is_some look.probed ≡ not look.bit) looks
     pub asked : calls asked_now ≡ calls asked_before ++ bits_read looks
     pub probed : probes asked_now ≡ probes asked_before ++ probes_of_looks rows looks
     pub noted : AreNoted looks notes notes_now
-    pub leaves : LeavesBut (λ e. times e (removed_by_looks looks) ≡ 0) can_note may_ask may_probe gives lender (length looks + length (probes_of_looks rows looks)) asked_before asked_now
+    pub leaves : LeavesBut terms (λ e. times e (removed_by_looks looks) ≡ 0) (length looks + length (probes_of_looks rows looks)) asked_before asked_now
 
   pub record Sparing (rows : List Row) (asked_before asked_now : Asked) (notes notes_now : Noted Look) (at : Option Row) (i : ℕ) : Type 0 where
     pub looks : List Look
@@ -80,7 +84,7 @@ module _ {Asked : Type 0} (can_note may_ask : Asked → ℕ → Type 0) (may_pro
       asked = sym (append-nil (calls asked));
       probed = sym (append-nil (probes asked));
       noted = noted_none notes;
-      leaves = leaves_all can_note may_ask may_probe gives lender (λ e. times e [] ≡ 0) asked;
+      leaves = leaves_all terms (λ e. times e [] ≡ 0) asked;
     };
   }
 
@@ -89,7 +93,7 @@ module _ {Asked : Type 0} (can_note may_ask : Asked → ℕ → Type 0) (may_pro
     pub asked : calls asked_now ≡ calls asked_before
     pub probed : probes asked_now ≡ probes asked_before ++ probes_of_tries rows tries
     pub noted : AreNoted tries notes notes_now
-    pub leaves : LeavesBut (λ e. times e (removed_by_tries tries) ≡ 0) can_note may_ask may_probe gives lender (length tries) asked_before asked_now
+    pub leaves : LeavesBut terms (λ e. times e (removed_by_tries tries) ≡ 0) (length tries) asked_before asked_now
 
   pub record Unsparing (rows : List Row) (asked_before asked_now : Asked) (notes notes_now : Noted Try) (at : Option Row) (i : ℕ) : Type 0 where
     pub tries : List Try
@@ -108,16 +112,16 @@ module _ {Asked : Type 0} (can_note may_ask : Asked → ℕ → Type 0) (may_pro
       asked = refl;
       probed = sym (append-nil (probes asked));
       noted = noted_none notes;
-      leaves = leaves_all can_note may_ask may_probe gives lender (λ e. times e [] ≡ 0) asked;
+      leaves = leaves_all terms (λ e. times e [] ≡ 0) asked;
     };
   }
 
 -- What walks did, once they are done
-module _ {Asked : Type 0} {can_note may_ask : Asked → ℕ → Type 0} {may_probe : Asked → Row → Type 0} {gives : Asked → Stored → Type 0} {lender : Asked → ℕ} {calls : Asked → List BitCall} {probes : Asked → List ProbeCall}
+module _ {Asked : Type 0} {terms : Terms Asked} {calls : Asked → List BitCall} {probes : Asked → List ProbeCall}
     {rows : List Row} {asked_before asked_now : Asked} where
-  looks_search : {notes notes_now : Noted Look} {at : Option Row} (looks : List Look) (found : Option Stored) → Looked can_note may_ask may_probe gives lender calls probes rows asked_before asked_now notes notes_now looks → Walked rows (map look_element looks) at →
-      AreSparing rows looks → IsFound (gives asked_now) (removed_by_looks looks) found → IfSome found (λ body. IsIn body.element (elements_of rows)) →
-      SparingSearch rows (calls asked_before) (calls asked_now) (probes asked_before) (probes asked_now) (gives asked_now) notes notes_now found
+  looks_search : {notes notes_now : Noted Look} {at : Option Row} (looks : List Look) (found : Option Stored) → Looked terms calls probes rows asked_before asked_now notes notes_now looks → Walked rows (map look_element looks) at →
+      AreSparing rows looks → IsFound (terms.gives asked_now) (removed_by_looks looks) found → IfSome found (λ body. IsIn body.element (elements_of rows)) →
+      SparingSearch rows (terms.gives asked_now) (moment calls probes asked_before notes) (moment calls probes asked_now notes_now) found
   looks_search looks found did walk are answer there = record {
     looks = looks;
     are = are;
@@ -129,37 +133,38 @@ module _ {Asked : Type 0} {can_note may_ask : Asked → ℕ → Type 0} {may_pro
     there = there;
   }
 
-  looks_leave : {notes notes_now : Noted Look} (looks : List Look) (found : Option Stored) → Looked can_note may_ask may_probe gives lender calls probes rows asked_before asked_now notes notes_now looks →
-      IsFound (gives asked_now) (removed_by_looks looks) found →
-      LeavesBut (λ e. IfSome found (λ body. e ≢ body.element)) can_note may_ask may_probe gives lender ((length (calls asked_now) - length (calls asked_before)) + (length (probes asked_now) - length (probes asked_before))) asked_before asked_now
+  looks_leave : {notes notes_now : Noted Look} (looks : List Look) (found : Option Stored) → Looked terms calls probes rows asked_before asked_now notes notes_now looks →
+      IsFound (terms.gives asked_now) (removed_by_looks looks) found →
+      LeavesBut terms (λ e. IfSome found (λ body. e ≢ body.element)) ((length (calls asked_now) - length (calls asked_before)) + (length (probes asked_now) - length (probes asked_before))) asked_before asked_now
   looks_leave looks found did answer =
       let calls_long = ap (length {A = BitCall}) did.asked ∙ length-append (calls asked_before) (bits_read looks) ∙ ap (λ (n : ℕ). length (calls asked_before) + n) (length-map looks _) in
       let probes_long = ap (length {A = ProbeCall}) did.probed ∙ length-append (probes asked_before) (probes_of_looks rows looks) in
-      leaves_as can_note may_ask may_probe gives lender (λ e. times e (removed_by_looks looks) ≡ 0) (λ e. IfSome found (λ body. e ≢ body.element))
+      leaves_as terms (λ e. times e (removed_by_looks looks) ≡ 0) (λ e. IfSome found (λ body. e ≢ body.element))
       (length looks + length (probes_of_looks rows looks)) ((length (calls asked_now) - length (calls asked_before)) + (length (probes asked_now) - length (probes asked_before))) asked_before asked_now
-      (found_stays (gives asked_now) (removed_by_looks looks) found answer) (omega arith) did.leaves
+      (found_stays (terms.gives asked_now) (removed_by_looks looks) found answer) (omega arith) did.leaves
 
-  tries_search : {notes notes_now : Noted Try} {at : Option Row} (tries : List Try) (found : Option Stored) → Tried can_note may_ask may_probe gives lender calls probes rows asked_before asked_now notes notes_now tries → Walked rows (map try_element tries) at →
-      AreUnsparing rows tries → IsFound (gives asked_now) (removed_by_tries tries) found → IfSome found (λ body. IsIn body.element (elements_of rows)) →
-      UnsparingSearch rows (probes asked_before) (probes asked_now) (gives asked_now) notes notes_now found
+  tries_search : {notes notes_now : Noted Try} {at : Option Row} (tries : List Try) (found : Option Stored) → Tried terms calls probes rows asked_before asked_now notes notes_now tries → Walked rows (map try_element tries) at →
+      AreUnsparing rows tries → IsFound (terms.gives asked_now) (removed_by_tries tries) found → IfSome found (λ body. IsIn body.element (elements_of rows)) →
+      UnsparingSearch rows (terms.gives asked_now) (moment calls probes asked_before notes) (moment calls probes asked_now notes_now) found
   tries_search tries found did walk are answer there = record {
     tries = tries;
     are = are;
     few = let few = few_walked walk in let long = length-map tries try_element in omega arith;
+    asked = did.asked;
     probed = did.probed;
     noted = did.noted;
     answer = answer;
     there = there;
   }
 
-  tries_leave : {notes notes_now : Noted Try} (tries : List Try) (found : Option Stored) → Tried can_note may_ask may_probe gives lender calls probes rows asked_before asked_now notes notes_now tries →
-      IsFound (gives asked_now) (removed_by_tries tries) found →
-      LeavesBut (λ e. IfSome found (λ body. e ≢ body.element)) can_note may_ask may_probe gives lender (length (probes asked_now) - length (probes asked_before)) asked_before asked_now
+  tries_leave : {notes notes_now : Noted Try} (tries : List Try) (found : Option Stored) → Tried terms calls probes rows asked_before asked_now notes notes_now tries →
+      IsFound (terms.gives asked_now) (removed_by_tries tries) found →
+      LeavesBut terms (λ e. IfSome found (λ body. e ≢ body.element)) (length (probes asked_now) - length (probes asked_before)) asked_before asked_now
   tries_leave tries found did answer =
       let long = ap (length {A = ProbeCall}) did.probed ∙ length-append (probes asked_before) (probes_of_tries rows tries) ∙ ap (λ (n : ℕ). length (probes asked_before) + n) (length-map tries _) in
-      leaves_as can_note may_ask may_probe gives lender (λ e. times e (removed_by_tries tries) ≡ 0) (λ e. IfSome found (λ body. e ≢ body.element))
+      leaves_as terms (λ e. times e (removed_by_tries tries) ≡ 0) (λ e. IfSome found (λ body. e ≢ body.element))
       (length tries) (length (probes asked_now) - length (probes asked_before)) asked_before asked_now
-      (found_stays (gives asked_now) (removed_by_tries tries) found answer) (omega arith) did.leaves
+      (found_stays (terms.gives asked_now) (removed_by_tries tries) found answer) (omega arith) did.leaves
 
 module _ {X : Type 0} (element : X → ℕ) (rows : List Row) (items : List X) where
   rows_gone_by : {at : Option Row} → Walked rows (map element items) at → map element items ≡ elements_of (take (length items) (reverse rows))
@@ -176,27 +181,27 @@ module _ {X : Type 0} (element : X → ℕ) (rows : List Row) (items : List X) w
   one_more {at_then = at_then} item walk once here named next = subst (λ (elements : List ℕ). Walked rows elements at_then) (sym (map-append element items (item ∷ []))) (walked_more walk here once named next)
 
 -- The search that spares set bits, at the next row
-module _ {Asked : Type 0} {can_note may_ask : Asked → ℕ → Type 0} {may_probe : Asked → Row → Type 0} {gives : Asked → Stored → Type 0} {lender : Asked → ℕ} {calls : Asked → List BitCall} {probes : Asked → List ProbeCall}
+module _ {Asked : Type 0} {terms : Terms Asked} {calls : Asked → List BitCall} {probes : Asked → List ProbeCall}
     {rows : List Row} {asked_before asked_now : Asked} {notes notes_now : Noted Look} {at : Option Row} {i : ℕ} {row : Row}
-    (so_far : Sparing can_note may_ask may_probe gives lender calls probes rows asked_before asked_now notes notes_now at i) (once : AreOnce rows) (here : at ≡ Some row) where
-  pub look_noted : can_note asked_before (2 * length rows) → ((m n : ℕ) → m ≤ n → can_note asked_now n → can_note asked_now m) → can_note asked_now 2
+    (so_far : Sparing terms calls probes rows asked_before asked_now notes notes_now at i) (once : AreOnce rows) (here : at ≡ Some row) where
+  pub look_noted : terms.can_note asked_before (2 * length rows) → ((m n : ℕ) → m ≤ n → terms.can_note asked_now n → terms.can_note asked_now m) → terms.can_note asked_now 2
   look_noted can fewer =
       let below = fewer_items look_element rows so_far.looks so_far.walk here in
       let few = few_probes rows so_far.looks in
       fewer 2 (2 * length rows - (length so_far.looks + length (probes_of_looks rows so_far.looks))) (omega arith) (so_far.did.leaves.noted (2 * length rows) can)
 
-  pub look_asked : ((e : ℕ) → IsIn e (elements_of rows) → may_ask asked_before e) → may_ask asked_now row.element
+  pub look_asked : ((e : ℕ) → IsIn e (elements_of rows) → terms.may_ask asked_before e) → terms.may_ask asked_now row.element
   look_asked may = so_far.did.leaves.asked row.element (may row.element (row_is_in so_far.walk here))
 
-  pub look_probed : ((r : Row) → row_of r.element rows ≡ Some r → may_probe asked_before r) → may_probe asked_now row
+  pub look_probed : ((r : Row) → row_of r.element rows ≡ Some r → terms.may_probe asked_before r) → terms.may_probe asked_now row
   look_probed may = so_far.did.leaves.probing row (ap (times row.element) (held_none look_element look_removed so_far.looks so_far.held)) (may row (its_row so_far.walk here once))
 
   -- after one more look
   module _ {asked_then : Asked} (notes_then : Noted Look) (look : Look) (named : look.element ≡ row.element) (bit : is_some look.probed ≡ not look.bit)
       (call : calls asked_then ≡ calls asked_now ++ bits_read (look ∷ [])) (probe : probes asked_then ≡ probes asked_now ++ probes_of_looks (row ∷ []) (look ∷ []))
-      (only : LeavesBut (λ e. times e (removed_by_looks (look ∷ [])) ≡ 0) can_note may_ask may_probe gives lender (1 + length (probes_of_looks (row ∷ []) (look ∷ []))) asked_now asked_then)
-      (noted : AreNoted (look ∷ []) notes_now notes_then) (found : Option Stored) (answer : IsFound (gives asked_then) (removed_by_looks (look ∷ [])) found) where
-    looked : Looked can_note may_ask may_probe gives lender calls probes rows asked_before asked_then notes notes_then (so_far.looks ++ look ∷ [])
+      (only : LeavesBut terms (λ e. times e (removed_by_looks (look ∷ [])) ≡ 0) (1 + length (probes_of_looks (row ∷ []) (look ∷ []))) asked_now asked_then)
+      (noted : AreNoted (look ∷ []) notes_now notes_then) (found : Option Stored) (answer : IsFound (terms.gives asked_then) (removed_by_looks (look ∷ [])) found) where
+    looked : Looked terms calls probes rows asked_before asked_then notes notes_then (so_far.looks ++ look ∷ [])
     looked =
         let looks : List Look = so_far.looks in
         let alike : probes_of_looks (row ∷ []) (look ∷ []) ≡ probes_of_looks rows (look ∷ []) =
@@ -215,29 +220,29 @@ module _ {Asked : Type 0} {can_note may_ask : Asked → ℕ → Type 0} {may_pro
               let longer = length-append looks (look ∷ []) in
               let probes_longer = ap (length {A = ProbeCall}) both ∙ length-append (probes_of_looks rows looks) (probes_of_looks rows (look ∷ [])) in
               let same_number = ap (length {A = ProbeCall}) alike in
-              leaves_more can_note may_ask may_probe gives lender (λ e. times e (removed_by_looks looks) ≡ 0) (λ e. times e (removed_by_looks (look ∷ [])) ≡ 0) (λ e. times e (removed_by_looks (looks ++ look ∷ [])) ≡ 0)
+              leaves_more terms (λ e. times e (removed_by_looks looks) ≡ 0) (λ e. times e (removed_by_looks (look ∷ [])) ≡ 0) (λ e. times e (removed_by_looks (looks ++ look ∷ [])) ≡ 0)
               (length looks + length (probes_of_looks rows looks)) (1 + length (probes_of_looks (row ∷ []) (look ∷ []))) (length (looks ++ look ∷ []) + length (probes_of_looks rows (looks ++ look ∷ [])))
               asked_before asked_now asked_then
               (λ e none. let more = times_push look_element look_removed e looks look in omega arith) (λ e none. let more = times_push look_element look_removed e looks look in omega arith) (omega arith) so_far.did.leaves only;
         }
 
     -- one that removed nothing
-    pub sparing_more : {at_then : Option Row} → at_then ≡ row_before row.element rows → is_some found ≡ false → Sparing can_note may_ask may_probe gives lender calls probes rows asked_before asked_then notes notes_then at_then (i + 1)
+    pub sparing_more : {at_then : Option Row} → at_then ≡ row_before row.element rows → is_some found ≡ false → Sparing terms calls probes rows asked_before asked_then notes notes_then at_then (i + 1)
     sparing_more next none = record {
       looks = so_far.looks ++ look ∷ [];
       walk = one_more look_element rows so_far.looks look so_far.walk once here named next;
-      held = All-push (λ (l : Look). look_removed l ≡ false) so_far.looks look so_far.held (one_held look_element look_removed look (found_none (gives asked_then) (removed_by_looks (look ∷ [])) found none answer));
+      held = All-push (λ (l : Look). look_removed l ≡ false) so_far.looks look so_far.held (one_held look_element look_removed look (found_none (terms.gives asked_then) (removed_by_looks (look ∷ [])) found none answer));
       many = length-append so_far.looks (look ∷ []) ∙ ap (λ (n : ℕ). n + 1) so_far.many;
       did = looked;
     }
 
     -- one that removed its element
-    answer_then : IsFound (gives asked_then) (removed_by_looks (so_far.looks ++ look ∷ [])) found
-    answer_then = subst (λ (elements : List ℕ). IsFound (gives asked_then) elements found) (sym (removed_last look_element look_removed so_far.looks look so_far.held)) answer
+    answer_then : IsFound (terms.gives asked_then) (removed_by_looks (so_far.looks ++ look ∷ [])) found
+    answer_then = subst (λ (elements : List ℕ). IsFound (terms.gives asked_then) elements found) (sym (removed_last look_element look_removed so_far.looks look so_far.held)) answer
 
-    pub sparing_found : is_some found ≡ true → SparingSearch rows (calls asked_before) (calls asked_then) (probes asked_before) (probes asked_then) (gives asked_then) notes notes_then found
+    pub sparing_found : is_some found ≡ true → SparingSearch rows (terms.gives asked_then) (moment calls probes asked_before notes) (moment calls probes asked_then notes_then) found
     sparing_found some =
-        let body = found_some (gives asked_then) (removed_by_looks (look ∷ [])) found some answer in
+        let body = found_some (terms.gives asked_then) (removed_by_looks (look ∷ [])) found some answer in
         let walk = one_more look_element rows so_far.looks look so_far.walk once here named refl in
         looks_search (so_far.looks ++ look ∷ []) found looked walk
         (record {
@@ -247,17 +252,17 @@ module _ {Asked : Type 0} {can_note may_ask : Asked → ℕ → Type 0} {may_pro
         })
         answer_then (found_there rows found body.0 body.1 (sym ((one_removed look_element look_removed look body.0.element body.2).1) ∙ named) (row_is_in so_far.walk here))
 
-    pub sparing_found_leaves : LeavesBut (λ e. IfSome found (λ body. e ≢ body.element)) can_note may_ask may_probe gives lender ((length (calls asked_then) - length (calls asked_before)) + (length (probes asked_then) - length (probes asked_before))) asked_before asked_then
+    pub sparing_found_leaves : LeavesBut terms (λ e. IfSome found (λ body. e ≢ body.element)) ((length (calls asked_then) - length (calls asked_before)) + (length (probes asked_then) - length (probes asked_before))) asked_before asked_then
     sparing_found_leaves = looks_leave (so_far.looks ++ look ∷ []) found looked answer_then
 
 -- at its end, where nothing was removed
-module _ {Asked : Type 0} {can_note may_ask : Asked → ℕ → Type 0} {may_probe : Asked → Row → Type 0} {gives : Asked → Stored → Type 0} {lender : Asked → ℕ} {calls : Asked → List BitCall} {probes : Asked → List ProbeCall}
+module _ {Asked : Type 0} {terms : Terms Asked} {calls : Asked → List BitCall} {probes : Asked → List ProbeCall}
     {rows : List Row} {asked_before asked_now : Asked} {notes notes_now : Noted Look} {at : Option Row} {i : ℕ}
-    (so_far : Sparing can_note may_ask may_probe gives lender calls probes rows asked_before asked_now notes notes_now at i) where
+    (so_far : Sparing terms calls probes rows asked_before asked_now notes notes_now at i) where
   none_looked : removed_by_looks so_far.looks ≡ []
   none_looked = held_none look_element look_removed so_far.looks so_far.held
 
-  pub sparing_all : (i ≡ length rows) ⊎ (at ≡ None) → SparingSearch rows (calls asked_before) (calls asked_now) (probes asked_before) (probes asked_now) (gives asked_now) notes notes_now None
+  pub sparing_all : (i ≡ length rows) ⊎ (at ≡ None) → SparingSearch rows (terms.gives asked_now) (moment calls probes asked_before notes) (moment calls probes asked_now notes_now) None
   sparing_all done =
       looks_search so_far.looks None so_far.did so_far.walk
       (record {
@@ -267,27 +272,27 @@ module _ {Asked : Type 0} {can_note may_ask : Asked → ℕ → Type 0} {may_pro
       })
       none_looked tt
 
-  pub sparing_all_leaves : LeavesBut (λ e. IfSome {T = Stored} None (λ body. e ≢ body.element)) can_note may_ask may_probe gives lender ((length (calls asked_now) - length (calls asked_before)) + (length (probes asked_now) - length (probes asked_before))) asked_before asked_now
+  pub sparing_all_leaves : LeavesBut terms (λ e. IfSome {T = Stored} None (λ body. e ≢ body.element)) ((length (calls asked_now) - length (calls asked_before)) + (length (probes asked_now) - length (probes asked_before))) asked_before asked_now
   sparing_all_leaves = looks_leave so_far.looks None so_far.did none_looked
 
 -- The search that spares none, at the next row
-module _ {Asked : Type 0} {can_note may_ask : Asked → ℕ → Type 0} {may_probe : Asked → Row → Type 0} {gives : Asked → Stored → Type 0} {lender : Asked → ℕ} {calls : Asked → List BitCall} {probes : Asked → List ProbeCall}
+module _ {Asked : Type 0} {terms : Terms Asked} {calls : Asked → List BitCall} {probes : Asked → List ProbeCall}
     {rows : List Row} {asked_before asked_now : Asked} {notes notes_now : Noted Try} {at : Option Row} {i : ℕ} {row : Row}
-    (so_far : Unsparing can_note may_ask may_probe gives lender calls probes rows asked_before asked_now notes notes_now at i) (once : AreOnce rows) (here : at ≡ Some row) where
-  pub try_noted : can_note asked_before (length rows) → ((m n : ℕ) → m ≤ n → can_note asked_now n → can_note asked_now m) → can_note asked_now 1
+    (so_far : Unsparing terms calls probes rows asked_before asked_now notes notes_now at i) (once : AreOnce rows) (here : at ≡ Some row) where
+  pub try_noted : terms.can_note asked_before (length rows) → ((m n : ℕ) → m ≤ n → terms.can_note asked_now n → terms.can_note asked_now m) → terms.can_note asked_now 1
   try_noted can fewer =
       let below = fewer_items try_element rows so_far.tries so_far.walk here in
       fewer 1 (length rows - length so_far.tries) (omega arith) (so_far.did.leaves.noted (length rows) can)
 
-  pub try_probed : ((r : Row) → row_of r.element rows ≡ Some r → may_probe asked_before r) → may_probe asked_now row
+  pub try_probed : ((r : Row) → row_of r.element rows ≡ Some r → terms.may_probe asked_before r) → terms.may_probe asked_now row
   try_probed may = so_far.did.leaves.probing row (ap (times row.element) (held_none try_element try_removed so_far.tries so_far.held)) (may row (its_row so_far.walk here once))
 
   -- after one more try
   module _ {asked_then : Asked} (notes_then : Noted Try) (try : Try) (named : try.element ≡ row.element)
       (called : calls asked_then ≡ calls asked_now) (probe : probes asked_then ≡ probes asked_now ++ record { element = row.element; hash = row.hash; probed = try.probed } ∷ [])
-      (only : LeavesBut (λ e. times e (removed_by_tries (try ∷ [])) ≡ 0) can_note may_ask may_probe gives lender 1 asked_now asked_then)
-      (noted : AreNoted (try ∷ []) notes_now notes_then) (found : Option Stored) (answer : IsFound (gives asked_then) (removed_by_tries (try ∷ [])) found) where
-    tried : Tried can_note may_ask may_probe gives lender calls probes rows asked_before asked_then notes notes_then (so_far.tries ++ try ∷ [])
+      (only : LeavesBut terms (λ e. times e (removed_by_tries (try ∷ [])) ≡ 0) 1 asked_now asked_then)
+      (noted : AreNoted (try ∷ []) notes_now notes_then) (found : Option Stored) (answer : IsFound (terms.gives asked_then) (removed_by_tries (try ∷ [])) found) where
+    tried : Tried terms calls probes rows asked_before asked_then notes notes_then (so_far.tries ++ try ∷ [])
     tried =
         let tries : List Try = so_far.tries in
         let alike : record { element = row.element; hash = row.hash; probed = try.probed } ≡ probe_by rows try.element try.probed = rw (named, its_row so_far.walk here once) refl in
@@ -299,28 +304,28 @@ module _ {Asked : Type 0} {can_note may_ask : Asked → ℕ → Type 0} {may_pro
               ∙ append_assoc (probes asked_before) (probes_of_tries rows tries) (probes_of_tries rows (try ∷ [])) ∙ ap (λ (xs : List ProbeCall). probes asked_before ++ xs) (sym both);
           noted = noted_more tries (try ∷ []) notes notes_now notes_then so_far.did.noted noted;
           leaves =
-              leaves_more can_note may_ask may_probe gives lender (λ e. times e (removed_by_tries tries) ≡ 0) (λ e. times e (removed_by_tries (try ∷ [])) ≡ 0) (λ e. times e (removed_by_tries (tries ++ try ∷ [])) ≡ 0)
+              leaves_more terms (λ e. times e (removed_by_tries tries) ≡ 0) (λ e. times e (removed_by_tries (try ∷ [])) ≡ 0) (λ e. times e (removed_by_tries (tries ++ try ∷ [])) ≡ 0)
               (length tries) 1 (length (tries ++ try ∷ [])) asked_before asked_now asked_then
               (λ e none. let more = times_push try_element try_removed e tries try in omega arith) (λ e none. let more = times_push try_element try_removed e tries try in omega arith) (sym (length-append tries (try ∷ []))) so_far.did.leaves only;
         }
 
     -- one that removed nothing
-    pub unsparing_more : {at_then : Option Row} → at_then ≡ row_before row.element rows → is_some found ≡ false → Unsparing can_note may_ask may_probe gives lender calls probes rows asked_before asked_then notes notes_then at_then (i + 1)
+    pub unsparing_more : {at_then : Option Row} → at_then ≡ row_before row.element rows → is_some found ≡ false → Unsparing terms calls probes rows asked_before asked_then notes notes_then at_then (i + 1)
     unsparing_more next none = record {
       tries = so_far.tries ++ try ∷ [];
       walk = one_more try_element rows so_far.tries try so_far.walk once here named next;
-      held = All-push (λ (t : Try). try_removed t ≡ false) so_far.tries try so_far.held (one_held try_element try_removed try (found_none (gives asked_then) (removed_by_tries (try ∷ [])) found none answer));
+      held = All-push (λ (t : Try). try_removed t ≡ false) so_far.tries try so_far.held (one_held try_element try_removed try (found_none (terms.gives asked_then) (removed_by_tries (try ∷ [])) found none answer));
       many = length-append so_far.tries (try ∷ []) ∙ ap (λ (n : ℕ). n + 1) so_far.many;
       did = tried;
     }
 
     -- one that removed its element
-    answer_so : IsFound (gives asked_then) (removed_by_tries (so_far.tries ++ try ∷ [])) found
-    answer_so = subst (λ (elements : List ℕ). IsFound (gives asked_then) elements found) (sym (removed_last try_element try_removed so_far.tries try so_far.held)) answer
+    answer_so : IsFound (terms.gives asked_then) (removed_by_tries (so_far.tries ++ try ∷ [])) found
+    answer_so = subst (λ (elements : List ℕ). IsFound (terms.gives asked_then) elements found) (sym (removed_last try_element try_removed so_far.tries try so_far.held)) answer
 
-    pub unsparing_found : is_some found ≡ true → UnsparingSearch rows (probes asked_before) (probes asked_then) (gives asked_then) notes notes_then found
+    pub unsparing_found : is_some found ≡ true → UnsparingSearch rows (terms.gives asked_then) (moment calls probes asked_before notes) (moment calls probes asked_then notes_then) found
     unsparing_found some =
-        let body = found_some (gives asked_then) (removed_by_tries (try ∷ [])) found some answer in
+        let body = found_some (terms.gives asked_then) (removed_by_tries (try ∷ [])) found some answer in
         let walk = one_more try_element rows so_far.tries try so_far.walk once here named refl in
         tries_search (so_far.tries ++ try ∷ []) found tried walk
         (record {
@@ -329,17 +334,17 @@ module _ {Asked : Type 0} {can_note may_ask : Asked → ℕ → Type 0} {may_pro
         })
         answer_so (found_there rows found body.0 body.1 (sym ((one_removed try_element try_removed try body.0.element body.2).1) ∙ named) (row_is_in so_far.walk here))
 
-    pub unsparing_found_leaves : LeavesBut (λ e. IfSome found (λ body. e ≢ body.element)) can_note may_ask may_probe gives lender (length (probes asked_then) - length (probes asked_before)) asked_before asked_then
+    pub unsparing_found_leaves : LeavesBut terms (λ e. IfSome found (λ body. e ≢ body.element)) (length (probes asked_then) - length (probes asked_before)) asked_before asked_then
     unsparing_found_leaves = tries_leave (so_far.tries ++ try ∷ []) found tried answer_so
 
 -- at its end, where nothing was removed
-module _ {Asked : Type 0} {can_note may_ask : Asked → ℕ → Type 0} {may_probe : Asked → Row → Type 0} {gives : Asked → Stored → Type 0} {lender : Asked → ℕ} {calls : Asked → List BitCall} {probes : Asked → List ProbeCall}
+module _ {Asked : Type 0} {terms : Terms Asked} {calls : Asked → List BitCall} {probes : Asked → List ProbeCall}
     {rows : List Row} {asked_before asked_now : Asked} {notes notes_now : Noted Try} {at : Option Row} {i : ℕ}
-    (so_far : Unsparing can_note may_ask may_probe gives lender calls probes rows asked_before asked_now notes notes_now at i) where
+    (so_far : Unsparing terms calls probes rows asked_before asked_now notes notes_now at i) where
   none_tried : removed_by_tries so_far.tries ≡ []
   none_tried = held_none try_element try_removed so_far.tries so_far.held
 
-  pub unsparing_all : (i ≡ length rows) ⊎ (at ≡ None) → UnsparingSearch rows (probes asked_before) (probes asked_now) (gives asked_now) notes notes_now None
+  pub unsparing_all : (i ≡ length rows) ⊎ (at ≡ None) → UnsparingSearch rows (terms.gives asked_now) (moment calls probes asked_before notes) (moment calls probes asked_now notes_now) None
   unsparing_all done =
       tries_search so_far.tries None so_far.did so_far.walk
       (record {
@@ -348,5 +353,5 @@ module _ {Asked : Type 0} {can_note may_ask : Asked → ℕ → Type 0} {may_pro
       })
       none_tried tt
 
-  pub unsparing_all_leaves : LeavesBut (λ e. IfSome {T = Stored} None (λ body. e ≢ body.element)) can_note may_ask may_probe gives lender (length (probes asked_now) - length (probes asked_before)) asked_before asked_now
+  pub unsparing_all_leaves : LeavesBut terms (λ e. IfSome {T = Stored} None (λ body. e ≢ body.element)) (length (probes asked_now) - length (probes asked_before)) asked_before asked_now
   unsparing_all_leaves = tries_leave so_far.tries None so_far.did none_tried

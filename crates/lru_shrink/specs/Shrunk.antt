@@ -19,6 +19,7 @@ use Rattle.lru_lists.specs.declared.bits.ProbeCall.{ProbeCall}
 use Rattle.lru_lists.specs.declared.name.ListName.TheVariants.{Active}
 use Rattle.lru_lists.specs.declared.notes.Noted.{Noted}
 use Rattle.lru_lists.specs.declared.notes.ShrinkNotes.{ShrinkNotes}
+use Rattle.lru_shrink.specs.Asking.{Questions}
 
 -- the calls that clear a bit, one for each look
 abbrev pub cleared : List Look → List BitCall
@@ -74,36 +75,42 @@ after_look look set =
 abbrev pub after_try : Try → SetView → SetView
 after_try try set = if try_removed try then taken_off try.element set else set
 
+-- A moment of a shrink: the set, what was asked so far, the stack that takes the bodies, and the notes.
+pub record ShrinkMoment (Notes : Type 0) : Type 0 where
+  pub set : SetView
+  pub asked : Questions
+  pub out : BodyList
+  pub notes : Notes
+
 -- The first part of a shrink: looks, and what they did. The answer is how many they removed.
-pub record LooksPart (scans target : ℕ) (before after : SetView) (calls calls_after : List BitCall) (probes probes_after : List ProbeCall)
-    (gives : Stored → Type 0) (out out_after : BodyList) (notes notes_after : Noted Look) (answer : ℕ) : Type 0 where
+pub record LooksPart (scans target : ℕ) (gives : Stored → Type 0) (before after : ShrinkMoment (Noted Look)) (answer : ℕ) : Type 0 where
   pub looks : List Look
-  pub looked : AreLooks scans target (listed before) looks
-  pub set : after ≡ with_listed (after_looks (listed before) looks) before
-  pub left : AreStacked gives (removed_by_looks looks) out out_after
+  pub looked : AreLooks scans target (listed before.set) looks
+  pub set : after.set ≡ with_listed (after_looks (listed before.set) looks) before.set
+  pub left : AreStacked gives (removed_by_looks looks) before.out after.out
   pub count : answer ≡ count_by look_removed looks
   pub enough : answer ≤ target
-  pub asked : calls_after ≡ calls ++ cleared looks
-  pub probed : probes_after ≡ probes ++ look_probes before looks
-  pub noted : AreNoted looks notes notes_after
-  pub rows : (e : ℕ) → times_listed e after + times e (removed_by_looks looks) ≡ times_listed e before
-  pub same_rows : (e : ℕ) → times e (removed_by_looks looks) ≡ 0 → row_on e after ≡ row_on e before
-  pub number : (length after.active + length after.inactive) + answer ≡ length before.active + length before.inactive
+  pub asked : after.asked.calls ≡ before.asked.calls ++ cleared looks
+  pub probed : after.asked.probes ≡ before.asked.probes ++ look_probes before.set looks
+  pub noted : AreNoted looks before.notes after.notes
+  pub rows : (e : ℕ) → times_listed e after.set + times e (removed_by_looks looks) ≡ times_listed e before.set
+  pub same_rows : (e : ℕ) → times e (removed_by_looks looks) ≡ 0 → row_on e after.set ≡ row_on e before.set
+  pub number : (length after.set.active + length after.set.inactive) + answer ≡ length before.set.active + length before.set.inactive
 
--- The second part: tries by force, and what they did.
-pub record TriesPart (before after : SetView) (probes probes_after : List ProbeCall)
-    (gives : Stored → Type 0) (out out_after : BodyList) (notes notes_after : Noted Try) (answer : ℕ) : Type 0 where
+-- The second part: tries by force, and what they did. No bit is asked for.
+pub record TriesPart (gives : Stored → Type 0) (before after : ShrinkMoment (Noted Try)) (answer : ℕ) : Type 0 where
   pub tries : List Try
-  pub tried : AreTries (listed before) tries
-  pub set : after ≡ with_listed (after_tries (listed before) tries) before
-  pub left : AreStacked gives (removed_by_tries tries) out out_after
+  pub tried : AreTries (listed before.set) tries
+  pub set : after.set ≡ with_listed (after_tries (listed before.set) tries) before.set
+  pub left : AreStacked gives (removed_by_tries tries) before.out after.out
   pub count : answer ≡ count_by try_removed tries
   pub one : answer ≤ 1
-  pub probed : probes_after ≡ probes ++ try_probes before tries
-  pub noted : AreNoted tries notes notes_after
-  pub rows : (e : ℕ) → times_listed e after + times e (removed_by_tries tries) ≡ times_listed e before
-  pub same_rows : (e : ℕ) → times e (removed_by_tries tries) ≡ 0 → row_on e after ≡ row_on e before
-  pub number : (length after.active + length after.inactive) + answer ≡ length before.active + length before.inactive
+  pub asked : after.asked.calls ≡ before.asked.calls
+  pub probed : after.asked.probes ≡ before.asked.probes ++ try_probes before.set tries
+  pub noted : AreNoted tries before.notes after.notes
+  pub rows : (e : ℕ) → times_listed e after.set + times e (removed_by_tries tries) ≡ times_listed e before.set
+  pub same_rows : (e : ℕ) → times e (removed_by_tries tries) ≡ 0 → row_on e after.set ≡ row_on e before.set
+  pub number : (length after.set.active + length after.set.inactive) + answer ≡ length before.set.active + length before.set.inactive
 
 -- An element whose bit was set is never evicted while another one within the scan limit whose bit wasn't could be removed.
 -- `bits` says of each element looked at whether its look found the bit set, and `removable` which elements a probe removes.
@@ -114,25 +121,24 @@ SparesUsed scans set looks forced =
     (evicted other : ℕ) → IsIn evicted (freed looks forced) → IsTrue (bits evicted) →
     IsIn other (elements_of (take scans (reverse set.inactive))) → bits other ≡ false → removable other ≡ false
 
--- A shrink of a set, by the calls for bits and the probes before and after it, by the stack that takes the bodies, by its
--- notes and by its answer. What the looks and the tries found alone says where each row goes. Each look is one call that
--- clears the bit, and each look whose bit wasn't set and each try is one probe.
-pub record Shrink (scans target : ℕ) (before after : SetView) (calls calls_after : List BitCall) (probes probes_after : List ProbeCall)
-    (gives : Stored → Type 0) (out out_after : BodyList) (notes notes_after : ShrinkNotes) (answer : ℕ) : Type 0 where
+-- A shrink of a set, by the moments before and after it and by its answer. What the looks and the tries found alone says
+-- where each row goes. Each look is one call that clears the bit, and each look whose bit wasn't set and each try is one
+-- probe. `gives` is known of each body that came on the stack.
+pub record Shrink (scans target : ℕ) (gives : Stored → Type 0) (before after : ShrinkMoment ShrinkNotes) (answer : ℕ) : Type 0 where
   pub looks : List Look
   pub forced : List Try
-  pub shrinks : IsShrink scans target (listed before) looks forced
-  pub set : after ≡ with_listed (shrunk (listed before) looks forced) before
-  pub left : AreStacked gives (freed looks forced) out out_after
+  pub shrinks : IsShrink scans target (listed before.set) looks forced
+  pub set : after.set ≡ with_listed (shrunk (listed before.set) looks forced) before.set
+  pub left : AreStacked gives (freed looks forced) before.out after.out
   pub count : answer ≡ length (freed looks forced)
-  pub asked : calls_after ≡ calls ++ cleared looks
-  pub probed : probes_after ≡ probes ++ look_probes before looks ++ try_probes before forced
-  pub noted_looks : AreNoted looks notes.looks notes_after.looks
-  pub noted_forced : AreNoted forced notes.forced notes_after.forced
+  pub asked : after.asked.calls ≡ before.asked.calls ++ cleared looks
+  pub probed : after.asked.probes ≡ before.asked.probes ++ look_probes before.set looks ++ try_probes before.set forced
+  pub noted_looks : AreNoted looks before.notes.looks after.notes.looks
+  pub noted_forced : AreNoted forced before.notes.forced after.notes.forced
   pub few_looks : length looks ≤ scans
-  pub few_tries : length forced ≤ length (forced_rows (after_looks (listed before) looks))
+  pub few_tries : length forced ≤ length (forced_rows (after_looks (listed before.set) looks))
   pub enough : answer ≤ target
-  pub rows : (e : ℕ) → times_listed e after + times e (freed looks forced) ≡ times_listed e before
-  pub same_rows : (e : ℕ) → times e (freed looks forced) ≡ 0 → row_on e after ≡ row_on e before
-  pub number : (length after.active + length after.inactive) + answer ≡ length before.active + length before.inactive
-  pub spared : SparesUsed scans (listed before) looks forced
+  pub rows : (e : ℕ) → times_listed e after.set + times e (freed looks forced) ≡ times_listed e before.set
+  pub same_rows : (e : ℕ) → times e (freed looks forced) ≡ 0 → row_on e after.set ≡ row_on e before.set
+  pub number : (length after.set.active + length after.set.inactive) + answer ≡ length before.set.active + length before.set.inactive
+  pub spared : SparesUsed scans (listed before.set) looks forced

@@ -4,7 +4,7 @@ ghost use Rattle.std.specs.Prelude.{◌≡◌, ℕ, ◌-◌, ◌≤◌, length, 
 ghost use Rattle.place_words.specs.Shrinking.{forced_rows};
 ghost use Rattle.map_types.specs.declared.row.Row as row_record;
 ghost use Rattle.lru_lists.specs.Sets.{IsSet, row_on, rows_of, listed, times_listed};
-ghost use Rattle.lru_shrink.specs.Asking.{LeavesBut};
+ghost use Rattle.lru_shrink.specs.Asking.{LeavesBut, terms_of};
 ghost use Rattle.lru_shrink.specs.Shrunk.{TriesPart};
 
 use crate::search::search_all;
@@ -25,12 +25,24 @@ pub fn forced<R: Rows, P: Probe>(
     requires noted { P.can_note probe.old (length (forced_rows (listed set.old))) }
     requires probed { (row : row_record.Row) → row_on row.element set.old ≡ Some row
         → P.may_probe probe.old row }
-    ensures part { TriesPart set.old set.new (P.probes probe.old) (P.probes probe.new)
-        (P.gives probe.new) out.old out.new notes.old notes.new result }
+    ensures part { TriesPart (P.gives probe.new)
+        (record {
+          set = set.old;
+          out = out.old;
+          notes = notes.old;
+          asked = record { calls = P.calls probe.old; probes = P.probes probe.old };
+        })
+        (record {
+          set = set.new;
+          out = out.new;
+          notes = notes.new;
+          asked = record { calls = P.calls probe.new; probes = P.probes probe.new };
+        }) result }
     ensures calls { P.calls probe.new ≡ P.calls probe.old }
     ensures whole { IsSet set.new }
-    ensures only { LeavesBut (λ e. times_listed e set.new
-        ≡ times_listed e set.old) P.can_note P.may_ask P.may_probe P.gives P.lender
+    ensures only { LeavesBut
+        (terms_of P.can_note P.may_ask P.may_probe P.gives P.lender)
+        (λ e. times_listed e set.new ≡ times_listed e set.old)
         (length (P.probes probe.new) - length (P.probes probe.old)) probe.old probe.new }
 {
     let list = forced_list(set);

@@ -5,7 +5,7 @@ ghost use Rattle.map_types.specs.ElementLists.{times};
 ghost use Rattle.place_words.specs.Shrinking.{look_removed};
 ghost use Rattle.map_types.specs.declared.row.Row as row_record;
 ghost use Rattle.lru_lists.specs.Sets.{IsListed, IsSet, row_on, times_listed};
-ghost use Rattle.lru_shrink.specs.Asking.{LeavesBut};
+ghost use Rattle.lru_shrink.specs.Asking.{LeavesBut, terms_of};
 ghost use Rattle.lru_shrink.specs.Shrunk.{LooksPart, AreStacked, after_look, after_try, cleared, look_probes, removed_by_looks, removed_by_tries};
 
 use lru_lists::{ListName, ListSet, Noted, Probe, Probed};
@@ -28,13 +28,24 @@ pub fn looks<R: Rows, P: Probe>(
     requires asked { (e : ℕ) → IsListed e set.old → P.may_ask probe.old e }
     requires probed { (row : row_record.Row) → row_on row.element set.old ≡ Some row
         → P.may_probe probe.old row }
-    ensures part { LooksPart scans target set.old set.new (P.calls probe.old) (P.calls probe.new)
-        (P.probes probe.old) (P.probes probe.new)
-        (P.gives probe.new) out.old out.new notes.old notes.new result }
+    ensures part { LooksPart scans target (P.gives probe.new)
+        (record {
+          set = set.old;
+          out = out.old;
+          notes = notes.old;
+          asked = record { calls = P.calls probe.old; probes = P.probes probe.old };
+        })
+        (record {
+          set = set.new;
+          out = out.new;
+          notes = notes.new;
+          asked = record { calls = P.calls probe.new; probes = P.probes probe.new };
+        }) result }
     ensures was_whole { IsSet set.old }
     ensures whole { IsSet set.new }
-    ensures only { LeavesBut (λ e. times_listed e set.new
-        ≡ times_listed e set.old) P.can_note P.may_ask P.may_probe P.gives P.lender
+    ensures only { LeavesBut
+        (terms_of P.can_note P.may_ask P.may_probe P.gives P.lender)
+        (λ e. times_listed e set.new ≡ times_listed e set.old)
         ((length (P.calls probe.new) - length (P.calls probe.old))
         + (length (P.probes probe.new) - length (P.probes probe.old))) probe.old probe.new }
 {
@@ -76,8 +87,9 @@ fn look_once<R: Rows, P: Probe>(
     ensures probes { row_on row.element set.old ≡ Some row
         → P.probes probe.new ≡ P.probes probe.old ++ look_probes set.old (result ∷ []) }
     ensures whole { IsSet set.old → IsSet set.new }
-    ensures only { LeavesBut (λ e. times e (removed_by_looks (result ∷ []))
-        ≡ 0) P.can_note P.may_ask P.may_probe P.gives P.lender
+    ensures only { LeavesBut
+        (terms_of P.can_note P.may_ask P.may_probe P.gives P.lender)
+        (λ e. times e (removed_by_looks (result ∷ [])) ≡ 0)
         (1 + length (look_probes set.old (result ∷ []))) probe.old probe.new }
 {
     let bit = probe.clear(row.element);
@@ -116,8 +128,9 @@ fn try_once<R: Rows, P: Probe>(
         ≡ P.probes probe.old
         ++ record { element = row.element; hash = row.hash; probed = result.probed } ∷ [] }
     ensures whole { IsSet set.old → IsSet set.new }
-    ensures only { LeavesBut (λ e. times e (removed_by_tries (result ∷ []))
-        ≡ 0) P.can_note P.may_ask P.may_probe P.gives P.lender 1 probe.old probe.new }
+    ensures only { LeavesBut
+        (terms_of P.can_note P.may_ask P.may_probe P.gives P.lender)
+        (λ e. times e (removed_by_tries (result ∷ [])) ≡ 0) 1 probe.old probe.new }
 {
     let probed = match probe.evict(row.element, row.hash) {
         Probed::Removed(body) => {

@@ -6,7 +6,7 @@ ghost use Rattle.map_types.specs.ElementLists.{times, IsIn};
 ghost use Rattle.map_types.specs.Listed.{elements_of};
 ghost use Rattle.map_types.specs.declared.row.Row as row_record;
 ghost use Rattle.row_list.specs.RowWords.{row_of};
-ghost use Rattle.lru_shrink.specs.Asking.{LeavesBut};
+ghost use Rattle.lru_shrink.specs.Asking.{LeavesBut, terms_of};
 ghost use Rattle.lru_shrink.specs.Searches.{IsFound, SparingSearch, UnsparingSearch, bits_read};
 ghost use Rattle.lru_shrink.specs.Shrunk.{probes_of_looks, removed_by_looks, removed_by_tries};
 
@@ -29,12 +29,19 @@ pub fn search_sparing<R: Rows, P: Probe>(
     requires asked { (e : ℕ) → IsIn e (elements_of (R.rows rows.now)) → P.may_ask probe.old e }
     requires probed { (row : row_record.Row) → row_of row.element (R.rows rows.now) ≡ Some row
         → P.may_probe probe.old row }
-    ensures search { SparingSearch (R.rows rows.now) (P.calls probe.old) (P.calls probe.new)
-        (P.probes probe.old) (P.probes probe.new)
-        (P.gives probe.new) notes.old notes.new result }
+    ensures search { SparingSearch (R.rows rows.now) (P.gives probe.new)
+        (record {
+          asked = record { calls = P.calls probe.old; probes = P.probes probe.old };
+          notes = notes.old;
+        })
+        (record {
+          asked = record { calls = P.calls probe.new; probes = P.probes probe.new };
+          notes = notes.new;
+        }) result }
     // a row may be probed as before unless its element was removed
-    ensures only { LeavesBut (λ e. IfSome result
-        (λ body. e ≢ body.element)) P.can_note P.may_ask P.may_probe P.gives P.lender
+    ensures only { LeavesBut
+        (terms_of P.can_note P.may_ask P.may_probe P.gives P.lender)
+        (λ e. IfSome result (λ body. e ≢ body.element))
         ((length (P.calls probe.new) - length (P.calls probe.old))
         + (length (P.probes probe.new) - length (P.probes probe.old))) probe.old probe.new }
 {
@@ -65,11 +72,19 @@ pub fn search_all<R: Rows, P: Probe>(
     requires noted { P.can_note probe.old (length (R.rows rows.now)) }
     requires probed { (row : row_record.Row) → row_of row.element (R.rows rows.now) ≡ Some row
         → P.may_probe probe.old row }
-    ensures search { UnsparingSearch (R.rows rows.now) (P.probes probe.old) (P.probes probe.new)
-        (P.gives probe.new) notes.old notes.new result }
+    ensures search { UnsparingSearch (R.rows rows.now) (P.gives probe.new)
+        (record {
+          asked = record { calls = P.calls probe.old; probes = P.probes probe.old };
+          notes = notes.old;
+        })
+        (record {
+          asked = record { calls = P.calls probe.new; probes = P.probes probe.new };
+          notes = notes.new;
+        }) result }
     ensures calls { P.calls probe.new ≡ P.calls probe.old }
-    ensures only { LeavesBut (λ e. IfSome result
-        (λ body. e ≢ body.element)) P.can_note P.may_ask P.may_probe P.gives P.lender
+    ensures only { LeavesBut
+        (terms_of P.can_note P.may_ask P.may_probe P.gives P.lender)
+        (λ e. IfSome result (λ body. e ≢ body.element))
         (length (P.probes probe.new) - length (P.probes probe.old)) probe.old probe.new }
 {
     let mut at = rows.tail();
@@ -98,8 +113,9 @@ fn look_at<P: Probe>(probe: &mut P, row: Row) -> (Look, Option<BoxedBody>)
     ensures call { P.calls probe.new ≡ P.calls probe.old ++ bits_read (result.0 ∷ []) }
     ensures probes { P.probes probe.new
         ≡ P.probes probe.old ++ probes_of_looks (row ∷ []) (result.0 ∷ []) }
-    ensures only { LeavesBut (λ e. times e (removed_by_looks (result.0 ∷ []))
-        ≡ 0) P.can_note P.may_ask P.may_probe P.gives P.lender
+    ensures only { LeavesBut
+        (terms_of P.can_note P.may_ask P.may_probe P.gives P.lender)
+        (λ e. times e (removed_by_looks (result.0 ∷ [])) ≡ 0)
         (1 + length (probes_of_looks (row ∷ []) (result.0 ∷ []))) probe.old probe.new }
 {
     let bit = probe.read(row.element);
@@ -131,8 +147,9 @@ fn probe_row<P: Probe>(probe: &mut P, row: Row) -> (Try, Option<BoxedBody>)
     ensures probes { P.probes probe.new
         ≡ P.probes probe.old
         ++ record { element = row.element; hash = row.hash; probed = result.0.probed } ∷ [] }
-    ensures only { LeavesBut (λ e. times e (removed_by_tries (result.0 ∷ []))
-        ≡ 0) P.can_note P.may_ask P.may_probe P.gives P.lender 1 probe.old probe.new }
+    ensures only { LeavesBut
+        (terms_of P.can_note P.may_ask P.may_probe P.gives P.lender)
+        (λ e. times e (removed_by_tries (result.0 ∷ [])) ≡ 0) 1 probe.old probe.new }
 {
     let (probed, body) = match probe.evict(row.element, row.hash) {
         Probed::Removed(body) => (Seen::Removed, Some(body)),

@@ -3,7 +3,7 @@
 ghost use Rattle.std.specs.Prelude.{◌≡◌, ℕ, ◌+◌, ◌-◌, ◌*◌, ◌<◌, ◌≤◌, length, min, Some};
 ghost use Rattle.map_types.specs.declared.row.Row as row_record;
 ghost use Rattle.lru_lists.specs.Sets.{IsListed, IsSet, row_on, times_listed};
-ghost use Rattle.lru_shrink.specs.Asking.{LeavesBut};
+ghost use Rattle.lru_shrink.specs.Asking.{LeavesBut, terms_of};
 ghost use Rattle.lru_shrink.specs.Shrunk.{Shrink};
 
 use crate::forced::forced;
@@ -34,13 +34,24 @@ pub fn shrink<R: Rows, P: Probe>(
     requires asked { (e : ℕ) → IsListed e set.old → P.may_ask probe.old e }
     requires probed { (row : row_record.Row) → row_on row.element set.old ≡ Some row
         → P.may_probe probe.old row }
-    ensures shrink { Shrink scans target set.old set.new (P.calls probe.old) (P.calls probe.new)
-        (P.probes probe.old) (P.probes probe.new)
-        (P.gives probe.new) out.old out.new notes.old notes.new result }
+    ensures shrink { Shrink scans target (P.gives probe.new)
+        (record {
+          set = set.old;
+          out = out.old;
+          notes = notes.old;
+          asked = record { calls = P.calls probe.old; probes = P.probes probe.old };
+        })
+        (record {
+          set = set.new;
+          out = out.new;
+          notes = notes.new;
+          asked = record { calls = P.calls probe.new; probes = P.probes probe.new };
+        }) result }
     ensures whole { IsSet set.new }
     // a row may be probed as before unless its element left the set
-    ensures only { LeavesBut (λ e. times_listed e set.new
-        ≡ times_listed e set.old) P.can_note P.may_ask P.may_probe P.gives P.lender
+    ensures only { LeavesBut
+        (terms_of P.can_note P.may_ask P.may_probe P.gives P.lender)
+        (λ e. times_listed e set.new ≡ times_listed e set.old)
         ((length (P.calls probe.new) - length (P.calls probe.old))
         + (length (P.probes probe.new) - length (P.probes probe.old))) probe.old probe.new }
 {

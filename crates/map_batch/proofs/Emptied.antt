@@ -1,11 +1,11 @@
 -- Bodies that leave the bucket that is held one after another, head first, each for the freelist of the CPU.
-use Rattle.std.proofs.Common.{◌≡◌, ℕ, suc, ◌+◌, ◌<◌, ◌≤◌, cond, true, false, List, [], ◌∷◌, ◌++◌, length, map, take, drop, sym, refl, ap, ◌∙◌, subst, arith, Some, None}
+use Rattle.std.proofs.Common.{◌≡◌, ℕ, suc, ◌+◌, ◌<◌, ◌≤◌, cond, true, false, List, [], ◌∷◌, ◌++◌, length, map, take, drop, sym, refl, ap, ◌∙◌, subst, arith, Some}
 use Rattle.std.specs.Prelude.{All, not, slice_get, bytes_eq}
 use Rattle.std.specs.List.{position_or_len}
 use Rattle.std.proofs.lemmas.List.{map-append, append_assoc}
-use Rattle.std.proofs.lemmas.List.Elements.{All-head, All-tail}
+use Rattle.std.proofs.lemmas.List.Elements.{All-nil, All-head, All-tail}
 use Rattle.std.proofs.lemmas.Slice.Eq.{bytes_eq-Decides}
-use Rattle.map_types.specs.ElementLists.{times, without, IsIn}
+use Rattle.map_types.specs.ElementLists.{times, IsIn}
 use Rattle.map_types.specs.declared.attr.Shape.{Shape}
 use Rattle.map_types.specs.Kind.{is_lru}
 use Rattle.map_types.specs.Stored.{Stored, IsSized}
@@ -15,23 +15,24 @@ use Rattle.place_words.specs.Bodies.{numbers, has_key, without_key}
 use Rattle.place_words.specs.Histories.{in_bucket}
 use Rattle.place_words.specs.Turns.{Turn, on_freelist_of}
 use Rattle.place_words.specs.declared.step.Lists.{Lists}
-use Rattle.place_words.specs.Steps.{without_row}
 use Rattle.place_table.specs.declared.view.Turned.{Turned}
 use Rattle.place_table.specs.Contents.{lists_of}
 use Rattle.place_table.specs.InBucket.{InBucket}
-use Rattle.place_table.specs.Known.{turn_of}
+use Rattle.place_table.specs.Known.{IsBy, turn_of}
 use Rattle.place_table.specs.Passes.{PassView, TableView, Detached}
-use Rattle.place_table.specs.Views.{is_among, is_in_hand_of, without_in_hand}
+use Rattle.place_table.specs.Views.{is_among, is_in_hand_of, notes_below, with_in_hand, without_in_hand}
 use Rattle.place_table.proofs.Entries.{append_nil}
 use Rattle.place_table.proofs.Hands.{in_hand_more, hand_back}
 use Rattle.place_table.proofs.Worlds.{some_is, none_some}
-use Rattle.hash_ops.proofs.Under.{Under, under_nothing, under_detached, under_reached, can_detach, may_reach, body_real, not_in_hand}
+use Rattle.place_table.specs.BucketHeld.{Holds}
+use Rattle.place_table.proofs.BucketOut.{rows_here}
+use Rattle.place_table.proofs.BucketUnder.{Under, holds_bucket, under_nothing, under_detached, can_mark}
+use Rattle.hash_ops.proofs.Between.{Between, may_reach, holds_reached, between_nothing, between_reached, between_on}
+use Rattle.hash_ops.proofs.HandLemmas.{none_in_hand}
 use Rattle.map_batch.specs.PlainTakes.{CanPushOut, PushesOut, PushesAll}
+use Rattle.map_batch.proofs.LruOut.{without_head}
 
 -- A list whose first one goes
-
-without_first : (e : ℕ) (xs : List ℕ) → without e (e ∷ xs) ≡ xs
-without_first e xs = by_test e e (λ b. cond b xs (e ∷ without e xs) ≡ xs) (λ _. refl) (λ other. absurd (other refl))
 
 without_head_key : (body : Stored) (bodies : List Stored) → without_key body.key (body ∷ bodies) ≡ bodies
 without_head_key body bodies =
@@ -69,60 +70,73 @@ pushes_more cpu gone body =
 
 -- From where the bucket was taken: these bodies were pushed, each in a turn of the CPU's freelist, and these are left. The hands hold
 -- what they held.
-pub record Emptied (t : TableView) (bucket : ℕ) (q r : PassView) (bodies : List Stored) (b : InBucket t bucket q bodies) (gone left : List Stored) : Type 0 where
+pub record Emptied (t : TableView) (bucket : ℕ) (q r : PassView) (bodies gone left : List Stored) : Type 0 where
   pub inner : List Turned
   pub bodies_are : bodies ≡ gone ++ left
-  pub under : Under t b.hold b.below q r (lists_of (in_bucket left)) inner
+  pub holds : Holds t bucket r bodies (lists_of (in_bucket left)) []
+  pub between : Between t q r inner
   pub turns : map (turn_of t.shape) inner ≡ pushes_of q.cpu (numbers gone)
   pub spares : r.spares ≡ q.spares
   pub hands : (x c : ℕ) → is_in_hand_of x c r.view.hand ≡ is_in_hand_of x c q.view.hand
 
-emptied_none : {t : TableView} {bucket : ℕ} {q : PassView} {bodies : List Stored} (b : InBucket t bucket q bodies) → Emptied t bucket q q bodies b [] bodies
+emptied_none : {t : TableView} {bucket : ℕ} {q : PassView} {bodies : List Stored} → InBucket t bucket q bodies → Emptied t bucket q q bodies [] bodies
 emptied_none {t} {bucket} {q} {bodies} b = record {
   inner = [];
   bodies_are = refl;
-  under = subst (λ (l : Lists). Under t b.hold b.below q q l []) b.now (under_nothing t bucket q bodies b);
+  holds = holds_bucket b;
+  between = between_nothing t q;
   turns = refl;
   spares = refl;
   hands = λ _ _. refl;
 }
 
 -- One body more
-module _ {t : TableView} {bucket : ℕ} {q r : PassView} {bodies : List Stored} {b : InBucket t bucket q bodies} {gone left : List Stored} (body : Stored) (so_far : Emptied t bucket q r bodies b gone (body ∷ left)) where
+module _ {t : TableView} {bucket : ℕ} {q r : PassView} {bodies gone left : List Stored} (body : Stored) (so_far : Emptied t bucket q r bodies gone (body ∷ left)) where
   lies_there : IsIn body.element (numbers bodies)
   lies_there = subst (λ (l : List Stored). IsIn body.element (numbers l)) (sym so_far.bodies_are) (inside_behind gone left body)
 
   is_real : body.element < t.shape.elements
-  is_real = body_real t bucket q bodies b body.element lies_there
+  is_real = so_far.holds.elements.rows_real body.element (subst (λ (n : ℕ). 0 < n) (rows_here bodies body.element) lies_there)
 
   -- once it is in hand the bucket holds the others
-  under_out : (out : PassView) → Detached bucket body.element r out → Under t b.hold b.below q out (lists_of (in_bucket left)) so_far.inner
+  under_out : (out : PassView) → Detached bucket body.element r out → Under t bucket r out bodies (lists_of (in_bucket left)) [] (with_in_hand body.element r.cpu r.view.hand)
   under_out out is =
-      let now : without_row body.element (lists_of (in_bucket (body ∷ left))) ≡ lists_of (in_bucket left) = ap (λ (l : List ℕ). record { free = []; first = l; second = []; cursor = None }) (without_first body.element (numbers left)) in
-      subst (λ (l : Lists). Under t b.hold b.below q out l so_far.inner) now (under_detached t bucket q r out bodies b (lists_of (in_bucket (body ∷ left))) so_far.inner body.element so_far.under is)
+      subst (λ (l : Lists). Under t bucket r out bodies l [] (with_in_hand body.element r.cpu r.view.hand)) (without_head body left) (under_detached (under_nothing so_far.holds) body.element out is)
+
+  between_out : (out : PassView) → Detached bucket body.element r out → Between t r out []
+  between_out out is =
+      let u = under_out out is in record {
+        goes = u.goes;
+        notes = ap notes_below u.holds.notes ∙ u.below_is;
+        bits = ap (λ (z : PassView). z.view.bits) is.1;
+        carried = u.carried;
+        by_call = All-nil (IsBy r.cpu r.call);
+        learns = u.learns;
+      }
 
   pub can_push_out : CanPushOut t bucket body r
   can_push_out = record {
-    detach = can_detach t bucket q r bodies b (lists_of (in_bucket (body ∷ left))) so_far.inner body.element so_far.under (inside_behind [] left body) is_real;
+    detach = can_mark so_far.holds body.element (inside_behind [] left body) is_real;
     push = λ out is. record {
-      can = may_reach t bucket q out bodies b (lists_of (in_bucket left)) so_far.inner (under_out out is);
+      can = may_reach (under_out out is).holds;
       real = is_real;
-      sized = sized_behind t.shape gone left body (subst (All (IsSized t.shape)) so_far.bodies_are b.sized);
+      sized = sized_behind t.shape gone left body (subst (All (IsSized t.shape)) so_far.bodies_are so_far.holds.sized);
       in_hand = (λ i. is_in_hand_of body.element ((is.1 i).cpu) ((is.1 i).view.hand)) ∙ in_hand_more body.element r.cpu r.view.hand;
     };
   }
 
-  emptied_more : {s : PassView} → is_lru t.shape.kind ≡ false → PushesOut t bucket body r s → Emptied t bucket q s bodies b (gone ++ body ∷ []) left
-  emptied_more {s} plain one =
-      let cpu_is : r.cpu ≡ q.cpu = so_far.under.goes.cpu in
+  emptied_more : {s : PassView} → InBucket t bucket q bodies → is_lru t.shape.kind ≡ false → PushesOut t bucket body r s → Emptied t bucket q s bodies (gone ++ body ∷ []) left
+  emptied_more {s} b plain one =
+      let cpu_is : r.cpu ≡ q.cpu = so_far.between.goes.cpu in
       let mine : is_among r.cpu q.view.cpus ≡ true = ap (λ (c : ℕ). is_among c q.view.cpus) cpu_is ∙ b.begun in
-      let none : is_in_hand_of body.element r.cpu r.view.hand ≡ false = so_far.hands body.element r.cpu ∙ not_in_hand t bucket q bodies b body.element r.cpu plain mine lies_there in
+      let none : is_in_hand_of body.element r.cpu r.view.hand ≡ false = so_far.hands body.element r.cpu ∙ none_in_hand b body.element r.cpu plain mine lies_there in
       let turn : turn_of t.shape one.pushed.step ≡ on_freelist_of q.cpu (Pushed body.element) =
       one.pushed.turn ∙ (ap (λ (z : PassView). on_freelist_of z.cpu (Pushed body.element)) one.detached.1 ∙ ap (λ (c : ℕ). on_freelist_of c (Pushed body.element)) cpu_is) in
       record {
         inner = so_far.inner ++ one.pushed.step ∷ [];
         bodies_are = so_far.bodies_are ∙ sym (append_assoc gone (body ∷ []) left);
-        under = under_reached t bucket q one.out s bodies b (lists_of (in_bucket left)) so_far.inner (one.pushed.step ∷ []) (under_out one.out one.detached) one.pushed.reached;
+        holds = holds_reached (under_out one.out one.detached).holds s (one.pushed.step ∷ []) one.pushed.reached;
+        between = between_on so_far.between (between_on (between_out one.out one.detached) (between_reached one.pushed.reached));
         turns = map-append (turn_of t.shape) so_far.inner (one.pushed.step ∷ []) ∙ ((λ i. so_far.turns i ++ turn i ∷ []) ∙ sym (pushes_more q.cpu gone body));
         spares = one.pushed.reached.spares ∙ (ap (λ (z : PassView). z.spares) one.detached.1 ∙ so_far.spares);
         hands = λ x c.
@@ -130,12 +144,11 @@ module _ {t : TableView} {bucket : ℕ} {q r : PassView} {bodies : List Stored} 
             ∙ (hand_back body.element r.cpu r.view.hand none x c ∙ so_far.hands x c);
       }
 
-emptied_on : {t : TableView} {bucket : ℕ} {q r s : PassView} {bodies : List Stored} {b : InBucket t bucket q bodies} {gone : List Stored} (more left : List Stored) → is_lru t.shape.kind ≡ false → Emptied t bucket q r bodies b gone (more ++ left) → PushesAll t bucket more r s
-    → Emptied t bucket q s bodies b (gone ++ more) left
-emptied_on {t} {bucket} {q} {r} {s} {bodies} {b} {gone} [] left plain so_far same =
-    subst (λ (z : PassView × List Stored). Emptied t bucket q z.0 bodies b z.1 left) (λ i. (sym same i, sym (append_nil gone) i)) so_far
-emptied_on {t} {bucket} {q} {r} {s} {bodies} {b} {gone} (body ∷ more) left plain so_far pushed =
-    subst (λ (l : List Stored). Emptied t bucket q s bodies b l left) (append_assoc gone (body ∷ []) more) (emptied_on more left plain (emptied_more body so_far plain pushed.1) pushed.2)
+emptied_on : {t : TableView} {bucket : ℕ} {q r s : PassView} {bodies gone : List Stored} (more left : List Stored) → InBucket t bucket q bodies → is_lru t.shape.kind ≡ false → Emptied t bucket q r bodies gone (more ++ left) → PushesAll t bucket more r s → Emptied t bucket q s bodies (gone ++ more) left
+emptied_on {t} {bucket} {q} {r} {s} {bodies} {gone} [] left b plain so_far same =
+    subst (λ (z : PassView × List Stored). Emptied t bucket q z.0 bodies z.1 left) (λ i. (sym same i, sym (append_nil gone) i)) so_far
+emptied_on {t} {bucket} {q} {r} {s} {bodies} {gone} (body ∷ more) left b plain so_far pushed =
+    subst (λ (l : List Stored). Emptied t bucket q s bodies l left) (append_assoc gone (body ∷ []) more) (emptied_on more left b plain (emptied_more body so_far b plain pushed.1) pushed.2)
 
 -- The loop
 
@@ -159,14 +172,14 @@ pushed_more {q = q} {now = now} body left_is so_far one = record {
   pushed = pushes_all_more q so_far.gone body so_far.pushed one;
 }
 
-pub emptied_of : {t : TableView} {bucket : ℕ} {q r : PassView} {bodies left : List Stored} (b : InBucket t bucket q bodies) → is_lru t.shape.kind ≡ false → (so_far : PushedSoFar t bucket q r bodies left) → Emptied t bucket q r bodies b so_far.gone left
+pub emptied_of : {t : TableView} {bucket : ℕ} {q r : PassView} {bodies left : List Stored} → InBucket t bucket q bodies → is_lru t.shape.kind ≡ false → (so_far : PushedSoFar t bucket q r bodies left) → Emptied t bucket q r bodies so_far.gone left
 emptied_of {t} {bucket} {q} {r} {bodies} {left} b plain so_far =
-    emptied_on so_far.gone left plain (subst (λ (l : List Stored). Emptied t bucket q q bodies b [] l) so_far.bodies_are (emptied_none b)) so_far.pushed
+    emptied_on so_far.gone left b plain (subst (λ (l : List Stored). Emptied t bucket q q bodies [] l) so_far.bodies_are (emptied_none b)) so_far.pushed
 
 -- the next body may be pushed
-pub can_push_next : {t : TableView} {bucket : ℕ} {q r : PassView} {bodies left now : List Stored} (body : Stored) (b : InBucket t bucket q bodies) → is_lru t.shape.kind ≡ false → left ≡ body ∷ now → PushedSoFar t bucket q r bodies left → CanPushOut t bucket body r
+pub can_push_next : {t : TableView} {bucket : ℕ} {q r : PassView} {bodies left now : List Stored} (body : Stored) → InBucket t bucket q bodies → is_lru t.shape.kind ≡ false → left ≡ body ∷ now → PushedSoFar t bucket q r bodies left → CanPushOut t bucket body r
 can_push_next {t} {bucket} {q} {r} {bodies} {left} {now} body b plain left_is so_far =
-    can_push_out body (subst (λ (l : List Stored). Emptied t bucket q r bodies b so_far.gone l) left_is (emptied_of b plain so_far))
+    can_push_out body (subst (λ (l : List Stored). Emptied t bucket q r bodies so_far.gone l) left_is (emptied_of b plain so_far))
 
 -- and none is left at the end
 pub none_left : (left : List Stored) (done count : ℕ) → done + length left ≡ count → count ≤ done → left ≡ []
@@ -177,6 +190,6 @@ pub pushed_all : {t : TableView} {bucket : ℕ} {q r : PassView} {bodies left : 
 pushed_all {t} {bucket} {q} {r} none so_far =
     subst (λ (l : List Stored). PushesAll t bucket l q r) (sym (so_far.bodies_are ∙ (ap (λ (l : List Stored). so_far.gone ++ l) none ∙ append_nil so_far.gone))) so_far.pushed
 
-pub emptied_all : {t : TableView} {bucket : ℕ} {q r : PassView} {bodies : List Stored} (b : InBucket t bucket q bodies) → is_lru t.shape.kind ≡ false → PushesAll t bucket bodies q r → Emptied t bucket q r bodies b bodies []
+pub emptied_all : {t : TableView} {bucket : ℕ} {q r : PassView} {bodies : List Stored} → InBucket t bucket q bodies → is_lru t.shape.kind ≡ false → PushesAll t bucket bodies q r → Emptied t bucket q r bodies bodies []
 emptied_all {t} {bucket} {q} {r} {bodies} b plain pushed =
-    emptied_on bodies [] plain (subst (λ (l : List Stored). Emptied t bucket q q bodies b [] l) (sym (append_nil bodies)) (emptied_none b)) pushed
+    emptied_on bodies [] b plain (subst (λ (l : List Stored). Emptied t bucket q q bodies [] l) (sym (append_nil bodies)) (emptied_none b)) pushed

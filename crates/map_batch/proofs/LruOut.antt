@@ -21,12 +21,11 @@ use Rattle.place_words.specs.declared.bucket_part.Walked.TheVariants.{Over, Take
 use Rattle.place_words.specs.declared.history.Part.{Part}
 use Rattle.place_words.specs.declared.history.Part.TheVariants as parts
 use Rattle.place_words.specs.Bodies.{numbers}
-use Rattle.place_words.specs.Buckets.{AllowsInBucket, bucket_after, bucket_marks}
+use Rattle.place_words.specs.Buckets.{AllowsInBucket, bucket_after}
 use Rattle.place_words.specs.Histories.{in_bucket}
 use Rattle.place_words.specs.Turns.{on_lock}
 use Rattle.place_words.specs.Walks.{walked_out}
 use Rattle.place_words.specs.declared.step.Lists.{Lists}
-use Rattle.place_words.specs.State.{rows}
 use Rattle.place_words.specs.Steps.{without_row}
 use Rattle.place_words.proofs.ElementLemmas.{times_cons_same}
 use Rattle.place_table.specs.declared.content.Content.TheVariants as contents
@@ -34,12 +33,13 @@ use Rattle.place_table.specs.Contents.{lists_of}
 use Rattle.place_table.specs.InBucket.{InBucket}
 use Rattle.place_table.specs.Passes.{PassView, TableView, CanMark, Detached, GaveBack, MayGiveBack}
 use Rattle.place_table.proofs.BucketBodies.{rows_taken}
-use Rattle.place_table.proofs.BucketTurns.{unchanged_turn}
+use Rattle.place_table.proofs.BucketOut.{rows_here, sets_none}
+use Rattle.place_table.proofs.BucketTurned.{unchanged}
+use Rattle.place_table.proofs.BucketTurns.{IsTurnWith, unchanged_turn}
+use Rattle.place_table.proofs.BucketUnder.{Under, Gives, gives, holds_bucket, under_nothing, under_detached, can_mark}
 use Rattle.place_table.proofs.Worlds.{by_bool, true_false, some_is, none_some}
 use Rattle.lru_ops.specs.Under.{GivenBack, IsOut}
 use Rattle.lru_ops.proofs.Ends.{changed_given}
-use Rattle.lru_ops.proofs.Turned.{MayGive, may_give, gives, unchanged}
-use Rattle.lru_ops.proofs.Under.{Under, under_nothing, under_detached, can_mark}
 use Rattle.bucket_walks.specs.Looks.{Enters}
 use Rattle.map_batch.specs.LruTakes.{TakesInto, with_all_in_hand}
 use Rattle.bucket_walks.specs.BatchReads.{PairsSoFar, IsGathered, walked_by, all_read}
@@ -85,8 +85,11 @@ pub numbers_read : (shape : Shape) (cpu : ℕ) (bodies : List Stored) → number
 numbers_read shape cpu [] = refl
 numbers_read shape cpu (body ∷ bodies) = ap (λ (l : List ℕ). body.element ∷ l) (numbers_read shape cpu bodies)
 
-without_head : (e : ℕ) (elements : List ℕ) → without e (e ∷ elements) ≡ elements
-without_head e elements = by_test e e (λ z. cond z elements (e ∷ without e elements) ≡ elements) (λ _. refl) (λ other. absurd (other refl))
+-- a bucket without its head
+pub without_head : (body : Stored) (left : List Stored) → without_row body.element (lists_of (in_bucket (body ∷ left))) ≡ lists_of (in_bucket left)
+without_head body left =
+    by_test body.element body.element (λ z. record { free = []; first = cond z (numbers left) (body.element ∷ without body.element (numbers left)); second = []; cursor = None } ≡ lists_of (in_bucket left))
+    (λ _. refl) (λ other. absurd (other refl))
 
 -- of bodies whose elements are a map's, each is of the map
 all_out : (t : TableView) (bodies : List Stored) → All (IsSized t.shape) bodies → ((e : ℕ) → IsIn e (numbers bodies) → e < t.shape.elements) → All (λ (body : Stored). IsOut t (Some body)) bodies
@@ -104,13 +107,11 @@ all_out t (body ∷ bodies) sized real =
 module _ {t : TableView} {bucket : ℕ} {q : PassView} {bodies : List Stored} (b : InBucket t bucket q bodies) where
   -- From where it was taken: these bodies are left in it, and these were taken out, the last first.
   pub record TakingOut (r : PassView) (left gone : List Stored) : Type 0 where
-    pub now : Lists
-    pub under : Under t b.hold b.below q r now [] (with_all_in_hand gone q.cpu q.view.hand)
-    pub now_is : now ≡ lists_of (in_bucket left)
+    pub under : Under t bucket q r bodies (lists_of (in_bucket left)) [] (with_all_in_hand gone q.cpu q.view.hand)
     pub split : reverse_aux gone left ≡ bodies
 
   pub taking_begins : TakingOut q bodies []
-  taking_begins = record { now = b.hold.now; under = under_nothing b; now_is = b.now; split = refl }
+  taking_begins = record { under = under_nothing (holds_bucket b); split = refl }
 
   real_here : (e : ℕ) → IsIn e (numbers bodies) → e < t.shape.elements
   real_here e inside = b.elements.rows_real e (subst (λ (n : ℕ). 0 < n) (rows_taken b e) inside)
@@ -121,13 +122,11 @@ module _ {t : TableView} {bucket : ℕ} {q : PassView} {bodies : List Stored} (b
         let e : ℕ = body.element in
         let here : times e (e ∷ numbers left) ≡ suc (times e (numbers left)) = times_cons_same e (numbers left) in
         let apart : times e (numbers bodies) ≡ times e (numbers gone) + times e (e ∷ numbers left) = ap (λ (l : List Stored). times e (numbers l)) (sym so_far.split) ∙ counted_apart e gone (body ∷ left) in
-        can_mark b so_far.under e (subst (λ (l : Lists). IsIn e l.first) (sym so_far.now_is) (omega (arith, here))) (real_here e (omega (arith, apart, here)))
+        can_mark so_far.under.holds e (omega (arith, here)) (real_here e (omega (arith, apart, here)))
 
     pub taking_more : (s : PassView) → Detached bucket body.element r s → TakingOut s left (body ∷ gone)
     taking_more s detached = record {
-      now = without_row body.element so_far.now;
-      under = under_detached b so_far.under body.element s detached;
-      now_is = ap (without_row body.element) so_far.now_is ∙ (λ i. record { free = []; first = without_head body.element (numbers left) i; second = []; cursor = None });
+      under = subst (λ (l : Lists). Under t bucket q s bodies l [] (with_all_in_hand (body ∷ gone) q.cpu q.view.hand)) (without_head body left) (under_detached so_far.under body.element s detached);
       split = so_far.split;
     }
 
@@ -248,18 +247,18 @@ module _ {t : TableView} {bucket : ℕ} {p q : PassView} {chain : BodyList} (ent
     walked_over : walked ≡ Over (length chain.bodies)
     walked_over = ap (λ z. cond z (Over (length chain.bodies)) (Taken (all_read told cpu chain.bodies))) over_is
 
-    may_leave : MayGive b (under_nothing b) chain part (numbers chain.bodies)
-    may_leave =
-        unchanged chain b part lru
+    leaves : (found : Option Part) → IfSome found (λ x. x ≡ parts.Bucket part) → Gives (under_nothing (holds_bucket b)) chain part found
+    leaves =
+        unchanged chain (holds_bucket b) part
         (unchanged_turn t.shape q.cpu chain.bodies b.sized part (subst (λ (w : Walked). IsTurn t.shape q.cpu (Walk true room w) chain.bodies chain.bodies) (sym walked_over) (left_alone t.shape q.cpu room chain.bodies (ltb-true room (length chain.bodies) over_is))))
         refl refl
 
     pub may_give_over : (found : Option Part) → IfSome found (λ x. x ≡ parts.Bucket part) → MayGiveBack t (Bucket bucket) q (contents.Bucket chain) found
-    may_give_over found is = may_give b (under_nothing b) chain part (numbers chain.bodies) may_leave found is
+    may_give_over found is = (leaves found is).0
 
     pub left_over : (s : PassView) (gone : List Stored) (found : Option Part) → gone ≡ [] → IfSome found (λ x. x ≡ parts.Bucket part) → GaveBack t (Bucket bucket) q s (contents.Bucket chain) found → TakesInto t bucket p s false out now gone
     left_over s gone found none is gave =
-        subst (λ (z : Bool × List Stored). TakesInto t bucket p s z.0 out now z.1) (λ i. (left i, sym none i)) (takes_into s [] (gives b (under_nothing b) chain part (numbers chain.bodies) may_leave lru s found is gave)
+        subst (λ (z : Bool × List Stored). TakesInto t bucket p s z.0 out now z.1) (λ i. (left i, sym none i)) (takes_into s [] ((leaves found is).1 s gave)
         (ap (λ (w : Walked). reverse (walked_out true w)) (sym walked_over)) (All-nil (λ (body : Stored). IsOut t (Some body))) (λ e. omega arith))
 
   pub fits_here : whole ≡ true → length chain.bodies ≤ room
@@ -282,23 +281,19 @@ module _ {t : TableView} {bucket : ℕ} {p q : PassView} {chain : BodyList} (ent
     walked_all : walked ≡ Taken (all_read t.shape q.cpu chain.bodies)
     walked_all = ap (λ z. cond z (Over (length chain.bodies)) (Taken (all_read told cpu chain.bodies))) fits_is ∙ (λ i. Taken (all_read (told_is i) (cpu_is i) chain.bodies))
 
-    may_empty : MayGive b at_end.under back part []
-    may_empty = record {
-      turn = record {
-        turn = subst (λ (z : Walked × List Stored). IsTurn t.shape q.cpu (Walk true room z.0) chain.bodies z.1) (λ i. (sym walked_all i, sym back_is i)) (emptied t.shape q.cpu room chain.bodies (ltb-false room (length chain.bodies) fits_is));
-        sized = All-same (IsSized t.shape) back.bodies [] back_is (All-nil (IsSized t.shape));
-        counts = λ x. ap (λ (l : List Stored). times x (numbers l)) back_is;
-      };
-      counted = λ x. sym (ap (λ (l : Lists). times x (rows l)) at_end.now_is);
-      no_free = ap (λ (l : Lists). l.free) at_end.now_is;
-      no_probes = refl;
-      set_is = sym (ap (λ z. cond z (bucket_marks part) []) lru);
-    }
+    empties : (found : Option Part) → IfSome found (λ x. x ≡ parts.Bucket part) → Gives at_end.under back part found
+    empties =
+        let turn : IsTurnWith t.shape q.cpu part chain.bodies back.bodies [] = record {
+          turn = subst (λ (z : Walked × List Stored). IsTurn t.shape q.cpu (Walk true room z.0) chain.bodies z.1) (λ i. (sym walked_all i, sym back_is i)) (emptied t.shape q.cpu room chain.bodies (ltb-false room (length chain.bodies) fits_is));
+          sized = All-same (IsSized t.shape) back.bodies [] back_is (All-nil (IsSized t.shape));
+          counts = λ x. ap (λ (l : List Stored). times x (numbers l)) back_is;
+        } in
+        gives at_end.under back part [] turn (rows_here []) refl refl (sets_none t.shape part refl)
 
     pub may_give_empty : (found : Option Part) → IfSome found (λ x. x ≡ parts.Bucket part) → MayGiveBack t (Bucket bucket) r (contents.Bucket back) found
-    may_give_empty found is = may_give b at_end.under back part [] may_empty found is
+    may_give_empty found is = (empties found is).0
 
     pub taken_out : (s : PassView) (found : Option Part) → IfSome found (λ x. x ≡ parts.Bucket part) → GaveBack t (Bucket bucket) r s (contents.Bucket back) found → TakesInto t bucket p s true out now gone
     taken_out s found is gave =
-        subst (λ (w : Bool). TakesInto t bucket p s w out now gone) taken (takes_into s gone (gives b at_end.under back part [] may_empty lru s found is gave)
+        subst (λ (w : Bool). TakesInto t bucket p s w out now gone) taken (takes_into s gone ((empties found is).1 s gave)
         (gone_are b at_end t.shape q.cpu ∙ ap (λ (w : Walked). reverse (walked_out true w)) (sym walked_all)) (all_are_out b at_end) (each_once b at_end))

@@ -2,7 +2,6 @@
 use Rattle.std.proofs.Common.{◌≡◌, ℕ, ◌-◌, ◌<◌, ◌≤◌, cond, Bool, true, false, List, [], ◌∷◌, ◌++◌, length, map, sym, refl, ap, ◌∙◌, subst, Option}
 use Rattle.std.specs.Prelude.{nat_lt, All, IfSome, MatchBool}
 use Rattle.std.proofs.lemmas.Bool.{ltb-true, ltb-false}
-use Rattle.std.proofs.lemmas.List.{map-append}
 use Rattle.std.proofs.lemmas.List.Elements.{All-nil}
 use Rattle.map_types.specs.ElementLists.{times}
 use Rattle.map_types.specs.declared.attr.Shape.{Shape}
@@ -11,6 +10,7 @@ use Rattle.map_types.specs.Kind.{is_lru}
 use Rattle.map_types.specs.Stored.{Stored, IsSized}
 use Rattle.percpu_values.specs.BodyList.{BodyList}
 use Rattle.bucket_chain.specs.Turns.{IsTurn}
+use Rattle.place_words.specs.declared.bucket_part.BucketPart.{BucketPart}
 use Rattle.place_words.specs.declared.bucket_part.BucketPart.TheVariants.{Walk}
 use Rattle.place_words.specs.declared.bucket_part.Walked.{Walked}
 use Rattle.place_words.specs.declared.bucket_part.Walked.TheVariants.{Over, Taken}
@@ -28,13 +28,17 @@ use Rattle.place_table.specs.declared.view.Turned.{Turned}
 use Rattle.place_table.specs.Contents.{lists_of}
 use Rattle.place_table.specs.InBucket.{InBucket}
 use Rattle.place_table.specs.Known.{IsBy, turn_of, turn_at}
-use Rattle.place_table.specs.Passes.{PassView, TableView, CanGive, GaveBack, Goes, MayGiveBack}
-use Rattle.place_table.specs.Views.{is_in_hand_of, notes_below, hold_with}
-use Rattle.place_table.proofs.BucketBodies.{rows_taken}
+use Rattle.place_table.specs.Passes.{PassView, TableView, GaveBack, Goes, MayGiveBack}
+use Rattle.place_table.specs.Views.{is_in_hand_of, notes_below}
 use Rattle.place_table.proofs.Entries.{append_nil}
 use Rattle.place_table.proofs.Going.{goes_on, goes_took, learns_after, learns_took}
 use Rattle.place_table.proofs.Worlds.{by_bool}
-use Rattle.hash_ops.proofs.Under.{Under, Left, none_noted, under_nothing, can_give, left, may_give_back, told_more}
+use Rattle.place_table.specs.BucketHeld.{Holds}
+use Rattle.place_table.specs.BucketTurns.{GivenBack}
+use Rattle.place_table.proofs.BucketOut.{rows_here, sets_none}
+use Rattle.place_table.proofs.BucketTurns.{IsTurnWith}
+use Rattle.place_table.proofs.BucketUnder.{Gives, gives, holds_bucket, under_nothing}
+use Rattle.hash_ops.proofs.Between.{Between, between_nothing, all_turns, whole_by_call, whole_learns, whole_told, whole_turns}
 use Rattle.bucket_walks.specs.Looks.{Enters}
 use Rattle.map_batch.specs.PlainTakes.{IsPushed, PushesAll, TakesInto}
 use Rattle.bucket_walks.specs.BatchReads.{PairsSoFar, IsGathered, all_read, walked_by}
@@ -55,60 +59,70 @@ taken_out shape cpu room bodies left fits none = record { allowed = (fits, refl)
 -- Giving back
 
 -- The bucket may be given back by this part, after these turns of the CPU's freelist. The hands hold what they held.
-pub record CanGiveTaken (t : TableView) (bucket : ℕ) (q r : PassView) (bodies : List Stored) (b : InBucket t bucket q bodies) (back : BodyList) (room : ℕ) (walked : Walked) : Type 0 where
+pub record CanGiveTaken (t : TableView) (bucket : ℕ) (q r : PassView) (bodies : List Stored) (back : BodyList) (room : ℕ) (walked : Walked) (found : Option Part) : Type 0 where
   pub inner : List Turned
   pub now : Lists
-  pub under : Under t b.hold b.below q r now inner
-  pub can : CanGive t (Bucket bucket) r (contents.Bucket back) (parts.Bucket (Walk true room walked))
+  pub holds : Holds t bucket r bodies now []
+  pub between : Between t q r inner
+  pub gives : Gives (under_nothing holds) back (Walk true room walked) found
   pub turns : map (turn_of t.shape) inner ≡ pushes_of q.cpu (walked_out true walked)
   pub spares : r.spares ≡ q.spares
   pub hands : (x c : ℕ) → is_in_hand_of x c r.view.hand ≡ is_in_hand_of x c q.view.hand
 
-module _ {t : TableView} {bucket : ℕ} {q : PassView} {bodies : List Stored} (b : InBucket t bucket q bodies) (plain : is_lru t.shape.kind ≡ false) (back : BodyList) (room : ℕ) where
+module _ {t : TableView} {bucket : ℕ} {q : PassView} {bodies : List Stored} (b : InBucket t bucket q bodies) (plain : is_lru t.shape.kind ≡ false) (back : BodyList) (room : ℕ) (found : Option Part) where
+  -- memory for the entry of this walk was found, or there is none
+  abbrev IsOf : Walked → Type 0
+  IsOf walked = IfSome found (λ x. x ≡ parts.Bucket (Walk true room walked))
+
   -- it was emptied
-  give_taken : {r : PassView} → length bodies ≤ room → PushesAll t bucket bodies q r → back.bodies ≡ [] → CanGiveTaken t bucket q r bodies b back room (Taken (all_read t.shape q.cpu bodies))
-  give_taken {r} fits pushed none =
-      let emptied : Emptied t bucket q r bodies b bodies [] = emptied_all b plain pushed in
-      let now : Lists = lists_of (in_bucket []) in
+  give_taken : {r : PassView} → length bodies ≤ room → PushesAll t bucket bodies q r → back.bodies ≡ [] → IsOf (Taken (all_read t.shape q.cpu bodies)) → CanGiveTaken t bucket q r bodies back room (Taken (all_read t.shape q.cpu bodies)) found
+  give_taken {r} fits pushed none is =
+      let emptied : Emptied t bucket q r bodies bodies [] = emptied_all b plain pushed in
+      let part : BucketPart = Walk true room (Taken (all_read t.shape q.cpu bodies)) in
+      let turn : IsTurnWith t.shape q.cpu part bodies back.bodies [] = record {
+        turn = taken_out t.shape q.cpu room bodies back.bodies fits none;
+        sized = subst (All (IsSized t.shape)) (sym none) (All-nil (IsSized t.shape));
+        counts = λ x. ap (λ (l : List Stored). times x (numbers l)) none;
+      } in
       record {
         inner = emptied.inner;
-        now = now;
-        under = emptied.under;
-        can = can_give t bucket q r bodies b now emptied.inner back (Walk true room (Taken (all_read t.shape q.cpu bodies))) emptied.under
-            (taken_out t.shape q.cpu room bodies back.bodies fits none)
-            (subst (All (IsSized t.shape)) (sym none) (All-nil (IsSized t.shape)))
-            (λ x. ap (λ (l : List Stored). times x (numbers l)) none)
-            refl (none_noted t.shape r.view (hold_with b.hold now) (Walk true room (Taken (all_read t.shape q.cpu bodies))) plain refl);
+        now = lists_of (in_bucket []);
+        holds = emptied.holds;
+        between = emptied.between;
+        gives = gives (under_nothing emptied.holds) back part [] (subst (λ (c : ℕ). IsTurnWith t.shape c part bodies back.bodies []) (sym emptied.between.goes.cpu) turn) (rows_here []) refl refl (sets_none t.shape part refl) found is;
         turns = emptied.turns ∙ ap (pushes_of q.cpu) (sym (numbers_read t.shape q.cpu bodies));
         spares = emptied.spares;
         hands = emptied.hands;
       }
 
   -- it was left
-  give_left : {r : PassView} → room < length bodies → r ≡ q → back.bodies ≡ bodies → CanGiveTaken t bucket q r bodies b back room (Over (length bodies))
-  give_left {r} over same left_is =
-      subst (λ (z : PassView). CanGiveTaken t bucket q z bodies b back room (Over (length bodies))) (sym same) record {
+  give_left : {r : PassView} → room < length bodies → r ≡ q → back.bodies ≡ bodies → IsOf (Over (length bodies)) → CanGiveTaken t bucket q r bodies back room (Over (length bodies)) found
+  give_left {r} over same left_is is =
+      let part : BucketPart = Walk true room (Over (length bodies)) in
+      let turn : IsTurnWith t.shape q.cpu part bodies back.bodies (numbers bodies) = record {
+        turn = left_alone t.shape q.cpu room bodies back.bodies over left_is;
+        sized = subst (All (IsSized t.shape)) (sym left_is) b.sized;
+        counts = λ x. ap (λ (l : List Stored). times x (numbers l)) left_is;
+      } in
+      subst (λ (z : PassView). CanGiveTaken t bucket q z bodies back room (Over (length bodies)) found) (sym same) record {
         inner = [];
-        now = b.hold.now;
-        under = under_nothing t bucket q bodies b;
-        can = can_give t bucket q q bodies b b.hold.now [] back (Walk true room (Over (length bodies))) (under_nothing t bucket q bodies b)
-            (left_alone t.shape q.cpu room bodies back.bodies over left_is)
-            (subst (All (IsSized t.shape)) (sym left_is) b.sized)
-            (λ x. ap (λ (l : List Stored). times x (numbers l)) left_is ∙ rows_taken b x)
-            (ap (λ (l : Lists). l.free) b.now) (none_noted t.shape q.view (hold_with b.hold b.hold.now) (Walk true room (Over (length bodies))) plain refl);
+        now = lists_of (in_bucket bodies);
+        holds = holds_bucket b;
+        between = between_nothing t q;
+        gives = gives (under_nothing (holds_bucket b)) back part (numbers bodies) turn (rows_here bodies) refl refl (sets_none t.shape part refl) found is;
         turns = refl;
         spares = refl;
         hands = λ _ _. refl;
       }
 
   -- as it was read
-  give_read : {r : PassView} (out now : PairsSoFar) (whole : Bool) → IsGathered (walked_by t.shape q.cpu room bodies) whole out now → IsPushed t bucket whole q r bodies back.bodies → CanGiveTaken t bucket q r bodies b back room (walked_by t.shape q.cpu room bodies)
-  give_read {r} out now whole gathered pushed =
+  give_read : {r : PassView} (out now : PairsSoFar) (whole : Bool) → IsGathered (walked_by t.shape q.cpu room bodies) whole out now → IsPushed t bucket whole q r bodies back.bodies → IsOf (walked_by t.shape q.cpu room bodies) → CanGiveTaken t bucket q r bodies back room (walked_by t.shape q.cpu room bodies) found
+  give_read {r} out now whole gathered pushed is =
       by_bool (nat_lt room (length bodies))
-      (λ over. IsGathered (cond over (Over (length bodies)) (Taken (all_read t.shape q.cpu bodies))) whole out now → CanGiveTaken t bucket q r bodies b back room (cond over (Over (length bodies)) (Taken (all_read t.shape q.cpu bodies))))
-      (λ over g. let is : IsPushed t bucket false q r bodies back.bodies = subst (λ (w : Bool). IsPushed t bucket w q r bodies back.bodies) g.0 pushed in give_left (ltb-true room (length bodies) over) is.0 is.1)
-      (λ fits g. let is : IsPushed t bucket true q r bodies back.bodies = subst (λ (w : Bool). IsPushed t bucket w q r bodies back.bodies) g.0 pushed in give_taken (ltb-false room (length bodies) fits) is.0 is.1)
-      gathered
+      (λ over. IsGathered (cond over (Over (length bodies)) (Taken (all_read t.shape q.cpu bodies))) whole out now → IsOf (cond over (Over (length bodies)) (Taken (all_read t.shape q.cpu bodies))) → CanGiveTaken t bucket q r bodies back room (cond over (Over (length bodies)) (Taken (all_read t.shape q.cpu bodies))) found)
+      (λ over g made. let all : IsPushed t bucket false q r bodies back.bodies = subst (λ (w : Bool). IsPushed t bucket w q r bodies back.bodies) g.0 pushed in give_left (ltb-true room (length bodies) over) all.0 all.1 made)
+      (λ fits g made. let all : IsPushed t bucket true q r bodies back.bodies = subst (λ (w : Bool). IsPushed t bucket w q r bodies back.bodies) g.0 pushed in give_taken (ltb-false room (length bodies) fits) all.0 all.1 made)
+      gathered is
 
 -- What is left
 
@@ -122,40 +136,35 @@ takes_out : (shape : Shape) (cpu : ℕ) (turn : Turn) (gone : List ℕ) (turns :
 takes_out shape cpu turn gone turns plain are =
     subst (λ (b : Bool). MatchBool b (IsFreedAfter shape turn gone turns) (turns_of turns ≡ pushes_of cpu gone ++ turn ∷ [])) (sym plain) are
 
-module _ {t : TableView} {bucket : ℕ} {p q r : PassView} {chain back : BodyList} (entered : Enters t bucket p q chain) (plain : is_lru t.shape.kind ≡ false) {room : ℕ} {walked : Walked} (given : CanGiveTaken t bucket q r chain.bodies entered.inside back room walked)
-    (found : Option Part) (is : IfSome found (λ x. x ≡ parts.Bucket (Walk true room walked))) where
-  may_give : MayGiveBack t (Bucket bucket) r (contents.Bucket back) found
-  may_give = may_give_back t (Bucket bucket) r (contents.Bucket back) (parts.Bucket (Walk true room walked)) found given.can is
-
+module _ {t : TableView} {bucket : ℕ} {p q r : PassView} {chain back : BodyList} (entered : Enters t bucket p q chain) (plain : is_lru t.shape.kind ≡ false) {room : ℕ} {walked : Walked} {found : Option Part} (given : CanGiveTaken t bucket q r chain.bodies back room walked found) where
   takes_by : {s : PassView} {out now : PairsSoFar} (whole : Bool) → GaveBack t (Bucket bucket) r s (contents.Bucket back) found → room ≡ out.limit - length out.pairs → IsGathered walked whole out now → TakesInto t bucket p s whole out now
   takes_by {s} {out} {now} whole gave room_is gathered =
-      let b = entered.inside in
       let took = entered.took in
       let part : Part = parts.Bucket (Walk true room walked) in
-      let l : Left t bucket q r s given.inner part = left t bucket q r s chain.bodies b given.now given.inner (contents.Bucket back) part found given.under given.can is gave in
-      let steps : List Turned = given.inner ++ l.last ∷ [] in
-      let told : List Turned = given.inner ++ l.told ∷ [] in
+      let g : GivenBack t bucket r s part r.view.hand = given.gives.1 s gave in
+      let b = given.between in
+      let steps : List Turned = given.inner ++ g.step ∷ [] in
+      let told : List Turned = given.inner ++ g.told ∷ [] in
       let cpu_is : q.cpu ≡ p.cpu = ap (λ (z : PassView). z.cpu) took.after_is in
-      let turns : map (turn_of t.shape) told ≡ pushes_of q.cpu (walked_out true walked) ++ on_lock (Bucket bucket) part ∷ [] =
-      map-append (turn_of t.shape) given.inner (l.told ∷ []) ∙ (λ i. given.turns i ++ l.told_is i ∷ []) in
+      let turns : map (turn_of t.shape) told ≡ pushes_of q.cpu (walked_out true walked) ++ on_lock (Bucket bucket) part ∷ [] = whole_turns plain b g (pushes_of q.cpu (walked_out true walked)) given.turns in
       record {
         steps = steps;
         told = told;
-        lost = l.lost;
+        lost = g.lost;
         took = record {
-          told_are = told_more t.shape l.lost given.inner l.last l.told l.is_told;
+          told_are = whole_told plain b g;
           made = record {
-            goes = subst (Goes p s steps) (append_nil l.lost) (goes_on p q s [] steps [] l.lost (goes_took t (Bucket bucket) p q (contents.Bucket chain) took) l.goes);
-            held = l.held ∙ sym entered.no_lock;
-            notes = l.notes ∙ ap (λ (z : PassView). notes_below z.view.notes) took.after_is;
+            goes = subst (Goes p s steps) (append_nil g.lost) (goes_on p q s [] steps [] g.lost (goes_took t (Bucket bucket) p q (contents.Bucket chain) took) (all_turns plain b g));
+            held = g.held ∙ sym entered.no_lock;
+            notes = g.notes ∙ (b.notes ∙ ap (λ (z : PassView). notes_below z.view.notes) took.after_is);
           };
-          by_call = subst (λ (z : PassView). All (IsBy z.cpu z.call) steps) took.after_is l.by_call;
-          hands = λ e c. ap (is_in_hand_of e c) l.hand ∙ (given.hands e c ∙ ap (λ (z : PassView). is_in_hand_of e c z.view.hand) took.after_is);
-          carried = l.carried ∙ ap (λ (z : PassView). z.view.carried) took.after_is;
-          spares = l.spares ∙ (given.spares ∙ ap (λ (z : PassView). z.spares) took.after_is);
+          by_call = subst (λ (z : PassView). All (IsBy z.cpu z.call) steps) took.after_is (whole_by_call plain b g);
+          hands = λ e c. ap (is_in_hand_of e c) g.hand_is ∙ (given.hands e c ∙ ap (λ (z : PassView). is_in_hand_of e c z.view.hand) took.after_is);
+          carried = g.carried ∙ (b.carried ∙ ap (λ (z : PassView). z.view.carried) took.after_is);
+          spares = g.spares ∙ (given.spares ∙ ap (λ (z : PassView). z.spares) took.after_is);
           spare_told = λ spare. ap (spare_after spare) turns ∙ spare_told spare q.cpu (walked_out true walked) bucket room walked;
-          bits = l.bits ∙ ap (λ (z : PassView). z.view.bits) took.after_is;
-          learns = learns_after t.shape p.view q.view s.view steps [] (learns_took t (Bucket bucket) p q (contents.Bucket chain) took) l.learns;
+          bits = g.bits plain ∙ (b.bits ∙ ap (λ (z : PassView). z.view.bits) took.after_is);
+          learns = learns_after t.shape p.view q.view s.view steps [] (learns_took t (Bucket bucket) p q (contents.Bucket chain) took) (whole_learns plain b g);
         };
         walked = walked;
         takes_out = takes_out t.shape p.cpu (on_lock (Bucket bucket) (parts.Bucket (Walk true (out.limit - length out.pairs) walked))) (walked_out true walked) (map (turn_at t.shape) told) plain
@@ -179,11 +188,11 @@ module _ {t : TableView} {bucket : ℕ} {p q : PassView} {chain : BodyList} (ent
   abbrev part_here : IfSome found (λ x. x ≡ parts.Bucket (Walk true room read_here))
   part_here = subst (λ (z : Shape × ℕ). IfSome found (λ x. x ≡ parts.Bucket (Walk true room (walked_by z.0 z.1 room chain.bodies)))) (λ i. (shape_is i, cpu_is i)) part_is
 
-  abbrev given_here : CanGiveTaken t bucket q r chain.bodies entered.inside back room read_here
-  given_here = give_read entered.inside plain back room out now whole gathered_here pushed
+  abbrev given_here : CanGiveTaken t bucket q r chain.bodies back room read_here found
+  given_here = give_read entered.inside plain back room found out now whole gathered_here pushed part_here
 
   pub may_give_taken : MayGiveBack t (Bucket bucket) r (contents.Bucket back) found
-  may_give_taken = may_give entered plain given_here found part_here
+  may_give_taken = given_here.gives.0
 
   pub takes_into : {s : PassView} → GaveBack t (Bucket bucket) r s (contents.Bucket back) found → TakesInto t bucket p s whole out now
-  takes_into gave = takes_by entered plain given_here found part_here whole gave room_is gathered_here
+  takes_into gave = takes_by entered plain given_here whole gave room_is gathered_here

@@ -9,8 +9,7 @@ ghost use Rattle.bucket_walks.specs.Looks.{CanWalk, CanEnter};
 ghost use Rattle.map_batch.specs.PlainTakes.{CanPushOut, IsPushed, PushesOut, TakesInto, TakesOn};
 ghost use Rattle.bucket_walks.specs.BatchReads.{Answers, BeginsAt, Comes, IsOfMap};
 
-use bucket_chain::Chain;
-use bucket_entries::body_out;
+use bucket_chain::{Chain, body_out};
 use bucket_walks::{
     BatchOut, BatchRefusal, BatchRequest, ReadRoom, enter, plan, read_out, read_whole, walk_part,
 };

@@ -1,9 +1,9 @@
 -- Passes of workers are joined, and their replies put together.
-use Rattle.std.proofs.Common.{◌≡◌, ◌≢◌, ℕ, zero, suc, ◌+◌, ◌<◌, ◌≤◌, Bool, true, false, cond, eqb, List, [], ◌∷◌, ◌++◌, length, get_or, map, take, drop, Option, Some, None, refl, ap, sym, ◌∙◌, subst, arith, append_assoc, append-nil}
+use Rattle.std.proofs.Common.{◌≡◌, ◌≢◌, ℕ, zero, suc, ◌+◌, ◌<◌, ◌≤◌, Bool, true, false, cond, eqb, List, [], ◌∷◌, ◌++◌, length, get_or, map, Option, Some, None, refl, ap, sym, ◌∙◌, subst, arith, append_assoc, append-nil}
 use Rattle.std.specs.Prelude.{filter, max}
 use Rattle.std.specs.List.{range_with_len}
 use Rattle.std.proofs.Math.Nat.{le-max_left, le-max_right}
-use Rattle.std.proofs.lemmas.List.{length-append, get_or_append_left, get_or-append-add, length-take-le, take-append-drop}
+use Rattle.std.proofs.lemmas.List.{length-append, get_or_append_left, get_or-append-add}
 use Rattle.std.proofs.lemmas.List.Elements.{filter-append}
 use Rattle.std.proofs.lemmas.List.FromFn.{map-range_with_len_more}
 use Rattle.map_types.specs.declared.attr.Shape.{Shape}
@@ -29,10 +29,10 @@ use Rattle.place_table.specs.Views.{is_among, all_strands, current_strand, joine
 use Rattle.place_table.proofs.Worlds.{true_false}
 use Rattle.hash_ops.specs.Calls.{element_of}
 use Rattle.map_run.specs.declared.worker.Worker.{Worker}
-use Rattle.map_run.specs.Work.{AreCallsBy, HasWorked, HaveRaced, count_of, has_turn, replies_of}
-use Rattle.map_run.specs.Workers.{AreSplitOff, HaveDone, HaveEnded, HasSplit, IsSplitOff, replies_by}
+use Rattle.run_endings.specs.Replies.{count_of, replies_by, replies_of}
+use Rattle.map_run.specs.Work.{AreCallsBy, HasWorked, HaveRaced, has_turn}
+use Rattle.map_run.specs.Workers.{AreSplitOff, HaveDone, HaveEnded, HasSplit, IsSplitOff}
 use Rattle.map_run.proofs.Workers.{among_one, not_among_one, among_append, below_more, kept_off}
-use Rattle.map_run.proofs.Working.{calls_taken, count_own, count_other}
 use Rattle.serial_laws.proofs.ListPlaces.{made_same}
 
 -- What the pass that has a CPU tells of its worker: the turns and those recorded, and the replies.
@@ -327,66 +327,3 @@ raced t number calls start p lists counts replies shape_is joined counted merged
           (λ (own : List Reply). AreCallsBy t.shape cpu number calls (element_of (spare_of cpu start.spares)) (element_of (spare_of cpu p.spares)) own (joined.did cpu).0)
           (sym (merged cpu (subst (λ (k : ℕ). cpu < k) (sym joined.workers) below))) ((joined.each cpu below).3 none);
     }
-
--- of the replies of a CPU those to these calls were taken, and the others are left
-abbrev pub AreTaken : List Call → List Call → List Reply → List (List Reply) → List (List Reply) → ℕ → Type 0
-AreTaken taken calls all left lists cpu =
-    (replies_of cpu taken all ++ replies_by cpu left ≡ replies_by cpu lists) × (count_of cpu taken + length (replies_by cpu left) ≡ count_of cpu calls)
-
-replies_more : (cpu : ℕ) (calls : List Call) (call : Call) (replies : List Reply) (reply : Reply) → length replies ≡ length calls
-    → replies_of cpu (calls ++ call ∷ []) (replies ++ reply ∷ []) ≡ replies_of cpu calls replies ++ cond (eqb call.cpu cpu) (reply ∷ []) []
-replies_more cpu [] call [] reply same = refl
-replies_more cpu [] call (y ∷ replies) reply same = absurd (omega (arith, same))
-replies_more cpu (x ∷ calls) call [] reply same = absurd (omega (arith, same))
-replies_more cpu (x ∷ calls) call (y ∷ replies) reply same =
-    let rest = replies_more cpu calls call replies reply (omega arith) in
-    by_test x.cpu cpu
-    (λ b. cond b (y ∷ replies_of cpu (calls ++ call ∷ []) (replies ++ reply ∷ [])) (replies_of cpu (calls ++ call ∷ []) (replies ++ reply ∷ []))
-    ≡ cond b (y ∷ replies_of cpu calls replies) (replies_of cpu calls replies) ++ cond (eqb call.cpu cpu) (reply ∷ []) [])
-    (λ _. ap (λ (l : List Reply). y ∷ l) rest) (λ _. rest)
-
-count_within : (cpu : ℕ) (some others : List Call) → count_of cpu some ≤ count_of cpu (some ++ others)
-count_within cpu some others =
-    let both : count_of cpu (some ++ others) ≡ count_of cpu some + count_of cpu others = ap length (filter-append (λ (call : Call). eqb call.cpu cpu) some others) ∙ length-append (filter (λ (call : Call). eqb call.cpu cpu) some) (filter (λ (call : Call). eqb call.cpu cpu) others) in
-    omega arith
-
-pub some_left : (cpu : ℕ) (taken rest : List Call) (call : Call) (all : List Reply) (left lists : List (List Reply)) → call.cpu ≡ cpu
-    → AreTaken taken ((taken ++ call ∷ []) ++ rest) all left lists cpu → 0 < length (replies_by cpu left)
-some_left cpu taken rest call all left lists own are =
-    let one = count_own cpu taken call own in
-    let within = count_within cpu (taken ++ call ∷ []) rest in
-    let told = are.1 in
-    omega arith
-
-pub taken_more : (cpu : ℕ) (taken calls : List Call) (call : Call) (all : List Reply) (reply : Reply) (left after lists : List (List Reply)) → length all ≡ length taken
-    → replies_by call.cpu left ≡ reply ∷ replies_by call.cpu after → (cpu ≢ call.cpu → replies_by cpu after ≡ replies_by cpu left)
-    → AreTaken taken calls all left lists cpu → AreTaken (taken ++ call ∷ []) calls (all ++ reply ∷ []) after lists cpu
-taken_more cpu taken calls call all reply left after lists same first others are =
-    by_test call.cpu cpu (λ b. cond {A = List Reply} (eqb call.cpu cpu) (reply ∷ []) [] ≡ cond b (reply ∷ []) [] → AreTaken (taken ++ call ∷ []) calls (all ++ reply ∷ []) after lists cpu)
-    (λ own chosen.
-    let here : replies_by cpu left ≡ reply ∷ replies_by cpu after = subst (λ (c : ℕ). replies_by c left ≡ reply ∷ replies_by c after) own first in (
-      ap (λ (l : List Reply). l ++ replies_by cpu after) (replies_more cpu taken call all reply same ∙ ap (λ (l : List Reply). replies_of cpu taken all ++ l) chosen)
-          ∙ append_assoc (replies_of cpu taken all) (reply ∷ []) (replies_by cpu after) ∙ ap (λ (l : List Reply). replies_of cpu taken all ++ l) (sym here) ∙ are.0,
-      (let one = count_own cpu taken call own in let long : length (replies_by cpu left) ≡ suc (length (replies_by cpu after)) = ap length here in let told = are.1 in omega arith),
-    ))
-    (λ other chosen.
-    let stays = others (λ is. other (sym is)) in (
-      ap (λ (l : List Reply). l ++ replies_by cpu after) (replies_more cpu taken call all reply same ∙ ap (λ (l : List Reply). replies_of cpu taken all ++ l) chosen ∙ append-nil (replies_of cpu taken all))
-          ∙ ap (λ (l : List Reply). replies_of cpu taken all ++ l) stays ∙ are.0,
-      ap (λ (k : ℕ). k + length (replies_by cpu after)) (count_other cpu taken call other) ∙ ap (λ (l : List Reply). count_of cpu taken + length l) stays ∙ are.1,
-    ))
-    refl
-
-pub reply_left : (calls : List Call) (n : ℕ) (call : Call) (all : List Reply) (left lists : List (List Reply)) → n < length calls → call ≡ get_or calls n call
-    → AreTaken (take n calls) calls all left lists call.cpu → 0 < length (replies_by call.cpu left)
-reply_left calls n call all left lists within is are =
-    let whole : (take n calls ++ call ∷ []) ++ drop (n + 1) calls ≡ calls =
-    ap (λ (l : List Call). l ++ drop (n + 1) calls) (sym (calls_taken calls n call within is)) ∙ take-append-drop (n + 1) calls in
-    some_left call.cpu (take n calls) (drop (n + 1) calls) call all left lists refl (subst (λ (l : List Call). AreTaken (take n calls) l all left lists call.cpu) (sym whole) are)
-
-pub reply_taken : (calls : List Call) (n : ℕ) (call : Call) (all more : List Reply) (reply : Reply) (left after lists : List (List Reply)) (cpu : ℕ) → n < length calls → call ≡ get_or calls n call
-    → length all ≡ n → replies_by call.cpu left ≡ reply ∷ replies_by call.cpu after → (cpu ≢ call.cpu → replies_by cpu after ≡ replies_by cpu left) → more ≡ all ++ reply ∷ []
-    → AreTaken (take n calls) calls all left lists cpu → AreTaken (take (n + 1) calls) calls more after lists cpu
-reply_taken calls n call all more reply left after lists cpu within is counted first others pushed are =
-    subst (λ (z : List Call × List Reply). AreTaken z.0 calls z.1 after lists cpu) (λ i. (sym (calls_taken calls n call within is) i, sym pushed i))
-    (taken_more cpu (take n calls) calls call all reply left after lists (counted ∙ sym (length-take-le n calls (omega arith))) first others are)

@@ -25,7 +25,6 @@ pub mod BothRuns
 pub mod Closing
 pub mod SerialRun
 pub mod ReadAnswers
-pub mod FewEntries
 pub mod Whole
 pub mod RaceKept
 pub mod RaceCalls
@@ -39,4 +38,3 @@ pub mod Joining
 pub mod Working
 pub mod Workers
 pub mod Refused
-pub mod Statuses

@@ -11,7 +11,8 @@ use Rattle.map_types.specs.declared.attr.Shape.{Shape}
 use Rattle.map_types.specs.declared.call.Call.{Call}
 use Rattle.map_types.specs.declared.reply.Reply.{Reply}
 use Rattle.map_run.specs.Parts.{lone_cpu}
-use Rattle.map_run.specs.Work.{AreCallsBy, replies_of, count_of}
+use Rattle.run_endings.specs.Replies.{count_of, replies_of}
+use Rattle.map_run.specs.Work.{AreCallsBy}
 use Rattle.serial_laws.proofs.HistoryTurns.{by_bool}
 use Rattle.map_run.proofs.Working.{Begins}
 

@@ -22,7 +22,8 @@ use Rattle.map_run.specs.declared.pieces.Piece.{Piece}
 use Rattle.map_run.specs.Parts.{lone_cpu, pieces_by}
 use Rattle.map_run.specs.Phased.{Started}
 use Rattle.map_run.specs.Races.{first_of, calls_of, RanAlone, RanAtOnce}
-use Rattle.map_run.specs.Work.{AreCallsBy, replies_of}
+use Rattle.run_endings.specs.Replies.{replies_of}
+use Rattle.map_run.specs.Work.{AreCallsBy}
 use Rattle.map_run.proofs.PartLemmas.{piece_of}
 use Rattle.map_run.proofs.PhaseParts.{Done, done_by, kept_more}
 use Rattle.map_run.proofs.LoneCalls.{AreOf, calls_of_other, count_of_one, lone_is, replies_of_one, replies_of_other}

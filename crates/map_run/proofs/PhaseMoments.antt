@@ -227,7 +227,7 @@ module _ (t : TableView) (script : Script) (some : 0 < t.shape.cpus) (served : (
       pub made : Rise 0 script.cuts (length script.calls) → shape ≡ script.shape → (q cpu : ℕ) → q < p → cpu < shape.cpus → All (λ (step : Turned). (step.entry.cpu ≡ cpu) × (phase_of script.cuts step.entry.call ≡ q)) (turns q cpu)
       made cuts same q cpu less real =
           calls_in script cuts q cpu _ _ _ (turns q cpu)
-          (subst (λ (s : Shape). Rattle.map_run.specs.Work.AreCallsBy s cpu (suc (first_of script q)) (calls_of script q) (element_of (spare_of cpu (did q).begun.spares)) (element_of (spare_of cpu (did q).now.spares)) (Rattle.map_run.specs.Work.replies_of cpu (calls_of script q) (did q).told) (turns q cpu)) same
+          (subst (λ (s : Shape). Rattle.map_run.specs.Work.AreCallsBy s cpu (suc (first_of script q)) (calls_of script q) (element_of (spare_of cpu (did q).begun.spares)) (element_of (spare_of cpu (did q).now.spares)) (Rattle.run_endings.specs.Replies.replies_of cpu (calls_of script q) (did q).told) (turns q cpu)) same
           ((fact q less).calls_are (lost_at q less) cpu real))
 
       pub real_turns : (q cpu : ℕ) → q < p → cpu < shape.cpus → All (IsOfMap shape) (turns q cpu)

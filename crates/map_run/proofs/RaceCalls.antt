@@ -25,7 +25,8 @@ use Rattle.place_table.specs.Rules.{StandsIn}
 use Rattle.place_table.proofs.Stands.{entry_is, earlier_is}
 use Rattle.map_report.specs.Record.{MayAnswer, EachAnswered, has_cpu, entries_of, IsConcatenation}
 use Rattle.serial_laws.specs.Served.{IsServedCall}
-use Rattle.map_run.specs.Work.{replies_of, IsCallBy, AreCallsBy}
+use Rattle.run_endings.specs.Replies.{replies_of}
+use Rattle.map_run.specs.Work.{IsCallBy, AreCallsBy}
 use Rattle.serial_laws.proofs.HistoryTurns.{matched}
 use Rattle.map_run.proofs.RaceKept.{steps_of}
 use Rattle.serial_laws.proofs.TurnLocks.{all_parts}

@@ -52,7 +52,8 @@ use Rattle.map_run.specs.Parts.{Part, cpus_of, cut_strands, lone_cpu}
 use Rattle.map_run.specs.Phased.{IsWhole}
 use Rattle.map_run.specs.Races.{first_of, calls_of, HaveComeTo, IsRaceRecord}
 use Rattle.serial_laws.specs.Served.{IsServed, IsServedCall}
-use Rattle.map_run.specs.Work.{AreCallsBy, replies_of}
+use Rattle.run_endings.specs.Replies.{replies_of}
+use Rattle.map_run.specs.Work.{AreCallsBy}
 use Rattle.serial_laws.proofs.AnyRecord.{spares_of}
 use Rattle.serial_laws.proofs.HistoryTurns.{by_bool}
 use Rattle.map_run.proofs.Moments.{in_phase, places_are, places_alone, never_falls}

@@ -9,14 +9,15 @@ use Rattle.place_words.specs.Phases.{phase_count}
 use Rattle.place_table.specs.Closing.{ClosedView}
 use Rattle.map_report.specs.declared.record.RunRecord.{RunRecord}
 use Rattle.map_run.specs.declared.pieces.Piece.{Piece}
-use Rattle.map_run.specs.Finish.{IsKeptFrom}
+use Rattle.run_endings.specs.Finish.{IsKeptFrom}
+use Rattle.map_run.specs.Copies.{IsCopyOf}
 use Rattle.map_run.specs.Parts.{lone_cpu, pieces_by}
 use Rattle.map_run.specs.Races.{RanByMany, RanByOne, calls_of, strands_by, strands_in}
 use Rattle.map_run.specs.Refusals.{KeptFromATable, LoneCallsByOne, LonePhaseIsWhole}
 
 -- A record with no table behind it
 
-not_kept_from : (kept : Option RunRecord) (closed : Option ClosedView) → kept ≢ None → closed ≡ None → IsKeptFrom kept closed → ⊥
+not_kept_from : (kept : Option RunRecord) (closed : Option ClosedView) → kept ≢ None → closed ≡ None → IsKeptFrom IsCopyOf kept closed → ⊥
 not_kept_from None closed some none from = some refl
 not_kept_from (Some kept) None some none from = from
 not_kept_from (Some kept) (Some closed) some none from = none-some closed (sym none)

@@ -39,7 +39,8 @@ use Rattle.map_run.specs.ByLogs.{IsOfMap, KnowsState, RunStart, HaveRunFrom, Hav
 use Rattle.map_run.proofs.CallsByLogs.{IsDetermined, knows_next, spares_next, reply_next, run_more, answers_more, steps_more}
 use Rattle.map_run.proofs.Closing.{kept_all, made_of_all, length_indexes}
 use Rattle.serial_laws.proofs.FinalsByLogs.{IsSameState, same_finals}
-use Rattle.map_run.proofs.SerialRun.{take_next, element_is, spare_first}
+use Rattle.run_endings.proofs.FileOrder.{take_next}
+use Rattle.map_run.proofs.SerialRun.{element_is, spare_first}
 use Rattle.serial_laws.proofs.TurnsMade.{EachTurn}
 use Rattle.map_run.proofs.Whole.{none_lost, no_losses, strands_of, strands_are_told, told_of_one}
 

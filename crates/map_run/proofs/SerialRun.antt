@@ -1,10 +1,9 @@
--- The calls of a run in serial order, one after another, and the spares that the first pass keeps before the first one.
-use Rattle.std.proofs.Common.{◌≡◌, ℕ, zero, suc, ◌<◌, ◌≤◌, true, List, [], ◌∷◌, ◌++◌, length, take, Option, Some, None, option_map, slice_get, refl, ap, sym, ◌∙◌, subst, ⊎_elim, arith}
+-- The spares that the first pass of a run in serial order keeps before the first call.
+use Rattle.std.proofs.Common.{◌≡◌, ℕ, ◌<◌, ◌≤◌, true, List, length, Option, Some, None, option_map, slice_get, refl, ap, sym, ◌∙◌, subst, ⊎_elim, arith}
 use Rattle.std.proofs.lemmas.Bool.{cases_lt}
 use Rattle.std.proofs.lemmas.List.{length-take}
-use Rattle.std.proofs.lemmas.Option.{none-some, same_Some, slice_get_past, slice_get-get_or}
+use Rattle.std.proofs.lemmas.Option.{none-some, slice_get_past, slice_get-get_or}
 use Rattle.map_types.specs.declared.attr.Shape.{Shape}
-use Rattle.map_types.specs.declared.call.Call.{Call}
 use Rattle.map_types.specs.declared.kind.MapKind.{MapKind}
 use Rattle.map_types.specs.declared.kind.MapKind.TheVariants.{Hash, PercpuHash, LruHash, LruPercpuHash}
 use Rattle.map_types.specs.Stored.{Stored}
@@ -16,13 +15,6 @@ use Rattle.place_table.specs.Passes.{PassView, TableView, spare_of, IsFirstPass}
 use Rattle.place_table.specs.Views.{is_among, is_in_hand_of, spares_from}
 use Rattle.place_table.proofs.FirstSpares.{spare_in_hand}
 use Rattle.place_table.proofs.Opens.{among}
-
--- The call of an index
-
-pub take_next : (calls : List Call) (n : ℕ) (call : Call) → slice_get calls n ≡ Some call → take (suc n) calls ≡ take n calls ++ call ∷ []
-take_next [] n call is = absurd (none-some call is)
-take_next (first ∷ calls) zero call is = ap (λ (c : Call). c ∷ []) (same_Some first call is)
-take_next (first ∷ calls) (suc n) call is = ap (λ (rest : List Call). first ∷ rest) (take_next calls n call is)
 
 -- The first pass
 

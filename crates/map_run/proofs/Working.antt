@@ -1,9 +1,7 @@
 -- The calls that a CPU has made, by one call more: its own, or another CPU's.
-use Rattle.std.proofs.Common.{◌≡◌, ◌≢◌, ℕ, suc, ◌+◌, ◌<◌, Bool, cond, eqb, List, [], ◌∷◌, ◌++◌, length, get_or, map, take, Option, refl, ap, sym, ◌∙◌, subst, arith, append_assoc, append-nil}
-use Rattle.std.specs.Prelude.{MatchBool, filter}
+use Rattle.std.proofs.Common.{◌≡◌, ◌≢◌, ℕ, suc, ◌+◌, ◌<◌, List, [], ◌∷◌, ◌++◌, length, get_or, map, take, Option, refl, ap, sym, ◌∙◌, subst, arith, append_assoc, append-nil}
+use Rattle.std.specs.Prelude.{MatchBool}
 use Rattle.std.proofs.lemmas.List.{length-append, length-take-le}
-use Rattle.std.proofs.lemmas.List.Elements.{filter-append}
-use Rattle.std.proofs.lemmas.Option.{slice_get_read}
 use Rattle.map_types.specs.declared.attr.Shape.{Shape}
 use Rattle.map_types.specs.declared.call.Call.{Call}
 use Rattle.map_types.specs.declared.reply.Reply.{Reply}
@@ -21,9 +19,9 @@ use Rattle.place_table.proofs.Going.{goes_of_table, kept_on}
 use Rattle.hash_ops.specs.Calls.{Called, element_of}
 use Rattle.hash_ops.proofs.Under.{trace_made, spare_made}
 use Rattle.map_report.specs.Record.{MayAnswer}
-use Rattle.map_run.specs.Work.{AreCallsBy, HasWorked, IsCallBy, count_of}
+use Rattle.run_endings.proofs.FileOrder.{calls_taken, count_own, count_other}
+use Rattle.map_run.specs.Work.{AreCallsBy, HasWorked, IsCallBy}
 use Rattle.map_run.proofs.CallsByLogs.{all_real}
-use Rattle.map_run.proofs.SerialRun.{take_next}
 
 -- the first call of a CPU's among calls, and the others
 abbrev pub Begins : Shape → ℕ → ℕ → Call → List Call → Option ℕ → Option ℕ → List Reply → List Turned → Type 0
@@ -81,26 +79,6 @@ other_more shape cpu number (x ∷ calls) call spare last replies steps are othe
     (λ _ y. (y.0, y.1, y.2, y.3, y.4, y.5, y.6, other_more shape cpu (suc number) calls call (spare_left shape spare (map (turn_at shape) y.0)) last y.3 y.1 y.7 other))
     (λ _ y. other_more shape cpu (suc number) calls call spare last replies steps y other)
     are
-
-abbrev is_on : ℕ → Call → Bool
-is_on cpu call = eqb call.cpu cpu
-
-count_more : (cpu : ℕ) (calls : List Call) (call : Call) → count_of cpu (calls ++ call ∷ []) ≡ count_of cpu calls + length (cond (is_on cpu call) (call ∷ []) [])
-count_more cpu calls call = ap length (filter-append (is_on cpu) calls (call ∷ [])) ∙ length-append (filter (is_on cpu) calls) (filter (is_on cpu) (call ∷ []))
-
-pub count_own : (cpu : ℕ) (calls : List Call) (call : Call) → call.cpu ≡ cpu → count_of cpu (calls ++ call ∷ []) ≡ count_of cpu calls + 1
-count_own cpu calls call own =
-    count_more cpu calls call ∙ ap (λ (k : ℕ). count_of cpu calls + k) (by_test call.cpu cpu (λ b. length (cond b (call ∷ []) []) ≡ 1) (λ _. refl) (λ other. absurd (other own)))
-
-pub count_other : (cpu : ℕ) (calls : List Call) (call : Call) → call.cpu ≢ cpu → count_of cpu (calls ++ call ∷ []) ≡ count_of cpu calls
-count_other cpu calls call other =
-    count_more cpu calls call ∙ ap (λ (k : ℕ). count_of cpu calls + k) (by_test call.cpu cpu (λ b. length (cond b (call ∷ []) []) ≡ 0) (λ own. absurd (other own)) (λ _. refl))
-    ∙ (let same : count_of cpu calls + 0 ≡ count_of cpu calls = omega arith in same)
-
-pub calls_taken : (calls : List Call) (n : ℕ) (call : Call) → n < length calls → call ≡ get_or calls n call → take (n + 1) calls ≡ take n calls ++ call ∷ []
-calls_taken calls n call within is =
-    let next : n + 1 ≡ suc n = omega arith in
-    ap (λ (k : ℕ). take k calls) next ∙ take_next calls n call (slice_get_read calls (length calls) n call refl within is)
 
 turn_tickets_append : (xs ys : List Turned) → turn_tickets (xs ++ ys) ≡ turn_tickets xs ++ turn_tickets ys
 turn_tickets_append [] ys = refl

@@ -10,8 +10,11 @@ use Rattle.map_report.specs.declared.record.RunRecord.{RunRecord}
 use Rattle.run_ends.specs.SourceReads.{Rose}
 use Rattle.run_ends.specs.Writes.{Written}
 use Rattle.map_run.specs.declared.pieces.Piece.{Piece}
-use Rattle.map_run.specs.declared.record.Finish.{Finish}
-use Rattle.map_run.specs.Finish.{Finishes, HasCause}
+use Rattle.run_endings.specs.declared.record.Finish.{Finish}
+use Rattle.run_endings.specs.Finish.{Finishes, HasCause}
+use Rattle.place_table.specs.Closing.{ClosedView}
+use Rattle.map_run.specs.Copies.{IsCopyOf}
+use Rattle.map_run.specs.Finish.{RanAs}
 use Rattle.map_run.specs.Parts.{lone_cpu}
 use Rattle.map_run.specs.Races.{IsRaceRecord, RanByMany, RanCalls, calls_of}
 
@@ -19,8 +22,8 @@ use Rattle.map_run.specs.Races.{IsRaceRecord, RanByMany, RanCalls, calls_of}
 -- sink tell: a run that is computed, and opens no table, is refused.
 abbrev pub KeptFromATable : Type 0
 KeptFromATable =
-    (words : List (List ℕ)) (left rest : Option (List ℕ)) (read_faults read_then : ℕ) (before after : Option Written) (write_faults written_then : ℕ) (finish : Finish) → finish.kept ≢ None → finish.closed ≡ None
-    → ¬ Finishes (HasCause words left rest (Rose read_faults read_then)) before after (Rose write_faults written_then) finish
+    (words : List (List ℕ)) (left rest : Option (List ℕ)) (read_faults read_then : ℕ) (before after : Option Written) (write_faults written_then : ℕ) (finish : Finish ClosedView) → finish.kept ≢ None → finish.closed ≡ None
+    → ¬ Finishes IsCopyOf (HasCause RanAs words left rest (Rose read_faults read_then)) before after (Rose write_faults written_then) finish
 
 -- what workers tell of calls isn't what is told of calls that are all of one CPU
 abbrev pub LoneCallsByOne : Type 0

@@ -1,5 +1,5 @@
 -- What the workers of a race did: each the calls of its CPU, one after another, each call with its turns and its reply.
-use Rattle.std.specs.Prelude.{◌≡◌, ℕ, suc, ◌+◌, ◌<◌, ◌≤◌, ◌==◌, Bool, not, MatchBool, All, List, [], ◌∷◌, ◌++◌, length, map, filter, Option, if◌then◌else◌}
+use Rattle.std.specs.Prelude.{◌≡◌, ℕ, suc, ◌+◌, ◌<◌, ◌≤◌, ◌==◌, Bool, not, MatchBool, All, List, [], ◌∷◌, ◌++◌, length, map, filter, Option}
 use Rattle.std.specs.List.{range_with_len}
 use Rattle.map_types.specs.declared.attr.Shape.{Shape}
 use Rattle.map_types.specs.declared.call.Call.{Call}
@@ -17,15 +17,9 @@ use Rattle.place_table.specs.Tickets.{turn_tickets}
 use Rattle.place_table.specs.Views.{all_strands, next}
 use Rattle.place_table.specs.Calls.{element_of}
 use Rattle.map_report.specs.Record.{MayAnswer}
+use Rattle.run_endings.specs.Replies.{count_of, replies_of}
 use Rattle.map_run.specs.ByLogs.{IsOfMap}
 use Rattle.map_run.specs.Phased.{IsWhole}
-
--- of one reply for each call those to the calls of a CPU
-abbrev pub replies_of : ℕ → List Call → List Reply → List Reply
-replies_of cpu [] replies = []
-replies_of cpu (call ∷ calls) [] = []
-replies_of cpu (call ∷ calls) (reply ∷ replies) =
-    if call.cpu == cpu then reply ∷ replies_of cpu calls replies else replies_of cpu calls replies
 
 -- A call of this number: its turns were made by its CPU in it, under locks of the map, and each after the turns of its lock before
 -- it they are a trace of it with the reply, by the spare that its CPU had.
@@ -44,10 +38,6 @@ AreCallsBy shape cpu number (call ∷ calls) spare last replies steps =
     × IsCallBy shape number call spare reply mine
     × AreCallsBy shape cpu (suc number) calls (spare_left shape spare (map (turn_at shape) mine)) last more rest)
     (AreCallsBy shape cpu (suc number) calls spare last replies steps)
-
--- how many of the calls are a CPU's
-abbrev pub count_of : ℕ → List Call → ℕ
-count_of cpu calls = length (filter (λ (call : Call). call.cpu == cpu) calls)
 
 -- whether a strand has a turn or a recorded step
 abbrev pub has_turn : Ended → Bool

@@ -1,7 +1,6 @@
 -- The workers of a phase: how their passes are split off the one that has all CPUs, and joined again.
-use Rattle.std.specs.Prelude.{◌≡◌, ◌≢◌, ℕ, suc, ◌<◌, ◌≤◌, ◌==◌, true, false, List, [], ◌∷◌, filter, length, None, slice_index_or, if◌then◌else◌}
+use Rattle.std.specs.Prelude.{◌≡◌, ◌≢◌, ℕ, suc, ◌<◌, ◌≤◌, ◌==◌, true, false, List, [], ◌∷◌, filter, length, None, if◌then◌else◌}
 use Rattle.map_types.specs.declared.call.Call.{Call}
-use Rattle.map_types.specs.declared.reply.Reply.{Reply}
 use Rattle.place_table.specs.Passes.{TableView, PassView, IsPassOf, IsInNoCall, spare_of}
 use Rattle.place_table.specs.Views.{is_among, all_strands}
 use Rattle.map_run.specs.declared.worker.Worker.{Worker}
@@ -66,7 +65,3 @@ pub record HaveEnded (t : TableView) (number : ℕ) (calls : List Call) (start p
   pub off : AreSplitOff t start 0 before
   pub done : HaveDone t number calls before workers
   pub count : length workers ≡ t.shape.cpus
-
--- of the replies of each CPU those of one
-abbrev pub replies_by : ℕ → List (List Reply) → List Reply
-replies_by cpu replies = slice_index_or replies cpu []

@@ -8,7 +8,6 @@ mod laws;
 mod one_call;
 mod phases;
 mod pieces;
-mod queue;
 mod race;
 mod record;
 mod serial;

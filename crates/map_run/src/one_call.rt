@@ -12,7 +12,7 @@ ghost use Rattle.map_report.specs.Record.{MayAnswer};
 ghost use Rattle.serial_laws.specs.Served.{IsServedCall};
 
 use crate::batch_calls::{batch_delete, batch_read, batch_update};
-use bucket_entries::Write;
+use bucket_chain::Write;
 use bucket_walks::BatchRequest;
 use map_batch::{AnyMap, next_key};
 use map_types::{Absent, Bytes, Call, Errno, Gate, NoMemory, Reply, Side, Verb, value_len};

@@ -1,7 +1,6 @@
 //! A race: a worker for each CPU, all at once.
 
-ghost use Rattle.std.specs.Prelude.{◌≡◌, ◌≢◌, ◌≤◌, ◌<◌, ◌+◌, ◌++◌, ℕ, suc, false, Some, [], ◌∷◌, All, IfOk, OnOk, length, slice_index_or, vec_capacity};
-ghost use Rattle.map_types.specs.declared.call.Call.{Call};
+ghost use Rattle.std.specs.Prelude.{◌≡◌, ◌≤◌, ◌<◌, ◌+◌, ◌++◌, ℕ, suc, false, Some, [], ◌∷◌, All, IfOk, OnOk, length, slice_index_or, vec_capacity};
 ghost use Rattle.map_types.specs.Creation.{IsShape};
 ghost use Rattle.map_script.specs.WellFormed.{HasPhases};
 ghost use Rattle.map_batch.specs.Calls.{table_of};
@@ -13,13 +12,12 @@ ghost use Rattle.map_run.specs.Parts.{lone_cpu, pieces_by};
 ghost use Rattle.map_run.specs.Phased.{IsWhole};
 ghost use Rattle.map_run.specs.Races.{HaveComeTo, IsRaceRecord, RanByMany, RanByOne, RanCalls};
 ghost use Rattle.serial_laws.specs.Served.{IsScript, IsServed, IsServedCall};
-ghost use Rattle.map_run.specs.Work.{HaveRaced, count_of, replies_of};
-ghost use Rattle.map_run.specs.Workers.{AreSplitOff, HasDone, HasSplit, HaveDone, HaveEnded, IsReady, replies_by};
+ghost use Rattle.map_run.specs.Work.{HaveRaced};
+ghost use Rattle.map_run.specs.Workers.{AreSplitOff, HasDone, HasSplit, HaveDone, HaveEnded, IsReady};
 
 use crate::RunRecord;
 use crate::phases::{lone_cpu, phase_end, phase_first, phase_start};
 use crate::pieces::Piece;
-use crate::queue::ReplyQueue;
 use crate::serial::{Told, calls_between, keep, run_calls};
 use crate::worker::{Worker, work};
 use map_batch::AnyMap;
@@ -27,6 +25,7 @@ use map_report::PhaseStart;
 use map_script::Script;
 use map_types::{Call, Gate, NoMemory, Reply};
 use place_table::{Closed, Pass};
+use run_endings::{ReplyQueue, in_file_order};
 use std::alloc::Global;
 use std::sync::Wait;
 use std::thread;
@@ -404,38 +403,4 @@ fn join_all(
     }
     let replies = in_file_order(alloc, calls, replies)?;
     Ok(Raced { replies, counts })
-}
-
-/// The replies of all CPUs, in the order of the calls.
-fn in_file_order(
-    alloc: Global,
-    calls: &[Call],
-    mut replies: Vec<ReplyQueue>,
-) -> Result<Vec<Reply>, NoMemory>
-    requires cpus { All (λ (call : Call). call.cpu < length replies.items) calls.now }
-    requires counted { (cpu : ℕ) → cpu < length replies.items
-        → length (replies_by cpu replies.items) ≡ count_of cpu calls.now }
-    ensures count { IfOk result (λ all. length all.items ≡ length calls.now) }
-    ensures each { IfOk result (λ all. (cpu : ℕ) → cpu < length replies.items
-        → replies_of cpu calls.now all.items ≡ replies_by cpu replies.items) }
-{
-    let mut all = Vec::with_capacity(alloc, calls.len())?;
-    for call in calls {
-        all.push(next_reply(replies.as_mut_slice(), call.cpu))?;
-    }
-    Ok(all)
-}
-
-/// Takes the first of the replies of a CPU that are left.
-fn next_reply(replies: &mut [ReplyQueue], cpu: u32) -> Reply
-    requires there { cpu < length replies.old }
-    requires left { 0 < length (replies_by cpu replies.old) }
-    ensures first { replies_by cpu replies.old ≡ result ∷ replies_by cpu replies.new }
-    ensures others { (other : ℕ) → other ≢ cpu
-        → replies_by other replies.new ≡ replies_by other replies.old }
-{
-    match replies[cpu as usize].pop() {
-        Some(reply) => reply,
-        None => unreachable!(),
-    }
 }

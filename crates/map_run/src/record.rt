@@ -1,26 +1,6 @@
 //! How a run of the program ended.
 
-ghost use Rattle.std.specs.Prelude.{◌≡◌};
-
-use map_report::RunRecord;
 use place_table::Closed;
 
-/// How a run of the program ended.
-#[derive(Drop)]
-pub struct Finish {
-    /// The status of the process, as `bpfmap` lists them.
-    pub status: u8,
-    /// The record of the run, exactly where its report was due: with status 0, and with 4 in the place of it.
-    pub kept: Option<RunRecord>,
-    /// What the run's table left when it was closed, exactly where the record is there.
-    pub closed: Option<Closed>,
-}
-
-impl Finish {
-    /// The status alone; what is kept is given up.
-    pub fn into_status(self) -> u8
-        ensures { result ≡ self.status }
-    {
-        self.status
-    }
-}
+/// How a run of the program ended, with what its table left when it was closed, exactly where the record is there.
+pub type Finish = run_endings::Finish<Closed>;

@@ -8,10 +8,10 @@ ghost use Rattle.map_run.specs.Work.{HasWorked};
 ghost use Rattle.map_run.specs.Workers.{IsReady};
 
 use crate::one_call::run_call;
-use crate::queue::ReplyQueue;
 use map_batch::AnyMap;
 use map_types::{Call, Gate, NoMemory, Point};
 use place_table::Pass;
+use run_endings::ReplyQueue;
 use std::alloc::Global;
 use std::sync::Wait;
 

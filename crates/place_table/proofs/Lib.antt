@@ -1,6 +1,10 @@
 pub mod Crossing
 pub mod BucketBodies
+pub mod BucketOut
+pub mod BucketPuts
+pub mod BucketTurned
 pub mod BucketTurns
+pub mod BucketUnder
 pub mod Came
 pub mod Closes
 pub mod CodeLemmas

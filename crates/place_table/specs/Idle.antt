@@ -2,7 +2,7 @@
 use Rattle.std.specs.Prelude.{◌≡◌, ℕ, ◌<◌, false, IsTrue, Some, List, [], if◌then◌else◌}
 use Rattle.map_types.specs.declared.attr.Shape.{Shape}
 use Rattle.map_types.specs.declared.kind.DomainId.{DomainId}
-use Rattle.map_types.specs.declared.kind.DomainId.TheVariants.{Local, Global, CpuLru, Bucket, Freelist}
+use Rattle.map_types.specs.declared.kind.DomainId.TheVariants.{Bucket, Freelist}
 use Rattle.map_types.specs.ElementLists.{IsIn}
 use Rattle.map_types.specs.Kind.{is_lru}
 use Rattle.key_hash.specs.Bucket.{bucket_number}

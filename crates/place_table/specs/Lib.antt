@@ -1,3 +1,6 @@
+pub mod BucketHeld
+pub mod BucketPuts
+pub mod BucketTurns
 pub mod Calls
 pub mod Closing
 pub mod Contents

@@ -5,7 +5,7 @@ use Rattle.atomic_table.specs.Table as table
 use Rattle.atomic_table.specs.Table.{Me, rest}
 use Rattle.map_types.specs.declared.attr.Shape.{Shape}
 use Rattle.map_types.specs.declared.kind.DomainId.{DomainId}
-use Rattle.map_types.specs.declared.kind.DomainId.TheVariants.{Local, Global, CpuLru, Bucket, Freelist}
+use Rattle.map_types.specs.declared.kind.DomainId.TheVariants.{Local, Global, CpuLru, Bucket}
 use Rattle.map_types.specs.Kind.{is_lru}
 use Rattle.place_words.specs.declared.history.Entry.{Entry}
 use Rattle.place_words.specs.declared.history.Part.{Part}

@@ -1,8 +1,12 @@
 //! The table that the CPUs of a map share: its locks with what lies under them, the owners, homes and bits of its
-//! elements, and the history of each lock.
+//! elements, and the history of each lock. Over it the turns of one bucket on a map of any kind: lookups, updates, deletes and
+//! takes of a key, from where the bucket is taken to where it is given back.
 #![tactic(auto)]
 
 mod body_copies;
+mod bucket_takes;
+mod bucket_turns;
+mod bucket_updates;
 mod close;
 mod closed;
 mod content;
@@ -22,6 +26,9 @@ mod strands;
 mod table;
 mod view;
 
+pub use bucket_takes::{TakenOut, delete_from, give_deleted, give_taken, take_from};
+pub use bucket_turns::{enter, look_up};
+pub use bucket_updates::{add, refuse, replace, write};
 pub use closed::Closed;
 pub use content::{Behind, Content, Listing};
 pub use gate_points::{At, Points};

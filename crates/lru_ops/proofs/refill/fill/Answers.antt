@@ -4,8 +4,8 @@ use Rattle.lru_ops.proofs.FilledUp.{few_moved, filled_up, none_pending_moved}
 use Rattle.lru_ops.proofs.Lacking.{lacked, may_shrink_into}
 use Rattle.lru_ops.proofs.refill.fill.Goals as goal
 
-pub rotate_under-requires : goal.rotate_under-requires
-rotate_under-requires g c = (c.type_bounds.sync-G, c.flush.ensures.leaves.walk)
+pub rotate_under-requires-clause-can : goal.rotate_under-requires-clause-can
+rotate_under-requires-clause-can g c κs within = c.flush.ensures.leaves.walk
 
 pub move_free-count-requires : goal.move_free-count-requires
 move_free-count-requires g c = record { can = fill_rotated c.flush.ensures.leaves c.rotate_under.ensures }

@@ -2,12 +2,13 @@ use Rattle.std.proofs.Common.{ℕ, ◌+◌, [], ◌∷◌, ap, ◌∙◌, arith,
 use Rattle.std.proofs.lemmas.List.Sums.{count_by-le-length}
 use Rattle.place_words.specs.Shrinking.{look_removed}
 use Rattle.row_list.specs.RowWords.{tail_row, row_before}
+use Rattle.lru_shrink.specs.Asking.{terms_of}
 use Rattle.lru_shrink.proofs.LookLoop.{looking_none, row_listed, room_now, noted_now, asked_row, probed_row, looking_more, looks_done, looks_leave}
 use Rattle.lru_shrink.proofs.looks.looks.Goals as goal
 
 pub loop-scan-init : goal.loop-scan-init
 loop-scan-init g c = (
-  looking_none g.P.Bits.can_note g.P.Bits.may_ask g.P.Bits.may_probe g.P.Bits.gives g.P.Bits.lender g.P.Bits.calls g.P.Bits.probes _ _ _ _ _ _
+  looking_none (terms_of g.P.Bits.can_note g.P.Bits.may_ask g.P.Bits.may_probe g.P.Bits.gives g.P.Bits.lender) g.P.Bits.calls g.P.Bits.probes _ _ _ _ _ _
       c.rows.ensures.whole (c.tail-at.ensures.exact ∙ ap tail_row c.rows.ensures.exact),
   c.requires.target,
 )

@@ -1,10 +1,11 @@
 use Rattle.std.proofs.Common.{◌∙◌, sym, arith, inl, inr}
+use Rattle.lru_shrink.specs.Asking.{terms_of}
 use Rattle.lru_shrink.proofs.SearchLoop.{unsparing_none, try_noted, try_probed, unsparing_more, unsparing_found, unsparing_found_leaves, unsparing_all, unsparing_all_leaves}
 use Rattle.lru_shrink.proofs.search.search_all.Goals as goal
 
 pub loop-try-init : goal.loop-try-init
 loop-try-init g c =
-    unsparing_none g.P.Bits.can_note g.P.Bits.may_ask g.P.Bits.may_probe g.P.Bits.gives g.P.Bits.lender g.P.Bits.calls g.P.Bits.probes _ _ _ _ c.tail-at.ensures.exact
+    unsparing_none (terms_of g.P.Bits.can_note g.P.Bits.may_ask g.P.Bits.may_probe g.P.Bits.gives g.P.Bits.lender) g.P.Bits.calls g.P.Bits.probes _ _ _ _ c.tail-at.ensures.exact
 
 -- no row is left
 pub returns-in_default : goal.returns-in_default

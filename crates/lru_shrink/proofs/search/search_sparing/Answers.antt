@@ -1,10 +1,11 @@
 use Rattle.std.proofs.Common.{◌∙◌, sym, arith, inl, inr}
+use Rattle.lru_shrink.specs.Asking.{terms_of}
 use Rattle.lru_shrink.proofs.SearchLoop.{sparing_none, look_noted, look_asked, look_probed, sparing_more, sparing_found, sparing_found_leaves, sparing_all, sparing_all_leaves}
 use Rattle.lru_shrink.proofs.search.search_sparing.Goals as goal
 
 pub loop-look-init : goal.loop-look-init
 loop-look-init g c =
-    sparing_none g.P.Bits.can_note g.P.Bits.may_ask g.P.Bits.may_probe g.P.Bits.gives g.P.Bits.lender g.P.Bits.calls g.P.Bits.probes _ _ _ _ c.tail-at.ensures.exact
+    sparing_none (terms_of g.P.Bits.can_note g.P.Bits.may_ask g.P.Bits.may_probe g.P.Bits.gives g.P.Bits.lender) g.P.Bits.calls g.P.Bits.probes _ _ _ _ c.tail-at.ensures.exact
 
 -- no row is left
 pub returns-in_default-clause-search : goal.returns-in_default-clause-search

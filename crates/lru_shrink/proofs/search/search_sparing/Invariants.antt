@@ -1,7 +1,8 @@
+use Rattle.lru_shrink.specs.Asking.{terms_of}
 use Rattle.lru_shrink.proofs.SearchLoop.{Sparing}
 use Rattle.lru_shrink.proofs.search.search_sparing.Given as goal
 
 abbrev pub invariant-loop-look : goal.invariant-loop-look
 invariant-loop-look g l =
-    Sparing g.P.Bits.can_note g.P.Bits.may_ask g.P.Bits.may_probe g.P.Bits.gives g.P.Bits.lender g.P.Bits.calls g.P.Bits.probes
+    Sparing (terms_of g.P.Bits.can_note g.P.Bits.may_ask g.P.Bits.may_probe g.P.Bits.gives g.P.Bits.lender) g.P.Bits.calls g.P.Bits.probes
     (g.R.Rows.rows l.fn.rows) l.fn.probe l.probe l.fn.notes l.notes l.at l._look

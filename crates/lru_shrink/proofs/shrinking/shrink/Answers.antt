@@ -16,12 +16,12 @@ forced-requires-clause-probed g c =
 pub returns-then-freed-eq0-clause-shrink : goal.returns-then-freed-eq0-clause-shrink
 returns-then-freed-eq0-clause-shrink g c =
     shrunk_by_force c.args.notes.now c.if-freed-eq0.true c.looks-freed.ensures.part
-    c.requires.target c.forced.ensures.part c.forced.ensures.calls (λ (body : Stored). (c.forced.ensures.only.given body).0)
+    c.requires.target c.forced.ensures.part (λ (body : Stored). (c.forced.ensures.only.given body).0)
 
 pub returns-then-freed-eq0-clause-only : goal.returns-then-freed-eq0-clause-only
 returns-then-freed-eq0-clause-only g c =
     shrunk_leaves c.args.notes.now c.if-freed-eq0.true c.looks-freed.ensures.part
-    c.requires.target c.forced.ensures.part c.forced.ensures.calls (λ (body : Stored). (c.forced.ensures.only.given body).0)
+    c.requires.target c.forced.ensures.part (λ (body : Stored). (c.forced.ensures.only.given body).0)
     c.looks-freed.ensures.only c.forced.ensures.only
 
 pub returns-else-freed-eq0-clause-shrink : goal.returns-else-freed-eq0-clause-shrink

@@ -8,4 +8,4 @@ returns-then-flags-gt-BPF_EXIST-clause-updates g c =
 
 pub returns-clause-updates : goal.returns-clause-updates
 returns-clause-updates g c =
-    updates_of c.args.self.now c.bucket_of_key-bucket.result c.args.pass.now c.enter-chain.new.pass c.update_in.new.pass c.enter-chain.result c.enter-chain.ensures c.requires.can c.args.side c.args.flags c.args.key.now c.args.value.now c.update_in.result c.bucket_of_key-bucket.ensures.value c.update_in.ensures.ends
+    updates_of c.args.self.now c.bucket_of_key-number.result c.args.pass.now c.enter-chain.new.pass c.update_in.new.pass c.enter-chain.result c.enter-chain.ensures c.requires.can c.args.side c.args.flags c.args.key.now c.args.value.now c.update_in.result c.bucket_of_key-number.ensures.value c.update_in.ensures.ends

@@ -1,28 +1,60 @@
-use Rattle.std.proofs.Common.{[], None, refl, sym, subst}
-use Rattle.map_types.specs.declared.kind.DomainId.TheVariants as locks
-use Rattle.place_words.specs.declared.bucket_part.BucketPart.TheVariants.{Update}
+use Rattle.std.proofs.Common.{refl, sym, subst, None}
+use Rattle.map_types.proofs.CreationLemmas.{bounds_of_shape}
 use Rattle.place_words.specs.declared.bucket_part.Put.TheVariants as puts
-use Rattle.place_table.specs.declared.content.Content.TheVariants as contents
-use Rattle.place_table.specs.Passes.{TableView, MayGiveBack, GaveBack}
-use Rattle.place_table.proofs.BucketTurns.{absent_turn}
-use Rattle.hash_ops.proofs.Under.{none_noted, may_kept, answered_kept, is_plain_of, update_trace}
+use Rattle.place_table.specs.Passes.{TableView}
+use Rattle.place_table.specs.BucketHeld.{HoldsBucket}
+use Rattle.place_table.specs.BucketPuts.{AreUpdateArguments, IsOffered, PutsInPlace, Adds}
+use Rattle.place_table.proofs.BucketUnder.{holds_bucket}
+use Rattle.hash_ops.proofs.Added.{may_look, holds_looked, is_offered, answered_added, answered_full}
+use Rattle.hash_ops.proofs.Between.{answered_put}
+use Rattle.hash_ops.proofs.Under.{is_plain_of}
 use Rattle.hash_ops.proofs.map.PlainMap.update_absent.Goals as goal
 
-pub give-requires-after_bounds : goal.give-requires-after_bounds
-give-requires-after_bounds g c κs within =
-    let t = c.args.self.now in
-    let q = c.args.pass.now in
+pub refuse-requires-clause-holds : goal.refuse-requires-clause-holds
+refuse-requires-clause-holds g c κs within =
     let a = c.args in
-    let turn = absent_turn t.shape q.cpu a.chain.bodies c.requires.inside.sized a.write.side a.write.flags a.write.key.now a.write.value.now None c.requires.absent c.if-write-eq-BPF_EXIST.true in
-    subst (λ (z : TableView). MayGiveBack z (locks.Bucket a.bucket) q (contents.Bucket a.chain) c.updated-part.result) (sym c.self.view_is)
-    (may_kept t a.bucket q a.chain.bodies a.chain (Update a.write.side a.write.flags a.write.key.now a.write.value.now None puts.Absent) c.updated-part.result c.requires.inside turn (none_noted _ _ _ _ (is_plain_of _ _ c.self.view_is c.self.invariant) refl) c.updated-part.ensures)
+    subst (λ (z : TableView). HoldsBucket z a.taken.number a.pass.now a.taken.chain.bodies) (sym c.self.view_is) (holds_bucket c.requires.inside)
 
 pub returns-then-write-eq-BPF_EXIST-clause-ends : goal.returns-then-write-eq-BPF_EXIST-clause-ends
 returns-then-write-eq-BPF_EXIST-clause-ends g c =
-    let t = c.args.self.now in
-    let q = c.args.pass.now in
     let a = c.args in
-    let turn = absent_turn t.shape q.cpu a.chain.bodies c.requires.inside.sized a.write.side a.write.flags a.write.key.now a.write.value.now None c.requires.absent c.if-write-eq-BPF_EXIST.true in
-    answered_kept t a.bucket q c.give.new.pass a.chain.bodies a.chain _ _ (Update a.write.side a.write.flags a.write.key.now a.write.value.now None puts.Absent) c.updated-part.result (is_plain_of _ _ c.self.view_is c.self.invariant) c.requires.inside c.requires.spares turn refl
-    c.updated-part.ensures (subst (λ (z : TableView). GaveBack z (locks.Bucket a.bucket) q c.give.new.pass (contents.Bucket a.chain) c.updated-part.result) c.self.view_is c.give.ensures)
-    (update_trace t a.bucket q.cpu _ a.write.side a.write.flags a.write.key.now a.write.value.now puts.Absent [] c.requires.gives refl) refl
+    answered_put (is_plain_of _ _ c.self.view_is c.self.invariant) c.requires.spares c.requires.known c.requires.gives puts.Absent
+    (subst (λ (z : TableView). PutsInPlace z a.taken.number a.pass.now c.refuse.new.pass a.write.side a.write.flags a.write.key.now a.write.value.now None puts.Absent) c.self.view_is c.refuse.ensures) refl refl
+
+pub pop-requires-after_bounds : goal.pop-requires-after_bounds
+pop-requires-after_bounds g c κs within = may_look c.requires.inside
+
+pub add-requires-clause-bounds : goal.add-requires-clause-bounds
+add-requires-clause-bounds g c κs within = bounds_of_shape _ c.self.invariant.0
+
+pub add-requires-clause-holds : goal.add-requires-clause-holds
+add-requires-clause-holds g c κs within =
+    let a = c.args in
+    subst (λ (z : TableView). HoldsBucket z a.taken.number c.pop.new.pass a.taken.chain.bodies) (sym c.self.view_is) (holds_looked (is_plain_of _ _ c.self.view_is c.self.invariant) c.requires.inside c.in-Some.ensures)
+
+pub add-requires-clause-gives : goal.add-requires-clause-gives
+add-requires-clause-gives g c κs within =
+    let a = c.args in
+    subst (λ (z : TableView). AreUpdateArguments z a.taken.number a.write.side a.write.key.now a.write.value.now) (sym c.self.view_is) c.requires.gives
+
+pub add-requires-clause-offered : goal.add-requires-clause-offered
+add-requires-clause-offered g c κs within =
+    let a = c.args in
+    subst (λ (z : TableView). IsOffered z a.taken.number c.pop.new.pass c.in-Some.body) (sym c.self.view_is) (is_offered (is_plain_of _ _ c.self.view_is c.self.invariant) c.requires.inside c.in-Some.ensures)
+
+pub returns-in-Some-clause-ends : goal.returns-in-Some-clause-ends
+returns-in-Some-clause-ends g c =
+    let a = c.args in
+    answered_added (is_plain_of _ _ c.self.view_is c.self.invariant) c.requires.inside a.write.side a.write.flags a.write.key.now a.write.value.now c.requires.known c.requires.gives c.requires.spares c.add.new.pass c.in-Some.ensures
+    (subst (λ (z : TableView). Adds z a.taken.number c.pop.new.pass c.add.new.pass a.write.side a.write.flags a.write.key.now a.write.value.now None c.in-Some.body.element) c.self.view_is c.add.ensures)
+
+pub refuse-requires-in-None-clause-holds : goal.refuse-requires-in-None-clause-holds
+refuse-requires-in-None-clause-holds g c κs within =
+    let a = c.args in
+    subst (λ (z : TableView). HoldsBucket z a.taken.number c.pop.new.pass a.taken.chain.bodies) (sym c.self.view_is) (holds_looked (is_plain_of _ _ c.self.view_is c.self.invariant) c.requires.inside c.in-None.ensures)
+
+pub returns-in-None-clause-ends : goal.returns-in-None-clause-ends
+returns-in-None-clause-ends g c =
+    let a = c.args in
+    answered_full (is_plain_of _ _ c.self.view_is c.self.invariant) c.requires.inside a.write.side a.write.flags a.write.key.now a.write.value.now c.requires.known c.requires.gives c.requires.spares c.refuse-in-None.new.pass c.in-None.ensures
+    (subst (λ (z : TableView). PutsInPlace z a.taken.number c.pop.new.pass c.refuse-in-None.new.pass a.write.side a.write.flags a.write.key.now a.write.value.now None puts.Full) c.self.view_is c.refuse-in-None.ensures)

@@ -1,30 +1,44 @@
-use Rattle.std.proofs.Common.{[], None, refl, sym, subst, ◌∙◌}
-use Rattle.map_types.specs.declared.kind.DomainId.TheVariants as locks
-use Rattle.place_words.specs.declared.bucket_part.BucketPart.TheVariants.{Update}
+use Rattle.std.proofs.Common.{refl, sym, subst, None}
+use Rattle.map_types.proofs.CreationLemmas.{bounds_of_shape}
 use Rattle.place_words.specs.declared.bucket_part.Put.TheVariants as puts
-use Rattle.place_table.specs.declared.content.Content.TheVariants as contents
-use Rattle.place_table.specs.Passes.{TableView, MayGiveBack, GaveBack}
-use Rattle.place_table.proofs.BucketTurns.{exists_turn}
-use Rattle.hash_ops.proofs.Under.{none_noted, may_kept, answered_kept, is_plain_of, update_trace}
+use Rattle.place_table.specs.Passes.{TableView}
+use Rattle.place_table.specs.BucketHeld.{HoldsBucket}
+use Rattle.place_table.specs.BucketPuts.{AreUpdateArguments, PutsInPlace, Writes}
+use Rattle.place_table.proofs.BucketPuts.{exists_allowed}
+use Rattle.place_table.proofs.BucketUnder.{holds_bucket}
+use Rattle.hash_ops.proofs.Between.{answered_put}
+use Rattle.hash_ops.proofs.Under.{is_plain_of}
 use Rattle.hash_ops.proofs.map.PlainMap.update_present.Goals as goal
 
-pub give-requires-after_bounds : goal.give-requires-after_bounds
-give-requires-after_bounds g c κs within =
-    let t = c.args.self.now in
-    let q = c.args.pass.now in
+pub refuse-requires-clause-holds : goal.refuse-requires-clause-holds
+refuse-requires-clause-holds g c κs within =
     let a = c.args in
-    let at = c.requires.at in
-    let turn = exists_turn t.shape q.cpu a.chain.bodies c.requires.inside.sized a.write.side a.write.flags a.write.key.now a.write.value.now None a.place (at.body_is ∙ sym at.present_is) at.below c.if-write-eq-BPF_NOEXIST.true in
-    subst (λ (z : TableView). MayGiveBack z (locks.Bucket a.bucket) q (contents.Bucket a.chain) c.updated-part.result) (sym c.self.view_is)
-    (may_kept t a.bucket q a.chain.bodies a.chain (Update a.write.side a.write.flags a.write.key.now a.write.value.now None puts.Exists) c.updated-part.result c.requires.inside turn (none_noted _ _ _ _ (is_plain_of _ _ c.self.view_is c.self.invariant) refl) c.updated-part.ensures)
+    subst (λ (z : TableView). HoldsBucket z a.taken.number a.pass.now a.taken.chain.bodies) (sym c.self.view_is) (holds_bucket c.requires.inside)
+
+pub refuse-requires-clause-allowed : goal.refuse-requires-clause-allowed
+refuse-requires-clause-allowed g c κs within = exists_allowed c.self.inside.table.shape c.requires.at c.if-write-eq-BPF_NOEXIST.true
 
 pub returns-then-write-eq-BPF_NOEXIST-clause-ends : goal.returns-then-write-eq-BPF_NOEXIST-clause-ends
 returns-then-write-eq-BPF_NOEXIST-clause-ends g c =
-    let t = c.args.self.now in
-    let q = c.args.pass.now in
     let a = c.args in
-    let at = c.requires.at in
-    let turn = exists_turn t.shape q.cpu a.chain.bodies c.requires.inside.sized a.write.side a.write.flags a.write.key.now a.write.value.now None a.place (at.body_is ∙ sym at.present_is) at.below c.if-write-eq-BPF_NOEXIST.true in
-    answered_kept t a.bucket q c.give.new.pass a.chain.bodies a.chain _ _ (Update a.write.side a.write.flags a.write.key.now a.write.value.now None puts.Exists) c.updated-part.result (is_plain_of _ _ c.self.view_is c.self.invariant) c.requires.inside c.requires.spares turn refl
-    c.updated-part.ensures (subst (λ (z : TableView). GaveBack z (locks.Bucket a.bucket) q c.give.new.pass (contents.Bucket a.chain) c.updated-part.result) c.self.view_is c.give.ensures)
-    (update_trace t a.bucket q.cpu _ a.write.side a.write.flags a.write.key.now a.write.value.now puts.Exists [] c.requires.gives refl) refl
+    answered_put (is_plain_of _ _ c.self.view_is c.self.invariant) c.requires.spares c.requires.known c.requires.gives puts.Exists
+    (subst (λ (z : TableView). PutsInPlace z a.taken.number a.pass.now c.refuse.new.pass a.write.side a.write.flags a.write.key.now a.write.value.now None puts.Exists) c.self.view_is c.refuse.ensures) refl refl
+
+pub write-requires-clause-bounds : goal.write-requires-clause-bounds
+write-requires-clause-bounds g c κs within = bounds_of_shape _ c.self.invariant.0
+
+pub write-requires-clause-holds : goal.write-requires-clause-holds
+write-requires-clause-holds g c κs within =
+    let a = c.args in
+    subst (λ (z : TableView). HoldsBucket z a.taken.number a.pass.now a.taken.chain.bodies) (sym c.self.view_is) (holds_bucket c.requires.inside)
+
+pub write-requires-clause-gives : goal.write-requires-clause-gives
+write-requires-clause-gives g c κs within =
+    let a = c.args in
+    subst (λ (z : TableView). AreUpdateArguments z a.taken.number a.write.side a.write.key.now a.write.value.now) (sym c.self.view_is) c.requires.gives
+
+pub returns-then-is_percpu-clause-ends : goal.returns-then-is_percpu-clause-ends
+returns-then-is_percpu-clause-ends g c =
+    let a = c.args in
+    let w = subst (λ (z : TableView). Writes z a.taken.number a.pass.now c.write.new.pass a.write.side a.write.flags a.write.key.now a.write.value.now None) c.self.view_is c.write.ensures in
+    answered_put (is_plain_of _ _ c.self.view_is c.self.invariant) c.requires.spares c.requires.known c.requires.gives (puts.Written w.written) w.gives refl refl

@@ -1,7 +1,0 @@
-use Rattle.map_types.specs.declared.kind.DomainId.TheVariants.{Global}
-use Rattle.lru_ops.specs.declared.probing.Destination.TheVariants.{LocalFree}
-use Rattle.lru_ops.specs.OwnTurns.{rows_on}
-use Rattle.lru_ops.proofs.probing.rotate_under.Given as goal
-
-abbrev pub ghosts-rotate_since : goal.ghosts-rotate_since
-ghosts-rotate_since g a = record { start = a.pass.now; lock = Global; rows = rows_on a.set.now; to = LocalFree }

@@ -1,7 +1,0 @@
-use Rattle.map_types.specs.declared.kind.DomainId.TheVariants.{CpuLru}
-use Rattle.lru_ops.specs.declared.probing.Destination.TheVariants.{OwnFree}
-use Rattle.lru_ops.specs.OwnTurns.{rows_on}
-use Rattle.lru_ops.proofs.probing.work_under.Given as goal
-
-abbrev pub ghosts-work_since : goal.ghosts-work_since
-ghosts-work_since g a = record { start = a.pass.now; lock = CpuLru a.pass.now.cpu; rows = rows_on a.set.now; to = OwnFree }

@@ -1,0 +1,171 @@
+-- How a run of the program ends: its status, what it writes, and what it keeps. Whatever runs its script says by RanAs which
+-- records are kept of it, and by IsCopyOf which are made of what its map left.
+use Rattle.std.specs.Prelude.{◌≡◌, ℕ, ◌≤◌, ◌⊎◌, false, List, ◌++◌, length, Option, Some, None, Result, Ok, Err, IsTrue, codes, decimal, nat_le, if◌then◌else◌, ⊤}
+use Rattle.run_endings.specs.declared.record.Finish.{Finish}
+use Rattle.map_report.specs.declared.record.Options.{Options}
+use Rattle.run_words.specs.declared.words.Asked.{Asked}
+use Rattle.run_words.specs.declared.words.Mode.{Mode}
+use Rattle.run_words.specs.declared.words.Mode.TheVariants.{Serial, Race, Gen}
+use Rattle.map_script.specs.declared.script.Script.{Script}
+use Rattle.map_report.specs.declared.record.RunRecord.{RunRecord}
+use Rattle.map_types.specs.declared.refusal.CreateRefusal.{CreateRefusal}
+use Rattle.map_types.specs.declared.refusal.CreateRefusal.TheVariants.{Einval, Enotsupp, Limit}
+use Rattle.map_types.specs.declared.refusal.Limit.{Limit as Bound}
+use Rattle.map_types.specs.declared.refusal.Limit.TheVariants.{Cpus, Max, Key, Value, Pool}
+use Rattle.map_script.specs.declared.refusal.Cause.{Cause}
+use Rattle.map_script.specs.declared.refusal.ScriptRefusal.{ScriptRefusal}
+use Rattle.map_script.specs.declared.refusal.ScriptRefusal.TheVariants.{Fault, Create, NoMemory}
+use Rattle.map_script.specs.declared.script.Form.{Form}
+use Rattle.map_script.specs.declared.script.Form.TheVariants.{Calls, Generator}
+use Rattle.map_script.specs.Reading.{read_as}
+use Rattle.map_script.specs.CauseName.{cause_name}
+use Rattle.run_ends.specs.SourceReads.{TakesFront, TakesAll}
+use Rattle.map_report.specs.Json.{json}
+use Rattle.map_report.specs.Summary.{summary}
+use Rattle.map_report.specs.Text.{report}
+use Rattle.run_words.specs.Words.{are_words, asked_of, mode_of}
+use Rattle.run_ends.specs.Writes.{Written, AddsWhole, AddsPrefix}
+use Rattle.workload_gen.specs.Generated.{generated_script}
+
+-- the form that the input of a mode has
+abbrev pub form_of : Mode → Form
+form_of Serial = Calls
+form_of Race = Calls
+form_of Gen = Generator
+
+-- the script that is run of one that was read: itself, or the one with the calls that its generator line stands for
+abbrev pub script_run : Mode → Script → Script
+script_run Serial script = script
+script_run Race script = script
+script_run Gen script = generated_script script
+
+-- how a run ends, before anything is written
+pub data Ending : Type 0 where
+  BadWords : Ending
+  ReadFault : Ending
+  TooLong : Ending
+  Faulty : ℕ → Cause → Ending
+  Refused : CreateRefusal → Ending
+  OutOfMemory : Ending
+  Ran : Asked → Script → RunRecord → Ending
+
+-- the status that it has
+abbrev pub status_of : Ending → ℕ
+status_of (Ran asked script kept) = 0
+status_of (Faulty line cause) = 1
+status_of BadWords = 2
+status_of ReadFault = 3
+status_of OutOfMemory = 5
+status_of (Refused why) = 6
+status_of TooLong = 7
+
+-- why a map can't be created
+abbrev pub limit_name : Bound → List ℕ
+limit_name Cpus = codes "cpus"
+limit_name Max = codes "max"
+limit_name Key = codes "key"
+limit_name Value = codes "value"
+limit_name Pool = codes "pool"
+
+abbrev pub refusal_name : CreateRefusal → List ℕ
+refusal_name Einval = codes "einval"
+refusal_name Enotsupp = codes "enotsupp"
+refusal_name (Limit limit) = codes "limit " ++ limit_name limit
+
+-- what is written of a run in lines: its report, or where the calls were generated a summary
+abbrev pub lines_of : Mode → Script → RunRecord → Options → List ℕ
+lines_of Serial script kept options = report script kept options
+lines_of Race script kept options = report script kept options
+lines_of Gen script kept options = summary script kept options
+
+-- what is written of a run: its lines, or a JSON object where that is asked for
+abbrev pub out : Asked → Script → RunRecord → List ℕ
+out asked script kept =
+    if asked.options.json then json script kept asked.options else lines_of asked.mode script kept asked.options
+
+-- what is to be written: what was kept of the script that was run of the one that was read, or a line
+abbrev pub text_due : Ending → List ℕ
+text_due (Ran asked script kept) = out asked (script_run asked.mode script) kept
+text_due (Faulty line cause) = codes "bpfmap: line " ++ decimal line ++ codes ": " ++ cause_name cause ++ codes "\n"
+text_due BadWords = codes "bpfmap: words\n"
+text_due ReadFault = codes "bpfmap: read\n"
+text_due OutOfMemory = codes "bpfmap: memory\n"
+text_due (Refused why) = codes "bpfmap: map refused: " ++ refusal_name why ++ codes "\n"
+text_due TooLong = codes "bpfmap: too long\n"
+
+-- what is kept of the run
+abbrev pub kept_of : Ending → Option RunRecord
+kept_of (Ran asked script kept) = Some kept
+kept_of _ = None
+
+-- what a map left of which the record was made, exactly where a record is kept
+abbrev pub IsKeptFrom : {C : Type 0} → (RunRecord → C → Type 0) → Option RunRecord → Option C → Type 0
+IsKeptFrom IsCopyOf None None = ⊤
+IsKeptFrom IsCopyOf (Some kept) (Some closed) = IsCopyOf kept closed
+IsKeptFrom IsCopyOf None (Some closed) = ⊥
+IsKeptFrom IsCopyOf (Some kept) None = ⊥
+
+-- an input was read to its end, and isn't too long
+pub record IsInput (before after : Option (List ℕ)) (input : List ℕ) : Type 0 where
+  pub all : TakesAll before after input
+  pub short : length input ≤ 16777216
+
+-- Which endings an input has that was read to its end, where this is asked for.
+abbrev pub HasInput : (Mode → Script → RunRecord → Type 0) → Asked → List ℕ → Ending → Type 0
+HasInput RanAs asked input (Ran was_asked script kept) =
+    (was_asked ≡ asked) × (read_as (form_of asked.mode) input ≡ Ok script) × RanAs asked.mode (script_run asked.mode script) kept
+HasInput RanAs asked input (Faulty line cause) = read_as (form_of asked.mode) input ≡ Err (Fault line cause)
+HasInput RanAs asked input (Refused why) = read_as (form_of asked.mode) input ≡ Err (Create why)
+HasInput RanAs asked input OutOfMemory = ⊤
+HasInput RanAs asked input _ = ⊥
+
+-- Which endings good words have, by what a source tells is left before and after, and by whether its count of faults
+-- rose.
+abbrev pub HasSource : (Mode → Script → RunRecord → Type 0) → Asked → Option (List ℕ) → Option (List ℕ) → Type 0 → Ending → Type 0
+HasSource RanAs asked before after rose BadWords = ⊥
+HasSource RanAs asked before after rose ReadFault = rose
+HasSource RanAs asked before after rose TooLong = (bytes : List ℕ) × TakesFront before after bytes × (length bytes ≡ 16777217)
+HasSource RanAs asked before after rose OutOfMemory = ⊤
+HasSource RanAs asked before after rose ending = (input : List ℕ) × IsInput before after input × HasInput RanAs asked input ending
+
+-- Which endings words have. Any words may end with memory not found.
+abbrev pub HasCause : (Mode → Script → RunRecord → Type 0) → List (List ℕ) → Option (List ℕ) → Option (List ℕ) → Type 0 → Ending → Type 0
+HasCause RanAs words before after rose BadWords = (are_words words ≡ false) × (after ≡ before)
+HasCause RanAs words before after rose OutOfMemory = ⊤
+HasCause RanAs words before after rose ending = IsTrue (are_words words) × HasSource RanAs (asked_of words) before after rose ending
+
+-- The text is written whole and flushed with the status that is due, or a prefix of it with status 4 and a fault.
+abbrev pub IsDelivered : ℕ → List ℕ → ℕ → Option Written → Option Written → Type 0 → Type 0
+IsDelivered due text status before after rose =
+    ((status ≡ due) × AddsWhole before after text) ⊎ ((status ≡ 4) × AddsPrefix before after text × rose)
+
+-- An ending was delivered, with what is kept of the run and what its map left.
+pub record Ends {C : Type 0} (IsCopyOf : RunRecord → C → Type 0) (ending : Ending) (before after : Option Written) (rose : Type 0) (finish : Finish C) : Type 0 where
+  pub kept : finish.kept ≡ kept_of ending
+  pub closed : IsKeptFrom IsCopyOf finish.kept finish.closed
+  pub delivered : IsDelivered (status_of ending) (text_due ending) finish.status before after rose
+
+-- how a run ended, by which endings it may have, and from what a sink tells before to what it tells after
+pub record Finishes {C : Type 0} (IsCopyOf : RunRecord → C → Type 0) (MayEnd : Ending → Type 0) (before after : Option Written) (rose : Type 0) (finish : Finish C) : Type 0 where
+  pub ending : Ending
+  pub cause : MayEnd ending
+  pub ends : Ends IsCopyOf ending before after rose finish
+
+-- The status of what an input is read as. Each script is run, so it ends with 0.
+abbrev pub status_read : Result Script ScriptRefusal → ℕ
+status_read (Ok script) = 0
+status_read (Err (Fault line cause)) = 1
+status_read (Err (Create why)) = 6
+status_read (Err NoMemory) = 5
+
+-- the status of words and an input, where memory is found and no count of faults rises
+abbrev pub status_due : List (List ℕ) → List ℕ → ℕ
+status_due words input =
+    if are_words words
+    then (if nat_le (length input) 16777216 then status_read (read_as (form_of (mode_of words)) input) else 7)
+    else 2
+
+-- Each status has its cause: it is the one due, or a read failed, a write failed, or memory was not found.
+abbrev pub IsStatus : ℕ → ℕ → Type 0 → Type 0 → Type 0
+IsStatus due status source_rose sink_rose =
+    (status ≡ due) ⊎ ((status ≡ 3) × source_rose) ⊎ ((status ≡ 4) × sink_rose) ⊎ (status ≡ 5)

@@ -1,0 +1,303 @@
+//! How a run of the program begins and ends: from the words and the input to the script that is to be run, and from what is
+//! kept of its run to what is written.
+
+ghost use Rattle.std.specs.Prelude.{◌≡◌, ◌≤◌, ◌++◌, ℕ, List, None, false, length, map, codes, decimal, IfOk, IfErr, IsOk, OnOk, string_bytes};
+ghost use Rattle.run_words.specs.declared.words.Asked.{Asked};
+ghost use Rattle.run_endings.specs.Finish.{form_of, lines_of, out, refusal_name, script_run, HasCause, HasInput, HasSource, IsDelivered, IsInput};
+ghost use Rattle.run_endings.specs.Runs.{EndsEarly, EndsRun, EndsWithout, IsDue, IsDueOf, NeverRan};
+ghost use Rattle.map_script.specs.CauseName.{cause_name};
+ghost use Rattle.map_script.specs.Reading.{IsReadAs, read_as};
+ghost use Rattle.run_ends.specs.SourceReads.{Rose};
+ghost use Rattle.serial_laws.specs.Served.{IsScript};
+ghost use Rattle.run_words.specs.Words.{are_words};
+
+use crate::Finish;
+use map_report::{RunRecord, json_of, summary_of, text_of};
+use map_script::{Cause, Form, Script, ScriptRefusal, read_script};
+use map_types::{CreateRefusal, Limit, NoMemory};
+use run_ends::{ReadStop, Sink, Source, deliver, read_all};
+use run_words::{Asked, Mode, WordsStop, asked_of};
+use std::alloc::{AllocError, Global};
+use std::io::Write;
+use workload_gen::generate;
+
+/// A script that is to be run, as the words ask for it.
+#[derive(Drop)]
+pub struct Due {
+    /// What the words ask for.
+    pub asked: Asked,
+    /// The script: the one that was read, or in mode `gen` the one with the calls that its generator line stands for.
+    pub script: Script,
+}
+
+/// Looks at the words of the program and reads a script to its end. Where no script is to be run, it writes the line that is due
+/// and answers the status with which the program ends.
+pub fn begin<S: Source, K: Sink>(
+    alloc: Global,
+    words: &[String],
+    source: &mut S,
+    sink: &mut K,
+) -> Result<Due, u8>
+    // A script is to be run exactly as the words and the input have it.
+    ensures due { IfOk result (IsDue (map string_bytes words.now) (S.left source.old) (S.left source.new)) }
+    ensures script { IfOk result (λ due. IsScript due.script) }
+    ensures unwritten { IsOk result → sink.new ≡ sink.old }
+
+    // Else the run has ended with a cause, and its line was written.
+    ensures early { IfErr result (EndsEarly (HasCause NeverRan (map string_bytes words.now)
+        (S.left source.old) (S.left source.new)
+        (Rose (S.faults source.old) (S.faults source.new))) (K.written sink.old)
+        (K.written sink.new)
+        (Rose (K.faults sink.old) (K.faults sink.new))) }
+
+    // With other words nothing is read.
+    ensures unread { are_words (map string_bytes words.now) ≡ false → source.new ≡ source.old }
+{
+    match asked_of(alloc, words) {
+        Ok(asked) => begin_with_source(alloc, asked, source, sink),
+        Err(WordsStop::Other) => Err(end_with_line(sink, 2, b"bpfmap: words\n")),
+        Err(WordsStop::NoMemory) => Err(end_with_line(sink, 5, b"bpfmap: memory\n")),
+    }
+}
+
+impl Due {
+    /// Ends the run of the script: writes what is due of its record, with the status 0, and keeps that and what its map left.
+    /// Where memory was not found, the status is 5 and a line is written.
+    pub fn end<C: Drop, K: Sink>(
+        self,
+        alloc: Global,
+        ran: Result<(RunRecord, C), NoMemory>,
+        sink: &mut K,
+    ) -> Finish<C>
+        ensures { EndsRun self ran (K.written sink.old) (K.written sink.new)
+            (Rose (K.faults sink.old) (K.faults sink.new)) result }
+    {
+        let Ok((kept, closed)) = ran else {
+            return out_of_memory(sink);
+        };
+        let Ok(text) = text_in(alloc, self.asked, &self.script, &kept) else {
+            return out_of_memory(sink);
+        };
+        let status = match deliver(sink, text.as_slice()) {
+            Ok(()) => 0,
+            Err(_) => 4,
+        };
+        Finish {
+            status,
+            kept: Some(kept),
+            closed: Some(closed),
+        }
+    }
+}
+
+/// Ends a run for which memory was not found.
+fn out_of_memory<C, K: Sink>(sink: &mut K) -> Finish<C>
+    ensures { EndsWithout (K.written sink.old) (K.written sink.new)
+        (Rose (K.faults sink.old) (K.faults sink.new)) result }
+{
+    Finish {
+        status: end_with_line(sink, 5, b"bpfmap: memory\n"),
+        kept: None,
+        closed: None,
+    }
+}
+
+/// Ends a run with a line, and answers its status.
+fn end_with_line<K: Sink>(sink: &mut K, status: u8, line: &[u8]) -> u8
+    ensures { IsDelivered status line.now result (K.written sink.old) (K.written sink.new)
+        (Rose (K.faults sink.old) (K.faults sink.new)) }
+{
+    match deliver(sink, line) {
+        Ok(()) => status,
+        Err(_) => 4,
+    }
+}
+
+/// What is written of a run.
+fn text_in(
+    alloc: Global,
+    asked: Asked,
+    script: &Script,
+    kept: &RunRecord,
+) -> Result<Vec<u8>, NoMemory>
+    ensures { IfOk result (λ text. text.items ≡ out asked script.now kept.now) }
+{
+    if asked.options.json {
+        json_of(alloc, script, kept, asked.options)
+    } else {
+        lines_in(alloc, asked, script, kept)
+    }
+}
+
+/// What is written of a run in lines.
+fn lines_in(
+    alloc: Global,
+    asked: Asked,
+    script: &Script,
+    kept: &RunRecord,
+) -> Result<Vec<u8>, NoMemory>
+    ensures { IfOk result (λ text. text.items
+        ≡ lines_of asked.mode script.now kept.now asked.options) }
+{
+    match asked.mode {
+        Mode::Serial | Mode::Race => text_of(alloc, script, kept, asked.options),
+        Mode::Gen => summary_of(alloc, script, kept, asked.options),
+    }
+}
+
+/// The script that is run of one that was read: itself, or the one with the calls that its generator line stands for.
+fn script_due(alloc: Global, mode: Mode, script: Script) -> Result<Script, NoMemory>
+    requires read { IsReadAs (form_of mode) script }
+    requires script { IsScript script }
+    ensures exact { IfOk result (λ due. due ≡ script_run mode script) }
+    ensures script { IfOk result (λ due. IsScript due) }
+{
+    match mode {
+        Mode::Serial | Mode::Race => Ok(script),
+        Mode::Gen => {
+            let generated = generate(alloc, &script)?;
+            Ok(generated)
+        }
+    }
+}
+
+/// Where a script was read, it is to be run.
+fn begin_with_script<K: Sink>(
+    alloc: Global,
+    asked: Asked,
+    input: &[u8],
+    script: Script,
+    sink: &mut K,
+) -> Result<Due, u8>
+    requires short { length input.now ≤ 16777216 }
+    requires read { read_as (form_of asked.mode) input.now ≡ Ok script }
+    ensures due { IfOk result (IsDueOf asked input.now) }
+    ensures script { IfOk result (λ due. IsScript due.script) }
+    ensures unwritten { IsOk result → sink.new ≡ sink.old }
+    ensures early { IfErr result (EndsEarly (HasInput NeverRan asked input.now) (K.written sink.old) (K.written sink.new)
+        (Rose (K.faults sink.old) (K.faults sink.new))) }
+{
+    match script_due(alloc, asked.mode, script) {
+        Ok(script) => Ok(Due { asked, script }),
+        Err(NoMemory) => Err(end_with_line(sink, 5, b"bpfmap: memory\n")),
+    }
+}
+
+/// The line of a map that can't be created.
+fn refusal_line(why: CreateRefusal) -> &'static str
+    ensures { result.now ≡ codes "bpfmap: map refused: " ++ refusal_name why ++ codes "\n" }
+{
+    match why {
+        CreateRefusal::Einval => "bpfmap: map refused: einval\n",
+        CreateRefusal::Enotsupp => "bpfmap: map refused: enotsupp\n",
+        CreateRefusal::Limit(Limit::Cpus) => "bpfmap: map refused: limit cpus\n",
+        CreateRefusal::Limit(Limit::Max) => "bpfmap: map refused: limit max\n",
+        CreateRefusal::Limit(Limit::Key) => "bpfmap: map refused: limit key\n",
+        CreateRefusal::Limit(Limit::Value) => "bpfmap: map refused: limit value\n",
+        CreateRefusal::Limit(Limit::Pool) => "bpfmap: map refused: limit pool\n",
+    }
+}
+
+/// The line of a fault of a script.
+fn fault_line(alloc: Global, line: u32, cause: Cause) -> Result<Vec<u8>, AllocError>
+    ensures { IfOk result (λ text. text.items
+        ≡ codes "bpfmap: line " ++ decimal line ++ codes ": " ++ cause_name cause ++ codes "\n") }
+{
+    let mut text = Vec::new(alloc);
+    text.extend_from_slice(b"bpfmap: line ")?;
+    push_number(&mut text, line)?;
+    text.extend_from_slice(b": ")?;
+    text.extend_from_slice(cause.name().as_bytes())?;
+    text.extend_from_slice(b"\n")?;
+    Ok(text)
+}
+
+/// Adds a number in decimal digits.
+fn push_number(text: &mut Vec<u8>, number: u32) -> Result<(), AllocError>
+    ensures { OnOk result (text.new.items ≡ text.old.items ++ decimal number) }
+{
+    match write!(text, "{number}") {
+        Ok(()) => Ok(()),
+        Err(_) => Err(AllocError),
+    }
+}
+
+/// Ends a run whose script has a fault.
+fn end_with_fault<K: Sink>(alloc: Global, input: &[u8], sink: &mut K, line: u32, cause: Cause) -> u8
+    ensures { (asked : Asked)
+        → read_as (form_of asked.mode) input.now ≡ Err (ScriptRefusal.Fault line cause)
+        → EndsEarly (HasInput NeverRan asked input.now) (K.written sink.old) (K.written sink.new)
+        (Rose (K.faults sink.old) (K.faults sink.new)) result }
+{
+    let Ok(text) = fault_line(alloc, line, cause) else {
+        return end_with_line(sink, 5, b"bpfmap: memory\n");
+    };
+    end_with_line(sink, 1, text.as_slice())
+}
+
+/// Ends a run whose script has a map that can't be created.
+fn end_with_refusal<K: Sink>(input: &[u8], sink: &mut K, why: CreateRefusal) -> u8
+    ensures { (asked : Asked)
+        → read_as (form_of asked.mode) input.now ≡ Err (ScriptRefusal.Create why)
+        → EndsEarly (HasInput NeverRan asked input.now) (K.written sink.old) (K.written sink.new)
+        (Rose (K.faults sink.old) (K.faults sink.new)) result }
+{
+    end_with_line(sink, 6, refusal_line(why).as_bytes())
+}
+
+/// The form that the input of a mode has.
+fn form_of(mode: Mode) -> Form
+    ensures { result ≡ form_of mode }
+{
+    match mode {
+        Mode::Serial | Mode::Race => Form::Calls,
+        Mode::Gen => Form::Generator,
+    }
+}
+
+/// Begins a run whose input was read to its end.
+fn begin_with_input<K: Sink>(
+    alloc: Global,
+    asked: Asked,
+    input: &[u8],
+    sink: &mut K,
+) -> Result<Due, u8>
+    requires { length input.now ≤ 16777216 }
+    ensures due { IfOk result (IsDueOf asked input.now) }
+    ensures script { IfOk result (λ due. IsScript due.script) }
+    ensures unwritten { IsOk result → sink.new ≡ sink.old }
+    ensures early { IfErr result (EndsEarly (HasInput NeverRan asked input.now) (K.written sink.old) (K.written sink.new)
+        (Rose (K.faults sink.old) (K.faults sink.new))) }
+{
+    match read_script(alloc, input, form_of(asked.mode)) {
+        Ok(script) => begin_with_script(alloc, asked, input, script, sink),
+        Err(ScriptRefusal::Fault { line, cause }) => Err(end_with_fault(
+            alloc, input, sink, line, cause,
+        )),
+        Err(ScriptRefusal::Create(why)) => Err(end_with_refusal(input, sink, why)),
+        Err(ScriptRefusal::NoMemory) => Err(end_with_line(sink, 5, b"bpfmap: memory\n")),
+    }
+}
+
+/// Begins a run whose words are good.
+fn begin_with_source<S: Source, K: Sink>(
+    alloc: Global,
+    asked: Asked,
+    source: &mut S,
+    sink: &mut K,
+) -> Result<Due, u8>
+    ensures due { IfOk result (λ due. (input : List ℕ) × IsInput (S.left source.old) (S.left source.new) input × IsDueOf asked input due) }
+    ensures script { IfOk result (λ due. IsScript due.script) }
+    ensures unwritten { IsOk result → sink.new ≡ sink.old }
+    ensures early { IfErr result (EndsEarly (HasSource NeverRan asked (S.left source.old) (S.left source.new)
+        (Rose (S.faults source.old) (S.faults source.new))) (K.written sink.old)
+        (K.written sink.new)
+        (Rose (K.faults sink.old) (K.faults sink.new))) }
+{
+    match read_all(alloc, source) {
+        Ok(input) => begin_with_input(alloc, asked, input.as_slice(), sink),
+        Err(ReadStop::Failed) => Err(end_with_line(sink, 3, b"bpfmap: read\n")),
+        Err(ReadStop::TooLong) => Err(end_with_line(sink, 7, b"bpfmap: too long\n")),
+        Err(ReadStop::NoMemory) => Err(end_with_line(sink, 5, b"bpfmap: memory\n")),
+    }
+}

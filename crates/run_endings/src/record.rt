@@ -1,0 +1,25 @@
+//! How a run of the program ended.
+
+ghost use Rattle.std.specs.Prelude.{◌≡◌};
+
+use map_report::RunRecord;
+
+/// How a run of the program ended.
+#[derive(Drop)]
+pub struct Finish<C> {
+    /// The status of the process, as `bpfmap` lists them.
+    pub status: u8,
+    /// The record of the run, exactly where its report was due: with status 0, and with 4 in the place of it.
+    pub kept: Option<RunRecord>,
+    /// What the run's map left when it was closed, exactly where the record is there.
+    pub closed: Option<C>,
+}
+
+impl<C: Drop> Finish<C> {
+    /// The status alone; what is kept is given up.
+    pub fn into_status(self) -> u8
+        ensures { result ≡ self.status }
+    {
+        self.status
+    }
+}
