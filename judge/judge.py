@@ -7,6 +7,9 @@ from locks import opening
 from reports import Unlawful, need, number, read_report
 from scripts import read_script
 
+# What races are made for, each with the name under which it is counted.
+EVENTS = {"a theft": "steals", "an ENOMEM": "enomem", "a push that found its element moved": "pushes moved"}
+
 
 def judge(text, report_text, is_race=False):
     """Raises Unlawful where the rules don't allow the report. The answer counts what happened."""
@@ -32,6 +35,11 @@ def judge(text, report_text, is_race=False):
     ends.append(list(map(number, report.dump[-1].split(" ")[1:])) if made.evicts else [])
     check_bits(made, report.phases, turns, ends, exact)
     return counts
+
+
+def unseen(runs):
+    """What races are made for, of which the counts of none of these runs tell."""
+    return [event for event, name in EVENTS.items() if not any(counts[name] for counts in runs)]
 
 
 def check_calls(made, callers, report, phase, calls, is_exact):

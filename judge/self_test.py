@@ -3,7 +3,7 @@ import pathlib
 
 from drafts import Draft, drop, entry, exchange, in_serial_form, line, line_changes, move, split, start, steps, strand_goes
 from drafts import swap, ticket, word_changes
-from judge import judge
+from judge import judge, unseen
 from reports import Unlawful
 from scripts import read_script
 
@@ -249,6 +249,15 @@ REFUSED = [
         entry("bucket 0", 4, "got 2 a3", "got 1 a3"),
     ),
 ]
+# Reports that runs left, and what races are made for that none of these saw.
+UNSEEN = [
+    ("moved held stolen", []),
+    ("held stolen", ["a push that found its element moved"]),
+    ("moved stolen", ["an ENOMEM"]),
+    ("moved held", ["a theft"]),
+    ("spare walks", ["a theft", "an ENOMEM", "a push that found its element moved"]),
+    ("", ["a theft", "an ENOMEM", "a push that found its element moved"]),
+]
 # Scripts that are none.
 NO_SCRIPTS = [
     ("a line `phase` in version 1", "bpfmap 1\n{map}\nphase\n"),
@@ -337,6 +346,10 @@ def self_test():
         why = refusal(script, edited(report, edits))
         print(f"{name}, {what}:", f"passes: {reason}" if why is None else f"REFUSED: {why}")
         failed += why is not None
+    for names, wanted in UNSEEN:
+        found = unseen([judge(*texts[name]) for name in names.split()])
+        print(f"runs that left {names or 'nothing'}:", f"they saw all but {found}" if found == wanted else f"NOT {wanted}: {found}")
+        failed += found != wanted
     for what, text in NO_SCRIPTS:
         is_read = True
         try:

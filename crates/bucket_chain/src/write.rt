@@ -1,4 +1,4 @@
-//! What an update asks for, and the bucket that it finds.
+//! A bucket that is held, and what an update asks for in it.
 
 use crate::chain::Chain;
 use map_types::Side;
@@ -13,7 +13,7 @@ pub struct Write<'a> {
     pub value: &'a [u8],
 }
 
-/// A bucket whose lock is held: its number, and what lay under the lock.
+/// A bucket whose lock is held: its number, and what lies there now.
 #[derive(Drop)]
 pub struct TakenBucket {
     pub number: u32,

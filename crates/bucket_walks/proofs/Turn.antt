@@ -1,5 +1,5 @@
--- The turn of a bucket that is left as it is: how the bucket is taken, what it asks when it is given back, and what is left then.
-use Rattle.std.proofs.Common.{◌≡◌, ℕ, ◌<◌, true, List, [], ◌∷◌, ◌++◌, inl, inr, sym, refl, ap, ◌∙◌, subst, Option, Some, None}
+-- The turn of a bucket that is left as it is: what it asks when the bucket is given back, and what is left then.
+use Rattle.std.proofs.Common.{◌≡◌, ℕ, true, List, [], ◌∷◌, ◌++◌, inl, inr, sym, refl, ap, ◌∙◌, subst, Option, Some, None}
 use Rattle.std.specs.Prelude.{IsTrue, IfSome, All}
 use Rattle.std.proofs.lemmas.List.Elements.{All-nil, All-cons}
 use Rattle.map_types.specs.declared.attr.Shape.{Shape}
@@ -29,50 +29,18 @@ use Rattle.place_table.specs.Flushes.{flushes}
 use Rattle.place_table.specs.InBucket.{InBucket}
 use Rattle.place_table.specs.Known.{IsBy, Learns}
 use Rattle.place_table.specs.Passes.{PassView, TableView, TookLock, CanGive, GaveBack, MayGiveBack, Goes, with_view, entry_of, ready, TookTicket}
-use Rattle.place_table.specs.Plays.{IsApartFromHands}
 use Rattle.place_table.specs.TurnNotes.{NotesFit, WasRead, ProbeFits, CameToHand}
-use Rattle.place_table.specs.Views.{known_log, holding, given, with_lost, no_notes, notes_below, holds_below, ticket_of}
+use Rattle.place_table.specs.Views.{known_log, given, with_lost, no_notes, notes_below, holds_below, ticket_of}
 use Rattle.place_table.proofs.BucketBodies.{rows_taken}
 use Rattle.place_table.proofs.Entries.{append_nil}
 use Rattle.place_table.proofs.Ranges.{bucket_there}
 use Rattle.place_table.proofs.TakeToGive.{none_passed}
-use Rattle.place_table.proofs.Going.{goes_on, goes_took, goes_gave, goes_gave_some, goes_of_table, goes_begun, given_turn, same_head, learns_after, learns_took, learns_gave}
+use Rattle.place_table.proofs.Going.{goes_on, goes_took, goes_gave, goes_gave_some, given_turn, same_head, learns_after, learns_took, learns_gave}
 use Rattle.place_table.proofs.StoredHashes.{none_stored}
 use Rattle.place_table.proofs.TurnClears.{same_clears}
 use Rattle.place_table.proofs.Worlds.{among_first}
-use Rattle.bucket_walks.specs.Looks.{CanEnter, Enters, IsLook, LooksInto}
+use Rattle.bucket_walks.specs.Looks.{IsLook, LooksInto}
 use Rattle.bucket_walks.proofs.Told.{marks_none, probes_none}
-
--- Entering
-
-pub enters : {t : TableView} {bucket : ℕ} {p q : PassView} {chain : BodyList} → CanEnter t bucket p → TookLock t (Bucket bucket) p q (contents.Bucket chain) → Enters t bucket p q chain
-enters {t} {bucket} {p} {q} {chain} enter took =
-    let can = enter.can in
-    let goes = goes_took t (Bucket bucket) p q (contents.Bucket chain) took in
-    let view : q.view ≡ holding took.at took.hold p.view = ap (λ (z : PassView). z.view) took.after_is in
-    record {
-      no_lock = can.no_lock;
-      took = took;
-      inside = record {
-        of_table = goes_of_table t p q [] [] goes can.of_table;
-        begun = goes_begun p q [] [] goes can.begun;
-        there = enter.there;
-        cpu_there = subst (λ (c : ℕ). c < t.shape.cpus) (sym goes.cpu) took.within;
-        hold = took.hold;
-        below = p.view.notes;
-        held = ap (λ (v : View). v.held) view ∙ ap (λ (l : List Hold). took.hold ∷ l) can.no_lock;
-        notes = ap (λ (v : View). v.notes) view;
-        lock_is = took.lock_is;
-        cpu_is = took.cpu_is ∙ sym goes.cpu;
-        content_is = took.told_is;
-        legal = took.legal;
-        now = took.now;
-        elements = took.elements;
-        apart = subst (λ (v : View). IsApartFromHands v (Bucket bucket) took.hold.now) (sym view) took.apart;
-        sized = took.fits;
-        known = λ log is_known. took.known log (ap (λ (n : ℕ). known_log n p.view.known) (sym took.lock_is) ∙ (ap (λ (v : View). known_log took.hold.lock v.known) (sym view) ∙ is_known));
-      };
-    }
 
 -- Giving back
 

@@ -1,9 +1,8 @@
 -- What a walk over buckets asks of a pass, what each of its turns tells, and what the turns so far leave.
-use Rattle.std.specs.Prelude.{◌≡◌, ◌⊎◌, ℕ, ◌<◌, Bool, false, All, List, [], ◌∷◌, length, map, Option, None, Some, if◌then◌else◌}
+use Rattle.std.specs.Prelude.{◌≡◌, ◌⊎◌, ℕ, Bool, false, All, List, [], ◌∷◌, length, map, Option, None, Some, if◌then◌else◌}
 use Rattle.map_types.specs.declared.kind.DomainId.TheVariants.{Bucket}
 use Rattle.map_types.specs.declared.reply.Reply.{Reply}
 use Rattle.map_types.specs.Stored.{Stored}
-use Rattle.percpu_values.specs.BodyList.{BodyList}
 use Rattle.place_words.specs.declared.bucket_part.BucketPart.{BucketPart}
 use Rattle.place_words.specs.declared.bucket_part.BucketPart.TheVariants.{Next, First, Walk}
 use Rattle.place_words.specs.declared.bucket_part.NextFound.{NextFound}
@@ -13,12 +12,10 @@ use Rattle.place_words.specs.declared.history.Part.{Part}
 use Rattle.place_words.specs.declared.history.Part.TheVariants as parts
 use Rattle.place_words.specs.Turns.{Turn, on_lock}
 use Rattle.place_words.specs.Walks.{Firsts, buckets_from}
-use Rattle.place_table.specs.declared.content.Content.TheVariants as contents
 use Rattle.place_table.specs.declared.view.Turned.{Turned}
 use Rattle.place_table.specs.Calls.{AreTold}
-use Rattle.place_table.specs.InBucket.{InBucket}
 use Rattle.place_table.specs.Known.{Learns, turn_of, IsBy}
-use Rattle.place_table.specs.Passes.{PassView, TableView, IsPassOf, HasBegun, TookLock, Went}
+use Rattle.place_table.specs.Passes.{PassView, TableView, IsPassOf, HasBegun, Went}
 use Rattle.bucket_walks.specs.declared.parts.After.{After}
 use Rattle.bucket_walks.specs.declared.parts.After.TheVariants as afters
 
@@ -27,17 +24,6 @@ pub record CanWalk (t : TableView) (p : PassView) : Type 0 where
   pub of_table : IsPassOf t p
   pub begun : HasBegun p
   pub no_lock : p.view.held ≡ []
-
--- it takes a bucket of the map
-pub record CanEnter (t : TableView) (bucket : ℕ) (p : PassView) : Type 0 where
-  pub can : CanWalk t p
-  pub there : bucket < t.shape.buckets
-
--- the bucket was taken
-pub record Enters (t : TableView) (bucket : ℕ) (p q : PassView) (chain : BodyList) : Type 0 where
-  pub no_lock : p.view.held ≡ []
-  pub took : TookLock t (Bucket bucket) p q (contents.Bucket chain)
-  pub inside : InBucket t bucket q chain.bodies
 
 -- a key of so many bytes
 abbrev pub HasKeyOf : ℕ → Stored → Type 0

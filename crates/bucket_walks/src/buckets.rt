@@ -5,7 +5,8 @@ ghost use Rattle.map_types.specs.Stored.{Stored};
 ghost use Rattle.place_words.specs.declared.bucket_part.BucketPart.TheVariants as turns;
 ghost use Rattle.place_words.specs.Bodies.{first_key};
 ghost use Rattle.place_words.specs.Buckets.{AllowsNext};
-ghost use Rattle.bucket_walks.specs.Looks.{CanEnter, Enters, HasKeyOf, LooksInto, key_where, found_after};
+ghost use Rattle.place_table.specs.BucketTurns.{CanEnter};
+ghost use Rattle.bucket_walks.specs.Looks.{HasKeyOf, LooksInto, key_where, found_after};
 ghost use Rattle.bucket_walks.specs.declared.parts.After.TheVariants as afters;
 
 use crate::parts::{After, first_part, next_part};
@@ -30,7 +31,7 @@ pub(crate) fn first_in<R: Wait, G: Gate>(
     ensures stays { result ≡ false → out.new ≡ out.old }
     ensures sized { length out.new ≡ length out.old }
 {
-    let chain = enter(rt, table, pass, bucket, gate);
+    let chain = table.enter_bucket(rt, pass, bucket, gate);
     let found = copy_first(&chain, out);
     let part = first_part(table.alloc(), found, out);
     table.give(
@@ -66,7 +67,7 @@ pub(crate) fn next_in<R: Wait, G: Gate>(
     ensures stays { (result ≡ afters.Key → ⊥) → out.new ≡ out.old }
     ensures sized { length out.new ≡ length out.old }
 {
-    let chain = enter(rt, table, pass, from.bucket, gate);
+    let chain = table.enter_bucket(rt, pass, from.bucket, gate);
     let after = copy_after(&chain, from.key, out);
     let part = next_part(table.alloc(), from.key, after, out);
     table.give(
@@ -77,25 +78,6 @@ pub(crate) fn next_in<R: Wait, G: Gate>(
         gate,
     );
     after
-}
-
-/// Takes a bucket.
-pub fn enter<R: Wait, G: Gate>(
-    rt: &R,
-    table: &PlaceTable,
-    pass: &mut Pass,
-    bucket: u32,
-    gate: &G,
-) -> Chain
-    requires { CanEnter table.now bucket pass.old }
-    ensures { Enters table.now bucket pass.old pass.new result }
-{
-    // That the CPU is one of the map's is known once it is asked for.
-    let _cpu = table.cpu_of(pass);
-    let Content::Bucket(chain) = table.take(rt, pass, DomainId::Bucket(bucket), gate) else {
-        unreachable!()
-    };
-    chain
 }
 
 /// Copies the first key of a bucket, where there is one.

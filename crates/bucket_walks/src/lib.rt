@@ -9,7 +9,6 @@ mod read;
 mod room;
 mod whole;
 
-pub use buckets::enter;
 pub use next::next_key;
 pub use parts::walk_part;
 pub use read::{BatchOut, BatchRefusal, BatchRequest, Planned, look_up_batch, plan, read_out};

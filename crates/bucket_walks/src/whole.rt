@@ -5,10 +5,9 @@ ghost use Rattle.map_types.specs.Creation.{IsShape};
 ghost use Rattle.map_types.specs.Shape.{HasBounds};
 ghost use Rattle.map_types.specs.Stored.{IsSized};
 ghost use Rattle.place_words.specs.Walks.{pair_of};
-ghost use Rattle.bucket_walks.specs.Looks.{CanEnter};
+ghost use Rattle.place_table.specs.BucketTurns.{CanEnter};
 ghost use Rattle.bucket_walks.specs.BatchReads.{IsOfMap, IsGathered, ReadsInto, all_read, walked_by, with_pairs};
 
-use crate::buckets::enter;
 use crate::parts::walk_part;
 use crate::room::ReadRoom;
 use bucket_chain::{Chain, body_at};
@@ -35,7 +34,7 @@ pub(crate) fn read_in<R: Wait, G: Gate>(
 {
     let shape = table.shape();
     let room = out.left();
-    let chain = enter(rt, table, pass, bucket, gate);
+    let chain = table.enter_bucket(rt, pass, bucket, gate);
     let cpu = table.cpu_of(pass);
     let whole = read_whole(shape, cpu, &chain, out);
     let part = walk_part(alloc, false, shape, cpu, room, &chain);

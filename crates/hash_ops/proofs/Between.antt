@@ -1,6 +1,6 @@
 -- A call from where it holds the bucket of its key to where it has given it back: the turns of other locks between, and what all of
 -- them leave.
-use Rattle.std.proofs.Common.{◌≡◌, ℕ, ◌<◌, true, false, List, [], ◌∷◌, ◌++◌, map, inr, sym, refl, ap, ◌∙◌, subst, arith, ◌≤◌, Option, None}
+use Rattle.std.proofs.Common.{◌≡◌, ℕ, ◌<◌, cond, true, false, List, [], ◌∷◌, ◌++◌, map, inr, sym, refl, ap, ◌∙◌, subst, arith, ◌≤◌, Option, None, Some}
 use Rattle.std.specs.Prelude.{All}
 use Rattle.std.proofs.lemmas.List.{map-append}
 use Rattle.std.proofs.lemmas.List.Elements.{All-nil, All-cons, All-append}
@@ -32,8 +32,9 @@ use Rattle.place_table.specs.Views.{is_in_hand_of, known_log, notes_below, has_a
 use Rattle.place_table.proofs.Entries.{append_nil}
 use Rattle.place_table.proofs.Going.{goes_on, goes_nowhere, goes_spared, goes_of_table, goes_begun, learns_on, learns_none, log_elsewhere}
 use Rattle.place_table.specs.BucketHeld.{Holds}
-use Rattle.place_table.specs.BucketPuts.{AreUpdateArguments, PutsInPlace, update_part}
-use Rattle.place_table.specs.BucketTurns.{GivenBack, TookOut}
+use Rattle.place_table.specs.declared.bucket_takes.TakenOut.{TakenOut}
+use Rattle.place_table.specs.BucketPuts.{AreUpdateArguments, PutsInPlace, UpdateCall, asked_of, put_part, update_part, with_offer}
+use Rattle.place_table.specs.BucketTurns.{GivenBack, HasOut}
 use Rattle.place_table.proofs.Ranges.{bucket_there}
 use Rattle.hash_ops.specs.Calls.{spare_element, element_of, AreTold}
 use Rattle.hash_ops.specs.Free.{CanReach, Reached}
@@ -43,7 +44,7 @@ use Rattle.hash_ops.proofs.Under.{idle_same, told_more, no_bits, on_bucket}
 
 -- The bucket stays held
 
-module _ {t : TableView} {bucket : ℕ} {r : PassView} {bodies : List Stored} {now : Lists} {set : List ℕ} (h : Holds t bucket r bodies now set) where
+module _ {t : TableView} {bucket : ℕ} {r : PassView} {bodies : List Stored} {now : Lists} {marked : List ℕ} (h : Holds t bucket r bodies now marked) where
   -- freelists may be taken there
   pub may_reach : CanReach t r
   may_reach = record {
@@ -54,7 +55,7 @@ module _ {t : TableView} {bucket : ℕ} {r : PassView} {bodies : List Stored} {n
   }
 
   -- where they were
-  pub holds_reached : (s : PassView) (steps : List Turned) → Reached t r s steps → Holds t bucket s bodies now set
+  pub holds_reached : (s : PassView) (steps : List Turned) → Reached t r s steps → Holds t bucket s bodies now marked
   holds_reached s steps reached =
       let k : ℕ = lock_number t.shape (Bucket bucket) in
       let goes = reached.goes in
@@ -81,8 +82,8 @@ module _ {t : TableView} {bucket : ℕ} {r : PassView} {bodies : List Stored} {n
       }
 
   -- where a spare was handed out or kept
-  pub holds_spared : (s : PassView) → s ≡ with_spares r s.spares → Holds t bucket s bodies now set
-  holds_spared s is = subst (λ (z : PassView). Holds t bucket z bodies now set) (sym is) record {
+  pub holds_spared : (s : PassView) → s ≡ with_spares r s.spares → Holds t bucket s bodies now marked
+  holds_spared s is = subst (λ (z : PassView). Holds t bucket z bodies now marked) (sym is) record {
     of_table = h.of_table;
     begun = h.begun;
     there = h.there;
@@ -132,7 +133,7 @@ between_reached reached = record {
   learns = reached.learns;
 }
 
-pub between_out : {t : TableView} {bucket : ℕ} {q r : PassView} {bodies : List Stored} {key : List ℕ} {body : Stored} {left : List Stored} → TookOut t bucket q r bodies key body left → Between t q r []
+pub between_out : {t : TableView} {bucket : ℕ} {q r : PassView} {bodies : List Stored} {key : List ℕ} {found : TakenOut} → HasOut t bucket q r bodies key found → Between t q r []
 between_out {t} {bucket} {q} out = record {
   goes = out.goes;
   notes = out.notes;
@@ -231,14 +232,18 @@ module _ {t : TableView} {bucket : ℕ} {q r s : PassView} {inner : List Turned}
       (λ other _. ap (spare_of other) same_spares) turns_are trace
       ((λ i. element_of (spare_of (all_turns.cpu i) (same_spares i))) ∙ spare)
 
+-- an update is offered no element
+pub put_alone : {t : TableView} {bucket : ℕ} {q s : PassView} {hand : List InHand} (update : UpdateCall) (e : ℕ) (put : Put) → is_lru t.shape.kind ≡ false → GivenBack t bucket q s (put_part t update e put) hand → GivenBack t bucket q s (update_part (with_offer update None) put) hand
+put_alone {t} {bucket} {q} {s} {hand} update e put plain = subst (λ (offer : Option ℕ). GivenBack t bucket q s (update_part (with_offer update offer) put) hand) (ap (λ b. cond b (Some e) None) plain)
+
 -- the trace of an update
 pub update_trace : (t : TableView) (bucket cpu : ℕ) (spare : Option ℕ) (side : Side) (flags : ℕ) (key value : List ℕ) (put : Put) (looks : List Turn) → flags ≤ 2 → AreUpdateArguments t bucket side key value → LooksFor t.shape cpu spare put looks
-    → IsPlainTrace t.shape cpu spare (verbs.Update side flags key value) (looks ++ on_lock (Bucket bucket) (update_part side flags key value None put) ∷ []) (reply_of_put put)
+    → IsPlainTrace t.shape cpu spare (verbs.Update side flags key value) (looks ++ on_lock (Bucket bucket) (update_part (asked_of side flags key value None) put) ∷ []) (reply_of_put put)
 update_trace t bucket cpu spare side flags key value put looks known gives looked =
     inr (known, record { put = put; looks = looks; looks_are = looked; turns_are = ap (λ (l : List Turn). looks ++ l) (on_bucket t.shape bucket key (Update side flags key value None put) gives.bucket_is); reply_is = refl })
 
 -- an update that moved no element
-pub answered_put : {t : TableView} {bucket : ℕ} {q s : PassView} {side : Side} {flags : ℕ} {key value : List ℕ} → is_lru t.shape.kind ≡ false → HasItsSpares q → flags ≤ 2 → AreUpdateArguments t bucket side key value → (put : Put) → PutsInPlace t bucket q s side flags key value None put
+pub answered_put : {t : TableView} {bucket : ℕ} {q s : PassView} {side : Side} {flags : ℕ} {key value : List ℕ} → is_lru t.shape.kind ≡ false → HasItsSpares q → flags ≤ 2 → AreUpdateArguments t bucket side key value → (put : Put) → PutsInPlace t bucket q s (asked_of side flags key value None) put
     → LooksFor t.shape q.cpu (spare_element q) put [] → spare_element q ≡ spare_after_put (spare_element q) put → AnsweredAt t bucket q s (verbs.Update side flags key value) (reply_of_put put)
 answered_put {t} {bucket} {q} {s} {side} {flags} {key} {value} plain has known gives put given looked spare =
     answered_same plain (between_nothing t q) given (verbs.Update side flags key value) (reply_of_put put) [] has refl (λ _ _. refl) refl (update_trace t bucket q.cpu (spare_element q) side flags key value put [] known gives looked) spare

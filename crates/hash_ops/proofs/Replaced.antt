@@ -22,11 +22,11 @@ use Rattle.place_table.proofs.Going.{goes_of_table, goes_begun}
 use Rattle.place_table.proofs.Hands.{in_hand_more, in_hand_more_else, in_hand_less, in_hand_less_else}
 use Rattle.place_table.proofs.Worlds.{true_false, some_is}
 use Rattle.place_table.specs.BucketHeld.{HoldsBucket}
-use Rattle.place_table.specs.BucketPuts.{AreUpdateArguments, IsOffered, Replaces, update_part}
+use Rattle.place_table.specs.BucketPuts.{AreUpdateArguments, IsOffered, Replaces, asked_of, update_call, update_part}
 use Rattle.place_table.proofs.BucketUnder.{holds_bucket}
 use Rattle.hash_ops.specs.Calls.{spare_element, element_of}
 use Rattle.hash_ops.specs.Under.{HasItsSpares, AnsweredAt}
-use Rattle.hash_ops.proofs.Between.{holds_spared, between_spared, kept_on, answered, update_trace}
+use Rattle.hash_ops.proofs.Between.{holds_spared, between_spared, kept_on, answered, put_alone, update_trace}
 
 -- Hands, with the old element in the place of the new one
 
@@ -92,7 +92,6 @@ module _ {t : TableView} {bucket : ℕ} {q : PassView} {bodies : List Stored} (p
 
     pub is_offered : IsOffered t bucket r was
     is_offered = record {
-      real = λ lru. true_false (sym lru ∙ plain);
       sized = subst (λ (o : Option Stored). IfSome o (IsSized t.shape)) is spared.sized;
       in_hand = ap (λ (z : PassView). is_in_hand_of was.element z.cpu z.view.hand) spared.after_is ∙ was_in_hand;
       not_carried = λ lru. true_false (sym lru ∙ plain);
@@ -100,7 +99,7 @@ module _ {t : TableView} {bucket : ℕ} {q : PassView} {bodies : List Stored} (p
     }
 
     -- it took the place of another, which is kept
-    module _ {s : PassView} {side : Side} {flags : ℕ} {key value : List ℕ} {old : Stored} (puts_it : Replaces t bucket r s side flags key value None was.element old) where
+    module _ {s : PassView} {side : Side} {flags : ℕ} {key value : List ℕ} {old : Stored} (puts_it : Replaces t bucket r s (update_call side flags key value) was.element old) where
       cpu_is : s.cpu ≡ q.cpu
       cpu_is = puts_it.gives.goes.cpu ∙ ap (λ (z : PassView). z.cpu) spared.after_is
 
@@ -120,10 +119,10 @@ module _ {t : TableView} {bucket : ℕ} {q : PassView} {bodies : List Stored} (p
 
       pub answered_replaced : (z : PassView) → KeptSpare old s z → flags ≤ 2 → AreUpdateArguments t bucket side key value → AnsweredAt t bucket q z (verbs.Update side flags key value) Done
       answered_replaced z kept known gives =
-          let g = puts_it.gives in
+          let g = put_alone (update_call side flags key value) was.element (puts.Replaced was.element old.element) plain puts_it.gives in
           let between = between_spared spared.after_is in
           let goes = kept_on plain between g z kept.after_is in
-          let turn : Turn = on_lock (Bucket bucket) (update_part side flags key value None (puts.Replaced was.element old.element)) in
+          let turn : Turn = on_lock (Bucket bucket) (update_part (asked_of side flags key value None) (puts.Replaced was.element old.element)) in
           let here : spare_of q.cpu z.spares ≡ Some old = ap (λ (c : ℕ). spare_of c z.spares) (sym cpu_is) ∙ kept.here in
           let others : SparesDiffer q.cpu q.spares z.spares = λ other ne. kept.others other (λ same. ne (same ∙ cpu_is)) ∙ (ap (spare_of other) g.spares ∙ spared.others other ne) in
           answered plain between g z kept.after_is (verbs.Update side flags key value) Done []

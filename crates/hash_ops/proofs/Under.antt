@@ -26,7 +26,7 @@ use Rattle.place_table.specs.Views.{is_among, is_in_hand_of, holding, notes_belo
 use Rattle.place_table.proofs.Going.{goes_on, goes_took, learns_after, learns_took}
 use Rattle.place_table.proofs.Entries.{append_nil}
 use Rattle.place_table.specs.Calls.{bits_of_part, bits_of_turns}
-use Rattle.hash_ops.specs.Calls.{CanCall, Leaves, Called, CouldBe, IsTold, AreTold, LosesAtMost, spare_element}
+use Rattle.hash_ops.specs.Calls.{CanCall, Leaves, Called, CalledOn, CouldBe, IsTold, AreTold, LosesAtMost, spare_element}
 use Rattle.place_table.specs.BucketTurns.{Entered}
 use Rattle.hash_ops.specs.Under.{HasItsSpares, Enters, LeftBucket, Answered, AnsweredAt}
 use Rattle.place_table.proofs.Worlds.{true_false}
@@ -141,9 +141,11 @@ called_of t bucket p q s chain verb reply enters none_held answered =
           (answered.spare ∙ plain_left t.shape (spare_element q) told enters.plain);
     }
 
-pub called_at : (t : TableView) (bucket : ℕ) (p q s : PassView) (chain : BodyList) (verb : Verb) (reply : Reply) → Enters t bucket p q chain → p.view.held ≡ [] → AnsweredAt t bucket q s verb reply → (called : Called t p s verb reply) × LosesAtMost (lock_number t.shape (Bucket bucket)) called.lost
+-- the same of a call on a key
+pub called_on : (t : TableView) (bucket : ℕ) (p q s : PassView) (chain : BodyList) (verb : Verb) (key : List ℕ) (reply : Reply) → Enters t bucket p q chain → p.view.held ≡ [] → bucket ≡ bucket_of_key t.shape key → AnsweredAt t bucket q s verb reply → CalledOn t p s verb key reply
 unfolding called_of
-called_at t bucket p q s chain verb reply enters none_held answered = (called_of t bucket p q s chain verb reply enters none_held answered.0, answered.1)
+called_on t bucket p q s chain verb key reply enters none_held here answered =
+    (called_of t bucket p q s chain verb reply enters none_held answered.0, subst (λ (n : ℕ). LosesAtMost (lock_number t.shape (Bucket n)) answered.0.lost) here answered.1)
 
 -- where no record is lost, the turns that were made are the trace, and leave the spare
 module _ (t : TableView) (p q : PassView) (verb : Verb) (reply : Reply) (called : Called t p q verb reply) (whole : called.lost ≡ []) where

@@ -25,7 +25,7 @@ impl PlainMap {
         requires there { bucket < self.now.shape.buckets }
         ensures { Enters self.now bucket pass.old pass.new result }
     {
-        place_table::enter(rt, &self.table, pass, bucket, gate)
+        self.table.enter_bucket(rt, pass, bucket, gate)
     }
 
     /// Pushes the element of a body that was taken out of a bucket, which is still held.

@@ -4,12 +4,12 @@ ghost use Rattle.std.specs.Prelude.{◌≡◌, IfErr, length};
 ghost use Rattle.map_types.specs.declared.call.Verb.TheVariants as verbs;
 ghost use Rattle.map_types.specs.declared.kind.Side.TheVariants.{Sys};
 ghost use Rattle.map_types.specs.ValueLen.{value_len_of};
-ghost use Rattle.hash_ops.specs.Calls.{CanCall, Called, MayRefuse, Updates, reply_of_value, reply_of_done};
+ghost use Rattle.hash_ops.specs.Calls.{CanCall, CalledOn, MayRefuse, Updates, update_call, reply_of_value, reply_of_done};
 
 use crate::map::{PlainMap, PlainRefusal};
 use bucket_chain::{BPF_EXIST, TakenBucket, Write};
 use map_types::{Absent, Gate, Side};
-use place_table::{Pass, TakenOut, delete_from, give_deleted, give_taken, look_up, take_from};
+use place_table::{Pass, TakenOut};
 use std::sync::Wait;
 
 impl PlainMap {
@@ -29,14 +29,14 @@ impl PlainMap {
         requires can { CanCall self.now pass.old }
         requires key { length key.now ≡ self.now.shape.key_size }
         requires out { length out.old ≡ value_len_of self.now.shape side }
-        ensures called { Called self.now pass.old pass.new (verbs.Lookup side key.now)
+        ensures called { CalledOn self.now pass.old pass.new (verbs.Lookup side key.now) key.now
             (reply_of_value result out.new) }
         ensures refused { IfErr result (λ _. out.new ≡ out.old) }
     {
         let number = self.bucket_of_key(key);
         let chain = self.enter(rt, pass, number, gate);
         let taken = TakenBucket { number, chain };
-        look_up(self.alloc, &self.table, pass, taken, side, key, out, gate)
+        self.table.look_up(pass, taken, side, key, out, gate)
     }
 
     /// Updates a key with a value of a side's length, by flags: BPF_ANY (0), BPF_NOEXIST (1) or BPF_EXIST (2). It is refused
@@ -59,7 +59,8 @@ impl PlainMap {
         requires can { CanCall self.now pass.old }
         requires key { length key.now ≡ self.now.shape.key_size }
         requires value { length value.now ≡ value_len_of self.now.shape side }
-        ensures updates { Updates self.now pass.old pass.new side flags key.now value.now result }
+        ensures updates { Updates self.now pass.old pass.new
+            (update_call side flags key.now value.now) result }
         ensures refuses { IfErr result (MayRefuse flags) }
     {
         if flags > BPF_EXIST {
@@ -88,17 +89,18 @@ impl PlainMap {
     ) -> Result<(), Absent>
         requires can { CanCall self.now pass.old }
         requires key { length key.now ≡ self.now.shape.key_size }
-        ensures { Called self.now pass.old pass.new (verbs.Delete key.now) (reply_of_done result) }
+        ensures { CalledOn self.now pass.old pass.new (verbs.Delete key.now) key.now
+            (reply_of_done result) }
     {
         let number = self.bucket_of_key(key);
         let chain = self.enter(rt, pass, number, gate);
         let taken = TakenBucket { number, chain };
-        match delete_from(self.alloc, &self.table, pass, taken, key, gate) {
+        match self.table.delete_from(pass, taken, key, gate) {
             Some(removed) => {
                 let TakenOut { body, chain } = removed;
                 let element = self.push_out(rt, pass, body, gate);
                 let left = TakenBucket { number, chain };
-                give_deleted(self.alloc, &self.table, pass, left, key, element, gate);
+                self.table.give_deleted(pass, left, key, element, gate);
                 Ok(())
             }
             None => Err(Absent),
@@ -118,19 +120,19 @@ impl PlainMap {
         requires can { CanCall self.now pass.old }
         requires key { length key.now ≡ self.now.shape.key_size }
         requires out { length out.old ≡ value_len_of self.now.shape Sys }
-        ensures called { Called self.now pass.old pass.new (verbs.Take key.now)
+        ensures called { CalledOn self.now pass.old pass.new (verbs.Take key.now) key.now
             (reply_of_value result out.new) }
         ensures refused { IfErr result (λ _. out.new ≡ out.old) }
     {
         let number = self.bucket_of_key(key);
         let chain = self.enter(rt, pass, number, gate);
         let taken = TakenBucket { number, chain };
-        match take_from(self.alloc, &self.table, pass, taken, key, out, gate) {
+        match self.table.take_from(pass, taken, key, out, gate) {
             Some(removed) => {
                 let TakenOut { body, chain } = removed;
                 let element = self.push_out(rt, pass, body, gate);
                 let left = TakenBucket { number, chain };
-                give_taken(self.alloc, &self.table, pass, left, key, element, out, gate);
+                self.table.give_taken(pass, left, key, element, out, gate);
                 Ok(())
             }
             None => Err(Absent),

@@ -36,7 +36,6 @@ pub enum PlainRefusal {
 #[derive(Drop)]
 pub struct PlainMap {
     pub(crate) table: PlaceTable,
-    pub(crate) alloc: Global,
 }
 
 impl Model for PlainMap {
@@ -61,7 +60,7 @@ impl PlainMap {
         ensures { IfOk result (λ made. (made.0.shape ≡ shape.now) × IsFirstPass made.0 made.1) }
     {
         let (table, pass) = PlaceTable::create(alloc, shape)?;
-        Ok((PlainMap { table, alloc }, pass))
+        Ok((PlainMap { table }, pass))
     }
 
     /// The table of the map, whose shape is within the limits and whose kind doesn't evict.
@@ -81,7 +80,7 @@ impl PlainMap {
         requires in_no_call { IsInNoCall pass }
         ensures { IfOk result (λ closed. IsClosed self.shape pass closed) }
     {
-        let PlainMap { table, alloc: _ } = self;
+        let PlainMap { table } = self;
         table.close(pass)
     }
 

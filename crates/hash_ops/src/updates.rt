@@ -13,7 +13,7 @@ ghost use Rattle.hash_ops.specs.Under.{HasItsSpares, AnsweredAt, UpdateEnds};
 use crate::map::{PlainMap, PlainRefusal};
 use bucket_chain::{BPF_EXIST, BPF_NOEXIST, TakenBucket, Write};
 use map_types::Gate;
-use place_table::{Pass, refuse};
+use place_table::Pass;
 use place_words::Put;
 use std::sync::Wait;
 
@@ -66,29 +66,12 @@ impl PlainMap {
         ensures refuses { IfErr result (MayRefuse write.entry.flags) }
     {
         if write.flags == BPF_NOEXIST {
-            refuse(
-                self.alloc,
-                &self.table,
-                pass,
-                taken,
-                write,
-                None,
-                Put::Exists,
-                gate,
-            );
+            self.table
+                .refuse_update(pass, taken, write, None, Put::Exists, gate);
             return Err(PlainRefusal::Eexist);
         }
         if self.table.shape().kind.is_percpu() {
-            place_table::write(
-                self.alloc,
-                &self.table,
-                pass,
-                taken,
-                place,
-                write,
-                None,
-                gate,
-            );
+            self.table.write_key(pass, taken, place, write, None, gate);
             return Ok(());
         }
         self.replace(pass, taken, place, write, gate);
@@ -116,43 +99,18 @@ impl PlainMap {
         ensures refuses { IfErr result (MayRefuse write.entry.flags) }
     {
         if write.flags == BPF_EXIST {
-            refuse(
-                self.alloc,
-                &self.table,
-                pass,
-                taken,
-                write,
-                None,
-                Put::Absent,
-                gate,
-            );
+            self.table
+                .refuse_update(pass, taken, write, None, Put::Absent, gate);
             return Err(PlainRefusal::Enoent);
         }
         match self.pop(rt, pass, gate) {
             Some(body) => {
-                place_table::add(
-                    self.alloc,
-                    &self.table,
-                    pass,
-                    taken,
-                    write,
-                    body,
-                    None,
-                    gate,
-                );
+                self.table.add_key(pass, taken, write, body, gate);
                 Ok(())
             }
             None => {
-                refuse(
-                    self.alloc,
-                    &self.table,
-                    pass,
-                    taken,
-                    write,
-                    None,
-                    Put::Full,
-                    gate,
-                );
+                self.table
+                    .refuse_update(pass, taken, write, None, Put::Full, gate);
                 Err(PlainRefusal::E2big)
             }
         }
@@ -182,17 +140,9 @@ impl PlainMap {
         let Some(body) = self.table.spare(pass) else {
             unreachable!()
         };
-        let spare = place_table::replace(
-            self.alloc,
-            &self.table,
-            pass,
-            taken,
-            place,
-            write,
-            body,
-            None,
-            gate,
-        );
+        let spare = self
+            .table
+            .replace_key(pass, taken, place, write, body, gate);
         self.table.keep_spare(pass, spare);
     }
 }

@@ -20,7 +20,8 @@ use Rattle.place_table.specs.Passes.{PassView, TableView}
 use Rattle.place_table.specs.Views.{is_in_hand_of, with_in_hand, without_in_hand}
 use Rattle.place_table.proofs.Going.{goes_of_table, goes_begun}
 use Rattle.place_table.proofs.Hands.{in_hand_more, hand_back}
-use Rattle.place_table.specs.BucketTurns.{TookOut}
+use Rattle.place_table.specs.declared.bucket_takes.TakenOut.{TakenOut}
+use Rattle.place_table.specs.BucketTurns.{HasOut}
 use Rattle.place_table.proofs.BucketTurned.{given_after}
 use Rattle.lru_ops.specs.Lists.{Changed, CanFree, Freed}
 use Rattle.lru_ops.specs.Under.{Enters, GivenBack, LooksUp}
@@ -58,41 +59,41 @@ module _ {t : TableView} {bucket : ℕ} {p q : PassView} {chain : BodyList} (can
       record { gone = None; at_bucket = turn_at t.shape given.told; freeing = []; turns_are = refl; bucket_is = turn_here key here given; frees = refl; reply_is = refl })
 
   -- An element that was taken out may be freed once the bucket was given back
-  module _ {r m : PassView} {bodies left : List Stored} {key : List ℕ} {body : Stored} (out : TookOut t bucket q r bodies key body left) {part : BucketPart} (gave : GivenBack t bucket r m (parts.Bucket part) r.view.hand) where
-    abbrev given : GivenBack t bucket q m (parts.Bucket part) (with_in_hand body.element q.cpu q.view.hand)
+  module _ {r m : PassView} {bodies : List Stored} {key : List ℕ} {found : TakenOut} (out : HasOut t bucket q r bodies key found) {part : BucketPart} (gave : GivenBack t bucket r m (parts.Bucket part) r.view.hand) where
+    abbrev given : GivenBack t bucket q m (parts.Bucket part) (with_in_hand found.body.element q.cpu q.view.hand)
     given = given_after out gave
 
-    pub can_free : CanFree t body m
+    pub can_free : CanFree t found.body m
     can_free = record {
       of_table = goes_of_table t q m (given.step ∷ []) given.lost given.goes enters.inside.of_table;
       begun = goes_begun q m (given.step ∷ []) given.lost given.goes enters.inside.begun;
       no_lock = given.held;
       real = out.is_out.0;
       sized = out.is_out.1;
-      in_hand = (λ i. is_in_hand_of body.element (given.goes.cpu i) (given.hand_is i)) ∙ in_hand_more body.element q.cpu q.view.hand;
-      not_carried = ap (is_in_hand_of body.element m.cpu) (given.carried ∙ (ap (λ (z : PassView). z.view.carried) enters.took.after_is ∙ can.in_no_call.carries_nothing));
+      in_hand = (λ i. is_in_hand_of found.body.element (given.goes.cpu i) (given.hand_is i)) ∙ in_hand_more found.body.element q.cpu q.view.hand;
+      not_carried = ap (is_in_hand_of found.body.element m.cpu) (given.carried ∙ (ap (λ (z : PassView). z.view.carried) enters.took.after_is ∙ can.in_no_call.carries_nothing));
     }
 
-    module _ {s : PassView} (freed : Freed t body m s) where
+    module _ {s : PassView} (freed : Freed t found.body m s) where
       pub changed_gone : Changed t p s (given.step ∷ freed.steps) (given.told ∷ freed.steps) given.lost
       changed_gone = changed_on (changed_here given) freed.changed
 
       pub hand_gone : (e c : ℕ) → is_in_hand_of e c s.view.hand ≡ is_in_hand_of e c p.view.hand
       hand_gone e c =
-          ap (is_in_hand_of e c) (freed.hand ∙ (λ i. without_in_hand body.element (given.goes.cpu i) (given.hand_is i)))
-          ∙ (ap (λ (z : PassView). is_in_hand_of e c (without_in_hand body.element z.cpu (with_in_hand body.element z.cpu z.view.hand))) enters.took.after_is
-          ∙ hand_back body.element p.cpu p.view.hand (in_no_hand can enters.evicts body.element p.cpu can.begun) e c)
+          ap (is_in_hand_of e c) (freed.hand ∙ (λ i. without_in_hand found.body.element (given.goes.cpu i) (given.hand_is i)))
+          ∙ (ap (λ (z : PassView). is_in_hand_of e c (without_in_hand found.body.element z.cpu (with_in_hand found.body.element z.cpu z.view.hand))) enters.took.after_is
+          ∙ hand_back found.body.element p.cpu p.view.hand (in_no_hand can enters.evicts found.body.element p.cpu can.begun) e c)
 
-  pub delete_done : {r m s : PassView} {bodies left : List Stored} {key : List ℕ} {body : Stored} → bucket ≡ bucket_of_key t.shape key → (out : TookOut t bucket q r bodies key body left) → (gave : GivenBack t bucket r m (parts.Bucket (Delete key (Some body.element))) r.view.hand) → Freed t body m s → Called t p s (verbs.Delete key) Done
-  delete_done {r} {m} {s} {bodies} {left} {key} {body} here out gave freed =
+  pub delete_done : {r m s : PassView} {bodies : List Stored} {key : List ℕ} {found : TakenOut} → bucket ≡ bucket_of_key t.shape key → (out : HasOut t bucket q r bodies key found) → (gave : GivenBack t bucket r m (parts.Bucket (Delete key (Some found.body.element))) r.view.hand) → Freed t found.body m s → Called t p s (verbs.Delete key) Done
+  delete_done {r} {m} {s} {bodies} {key} {found} here out gave freed =
       let whole = given_after out gave in
       called_changed (verbs.Delete key) Done can enters.evicts (changed_gone out gave freed) (hand_gone out gave freed)
       (trace_here t.shape p.cpu (spare_element p) (verbs.Delete key) (map (turn_at t.shape) (whole.told ∷ freed.steps)) Done enters.evicts
-      record { gone = Some body.element; at_bucket = turn_at t.shape whole.told; freeing = map (turn_at t.shape) freed.steps; turns_are = refl; bucket_is = turn_here key here whole; frees = freed.trace; reply_is = refl })
+      record { gone = Some found.body.element; at_bucket = turn_at t.shape whole.told; freeing = map (turn_at t.shape) freed.steps; turns_are = refl; bucket_is = turn_here key here whole; frees = freed.trace; reply_is = refl })
 
-  pub take_done : {r m s : PassView} {bodies left : List Stored} {key value : List ℕ} {body : Stored} → bucket ≡ bucket_of_key t.shape key → (out : TookOut t bucket q r bodies key body left) → (gave : GivenBack t bucket r m (parts.Bucket (Take key (Some (body.element, value)))) r.view.hand) → Freed t body m s → Called t p s (verbs.Take key) (Value value)
-  take_done {r} {m} {s} {bodies} {left} {key} {value} {body} here out gave freed =
+  pub take_done : {r m s : PassView} {bodies : List Stored} {key value : List ℕ} {found : TakenOut} → bucket ≡ bucket_of_key t.shape key → (out : HasOut t bucket q r bodies key found) → (gave : GivenBack t bucket r m (parts.Bucket (Take key (Some (found.body.element, value)))) r.view.hand) → Freed t found.body m s → Called t p s (verbs.Take key) (Value value)
+  take_done {r} {m} {s} {bodies} {key} {value} {found} here out gave freed =
       let whole = given_after out gave in
       called_changed (verbs.Take key) (Value value) can enters.evicts (changed_gone out gave freed) (hand_gone out gave freed)
       (trace_here t.shape p.cpu (spare_element p) (verbs.Take key) (map (turn_at t.shape) (whole.told ∷ freed.steps)) (Value value) enters.evicts
-      record { gone = Some (body.element, value); at_bucket = turn_at t.shape whole.told; freeing = map (turn_at t.shape) freed.steps; turns_are = refl; bucket_is = turn_here key here whole; frees = freed.trace; reply_is = refl })
+      record { gone = Some (found.body.element, value); at_bucket = turn_at t.shape whole.told; freeing = map (turn_at t.shape) freed.steps; turns_are = refl; bucket_is = turn_here key here whole; frees = freed.trace; reply_is = refl })

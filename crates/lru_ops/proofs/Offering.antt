@@ -36,7 +36,7 @@ use Rattle.lru_ops.specs.declared.map.LruRefusal.{LruRefusal}
 use Rattle.lru_ops.specs.declared.map.LruRefusal.TheVariants as refusals
 use Rattle.lru_ops.specs.Calls.{FoundNoElement, Updates}
 use Rattle.lru_ops.specs.Lists.{Changed, Acquired, CanFree}
-use Rattle.lru_ops.specs.Offers.{IsOffered, Offers, PutsAlone, OfferEnds, AloneEnds, CanFreeLeft, HasFreedLeft, CanOffer, IsOutOfHand, HasOffered, OfferAnswers, hand_after, offer_of, update_call}
+use Rattle.lru_ops.specs.Offers.{asked_of, IsOffered, Offers, PutsAlone, OfferEnds, AloneEnds, CanFreeLeft, HasFreedLeft, CanOffer, IsOutOfHand, HasOffered, OfferAnswers, hand_after, offer_of, update_call}
 use Rattle.lru_ops.specs.Under.{Enters, GivenBack, IsOut}
 use Rattle.lru_ops.proofs.Ends.{changed_on, changed_given, in_no_hand, called_changed, trace_here}
 
@@ -68,7 +68,7 @@ module _ {t : TableView} {bucket : ℕ} {p q : PassView} {chain : BodyList} (can
         known : 2 ≤ 2
         known = omega arith
 
-    pub updates_alone : (result : Result (Unit {0}) LruRefusal) → AloneEnds t bucket q s (update_call side 2 key value) result → Updates t p s side 2 key value result
+    pub updates_alone : (result : Result (Unit {0}) LruRefusal) → AloneEnds t bucket q s (update_call side 2 key value) result → Updates t p s (update_call side 2 key value) result
     updates_alone (Ok done) ends = wrote_alone Done ends
     updates_alone (Err refusals.Einval) ends = absurd ends
     updates_alone (Err refusals.Enoent) ends = wrote_alone (Refused errnos.Enoent) ends
@@ -78,34 +78,35 @@ module _ {t : TableView} {bucket : ℕ} {p q : PassView} {chain : BodyList} (can
 -- The turn of an update that was offered an element, from what was put there by a pass that holds the bucket
 
 -- what was offered may be left over
-stays_out : {t : TableView} {bucket : ℕ} {q : PassView} {body : Stored} → IsTrue (is_lru t.shape.kind) → IsOffered t bucket q body → IsOut t (Some body)
-stays_out lru offered = (offered.real lru, offered.sized)
+stays_out : {t : TableView} {bucket : ℕ} {q : PassView} {body : Stored} → body.element < t.shape.elements → IsOffered t bucket q body → IsOut t (Some body)
+stays_out real offered = (real, offered.sized)
 
-module _ {t : TableView} {bucket : ℕ} {q s : PassView} {side : Side} {flags : ℕ} {key value : List ℕ} {body : Stored} (lru : IsTrue (is_lru t.shape.kind)) (offered : IsOffered t bucket q body) {e : ℕ} (e_is : e ≡ body.element) where
-  pub offers_exists : PutsInPlace t bucket q s side flags key value (Some e) puts.Exists → Offers t bucket q s (offer_of side flags key value body.element) (Some body) (Refused errnos.Eexist)
-  offers_exists given = record { put = puts.Exists; may_put = tt; gives = subst (λ (n : ℕ). PutsInPlace t bucket q s side flags key value (Some n) puts.Exists) e_is given; left_is = refl; is_out = stays_out lru offered; reply_is = refl }
+module _ {t : TableView} {bucket : ℕ} {q s : PassView} {side : Side} {flags : ℕ} {key value : List ℕ} {body : Stored} (real : body.element < t.shape.elements) (offered : IsOffered t bucket q body) {e : ℕ} (e_is : e ≡ body.element) where
+  pub offers_exists : PutsInPlace t bucket q s (asked_of side flags key value (Some e)) puts.Exists → Offers t bucket q s (offer_of side flags key value body.element) (Some body) (Refused errnos.Eexist)
+  offers_exists given = record { put = puts.Exists; may_put = tt; gives = subst (λ (n : ℕ). PutsInPlace t bucket q s (asked_of side flags key value (Some n)) puts.Exists) e_is given; left_is = refl; is_out = stays_out real offered; reply_is = refl }
 
-  pub offers_absent : PutsInPlace t bucket q s side flags key value (Some e) puts.Absent → Offers t bucket q s (offer_of side flags key value body.element) (Some body) (Refused errnos.Enoent)
-  offers_absent given = record { put = puts.Absent; may_put = tt; gives = subst (λ (n : ℕ). PutsInPlace t bucket q s side flags key value (Some n) puts.Absent) e_is given; left_is = refl; is_out = stays_out lru offered; reply_is = refl }
+  pub offers_absent : PutsInPlace t bucket q s (asked_of side flags key value (Some e)) puts.Absent → Offers t bucket q s (offer_of side flags key value body.element) (Some body) (Refused errnos.Enoent)
+  offers_absent given = record { put = puts.Absent; may_put = tt; gives = subst (λ (n : ℕ). PutsInPlace t bucket q s (asked_of side flags key value (Some n)) puts.Absent) e_is given; left_is = refl; is_out = stays_out real offered; reply_is = refl }
 
-  pub offers_written : IsTrue (is_percpu t.shape.kind) → Writes t bucket q s side flags key value (Some e) → Offers t bucket q s (offer_of side flags key value body.element) (Some body) Done
-  offers_written percpu w = record { put = puts.Written w.written; may_put = percpu; gives = subst (λ (n : ℕ). PutsInPlace t bucket q s side flags key value (Some n) (puts.Written w.written)) e_is w.gives; left_is = refl; is_out = stays_out lru offered; reply_is = refl }
+  pub offers_written : IsTrue (is_percpu t.shape.kind) → Writes t bucket q s (asked_of side flags key value (Some e)) → Offers t bucket q s (offer_of side flags key value body.element) (Some body) Done
+  offers_written percpu w = record { put = puts.Written w.written; may_put = percpu; gives = subst (λ (n : ℕ). PutsInPlace t bucket q s (asked_of side flags key value (Some n)) (puts.Written w.written)) e_is w.gives; left_is = refl; is_out = stays_out real offered; reply_is = refl }
 
-  pub offers_added : Adds t bucket q s side flags key value (Some e) body.element → Offers t bucket q s (offer_of side flags key value body.element) None Done
+module _ {t : TableView} {bucket : ℕ} {q s : PassView} {side : Side} {flags : ℕ} {key value : List ℕ} {e : ℕ} (lru : IsTrue (is_lru t.shape.kind)) where
+  pub offers_added : Adds t bucket q s (update_call side flags key value) e → Offers t bucket q s (offer_of side flags key value e) None Done
   offers_added given = record {
-    put = puts.Added body.element;
+    put = puts.Added e;
     may_put = refl;
-    gives = subst (λ (n : ℕ). Adds t bucket q s side flags key value (Some n) body.element) e_is given;
+    gives = subst (λ (offer : Option ℕ). GivenBack t bucket q s (update_part (asked_of side flags key value offer) (puts.Added e)) (without_in_hand e q.cpu q.view.hand)) (ap (λ b. cond b (Some e) None) lru) given;
     left_is = refl;
     is_out = tt;
     reply_is = refl;
   }
 
-  pub offers_replaced : {old : Stored} → is_percpu t.shape.kind ≡ false → Replaces t bucket q s side flags key value (Some e) body.element old → Offers t bucket q s (offer_of side flags key value body.element) (Some old) Done
+  pub offers_replaced : {old : Stored} → is_percpu t.shape.kind ≡ false → Replaces t bucket q s (update_call side flags key value) e old → Offers t bucket q s (offer_of side flags key value e) (Some old) Done
   offers_replaced {old} single r = record {
-    put = puts.Replaced body.element old.element;
+    put = puts.Replaced e old.element;
     may_put = (refl, single);
-    gives = subst (λ (n : ℕ). GivenBack t bucket q s (update_part side flags key value (Some n) (puts.Replaced body.element old.element)) (with_in_hand old.element q.cpu (without_in_hand body.element q.cpu q.view.hand))) e_is r.gives;
+    gives = subst (λ (offer : Option ℕ). GivenBack t bucket q s (update_part (asked_of side flags key value offer) (puts.Replaced e old.element)) (with_in_hand old.element q.cpu (without_in_hand e q.cpu q.view.hand))) (ap (λ b. cond b (Some e) None) lru) r.gives;
     left_is = refl;
     is_out = r.is_out;
     reply_is = refl;
@@ -179,7 +180,6 @@ module _ {t : TableView} {bucket : ℕ} {p q : PassView} {chain : BodyList} {key
   pub is_offered : IsOffered t bucket q body
   is_offered =
       let after_is = enters.took.after_is in record {
-        real = λ _. can.taken.real;
         sized = can.taken.sized;
         in_hand = ap (λ (z : PassView). is_in_hand_of body.element z.cpu z.view.hand) after_is ∙ can.in_hand;
         not_carried = λ _. ap (λ (z : PassView). is_in_hand_of body.element z.cpu z.view.carried) after_is ∙ ap (is_in_hand_of body.element p.cpu) can.carries_nothing;
@@ -299,7 +299,7 @@ module _ {t : TableView} {p : PassView} (q : PassView) (side : Side) (flags : �
           offers = o.trace;
         }))
 
-    pub updates_offered : (s : PassView) (answer : Result (Unit {0}) LruRefusal) → OfferAnswers t q s (offer_of side flags key value body.element) answer → Updates t p s side flags key value answer
+    pub updates_offered : (s : PassView) (answer : Result (Unit {0}) LruRefusal) → OfferAnswers t q s (offer_of side flags key value body.element) answer → Updates t p s (update_call side flags key value) answer
     updates_offered s (Ok done) answers = took_one s Done answers
     updates_offered s (Err refusals.Einval) answers = absurd answers
     updates_offered s (Err refusals.Enoent) answers = took_one s (Refused errnos.Enoent) answers

@@ -86,7 +86,7 @@ pub record ShrinksInto (target : ℕ) (gives : Stored → Type 0) (before after 
       (record { set = after.set; asked = after.asked; out = free; notes = after.notes }) answer
   pub lists_are : after.lists ≡ with_free free before.lists
 
--- The set of the global lists and the local lists of a CPU, as a pass has them that holds the locks of both.
+-- A moment of a turn of the global lists: their set, the local lists of a CPU, and the pass that holds the locks of both.
 pub record BothLists : Type 0 where
   pub set : SetView
   pub lists : LocalView

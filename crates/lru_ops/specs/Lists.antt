@@ -31,7 +31,7 @@ use Rattle.place_table.specs.Views.{is_in_hand_of, bucket_known, with_in_hand, w
 use Rattle.lru_ops.specs.Evictions.{SawHolders}
 use Rattle.lru_ops.specs.OwnTurns.{note_of, own_part}
 
--- the table is that of a map that evicts
+-- the table is that of a map that evicts, with a shape within the limits
 abbrev pub MapEvicts : TableView → Type 0
 MapEvicts t = IsShape t.shape × IsTrue (is_lru t.shape.kind)
 

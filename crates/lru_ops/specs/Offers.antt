@@ -1,5 +1,4 @@
--- An update's turn of its key's bucket: what it is given, what it puts there, and what is left over; and what it leaves once that is
--- freed.
+-- What an update's turn of its key's bucket leaves over, and what the update leaves once that is freed.
 use Rattle.std.specs.Prelude.{◌≡◌, ℕ, true, List, [], map, option_map, Option, None, Some, Result, Ok, Err}
 use Rattle.key_hash.specs.Jhash.{hash}
 use Rattle.map_types.specs.declared.kind.Side.{Side}
@@ -20,7 +19,7 @@ use Rattle.lru_ops.specs.declared.map.LruRefusal.{LruRefusal}
 use Rattle.lru_ops.specs.declared.map.LruRefusal.TheVariants as refusals
 use Rattle.lru_ops.specs.Lists.{Changed, IsTakenFor, CanFree, Freed}
 use Rattle.lru_ops.specs.Under.{GivenBack, IsOut}
-pub use Rattle.place_table.specs.BucketPuts.{AreUpdateArguments, IsOffered, update_part, PutsInPlace, IsRefusal, Adds, Replaces, Writes}
+pub use Rattle.place_table.specs.BucketPuts.{UpdateCall, update_call, Asked, asked_of, AreUpdateArguments, IsOffered, update_part, PutsInPlace, IsRefusal, Adds, Replaces, Writes}
 
 -- what is in hand where an update that was offered an element put this
 abbrev pub hand_after : ℕ → Put → ℕ → List InHand → List InHand
@@ -31,20 +30,14 @@ hand_after e puts.Exists cpu hand = hand
 hand_after e puts.Absent cpu hand = hand
 hand_after e puts.Full cpu hand = hand
 
--- What an update was called with.
-pub record UpdateCall : Type 0 where
-  pub side : Side
-  pub flags : ℕ
-  pub key : List ℕ
-  pub value : List ℕ
-
-abbrev pub update_call : Side → ℕ → List ℕ → List ℕ → UpdateCall
-update_call side flags key value = record { side = side; flags = flags; key = key; value = value }
-
 -- An update, and the element that it was offered.
 pub record Offer : Type 0 where
   pub update : UpdateCall
   pub element : ℕ
+
+-- as its entry tells it
+abbrev pub asked_with : Offer → Asked
+asked_with offer = record { update = offer.update; offer = Some offer.element }
 
 abbrev pub offer_of : Side → ℕ → List ℕ → List ℕ → ℕ → Offer
 offer_of side flags key value e = record { update = update_call side flags key value; element = e }
@@ -53,7 +46,7 @@ offer_of side flags key value e = record { update = update_call side flags key v
 pub record Offers (t : TableView) (bucket : ℕ) (q s : PassView) (offer : Offer) (left : Option Stored) (reply : Reply) : Type 0 where
   pub put : Put
   pub may_put : MayPut t.shape offer.element put
-  pub gives : GivenBack t bucket q s (update_part offer.update.side offer.update.flags offer.update.key offer.update.value (Some offer.element) put) (hand_after offer.element put q.cpu q.view.hand)
+  pub gives : GivenBack t bucket q s (update_part (asked_with offer) put) (hand_after offer.element put q.cpu q.view.hand)
   pub left_is : option_map (λ (body : Stored). body.element) left ≡ left_over offer.element put
   pub is_out : IsOut t left
   pub reply_is : reply ≡ reply_of_put put
@@ -62,7 +55,7 @@ pub record Offers (t : TableView) (bucket : ℕ) (q s : PassView) (offer : Offer
 pub record PutsAlone (t : TableView) (bucket : ℕ) (q s : PassView) (update : UpdateCall) (reply : Reply) : Type 0 where
   pub put : Put
   pub may_put : MayPutAlone put
-  pub gives : PutsInPlace t bucket q s update.side update.flags update.key update.value None put
+  pub gives : PutsInPlace t bucket q s (record { update = update; offer = None }) put
   pub reply_is : reply ≡ reply_of_put put
 
 -- an update in its bucket that was offered an element

@@ -20,6 +20,6 @@ impl LruMap {
         requires { CanEnter self.now bucket pass.old }
         ensures { Enters self.now bucket pass.old pass.new result }
     {
-        place_table::enter(rt, &self.table, pass, bucket, gate)
+        self.table.enter_bucket(rt, pass, bucket, gate)
     }
 }

@@ -8,14 +8,14 @@ ghost use Rattle.map_types.specs.ValueLen.{value_len_of};
 ghost use Rattle.place_words.specs.Turns.{bucket_of_key};
 ghost use Rattle.place_table.specs.Calls.{CanCall, Called, reply_of_value, reply_of_done};
 ghost use Rattle.lru_ops.specs.Calls.{MayRefuse, Updates};
-ghost use Rattle.lru_ops.specs.Offers.{AreUpdateArguments, CanFreeLeft, HasFreedLeft, CanOffer, OfferAnswers, offer_of};
+ghost use Rattle.lru_ops.specs.Offers.{AreUpdateArguments, CanFreeLeft, HasFreedLeft, CanOffer, OfferAnswers, offer_of, update_call};
 
 use crate::map::{LruMap, LruRefusal};
 use crate::updates::Offered;
 use bucket_chain::{BPF_EXIST, TakenBucket, Write};
 use map_types::{Absent, Gate, Side};
 use percpu_values::BoxedBody;
-use place_table::{Pass, TakenOut, delete_from, give_deleted, give_taken, look_up, take_from};
+use place_table::{Pass, TakenOut};
 use std::sync::Wait;
 
 impl LruMap {
@@ -43,7 +43,7 @@ impl LruMap {
         let number = self.bucket_of_key(key);
         let chain = self.enter(rt, pass, number, gate);
         let taken = TakenBucket { number, chain };
-        look_up(self.alloc, &self.table, pass, taken, side, key, out, gate)
+        self.table.look_up(pass, taken, side, key, out, gate)
     }
 
     /// Updates a key with a value of a side's length, by flags: BPF_ANY (0), BPF_NOEXIST (1) or BPF_EXIST (2). It is refused
@@ -68,7 +68,8 @@ impl LruMap {
         requires can { CanCall self.now pass.old }
         requires key { length key.now ≡ self.now.shape.key_size }
         requires value { length value.now ≡ value_len_of self.now.shape side }
-        ensures updates { Updates self.now pass.old pass.new side flags key.now value.now result }
+        ensures updates { Updates self.now pass.old pass.new
+            (update_call side flags key.now value.now) result }
         ensures refuses { IfErr result (MayRefuse self.now.shape.kind flags) }
     {
         if flags > BPF_EXIST {
@@ -109,12 +110,12 @@ impl LruMap {
         let number = self.bucket_of_key(key);
         let chain = self.enter(rt, pass, number, gate);
         let taken = TakenBucket { number, chain };
-        match delete_from(self.alloc, &self.table, pass, taken, key, gate) {
+        match self.table.delete_from(pass, taken, key, gate) {
             Some(removed) => {
                 let TakenOut { body, chain } = removed;
                 let element = body.body().element();
                 let left = TakenBucket { number, chain };
-                give_deleted(self.alloc, &self.table, pass, left, key, element, gate);
+                self.table.give_deleted(pass, left, key, element, gate);
                 self.push_free(rt, pass, body, gate);
                 Ok(())
             }
@@ -142,12 +143,12 @@ impl LruMap {
         let number = self.bucket_of_key(key);
         let chain = self.enter(rt, pass, number, gate);
         let taken = TakenBucket { number, chain };
-        match take_from(self.alloc, &self.table, pass, taken, key, out, gate) {
+        match self.table.take_from(pass, taken, key, out, gate) {
             Some(removed) => {
                 let TakenOut { body, chain } = removed;
                 let element = body.body().element();
                 let left = TakenBucket { number, chain };
-                give_taken(self.alloc, &self.table, pass, left, key, element, out, gate);
+                self.table.give_taken(pass, left, key, element, out, gate);
                 self.push_free(rt, pass, body, gate);
                 Ok(())
             }
@@ -169,7 +170,8 @@ impl LruMap {
         requires gives { AreUpdateArguments self.now
             (bucket_of_key self.now.shape key.now) side key.now value.now }
         requires percpu { IsTrue (is_percpu self.now.shape.kind) }
-        ensures updates { Updates self.now pass.old pass.new side 2 key.now value.now result }
+        ensures updates { Updates self.now pass.old pass.new
+            (update_call side 2 key.now value.now) result }
         ensures refuses { IfErr result (MayRefuse self.now.shape.kind 2) }
     {
         let number = self.bucket_of_key(key);

@@ -13,11 +13,8 @@ use place_table::{Content, Pass, PlaceTable};
 use place_words::{Home, LocalPart, PackedGlobal, PackedOwn, Part};
 use std::sync::Wait;
 
-/// Frees the element of a body, which is in the hand of the pass's CPU and whose home is a lock. Where each CPU has a list set of
-/// its own: in one turn of the lock of the set in which the element lives it goes to the head of the free list, as in the kernel's
-/// `bpf_percpu_lru_push_free`. Where the CPUs share lists, as in `bpf_common_lru_push_free`: where its home word shows a CPU's
-/// local lists, and it is still pending there, it goes to the head of their free list; else to the head of the free list of the
-/// global lists. The pass holds no lock. It takes no memory that it needs.
+/// Frees the element of a body, as `LruMap::push_free`: in the list set in which it lives, or where the CPUs share lists at its
+/// home.
 pub(crate) fn push_free<R: Wait, G: Gate>(
     rt: &R,
     table: &PlaceTable,

@@ -11,14 +11,8 @@ use place_table::{Pass, PlaceTable};
 use std::alloc::Global;
 use std::sync::Wait;
 
-/// Takes an element for a key of this hash, or finds none (ENOMEM). The element is in the CPU's hand then, and listed with the
-/// hash. Where each CPU has a list set of its own, one turn of the CPU's set is made: it is rotated, shrunk where nothing is free,
-/// and gives out the head of its free list, as in the kernel's `bpf_percpu_lru_pop_free`. Where the CPUs share lists, as in
-/// `bpf_common_lru_pop_free`: the head of the CPU's local free list is given out, which is filled from the global lists where it is
-/// empty; and where these give nothing, an element is stolen from the local lists of a CPU, in a round from the CPU's own steal
-/// cursor. None comes exactly where every list that was looked at gave nothing: its free list was empty, and each element that was
-/// tried at last was in the hand of another CPU, whose owner word showed it. The pass is in no other call. It takes no memory that it needs:
-/// where there is none for what a turn tells, the record of that lock's turns is lost.
+/// Takes an element for a key of this hash, as `LruMap::acquire`: from the CPU's own list set, or where the CPUs share lists from
+/// these.
 pub(crate) fn acquire<R: Wait, G: Gate>(
     rt: &R,
     alloc: Global,

@@ -1,6 +1,6 @@
 //! Updates in a key's bucket.
 
-ghost use Rattle.std.specs.Prelude.{◌≡◌, ◌≤◌, IfErr, IsTrue, None};
+ghost use Rattle.std.specs.Prelude.{◌≡◌, ◌<◌, ◌≤◌, IfErr, IsTrue, None};
 ghost use Rattle.map_types.specs.Kind.{is_percpu};
 ghost use Rattle.place_words.specs.Bodies.{present};
 ghost use Rattle.place_table.specs.InBucket.{IsAt};
@@ -12,7 +12,7 @@ use crate::map::{LruMap, LruRefusal};
 use bucket_chain::{BPF_EXIST, BPF_NOEXIST, TakenBucket, Write};
 use map_types::{Gate, Side};
 use percpu_values::BoxedBody;
-use place_table::{Pass, refuse};
+use place_table::Pass;
 use place_words::Put;
 
 /// What an update that was offered an element left: its answer, and the body that has to be freed.
@@ -36,6 +36,7 @@ impl LruMap {
         requires gives { AreUpdateArguments self.now taken.number write.side write.key.now
             write.value.now }
         requires offered { IsOffered self.now taken.number pass.old body }
+        requires real { body.element < self.now.shape.elements }
         requires known { write.flags ≤ 2 }
         ensures ends { OfferEnds self.now taken.number pass.old pass.new
             (offer_of write.entry.side write.entry.flags write.entry.key.now
@@ -62,6 +63,7 @@ impl LruMap {
         requires gives { AreUpdateArguments self.now taken.number write.side write.key.now
             write.value.now }
         requires offered { IsOffered self.now taken.number pass.old body }
+        requires real { body.element < self.now.shape.elements }
         requires at { IsAt write.key.now place taken.chain.bodies }
         requires known { write.flags ≤ 2 }
         ensures ends { OfferEnds self.now taken.number pass.old pass.new
@@ -71,48 +73,23 @@ impl LruMap {
     {
         let offer = Some(body.body().element());
         if write.flags == BPF_NOEXIST {
-            refuse(
-                self.alloc,
-                &self.table,
-                pass,
-                taken,
-                write,
-                offer,
-                Put::Exists,
-                gate,
-            );
+            self.table
+                .refuse_update(pass, taken, write, offer, Put::Exists, gate);
             return Offered {
                 answer: Err(LruRefusal::Eexist),
                 left: Some(body),
             };
         }
         if self.table.shape().kind.is_percpu() {
-            place_table::write(
-                self.alloc,
-                &self.table,
-                pass,
-                taken,
-                place,
-                write,
-                offer,
-                gate,
-            );
+            self.table.write_key(pass, taken, place, write, offer, gate);
             return Offered {
                 answer: Ok(()),
                 left: Some(body),
             };
         }
-        let old = place_table::replace(
-            self.alloc,
-            &self.table,
-            pass,
-            taken,
-            place,
-            write,
-            body,
-            offer,
-            gate,
-        );
+        let old = self
+            .table
+            .replace_key(pass, taken, place, write, body, gate);
         Offered {
             answer: Ok(()),
             left: Some(old),
@@ -132,6 +109,7 @@ impl LruMap {
         requires gives { AreUpdateArguments self.now taken.number write.side write.key.now
             write.value.now }
         requires offered { IsOffered self.now taken.number pass.old body }
+        requires real { body.element < self.now.shape.elements }
         requires absent { present write.key.now taken.chain.bodies ≡ None }
         requires known { write.flags ≤ 2 }
         ensures ends { OfferEnds self.now taken.number pass.old pass.new
@@ -139,33 +117,16 @@ impl LruMap {
             write.entry.value.now body.element) result.left result.answer }
         ensures refuses { IfErr result.answer (MayRefuse self.now.shape.kind write.entry.flags) }
     {
-        let offer = Some(body.body().element());
         if write.flags == BPF_EXIST {
-            refuse(
-                self.alloc,
-                &self.table,
-                pass,
-                taken,
-                write,
-                offer,
-                Put::Absent,
-                gate,
-            );
+            let offer = Some(body.body().element());
+            self.table
+                .refuse_update(pass, taken, write, offer, Put::Absent, gate);
             return Offered {
                 answer: Err(LruRefusal::Enoent),
                 left: Some(body),
             };
         }
-        place_table::add(
-            self.alloc,
-            &self.table,
-            pass,
-            taken,
-            write,
-            body,
-            offer,
-            gate,
-        );
+        self.table.add_key(pass, taken, write, body, gate);
         Offered {
             answer: Ok(()),
             left: None,
@@ -197,29 +158,12 @@ impl LruMap {
         };
         match taken.chain.find(key) {
             Some(place) => {
-                place_table::write(
-                    self.alloc,
-                    &self.table,
-                    pass,
-                    taken,
-                    place,
-                    write,
-                    None,
-                    gate,
-                );
+                self.table.write_key(pass, taken, place, write, None, gate);
                 Ok(())
             }
             None => {
-                refuse(
-                    self.alloc,
-                    &self.table,
-                    pass,
-                    taken,
-                    write,
-                    None,
-                    Put::Absent,
-                    gate,
-                );
+                self.table
+                    .refuse_update(pass, taken, write, None, Put::Absent, gate);
                 Err(LruRefusal::Enoent)
             }
         }

@@ -5,7 +5,7 @@ use Rattle.map_types.specs.declared.row.Row.{Row}
 use Rattle.lru_lists.specs.declared.bits.BitCall.{BitCall}
 use Rattle.lru_lists.specs.declared.bits.ProbeCall.{ProbeCall}
 
--- What an object was asked so far, with its answers, in order: calls for bits, and probes.
+-- What an object was asked so far, with its answers: calls for bits, and probes, each in their order.
 pub record Questions : Type 0 where
   pub calls : List BitCall
   pub probes : List ProbeCall
@@ -19,6 +19,7 @@ pub record Terms (Asked : Type 0) : Type 1 where
   pub gives : Asked → Stored → Type 0
   pub lender : Asked → ℕ
 
+-- the terms by the members that an object's trait has for them, in this order
 abbrev pub terms_of : {Asked : Type 0} → (Asked → ℕ → Type 0) → (Asked → ℕ → Type 0) → (Asked → Row → Type 0) → (Asked → Stored → Type 0) → (Asked → ℕ) → Terms Asked
 terms_of can_note may_ask may_probe gives lender =
     record { can_note = can_note; may_ask = may_ask; may_probe = may_probe; gives = gives; lender = lender }

@@ -40,7 +40,7 @@ use Rattle.place_table.proofs.BucketUnder.{Under, Gives, gives, holds_bucket, un
 use Rattle.place_table.proofs.Worlds.{by_bool, true_false, some_is, none_some}
 use Rattle.lru_ops.specs.Under.{GivenBack, IsOut}
 use Rattle.lru_ops.proofs.Ends.{changed_given}
-use Rattle.bucket_walks.specs.Looks.{Enters}
+use Rattle.place_table.specs.BucketTurns.{Entered}
 use Rattle.map_batch.specs.LruTakes.{TakesInto, with_all_in_hand}
 use Rattle.bucket_walks.specs.BatchReads.{PairsSoFar, IsGathered, walked_by, all_read}
 
@@ -208,7 +208,7 @@ has_room shape cpu room bodies whole out now gathered is =
     (λ _ left. absurd (true_false (sym is ∙ left.0))) (λ _ _. refl) gathered
 
 -- What was read of the bucket that was entered, by the shape, the CPU and the room that were told
-module _ {t : TableView} {bucket : ℕ} {p q : PassView} {chain : BodyList} (entered : Enters t bucket p q chain) (lru : IsTrue (is_lru t.shape.kind)) (told : Shape) (cpu room : ℕ) (told_is : told ≡ t.shape) (cpu_is : cpu ≡ q.cpu)
+module _ {t : TableView} {bucket : ℕ} {p q : PassView} {chain : BodyList} (entered : Entered t bucket p q chain) (lru : IsTrue (is_lru t.shape.kind)) (told : Shape) (cpu room : ℕ) (told_is : told ≡ t.shape) (cpu_is : cpu ≡ q.cpu)
     (out now : PairsSoFar) (room_is : room ≡ out.limit - length out.pairs) (whole : Bool) (gathered : IsGathered (walked_by told cpu (out.limit - length out.pairs) chain.bodies) whole out now) where
   abbrev b : InBucket t bucket q chain.bodies
   b = entered.inside

@@ -1,7 +1,6 @@
 -- What an update of a map of each sort answers, as an update of any map.
-use Rattle.std.proofs.Common.{◌≡◌, ℕ, Bool, true, false, List, sym, subst}
+use Rattle.std.proofs.Common.{◌≡◌, Bool, true, false, sym, subst}
 use Rattle.std.specs.Prelude.{IsTrue, IsFalse, MatchBool, Result, Ok, Err}
-use Rattle.map_types.specs.declared.kind.Side.{Side}
 use Rattle.map_types.specs.declared.refusal.Errno.{Errno}
 use Rattle.map_types.specs.Kind.{is_lru}
 use Rattle.place_table.specs.Passes.{PassView, TableView}
@@ -12,7 +11,7 @@ use Rattle.hash_ops.specs.Calls as plain_calls
 use Rattle.lru_ops.specs.declared.map.LruRefusal.{LruRefusal}
 use Rattle.lru_ops.specs.declared.map.LruRefusal.TheVariants as lru
 use Rattle.lru_ops.specs.Calls as lru_calls
-use Rattle.map_batch.specs.Calls.{table_of, IsOfItsSort, Updates, answer_of_plain, answer_of_lru}
+use Rattle.map_batch.specs.Calls.{table_of, IsOfItsSort, UpdateCall, Updates, answer_of_plain, answer_of_lru}
 use Rattle.map_batch.specs.declared.any_map.AnyMap.{AnyMap}
 use Rattle.map_batch.specs.declared.any_map.AnyMap.TheVariants.{Plain, Lru}
 
@@ -25,15 +24,15 @@ on_plain : (b : Bool) (P Q : Type 0) → b ≡ false → Q → MatchBool b P Q
 on_plain true P Q is second = absurd (true_false is)
 on_plain false P Q is second = second
 
-module _ (t : TableView) (before after : PassView) (side : Side) (flags : ℕ) (key value : List ℕ) where
-  plain_updates : (answer : Result (Unit {0}) PlainRefusal) → IsFalse (is_lru t.shape.kind) → plain_calls.Updates t before after side flags key value answer → Updates t before after side flags key value (answer_of_plain answer)
+module _ (t : TableView) (before after : PassView) (update : UpdateCall) where
+  plain_updates : (answer : Result (Unit {0}) PlainRefusal) → IsFalse (is_lru t.shape.kind) → plain_calls.Updates t before after update answer → Updates t before after update (answer_of_plain answer)
   plain_updates (Ok done) is updates = on_plain (is_lru t.shape.kind) _ _ is updates
   plain_updates (Err plain.Einval) is updates = (updates.0, on_plain (is_lru t.shape.kind) _ _ is updates.1)
   plain_updates (Err plain.Enoent) is updates = on_plain (is_lru t.shape.kind) _ _ is updates
   plain_updates (Err plain.Eexist) is updates = on_plain (is_lru t.shape.kind) _ _ is updates
   plain_updates (Err plain.E2big) is updates = on_plain (is_lru t.shape.kind) _ _ is updates
 
-  lru_updates : (answer : Result (Unit {0}) LruRefusal) → IsTrue (is_lru t.shape.kind) → lru_calls.Updates t before after side flags key value answer → Updates t before after side flags key value (answer_of_lru answer)
+  lru_updates : (answer : Result (Unit {0}) LruRefusal) → IsTrue (is_lru t.shape.kind) → lru_calls.Updates t before after update answer → Updates t before after update (answer_of_lru answer)
   lru_updates (Ok done) is updates = on_evicting (is_lru t.shape.kind) _ _ is updates
   lru_updates (Err lru.Einval) is updates = (updates.0, on_evicting (is_lru t.shape.kind) _ _ is updates.1)
   lru_updates (Err lru.Enoent) is updates = on_evicting (is_lru t.shape.kind) _ _ is updates
@@ -42,12 +41,12 @@ module _ (t : TableView) (before after : PassView) (side : Side) (flags : ℕ) (
 
   -- the same of a map of which it is known which sort it is
   module _ (map : AnyMap) (sort : IsOfItsSort map) (result : Result (Unit {0}) Errno) where
-    pub of_plain : map ≡ Plain t → (answer : Result (Unit {0}) PlainRefusal) → plain_calls.Updates t before after side flags key value answer → result ≡ answer_of_plain answer → Updates (table_of map) before after side flags key value result
+    pub of_plain : map ≡ Plain t → (answer : Result (Unit {0}) PlainRefusal) → plain_calls.Updates t before after update answer → result ≡ answer_of_plain answer → Updates (table_of map) before after update result
     of_plain is answer updates answered =
-        subst (λ (m : AnyMap). Updates (table_of m) before after side flags key value result) (sym is)
-        (subst (Updates t before after side flags key value) (sym answered) (plain_updates answer (subst IsOfItsSort is sort) updates))
+        subst (λ (m : AnyMap). Updates (table_of m) before after update result) (sym is)
+        (subst (Updates t before after update) (sym answered) (plain_updates answer (subst IsOfItsSort is sort) updates))
 
-    pub of_lru : map ≡ Lru t → (answer : Result (Unit {0}) LruRefusal) → lru_calls.Updates t before after side flags key value answer → result ≡ answer_of_lru answer → Updates (table_of map) before after side flags key value result
+    pub of_lru : map ≡ Lru t → (answer : Result (Unit {0}) LruRefusal) → lru_calls.Updates t before after update answer → result ≡ answer_of_lru answer → Updates (table_of map) before after update result
     of_lru is answer updates answered =
-        subst (λ (m : AnyMap). Updates (table_of m) before after side flags key value result) (sym is)
-        (subst (Updates t before after side flags key value) (sym answered) (lru_updates answer (subst IsOfItsSort is sort) updates))
+        subst (λ (m : AnyMap). Updates (table_of m) before after update result) (sym is)
+        (subst (Updates t before after update) (sym answered) (lru_updates answer (subst IsOfItsSort is sort) updates))

@@ -39,7 +39,7 @@ use Rattle.place_table.proofs.BucketOut.{rows_here, sets_none}
 use Rattle.place_table.proofs.BucketTurns.{IsTurnWith}
 use Rattle.place_table.proofs.BucketUnder.{Gives, gives, holds_bucket, under_nothing}
 use Rattle.hash_ops.proofs.Between.{Between, between_nothing, all_turns, whole_by_call, whole_learns, whole_told, whole_turns}
-use Rattle.bucket_walks.specs.Looks.{Enters}
+use Rattle.place_table.specs.BucketTurns.{Entered}
 use Rattle.map_batch.specs.PlainTakes.{IsPushed, PushesAll, TakesInto}
 use Rattle.bucket_walks.specs.BatchReads.{PairsSoFar, IsGathered, all_read, walked_by}
 use Rattle.map_batch.proofs.Emptied.{Emptied, emptied_all, pushes_of}
@@ -136,7 +136,7 @@ takes_out : (shape : Shape) (cpu : ℕ) (turn : Turn) (gone : List ℕ) (turns :
 takes_out shape cpu turn gone turns plain are =
     subst (λ (b : Bool). MatchBool b (IsFreedAfter shape turn gone turns) (turns_of turns ≡ pushes_of cpu gone ++ turn ∷ [])) (sym plain) are
 
-module _ {t : TableView} {bucket : ℕ} {p q r : PassView} {chain back : BodyList} (entered : Enters t bucket p q chain) (plain : is_lru t.shape.kind ≡ false) {room : ℕ} {walked : Walked} {found : Option Part} (given : CanGiveTaken t bucket q r chain.bodies back room walked found) where
+module _ {t : TableView} {bucket : ℕ} {p q r : PassView} {chain back : BodyList} (entered : Entered t bucket p q chain) (plain : is_lru t.shape.kind ≡ false) {room : ℕ} {walked : Walked} {found : Option Part} (given : CanGiveTaken t bucket q r chain.bodies back room walked found) where
   takes_by : {s : PassView} {out now : PairsSoFar} (whole : Bool) → GaveBack t (Bucket bucket) r s (contents.Bucket back) found → room ≡ out.limit - length out.pairs → IsGathered walked whole out now → TakesInto t bucket p s whole out now
   takes_by {s} {out} {now} whole gave room_is gathered =
       let took = entered.took in
@@ -174,7 +174,7 @@ module _ {t : TableView} {bucket : ℕ} {p q r : PassView} {chain back : BodyLis
 
 -- What the code has, by the shape and the CPU that the table tells
 
-module _ {t : TableView} {bucket : ℕ} {p q : PassView} {chain : BodyList} (entered : Enters t bucket p q chain) (plain : is_lru t.shape.kind ≡ false) (r : PassView) (back : BodyList) (out now : PairsSoFar) (shape : Shape) (cpu room : ℕ) (whole : Bool) (found : Option Part)
+module _ {t : TableView} {bucket : ℕ} {p q : PassView} {chain : BodyList} (entered : Entered t bucket p q chain) (plain : is_lru t.shape.kind ≡ false) (r : PassView) (back : BodyList) (out now : PairsSoFar) (shape : Shape) (cpu room : ℕ) (whole : Bool) (found : Option Part)
     (shape_is : shape ≡ t.shape) (cpu_is : cpu ≡ q.cpu) (room_is : room ≡ out.limit - length out.pairs)
     (gathered : IsGathered (walked_by shape cpu (out.limit - length out.pairs) chain.bodies) whole out now)
     (part_is : IfSome found (λ x. x ≡ parts.Bucket (Walk true room (walked_by shape cpu room chain.bodies))))

@@ -4,8 +4,7 @@ use Rattle.std.specs.Prelude.{IsFalse, MatchBool, reverse, Result, Ok, Err}
 use Rattle.std.proofs.Math.Seq.{take-suc}
 use Rattle.std.proofs.lemmas.List.{take_all}
 use Rattle.map_types.specs.declared.call.Verb.{Verb}
-use Rattle.map_types.specs.declared.call.Verb.TheVariants.{Update, BatchUpdate}
-use Rattle.map_types.specs.declared.kind.Side.{Side}
+use Rattle.map_types.specs.declared.call.Verb.TheVariants.{BatchUpdate}
 use Rattle.map_types.specs.declared.kind.Side.TheVariants.{Sys}
 use Rattle.map_types.specs.declared.refusal.Errno.{Errno}
 use Rattle.map_types.specs.declared.refusal.Errno.TheVariants as errnos
@@ -20,7 +19,7 @@ use Rattle.map_batch.specs.declared.writes.BatchCount.{BatchCount}
 use Rattle.map_batch.specs.declared.writes.WriteRefusal.{WriteRefusal}
 use Rattle.map_batch.specs.declared.writes.WriteRefusal.TheVariants as writes
 use Rattle.hash_ops.specs.Calls.{LosesAtMost}
-use Rattle.map_batch.specs.Calls.{Updated, Updates, MayRefuse}
+use Rattle.map_batch.specs.Calls.{UpdateCall, update_call, verb_of, Updated, Updates, MayRefuse}
 use Rattle.map_batch.specs.Writes.{AreSomeOf, BatchUpdated, UpdatesBatch, bucket_lock}
 use Rattle.map_batch.proofs.Entries.{SoFar, Ends, so_far_none, those_before, all_done, one_more, stopped}
 use Rattle.map_batch.proofs.Joined.{called_wrote, called_nothing, batch_refused}
@@ -50,19 +49,23 @@ nothing_lost false lost lock whole = (whole.0, inl whole.1)
 
 -- Updates
 
-module _ (t : TableView) (q r : PassView) (side : Side) (flags : ℕ) (key value : List ℕ) where
+module _ (t : TableView) (q r : PassView) (update : UpdateCall) where
   -- an update that was refused did what its turns tell
-  refused_updated : (errno : Errno) → Updates t q r side flags key value (Err errno) → Updated t q r side flags key value (Refused errno)
+  refused_updated : (errno : Errno) → Updates t q r update (Err errno) → Updated t q r update (Refused errno)
   refused_updated errnos.Einval updates =
-      nothing_lost (is_lru t.shape.kind) (λ (c : Called t q r (Update side flags key value) (Refused errnos.Einval)). c.lost) (bucket_lock t.shape (key, value)) updates.1
+      nothing_lost (is_lru t.shape.kind) (λ (c : Called t q r (verb_of update) (Refused errnos.Einval)). c.lost) (bucket_lock t.shape (update.key, update.value)) updates.1
   refused_updated errnos.Enoent updates = updates
   refused_updated errnos.Eexist updates = updates
   refused_updated errnos.E2big updates = plain_only (is_lru t.shape.kind) _ _ updates
   refused_updated errnos.Enomem updates = evicting_only (is_lru t.shape.kind) _ _ (λ none. none.called) updates
   refused_updated errnos.Enospc updates = absurd updates
 
+-- a pair's update, by the system call with BPF_ANY
+abbrev pub pair_update : List ℕ × List ℕ → UpdateCall
+pair_update pair = update_call Sys 0 pair.0 pair.1
+
 abbrev pub update_of : List ℕ × List ℕ → Verb
-update_of pair = Update Sys 0 pair.0 pair.1
+update_of pair = verb_of (pair_update pair)
 
 -- the pairs so far were updated
 abbrev pub UpdatedSoFar : TableView → PassView → List (List ℕ × List ℕ) → PassView → ℕ → Type 0
@@ -94,23 +97,23 @@ module _ (t : TableView) (p : PassView) (pairs : List (List ℕ × List ℕ)) wh
     next : take (suc n) pairs ≡ take n pairs ++ pair_at pairs n ∷ []
     next = take-suc pairs n ([], []) less
 
-    of_pair : (result : Result (Unit {0}) Errno) → Updates t q r Sys 0 key value result → Updates t q r Sys 0 (pair_at pairs n).0 (pair_at pairs n).1 result
-    of_pair result = subst (λ (x : List ℕ × List ℕ). Updates t q r Sys 0 x.0 x.1 result) (λ i. (key_is i, value_is i))
+    of_pair : (result : Result (Unit {0}) Errno) → Updates t q r (update_call Sys 0 key value) result → Updates t q r (pair_update (pair_at pairs n)) result
+    of_pair result = subst (λ (x : List ℕ × List ℕ). Updates t q r (pair_update x) result) (λ i. (key_is i, value_is i))
 
-    updated_parts : {reply : Reply} → Updated t q r Sys 0 (pair_at pairs n).0 (pair_at pairs n).1 reply
+    updated_parts : {reply : Reply} → Updated t q r (pair_update (pair_at pairs n)) reply
         → (c : Called t q r (update_of (pair_at pairs n)) reply) × (IsFalse (is_lru t.shape.kind) → LosesAtMost (bucket_lock t.shape (pair_at pairs n)) c.lost)
     updated_parts {reply} = parts_of (is_lru t.shape.kind) (λ (c : Called t q r (update_of (pair_at pairs n)) reply). LosesAtMost (bucket_lock t.shape (pair_at pairs n)) c.lost)
 
-    pub updated_more : (done : Unit {0}) → Updates t q r Sys 0 key value (Ok done) → UpdatedSoFar t p pairs r (n + 1)
+    pub updated_more : (done : Unit {0}) → Updates t q r (update_call Sys 0 key value) (Ok done) → UpdatedSoFar t p pairs r (n + 1)
     updated_more done updates =
         let called = updated_parts (of_pair (Ok done) updates) in
         let more : suc n ≡ n + 1 = omega arith in
         subst (UpdatedSoFar t p pairs r) more (one_more pairs so_far (pair_at pairs n) next called.0 called.1 called.0.trace refl)
 
-    pub updated_stopped : (errno : Errno) → Updates t q r Sys 0 key value (Err errno) → MayRefuse t.shape.kind 0 errno → UpdatesBatch t p r 0 pairs (Ok record { done = n; stop = Some errno })
+    pub updated_stopped : (errno : Errno) → Updates t q r (update_call Sys 0 key value) (Err errno) → MayRefuse t.shape.kind 0 errno → UpdatesBatch t p r 0 pairs (Ok record { done = n; stop = Some errno })
     updated_stopped errno updates may =
         let pair = pair_at pairs n in
-        let called = updated_parts (refused_updated t q r Sys 0 pair.0 pair.1 errno (of_pair (Err errno) updates)) in (
+        let called = updated_parts (refused_updated t q r (pair_update pair) errno (of_pair (Err errno) updates)) in (
           refl,
           as_batch r pairs (take (suc n) pairs) (Some errno) n (stopped pairs so_far pair next called.0 called.1 called.0.trace errno refl),
           record {

@@ -1,13 +1,12 @@
 -- Maps of any kind as their tables, and what an update of one answers.
-use Rattle.std.specs.Prelude.{◌≡◌, ℕ, ◌<◌, ◌≤◌, IsTrue, IsFalse, List, MatchBool, Result, Ok, Err}
-use Rattle.map_types.specs.declared.call.Verb.TheVariants.{Update}
+use Rattle.std.specs.Prelude.{◌≡◌, ℕ, ◌<◌, ◌≤◌, IsTrue, IsFalse, MatchBool, Result, Ok, Err}
 use Rattle.map_types.specs.declared.kind.MapKind.{MapKind}
-use Rattle.map_types.specs.declared.kind.Side.{Side}
 use Rattle.map_types.specs.declared.refusal.Errno.{Errno}
 use Rattle.map_types.specs.declared.refusal.Errno.TheVariants.{Enoent, E2big, Enomem, Eexist, Einval, Enospc}
 use Rattle.map_types.specs.declared.reply.Reply.{Reply}
 use Rattle.map_types.specs.declared.reply.Reply.TheVariants as replies
 use Rattle.map_types.specs.Kind.{is_lru}
+pub use Rattle.place_table.specs.BucketPuts.{UpdateCall, update_call, verb_of}
 use Rattle.place_table.specs.Calls.{Called, CalledWhole}
 use Rattle.place_table.specs.Passes.{PassView, TableView}
 use Rattle.hash_ops.specs.declared.map.PlainRefusal.{PlainRefusal}
@@ -47,28 +46,26 @@ answer_of_lru (Err lru.Enomem) = Err Enomem
 
 -- An update did what its turns tell, and answered so. On a map that doesn't evict no lock but the key's bucket was given back without a
 -- part, and that one once at most.
-abbrev pub Updated : TableView → PassView → PassView → Side → ℕ → List ℕ → List ℕ → Reply → Type 0
-Updated t before after side flags key value reply =
-    MatchBool (is_lru t.shape.kind)
-    (Called t before after (Update side flags key value) reply)
-    (plain_calls.Updated t before after side flags key value reply)
+abbrev pub Updated : TableView → PassView → PassView → UpdateCall → Reply → Type 0
+Updated t before after update reply =
+    MatchBool (is_lru t.shape.kind) (Called t before after (verb_of update) reply) (plain_calls.Updated t before after update reply)
 
 -- Flags that aren't known were refused before anything was looked at.
-abbrev pub RefusedFlags : TableView → PassView → PassView → Side → ℕ → List ℕ → List ℕ → Type 0
-RefusedFlags t before after side flags key value =
+abbrev pub RefusedFlags : TableView → PassView → PassView → UpdateCall → Type 0
+RefusedFlags t before after update =
     (after ≡ before)
     × MatchBool (is_lru t.shape.kind)
-    (Called t before after (Update side flags key value) (replies.Refused Einval))
-    (CalledWhole t before after (Update side flags key value) (replies.Refused Einval))
+    (Called t before after (verb_of update) (replies.Refused Einval))
+    (CalledWhole t before after (verb_of update) (replies.Refused Einval))
 
 -- A map that doesn't evict was full. One that evicts never is.
-abbrev pub FoundFull : TableView → PassView → PassView → Side → ℕ → List ℕ → List ℕ → Type 0
-FoundFull t before after side flags key value =
-    MatchBool (is_lru t.shape.kind) ⊥ (plain_calls.Updated t before after side flags key value (replies.Refused E2big))
+abbrev pub FoundFull : TableView → PassView → PassView → UpdateCall → Type 0
+FoundFull t before after update = MatchBool (is_lru t.shape.kind) ⊥ (plain_calls.Updated t before after update (replies.Refused E2big))
 
 -- A map that evicts had no element to take, and its turns show why. On another map none is looked for.
-abbrev pub FoundNoElement : TableView → PassView → PassView → Side → ℕ → List ℕ → List ℕ → Type 0
-FoundNoElement t before after side flags key value = MatchBool (is_lru t.shape.kind) (lru_calls.FoundNoElement t side flags key value before after) ⊥
+abbrev pub FoundNoElement : TableView → PassView → PassView → UpdateCall → Type 0
+FoundNoElement t before after update =
+    MatchBool (is_lru t.shape.kind) (lru_calls.FoundNoElement t update.side update.flags update.key update.value before after) ⊥
 
 -- Under which flags an update of a map of this kind is refused so: EINVAL for flags that aren't known, EEXIST only under BPF_NOEXIST
 -- (1), ENOENT only under BPF_EXIST (2), E2BIG only where a key may be added and the map doesn't evict, and ENOMEM only on a map that
@@ -82,11 +79,11 @@ MayRefuse kind flags Enomem = (flags ≤ 2) × IsTrue (is_lru kind) × IsFalse (
 MayRefuse kind flags Enospc = ⊥
 
 -- What an update answers. No answer tells of want of memory.
-abbrev pub Updates : TableView → PassView → PassView → Side → ℕ → List ℕ → List ℕ → Result (Unit {0}) Errno → Type 0
-Updates t before after side flags key value (Ok done) = Updated t before after side flags key value replies.Done
-Updates t before after side flags key value (Err Einval) = RefusedFlags t before after side flags key value
-Updates t before after side flags key value (Err Enoent) = Updated t before after side flags key value (replies.Refused Enoent)
-Updates t before after side flags key value (Err Eexist) = Updated t before after side flags key value (replies.Refused Eexist)
-Updates t before after side flags key value (Err E2big) = FoundFull t before after side flags key value
-Updates t before after side flags key value (Err Enomem) = FoundNoElement t before after side flags key value
-Updates t before after side flags key value (Err Enospc) = ⊥
+abbrev pub Updates : TableView → PassView → PassView → UpdateCall → Result (Unit {0}) Errno → Type 0
+Updates t before after update (Ok done) = Updated t before after update replies.Done
+Updates t before after update (Err Einval) = RefusedFlags t before after update
+Updates t before after update (Err Enoent) = Updated t before after update (replies.Refused Enoent)
+Updates t before after update (Err Eexist) = Updated t before after update (replies.Refused Eexist)
+Updates t before after update (Err E2big) = FoundFull t before after update
+Updates t before after update (Err Enomem) = FoundNoElement t before after update
+Updates t before after update (Err Enospc) = ⊥

@@ -17,7 +17,7 @@ use Rattle.place_table.specs.Passes.{PassView, TableView}
 use Rattle.map_batch.specs.declared.writes.BatchCount.{BatchCount}
 use Rattle.map_batch.specs.declared.writes.WriteRefusal.{WriteRefusal}
 use Rattle.map_batch.specs.declared.writes.WriteRefusal.TheVariants as writes
-use Rattle.map_batch.specs.Calls.{Updates, MayRefuse}
+use Rattle.map_batch.specs.Calls.{Updates, MayRefuse, update_call}
 
 -- the lock of the bucket of a pair's key
 abbrev pub bucket_lock : Shape → List ℕ × List ℕ → ℕ
@@ -43,7 +43,7 @@ pub record EndsAt (t : TableView) (before after : PassView) (pairs : List (List 
   pub within : done < length pairs
   pub between : PassView
   pub entries : BatchUpdated t before between 0 (take done pairs) (take done pairs) (Count None done)
-  pub refused : Updates t between after Sys 0 (key_of (pair_at pairs done)) (value_of (pair_at pairs done)) (Err errno)
+  pub refused : Updates t between after (update_call Sys 0 (key_of (pair_at pairs done)) (value_of (pair_at pairs done))) (Err errno)
   pub may : MayRefuse t.shape.kind 0 errno
 
 -- Where no entry of a batch update was refused, all are done. Else the first that was refused comes after those that are done, and its

@@ -9,7 +9,7 @@ ghost use Rattle.place_table.specs.Calls.{CanCall, Called, reply_of_value, reply
 ghost use Rattle.place_table.specs.Closing.{IsClosed};
 ghost use Rattle.place_table.specs.Passes.{IsFirstPass, IsPassOf, IsInNoCall};
 ghost use Rattle.place_table.specs.Views.{is_among};
-ghost use Rattle.map_batch.specs.Calls.{table_of, IsOfItsSort, Updates, MayRefuse, answer_of_plain, answer_of_lru};
+ghost use Rattle.map_batch.specs.Calls.{table_of, IsOfItsSort, Updates, update_call, MayRefuse, answer_of_plain, answer_of_lru};
 
 use hash_ops::{PlainMap, PlainRefusal};
 use lru_ops::{LruMap, LruRefusal};
@@ -113,8 +113,8 @@ impl AnyMap {
         requires can { CanCall (table_of self.now) pass.old }
         requires key { length key.now ≡ (table_of self.now).shape.key_size }
         requires value { length value.now ≡ value_len_of (table_of self.now).shape side }
-        ensures updates { Updates (table_of self.now) pass.old pass.new side flags key.now
-            value.now result }
+        ensures updates { Updates (table_of self.now) pass.old pass.new
+            (update_call side flags key.now value.now) result }
         ensures refuses { IfErr result (MayRefuse (table_of self.now).shape.kind flags) }
     {
         // Which answers there are goes by the map's kind.

@@ -6,13 +6,12 @@ ghost use Rattle.map_types.specs.declared.call.Verb.TheVariants as verbs;
 ghost use Rattle.map_types.specs.Kind.{is_lru};
 ghost use Rattle.map_types.specs.Shape.{HasBounds};
 ghost use Rattle.place_table.specs.Calls.{CanCall};
-ghost use Rattle.bucket_walks.specs.Looks.{CanEnter};
+ghost use Rattle.place_table.specs.BucketTurns.{CanEnter};
 ghost use Rattle.map_batch.specs.LruTakes.{CanTakeOut, CanFreeAll, FreedAll, TakesInto, TakesIn, TakesOn};
 ghost use Rattle.bucket_walks.specs.BatchReads.{Answers, BeginsAt, Comes, IsOfMap};
 
 use bucket_walks::{
-    BatchOut, BatchRefusal, BatchRequest, Planned, ReadRoom, enter, plan, read_out, read_whole,
-    walk_part,
+    BatchOut, BatchRefusal, BatchRequest, Planned, ReadRoom, plan, read_out, read_whole, walk_part,
 };
 use lru_ops::LruMap;
 use map_types::{DomainId, Gate};
@@ -132,7 +131,7 @@ fn take_out<R: Wait, G: Gate>(
     let lock = DomainId::Bucket(bucket);
     let shape = table.shape();
     let room = taking.out.left();
-    let mut chain = enter(rt, table, pass, bucket, gate);
+    let mut chain = table.enter_bucket(rt, pass, bucket, gate);
     let cpu = table.cpu_of(pass);
     let part = walk_part(alloc, true, shape, cpu, room, &chain);
     if !read_whole(shape, cpu, &chain, &mut taking.out) {

@@ -5,13 +5,14 @@ ghost use Rattle.map_types.specs.declared.call.Verb.TheVariants as verbs;
 ghost use Rattle.map_types.specs.Kind.{is_lru};
 ghost use Rattle.place_table.specs.Calls.{CanCall};
 ghost use Rattle.place_table.specs.InBucket.{InBucket};
-ghost use Rattle.bucket_walks.specs.Looks.{CanWalk, CanEnter};
+ghost use Rattle.bucket_walks.specs.Looks.{CanWalk};
+ghost use Rattle.place_table.specs.BucketTurns.{CanEnter};
 ghost use Rattle.map_batch.specs.PlainTakes.{CanPushOut, IsPushed, PushesOut, TakesInto, TakesOn};
 ghost use Rattle.bucket_walks.specs.BatchReads.{Answers, BeginsAt, Comes, IsOfMap};
 
 use bucket_chain::{Chain, body_out};
 use bucket_walks::{
-    BatchOut, BatchRefusal, BatchRequest, ReadRoom, enter, plan, read_out, read_whole, walk_part,
+    BatchOut, BatchRefusal, BatchRequest, ReadRoom, plan, read_out, read_whole, walk_part,
 };
 use hash_ops::PlainMap;
 use map_types::{DomainId, Gate};
@@ -90,7 +91,7 @@ fn take_in<R: Wait, G: Gate>(
     let table = map.table();
     let shape = table.shape();
     let room = out.left();
-    let mut chain = enter(rt, table, pass, bucket, gate);
+    let mut chain = table.enter_bucket(rt, pass, bucket, gate);
     let cpu = table.cpu_of(pass);
     let whole = read_whole(shape, cpu, &chain, out);
     let part = walk_part(alloc, true, shape, cpu, room, &chain);

@@ -12,9 +12,10 @@ use Rattle.place_table.specs.Views.{is_among}
 use Rattle.place_table.proofs.Going.{goes_of_table, kept_on}
 use Rattle.hash_ops.specs.Calls.{Called}
 use Rattle.map_report.specs.Record.{MayAnswer}
-use Rattle.map_run.specs.Phased.{HasGone, IsWhole}
-use Rattle.map_run.specs.Work.{HasWorked}
-use Rattle.map_run.proofs.Working.{none_worked, works_on}
+use Rattle.run_records.specs.Phased.{HasGone, IsWhole}
+use Rattle.run_records.specs.Work.{HasWorked}
+use Rattle.run_records.proofs.OwnCalls.{none_worked}
+use Rattle.map_run.proofs.Working.{works_on}
 
 pub alone_first : (t : TableView) (before : ℕ) (calls : List Call) (p : PassView) (replies : List Reply) → replies ≡ [] → IsWhole t p → (cpu : ℕ) → All (λ (call : Call). call.cpu ≡ cpu) calls → HasWorked t cpu (suc before) (take 0 calls) p p replies
 alone_first t before calls p replies none whole cpu all = subst (HasWorked t cpu (suc before) [] p p) (sym none) (none_worked t cpu (suc before) p whole.of_table whole.in_no_call)

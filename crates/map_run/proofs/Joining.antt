@@ -29,8 +29,8 @@ use Rattle.place_table.specs.Views.{is_among, all_strands, current_strand, joine
 use Rattle.place_table.proofs.Worlds.{true_false}
 use Rattle.hash_ops.specs.Calls.{element_of}
 use Rattle.map_run.specs.declared.worker.Worker.{Worker}
-use Rattle.run_endings.specs.Replies.{count_of, replies_by, replies_of}
-use Rattle.map_run.specs.Work.{AreCallsBy, HasWorked, HaveRaced, has_turn}
+use Rattle.file_order.specs.Replies.{count_of, replies_by, replies_of}
+use Rattle.run_records.specs.Work.{AreCallsBy, HasWorked, HaveRaced, has_turn}
 use Rattle.map_run.specs.Workers.{AreSplitOff, HaveDone, HaveEnded, HasSplit, IsSplitOff}
 use Rattle.map_run.proofs.Workers.{among_one, not_among_one, among_append, below_more, kept_off}
 use Rattle.serial_laws.proofs.ListPlaces.{made_same}

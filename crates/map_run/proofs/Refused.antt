@@ -8,11 +8,11 @@ use Rattle.place_words.specs.declared.history.Strand.{Strand}
 use Rattle.place_words.specs.Phases.{phase_count}
 use Rattle.place_table.specs.Closing.{ClosedView}
 use Rattle.map_report.specs.declared.record.RunRecord.{RunRecord}
-use Rattle.map_run.specs.declared.pieces.Piece.{Piece}
+use Rattle.run_records.specs.declared.pieces.Piece.{Piece}
 use Rattle.run_endings.specs.Finish.{IsKeptFrom}
-use Rattle.map_run.specs.Copies.{IsCopyOf}
-use Rattle.map_run.specs.Parts.{lone_cpu, pieces_by}
-use Rattle.map_run.specs.Races.{RanByMany, RanByOne, calls_of, strands_by, strands_in}
+use Rattle.run_records.specs.Copies.{IsCopyOf}
+use Rattle.run_records.specs.Parts.{lone_cpu, pieces_by}
+use Rattle.run_records.specs.Races.{RanByMany, RanByOne, calls_of, strands_by, strands_in}
 use Rattle.map_run.specs.Refusals.{KeptFromATable, LoneCallsByOne, LonePhaseIsWhole}
 
 -- A record with no table behind it

@@ -11,8 +11,8 @@ use Rattle.place_table.specs.declared.view.View.{View}
 use Rattle.place_table.specs.Passes.{PassView, TableView, spare_of, IsKeptOf, Split}
 use Rattle.place_table.specs.Views.{is_among, all_strands, without_cpu}
 use Rattle.map_run.specs.declared.worker.Worker.{Worker}
-use Rattle.map_run.specs.Phased.{IsWhole}
-use Rattle.map_run.specs.Work.{HasWorked, has_turn}
+use Rattle.run_records.specs.Phased.{IsWhole}
+use Rattle.run_records.specs.Work.{HasWorked, has_turn}
 use Rattle.map_run.specs.Workers.{IsSplitOff, IsReady, AreSplitOff, HaveDone, HaveEnded, HasDone, HasSplit}
 
 -- CPUs

@@ -6,7 +6,7 @@ use Rattle.map_report.specs.Runs.{serial}
 use Rattle.run_words.specs.declared.words.Mode.{Mode}
 use Rattle.run_words.specs.declared.words.Mode.TheVariants.{Serial, Race, Gen}
 use Rattle.serial_laws.specs.Laws.{SerialLaws}
-use Rattle.map_run.specs.Races.{IsRaceRecord}
+use Rattle.run_records.specs.Races.{IsRaceRecord}
 
 -- What is kept of a script that ran in a mode. In serial order, which is that of generated calls too, it is that of the calls
 -- one after another, by the logs of the locks, and the laws of such runs hold. In a race it is a record of the script, in

@@ -1,10 +1,3 @@
-pub mod ByLogs
-pub mod Copies
 pub mod Finish
-pub mod Parts
-pub mod Phased
-pub mod Races
 pub mod Refusals
-pub mod SerialPhases
-pub mod Work
 pub mod Workers

@@ -9,14 +9,14 @@ use Rattle.place_table.specs.Passes.{PassView, TableView}
 use Rattle.map_report.specs.declared.record.RunRecord.{RunRecord}
 use Rattle.run_ends.specs.SourceReads.{Rose}
 use Rattle.run_ends.specs.Writes.{Written}
-use Rattle.map_run.specs.declared.pieces.Piece.{Piece}
+use Rattle.run_records.specs.declared.pieces.Piece.{Piece}
 use Rattle.run_endings.specs.declared.record.Finish.{Finish}
 use Rattle.run_endings.specs.Finish.{Finishes, HasCause}
 use Rattle.place_table.specs.Closing.{ClosedView}
-use Rattle.map_run.specs.Copies.{IsCopyOf}
+use Rattle.run_records.specs.Copies.{IsCopyOf}
 use Rattle.map_run.specs.Finish.{RanAs}
-use Rattle.map_run.specs.Parts.{lone_cpu}
-use Rattle.map_run.specs.Races.{IsRaceRecord, RanByMany, RanCalls, calls_of}
+use Rattle.run_records.specs.Parts.{lone_cpu}
+use Rattle.run_records.specs.Races.{IsRaceRecord, RanByMany, RanCalls, calls_of}
 
 -- The program doesn't end with a record that no closed table stands behind, whatever its words are, and whatever its source and its
 -- sink tell: a run that is computed, and opens no table, is refused.

@@ -4,7 +4,7 @@ use Rattle.map_types.specs.declared.call.Call.{Call}
 use Rattle.place_table.specs.Passes.{TableView, PassView, IsPassOf, IsInNoCall, spare_of}
 use Rattle.place_table.specs.Views.{is_among, all_strands}
 use Rattle.map_run.specs.declared.worker.Worker.{Worker}
-use Rattle.map_run.specs.Work.{HasWorked, has_turn}
+use Rattle.run_records.specs.Work.{HasWorked, has_turn}
 
 -- The pass of a CPU as it was split off: it has the CPU's spare and a new strand. The first one has the strands that were there before.
 pub record IsSplitOff (t : TableView) (start : PassView) (cpu : ℕ) (off : PassView) : Type 0 where

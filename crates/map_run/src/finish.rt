@@ -1,7 +1,7 @@
 //! The top call: from the words and the input to what is written.
 
 ghost use Rattle.std.specs.Prelude.{◌≡◌, false, map, IfOk, IfSome, string_bytes};
-ghost use Rattle.map_run.specs.Copies.{IsCopyOf};
+ghost use Rattle.run_records.specs.Copies.{IsCopyOf};
 ghost use Rattle.map_run.specs.Finish.{RanAs};
 ghost use Rattle.run_endings.specs.Finish.{Finishes, HasCause, IsStatus, status_due};
 ghost use Rattle.run_ends.specs.SourceReads.{Rose};
@@ -38,7 +38,8 @@ fn run_in<R: Threads + Wait + Sync, G: Gate>(
     }
 }
 
-/// Runs the program: reads a script to its end, runs it in the mode that the words name, and writes its report.
+/// Runs the program: reads a script to its end, runs it in the mode that the words name, and writes its report. At most
+/// 16,777,217 bytes are read, whatever comes of it.
 ///
 /// The words are the program's name, which is not looked at, then the mode once, `serial`, `race` or `gen`, and each of
 /// `--history`, `--dump` and `--json` at most once, in any order. One `--` may stand among them, after which no option

@@ -7,7 +7,6 @@ mod hold_gate;
 mod laws;
 mod one_call;
 mod phases;
-mod pieces;
 mod race;
 mod record;
 mod serial;

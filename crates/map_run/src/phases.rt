@@ -7,8 +7,8 @@ ghost use Rattle.map_batch.specs.Calls.{table_of};
 ghost use Rattle.place_table.specs.Passes.{IsPassOf};
 ghost use Rattle.place_table.specs.Views.{has_all};
 ghost use Rattle.place_words.specs.Phases.{calls_before};
-ghost use Rattle.map_run.specs.Parts.{lone_cpu};
-ghost use Rattle.map_run.specs.Phased.{IsWhole, SawBits, Started};
+ghost use Rattle.run_records.specs.Parts.{lone_cpu};
+ghost use Rattle.run_records.specs.Phased.{IsWhole, SawBits, Started};
 
 use map_batch::AnyMap;
 use map_report::PhaseStart;

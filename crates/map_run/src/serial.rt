@@ -1,6 +1,6 @@
 //! A run in serial order.
 
-ghost use Rattle.std.specs.Prelude.{◌≡◌, ◌≤◌, ◌+◌, ◌-◌, ℕ, suc, false, ◌++◌, All, List, IfOk, length, take, drop};
+ghost use Rattle.std.specs.Prelude.{◌≡◌, ◌≤◌, ◌+◌, ◌-◌, ℕ, suc, ◌++◌, All, List, IfOk, length, take, drop};
 ghost use Rattle.map_types.specs.Creation.{IsShape};
 ghost use Rattle.map_types.specs.declared.call.Call.{Call};
 ghost use Rattle.map_types.specs.declared.reply.Reply.{Reply};
@@ -9,24 +9,23 @@ ghost use Rattle.place_table.specs.Passes.{IsFirstPass};
 ghost use Rattle.place_words.specs.AtRest.{IsStart};
 ghost use Rattle.place_words.specs.Phases.{phase_count};
 ghost use Rattle.map_report.specs.Runs.{serial};
-ghost use Rattle.map_run.specs.ByLogs.{HaveRunFrom, RunStart};
-ghost use Rattle.map_run.specs.Copies.{IsCopyOf, record_left};
+ghost use Rattle.run_records.specs.ByLogs.{HaveRunFrom, RunStart};
+ghost use Rattle.run_records.specs.Copies.{IsCopyOf};
 ghost use Rattle.serial_laws.specs.Laws.{SerialLaws};
-ghost use Rattle.map_run.specs.Phased.{HasGone, IsWhole};
+ghost use Rattle.run_records.specs.Phased.{HasGone, IsWhole};
 ghost use Rattle.serial_laws.specs.Served.{IsScript, IsServed, IsServedCall};
-ghost use Rattle.map_run.specs.SerialPhases.{HaveRunPhases};
-ghost use Rattle.map_run.specs.Work.{HasWorked};
+ghost use Rattle.run_records.specs.SerialPhases.{HaveRunPhases};
+ghost use Rattle.run_records.specs.Work.{HasWorked};
 ghost use Rattle.map_script.specs.WellFormed.{HasPhases};
 
 use crate::RunRecord;
 use crate::one_call::run_call;
 use crate::phases::{phase_end, phase_start};
-use crate::pieces::{Piece, record_of};
 use map_batch::AnyMap;
-use map_report::PhaseStart;
 use map_script::Script;
 use map_types::{Call, Gate, NoMemory, Point, Reply};
 use place_table::{Closed, Pass};
+use run_records::{Piece, Told, keep};
 use std::alloc::Global;
 use std::sync::Wait;
 
@@ -73,14 +72,6 @@ fn run_script<R: Wait, G: Gate>(
     let told = run_phases(rt, alloc, &map, &mut pass, script, gate)?;
     let closed = map.close(pass)?;
     keep(alloc, script.shape.cpus, told, closed)
-}
-
-/// What is told of a run beside what its table leaves.
-#[derive(Drop)]
-pub struct Told {
-    pub replies: Vec<Reply>,
-    pub starts: Vec<PhaseStart>,
-    pub pieces: Vec<Piece>,
 }
 
 /// Runs the phases of a script one after another.
@@ -184,27 +175,4 @@ pub(crate) fn run_calls<R: Wait, G: Gate>(
         replies.push(reply)?;
     }
     Ok(replies)
-}
-
-/// The record of a run of which this is told, and what its table left. Where the record of a lock is lost there is none.
-pub(crate) fn keep(
-    alloc: Global,
-    cpus: u32,
-    told: Told,
-    closed: Closed,
-) -> Result<(RunRecord, Closed), NoMemory>
-    ensures { IfOk result (λ kept. (kept.0 ≡ record_left cpus
-        told.pieces.items told.replies.items told.starts.items closed)
-        × (kept.1 ≡ closed) × (closed.lost ≡ false)) }
-{
-    if closed.lost() {
-        return Err(NoMemory);
-    }
-    let Told {
-        replies,
-        starts,
-        pieces,
-    } = told;
-    let kept = record_of(alloc, cpus, pieces.as_slice(), replies, starts, &closed)?;
-    Ok((kept, closed))
 }

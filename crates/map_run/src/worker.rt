@@ -4,14 +4,14 @@ ghost use Rattle.std.specs.Prelude.{suc, ◌≡◌, ◌≤◌, ◌+◌, false, A
 ghost use Rattle.map_types.specs.Creation.{IsShape};
 ghost use Rattle.map_batch.specs.Calls.{table_of};
 ghost use Rattle.serial_laws.specs.Served.{IsServedCall};
-ghost use Rattle.map_run.specs.Work.{HasWorked};
+ghost use Rattle.run_records.specs.Work.{HasWorked};
 ghost use Rattle.map_run.specs.Workers.{IsReady};
 
 use crate::one_call::run_call;
+use file_order::ReplyQueue;
 use map_batch::AnyMap;
 use map_types::{Call, Gate, NoMemory, Point};
 use place_table::Pass;
-use run_endings::ReplyQueue;
 use std::alloc::Global;
 use std::sync::Wait;
 

@@ -1,13 +1,14 @@
 -- What a line says changes neither with its comment nor with its blanks.
-use Rattle.std.proofs.Common.{◌≡◌, ℕ, suc, ◌+◌, ◌&&◌, ◌||◌, nat_le, Bool, true, false, not, cond, List, [], ◌∷◌, ◌++◌, length, take, filter, count_by, Result, Ok, Err, refl, sym, ap, ◌∙◌, append-nil, arith}
+use Rattle.std.proofs.Common.{◌≡◌, ℕ, suc, ◌+◌, ◌==◌, ◌&&◌, ◌||◌, nat_le, Bool, true, false, not, cond, List, [], ◌∷◌, ◌++◌, length, take, filter, count_by, Result, Ok, Err, refl, sym, ap, ◌∙◌, append-nil, arith}
 use Rattle.std.specs.List.{slice_split, onto_first, list_all, prefix_len}
-use Rattle.std.proofs.lemmas.Bool.{cond-false}
-use Rattle.std.proofs.lemmas.List.Splits.{slice_split-cons_yes, length-slice_split}
+use Rattle.std.proofs.lemmas.Bool.{cond-true, cond-false, ne_eqb}
 use Rattle.std.proofs.lemmas.List.Folds.{list_all-append}
+use Rattle.std.proofs.lemmas.List.Splits.{slice_split-cons_no}
 use Rattle.map_script.specs.declared.refusal.Cause.{Cause}
 use Rattle.map_script.specs.declared.refusal.Cause.TheVariants.{Byte}
 use Rattle.map_script.specs.Lines.{is_blank, is_hash, is_allowed, before_comment, tokens_of, said_by}
-use Rattle.map_script.proofs.TokenLines.{is_some_token}
+use Rattle.map_script.proofs.Splitting.{some_part, split_at}
+use Rattle.map_script.proofs.TokenLines.{is_some_token, some_length}
 
 -- ---- a line without its comment, byte by byte
 
@@ -69,23 +70,6 @@ allowed_behind q x y h =
 
 -- ---- a line falls apart at a blank
 
-onto_append : (byte n : ℕ) (parts more : List (List ℕ)) → length parts ≡ suc n → onto_first byte (parts ++ more) ≡ onto_first byte parts ++ more
-onto_append byte n [] more h = absurd (omega (arith, h))
-onto_append byte n (part ∷ parts) more h = refl
-
-step_append : (blank : Bool) (byte n : ℕ) (parts more : List (List ℕ)) → length parts ≡ suc n → cond blank ([] ∷ (parts ++ more)) (onto_first byte (parts ++ more)) ≡ cond blank ([] ∷ parts) (onto_first byte parts) ++ more
-step_append true byte n parts more h = refl
-step_append false byte n parts more h = onto_append byte n parts more h
-
-some_part : (line : List ℕ) → length (slice_split is_blank line) ≡ suc (count_by is_blank line)
-some_part line = omega (arith, length-slice_split is_blank line)
-
-split_blank : (q : List ℕ) (b : ℕ) (line : List ℕ) → is_blank b ≡ true → slice_split is_blank (q ++ b ∷ line) ≡ slice_split is_blank q ++ slice_split is_blank line
-split_blank [] b line h = slice_split-cons_yes is_blank b line h
-split_blank (byte ∷ q) b line h =
-    ap (λ (parts : List (List ℕ)). cond (is_blank byte) ([] ∷ parts) (onto_first byte parts)) (split_blank q b line h)
-    ∙ step_append (is_blank byte) byte (count_by is_blank q) (slice_split is_blank q) (slice_split is_blank line) (some_part q)
-
 kept_step : (keep : Bool) (token : List ℕ) (a b : List (List ℕ)) → cond keep (token ∷ (a ++ b)) (a ++ b) ≡ cond keep (token ∷ a) a ++ b
 kept_step true token a b = refl
 kept_step false token a b = refl
@@ -97,7 +81,30 @@ kept_append (token ∷ a) b =
     ∙ kept_step (is_some_token token) token (filter is_some_token a) (filter is_some_token b)
 
 tokens_blank : (q : List ℕ) (b : ℕ) (line : List ℕ) → is_blank b ≡ true → tokens_of (q ++ b ∷ line) ≡ tokens_of q ++ tokens_of line
-tokens_blank q b line h = ap (filter is_some_token) (split_blank q b line h) ∙ kept_append (slice_split is_blank q) (slice_split is_blank line)
+tokens_blank q b line h = ap (filter is_some_token) (split_at is_blank q b line h) ∙ kept_append (slice_split is_blank q) (slice_split is_blank line)
+
+-- ---- a line of blanks
+
+token_first : (byte n : ℕ) (parts : List (List ℕ)) → length parts ≡ suc n → (length (filter is_some_token (onto_first byte parts)) == 0) ≡ false
+token_first byte n [] h = absurd (omega (arith, h))
+token_first byte n (part ∷ parts) h =
+    let kept = filter is_some_token parts in
+    ap (λ (tokens : List (List ℕ)). length tokens == 0) (cond-true (is_some_token (byte ∷ part)) ((byte ∷ part) ∷ kept) kept (some_length (length part)))
+    ∙ ne_eqb (suc (length kept)) 0 (λ same. omega arith)
+
+blank_more : (byte : ℕ) (line : List ℕ) → (length (tokens_of line) == 0) ≡ list_all is_blank line → (blank : Bool) → is_blank byte ≡ blank → (length (tokens_of (byte ∷ line)) == 0) ≡ list_all is_blank (byte ∷ line)
+blank_more byte line so_far true is =
+    ap (λ (tokens : List (List ℕ)). length tokens == 0) (tokens_blank [] byte line is) ∙ so_far
+    ∙ sym (ap (λ (blank : Bool). blank && list_all is_blank line) is)
+blank_more byte line so_far false is =
+    ap (λ (parts : List (List ℕ)). length (filter is_some_token parts) == 0) (slice_split-cons_no is_blank byte line is)
+    ∙ token_first byte (count_by is_blank line) (slice_split is_blank line) (some_part is_blank line)
+    ∙ sym (ap (λ (blank : Bool). blank && list_all is_blank line) is)
+
+-- a line has no token where each byte is a blank
+pub no_token : (line : List ℕ) → (length (tokens_of line) == 0) ≡ list_all is_blank line
+no_token [] = refl
+no_token (byte ∷ line) = blank_more byte line (no_token line) (is_blank byte) refl
 
 -- ---- what a line says
 

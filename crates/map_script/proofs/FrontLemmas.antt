@@ -1,12 +1,13 @@
 -- Lines as most are written, read from the front of a text.
-use Rattle.std.proofs.Common.{◌≡◌, ℕ, ◌+◌, ◌*◌, ◌<◌, ◌≤◌, ◌==◌, true, false, nat_lt, nat_le, List, [], ◌∷◌, ◌++◌, length, take, drop, filter, Some, Result, Ok, count_by, refl, sym, ap, subst, ◌∙◌, append-nil, append_assoc, take-append-drop, arith}
-use Rattle.std.specs.Prelude.{codes, unwrap_or}
+use Rattle.std.proofs.Common.{◌≡◌, ℕ, ◌+◌, ◌*◌, ◌<◌, ◌≤◌, ◌==◌, Bool, true, false, nat_lt, nat_le, List, [], ◌∷◌, ◌++◌, length, get_or, take, drop, filter, None, Some, Result, Ok, count_by, refl, sym, ap, subst, ◌∙◌, append-nil, append_assoc, take-append-drop, arith}
+use Rattle.std.specs.Prelude.{bytes_eq, codes, unwrap_or}
 use Rattle.std.specs.List.{slice_split, list_all}
-use Rattle.std.proofs.lemmas.Bool.{cond-true, eq-eqb, lt-ltb, le-leb}
-use Rattle.std.proofs.lemmas.List.{take_all, drop_all}
+use Rattle.std.proofs.lemmas.Bool.{cond-true, eq-eqb, eqb-true, lt-ltb, le-leb}
+use Rattle.std.proofs.lemmas.List.{take_all, drop_all, drop_more, nil_from_length}
 use Rattle.std.proofs.lemmas.List.Elements.{All-weaker}
 use Rattle.std.proofs.lemmas.List.Splits.{slice_split_at, length-slice_split}
 use Rattle.std.proofs.lemmas.List.Sums.{list_all-from_AllPass}
+use Rattle.std.proofs.lemmas.Slice.Eq.{bytes_eq-Decides}
 use Rattle.std.specs.Result.{result_ok}
 use Rattle.hex.specs.Hex.{decode_of, is_hex_digit}
 use Rattle.hex.specs.declared.error.FromHexError.{FromHexError}
@@ -16,16 +17,17 @@ use Rattle.map_types.specs.declared.call.Call.{Call}
 use Rattle.map_types.specs.ValueLen.{value_len_of}
 use Rattle.map_types.specs.declared.call.Verb.{Verb}
 use Rattle.map_types.specs.declared.call.Verb.TheVariants as verbs
-use Rattle.map_types.specs.declared.kind.Side.TheVariants.{Prog}
+use Rattle.map_types.specs.declared.kind.Side.{Side}
+use Rattle.map_types.specs.declared.kind.Side.TheVariants.{Prog, Sys}
 use Rattle.map_script.specs.declared.refusal.Cause.{Cause}
 use Rattle.map_script.specs.Lines.{is_line_feed, numbered, lines_from}
-use Rattle.map_script.specs.Places.{Tokens}
-use Rattle.map_script.specs.Grammar.{call_line, call_on, verb_line, lookup_places, update_places, delete_places, reply_bytes}
-use Rattle.map_script.specs.Plain.{AreTokens, joined, BeginsWith, BeginsWithCpu, BeginsWithBytes, FirstIs}
+use Rattle.map_script.specs.Places.{Tokens, flag_of, bytes_in}
+use Rattle.map_script.specs.Grammar.{call_line, call_on, verb_line, lookup_places, update_places, delete_places, take_places, next_places, reply_bytes}
+use Rattle.map_script.specs.Plain.{is_token, AreTokens, joined, BeginsWith, BeginsWithCpu, BeginsWithBytes, FirstIs}
 use Rattle.map_script.specs.Reading.{call_within}
 use Rattle.map_script.specs.Tokens.{number_of}
 use Rattle.map_script.proofs.TokenLines.{IsPiece, piece_is_no_line_feed, joined_pieces, said_by-joined, some_length, saying, says_something, line_saying}
-use Rattle.map_script.proofs.TokenValues.{is_token_from, hex_digit_is_mark}
+use Rattle.map_script.proofs.TokenValues.{is_token_from, hex_digit_is_mark, number_is_token, flag_is_token}
 
 -- ---- bytes
 
@@ -52,6 +54,12 @@ taken_whole n written before same long =
 -- two parts of a text
 pub parts_joined : (n : ℕ) (text front back : List ℕ) → front ≡ take n text → back ≡ drop n text → text ≡ front ++ back
 parts_joined n text front back is_front is_back = rw (is_front, is_back) (sym (take-append-drop n text))
+
+-- bytes with nothing behind them are those of the whole text
+pub whole_bytes : (size : ℕ) (text found rest : List ℕ) (empty : Bool) → BeginsWithBytes size text found rest → empty ≡ (length rest == 0) → empty ≡ true → bytes_in size text ≡ Ok found
+whole_bytes size text found rest empty begins is holds =
+    let none : rest ≡ [] = nil_from_length rest (eqb-true (length rest) 0 (sym is ∙ holds)) in
+    ap (bytes_in size) (begins.starts ∙ ap (λ (behind : List ℕ). begins.token ++ behind) none ∙ append-nil begins.token) ∙ begins.reads
 
 -- ---- verbs
 
@@ -98,6 +106,112 @@ update_begins shape text places key middle value rest behind on to =
       starts = behind ∙ ap (λ (more : List ℕ). codes "update any " ++ more) whole;
       are_tokens = (refl, (refl, (on.is, (to.is, tt))));
       reads = rw (on.reads, to.reads) refl;
+    }
+
+-- ---- words
+
+-- a text at a space
+pub space_parts : (text : List ℕ) (at : ℕ) → at < length text → get_or text at 0 ≡ 32 → text ≡ take at text ++ 32 ∷ drop (at + 1) text
+space_parts text at inside here =
+    sym (take-append-drop at text) ∙ ap (λ (back : List ℕ). take at text ++ back) (drop_more text at 0 inside ∙ ap (λ (byte : ℕ). byte ∷ drop (at + 1) text) here)
+
+-- a number below that of the CPUs
+pub cpu_begins : (cpus : ℕ) (text word rest : List ℕ) (cpu : ℕ) → text ≡ word ++ 32 ∷ rest → number_of word ≡ Some cpu → cpu < cpus → BeginsWithCpu cpus text cpu rest
+cpu_begins cpus text word rest cpu starts reads below = record {
+  token = word;
+  starts = starts;
+  is = number_is_token word cpu reads;
+  reads = reads;
+  below = below;
+}
+
+-- ---- verbs by their names
+
+pub next_begins : (shape : Shape) (text rest : List ℕ) → text ≡ codes "next\n" ++ rest → BeginsWith (verb_line shape) text (verbs.Next None) rest
+unfolding verb_line next_places
+next_begins shape text rest is = record { tokens = codes "next" ∷ []; starts = is; are_tokens = (refl, tt); reads = refl }
+
+-- a name that is a token is read as this verb, with any token that is the key
+abbrev pub ReadsKey : Verb → List ℕ → List ℕ → Type 0
+ReadsKey verb key name =
+    (shape : Shape) (token : List ℕ) → bytes_in shape.key_size token ≡ Ok key → (is_token name ≡ true) × (verb_line shape (name ∷ token ∷ []) ≡ Ok verb)
+
+syslookup_reads : (key : List ℕ) → ReadsKey (verbs.Lookup Sys key) key (codes "syslookup")
+unfolding verb_line lookup_places
+syslookup_reads key = λ shape token reads. (refl, rw reads refl)
+
+take_reads : (key : List ℕ) → ReadsKey (verbs.Take key) key (codes "take")
+unfolding verb_line take_places
+take_reads key = λ shape token reads. (refl, rw reads refl)
+
+next_reads : (key : List ℕ) → ReadsKey (verbs.Next (Some key)) key (codes "next")
+unfolding verb_line next_places
+next_reads key = λ shape token reads. (refl, rw reads refl)
+
+named_as : (verb : Verb) (key name text : List ℕ) → bytes_eq name text ≡ true → ReadsKey verb key text → ReadsKey verb key name
+named_as verb key name text same reads = subst (λ (n : List ℕ). ReadsKey verb key n) (sym ((bytes_eq-Decides name text).0 same)) reads
+
+pub is_syslookup : (key name : List ℕ) → bytes_eq name (codes "syslookup") ≡ true → ReadsKey (verbs.Lookup Sys key) key name
+is_syslookup key name same = named_as (verbs.Lookup Sys key) key name (codes "syslookup") same (syslookup_reads key)
+
+pub is_take : (key name : List ℕ) → bytes_eq name (codes "take") ≡ true → ReadsKey (verbs.Take key) key name
+is_take key name same = named_as (verbs.Take key) key name (codes "take") same (take_reads key)
+
+pub is_next_key : (key name : List ℕ) → bytes_eq name (codes "next") ≡ true → ReadsKey (verbs.Next (Some key)) key name
+is_next_key key name same = named_as (verbs.Next (Some key)) key name (codes "next") same (next_reads key)
+
+pub keyed_begins : (shape : Shape) (text name places key rest : List ℕ) (verb : Verb) → text ≡ name ++ 32 ∷ places → BeginsWithBytes shape.key_size places key (10 ∷ rest) → ReadsKey verb key name
+    → BeginsWith (verb_line shape) text verb rest
+keyed_begins shape text name places key rest verb behind found reads =
+    let token = found.token in
+    let told = reads shape token found.reads in
+    record {
+      tokens = name ∷ token ∷ [];
+      starts = behind ∙ ap (λ (more : List ℕ). name ++ 32 ∷ more) (found.starts ∙ lone token rest) ∙ sym (append_assoc name (32 ∷ (token ++ [])) (10 ∷ rest));
+      are_tokens = (told.0, (found.is, tt));
+      reads = told.1;
+    }
+
+-- a name that is a token is an update of this side
+abbrev pub Updates : Side → List ℕ → Type 0
+Updates side name =
+    (is_token name ≡ true) × ((shape : Shape) (places : Tokens) → verb_line shape (name ∷ places) ≡ update_places shape side places)
+
+update_updates : Updates Prog (codes "update")
+unfolding verb_line
+update_updates = (refl, λ shape places. refl)
+
+sysupdate_updates : Updates Sys (codes "sysupdate")
+unfolding verb_line
+sysupdate_updates = (refl, λ shape places. refl)
+
+pub is_update : (name : List ℕ) → bytes_eq name (codes "update") ≡ true → Updates Prog name
+is_update name same = subst (λ (n : List ℕ). Updates Prog n) (sym ((bytes_eq-Decides name (codes "update")).0 same)) update_updates
+
+pub is_sysupdate : (name : List ℕ) → bytes_eq name (codes "sysupdate") ≡ true → Updates Sys name
+is_sysupdate name same = subst (λ (n : List ℕ). Updates Sys n) (sym ((bytes_eq-Decides name (codes "sysupdate")).0 same)) sysupdate_updates
+
+update_reads : (shape : Shape) (side : Side) (word first second key value : List ℕ) (flags : ℕ) → flag_of word ≡ Some flags → bytes_in shape.key_size first ≡ Ok key → bytes_in (value_len_of shape side) second ≡ Ok value
+    → update_places shape side (word ∷ first ∷ second ∷ []) ≡ Ok (verbs.Update side flags key value)
+unfolding update_places
+update_reads shape side word first second key value flags is on to = rw (is, on, to) refl
+
+pub flagged_begins : (shape : Shape) (side : Side) (text name places word behind key middle value rest : List ℕ) (flags : ℕ)
+    → text ≡ name ++ 32 ∷ places → is_token name ≡ true → ((tokens : Tokens) → verb_line shape (name ∷ tokens) ≡ update_places shape side tokens) → places ≡ word ++ 32 ∷ behind → flag_of word ≡ Some flags
+    → BeginsWithBytes shape.key_size behind key (32 ∷ middle) → BeginsWithBytes (value_len_of shape side) middle value (10 ∷ rest)
+    → BeginsWith (verb_line shape) text (verbs.Update side flags key value) rest
+flagged_begins shape side text name places word behind key middle value rest flags starts is reads then_flags flag on to =
+    let first = on.token in
+    let second = to.token in
+    let two = second ++ [] in
+    let keyed : behind ≡ (first ++ 32 ∷ two) ++ 10 ∷ rest = on.starts ∙ ap (λ (more : List ℕ). first ++ 32 ∷ more) (to.starts ∙ lone second rest) ∙ sym (append_assoc first (32 ∷ two) (10 ∷ rest)) in
+    let flagged : places ≡ (word ++ 32 ∷ (first ++ 32 ∷ two)) ++ 10 ∷ rest = then_flags ∙ ap (λ (more : List ℕ). word ++ 32 ∷ more) keyed ∙ sym (append_assoc word (32 ∷ (first ++ 32 ∷ two)) (10 ∷ rest)) in
+    let whole : text ≡ (name ++ 32 ∷ (word ++ 32 ∷ (first ++ 32 ∷ two))) ++ 10 ∷ rest = starts ∙ ap (λ (more : List ℕ). name ++ 32 ∷ more) flagged ∙ sym (append_assoc name (32 ∷ (word ++ 32 ∷ (first ++ 32 ∷ two))) (10 ∷ rest)) in
+    record {
+      tokens = name ∷ word ∷ first ∷ second ∷ [];
+      starts = whole;
+      are_tokens = (is, (flag_is_token word flags flag, (on.is, (to.is, tt))));
+      reads = reads (word ∷ first ∷ second ∷ []) ∙ update_reads shape side word first second key value flags flag on.reads to.reads;
     }
 
 -- ---- a call

@@ -18,6 +18,9 @@ pub mod LinesRead
 pub mod PhasesRead
 pub mod RoundTrip
 pub mod SpecRoundTrip
+pub mod PieceLines
+pub mod Stages
+pub mod PieceLemmas
 pub mod BlankLemmas
 pub mod LineLaws
 pub mod DigitLemmas

@@ -1,10 +1,19 @@
 -- Cutting a text at its first separator, and going through what is left.
-use Rattle.std.proofs.Common.{◌≡◌, ℕ, ◌+◌, ◌<◌, Bool, true, false, cond, ◌==◌, not, List, [], ◌∷◌, ◌++◌, length, get_or, take, drop, filter, count_by, All, refl, sym, ap, ◌∙◌, take-append-drop, arith}
-use Rattle.std.specs.List.{slice_split}
+use Rattle.std.proofs.Common.{◌≡◌, ℕ, suc, ◌+◌, ◌<◌, Bool, true, false, cond, ◌==◌, not, List, [], ◌∷◌, ◌++◌, length, get_or, take, drop, filter, count_by, All, refl, sym, ap, ◌∙◌, take-append-drop, arith}
+use Rattle.std.specs.List.{slice_split, onto_first}
 use Rattle.std.proofs.lemmas.List.{drop_more, get_or-take, length-take}
 use Rattle.std.proofs.lemmas.List.Elements.{All-from_get_or}
-use Rattle.std.proofs.lemmas.List.Splits.{slice_split_at, slice_split_none, length-slice_split}
+use Rattle.std.proofs.lemmas.List.Splits.{slice_split_at, slice_split_none, slice_split-cons_yes, length-slice_split}
+use Rattle.memchr.specs.Find.{Nowhere, Passes}
 use Rattle.map_script.specs.Lines.{Line, is_line_feed, is_blank, is_nothing, said_by, numbered, lines_from, tokens_of}
+
+-- where no byte passes
+pub none_passes : (p : ℕ → Bool) (xs : List ℕ) (n : ℕ) → Nowhere (Passes p xs) 0 n → (k : ℕ) → k < n → p (get_or xs k 0) ≡ false
+none_passes p xs n nowhere k below = go (p (get_or xs k 0)) refl
+  where
+    go : (passes : Bool) → p (get_or xs k 0) ≡ passes → passes ≡ false
+    go true is = absurd (nowhere k (omega arith) below is)
+    go false is = refl
 
 -- a list that is cut at its first separator
 cut_at : (p : ℕ → Bool) (xs : List ℕ) (i : ℕ) → i < length xs → p (get_or xs i 0) ≡ true → ((k : ℕ) → k < i → p (get_or xs k 0) ≡ false) → slice_split p xs ≡ take i xs ∷ slice_split p (drop (i + 1) xs)
@@ -16,6 +25,24 @@ cut_at p xs i inside here before =
 -- a list without a separator
 uncut : (p : ℕ → Bool) (xs : List ℕ) → ((k : ℕ) → k < length xs → p (get_or xs k 0) ≡ false) → slice_split p xs ≡ xs ∷ []
 uncut p xs free = slice_split_none p xs (All-from_get_or (λ x. p x ≡ false) xs 0 free)
+
+onto_append : (x n : ℕ) (parts more : List (List ℕ)) → length parts ≡ suc n → onto_first x (parts ++ more) ≡ onto_first x parts ++ more
+onto_append x n [] more h = absurd (omega (arith, h))
+onto_append x n (part ∷ parts) more h = refl
+
+step_append : (cut : Bool) (x n : ℕ) (parts more : List (List ℕ)) → length parts ≡ suc n → cond cut ([] ∷ (parts ++ more)) (onto_first x (parts ++ more)) ≡ cond cut ([] ∷ parts) (onto_first x parts) ++ more
+step_append true x n parts more h = refl
+step_append false x n parts more h = onto_append x n parts more h
+
+pub some_part : (p : ℕ → Bool) (xs : List ℕ) → length (slice_split p xs) ≡ suc (count_by p xs)
+some_part p xs = omega (arith, length-slice_split p xs)
+
+-- the parts before a separator, and those behind it
+pub split_at : (p : ℕ → Bool) (xs : List ℕ) (y : ℕ) (ys : List ℕ) → p y ≡ true → slice_split p (xs ++ y ∷ ys) ≡ slice_split p xs ++ slice_split p ys
+split_at p [] y ys h = slice_split-cons_yes p y ys h
+split_at p (x ∷ xs) y ys h =
+    ap (λ (parts : List (List ℕ)). cond (p x) ([] ∷ parts) (onto_first x parts)) (split_at p xs y ys h)
+    ∙ step_append (p x) x (count_by p xs) (slice_split p xs) (slice_split p ys) (some_part p xs)
 
 -- a choice on the other answer
 choose : {A : Type 0} (b : Bool) (x y : A) → cond (not b) x y ≡ cond b y x

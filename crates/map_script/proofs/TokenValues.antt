@@ -1,6 +1,6 @@
 -- Numbers, flags, kinds and bytes as tokens: what a token that is read as one tells of it, and that the canonical token
 -- is read as it.
-use Rattle.std.proofs.Common.{◌≡◌, ℕ, ◌*◌, ◌≤◌, ◌==◌, ◌&&◌, Bool, true, false, not, nat_le, List, [], ◌∷◌, length, Option, Some, None, Result, Ok, refl, sym, ap, ◌∙◌, inl, inr, arith}
+use Rattle.std.proofs.Common.{◌≡◌, ℕ, ◌*◌, ◌≤◌, ◌==◌, ◌&&◌, Bool, true, false, cond, not, nat_le, List, [], ◌∷◌, length, Option, Some, None, Result, Ok, refl, sym, ap, ◌∙◌, inl, inr, arith}
 use Rattle.std.specs.Prelude.{IfSome, IfOk, bytes_eq, codes, decimal, option_map, unwrap_or}
 use Rattle.std.specs.Char.{is_ascii_digit}
 use Rattle.std.specs.List.{list_all, AllPass}
@@ -64,6 +64,20 @@ digit_is_mark c h =
     let high : c ≤ 57 = leb-true c 57 parts.1 in
     is_mark_between c (leb-true 48 c parts.0) (omega arith)
 
+-- a choice that found something
+chosen_some : (test : Bool) (value found : ℕ) → cond test (Some value) None ≡ Some found → test ≡ true
+chosen_some true value found is = refl
+chosen_some false value found is = absurd cc
+
+-- what is read as a number is a token
+pub number_is_token : (token : List ℕ) (n : ℕ) → number_of token ≡ Some n → is_token token ≡ true
+number_is_token token n is =
+    let value = digits_value 10 token in
+    let both = and_parts (is_numeral token) (nat_le value 4294967295) (chosen_some (is_numeral token && nat_le value 4294967295) value n is) in
+    let digits = and_parts (nat_le 1 (length token) && nat_le (length token) 10) (list_all is_ascii_digit token) both.0 in
+    let bounds = and_parts (nat_le 1 (length token)) (nat_le (length token) 10) digits.0 in
+    is_token_from is_ascii_digit digit_is_mark token (leb-true 1 (length token) bounds.0) digits.1
+
 decimal_digits : (n : ℕ) → IsNumber n → list_all is_ascii_digit (decimal n) ≡ true
 decimal_digits n h = all_digits (decimal n) (decimal_is_IsNumeral n (omega arith)).0.1
 
@@ -102,6 +116,23 @@ flag_of_gives token =
     cond_both (bytes_eq token (codes "any")) _ _ P (λ is. omega arith) (λ other.
     cond_both (bytes_eq token (codes "noexist")) _ _ P (λ is. omega arith) (λ other.
     cond_both (bytes_eq token (codes "exist")) _ _ P (λ is. omega arith) (λ other. number_of_gives token)))
+
+-- a word is this token, or what it is otherwise
+named_or : (word name : List ℕ) (value n : ℕ) (other : Option ℕ) → is_token name ≡ true → (other ≡ Some n → is_token word ≡ true) → cond (bytes_eq word name) (Some value) other ≡ Some n → is_token word ≡ true
+named_or word name value n other token otherwise is = go (bytes_eq word name) refl is
+  where
+    go : (same : Bool) → bytes_eq word name ≡ same → cond same (Some value) other ≡ Some n → is_token word ≡ true
+    go true same found = ap is_token ((bytes_eq-Decides word name).0 same) ∙ token
+    go false same found = otherwise found
+
+-- what is read as flags is a token
+pub flag_is_token : (word : List ℕ) (n : ℕ) → flag_of word ≡ Some n → is_token word ≡ true
+flag_is_token word n is =
+    let third = cond (bytes_eq word (codes "exist")) (Some 2) (number_of word) in
+    let second = cond (bytes_eq word (codes "noexist")) (Some 1) third in
+    named_or word (codes "any") 0 n second refl
+    (named_or word (codes "noexist") 1 n third refl (named_or word (codes "exist") 2 n (number_of word) refl (number_is_token word n)))
+    is
 
 flag_token_number : (n : ℕ) → (n ≡ 0 → ⊥) → (n ≡ 1 → ⊥) → (n ≡ 2 → ⊥) → flag_token n ≡ decimal n
 flag_token_number n not_0 not_1 not_2 =

@@ -10,3 +10,5 @@ pub mod WellFormed
 pub mod CauseName
 pub mod SameLines
 pub mod Plain
+pub mod CallsSoFar
+pub mod Pieces

@@ -1,20 +1,22 @@
 //! The lines of a script behind its map line: calls, and starts of phases.
 
-ghost use Rattle.std.specs.Prelude.{◌≡◌, ◌≤◌, length, IfOk, OnOk};
+ghost use Rattle.std.specs.Prelude.{◌≡◌, ◌≤◌, length, Ok, Err, IfOk, OnOk, MatchResult};
 ghost use Rattle.map_types.specs.Creation.{IsShape};
 ghost use Rattle.map_script.specs.Parsed.{IsParsedAs};
 ghost use Rattle.map_script.specs.Grammar.{call_line, starts_phase, reply_bytes, reply_room};
 ghost use Rattle.map_script.specs.Plain.{IsNext};
-ghost use Rattle.map_script.specs.Reading.{of_line, call_within, phase_within, body_line, body_with, with_next, no_body, body_from, IsReading};
+ghost use Rattle.map_script.specs.CallsSoFar.{calls_of, AreWithin};
+ghost use Rattle.map_script.specs.Reading.{of_line, call_within, phase_within, body_line, body_with, with_next, body_from, IsReading};
 
-use crate::body::{Body, BodyLine};
+use crate::body::BodyLine;
 use crate::fault::with_number;
 use crate::line_error::LineError;
 use crate::lines::{Lines, TextLine};
 use crate::refusal::{Cause, ScriptRefusal};
+use crate::stage::{CallsRead, Head};
 use crate::tokens::Tokens;
 use crate::verbs::verb_line;
-use map_types::{Call, List, Shape, Side, Verb, value_len};
+use map_types::{Call, Shape, Side, Verb, value_len};
 use std::alloc::{AllocError, Global};
 
 /// How many calls a script may have.
@@ -26,26 +28,63 @@ pub(crate) const MAX_ROOM: u64 = 67_108_864;
 /// How many `phase` lines a script may have.
 const MAX_CUTS: usize = 63;
 
-/// Reads each line that is left.
-pub(crate) fn read_lines(
+/// Reads each line that is left, behind the calls that were read.
+pub(crate) fn read_calls(
     alloc: Global,
-    version: u32,
-    shape: &Shape,
+    read: CallsRead,
     lines: &mut Lines,
-) -> Result<Body, ScriptRefusal>
-    requires { IsShape shape.now }
-    ensures { IsReading result (body_from version shape.now no_body lines.old.lines) }
+) -> Result<CallsRead, ScriptRefusal>
+    ensures read { IsReading result (calls_of read lines.old.lines) }
+    ensures end { lines.new.end ≡ lines.old.end }
 {
-    let mut calls = Vec::new(alloc);
-    let mut cuts = Vec::new(alloc);
-    let mut room: u64 = 0;
-    while let Some(next) = next_line(alloc, version, shape, calls.len(), room, cuts.len(), lines)? {
-        room = add_line(shape, &mut calls, &mut cuts, room, next)?;
-    }
-    Ok(Body {
-        calls: List::of(calls),
-        cuts: List::of(cuts),
+    let CallsRead {
+        head,
+        mut calls,
+        mut cuts,
+        room,
+    } = read;
+    let room = read_each(alloc, &head, &mut calls, &mut cuts, room, lines)?;
+    Ok(CallsRead {
+        head,
+        calls,
+        cuts,
+        room,
     })
+}
+
+/// Adds each line that is left to calls whose replies may have so many bytes, and tells how many they may have then.
+fn read_each(
+    alloc: Global,
+    head: &Head,
+    calls: &mut Vec<Call>,
+    cuts: &mut Vec<u32>,
+    room: u64,
+    lines: &mut Lines,
+) -> Result<u64, ScriptRefusal>
+    requires { AreWithin head.now.shape calls.old.items room }
+    ensures read { MatchResult result
+        (λ room. body_from head.now.version head.now.shape
+        (body_with calls.old.items cuts.old.items) lines.old.lines
+        ≡ Ok (body_with calls.new.items cuts.new.items))
+        (λ refusal. IsReading (Err refusal) (body_from head.now.version head.now.shape
+        (body_with calls.old.items cuts.old.items) lines.old.lines)) }
+    ensures within { IfOk result (λ room. AreWithin head.now.shape calls.new.items room) }
+    ensures end { lines.new.end ≡ lines.old.end }
+{
+    let shape = &head.shape;
+    let mut room = room;
+    while let Some(next) = next_line(
+        alloc,
+        head.version,
+        shape,
+        calls.len(),
+        room,
+        cuts.len(),
+        lines,
+    )? {
+        room = add_line(shape, calls, cuts, room, next)?;
+    }
+    Ok(room)
 }
 
 /// Adds what a line says to what the lines before it say, and tells how many bytes the replies may have then.
@@ -91,8 +130,9 @@ fn next_line(
 ) -> Result<Option<BodyLine>, ScriptRefusal>
     requires shape { IsShape shape.now }
     requires room { room ≤ 67108864 }
-    ensures { IsNext (body_line version shape.now count room cuts) lines.old.lines lines.new.lines
-        result }
+    ensures next { IsNext (body_line version shape.now count room cuts) lines.old.lines
+        lines.new.lines result }
+    ensures end { lines.new.end ≡ lines.old.end }
 {
     if let Some(call) = lines.front_call(alloc, shape, count, room) {
         return Ok(Some(BodyLine::Call(call)));

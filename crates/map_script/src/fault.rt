@@ -7,7 +7,7 @@ ghost use Rattle.map_script.specs.Reading.{or_fault};
 
 use crate::line_error::LineError;
 use crate::refusal::{Cause, ScriptRefusal};
-use map_types::CreateRefusal;
+use map_types::{CreateRefusal, NoMemory};
 use std::alloc::{AllocError, AllocFailed};
 
 /// A cause, at the line with this number.
@@ -60,6 +60,14 @@ impl<T: Drop> From<AllocFailed<T>> for ScriptRefusal {
     ghost from_gives = { λ _ refusal. refusal ≡ refusals.NoMemory };
 
     fn from(_error: AllocFailed<T>) -> ScriptRefusal {
+        ScriptRefusal::NoMemory
+    }
+}
+
+impl From<NoMemory> for ScriptRefusal {
+    ghost from_gives = { λ _ refusal. refusal ≡ refusals.NoMemory };
+
+    fn from(_error: NoMemory) -> ScriptRefusal {
         ScriptRefusal::NoMemory
     }
 }

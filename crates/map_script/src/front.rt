@@ -1,15 +1,20 @@
-//! Call lines as most are written, each read from the front of a text: one space between tokens, no comment, and the
-//! verbs that scripts have most of. What is found here is what the line says. Where nothing is found the line has to be
-//! read by its tokens.
+//! Call lines as most are written, each read from the front of a text: one space between tokens, no comment, and a verb
+//! that is no batch. What is found here is what the line says. Where nothing is found the line has to be read by its
+//! tokens.
 
-ghost use Rattle.std.specs.Prelude.{◌≡◌, ◌*◌, ◌≤◌, ◌∷◌, ◌++◌, length, Ok, ⊤, MatchOption, IsTrue, codes};
+ghost use Rattle.std.specs.Prelude.{◌≡◌, ℕ, ◌*◌, ◌≤◌, ◌<◌, List, [], ◌∷◌, ◌++◌, length, slice_index, Ok, true, ⊤, MatchOption, IsTrue, codes};
 ghost use Rattle.hex.specs.Hex.{decode_of, hex_digit_value};
 ghost use Rattle.map_types.specs.Creation.{IsShape};
-ghost use Rattle.map_script.specs.Grammar.{call_line, verb_line};
-ghost use Rattle.map_script.specs.Plain.{BeginsWith, BeginsWithCpu, BeginsWithBytes};
+ghost use Rattle.map_script.specs.Grammar.{call_line, verb_line, update_places};
+ghost use Rattle.map_script.specs.Places.{bytes_in};
+ghost use Rattle.map_script.specs.Plain.{is_token, BeginsWith, BeginsWithCpu, BeginsWithBytes};
 
+use crate::places::{flag_of, number_of};
 use map_types::{Bytes, Call, Shape, Side, Verb, value_len};
 use std::alloc::Global;
+
+/// Names and numbers that are read here have at most so many bytes.
+const LONGEST_WORD: usize = 9;
 
 /// Reads a call, and gives the text behind its line.
 pub(crate) fn call_at_front<'a>(
@@ -26,7 +31,7 @@ pub(crate) fn call_at_front<'a>(
     Some((Call { cpu, verb }, rest))
 }
 
-/// Reads a CPU of one digit, and a space.
+/// Reads a CPU, and a space.
 fn cpu_at_front(cpus: u32, text: &[u8]) -> Option<(u32, &[u8])>
     ensures { MatchOption result ⊤ (λ found. BeginsWithCpu cpus text.now found.0 found.1.now) }
 {
@@ -35,8 +40,39 @@ fn cpu_at_front(cpus: u32, text: &[u8]) -> Option<(u32, &[u8])>
             let cpu = u32::from(*digit - b'0');
             if cpu < cpus { Some((cpu, rest)) } else { None }
         }
+        [digit, ..] if digit.is_ascii_digit() => long_cpu_at_front(cpus, text),
         _ => None,
     }
+}
+
+/// Reads a CPU of any number of digits, and a space.
+fn long_cpu_at_front(cpus: u32, text: &[u8]) -> Option<(u32, &[u8])>
+    ensures { MatchOption result ⊤ (λ found. BeginsWithCpu cpus text.now found.0 found.1.now) }
+{
+    let (word, rest) = word_at_front(text)?;
+    let cpu = number_of(word)?;
+    if cpu < cpus { Some((cpu, rest)) } else { None }
+}
+
+/// Cuts a text at its first space, where one stands near.
+fn word_at_front(text: &[u8]) -> Option<(&[u8], &[u8])>
+    ensures { MatchOption result ⊤ (λ parts. text.now ≡ parts.0.now ++ 32 ∷ parts.1.now) }
+{
+    let at = space_at(text)?;
+    Some((&text[..at], &text[at + 1..]))
+}
+
+/// Where the first space stands, if one is near.
+fn space_at(text: &[u8]) -> Option<usize>
+    ensures { MatchOption result ⊤ (λ at. (at < length text.now)
+        × (slice_index text.now at ≡ 32)) }
+{
+    for at in 0..text.len().min(LONGEST_WORD + 1) {
+        if text[at] == b' ' {
+            return Some(at);
+        }
+    }
+    None
 }
 
 /// Reads what a call does.
@@ -51,8 +87,10 @@ fn verb_at_front<'a>(alloc: Global, shape: &Shape, text: &'a [u8]) -> Option<(Ve
         update_at_front(alloc, shape, text, places)
     } else if let Some(places) = behind_delete(text) {
         delete_at_front(alloc, shape, text, places)
+    } else if let Some(found) = next_at_front(text) {
+        Some(found)
     } else {
-        None
+        named_at_front(alloc, shape, text)
     }
 }
 
@@ -97,6 +135,122 @@ fn behind_delete(text: &[u8]) -> Option<&[u8]>
         [b'd', b'e', b'l', b'e', b't', b'e', b' ', rest @ ..] => Some(rest),
         _ => None,
     }
+}
+
+/// What stands behind a line `next`.
+fn behind_next(text: &[u8]) -> Option<&[u8]>
+    ensures { MatchOption result ⊤ (λ rest. text.now ≡ codes "next\n" ++ rest.now) }
+{
+    match text {
+        [b'n', b'e', b'x', b't', b'\n', rest @ ..] => Some(rest),
+        _ => None,
+    }
+}
+
+/// Reads `next` without a key.
+fn next_at_front(text: &[u8]) -> Option<(Verb, &[u8])>
+    ensures { MatchOption result ⊤ (λ found. (shape : Shape) → BeginsWith
+        (verb_line shape) text.now found.0 found.1.now) }
+{
+    let rest = behind_next(text)?;
+    Some((Verb::Next { key: None }, rest))
+}
+
+/// Reads what a call does whose verb comes more seldom, or with other flags.
+fn named_at_front<'a>(alloc: Global, shape: &Shape, text: &'a [u8]) -> Option<(Verb, &'a [u8])>
+    requires { IsShape shape.now }
+    ensures { MatchOption result ⊤ (λ found. BeginsWith
+        (verb_line shape.now) text.now found.0 found.1.now) }
+{
+    let (name, places) = word_at_front(text)?;
+    match update_side(name) {
+        Some(side) => flagged_at_front(alloc, shape, side, name, text, places),
+        None => keyed_at_front(alloc, shape, name, text, places),
+    }
+}
+
+/// The side of a verb that updates.
+fn update_side(name: &[u8]) -> Option<Side>
+    ensures { MatchOption result ⊤ (λ side. (is_token name.now ≡ true)
+        × ((shape : Shape) (tokens : List (List ℕ)) → verb_line shape (name.now ∷ tokens)
+        ≡ update_places shape side tokens)) }
+{
+    if name == b"update".as_slice() {
+        Some(Side::Prog)
+    } else if name == b"sysupdate".as_slice() {
+        Some(Side::Sys)
+    } else {
+        None
+    }
+}
+
+/// The verb of this name whose only place is a key.
+fn verb_with_key(name: &[u8], key: Bytes) -> Option<Verb>
+    ensures { MatchOption result ⊤ (λ verb. (shape : Shape) (token : List ℕ)
+        → bytes_in shape.key_size token ≡ Ok key → (is_token name.now ≡ true)
+        × (verb_line shape (name.now ∷ token ∷ []) ≡ Ok verb)) }
+{
+    if name == b"syslookup".as_slice() {
+        Some(Verb::Lookup {
+            side: Side::Sys,
+            key,
+        })
+    } else if name == b"take".as_slice() {
+        Some(Verb::Take { key })
+    } else if name == b"next".as_slice() {
+        Some(Verb::Next { key: Some(key) })
+    } else {
+        None
+    }
+}
+
+/// Reads the key of a call of this name.
+fn keyed_at_front<'a>(
+    alloc: Global,
+    shape: &Shape,
+    name: &'a [u8],
+    text: &'a [u8],
+    places: &'a [u8],
+) -> Option<(Verb, &'a [u8])>
+    requires { text.now ≡ name.now ++ 32 ∷ places.now }
+    ensures { MatchOption result ⊤ (λ found. BeginsWith
+        (verb_line shape.now) text.now found.0 found.1.now) }
+{
+    let (key, rest) = bytes_before(b'\n', alloc, shape.key_size, places)?;
+    let verb = verb_with_key(name, key)?;
+    Some((verb, rest))
+}
+
+/// Reads the flags, the key and the value of an update of this name and side.
+fn flagged_at_front<'a>(
+    alloc: Global,
+    shape: &Shape,
+    side: Side,
+    name: &'a [u8],
+    text: &'a [u8],
+    places: &'a [u8],
+) -> Option<(Verb, &'a [u8])>
+    requires shape { IsShape shape.now }
+    requires text { text.now ≡ name.now ++ 32 ∷ places.now }
+    requires name { is_token name.now ≡ true }
+    requires reads { (tokens : List (List ℕ)) → verb_line shape.now (name.now ∷ tokens)
+        ≡ update_places shape.now side tokens }
+    ensures { MatchOption result ⊤ (λ found. BeginsWith
+        (verb_line shape.now) text.now found.0 found.1.now) }
+{
+    let (word, behind) = word_at_front(places)?;
+    let flags = flag_of(word)?;
+    let (key, middle) = bytes_before(b' ', alloc, shape.key_size, behind)?;
+    let (value, rest) = bytes_before(b'\n', alloc, value_len(shape, side), middle)?;
+    Some((
+        Verb::Update {
+            side,
+            flags,
+            key,
+            value,
+        },
+        rest,
+    ))
 }
 
 /// Reads the key of a lookup.
@@ -170,6 +324,14 @@ fn bytes_before<'a>(end: u8, alloc: Global, size: u32, text: &'a [u8]) -> Option
         [byte, rest @ ..] if *byte == end => Some((bytes, rest)),
         _ => None,
     }
+}
+
+/// The bytes of a size that a whole text writes.
+pub(crate) fn bytes_of(alloc: Global, size: u32, text: &[u8]) -> Option<Bytes>
+    ensures { MatchOption result ⊤ (λ found. bytes_in size text.now ≡ Ok found) }
+{
+    let (bytes, rest) = bytes_at_front(alloc, size, text)?;
+    if rest.is_empty() { Some(bytes) } else { None }
 }
 
 /// Reads bytes of a size. Those of the sizes that most keys and values have are decoded many digits at a time.

@@ -3,10 +3,11 @@
 ghost use Rattle.std.specs.Prelude.{◌≡◌, ◌≤◌, ◌^◌, nat_lt, Err};
 ghost use Rattle.map_script.specs.Grammar.{version_named, version_places, version_line, kind_of, map_places, map_line, is_spec, gen_places, gen_line};
 ghost use Rattle.map_script.specs.Places.{instead};
-ghost use Rattle.map_script.specs.Reading.{of_line};
+ghost use Rattle.map_script.specs.declared.script.Script.{Script};
+ghost use Rattle.map_script.specs.Reading.{of_line, at_line};
 
 use crate::lines::TextLine;
-use crate::refusal::Cause;
+use crate::refusal::{Cause, ScriptRefusal};
 use crate::script::{Form, GenSpec};
 use crate::tokens::Tokens;
 use map_types::{CreateAttr, MapKind, Shape};
@@ -118,13 +119,19 @@ pub(crate) fn gen_line(shape: &Shape, line: &TextLine) -> Result<GenSpec, Cause>
     instead(Cause::Gen, gen_places(shape, tokens))
 }
 
-/// Reads a line behind the generator line, where none may stand.
-pub(crate) fn no_line(line: &TextLine) -> Result<GenSpec, Cause>
-    ensures { result ≡ of_line line.now (λ tokens. Err Cause.Gen) }
+/// What is wrong with a line behind the generator line, where none may stand.
+pub(crate) fn no_line(line: &TextLine) -> ScriptRefusal
+    ensures { at_line {A = Script} line.now (λ tokens. Err Cause.Gen) ≡ Err result }
 {
     // A fault of the line itself comes first.
-    let _tokens = line.tokens()?;
-    Err(Cause::Gen)
+    let cause = match line.tokens() {
+        Ok(_) => Cause::Gen,
+        Err(cause) => cause,
+    };
+    ScriptRefusal::Fault {
+        line: line.number(),
+        cause,
+    }
 }
 
 fn gen_places(shape: &Shape, mut tokens: Tokens) -> Result<GenSpec, Cause>

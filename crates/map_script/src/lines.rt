@@ -14,6 +14,7 @@ use crate::front::call_at_front;
 use crate::refusal::Cause;
 use crate::tokens::Tokens;
 use map_types::{Call, Shape};
+use memchr::memchr;
 use std::alloc::Global;
 use std::marker::Model;
 
@@ -38,15 +39,12 @@ impl<'a> Model for Lines<'a> {
 }
 
 impl<'a> Lines<'a> {
-    /// The lines of a text.
-    pub(crate) fn of(text: &'a [u8]) -> Lines<'a>
-        requires { count_by is_line_feed text.now ≤ 2 ^ 32 - 3 }
-        ensures { result ≡ unread_from 1 text.now }
+    /// The lines of a text, whose first line has this number.
+    pub(crate) fn of(number: u32, text: &'a [u8]) -> Lines<'a>
+        requires { end_from number text.now < 2 ^ 32 }
+        ensures { result ≡ unread_from number text.now }
     {
-        Lines {
-            rest: text,
-            number: 1,
-        }
+        Lines { rest: text, number }
     }
 
     /// The next line that says something.
@@ -92,8 +90,8 @@ impl<'a> Lines<'a> {
     pub(crate) fn end(&self) -> u32
         ensures { result ≡ self.now.end }
     {
-        let feeds = self.rest.iter().filter(|byte| **byte == b'\n').count();
-        self.number + feeds as u32
+        let line_feeds = self.rest.iter().filter(|byte| **byte == b'\n').count();
+        self.number + line_feeds as u32
     }
 }
 
@@ -159,10 +157,10 @@ fn first_line(text: &[u8], number: u32) -> Option<(TextLine, &[u8], u32)>
     let mut rest = text;
     let mut next = number;
     while !rest.is_empty() {
-        let (cut, after, feeds) = cut_line(rest);
+        let (cut, after, line_feeds) = cut_line(rest);
         let line = judged_line(cut, next);
         rest = after;
-        next += feeds;
+        next += line_feeds;
         if !line.is_nothing() {
             return Some((line, rest, next));
         }
@@ -178,10 +176,10 @@ fn cut_line(text: &[u8]) -> (&[u8], &[u8], u32)
         then lines_from (number + result.2) result.1.now
         else record { number = number; says = said_by result.0.now }
         ∷ lines_from (number + result.2) result.1.now) }
-    ensures feeds { count_by is_line_feed text.now ≡ count_by is_line_feed result.1.now + result.2 }
+    ensures line_feeds { count_by is_line_feed text.now ≡ count_by is_line_feed result.1.now + result.2 }
     ensures shorter { length result.1.now < length text.now }
 {
-    match text.iter().position(|byte| *byte == b'\n') {
+    match memchr(b'\n', text) {
         Some(at) => (&text[..at], &text[at + 1..], 1),
         None => {
             let (line, rest) = text.split_at(text.len());
@@ -206,17 +204,22 @@ fn judged_line(line: &[u8], number: u32) -> TextLine
 fn before_comment(line: &[u8]) -> &[u8]
     ensures { result.now ≡ before_comment line.now }
 {
-    match line.iter().position(|byte| *byte == b'#') {
+    match memchr(b'#', line) {
         Some(at) => &line[..at],
         None => line,
     }
 }
 
-/// Whether each byte may stand outside a comment.
+/// Whether each byte may stand outside a comment. It judges all of them with no branch, so that a processor takes many at a
+/// time.
 fn is_all_allowed(text: &[u8]) -> bool
     ensures { result ≡ list_all is_allowed text.now }
 {
-    text.iter().all(|byte| is_allowed(*byte))
+    let mut all = true;
+    for byte in text {
+        all &= is_allowed(*byte);
+    }
+    all
 }
 
 /// Whether a byte is a blank or a visible character.

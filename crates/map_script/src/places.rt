@@ -9,6 +9,7 @@ ghost use Rattle.map_script.specs.Parsed.{IsParsedWithRest, IsParsedAs};
 ghost use Rattle.map_script.specs.Places.{token, at_end, number, cpu, start_of, start, flag_of, flag, bytes_in, bytes, word, labelled, if_labelled, number_or_end};
 ghost use Rattle.map_script.specs.Tokens.{number_of};
 
+use crate::front::bytes_of;
 use crate::line_error::LineError;
 use crate::refusal::Cause;
 use crate::tokens::Tokens;
@@ -123,7 +124,7 @@ impl<'a> Tokens<'a> {
 }
 
 /// The number that a token writes.
-fn number_of(token: &[u8]) -> Option<u32>
+pub(crate) fn number_of(token: &[u8]) -> Option<u32>
     ensures { result ≡ number_of token.now }
 {
     if token.is_empty() || token.len() > MAX_DIGITS {
@@ -160,7 +161,7 @@ fn start_of(word: &[u8]) -> Option<Option<u32>>
 }
 
 /// The flags that a token names or writes.
-fn flag_of(word: &[u8]) -> Option<u32>
+pub(crate) fn flag_of(word: &[u8]) -> Option<u32>
     ensures { result ≡ flag_of word.now }
 {
     if word == b"any".as_slice() {
@@ -178,6 +179,9 @@ fn flag_of(word: &[u8]) -> Option<u32>
 pub(crate) fn bytes_in(alloc: Global, size: u32, word: &[u8]) -> Result<Bytes, LineError>
     ensures { IsParsedAs (λ found. found) result (bytes_in size word.now) }
 {
+    if let Some(found) = bytes_of(alloc, size, word) {
+        return Ok(found);
+    }
     if !is_all_hex(word) {
         return Err(LineError::Fault(Cause::Digits));
     }

@@ -1,10 +1,12 @@
 //! The tokens of a line, each read once from the front.
 
 ghost use Rattle.std.specs.Prelude.{◌≡◌, ◌<◌, ◌==◌, [], ◌∷◌, length, MatchOption, IsTrue, IsFalse, if◌then◌else◌};
-ghost use Rattle.map_script.specs.Lines.{tokens_of};
+ghost use Rattle.std.specs.List.{list_all};
+ghost use Rattle.map_script.specs.Lines.{is_blank, tokens_of};
 ghost use Rattle.map_script.specs.Places.{is_next};
 
 use crate::lines::is_blank;
+use memchr::memchr3;
 use std::marker::Model;
 
 /// The tokens of a line that are left.
@@ -69,8 +71,22 @@ impl<'a> Tokens<'a> {
     pub(crate) fn is_empty(&self) -> bool
         ensures { result ≡ (length self.now == 0) }
     {
-        first_token(self.rest).is_none()
+        has_no_token(self.rest)
     }
+}
+
+/// Whether a line has no token.
+fn has_no_token(line: &[u8]) -> bool
+    ensures { result ≡ (length (tokens_of line.now) == 0) }
+{
+    is_all_blank(line)
+}
+
+/// Whether each byte is a blank.
+fn is_all_blank(line: &[u8]) -> bool
+    ensures { result ≡ list_all is_blank line.now }
+{
+    line.iter().all(|byte| is_blank(*byte))
 }
 
 /// The first token of a line, and the line behind it.
@@ -98,7 +114,7 @@ fn cut_token(line: &[u8]) -> (&[u8], &[u8])
         ∷ tokens_of result.1.now) }
     ensures shorter { length result.1.now < length line.now }
 {
-    match line.iter().position(|byte| is_blank(*byte)) {
+    match memchr3(b' ', b'\t', b'\r', line) {
         Some(at) => (&line[..at], &line[at + 1..]),
         None => line.split_at(line.len()),
     }

@@ -3,7 +3,9 @@ use Rattle.std.proofs.Common.{◌≡◌, ℕ, ◌<◌, ◌≤◌, cond, List, []
 use Rattle.std.proofs.lemmas.List.{length-map}
 use Rattle.map_types.specs.declared.attr.Shape.{Shape}
 use Rattle.map_types.specs.Kind.{is_lru}
+use Rattle.map_types.specs.Creation.{IsShape}
 use Rattle.map_types.specs.Shape.{HasBounds}
+use Rattle.map_types.proofs.CreationLemmas.{bounds_of_shape}
 use Rattle.map_types.specs.Stored.{Stored}
 use Rattle.map_types.specs.ElementLists.{times}
 use Rattle.place_words.specs.declared.bucket_part.BucketPart.{BucketPart}
@@ -22,6 +24,10 @@ use Rattle.place_table.proofs.Worlds.{by_bool}
 use Rattle.place_table.specs.BucketHeld.{Holds, HoldsBucket}
 use Rattle.place_table.proofs.BucketUnder.{can_mark}
 
+-- the numbers of a table's map are within their bounds
+pub bounds_here : (inside t : TableView) → inside ≡ t → IsShape inside.shape → HasBounds t.shape
+bounds_here inside t is shape = bounds_of_shape t.shape (subst (λ (z : TableView). IsShape z.shape) is shape)
+
 -- the elements of its bodies lie there, each as often
 pub rows_here : (bodies : List Stored) (x : ℕ) → times x (numbers bodies) ≡ times x (rows (lists_of (in_bucket bodies)))
 rows_here bodies x = ap (times x) (sym (append_nil (numbers bodies)))
@@ -30,7 +36,7 @@ rows_here bodies x = ap (times x) (sym (append_nil (numbers bodies)))
 pub sets_none : (shape : Shape) (part : BucketPart) → bucket_marks part ≡ [] → [] ≡ marks shape (parts.Bucket part)
 sets_none shape part none = by_bool (is_lru shape.kind) (λ b. [] ≡ cond b (bucket_marks part) []) (λ _. sym none) (λ _. refl)
 
-module _ {t : TableView} {bucket : ℕ} {q : PassView} {bodies : List Stored} {now : Lists} {set : List ℕ} (h : Holds t bucket q bodies now set) where
+module _ {t : TableView} {bucket : ℕ} {q : PassView} {bodies : List Stored} {now : Lists} {marked : List ℕ} (h : Holds t bucket q bodies now marked) where
   -- the element of a key is one of the map's
   pub is_real : (key : List ℕ) (body : Stored) → present key bodies ≡ Some body → body.element < t.shape.elements
   is_real key body found = h.elements.rows_real body.element (subst (λ (n : ℕ). 0 < n) (rows_here bodies body.element) (present_is_in key bodies body found))

@@ -27,7 +27,9 @@ use Rattle.place_table.proofs.Entries.{append_nil}
 use Rattle.place_table.proofs.Going.{goes_on, learns_after}
 use Rattle.place_table.proofs.Worlds.{by_bool}
 use Rattle.place_table.specs.BucketHeld.{HoldsBucket, HoldsWithout}
-use Rattle.place_table.specs.BucketTurns.{GivenBack, MarkedFor, TookOut}
+use Rattle.place_table.specs.BucketTurns.{GivenBack, MarkedFor, HasOut}
+use Rattle.place_table.specs.declared.bucket_takes.TakenOut.{TakenOut}
+use Rattle.place_table.specs.declared.view.Hold.{Hold}
 use Rattle.place_table.proofs.BucketOut.{rows_here, sets_none, is_real}
 use Rattle.place_table.proofs.BucketUnder.{Under, under_nothing, under_marked_on, under_detached, Gives, gives}
 
@@ -64,7 +66,7 @@ module _ {t : TableView} {bucket : ℕ} {q : PassView} (chain : BodyList) (h : H
 
         go : (side : Side) → MarkedFor t side e q r → Under t bucket q r chain.bodies (lists_of (in_bucket chain.bodies)) (marks t.shape (parts.Bucket (Lookup side [] (Some (e, []))))) q.view.hand
         go Prog marked = under_marked_on e r (under_nothing h) marked
-        go Sys same = subst (λ (set : List ℕ). Under t bucket q r chain.bodies (lists_of (in_bucket chain.bodies)) set q.view.hand) (none (is_lru t.shape.kind)) (subst (λ (z : PassView). Under t bucket q z chain.bodies (lists_of (in_bucket chain.bodies)) [] q.view.hand) (sym same) (under_nothing h))
+        go Sys same = subst (λ (marked : List ℕ). Under t bucket q r chain.bodies (lists_of (in_bucket chain.bodies)) marked q.view.hand) (none (is_lru t.shape.kind)) (subst (λ (z : PassView). Under t bucket q z chain.bodies (lists_of (in_bucket chain.bodies)) [] q.view.hand) (sym same) (under_nothing h))
 
     looked_marks : (key bytes : List ℕ) → marked_by ≡ marks t.shape (parts.Bucket (Lookup side key (Some (e, bytes))))
     looked_marks key bytes = go side
@@ -80,15 +82,18 @@ module _ {t : TableView} {bucket : ℕ} {q : PassView} (chain : BodyList) (h : H
 
 -- A body is taken out
 
-pub took_out : {t : TableView} {bucket : ℕ} {q : PassView} {bodies : List Stored} (h : HoldsBucket t bucket q bodies) (key : List ℕ) (place : ℕ) (body : Stored) (e : ℕ) (r : PassView) (left : List Stored) → slice_get bodies place ≡ present key bodies → slice_get bodies place ≡ Some body → left ≡ without_key body.key bodies
-    → e ≡ body.element → Detached bucket e q r → TookOut t bucket q r bodies key body left
-took_out {t} {bucket} {q} {bodies} h key place body e r left holder at left_is e_is detached =
+pub has_out : {t : TableView} {bucket : ℕ} {q : PassView} {bodies : List Stored} (h : HoldsBucket t bucket q bodies) (key : List ℕ) (place : ℕ) (out : TakenOut) (e : ℕ) (r : PassView) → slice_get bodies place ≡ present key bodies → slice_get bodies place ≡ Some out.body → out.chain.bodies ≡ without_key out.body.key bodies
+    → e ≡ out.body.element → Detached bucket e q r → HasOut t bucket q r bodies key out
+has_out {t} {bucket} {q} {bodies} h key place out e r holder at left_is e_is detached =
+    let body = out.body in
     let is : Detached bucket body.element q r = subst (λ (x : ℕ). Detached bucket x q r) e_is detached in
     let u = under_detached (under_nothing h) body.element r is in
     let found : present key bodies ≡ Some body = sym holder ∙ at in
     record {
       present_is = found;
       without = record { bodies = bodies; place = place; at = at; present_is = found; left_is = left_is; holds = u.holds };
+      bodies_are = refl;
+      log_is = u.log_is;
       is_out = (is_real h key body found, sized_at t.shape bodies place body h.sized at);
       goes = u.goes;
       notes = ap notes_below u.holds.notes ∙ u.below_is;
@@ -113,13 +118,14 @@ module _ {t : TableView} {bucket : ℕ} {r : PassView} {key : List ℕ} {body : 
       gives (under_nothing w.holds) chain (Take key (Some (e, bytes))) (without e (numbers w.bodies)) (taken_turn t.shape r.cpu w.bodies chain.bodies w.holds.sized key w.place body e bytes (w.at ∙ sym w.present_is) (sym w.at) w.left_is e_is read) rows_left refl refl (sets_none t.shape (Take key (Some (e, bytes))) refl) found is
 
 -- from where the body was still in it
-pub given_after : {t : TableView} {bucket : ℕ} {q r s : PassView} {bodies : List Stored} {key : List ℕ} {body : Stored} {left : List Stored} {part : Part} → TookOut t bucket q r bodies key body left → GivenBack t bucket r s part r.view.hand → GivenBack t bucket q s part (with_in_hand body.element q.cpu q.view.hand)
+pub given_after : {t : TableView} {bucket : ℕ} {q r s : PassView} {bodies : List Stored} {key : List ℕ} {found : TakenOut} {part : Part} → HasOut t bucket q r bodies key found → GivenBack t bucket r s part r.view.hand → GivenBack t bucket q s part (with_in_hand found.body.element q.cpu q.view.hand)
 given_after {t} {bucket} {q} {r} {s} out gave = record {
   step = gave.step;
   told = gave.told;
   lost = gave.lost;
   is_told = gave.is_told;
   turn = gave.turn;
+  from = λ hold held. gave.from out.without.holds.hold out.without.holds.held ∙ out.log_is hold held;
   loses = gave.loses;
   goes = subst (Goes q s (gave.step ∷ [])) (append_nil gave.lost) (goes_on q r s [] (gave.step ∷ []) [] gave.lost out.goes gave.goes);
   by_call = subst (λ (z : ℕ × ℕ). IsBy z.0 z.1 gave.step) (λ i. (out.goes.cpu i, out.goes.call i)) gave.by_call;

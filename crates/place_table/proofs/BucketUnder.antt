@@ -61,17 +61,18 @@ use Rattle.place_table.specs.BucketTurns.{CanEnter, Entered, LosesAtMost, GivenB
 
 -- Entering
 
-pub entered : (t : TableView) (bucket : ℕ) (p q : PassView) (chain : BodyList) → CanEnter t bucket p → p.cpu < t.shape.cpus → TookLock t (Bucket bucket) p q (contents.Bucket chain) → Entered t bucket p q chain
-entered t bucket p q chain can few took =
+pub entered : {t : TableView} {bucket : ℕ} {p q : PassView} {chain : BodyList} → CanEnter t bucket p → TookLock t (Bucket bucket) p q (contents.Bucket chain) → Entered t bucket p q chain
+entered {t} {bucket} {p} {q} {chain} can took =
     let goes = goes_took t (Bucket bucket) p q (contents.Bucket chain) took in
     let view : q.view ≡ holding took.at took.hold p.view = ap (λ (z : PassView). z.view) took.after_is in
     record {
+      no_lock = can.no_lock;
       took = took;
       inside = record {
         of_table = goes_of_table t p q [] [] goes can.of_table;
         begun = goes_begun p q [] [] goes can.begun;
         there = can.there;
-        cpu_there = subst (λ (c : ℕ). c < t.shape.cpus) (sym goes.cpu) few;
+        cpu_there = subst (λ (c : ℕ). c < t.shape.cpus) (sym goes.cpu) took.within;
         hold = took.hold;
         below = p.view.notes;
         held = ap (λ (v : View). v.held) view ∙ ap (λ (l : List Hold). took.hold ∷ l) can.no_lock;
@@ -152,7 +153,7 @@ told_bits shape told part is =
 -- Under the bucket
 
 -- it is held after a step that took no lock and gave none back
-module _ {t : TableView} {bucket : ℕ} {r s : PassView} {bodies : List Stored} {now : Lists} {set : List ℕ} (h : Holds t bucket r bodies now set) where
+module _ {t : TableView} {bucket : ℕ} {r s : PassView} {bodies : List Stored} {now : Lists} {marked : List ℕ} (h : Holds t bucket r bodies now marked) where
   pub has_all_before : Goes r s [] [] → has_all s.view ≡ true → has_all r.view ≡ true
   has_all_before goes has = sym (λ i. has_all_below (goes.shape i).cpus (goes.cpus i)) ∙ has
 
@@ -177,20 +178,23 @@ module _ {t : TableView} {bucket : ℕ} {r s : PassView} {bodies : List Stored} 
   }
 
 -- From q on no lock was taken or given back: this lies in the bucket now, the bits of these elements were set, and this is in hand.
-pub record Under (t : TableView) (bucket : ℕ) (q r : PassView) (bodies : List Stored) (now : Lists) (set : List ℕ) (hand : List InHand) : Type 0 where
-  pub holds : Holds t bucket r bodies now set
+pub record Under (t : TableView) (bucket : ℕ) (q r : PassView) (bodies : List Stored) (now : Lists) (marked : List ℕ) (hand : List InHand) : Type 0 where
+  pub holds : Holds t bucket r bodies now marked
   pub below_is : holds.below ≡ notes_below q.view.notes
+  -- and the turns of the bucket before this one are those that q has of it
+  pub log_is : (hold : Hold) → q.view.held ≡ hold ∷ [] → holds.hold.log ≡ hold.log
   pub goes : Goes q r [] []
   pub spares : r.spares ≡ q.spares
   pub carried : r.view.carried ≡ q.view.carried
   pub hand_is : r.view.hand ≡ hand
   pub bits : is_lru t.shape.kind ≡ false → r.view.bits ≡ q.view.bits
-  pub learns : Learns t.shape q.view r.view [] (map sets_bit set)
+  pub learns : Learns t.shape q.view r.view [] (map sets_bit marked)
 
 pub under_nothing : {t : TableView} {bucket : ℕ} {q : PassView} {bodies : List Stored} {now : Lists} → Holds t bucket q bodies now [] → Under t bucket q q bodies now [] q.view.hand
 under_nothing {t} {bucket} {q} {bodies} {now} h = record {
   holds = h;
   below_is = sym (ap notes_below h.notes);
+  log_is = λ hold held. ap (λ (z : Hold). z.log) (same_head (sym h.held ∙ held));
   goes = goes_nowhere q;
   spares = refl;
   carried = refl;
@@ -209,6 +213,7 @@ module _ {t : TableView} {bucket : ℕ} {q r : PassView} {bodies : List Stored} 
       record {
         holds = here;
         below_is = u.below_is;
+        log_is = u.log_is;
         goes = goes_on q r s [] [] [] [] u.goes step;
         spares = ap (λ (z : PassView). z.spares) is.1 ∙ u.spares;
         carried = ap (λ (z : PassView). z.view.carried) is.1 ∙ u.carried;
@@ -224,7 +229,7 @@ module _ {t : TableView} {bucket : ℕ} {q r : PassView} {bodies : List Stored} 
       (λ lru is. under_marked lru is) (λ _ same. subst (λ (z : PassView). Under t bucket q z bodies now [] hand) (sym same) u)
 
 -- The bucket that is held, and the steps that it asks for
-module _ {t : TableView} {bucket : ℕ} {r : PassView} {bodies : List Stored} {now : Lists} {set : List ℕ} (h : Holds t bucket r bodies now set) where
+module _ {t : TableView} {bucket : ℕ} {r : PassView} {bodies : List Stored} {now : Lists} {marked : List ℕ} (h : Holds t bucket r bodies now marked) where
   number_here : lock_number r.view.shape (Bucket bucket) ≡ h.hold.lock
   number_here = ap (λ (s : Shape). lock_number s (Bucket bucket)) h.of_table.1 ∙ sym h.lock_is
 
@@ -269,37 +274,38 @@ module _ {t : TableView} {bucket : ℕ} {r : PassView} {bodies : List Stored} {n
   }
 
 -- an element was moved there
-module _ {t : TableView} {bucket : ℕ} {q r : PassView} {bodies : List Stored} {now : Lists} {set : List ℕ} {hand : List InHand} (u : Under t bucket q r bodies now set hand) where
-  under_moved : {hashes : List HashIn} (s : PassView) (then : Lists) (at : ℕ) (held : List InHand) (word left : ℕ) → s ≡ with_view r (with_hashes hashes (moved at (lock_number r.view.shape (Bucket bucket)) then held r.view.notes word left r.view)) → Under t bucket q s bodies then set held
+module _ {t : TableView} {bucket : ℕ} {q r : PassView} {bodies : List Stored} {now : Lists} {marked : List ℕ} {hand : List InHand} (u : Under t bucket q r bodies now marked hand) where
+  under_moved : {hashes : List HashIn} (s : PassView) (then : Lists) (at : ℕ) (held : List InHand) (word left : ℕ) → s ≡ with_view r (with_hashes hashes (moved at (lock_number r.view.shape (Bucket bucket)) then held r.view.notes word left r.view)) → Under t bucket q s bodies then marked held
   unfolding holds_on
   under_moved {hashes} s then at held word left is =
       let h = u.holds in
       let k : ℕ = lock_number r.view.shape (Bucket bucket) in
       let step = goes_moved at k then held r.view.notes word left r s is in
       record {
-        holds = holds_on h then set refl step
+        holds = holds_on h then marked refl step
             (ap (λ (z : PassView). z.view.held) is ∙ (ap (with_now k then) h.held
             ∙ by_test h.hold.lock k (λ b. cond b (record { lock = h.hold.lock; cpu = h.hold.cpu; log = h.hold.log; now = then; lost = h.hold.lost } ∷ []) (h.hold ∷ []) ≡ hold_with h.hold then ∷ []) (λ _. refl) (λ other. absurd (other (sym (number_here h))))))
             (ap (λ (z : PassView). z.view.notes) is ∙ h.notes) (ap (λ (z : PassView). z.view.known) is);
         below_is = u.below_is;
+        log_is = u.log_is;
         goes = goes_on q r s [] [] [] [] u.goes step;
         spares = ap (λ (z : PassView). z.spares) is ∙ u.spares;
         carried = ap (λ (z : PassView). z.view.carried) is ∙ u.carried;
         hand_is = ap (λ (z : PassView). z.view.hand) is;
         bits = λ plain. ap (λ (z : PassView). z.view.bits) is ∙ u.bits plain;
-        learns = subst (Learns t.shape q.view s.view []) (append_nil (map sets_bit set)) (learns_on t.shape q.view r.view s.view [] [] (map sets_bit set) [] u.learns (learns_moved t.shape at k then held r.view.notes word left r s is));
+        learns = subst (Learns t.shape q.view s.view []) (append_nil (map sets_bit marked)) (learns_on t.shape q.view r.view s.view [] [] (map sets_bit marked) [] u.learns (learns_moved t.shape at k then held r.view.notes word left r s is));
       }
 
-  pub under_attached : (e : ℕ) (s : PassView) → Attached bucket e r s → Under t bucket q s bodies (with_row (Bucket bucket) e now) set (without_in_hand e q.cpu hand)
+  pub under_attached : (e : ℕ) (s : PassView) → Attached bucket e r s → Under t bucket q s bodies (with_row (Bucket bucket) e now) marked (without_in_hand e q.cpu hand)
   under_attached e s is =
       let hand_is : without_in_hand e r.cpu r.view.hand ≡ without_in_hand e q.cpu hand = λ i. without_in_hand e (u.goes.cpu i) (u.hand_is i) in
-      subst (λ (z : Lists × List InHand). Under t bucket q s bodies (with_row (Bucket bucket) e z.0) set z.1) (λ i. (now_here u.holds i, hand_is i))
+      subst (λ (z : Lists × List InHand). Under t bucket q s bodies (with_row (Bucket bucket) e z.0) marked z.1) (λ i. (now_here u.holds i, hand_is i))
       (under_moved s (with_row (Bucket bucket) e (now_under (Bucket bucket) r.view)) is.0 (without_in_hand e r.cpu r.view.hand) (owner_word r.view.shape e) (32 + bucket) is.1)
 
-  pub under_detached : (e : ℕ) (s : PassView) → Detached bucket e r s → Under t bucket q s bodies (without_row e now) set (with_in_hand e q.cpu hand)
+  pub under_detached : (e : ℕ) (s : PassView) → Detached bucket e r s → Under t bucket q s bodies (without_row e now) marked (with_in_hand e q.cpu hand)
   under_detached e s is =
       let hand_is : with_in_hand e r.cpu r.view.hand ≡ with_in_hand e q.cpu hand = λ i. with_in_hand e (u.goes.cpu i) (u.hand_is i) in
-      subst (λ (z : Lists × List InHand). Under t bucket q s bodies (without_row e z.0) set z.1) (λ i. (now_here u.holds i, hand_is i))
+      subst (λ (z : Lists × List InHand). Under t bucket q s bodies (without_row e z.0) marked z.1) (λ i. (now_here u.holds i, hand_is i))
       (under_moved s (without_row e (now_under (Bucket bucket) r.view)) is.0 (with_in_hand e r.cpu r.view.hand) (owner_word r.view.shape e) (1 + r.cpu) is.1)
 
   -- Giving back
@@ -312,15 +318,15 @@ module _ {t : TableView} {bucket : ℕ} {q r : PassView} {bodies : List Stored} 
 
   -- by a part that probes nothing and sets the bits that were set
   can_give : (back : BodyList) (part : BucketPart) (elements : List ℕ) → IsTurnWith t.shape r.cpu part bodies back.bodies elements → ((x : ℕ) → times x elements ≡ times x (rows now)) → now.free ≡ []
-      → bucket_probes part ≡ [] → set ≡ marks t.shape (parts.Bucket part) → CanGive t (Bucket bucket) r (contents.Bucket back) (parts.Bucket part)
-  can_give back part elements turn counted no_free no_probes set_is =
+      → bucket_probes part ≡ [] → marked ≡ marks t.shape (parts.Bucket part) → CanGive t (Bucket bucket) r (contents.Bucket back) (parts.Bucket part)
+  can_give back part elements turn counted no_free no_probes marks_are =
       let h = u.holds in record {
         of_table = h.of_table;
         begun = h.begun;
         hold = h.hold;
         below = [];
         innermost = h.held;
-        notes = with_marks set;
+        notes = with_marks marked;
         notes_below = h.below;
         notes_are = h.notes;
         there = bucket_there t.shape bucket h.there;
@@ -336,13 +342,13 @@ module _ {t : TableView} {bucket : ℕ} {q r : PassView} {bodies : List Stored} 
           gone = λ _ c e n is _ _. absurd (not_local bucket c (sym named ∙ is));
         };
         notes_fit = record {
-          marks_are = set_is;
+          marks_are = marks_are;
           clears_are = refl;
           reads = All-nil (WasRead []);
           flushed = tt;
           off = All-nil (λ e. flushes e (parts.Bucket part) ≡ true);
           held = subst (All (ProbeFits [])) (sym no_probes) (All-nil (ProbeFits []));
-          came = All-nil (CameToHand r.view h.hold (with_marks set));
+          came = All-nil (CameToHand r.view h.hold (with_marks marked));
         };
       }
 
@@ -351,10 +357,10 @@ module _ {t : TableView} {bucket : ℕ} {q r : PassView} {bodies : List Stored} 
   part_here stands allowed = is_bucket_part t.shape r.cpu stands bodies (subst (Allows t.shape r.cpu stands) (sym found_here) allowed)
 
   -- The bucket's turn was made, or is lost, and is told as one with this part.
-  given_by : (back : Content) (part : BucketPart) (stands : Part) (lost : List ℕ) (n : ℕ) (taken : TookTicket r.view) (at : ℕ) (kept : List StrandStep) (s : PassView) → set ≡ marks t.shape (parts.Bucket part) → LosesAtMost (lock_number t.shape (Bucket bucket)) lost
+  given_by : (back : Content) (part : BucketPart) (stands : Part) (lost : List ℕ) (n : ℕ) (taken : TookTicket r.view) (at : ℕ) (kept : List StrandStep) (s : PassView) → marked ≡ marks t.shape (parts.Bucket part) → LosesAtMost (lock_number t.shape (Bucket bucket)) lost
       → (can : CanGive t (Bucket bucket) r back stands) → (meant : CanGive t (Bucket bucket) r back (parts.Bucket part)) → Goes r s (given_turn r n can.hold stands ∷ []) lost
       → s ≡ with_view r (with_lost (lost ++ r.view.lost) (given at can.hold (entry_of r n stands) kept (ready r.view taken))) → IsTold t.shape lost (given_turn r n can.hold stands) (given_turn r n meant.hold (parts.Bucket part)) → GivenBack t bucket q s (parts.Bucket part) hand
-  given_by back part stands lost n taken at kept s set_is loses can meant goes is is_told =
+  given_by back part stands lost n taken at kept s marks_are loses can meant goes is is_told =
       let h = u.holds in
       let hold_is : can.hold ≡ h.hold = same_head (sym can.innermost ∙ h.held) in
       let owners_is : can.notes.owners ≡ [] = ap (λ (z : Notes). z.owners) (same_head (sym can.notes_are ∙ h.notes)) in
@@ -372,6 +378,7 @@ module _ {t : TableView} {bucket : ℕ} {q r : PassView} {bodies : List Stored} 
         lost = lost;
         is_told = is_told;
         turn = (λ i. on_lock (named_by meant i) (parts.Bucket part));
+        from = λ hold held. ap (λ (z : Hold). z.log) hold_is ∙ u.log_is hold held;
         loses = loses;
         goes = subst (Goes q s (step ∷ [])) (append_nil lost) (goes_on q r s [] (step ∷ []) [] lost u.goes goes);
         by_call = (u.goes.cpu, u.goes.call);
@@ -381,8 +388,8 @@ module _ {t : TableView} {bucket : ℕ} {q r : PassView} {bodies : List Stored} 
         carried = ap (λ (z : PassView). z.view.carried) is ∙ u.carried;
         hand_is = ap (λ (z : PassView). z.view.hand) is ∙ u.hand_is;
         bits = λ plain. ap (λ (z : PassView). z.view.bits) is ∙ u.bits plain;
-        learns = subst (Learns t.shape q.view s.view (step ∷ [])) (ap (λ (l : List ℕ). map sets_bit l ++ []) set_is ∙ sym (told_bits t.shape made part refl))
-            (learns_on t.shape q.view r.view s.view [] (step ∷ []) (map sets_bit set) [] u.learns gave);
+        learns = subst (Learns t.shape q.view s.view (step ∷ [])) (ap (λ (l : List ℕ). map sets_bit l ++ []) marks_are ∙ sym (told_bits t.shape made part refl))
+            (learns_on t.shape q.view r.view s.view [] (step ∷ []) (map sets_bit marked) [] u.learns gave);
       }
     where
       named_by : (meant : CanGive t (Bucket bucket) r back (parts.Bucket part)) → lock_named t.shape meant.hold.lock ≡ Bucket bucket
@@ -411,21 +418,21 @@ module _ {t : TableView} {bucket : ℕ} {q r : PassView} {bodies : List Stored} 
   Gives back part found =
       MayGiveBack t (Bucket bucket) r (contents.Bucket back) found × ((s : PassView) → GaveBack t (Bucket bucket) r s (contents.Bucket back) found → GivenBack t bucket q s (parts.Bucket part) hand)
 
-  gives_by : (back : BodyList) (part : BucketPart) (found : Option Part) → set ≡ marks t.shape (parts.Bucket part) → CanGive t (Bucket bucket) r (contents.Bucket back) (parts.Bucket part) → IfSome found (λ x. x ≡ parts.Bucket part) → Gives back part found
-  gives_by back part None set_is can is = (
+  gives_by : (back : BodyList) (part : BucketPart) (found : Option Part) → marked ≡ marks t.shape (parts.Bucket part) → CanGive t (Bucket bucket) r (contents.Bucket back) (parts.Bucket part) → IfSome found (λ x. x ≡ parts.Bucket part) → Gives back part found
+  gives_by back part None marks_are can is = (
     (parts.Bucket part, can),
     λ s gave.
-        given_by (contents.Bucket back) part gave.part (gave.can.hold.lock ∷ []) (ticket_of (ready r.view gave.took)) gave.took gave.at r.view.kept s set_is (inr (λ i. gave.can.lock_is i ∷ [])) gave.can can (goes_gave_some t (Bucket bucket) r s (contents.Bucket back) gave) gave.after_is
+        given_by (contents.Bucket back) part gave.part (gave.can.hold.lock ∷ []) (ticket_of (ready r.view gave.took)) gave.took gave.at r.view.kept s marks_are (inr (λ i. gave.can.lock_is i ∷ [])) gave.can can (goes_gave_some t (Bucket bucket) r s (contents.Bucket back) gave) gave.after_is
         (inr (among_first gave.can.hold.lock [], could_be (ticket_of (ready r.view gave.took)) (contents.Bucket back) part gave.part can gave.can)),
   )
-  gives_by back part (Some x) set_is can is = (
+  gives_by back part (Some x) marks_are can is = (
     subst (CanGive t (Bucket bucket) r (contents.Bucket back)) (sym is) can,
     λ s gave.
         let hold_is : gave.hold ≡ can.hold = same_head (sym gave.innermost ∙ can.innermost) in
         let recorded : Goes r s (given_turn r gave.ticket can.hold (parts.Bucket part) ∷ []) [] = subst (λ (z : Hold × Part). Goes r s (given_turn r gave.ticket z.0 z.1 ∷ []) []) (λ i. (hold_is i, is i)) (goes_gave r s x gave) in
-        given_by (contents.Bucket back) part (parts.Bucket part) [] gave.ticket gave.took gave.at gave.kept s set_is (inl refl) can can recorded (gave.after_is ∙ (λ i. with_view r (given gave.at (hold_is i) (entry_of r gave.ticket (is i)) gave.kept (ready r.view gave.took)))) (inl refl),
+        given_by (contents.Bucket back) part (parts.Bucket part) [] gave.ticket gave.took gave.at gave.kept s marks_are (inl refl) can can recorded (gave.after_is ∙ (λ i. with_view r (given gave.at (hold_is i) (entry_of r gave.ticket (is i)) gave.kept (ready r.view gave.took)))) (inl refl),
   )
 
-  pub gives : (back : BodyList) (part : BucketPart) (elements : List ℕ) → IsTurnWith t.shape q.cpu part bodies back.bodies elements → ((x : ℕ) → times x elements ≡ times x (rows now)) → now.free ≡ [] → bucket_probes part ≡ [] → set ≡ marks t.shape (parts.Bucket part)
+  pub gives : (back : BodyList) (part : BucketPart) (elements : List ℕ) → IsTurnWith t.shape q.cpu part bodies back.bodies elements → ((x : ℕ) → times x elements ≡ times x (rows now)) → now.free ≡ [] → bucket_probes part ≡ [] → marked ≡ marks t.shape (parts.Bucket part)
       → (found : Option Part) → IfSome found (λ x. x ≡ parts.Bucket part) → Gives back part found
-  gives back part elements turn counted no_free no_probes set_is found is = gives_by back part found set_is (can_give back part elements (subst (λ (c : ℕ). IsTurnWith t.shape c part bodies back.bodies elements) (sym u.goes.cpu) turn) counted no_free no_probes set_is) is
+  gives back part elements turn counted no_free no_probes marks_are found is = gives_by back part found marks_are (can_give back part elements (subst (λ (c : ℕ). IsTurnWith t.shape c part bodies back.bodies elements) (sym u.goes.cpu) turn) counted no_free no_probes marks_are) is

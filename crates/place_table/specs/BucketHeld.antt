@@ -1,4 +1,4 @@
--- A pass that holds one bucket alone: what lay there as its turns left it, and what lies there now.
+-- A pass that holds one bucket alone: what lay there as its turns left it, what lies there now, and whose bits were set since.
 use Rattle.std.specs.Prelude.{◌≡◌, ℕ, ◌<◌, true, List, [], ◌∷◌, All, Some, slice_get}
 use Rattle.map_types.specs.declared.kind.DomainId.TheVariants.{Bucket}
 use Rattle.map_types.specs.Stored.{Stored, IsSized}
@@ -17,11 +17,11 @@ use Rattle.place_table.specs.Views.{has_all, known_log}
 
 -- what is noted in a turn that sets the bits of these elements and does nothing else that is noted
 abbrev pub with_marks : List ℕ → Notes
-with_marks set = record { came = []; marks = set; asked = []; owners = []; homes = []; flushed = []; off = [] }
+with_marks marked = record { came = []; marks = marked; asked = []; owners = []; homes = []; flushed = []; off = [] }
 
 -- The pass holds this bucket alone. These bodies lay in it as its turns left them, these lists lie there now, and the bits of these
 -- elements were set in its turn so far.
-pub record Holds (t : TableView) (bucket : ℕ) (r : PassView) (bodies : List Stored) (now : Lists) (set : List ℕ) : Type 0 where
+pub record Holds (t : TableView) (bucket : ℕ) (r : PassView) (bodies : List Stored) (now : Lists) (marked : List ℕ) : Type 0 where
   pub of_table : IsPassOf t r
   pub begun : HasBegun r
   pub there : bucket < t.shape.buckets
@@ -29,7 +29,7 @@ pub record Holds (t : TableView) (bucket : ℕ) (r : PassView) (bodies : List St
   pub hold : Hold
   pub below : List Notes
   pub held : r.view.held ≡ hold ∷ []
-  pub notes : r.view.notes ≡ with_marks set ∷ below
+  pub notes : r.view.notes ≡ with_marks marked ∷ below
   pub lock_is : hold.lock ≡ lock_number t.shape (Bucket bucket)
   pub cpu_is : hold.cpu ≡ r.cpu
   pub content_is : in_bucket bodies ≡ content t.shape (Bucket bucket) hold.log

@@ -1,4 +1,4 @@
--- A pass that holds one bucket alone, and where a key stands in it.
+-- A pass that has just taken one bucket alone, and where a key stands in it.
 use Rattle.std.specs.Prelude.{◌≡◌, ℕ, ◌<◌, List, [], ◌∷◌, length, slice_get, All, Some}
 use Rattle.map_types.specs.declared.kind.DomainId.TheVariants.{Bucket}
 use Rattle.map_types.specs.Stored.{Stored, IsSized}
@@ -14,7 +14,7 @@ use Rattle.place_table.specs.Passes.{PassView, TableView, IsPassOf, HasBegun}
 use Rattle.place_table.specs.Plays.{AreElements, IsApartFromHands}
 use Rattle.place_table.specs.Views.{known_log, no_notes}
 
--- The pass holds this bucket alone, in which these bodies lie as its turns left them.
+-- The pass holds this bucket alone, in which these bodies lie as its turns left them. Nothing was done there yet.
 pub record InBucket (t : TableView) (bucket : ℕ) (q : PassView) (bodies : List Stored) : Type 0 where
   pub of_table : IsPassOf t q
   pub begun : HasBegun q

@@ -2,7 +2,6 @@
 
 ghost use Rattle.std.specs.Prelude.{◌≡◌, IfErr, IsTrue, length};
 ghost use Rattle.map_types.specs.Kind.{is_lru};
-ghost use Rattle.map_types.specs.Shape.{HasBounds};
 ghost use Rattle.map_types.specs.ValueLen.{value_len_of};
 ghost use Rattle.place_table.specs.Calls.{reply_of_value};
 ghost use Rattle.place_table.specs.Passes.{CanMark};
@@ -14,62 +13,60 @@ use crate::pass::Pass;
 use crate::table::PlaceTable;
 use bucket_chain::{Chain, TakenBucket, body_at, lookup_got, lookup_missed, read_value};
 use map_types::{Absent, DomainId, Gate, Side};
-use std::alloc::Global;
 use std::sync::Wait;
 
-/// Takes a bucket, in a pass that holds no lock.
-pub fn enter<R: Wait, G: Gate>(
-    rt: &R,
-    table: &PlaceTable,
-    pass: &mut Pass,
-    bucket: u32,
-    gate: &G,
-) -> Chain
-    requires { CanEnter table.now bucket pass.old }
-    ensures { Entered table.now bucket pass.old pass.new result }
-{
-    // That the CPU is one of the map's is known once it is asked for.
-    let _cpu = table.cpu_of(pass);
-    let Content::Bucket(chain) = table.take(rt, pass, DomainId::Bucket(bucket), gate) else {
-        unreachable!()
-    };
-    chain
-}
+impl PlaceTable {
+    /// Takes a bucket, in a pass that holds no lock.
+    pub fn enter_bucket<R: Wait, G: Gate>(
+        &self,
+        rt: &R,
+        pass: &mut Pass,
+        bucket: u32,
+        gate: &G,
+    ) -> Chain
+        requires { CanEnter self.now bucket pass.old }
+        ensures { Entered self.now bucket pass.old pass.new result }
+    {
+        let Content::Bucket(chain) = self.take(rt, pass, DomainId::Bucket(bucket), gate) else {
+            unreachable!()
+        };
+        chain
+    }
 
-/// Looks up a key in its bucket, and gives the bucket back. On a map that evicts a program's lookup sets the bit of the element.
-/// It is `Absent`, and `out` as it was, exactly where the key isn't there.
-pub fn look_up<G: Gate>(
-    alloc: Global,
-    table: &PlaceTable,
-    pass: &mut Pass,
-    taken: TakenBucket,
-    side: Side,
-    key: &[u8],
-    out: &mut [u8],
-    gate: &G,
-) -> Result<(), Absent>
-    requires bounds { HasBounds table.now.shape }
-    requires holds { HoldsBucket table.now taken.number pass.old taken.chain.bodies }
-    requires out { length out.old ≡ value_len_of table.now.shape side }
-    ensures looks_up { LooksUp table.now taken.number pass.old pass.new side key.now
-        (reply_of_value result out.new) }
-    ensures refused { IfErr result (λ _. out.new ≡ out.old) }
-{
-    let TakenBucket { number, chain } = taken;
-    let lock = DomainId::Bucket(number);
-    let cpu = table.cpu_of(pass);
-    let Some(place) = chain.find(key) else {
-        let part = lookup_missed(alloc, side, key);
-        table.give(pass, lock, Content::Bucket(chain), part, gate);
-        return Err(Absent);
-    };
-    let body = body_at(&chain, place);
-    let element = body.element();
-    read_value(table.shape(), side, cpu, body, out);
-    mark_for(table, pass, number, side, element);
-    let part = lookup_got(alloc, side, key, element, out);
-    table.give(pass, lock, Content::Bucket(chain), part, gate);
-    Ok(())
+    /// Looks up a key in its bucket, and gives the bucket back. On a map that evicts a program's lookup sets the bit of the
+    /// element. It is `Absent`, and `out` as it was, exactly where its turn found no such key.
+    pub fn look_up<G: Gate>(
+        &self,
+        pass: &mut Pass,
+        taken: TakenBucket,
+        side: Side,
+        key: &[u8],
+        out: &mut [u8],
+        gate: &G,
+    ) -> Result<(), Absent>
+        requires holds { HoldsBucket self.now taken.number pass.old taken.chain.bodies }
+        requires out { length out.old ≡ value_len_of self.now.shape side }
+        ensures looks_up { LooksUp self.now taken.number pass.old pass.new side key.now
+            (reply_of_value result out.new) }
+        ensures refused { IfErr result (λ _. out.new ≡ out.old) }
+    {
+        let alloc = self.alloc;
+        let TakenBucket { number, chain } = taken;
+        let lock = DomainId::Bucket(number);
+        let cpu = self.cpu_of(pass);
+        let Some(place) = chain.find(key) else {
+            let part = lookup_missed(alloc, side, key);
+            self.give(pass, lock, Content::Bucket(chain), part, gate);
+            return Err(Absent);
+        };
+        let body = body_at(&chain, place);
+        let element = body.element();
+        read_value(self.shape(), side, cpu, body, out);
+        mark_for(self, pass, number, side, element);
+        let part = lookup_got(alloc, side, key, element, out);
+        self.give(pass, lock, Content::Bucket(chain), part, gate);
+        Ok(())
+    }
 }
 
 /// Sets the bit of an element that a program looked up, on a map that evicts. The system call's lookups leave it.

@@ -1,61 +1,17 @@
-//! The end of a table.
+//! What is read and taken out of a table at its end.
 
 ghost use Rattle.std.specs.Prelude.{◌≡◌, ℕ, ◌+◌, ◌<◌, ◌≤◌, Bool, true, false, [], IfOk, filter, map, slice_index_or, vec_capacity};
 ghost use Rattle.std.specs.List.{range_with_len};
 ghost use Rattle.std.specs.Slots.{slots_items, slots_filled, slots_len, IsFull};
 ghost use Rattle.map_types.specs.ElementLists.{one};
-ghost use Rattle.place_table.specs.Views.{is_among};
-ghost use Rattle.place_table.specs.Passes.{IsPassOf, IsInNoCall};
-ghost use Rattle.place_table.specs.Closing.{IsClosed};
 
-use crate::closed::Closed;
 use crate::content::{Behind, Content};
-use crate::pass::Pass;
-use crate::read_slots::read_slots;
-use crate::strands::finish;
-use crate::table::PlaceTable;
 use map_types::{List, NoMemory, Numbers};
 use place_words::Entry;
 use std::alloc::Global;
 
-impl PlaceTable {
-    /// Closes a table whose one pass has all CPUs and is in no call, and hands out what is left. Where there is no memory
-    /// for that, the table and the pass are gone. Where memory for a strand was not found, the record of every lock is lost.
-    pub fn close(self, pass: Pass) -> Result<Closed, NoMemory>
-        requires table { IsPassOf self pass }
-        requires all_cpus { (c : ℕ) → c < self.shape.cpus → is_among c pass.view.cpus ≡ true }
-        requires in_no_call { IsInNoCall pass }
-        ensures { IfOk result (λ closed. IsClosed self.shape pass closed) }
-    {
-        let PlaceTable {
-            table,
-            shape,
-            alloc,
-        } = self;
-        let Pass {
-            seat,
-            cpu: _,
-            call: _,
-            cpus,
-            strand,
-            ended,
-            spares,
-        } = pass;
-        let count = table.slot_count();
-        let first_bit = table.word_count() - shape.elements as usize - 1;
-        let mut contents = Vec::with_capacity(alloc, count)?;
-        let mut histories = Vec::with_capacity(alloc, count)?;
-        let mut closed = table.close_with(seat);
-        let marked = marked_in(alloc, &closed, first_bit, shape.elements);
-        empty_out(&mut closed, &mut contents, &mut histories, count);
-        closed.free();
-        let ended = finish(ended, &cpus, strand);
-        read_slots(alloc, &shape, contents, histories, marked?, ended, &spares)
-    }
-}
-
 /// The elements whose bit is set, where their words begin here.
-fn marked_in(
+pub(crate) fn marked_in(
     alloc: Global,
     closed: &atomic_table::Closed<Behind, Global>,
     first: usize,
@@ -78,7 +34,7 @@ fn marked_in(
 }
 
 /// Takes all slots out, contents and histories apart.
-fn empty_out(
+pub(crate) fn empty_out(
     closed: &mut atomic_table::Closed<Behind, Global>,
     contents: &mut Vec<Option<Content>>,
     histories: &mut Vec<Option<Vec<Entry>>>,

@@ -1,4 +1,4 @@
-//! A table at its opening.
+//! What lies in a table at its opening.
 
 ghost use Rattle.std.specs.Prelude.{◌≡◌, ◌+◌, ◌<◌, ◌≤◌, ◌++◌, ℕ, false, [], length, map, replicate, All, IfOk, OnOk};
 ghost use Rattle.map_types.specs.Creation.{IsShape};
@@ -13,13 +13,8 @@ ghost use Rattle.place_words.specs.OpeningState.{AreOpeningOwners};
 ghost use Rattle.place_table.specs.Contents.{FitsSet, set_told};
 ghost use Rattle.place_table.specs.Opening.{IsFirstContent, IsFirstSlot, AreFirstSlots, AreBodiesOf};
 ghost use Rattle.place_table.specs.Words.{opening_words, opening_home_codes};
-ghost use Rattle.place_table.specs.Passes.{IsFirstPass};
 
 use crate::content::{Behind, Content, Listing};
-use crate::cpus::first_cpus;
-use crate::pass::Pass;
-use crate::table::PlaceTable;
-use atomic_table::Table;
 use bucket_chain::Chain;
 use cpu_freelist::Freelist;
 use local_lists::LocalSet;
@@ -31,46 +26,6 @@ use place_words::{
     owners_at_first, spares_at_first,
 };
 use std::alloc::Global;
-
-impl PlaceTable {
-    /// A table at its opening, and its first pass. All buckets are empty. The elements lie in the freelists of the CPUs, but for
-    /// the spare elements of a map of kind HASH, or on a map that evicts free in the list sets of the CPUs, or in the one that
-    /// they share. The pass has all CPUs and all spares, is in no call and has begun none. Memory for all elements is found
-    /// here, and only want of it is refused.
-    pub fn create(alloc: Global, shape: &Shape) -> Result<(PlaceTable, Pass), NoMemory>
-        requires shape { IsShape shape.now }
-        ensures { IfOk result (λ made. (made.0.shape ≡ shape.now) × IsFirstPass made.0 made.1) }
-    {
-        let owners = owners_at_first(alloc, shape)?;
-        let words = first_words(alloc, shape, owners.as_slice())?;
-        let slots = first_slots(alloc, shape, owners.as_slice())?;
-        let spares = spare_bodies(alloc, shape)?;
-        match Table::new(alloc, words.as_slice(), slots, shape) {
-            Ok((table, seat)) => Ok((
-                PlaceTable {
-                    table,
-                    shape: *shape,
-                    alloc,
-                },
-                Pass {
-                    seat,
-                    cpu: shape.cpus,
-                    call: 0,
-                    cpus: first_cpus(shape.cpus),
-                    strand: Vec::new(alloc),
-                    ended: Some(Vec::new(alloc)),
-                    spares,
-                },
-            )),
-            Err(_) => Err(NoMemory),
-        }
-    }
-
-    /// The allocator that the table was created with, and keeps. Entries take their memory from it.
-    pub fn alloc(&self) -> Global {
-        self.alloc
-    }
-}
 
 /// Adds so many zeros.
 fn push_zeros(words: &mut Vec<u64>, count: u32) -> Result<(), NoMemory>
@@ -113,7 +68,11 @@ fn count_locks(shape: &Shape) -> u32
 }
 
 /// The words of the locks, of the owners, of the homes, and of the bits, and the one that tickets are drawn from.
-fn first_words(alloc: Global, shape: &Shape, owners: &[Owner]) -> Result<Vec<u64>, NoMemory>
+pub(crate) fn first_words(
+    alloc: Global,
+    shape: &Shape,
+    owners: &[Owner],
+) -> Result<Vec<u64>, NoMemory>
     requires shape { IsShape shape.now }
     requires owners { AreOpeningOwners shape.now owners.now }
     ensures { IfOk result (λ words. words.items ≡ opening_words shape.now) }
@@ -219,7 +178,11 @@ fn first_slot(alloc: Global, shape: &Shape, owners: &[Owner], lock: u32) -> Resu
 }
 
 /// What stands in the slots of all locks at first.
-fn first_slots(alloc: Global, shape: &Shape, owners: &[Owner]) -> Result<Vec<Behind>, NoMemory>
+pub(crate) fn first_slots(
+    alloc: Global,
+    shape: &Shape,
+    owners: &[Owner],
+) -> Result<Vec<Behind>, NoMemory>
     requires shape { IsShape shape.now }
     requires owners { AreOpeningOwners shape.now owners.now }
     ensures { IfOk result (λ slots. AreFirstSlots shape.now (lock_count shape.now) slots.items) }
@@ -258,7 +221,10 @@ fn bodies_of(
 }
 
 /// The bodies of the spares at first, by CPU.
-fn spare_bodies(alloc: Global, shape: &Shape) -> Result<[Option<BoxedBody>; 16], NoMemory>
+pub(crate) fn spare_bodies(
+    alloc: Global,
+    shape: &Shape,
+) -> Result<[Option<BoxedBody>; 16], NoMemory>
     requires { IsShape shape.now }
     ensures { IfOk result (λ spares. AreBodiesOf shape.now
         (first_spares shape.now shape.now.kind) spares) }

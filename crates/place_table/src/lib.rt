@@ -20,15 +20,12 @@ mod pass;
 mod read_slots;
 mod rule;
 mod spares;
-mod split;
 mod steps;
 mod strands;
 mod table;
 mod view;
 
-pub use bucket_takes::{TakenOut, delete_from, give_deleted, give_taken, take_from};
-pub use bucket_turns::{enter, look_up};
-pub use bucket_updates::{add, refuse, replace, write};
+pub use bucket_takes::TakenOut;
 pub use closed::Closed;
 pub use content::{Behind, Content, Listing};
 pub use gate_points::{At, Points};

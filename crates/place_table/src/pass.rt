@@ -1,10 +1,30 @@
-//! What one worker has of the table: its seat, its call, its CPUs, the steps of its strands that are recorded, and its spares.
+//! What one worker has of the table: its seat, its call, its CPUs, the steps of its strands that are recorded, and its spares. How
+//! the first pass of a table is made, how passes are split and joined, and how the last one ends with its table: no code elsewhere
+//! sees which CPUs a pass has, or can lose the strands that have ended.
 
+ghost use Rattle.std.specs.Prelude.{ℕ, ◌≡◌, ◌<◌, true, IfOk};
+ghost use Rattle.map_types.specs.Creation.{IsShape};
+ghost use Rattle.place_table.specs.Closing.{IsClosed};
+ghost use Rattle.place_table.specs.Passes.{IsFirstPass, IsPassOf, IsInNoCall, CanSplit, Split, CanJoin, Joined};
+ghost use Rattle.place_table.specs.Views.{is_among};
+
+use crate::close::{empty_out, marked_in};
+use crate::closed::Closed;
+use crate::cpus::{add_cpus, drop_cpu, first_cpus, one_cpu};
+use crate::create::{first_slots, first_words, spare_bodies};
+use crate::read_slots::read_slots;
 use crate::rule::TableSeat;
-use crate::strands::FinishedStrand;
+use crate::spares::{join_spares, split_spares};
+use crate::steps::{cut_seat, merge_seat};
+use crate::strands::{FinishedStrand, finish, put_together};
+use crate::table::PlaceTable;
+use atomic_table::Table;
+use map_types::{NoMemory, Shape};
 use percpu_values::BoxedBody;
-use place_words::StrandStep;
-use std::marker::Model;
+use place_words::{StrandStep, owners_at_first};
+use std::alloc::Global;
+use std::marker::{Brand, Model};
+use std::mem;
 
 /// A pass for some CPUs of a map. It may move to another thread.
 #[derive(Drop)]
@@ -12,10 +32,10 @@ pub struct Pass {
     pub(crate) seat: TableSeat,
     pub(crate) cpu: u32,
     pub(crate) call: u32,
-    pub(crate) cpus: [bool; 16],
+    cpus: [bool; 16],
     pub(crate) strand: Vec<StrandStep>,
     /// The strands that have ended, none once memory for one wasn't found.
-    pub(crate) ended: Option<Vec<FinishedStrand>>,
+    ended: Option<Vec<FinishedStrand>>,
     pub(crate) spares: [Option<BoxedBody>; 16],
 }
 
@@ -46,5 +66,124 @@ impl Pass {
         ensures { result ≡ length self.now.view.kept }
     {
         self.strand.len()
+    }
+}
+
+impl PlaceTable {
+    /// A table at its opening, and its first pass. All buckets are empty. The elements lie in the freelists of the CPUs, but for
+    /// the spare elements of a map of kind HASH, or on a map that evicts free in the list sets of the CPUs, or in the one that
+    /// they share. The pass has all CPUs and all spares, is in no call and has begun none. Memory for all elements is found
+    /// here, and only want of it is refused.
+    pub fn create(alloc: Global, shape: &Shape) -> Result<(PlaceTable, Pass), NoMemory>
+        requires shape { IsShape shape.now }
+        ensures { IfOk result (λ made. (made.0.shape ≡ shape.now) × IsFirstPass made.0 made.1) }
+    {
+        let owners = owners_at_first(alloc, shape)?;
+        let words = first_words(alloc, shape, owners.as_slice())?;
+        let slots = first_slots(alloc, shape, owners.as_slice())?;
+        let spares = spare_bodies(alloc, shape)?;
+        match Table::new(alloc, words.as_slice(), slots, shape) {
+            Ok((table, seat)) => Ok((
+                PlaceTable {
+                    table,
+                    shape: *shape,
+                    alloc,
+                },
+                Pass {
+                    seat,
+                    cpu: shape.cpus,
+                    call: 0,
+                    cpus: first_cpus(shape.cpus),
+                    strand: Vec::new(alloc),
+                    ended: Some(Vec::new(alloc)),
+                    spares,
+                },
+            )),
+            Err(_) => Err(NoMemory),
+        }
+    }
+
+    /// Splits a CPU of the pass, which is in no call, off to a new pass, which may move to another thread. What is in the
+    /// CPU's hand goes with it, and its spare. The strand of the pass ends, and goes to the new one with all that had ended. A new
+    /// strand begins on either side. Nobody waits, and only where there is no memory for the strand that has ended is the
+    /// record lost, of all locks.
+    pub fn split(&self, pass: &mut Pass, cpu: u32) -> Pass
+        requires { CanSplit self.now cpu pass.old }
+        ensures { Split cpu pass.old pass.new result }
+    {
+        let seat = cut_seat::<Brand>(&self.table.shared, &mut pass.seat, cpu);
+        let steps = mem::replace(&mut pass.strand, Vec::new(self.alloc));
+        let ended = mem::replace(&mut pass.ended, Some(Vec::new(self.alloc)));
+        let ended = finish(ended, &pass.cpus, steps);
+        drop_cpu(&mut pass.cpus, cpu);
+        Pass {
+            seat,
+            // No call has begun.
+            cpu: self.shape.cpus,
+            call: 0,
+            cpus: one_cpu(cpu),
+            strand: Vec::new(self.alloc),
+            ended,
+            spares: split_spares(&mut pass.spares, cpu),
+        }
+    }
+
+    /// Joins another pass of the table to this one. Both are in no call. The pass has the CPUs of both from then on, what is in
+    /// their hands, and their spares. The strands of both end, those of this pass before those of the other, and a new one
+    /// begins. Nobody waits, and only where there is no memory for all strands that have ended is the record lost, of all
+    /// locks.
+    pub fn join(&self, pass: &mut Pass, other: Pass)
+        requires { CanJoin self.now pass.old other }
+        ensures { Joined pass.old other pass.new }
+    {
+        let Pass {
+            seat,
+            cpu: _,
+            call: _,
+            cpus,
+            strand,
+            ended,
+            mut spares,
+        } = other;
+        merge_seat::<Brand>(&self.table.shared, &mut pass.seat, seat);
+        let steps = mem::replace(&mut pass.strand, Vec::new(self.alloc));
+        let ours = finish(mem::replace(&mut pass.ended, None), &pass.cpus, steps);
+        pass.ended = put_together(ours, finish(ended, &cpus, strand));
+        add_cpus(&mut pass.cpus, &cpus);
+        join_spares(&mut pass.spares, &mut spares);
+    }
+
+    /// Closes a table whose one pass has all CPUs and is in no call, and hands out what is left. Where there is no memory
+    /// for that, the table and the pass are gone. Where memory for a strand was not found, the record of every lock is lost.
+    pub fn close(self, pass: Pass) -> Result<Closed, NoMemory>
+        requires table { IsPassOf self pass }
+        requires all_cpus { (c : ℕ) → c < self.shape.cpus → is_among c pass.view.cpus ≡ true }
+        requires in_no_call { IsInNoCall pass }
+        ensures { IfOk result (λ closed. IsClosed self.shape pass closed) }
+    {
+        let PlaceTable {
+            table,
+            shape,
+            alloc,
+        } = self;
+        let Pass {
+            seat,
+            cpu: _,
+            call: _,
+            cpus,
+            strand,
+            ended,
+            spares,
+        } = pass;
+        let count = table.slot_count();
+        let first_bit = table.word_count() - shape.elements as usize - 1;
+        let mut contents = Vec::with_capacity(alloc, count)?;
+        let mut histories = Vec::with_capacity(alloc, count)?;
+        let mut closed = table.close_with(seat);
+        let marked = marked_in(alloc, &closed, first_bit, shape.elements);
+        empty_out(&mut closed, &mut contents, &mut histories, count);
+        closed.free();
+        let ended = finish(ended, &cpus, strand);
+        read_slots(alloc, &shape, contents, histories, marked?, ended, &spares)
     }
 }

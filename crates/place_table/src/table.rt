@@ -3,7 +3,7 @@
 ghost use Rattle.std.specs.Prelude.{ℕ, ◌≡◌, ◌+◌, ◌*◌, ◌<◌, ◌^◌, true, [], MatchOption, IsTrue, if◌then◌else◌};
 ghost use Rattle.map_types.specs.Kind.{is_lru};
 ghost use Rattle.place_words.specs.Locks.{lock_number, lock_count, is_lock};
-ghost use Rattle.place_table.specs.Views.{is_among};
+ghost use Rattle.place_table.specs.Views.{is_among, is_in_hand_of};
 ghost use Rattle.place_table.specs.Words.{word_count, owner_word, home_word, bit_word, ticket_word};
 ghost use Rattle.place_table.specs.Passes.{IsPassOf, HasBegun, HasOnlySpares, begun, CanTake, TookLock, CanGive, CanGiveSome, MayGiveBack, Gave, GaveSome, GaveBack, CanClaim, Claimed, CanSettle, Settled, CanAttach, Attached, Detached, CanMark, Marked, CanRehome, Rehomed, CanClear, CanLook, Cleared, SawBit, SawOwner, SawHome, SawTicket, IsInNoCall};
 
@@ -56,6 +56,11 @@ impl PlaceTable {
         &self.shape
     }
 
+    /// The allocator that the table was created with, and keeps. Entries take their memory from it.
+    pub fn alloc(&self) -> Global {
+        self.alloc
+    }
+
     /// Starts a call on a CPU of the pass, which holds no lock and has nothing in hand but spares. Calls are named by numbers
     /// of the caller's.
     pub fn begin(&self, pass: &mut Pass, cpu: u32, call: u32)
@@ -69,12 +74,14 @@ impl PlaceTable {
         pass.call = call;
     }
 
-    /// The CPU of the pass's last `begin`.
+    /// The CPU of the pass's last `begin`, which is one of the map's. What is in its hand are elements of the map.
     pub fn cpu_of(&self, pass: &Pass) -> u32
         requires table { IsPassOf self.now pass.now }
         requires begun { HasBegun pass.now }
         ensures value { result ≡ pass.now.cpu }
         ensures within { result < self.now.shape.cpus }
+        ensures real { (e : ℕ) → is_in_hand_of e pass.now.cpu pass.now.view.hand ≡ true
+            → e < self.now.shape.elements }
     {
         pass.cpu
     }

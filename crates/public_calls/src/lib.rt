@@ -14,6 +14,8 @@ mod local_sets;
 #[cfg(test)]
 mod memory_bits;
 #[cfg(test)]
+mod pieces;
+#[cfg(test)]
 mod replays;
 #[cfg(test)]
 mod rotations;

@@ -14,7 +14,7 @@ const GENERATED: &str =
     "bpfmap 1\nmap hash key 1 value 1 max 1 cpus 1\ngen seed 7 calls 16 keys 255 mix 1\n";
 
 /// A form, a text that is read in it, and the text that is then written.
-static TEXTS: [(Form, &str, &str); 6] = [
+pub(crate) static TEXTS: [(Form, &str, &str); 6] = [
     (
         Form::Calls,
         "bpfmap 1\nmap hash key 1 value 2 max 2 cpus 1\n0 update 0 01 1122\n0 lookup 01\n0 delete 01\n0 lookup 01\n",
@@ -179,7 +179,7 @@ fn a_spec_stands_for_its_calls(rt: HostRuntime) -> Result<(), Fail> {
 }
 
 /// Texts that are refused in form Generator, and why.
-static REFUSED: [(&str, ScriptRefusal); 4] = [
+pub(crate) static REFUSED: [(&str, ScriptRefusal); 4] = [
     (
         "bpfmap 1\nmap hash key 1 value 1 max 1 cpus 1\ngen seed 7 calls 16 keys 255 mix 1\ngen seed 7 calls 16 keys 255 mix 1\n",
         ScriptRefusal::Fault {

@@ -1,21 +1,33 @@
 -- What steps on words and calls on a table do.
-use Rattle.std.proofs.Common.{◌≡◌, ◌≢◌, ℕ, Bool, true, false, not, cond, List, [], ◌∷◌, ◌++◌, map, filter, get_or, set, sym, refl, ap, ◌∙◌, arith, None, Some, get_or-set_same}
+use Rattle.std.proofs.Common.{◌≡◌, ◌≢◌, ℕ, Bool, true, false, not, cond, ⊎_elim, List, [], ◌∷◌, ◌++◌, map, filter, get_or, set, sym, refl, ap, ◌∙◌, arith, None, Some, get_or-set_same}
 use Rattle.std.proofs.lemmas.List.{append_cancel_left}
 use Rattle.map_types.specs.declared.attr.Shape.{Shape}
+use Rattle.map_types.specs.declared.kind.DomainId.TheVariants.{Bucket}
+use Rattle.map_types.specs.declared.kind.Side.TheVariants.{Sys}
+use Rattle.map_types.specs.declared.reply.Reply.{Reply}
+use Rattle.map_types.specs.Kind.{is_lru}
 use Rattle.map_types.specs.ElementLists.{one}
+use Rattle.place_words.specs.declared.history.Part.{Part}
 use Rattle.place_words.specs.Codes.{home_code}
+use Rattle.place_words.specs.Histories.{marks}
+use Rattle.place_words.specs.Turns.{Turn}
 use Rattle.place_table.specs.declared.view.Ended.{Ended}
+use Rattle.place_table.specs.declared.view.Hold.{Hold}
+use Rattle.place_table.specs.declared.view.Notes.{Notes}
 use Rattle.place_table.specs.declared.view.Turned.{Turned}
 use Rattle.place_table.specs.declared.view.View.{View}
 use Rattle.place_table.specs.declared.view.WordStep.{WordStep}
+use Rattle.place_table.specs.BucketTurns.{LooksUp}
+use Rattle.place_table.specs.Calls.{CouldBe}
 use Rattle.place_table.specs.Closing.{ClosedView, IsClosed, all_locks, history_of, strand_told, strands_told}
-use Rattle.place_table.specs.Passes.{PassView}
-use Rattle.place_table.specs.Views.{marked, cleared, rehomed, all_strands, is_recorded}
+use Rattle.place_table.specs.Passes.{PassView, TableView, Marked, ready}
+use Rattle.place_table.specs.Views.{marked, cleared, rehomed, all_strands, is_among, is_recorded, ticket_of, with_mark}
 use Rattle.place_table.specs.Words.{bit_word, home_word}
 use Rattle.place_table.specs.Plays.{Seated}
 use Rattle.place_table.proofs.CodeLemmas.{one_owner, has_owner_code}
+use Rattle.place_table.proofs.Going.{given_turn, goes_gave, goes_gave_some, same_head}
 use Rattle.place_table.proofs.Refused.{tells_true}
-use Rattle.refusals.specs.Table.{MarkSetsTheBit, ClearTakesTheBit, RehomeStoresTheHome, TurnTellsItsPart, OwnerIsTheOneRead, StrandsAreHandedOut}
+use Rattle.refusals.specs.Table.{MarkSetsTheBit, ClearTakesTheBit, RehomeStoresTheHome, TurnTellsItsPart, SystemLookupMarksNone, OwnerIsTheOneRead, StrandsAreHandedOut}
 
 abbrev word_in : ℕ → List ℕ → ℕ
 word_in i words = get_or words i 0
@@ -63,6 +75,43 @@ last_same xs x y same = heads (append_cancel_left xs (x ∷ []) (y ∷ []) same)
 pub tells_its_part : TurnTellsItsPart
 tells_its_part before after part other gave is_not told =
     is_not (ap (λ (t : Turned). t.entry.part) (last_same before.view.steps _ _ (ap (λ (p : PassView). p.view.steps) (sym told.after_is ∙ gave.after_is))))
+
+not_empty : (x : ℕ) (xs : List ℕ) → x ∷ xs ≡ [] → ⊥
+not_empty x xs is = cc
+
+-- an element that was marked is noted
+noted_mark : (e : ℕ) (notes : List Notes) (first : Notes) (below : List Notes) → with_mark e notes ≡ first ∷ below → first.marks ≡ [] → ⊥
+noted_mark e [] first below is none = absurd cc
+noted_mark e (n ∷ others) first below is none = not_empty e n.marks (ap (λ (z : Notes). z.marks) (same_head is) ∙ none)
+
+none_either : (b : Bool) → ◌≡◌ {A = List ℕ} (cond b [] []) []
+none_either true = refl
+none_either false = refl
+
+module _ {t : TableView} {bucket : ℕ} (e : ℕ) {before middle after : PassView} {key : List ℕ} {reply : Reply} (is : Marked e before middle) (looks : LooksUp t bucket before after Sys key reply) where
+  -- the turn that was made sets no bit, whether its record is lost or not
+  made_none : marks t.shape looks.gives.step.entry.part ≡ []
+  made_none =
+      let g = looks.gives in
+      let none : marks t.shape g.told.entry.part ≡ [] = ap (λ (turn : Turn). marks t.shape turn.part) g.turn ∙ none_either (is_lru t.shape.kind) in
+      ⊎_elim
+      (λ (same : g.told ≡ g.step). ap (λ (turn : Turned). marks t.shape turn.entry.part) (sym same) ∙ none)
+      (λ (other : (is_among g.step.lock g.lost ≡ true) × CouldBe t.shape g.step g.told). sym other.1.same_marks ∙ none)
+      g.is_told
+
+  -- so no part that fits what is noted made it
+  not_made : (n : ℕ) (hold : Hold) (part : Part) (notes : Notes) (below : List Notes) → middle.view.notes ≡ notes ∷ below → notes.marks ≡ marks t.shape part → after.view.steps ≡ middle.view.steps ++ given_turn middle n hold part ∷ [] → ⊥
+  not_made n hold part notes below notes_are marks_are steps =
+      let g = looks.gives in
+      let same : g.step ≡ given_turn middle n hold part =
+      last_same before.view.steps g.step (given_turn middle n hold part) (sym g.goes.steps ∙ (steps ∙ ap (λ (p : PassView). p.view.steps ++ given_turn middle n hold part ∷ []) is.1)) in
+      noted_mark e before.view.notes notes below (sym (ap (λ (p : PassView). p.view.notes) is.1) ∙ notes_are) (marks_are ∙ (ap (λ (turn : Turned). marks t.shape turn.entry.part) (sym same) ∙ made_none))
+
+pub system_marks_none : SystemLookupMarksNone
+system_marks_none t bucket e before middle after key reply here None is can gave looks =
+    not_made e is looks (ticket_of (ready middle.view gave.took)) gave.can.hold gave.part gave.can.notes gave.can.notes_below gave.can.notes_are gave.can.notes_fit.marks_are (goes_gave_some t (Bucket bucket) middle after here gave).steps
+system_marks_none t bucket e before middle after key reply here (Some part) is can gave looks =
+    not_made e is looks gave.ticket gave.hold part can.notes can.notes_below can.notes_are can.notes_fit.marks_are (goes_gave middle after part gave).steps
 
 pub owner_is_the_one_read : OwnerIsTheOneRead
 owner_is_the_one_read t e before after owner other is saw is_not told =

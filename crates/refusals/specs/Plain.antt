@@ -19,7 +19,7 @@ use Rattle.place_table.specs.Calls.{Called, spare_element}
 use Rattle.place_table.specs.Known.{turn_of}
 use Rattle.place_table.specs.Passes.{PassView, TableView}
 use Rattle.place_table.specs.Views.{is_among}
-use Rattle.hash_ops.specs.Calls.{Updated}
+use Rattle.hash_ops.specs.Calls.{Updated, update_call}
 use Rattle.refusals.specs.Made.{lay, left, bodies_in, AllDid}
 
 -- An update that answers E2BIG took the lock of each freelist, from the CPU's own upwards, and found each empty; and in the key's bucket,
@@ -34,7 +34,7 @@ E2bigLooksAtEach =
 abbrev pub LooksAreTold : Type 0
 LooksAreTold =
     (t : TableView) (before after : PassView) (side : Side) (flags : ℕ) (key value : List ℕ) → is_lru t.shape.kind ≡ false
-    → (updated : Updated t before after side flags key value (Refused E2big))
+    → (updated : Updated t before after (update_call side flags key value) (Refused E2big))
     → (looks : List Turned) × (last : Turned) × (updated.0.steps ≡ looks ++ last ∷ []) × (map (turn_of t.shape) looks ≡ found_empty (ring before.cpu t.shape.cpus))
     × All (λ (look : Turned). is_among look.lock updated.0.lost ≡ false) looks
 

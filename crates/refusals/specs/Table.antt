@@ -1,19 +1,24 @@
 -- What steps on words and calls on a table do: what does otherwise is refused.
-use Rattle.std.specs.Prelude.{◌≡◌, ◌≢◌, ℕ, ◌<◌, [], length, filter, slice_index_or}
+use Rattle.std.specs.Prelude.{◌≡◌, ◌≢◌, ℕ, ◌<◌, List, [], length, filter, slice_index_or, Option}
 use mathlib.Core.Option.{some}
 use lib.ListN.{get_elem?}
 use Rattle.atomic_table.specs.Table as table
 use Rattle.atomic_table.specs.Table.{Allows}
 use Rattle.map_types.specs.declared.attr.Shape.{Shape}
+use Rattle.map_types.specs.declared.kind.DomainId.TheVariants.{Bucket}
+use Rattle.map_types.specs.declared.kind.Side.TheVariants.{Sys}
+use Rattle.map_types.specs.declared.reply.Reply.{Reply}
 use Rattle.map_types.specs.Creation.{IsShape}
 use Rattle.place_words.specs.declared.history.Part.{Part}
 use Rattle.place_words.specs.declared.home.Home.{Home}
 use Rattle.place_words.specs.declared.owner.Owner.{Owner}
 use Rattle.place_words.specs.Codes.{home_code}
 use Rattle.place_table.specs.declared.content.Behind.{Behind}
+use Rattle.place_table.specs.declared.content.Content.{Content}
 use Rattle.place_table.specs.declared.view.View.{View}
+use Rattle.place_table.specs.BucketTurns.{LooksUp}
 use Rattle.place_table.specs.Closing.{ClosedView, IsClosed}
-use Rattle.place_table.specs.Passes.{PassView, TableView, Gave, SawOwner}
+use Rattle.place_table.specs.Passes.{PassView, TableView, Gave, GaveBack, Marked, MayGiveBack, SawOwner}
 use Rattle.place_table.specs.Plays.{Seated, Marks, Clears, Rehomes}
 use Rattle.place_table.specs.Rules.{Rule}
 use Rattle.place_table.specs.Views.{all_strands, is_recorded}
@@ -47,6 +52,13 @@ RehomeStoresTheHome =
 -- A lock that is given back tells the part that it is given back with.
 abbrev pub TurnTellsItsPart : Type 0
 TurnTellsItsPart = (before after : PassView) (part other : Part) → Gave before after other → part ≢ other → ¬ Gave before after part
+
+-- The system call's lookup sets no bit: where one was set in its turn, no way to give the bucket back, with a part or without one,
+-- leaves what such a lookup leaves.
+abbrev pub SystemLookupMarksNone : Type 0
+SystemLookupMarksNone =
+    (t : TableView) (bucket e : ℕ) (before marked after : PassView) (key : List ℕ) (reply : Reply) (here : Content) (part : Option Part) → Marked e before marked
+    → MayGiveBack t (Bucket bucket) marked here part → GaveBack t (Bucket bucket) marked after here part → ¬ LooksUp t bucket before after Sys key reply
 
 -- The owner that is answered is the one that was read: no other leaves the same.
 abbrev pub OwnerIsTheOneRead : Type 0

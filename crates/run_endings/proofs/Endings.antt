@@ -1,5 +1,5 @@
 -- A run's ending, put together of what was before its script ran and what came of that.
-use Rattle.std.proofs.Common.{◌≡◌, ◌⊎◌, ℕ, List, Option, None, Some, Result, Ok, refl, sym, ap, ◌∙◌, subst, ⊎_elim}
+use Rattle.std.proofs.Common.{◌≡◌, ℕ, List, Option, None, Some, Result, refl, sym, subst, ⊎_elim}
 use Rattle.std.specs.Prelude.{IfOk}
 use Rattle.map_script.specs.declared.script.Script.{Script}
 use Rattle.map_types.specs.declared.refusal.NoMemory.{NoMemory}
@@ -10,8 +10,9 @@ use Rattle.run_words.specs.declared.words.Mode.{Mode}
 use Rattle.run_words.specs.Words.{asked_of}
 use Rattle.run_endings.specs.declared.finish.Due.{Due}
 use Rattle.run_endings.specs.declared.record.Finish.{Finish}
-use Rattle.run_endings.specs.Finish.{Ending, BadWords, ReadFault, TooLong, Faulty, Refused, OutOfMemory, Ran, Ends, Finishes, HasCause, IsKeptFrom, IsDelivered, kept_of, out, script_run, status_of, text_due}
-use Rattle.run_endings.specs.Runs.{NeverRan, IsDue, EndsEarly, EndsKept, EndsWithout, EndsRun}
+use Rattle.run_endings.specs.Finish.{Ending, BadWords, ReadFault, TooLong, Faulty, Refused, OutOfMemory, Ran, Finishes, HasCause, IsKeptFrom, IsDelivered, out, script_run, status_of, text_due}
+use Rattle.run_endings.specs.Runs.{NeverRan, IsDue, EndsEarly, EndsKept, EndsOutOfMemory, EndsRun}
+use Rattle.run_endings.proofs.Beginnings.{up_to_input}
 
 kept_so : {C : Type 0} (IsCopyOf : RunRecord → C → Type 0) (kept : Option RunRecord) (closed : Option C) (one : RunRecord) (left : C) → kept ≡ Some one → closed ≡ Some left → IsCopyOf one left → IsKeptFrom IsCopyOf kept closed
 kept_so {C} IsCopyOf kept closed one left kept_is closed_is copy = subst (λ (z : Option RunRecord × Option C). IsKeptFrom IsCopyOf z.0 z.1) (λ i. (sym kept_is i, sym closed_is i)) copy
@@ -40,6 +41,7 @@ module _ {C : Type 0} (IsCopyOf : RunRecord → C → Type 0) (RanAs : Mode → 
       → EndsRun due ran before now wrote finish → Finishes IsCopyOf (HasCause RanAs words left after read) before now wrote finish
   ends_run {due} {ran} {finish} is ran_as copy =
       let of = is.1.2 in
+      let of_input = is.1.1 in
       ⊎_elim
       (λ (kept : EndsKept due ran before now wrote finish).
       let as_due : RanAs due.asked.mode due.script kept.kept = subst (λ (z : Result (RunRecord × C) NoMemory). IfOk z (λ x. RanAs due.asked.mode due.script x.0)) kept.ran_is ran_as in
@@ -53,8 +55,8 @@ module _ {C : Type 0} (IsCopyOf : RunRecord → C → Type 0) (RanAs : Mode → 
           delivered = subst (λ (z : Asked × Script). IsDelivered 0 (out z.0 z.1 kept.kept) finish.status before now wrote) due_is kept.delivered;
         };
       })
-      (λ (none : EndsWithout before now wrote finish). record {
+      (λ (none : EndsOutOfMemory before now wrote finish). record {
         ending = OutOfMemory;
-        cause = tt;
+        cause = up_to_input left after is.1.0 of_input;
         ends = record { kept = none.kept; closed = none_so IsCopyOf finish.kept finish.closed none.kept none.closed; delivered = none.delivered };
       })

@@ -1,4 +1,4 @@
 pub mod FewEntries
-pub mod FileOrder
 pub mod Statuses
 pub mod Endings
+pub mod Beginnings

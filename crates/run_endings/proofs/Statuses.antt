@@ -1,6 +1,6 @@
 -- The status of a run, by its words and its input.
-use Rattle.std.proofs.Common.{◌≡◌, ◌⊎◌, ℕ, ◌+◌, ◌<◌, ◌≤◌, Bool, true, false, List, ◌++◌, length, Option, None, Some, Result, Ok, Err, refl, sym, ap, ◌∙◌, subst, inl, inr, ⊎_elim, arith}
-use Rattle.std.specs.Prelude.{IfSome, IsSomeAnd, IsTrue, nat_le, if◌then◌else◌}
+use Rattle.std.proofs.Common.{◌≡◌, ℕ, ◌+◌, ◌≤◌, Bool, true, false, List, length, Option, None, Some, Result, Ok, Err, refl, sym, ap, ◌∙◌, subst, inl, inr, ⊎_elim, arith}
+use Rattle.std.specs.Prelude.{IfSome, nat_le, if◌then◌else◌}
 use Rattle.std.proofs.lemmas.List.{length-append}
 use Rattle.std.proofs.lemmas.Bool.{le-leb, lt-leb}
 use Rattle.map_script.specs.declared.script.Script.{Script}
@@ -11,7 +11,7 @@ use Rattle.map_report.specs.declared.record.RunRecord.{RunRecord}
 use Rattle.run_ends.specs.SourceReads.{TakesFront}
 use Rattle.run_ends.specs.Writes.{Written, AddsPrefix, AddsWhole}
 use Rattle.run_words.specs.declared.words.Mode.{Mode}
-use Rattle.run_words.specs.Words.{are_words, asked_of, mode_of}
+use Rattle.run_words.specs.Words.{are_words, mode_of}
 use Rattle.run_endings.specs.declared.record.Finish.{Finish}
 use Rattle.run_endings.specs.Finish.{Ending, BadWords, ReadFault, TooLong, Faulty, Refused, OutOfMemory, Ran, Finishes, HasCause, IsDelivered, IsInput, IsStatus, form_of, status_due, status_of, status_read, text_due}
 
@@ -59,7 +59,7 @@ module _ (RanAs : Mode → Script → RunRecord → Type 0) (words : List (List 
   ending_status BadWords cause = is_due before now 2 (text_due BadWords) (words_status words input cause.0)
   ending_status ReadFault cause =
       ⊎_elim
-      (λ (told : (status ≡ 3) × AddsWhole before now (text_due ReadFault)). inr (inl (told.0, cause.1)))
+      (λ (told : (status ≡ 3) × AddsWhole before now (text_due ReadFault)). inr (inl (told.0, cause.1.0)))
       (λ (told : (status ≡ 4) × AddsPrefix before now (text_due ReadFault) × wrote). inr (inr (inl (told.0, told.2))))
   ending_status TooLong cause = is_due before now 7 (text_due TooLong) (long_status words input (cause.1.0) after cause.0 (cause.1.1) (cause.1.2))
   ending_status OutOfMemory cause =

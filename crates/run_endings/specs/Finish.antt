@@ -1,5 +1,5 @@
--- How a run of the program ends: its status, what it writes, and what it keeps. Whatever runs its script says by RanAs which
--- records are kept of it, and by IsCopyOf which are made of what its map left.
+-- How a run of the program ends: its status, what it writes, and what it keeps. What runs a script hands in two
+-- relations: RanAs, which records may be kept of a script that ran in a mode, and IsCopyOf, which records are copies of what a map left.
 use Rattle.std.specs.Prelude.{◌≡◌, ℕ, ◌≤◌, ◌⊎◌, false, List, ◌++◌, length, Option, Some, None, Result, Ok, Err, IsTrue, codes, decimal, nat_le, if◌then◌else◌, ⊤}
 use Rattle.run_endings.specs.declared.record.Finish.{Finish}
 use Rattle.map_report.specs.declared.record.Options.{Options}
@@ -17,9 +17,9 @@ use Rattle.map_script.specs.declared.refusal.ScriptRefusal.{ScriptRefusal}
 use Rattle.map_script.specs.declared.refusal.ScriptRefusal.TheVariants.{Fault, Create, NoMemory}
 use Rattle.map_script.specs.declared.script.Form.{Form}
 use Rattle.map_script.specs.declared.script.Form.TheVariants.{Calls, Generator}
-use Rattle.map_script.specs.Reading.{read_as}
+use Rattle.map_script.specs.Reading.{read_as, IsReading}
 use Rattle.map_script.specs.CauseName.{cause_name}
-use Rattle.run_ends.specs.SourceReads.{TakesFront, TakesAll}
+use Rattle.run_ends.specs.SourceReads.{TakesFront, TakesAll, TakesUpTo}
 use Rattle.map_report.specs.Json.{json}
 use Rattle.map_report.specs.Summary.{summary}
 use Rattle.map_report.specs.Text.{report}
@@ -110,6 +110,10 @@ pub record IsInput (before after : Option (List ℕ)) (input : List ℕ) : Type 
   pub all : TakesAll before after input
   pub short : length input ≤ 16777216
 
+-- what was returned is what an input is read as that isn't too long, unless memory ran out
+abbrev pub WasRead : Form → Result Script ScriptRefusal → Type 0
+WasRead form read = (input : List ℕ) × (length input ≤ 16777216) × IsReading read (read_as form input)
+
 -- Which endings an input has that was read to its end, where this is asked for.
 abbrev pub HasInput : (Mode → Script → RunRecord → Type 0) → Asked → List ℕ → Ending → Type 0
 HasInput RanAs asked input (Ran was_asked script kept) =
@@ -120,18 +124,18 @@ HasInput RanAs asked input OutOfMemory = ⊤
 HasInput RanAs asked input _ = ⊥
 
 -- Which endings good words have, by what a source tells is left before and after, and by whether its count of faults
--- rose.
+-- rose. With each of them at most 16,777,217 bytes were read.
 abbrev pub HasSource : (Mode → Script → RunRecord → Type 0) → Asked → Option (List ℕ) → Option (List ℕ) → Type 0 → Ending → Type 0
 HasSource RanAs asked before after rose BadWords = ⊥
-HasSource RanAs asked before after rose ReadFault = rose
+HasSource RanAs asked before after rose ReadFault = rose × TakesUpTo 16777217 before after
 HasSource RanAs asked before after rose TooLong = (bytes : List ℕ) × TakesFront before after bytes × (length bytes ≡ 16777217)
-HasSource RanAs asked before after rose OutOfMemory = ⊤
+HasSource RanAs asked before after rose OutOfMemory = TakesUpTo 16777217 before after
 HasSource RanAs asked before after rose ending = (input : List ℕ) × IsInput before after input × HasInput RanAs asked input ending
 
 -- Which endings words have. Any words may end with memory not found.
 abbrev pub HasCause : (Mode → Script → RunRecord → Type 0) → List (List ℕ) → Option (List ℕ) → Option (List ℕ) → Type 0 → Ending → Type 0
 HasCause RanAs words before after rose BadWords = (are_words words ≡ false) × (after ≡ before)
-HasCause RanAs words before after rose OutOfMemory = ⊤
+HasCause RanAs words before after rose OutOfMemory = TakesUpTo 16777217 before after
 HasCause RanAs words before after rose ending = IsTrue (are_words words) × HasSource RanAs (asked_of words) before after rose ending
 
 -- The text is written whole and flushed with the status that is due, or a prefix of it with status 4 and a fault.

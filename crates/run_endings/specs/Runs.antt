@@ -1,4 +1,4 @@
--- A run of the program before and behind the run of its script.
+-- A run of the program before and after its script runs.
 use Rattle.std.specs.Prelude.{◌≡◌, ◌⊎◌, ℕ, List, Option, Some, None, Result, Ok, IsTrue}
 use Rattle.run_endings.specs.declared.finish.Due.{Due}
 use Rattle.run_endings.specs.declared.record.Finish.{Finish}
@@ -10,7 +10,7 @@ use Rattle.map_types.specs.declared.refusal.NoMemory.{NoMemory}
 use Rattle.map_script.specs.Reading.{read_as}
 use Rattle.run_ends.specs.Writes.{Written}
 use Rattle.run_words.specs.Words.{are_words, asked_of}
-use Rattle.run_endings.specs.Finish.{Ending, OutOfMemory, form_of, script_run, status_of, text_due, out, IsInput, IsDelivered}
+use Rattle.run_endings.specs.Finish.{Ending, OutOfMemory, form_of, script_run, status_of, text_due, kept_of, out, IsInput, IsDelivered}
 
 -- no script was run
 abbrev pub NeverRan : Mode → Script → RunRecord → Type 0
@@ -28,10 +28,11 @@ abbrev pub IsDue : List (List ℕ) → Option (List ℕ) → Option (List ℕ) �
 IsDue words before after due =
     IsTrue (are_words words) × ((input : List ℕ) × IsInput before after input × IsDueOf (asked_of words) input due)
 
--- A run ended before a script ran, with this status: its ending has a cause, and the line of it was delivered.
+-- A run ended with this status, and with no record: an ending that it may have, whose line was delivered.
 pub record EndsEarly (MayEnd : Ending → Type 0) (before after : Option Written) (rose : Type 0) (status : ℕ) : Type 0 where
   pub ending : Ending
   pub cause : MayEnd ending
+  pub none : kept_of ending ≡ None
   pub delivered : IsDelivered (status_of ending) (text_due ending) status before after rose
 
 -- A run ended with what was kept of it and what its map left, and the text of what was kept was delivered.
@@ -44,11 +45,11 @@ pub record EndsKept {C : Type 0} (due : Due) (ran : Result (RunRecord × C) NoMe
   pub delivered : IsDelivered 0 (out due.asked due.script kept) finish.status before after rose
 
 -- A run ended for which memory was not found: nothing is kept.
-pub record EndsWithout {C : Type 0} (before after : Option Written) (rose : Type 0) (finish : Finish C) : Type 0 where
+pub record EndsOutOfMemory {C : Type 0} (before after : Option Written) (rose : Type 0) (finish : Finish C) : Type 0 where
   pub kept : finish.kept ≡ None
   pub closed : finish.closed ≡ None
   pub delivered : IsDelivered 5 (text_due OutOfMemory) finish.status before after rose
 
 -- how a run ends that was due, by what came of it
 abbrev pub EndsRun : {C : Type 0} → Due → Result (RunRecord × C) NoMemory → Option Written → Option Written → Type 0 → Finish C → Type 0
-EndsRun due ran before after rose finish = EndsKept due ran before after rose finish ⊎ EndsWithout before after rose finish
+EndsRun due ran before after rose finish = EndsKept due ran before after rose finish ⊎ EndsOutOfMemory before after rose finish

@@ -3,20 +3,21 @@
 
 ghost use Rattle.std.specs.Prelude.{◌≡◌, ◌≤◌, ◌++◌, ℕ, List, None, false, length, map, codes, decimal, IfOk, IfErr, IsOk, OnOk, string_bytes};
 ghost use Rattle.run_words.specs.declared.words.Asked.{Asked};
-ghost use Rattle.run_endings.specs.Finish.{form_of, lines_of, out, refusal_name, script_run, HasCause, HasInput, HasSource, IsDelivered, IsInput};
-ghost use Rattle.run_endings.specs.Runs.{EndsEarly, EndsRun, EndsWithout, IsDue, IsDueOf, NeverRan};
+ghost use Rattle.run_endings.specs.Finish.{form_of, lines_of, out, refusal_name, script_run, HasCause, HasInput, HasSource, IsDelivered, IsInput, WasRead};
+ghost use Rattle.run_endings.specs.Runs.{EndsEarly, EndsRun, EndsOutOfMemory, IsDue, IsDueOf, NeverRan};
 ghost use Rattle.map_script.specs.CauseName.{cause_name};
-ghost use Rattle.map_script.specs.Reading.{IsReadAs, read_as};
+ghost use Rattle.map_script.specs.Reading.{IsReadAs, IsReading, read_as};
 ghost use Rattle.run_ends.specs.SourceReads.{Rose};
 ghost use Rattle.serial_laws.specs.Served.{IsScript};
 ghost use Rattle.run_words.specs.Words.{are_words};
 
 use crate::Finish;
 use map_report::{RunRecord, json_of, summary_of, text_of};
-use map_script::{Cause, Form, Script, ScriptRefusal, read_script};
+use map_script::{Cause, Form, Script, ScriptRefusal};
 use map_types::{CreateRefusal, Limit, NoMemory};
-use run_ends::{ReadStop, Sink, Source, deliver, read_all};
+use run_ends::{ReadStop, Sink, Source, deliver};
 use run_words::{Asked, Mode, WordsStop, asked_of};
+use script_source::script_from;
 use std::alloc::{AllocError, Global};
 use std::io::Write;
 use workload_gen::generate;
@@ -31,7 +32,8 @@ pub struct Due {
 }
 
 /// Looks at the words of the program and reads a script to its end. Where no script is to be run, it writes the line that is due
-/// and answers the status with which the program ends.
+/// and answers the status with which the program ends: that of the line, or 4 where a write failed. At most 16,777,217 bytes are
+/// read, whatever comes of it.
 pub fn begin<S: Source, K: Sink>(
     alloc: Global,
     words: &[String],
@@ -43,7 +45,7 @@ pub fn begin<S: Source, K: Sink>(
     ensures script { IfOk result (λ due. IsScript due.script) }
     ensures unwritten { IsOk result → sink.new ≡ sink.old }
 
-    // Else the run has ended with a cause, and its line was written.
+    // Else the run has ended with a cause, and its line was delivered.
     ensures early { IfErr result (EndsEarly (HasCause NeverRan (map string_bytes words.now)
         (S.left source.old) (S.left source.new)
         (Rose (S.faults source.old) (S.faults source.new))) (K.written sink.old)
@@ -61,8 +63,8 @@ pub fn begin<S: Source, K: Sink>(
 }
 
 impl Due {
-    /// Ends the run of the script: writes what is due of its record, with the status 0, and keeps that and what its map left.
-    /// Where memory was not found, the status is 5 and a line is written.
+    /// Ends the run of the script: writes what is due of its record, and keeps the record and what its map left; the status is
+    /// 0. Where memory was not found a line is written, nothing is kept, and the status is 5. Where a write fails it is 4.
     pub fn end<C: Drop, K: Sink>(
         self,
         alloc: Global,
@@ -92,7 +94,7 @@ impl Due {
 
 /// Ends a run for which memory was not found.
 fn out_of_memory<C, K: Sink>(sink: &mut K) -> Finish<C>
-    ensures { EndsWithout (K.written sink.old) (K.written sink.new)
+    ensures { EndsOutOfMemory (K.written sink.old) (K.written sink.new)
         (Rose (K.faults sink.old) (K.faults sink.new)) result }
 {
     Finish {
@@ -165,16 +167,16 @@ fn script_due(alloc: Global, mode: Mode, script: Script) -> Result<Script, NoMem
 fn begin_with_script<K: Sink>(
     alloc: Global,
     asked: Asked,
-    input: &[u8],
     script: Script,
     sink: &mut K,
 ) -> Result<Due, u8>
-    requires short { length input.now ≤ 16777216 }
-    requires read { read_as (form_of asked.mode) input.now ≡ Ok script }
-    ensures due { IfOk result (IsDueOf asked input.now) }
+    requires read { IsReadAs (form_of asked.mode) script }
+    requires script { IsScript script }
+    ensures due { (input : List ℕ) → read_as (form_of asked.mode) input ≡ Ok script
+        → IfOk result (IsDueOf asked input) }
     ensures script { IfOk result (λ due. IsScript due.script) }
     ensures unwritten { IsOk result → sink.new ≡ sink.old }
-    ensures early { IfErr result (EndsEarly (HasInput NeverRan asked input.now) (K.written sink.old) (K.written sink.new)
+    ensures early { (input : List ℕ) → IfErr result (EndsEarly (HasInput NeverRan asked input) (K.written sink.old) (K.written sink.new)
         (Rose (K.faults sink.old) (K.faults sink.new))) }
 {
     match script_due(alloc, asked.mode, script) {
@@ -223,10 +225,10 @@ fn push_number(text: &mut Vec<u8>, number: u32) -> Result<(), AllocError>
 }
 
 /// Ends a run whose script has a fault.
-fn end_with_fault<K: Sink>(alloc: Global, input: &[u8], sink: &mut K, line: u32, cause: Cause) -> u8
-    ensures { (asked : Asked)
-        → read_as (form_of asked.mode) input.now ≡ Err (ScriptRefusal.Fault line cause)
-        → EndsEarly (HasInput NeverRan asked input.now) (K.written sink.old) (K.written sink.new)
+fn end_with_fault<K: Sink>(alloc: Global, sink: &mut K, line: u32, cause: Cause) -> u8
+    ensures { (asked : Asked) (input : List ℕ)
+        → read_as (form_of asked.mode) input ≡ Err (ScriptRefusal.Fault line cause)
+        → EndsEarly (HasInput NeverRan asked input) (K.written sink.old) (K.written sink.new)
         (Rose (K.faults sink.old) (K.faults sink.new)) result }
 {
     let Ok(text) = fault_line(alloc, line, cause) else {
@@ -236,13 +238,27 @@ fn end_with_fault<K: Sink>(alloc: Global, input: &[u8], sink: &mut K, line: u32,
 }
 
 /// Ends a run whose script has a map that can't be created.
-fn end_with_refusal<K: Sink>(input: &[u8], sink: &mut K, why: CreateRefusal) -> u8
-    ensures { (asked : Asked)
-        → read_as (form_of asked.mode) input.now ≡ Err (ScriptRefusal.Create why)
-        → EndsEarly (HasInput NeverRan asked input.now) (K.written sink.old) (K.written sink.new)
+fn end_with_refusal<K: Sink>(sink: &mut K, why: CreateRefusal) -> u8
+    ensures { (asked : Asked) (input : List ℕ)
+        → read_as (form_of asked.mode) input ≡ Err (ScriptRefusal.Create why)
+        → EndsEarly (HasInput NeverRan asked input) (K.written sink.old) (K.written sink.new)
         (Rose (K.faults sink.old) (K.faults sink.new)) result }
 {
     end_with_line(sink, 6, refusal_line(why).as_bytes())
+}
+
+/// Ends a run whose input is no script that can be run, or for which memory was not found.
+fn end_without_script<K: Sink>(alloc: Global, sink: &mut K, refusal: ScriptRefusal) -> u8
+    ensures { (asked : Asked) (input : List ℕ)
+        → IsReading (Err refusal) (read_as (form_of asked.mode) input)
+        → EndsEarly (HasInput NeverRan asked input) (K.written sink.old) (K.written sink.new)
+        (Rose (K.faults sink.old) (K.faults sink.new)) result }
+{
+    match refusal {
+        ScriptRefusal::Fault { line, cause } => end_with_fault(alloc, sink, line, cause),
+        ScriptRefusal::Create(why) => end_with_refusal(sink, why),
+        ScriptRefusal::NoMemory => end_with_line(sink, 5, b"bpfmap: memory\n"),
+    }
 }
 
 /// The form that the input of a mode has.
@@ -256,26 +272,24 @@ fn form_of(mode: Mode) -> Form
 }
 
 /// Begins a run whose input was read to its end.
-fn begin_with_input<K: Sink>(
+fn begin_with_reading<K: Sink>(
     alloc: Global,
     asked: Asked,
-    input: &[u8],
+    read: Result<Script, ScriptRefusal>,
     sink: &mut K,
 ) -> Result<Due, u8>
-    requires { length input.now ≤ 16777216 }
-    ensures due { IfOk result (IsDueOf asked input.now) }
+    requires { WasRead (form_of asked.mode) read }
+    ensures due { (input : List ℕ) → IsReading read (read_as (form_of asked.mode) input)
+        → IfOk result (IsDueOf asked input) }
     ensures script { IfOk result (λ due. IsScript due.script) }
     ensures unwritten { IsOk result → sink.new ≡ sink.old }
-    ensures early { IfErr result (EndsEarly (HasInput NeverRan asked input.now) (K.written sink.old) (K.written sink.new)
+    ensures early { (input : List ℕ) → IsReading read (read_as (form_of asked.mode) input)
+        → IfErr result (EndsEarly (HasInput NeverRan asked input) (K.written sink.old) (K.written sink.new)
         (Rose (K.faults sink.old) (K.faults sink.new))) }
 {
-    match read_script(alloc, input, form_of(asked.mode)) {
-        Ok(script) => begin_with_script(alloc, asked, input, script, sink),
-        Err(ScriptRefusal::Fault { line, cause }) => Err(end_with_fault(
-            alloc, input, sink, line, cause,
-        )),
-        Err(ScriptRefusal::Create(why)) => Err(end_with_refusal(input, sink, why)),
-        Err(ScriptRefusal::NoMemory) => Err(end_with_line(sink, 5, b"bpfmap: memory\n")),
+    match read {
+        Ok(script) => begin_with_script(alloc, asked, script, sink),
+        Err(refusal) => Err(end_without_script(alloc, sink, refusal)),
     }
 }
 
@@ -294,8 +308,8 @@ fn begin_with_source<S: Source, K: Sink>(
         (K.written sink.new)
         (Rose (K.faults sink.old) (K.faults sink.new))) }
 {
-    match read_all(alloc, source) {
-        Ok(input) => begin_with_input(alloc, asked, input.as_slice(), sink),
+    match script_from(alloc, form_of(asked.mode), source) {
+        Ok(read) => begin_with_reading(alloc, asked, read, sink),
         Err(ReadStop::Failed) => Err(end_with_line(sink, 3, b"bpfmap: read\n")),
         Err(ReadStop::TooLong) => Err(end_with_line(sink, 7, b"bpfmap: too long\n")),
         Err(ReadStop::NoMemory) => Err(end_with_line(sink, 5, b"bpfmap: memory\n")),

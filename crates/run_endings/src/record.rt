@@ -7,7 +7,7 @@ use map_report::RunRecord;
 /// How a run of the program ended.
 #[derive(Drop)]
 pub struct Finish<C> {
-    /// The status of the process, as `bpfmap` lists them.
+    /// The status of the process, as `status_of` says (specs/Finish.antt), or 4 where a write failed.
     pub status: u8,
     /// The record of the run, exactly where its report was due: with status 0, and with 4 in the place of it.
     pub kept: Option<RunRecord>,

@@ -1,5 +1,5 @@
 -- What a source of bytes tells of its reads.
-use Rattle.std.specs.Prelude.{◌≡◌, ℕ, ◌+◌, ◌-◌, ◌^◌, ◌<◌, ◌≤◌, ◌↔◌, List, [], ◌++◌, min, Option, Some, None, IfSome, IsSomeAnd, ⊤}
+use Rattle.std.specs.Prelude.{◌≡◌, ℕ, ◌+◌, ◌-◌, ◌^◌, ◌<◌, ◌≤◌, ◌↔◌, List, [], ◌++◌, length, min, Option, Some, None, IfSome, IsSomeAnd, ⊤}
 
 -- A count of faults rose, or it stands at the last value of its counter.
 abbrev pub Rose : ℕ → ℕ → Type 0
@@ -18,3 +18,7 @@ EndsWhereNoneIsLeft left room n = 0 < room → IfSome left (λ bytes. (n ≡ 0) 
 abbrev pub TakesAll : Option (List ℕ) → Option (List ℕ) → List ℕ → Type 0
 TakesAll None now bytes = ⊤
 TakesAll (Some before) now bytes = (before ≡ bytes) × (now ≡ Some [])
+
+-- at most so many bytes were taken from the front of what was left, where the source tells what is left
+abbrev pub TakesUpTo : ℕ → Option (List ℕ) → Option (List ℕ) → Type 0
+TakesUpTo most before now = (bytes : List ℕ) × TakesFront before now bytes × (length bytes ≤ most)

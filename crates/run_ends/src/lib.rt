@@ -9,6 +9,6 @@ mod source;
 
 pub use delivery::deliver;
 pub use in_memory::{MemSink, MemSource};
-pub use reading::{MAX_SCRIPT_BYTES, ReadStop, read_all};
+pub use reading::{MAX_SCRIPT_BYTES, ReadStop, read_all, read_block};
 pub use sink::Sink;
 pub use source::Source;

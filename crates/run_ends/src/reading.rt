@@ -1,7 +1,7 @@
 //! Reads a source to its end.
 
 ghost use Rattle.std.specs.Prelude.{◌≡◌, ◌≤◌, ◌<◌, ◌++◌, List, ℕ, length, vec_len, IfOk, IsErrOf};
-ghost use Rattle.run_ends.specs.SourceReads.{Rose, TakesFront, TakesAll, EndsWhereNoneIsLeft};
+ghost use Rattle.run_ends.specs.SourceReads.{Rose, TakesFront, TakesAll, TakesUpTo, EndsWhereNoneIsLeft};
 
 use crate::Source;
 use std::alloc::{AllocError, Global};
@@ -33,9 +33,10 @@ pub fn read_all<S: Source>(alloc: Global, source: &mut S) -> Result<Vec<u8>, Rea
         → Rose (S.faults source.old) (S.faults source.new) }
     ensures too_long { IsErrOf result ReadStop.TooLong → (bytes : List ℕ)
         × TakesFront (S.left source.old) (S.left source.new) bytes × (length bytes ≡ 16777217) }
+    ensures bounded { TakesUpTo 16777217 (S.left source.old) (S.left source.new) }
     ensures never_falls { S.faults source.old ≤ S.faults source.new }
 {
-    let mut block = zeros(alloc, BLOCK_BYTES).map_err(|_| ReadStop::NoMemory)?;
+    let mut block = read_block(alloc).map_err(|_| ReadStop::NoMemory)?;
     let buffer = block.as_mut_slice();
     let mut bytes = Vec::new(alloc);
     while bytes.len() <= MAX_SCRIPT_BYTES {
@@ -46,6 +47,13 @@ pub fn read_all<S: Source>(alloc: Global, source: &mut S) -> Result<Vec<u8>, Rea
         }
     }
     Err(ReadStop::TooLong)
+}
+
+/// Room for what one read gives, which is 65,536 bytes at most.
+pub fn read_block(alloc: Global) -> Result<Vec<u8>, AllocError>
+    ensures { IfOk result (λ block. vec_len block ≡ 65536) }
+{
+    zeros(alloc, BLOCK_BYTES)
 }
 
 /// So many zeros.
@@ -69,6 +77,7 @@ fn read_more<S: Source>(
     ensures failed { IsErrOf result ReadStop.Failed
         → Rose (S.faults source.old) (S.faults source.new) }
     ensures never_long { IsErrOf result ReadStop.TooLong → ⊥ }
+    ensures bounded { TakesUpTo (length buffer.old) (S.left source.old) (S.left source.new) }
     ensures never_falls { S.faults source.old ≤ S.faults source.new }
 {
     let count = source.read(buffer).map_err(|_| ReadStop::Failed)?;

@@ -9,11 +9,15 @@ pub(crate) struct Left<'a> {
     pub(crate) written: &'a [u8],
     pub(crate) status: u8,
     pub(crate) unread: usize,
+    /// Whether a record is kept.
+    pub(crate) kept: bool,
+    /// How many calls of the source and of the sink failed.
+    pub(crate) faults: u64,
     pub(crate) missed: bool,
 }
 
 /// What a run did that isn't as its row says, where a call of this number failed: the first line that differs, or else the
-/// status, the bytes left unread, or the holds.
+/// status, the bytes left unread, the record that is kept, the calls that failed, or the holds.
 pub(crate) fn fault_of(
     alloc: Global,
     row: &Row,
@@ -35,11 +39,43 @@ pub(crate) fn fault_of(
     {
         return Ok(Some(format!(in alloc; "{got} bytes are unread and not {wanted}")?));
     }
-    match (left.missed, row.missed) {
-        (true, false) => Ok(Some(String::from_str(alloc, "a hold was missed")?)),
-        (false, true) => Ok(Some(String::from_str(alloc, "no hold was missed")?)),
-        _ => Ok(None),
+    let got = left.faults;
+    let wanted = faults_due(status);
+    if got != wanted {
+        return Ok(Some(format!(in alloc; "{got} calls failed and not {wanted}")?));
     }
+    match flaw_of(row, left) {
+        Some(flaw) => Ok(Some(String::from_str(alloc, flaw)?)),
+        None => Ok(None),
+    }
+}
+
+/// How many calls fail in all: the one that gives the status, since none is made after it, or none.
+fn faults_due(status: u8) -> u64 {
+    match status {
+        3 | 4 => 1,
+        _ => 0,
+    }
+}
+
+/// What else isn't as a row says.
+fn flaw_of(row: &Row, left: &Left) -> Option<&'static str> {
+    match (left.kept, is_report(row.report.as_slice())) {
+        (true, false) => return Some("a record is kept"),
+        (false, true) => return Some("no record is kept"),
+        _ => {}
+    }
+    match (left.missed, row.missed) {
+        (true, false) => Some("a hold was missed"),
+        (false, true) => Some("no hold was missed"),
+        _ => None,
+    }
+}
+
+/// Whether a text is a report, and not a line that says why there is none. Of the run of a report a record is kept, also where
+/// writing it fails.
+fn is_report(text: &[u8]) -> bool {
+    !text.starts_with(b"bpfmap: ")
 }
 
 /// What has to be written: the report, or as much of it as the sink takes.

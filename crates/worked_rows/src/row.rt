@@ -25,7 +25,7 @@ impl From<ParseIntError> for RowStop {
     }
 }
 
-/// Which calls of a source or a sink fail, each in a run of its own.
+/// Which calls of a source or a sink fail, each in a run of its own, and with it the one behind it.
 #[derive(Clone, Copy)]
 pub(crate) struct Failing {
     pub(crate) first: u32,

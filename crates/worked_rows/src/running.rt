@@ -45,10 +45,13 @@ fn run<R: Threads + Wait + Sync>(
     let failing = failing_in(alloc, row, call, true)?;
     let mut sink = MemSink::of(alloc, failing, limit, row.room).map_err(|_: NoMemory| AllocError)?;
     let finish = bpfmap(rt, alloc, words.as_slice(), &mut source, &mut sink, &gate);
+    let kept = finish.kept.is_some();
     let left = Left {
         written: sink.written(),
         status: finish.into_status(),
         unread: source.left().len(),
+        kept,
+        faults: source.faults().saturating_add(sink.faults()),
         missed: gate.missed(),
     };
     fault_of(alloc, row, call, &left)
@@ -64,7 +67,7 @@ fn words_of(alloc: Global, line: &str) -> Result<Vec<String>, AllocError> {
     Ok(words)
 }
 
-/// The numbers of the calls that fail, of the source or of the sink.
+/// The numbers of the calls that fail, of the source or of the sink. The one behind would fail too, and be counted.
 fn failing_in(
     alloc: Global,
     row: &Row,
@@ -75,6 +78,7 @@ fn failing_in(
     if let (Some(failing), Some(call)) = (row.failing, call) {
         if failing.of_sink == of_sink {
             numbers.push(call)?;
+            numbers.push(call.saturating_add(1))?;
         }
     }
     Ok(List::of(numbers))

@@ -7,14 +7,14 @@ use Rattle.bucket_walks.proofs.buckets.first_in.Goals as goal
 
 pub give-requires-after_bounds : goal.give-requires-after_bounds
 give-requires-after_bounds g c κs within =
-    let chain = c.enter-chain.result in
+    let chain = c.enter_bucket-chain.result in
     let found = key_where c.copy_first-found.result c.copy_first-found.new.out in
-    let turn = first_turn c.args.table.now.shape c.enter-chain.new.pass.cpu chain.bodies found c.copy_first-found.ensures.first in
-    may_give chain c.enter-chain.ensures.inside (First found) (inl (found, refl)) turn c.first_part-part.result c.first_part-part.ensures
+    let turn = first_turn c.args.table.now.shape c.enter_bucket-chain.new.pass.cpu chain.bodies found c.copy_first-found.ensures.first in
+    may_give chain c.enter_bucket-chain.ensures.inside (First found) (inl (found, refl)) turn c.first_part-part.result c.first_part-part.ensures
 
 pub returns-clause-looks : goal.returns-clause-looks
 returns-clause-looks g c =
-    let chain = c.enter-chain.result in
+    let chain = c.enter_bucket-chain.result in
     let found = key_where c.copy_first-found.result c.copy_first-found.new.out in
-    let turn = first_turn c.args.table.now.shape c.enter-chain.new.pass.cpu chain.bodies found c.copy_first-found.ensures.first in
-    looks chain c.enter-chain.ensures.inside (First found) (inl (found, refl)) turn c.enter-chain.ensures.no_lock c.enter-chain.ensures.took c.first_part-part.result c.first_part-part.ensures c.give.ensures
+    let turn = first_turn c.args.table.now.shape c.enter_bucket-chain.new.pass.cpu chain.bodies found c.copy_first-found.ensures.first in
+    looks chain c.enter_bucket-chain.ensures.inside (First found) (inl (found, refl)) turn c.enter_bucket-chain.ensures.no_lock c.enter_bucket-chain.ensures.took c.first_part-part.result c.first_part-part.ensures c.give.ensures

@@ -1,6 +1,6 @@
-use Rattle.std.proofs.Common.{◌≡◌, map, refl, subst}
+use Rattle.std.proofs.Common.{map, refl, subst}
 use Rattle.std.specs.Prelude.{string_bytes}
-use Rattle.map_run.specs.Copies.{IsCopyOf}
+use Rattle.run_records.specs.Copies.{IsCopyOf}
 use Rattle.map_run.specs.Finish.{RanAs}
 use Rattle.run_endings.specs.Finish.{Finishes, HasCause}
 use Rattle.run_ends.specs.SourceReads.{Rose}

@@ -1,4 +1,4 @@
-use Rattle.map_run.proofs.LoneCalls.{lone_found}
+use Rattle.run_records.proofs.LoneCalls.{lone_found}
 use Rattle.map_run.proofs.phases.lone_cpu.Goals as goal
 
 pub returns-in-len1-up : goal.returns-in-len1-up

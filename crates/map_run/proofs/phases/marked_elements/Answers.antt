@@ -1,5 +1,5 @@
 use Rattle.std.proofs.Common.{arith}
-use Rattle.map_run.proofs.BitsSeen.{saw_none, saw_more}
+use Rattle.run_records.proofs.BitsSeen.{saw_none, saw_more}
 use Rattle.map_run.proofs.phases.marked_elements.Goals as goal
 
 pub loop-element-init : goal.loop-element-init

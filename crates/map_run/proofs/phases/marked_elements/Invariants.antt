@@ -1,4 +1,4 @@
-use Rattle.map_run.specs.Phased.{SawBits}
+use Rattle.run_records.specs.Phased.{SawBits}
 use Rattle.map_run.proofs.phases.marked_elements.Given as goal
 
 -- the bits so far were read

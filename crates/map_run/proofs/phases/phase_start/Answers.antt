@@ -1,6 +1,6 @@
 use Rattle.std.proofs.Common.{refl}
 use Rattle.map_batch.specs.Calls.{table_of}
-use Rattle.map_run.proofs.BitsSeen.{all_still, started}
+use Rattle.run_records.proofs.BitsSeen.{all_still, started}
 use Rattle.map_run.proofs.phases.phase_start.Goals as goal
 
 pub marked_elements-requires-clause-all_cpus : goal.marked_elements-requires-clause-all_cpus

@@ -1,5 +1,5 @@
 use Rattle.std.proofs.Common.{◌≡◌, ◌++◌, drop}
-use Rattle.map_run.specs.Parts.{pieces_by}
+use Rattle.run_records.specs.Parts.{pieces_by}
 use Rattle.map_run.proofs.race.pieces_of.Given as goal
 
 -- the pieces of the CPUs so far

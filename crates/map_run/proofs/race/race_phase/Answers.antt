@@ -1,8 +1,8 @@
 use Rattle.std.proofs.Common.{◌≤◌, ◌-◌, length, take, drop, sym, ap, ◌∙◌, subst, arith}
 use Rattle.map_batch.specs.Calls.{table_of}
-use Rattle.map_run.proofs.BitsSeen.{whole_still}
-use Rattle.map_run.proofs.PhaseParts.{whole_to}
-use Rattle.map_run.proofs.RunEnds.{few_more, in_order}
+use Rattle.run_records.proofs.BitsSeen.{whole_still}
+use Rattle.run_records.proofs.PhaseParts.{whole_to}
+use Rattle.run_records.proofs.RunEnds.{few_more, in_order}
 use Rattle.map_run.proofs.race.race_phase.Goals as goal
 
 pub phase_start-requires : goal.phase_start-requires

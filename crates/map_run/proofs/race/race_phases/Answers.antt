@@ -1,6 +1,6 @@
 use Rattle.std.proofs.Common.{◌≡◌, ◌+◌, suc, length, subst, arith}
 use Rattle.map_batch.specs.Calls.{table_of}
-use Rattle.map_run.specs.Races.{HaveComeTo}
+use Rattle.run_records.specs.Races.{HaveComeTo}
 use Rattle.map_run.proofs.race.race_phases.Goals as goal
 
 pub loop-phase-preserved : goal.loop-phase-preserved

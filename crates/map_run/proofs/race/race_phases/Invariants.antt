@@ -1,5 +1,5 @@
 use Rattle.map_batch.specs.Calls.{table_of}
-use Rattle.map_run.specs.Races.{HaveComeTo}
+use Rattle.run_records.specs.Races.{HaveComeTo}
 use Rattle.map_run.proofs.race.race_phases.Given as goal
 
 -- the phases so far were run

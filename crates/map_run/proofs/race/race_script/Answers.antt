@@ -3,11 +3,11 @@ use Rattle.std.proofs.lemmas.Result.{IfOk-weaker}
 use Rattle.map_report.specs.declared.record.RunRecord.{RunRecord}
 use Rattle.map_report.proofs.CutLemmas.{cuts_rise}
 use Rattle.map_batch.specs.Calls.{table_of}
-use Rattle.map_run.specs.Copies.{IsCopyOf}
-use Rattle.map_run.specs.Races.{IsRaceRecord}
+use Rattle.run_records.specs.Copies.{IsCopyOf}
+use Rattle.run_records.specs.Races.{IsRaceRecord}
 use Rattle.place_words.specs.Phases.{phase_count}
-use Rattle.map_run.proofs.PhaseParts.{whole_to}
-use Rattle.map_run.proofs.RaceRecord.{race_is_record}
+use Rattle.run_records.proofs.PhaseParts.{whole_to}
+use Rattle.run_records.proofs.RaceRecord.{race_is_record}
 use Rattle.map_run.proofs.race.race_script.Goals as goal
 
 pub returns-clause-record : goal.returns-clause-record

@@ -2,8 +2,8 @@ use Rattle.std.proofs.Common.{◌-◌, ◌∷◌, ◌++◌, [], None, ◌∙◌,
 use Rattle.std.proofs.lemmas.List.Elements.{All-nil}
 use Rattle.map_batch.specs.Calls.{table_of}
 use Rattle.serial_laws.specs.Served.{IsServedCall}
-use Rattle.map_run.proofs.LoneCalls.{lone_is}
-use Rattle.map_run.proofs.RunPhases.{kept_span}
+use Rattle.run_records.proofs.LoneCalls.{lone_is}
+use Rattle.run_records.proofs.RunPhases.{kept_span}
 use Rattle.map_run.proofs.race.run_alone.Goals as goal
 
 pub overflow_sub-step_count : goal.overflow_sub-step_count

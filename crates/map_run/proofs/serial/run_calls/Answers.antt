@@ -1,7 +1,7 @@
 use Rattle.std.proofs.Common.{◌+◌, arith}
 use Rattle.map_batch.specs.Calls.{table_of}
 use Rattle.map_run.proofs.AloneRuns.{alone_first, alone_on, alone_all, gone_nowhere, gone_more, whole_on}
-use Rattle.map_run.proofs.RunOn.{from_first, from_more, from_all}
+use Rattle.run_records.proofs.RunOn.{from_first, from_more, from_all}
 use Rattle.map_run.proofs.serial.run_calls.Goals as goal
 
 pub loop-call-init : goal.loop-call-init

@@ -3,10 +3,10 @@ use Rattle.map_types.specs.declared.call.Call.{Call}
 use Rattle.map_types.specs.declared.reply.Reply.{Reply}
 use Rattle.map_batch.specs.Calls.{table_of}
 use Rattle.place_words.specs.AtRest.{IsStart}
-use Rattle.map_run.specs.ByLogs.{RunStart, HaveRunFrom}
-use Rattle.map_run.specs.Phased.{HasGone, IsWhole}
+use Rattle.run_records.specs.ByLogs.{RunStart, HaveRunFrom}
+use Rattle.run_records.specs.Phased.{HasGone, IsWhole}
 use Rattle.serial_laws.specs.Served.{IsServedCall}
-use Rattle.map_run.specs.Work.{HasWorked}
+use Rattle.run_records.specs.Work.{HasWorked}
 use Rattle.map_run.proofs.serial.run_calls.Given as goal
 
 -- the calls so far were run

@@ -1,11 +1,11 @@
 use Rattle.std.proofs.Common.{◌≡◌, ◌≤◌, ◌+◌, ◌-◌, suc, length, take, drop, refl, ap, sym, ◌∙◌, subst, arith}
 use Rattle.map_batch.specs.Calls.{table_of}
 use Rattle.place_words.specs.Phases.{calls_before}
-use Rattle.map_run.specs.SerialPhases.{HaveRunPhases}
-use Rattle.map_run.proofs.RunEnds.{few_more, in_order, phase_on}
-use Rattle.map_run.proofs.RunPhases.{kept_span, phases_first, run_whole}
+use Rattle.run_records.specs.SerialPhases.{HaveRunPhases}
+use Rattle.run_records.proofs.RunEnds.{few_more, in_order, phase_on}
+use Rattle.run_records.proofs.RunPhases.{kept_span, phases_first, run_whole}
 use Rattle.map_run.proofs.serial.run_phases.Goals as goal
-use Rattle.map_run.proofs.BitsSeen.{whole_still}
+use Rattle.run_records.proofs.BitsSeen.{whole_still}
 
 pub loop-phase-init : goal.loop-phase-init
 loop-phase-init g c = record {

@@ -1,7 +1,7 @@
 use Rattle.std.proofs.Common.{◌≡◌, length}
 use Rattle.place_words.specs.Phases.{calls_before}
 use Rattle.map_batch.specs.Calls.{table_of}
-use Rattle.map_run.specs.SerialPhases.{HaveRunPhases}
+use Rattle.run_records.specs.SerialPhases.{HaveRunPhases}
 use Rattle.map_run.proofs.serial.run_phases.Given as goal
 
 -- the phases so far were run

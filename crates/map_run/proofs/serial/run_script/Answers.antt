@@ -3,8 +3,8 @@ use Rattle.std.proofs.lemmas.Result.{IfOk-weaker}
 use Rattle.map_types.specs.Creation.{IsShape}
 use Rattle.map_batch.specs.Calls.{table_of}
 use Rattle.map_report.specs.Runs.{serial}
-use Rattle.map_run.specs.Copies.{IsCopyOf}
-use Rattle.map_run.proofs.RunEnds.{end_by_phases, copy_by_phases}
+use Rattle.run_records.specs.Copies.{IsCopyOf}
+use Rattle.run_records.proofs.RunEnds.{end_by_phases, copy_by_phases}
 use Rattle.map_run.proofs.serial.run_script.Goals as goal
 
 pub returns-clause-record : goal.returns-clause-record

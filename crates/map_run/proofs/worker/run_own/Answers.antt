@@ -1,8 +1,9 @@
 use Rattle.std.proofs.Common.{◌+◌, suc, [], List, rules, arith, sym, subst}
 use Rattle.map_types.specs.declared.reply.Reply.{Reply}
 use Rattle.map_batch.specs.Calls.{table_of}
-use Rattle.map_run.specs.Work.{HasWorked}
-use Rattle.map_run.proofs.Working.{none_worked, works_on, passes_by}
+use Rattle.run_records.specs.Work.{HasWorked}
+use Rattle.run_records.proofs.OwnCalls.{none_worked, passes_by}
+use Rattle.map_run.proofs.Working.{works_on}
 use Rattle.map_run.proofs.worker.run_own.Goals as goal
 
 pub loop-call-init : goal.loop-call-init

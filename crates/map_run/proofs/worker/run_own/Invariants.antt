@@ -1,6 +1,6 @@
 use Rattle.std.proofs.Common.{◌≡◌, ◌+◌, suc, take}
 use Rattle.map_batch.specs.Calls.{table_of}
-use Rattle.map_run.specs.Work.{HasWorked}
+use Rattle.run_records.specs.Work.{HasWorked}
 use Rattle.map_run.proofs.worker.run_own.Given as goal
 
 -- the CPU's calls among those so far were made, by this worker

@@ -1,10 +1,9 @@
-use Rattle.run_endings.specs.Finish.{OutOfMemory, form_of}
-use Rattle.run_endings.proofs.FewEntries.{IsScript-read_as}
+use Rattle.std.proofs.Common.{refl}
+use Rattle.run_endings.specs.Finish.{OutOfMemory}
 use Rattle.run_endings.proofs.finish.begin_with_script.Goals as goal
 
-pub script_due-requires-clause-script : goal.script_due-requires-clause-script
-script_due-requires-clause-script g c =
-    IsScript-read_as (form_of c.args.asked.mode) c.args.input.now c.args.script c.requires.short c.requires.read
+pub returns-in-Ok-clause-due : goal.returns-in-Ok-clause-due
+returns-in-Ok-clause-due g c = λ input is. record { read = c.args.script; is_read = is; asked_is = refl; script_is = c.in-Ok.ensures.exact }
 
 pub returns-in-Err-clause-early : goal.returns-in-Err-clause-early
-returns-in-Err-clause-early g c = record { ending = OutOfMemory; cause = tt; delivered = c.end_with_line.ensures }
+returns-in-Err-clause-early g c = λ input. record { ending = OutOfMemory; cause = tt; none = refl; delivered = c.end_with_line.ensures }

@@ -2,7 +2,7 @@ use Rattle.std.proofs.Common.{List, ℕ, length, subst, sym, ap, arith, length-a
 use Rattle.std.proofs.lemmas.List.{length-take}
 use Rattle.std.proofs.lemmas.Grind.{common_steps}
 use Rattle.run_ends.specs.SourceReads.{TakesFront, TakesAll}
-use Rattle.run_ends.proofs.Io.{TakesFront-append, TakesAll-at_end}
+use Rattle.run_ends.proofs.Io.{TakesFront-append, TakesAll-at_end, TakesUpTo-none, TakesUpTo-more}
 use Rattle.run_ends.proofs.reading.read_all.Goals as goal
 
 pub returns-then-count-eq0-clause-whole : goal.returns-then-count-eq0-clause-whole
@@ -21,3 +21,15 @@ loop-buffer-preserved g c =
       omega (arith, ap length p.3, p.2, length-append {A = ℕ}, length-take {A = ℕ}, c.in_ok-count.ensures.fits, c.read_more.new.bytes.ok.0, c.loop-buffer.bytes.ok.0),
       grind arith,
     )
+
+pub returns-then-count-eq0-clause-bounded : goal.returns-then-count-eq0-clause-bounded
+returns-then-count-eq0-clause-bounded g c = TakesUpTo-more _ _ _ _ _ 16777217 c.loop-buffer.invariant.0 c.read_more.ensures.bounded (grind (arith, common_steps))
+
+pub returns-in_err-count-clause-bounded : goal.returns-in_err-count-clause-bounded
+returns-in_err-count-clause-bounded g c = TakesUpTo-more _ _ _ _ _ 16777217 c.loop-buffer.invariant.0 c.read_more.ensures.bounded (grind (arith, common_steps))
+
+pub returns-in_err-block-clause-bounded : goal.returns-in_err-block-clause-bounded
+returns-in_err-block-clause-bounded g c = TakesUpTo-none (g.S.Source.left c.args.source.now) 16777217
+
+pub returns-clause-bounded : goal.returns-clause-bounded
+returns-clause-bounded g c = (c.loop-buffer.bytes.items, c.loop-buffer.invariant.0, omega (arith, c.loop-buffer.invariant.1, c.loop-buffer.bytes.ok.0))

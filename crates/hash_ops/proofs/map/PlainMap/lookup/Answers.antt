@@ -1,5 +1,4 @@
 use Rattle.std.proofs.Common.{sym, subst}
-use Rattle.map_types.proofs.CreationLemmas.{bounds_of_shape}
 use Rattle.place_table.specs.Calls.{reply_of_value}
 use Rattle.place_table.specs.Passes.{TableView}
 use Rattle.place_table.specs.BucketHeld.{HoldsBucket}
@@ -7,9 +6,6 @@ use Rattle.place_table.specs.BucketTurns.{LooksUp}
 use Rattle.place_table.proofs.BucketUnder.{holds_bucket}
 use Rattle.hash_ops.proofs.Keyed.{looked_up}
 use Rattle.hash_ops.proofs.map.PlainMap.lookup.Goals as goal
-
-pub look_up-requires-clause-bounds : goal.look_up-requires-clause-bounds
-look_up-requires-clause-bounds g c κs within = bounds_of_shape _ c.self.invariant.0
 
 pub look_up-requires-clause-holds : goal.look_up-requires-clause-holds
 look_up-requires-clause-holds g c κs within =

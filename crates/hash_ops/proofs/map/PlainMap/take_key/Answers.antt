@@ -1,19 +1,15 @@
 use Rattle.std.proofs.Common.{ℕ, sym, subst, ◌∙◌, Some, None}
-use Rattle.map_types.proofs.CreationLemmas.{bounds_of_shape}
 use Rattle.map_types.specs.declared.kind.Side.TheVariants.{Sys}
 use Rattle.map_types.specs.Sides.{value_read}
 use Rattle.place_words.specs.declared.bucket_part.BucketPart.TheVariants.{Take}
 use Rattle.place_words.specs.declared.history.Part.TheVariants as parts
 use Rattle.place_table.specs.Passes.{TableView}
 use Rattle.place_table.specs.BucketHeld.{HoldsBucket}
-use Rattle.place_table.specs.BucketTurns.{TookOut, IsWithoutValue, GivenBack}
+use Rattle.place_table.specs.BucketTurns.{HasOut, IsWithoutValue, GivenBack}
 use Rattle.place_table.proofs.BucketUnder.{holds_bucket}
 use Rattle.hash_ops.proofs.Gone.{can_push, without_pushed}
 use Rattle.hash_ops.proofs.Keyed.{take_missed, take_done}
 use Rattle.hash_ops.proofs.map.PlainMap.take_key.Goals as goal
-
-pub take_from-requires-clause-bounds : goal.take_from-requires-clause-bounds
-take_from-requires-clause-bounds g c κs within = bounds_of_shape _ c.self.invariant.0
 
 pub take_from-requires-clause-holds : goal.take_from-requires-clause-holds
 take_from-requires-clause-holds g c κs within =
@@ -22,21 +18,21 @@ take_from-requires-clause-holds g c κs within =
 pub push_out-element-requires-after_bounds : goal.push_out-element-requires-after_bounds
 push_out-element-requires-after_bounds g c κs within =
     let found = c.in-Some.removed in
-    let out = subst (λ (z : TableView). TookOut z c.bucket_of_key-number.result c.enter-chain.new.pass c.take_from.new.pass c.enter-chain.result.bodies c.args.key.now found.body found.chain.bodies) c.self.view_is c.in-Some.ensures.takes.0 in
+    let out = subst (λ (z : TableView). HasOut z c.bucket_of_key-number.result c.enter-chain.new.pass c.take_from.new.pass c.enter-chain.result.bodies c.args.key.now found) c.self.view_is c.in-Some.ensures.takes in
     can_push out
 
 pub give_taken-requires-after_bounds : goal.give_taken-requires-after_bounds
 give_taken-requires-after_bounds g c κs within =
     let found = c.in-Some.removed in
-    let out = subst (λ (z : TableView). TookOut z c.bucket_of_key-number.result c.enter-chain.new.pass c.take_from.new.pass c.enter-chain.result.bodies c.args.key.now found.body found.chain.bodies) c.self.view_is c.in-Some.ensures.takes.0 in
-    let value = c.in-Some.ensures.takes.1 ∙ (λ i. value_read (c.self.view_is i).shape Sys (sym (c.push_out-element.ensures.pushed.reached.goes.cpu ∙ out.goes.cpu) i) found.body.values) in
+    let out = subst (λ (z : TableView). HasOut z c.bucket_of_key-number.result c.enter-chain.new.pass c.take_from.new.pass c.enter-chain.result.bodies c.args.key.now found) c.self.view_is c.in-Some.ensures.takes in
+    let value = c.in-Some.ensures.read ∙ (λ i. value_read (c.self.view_is i).shape Sys (sym (c.push_out-element.ensures.pushed.reached.goes.cpu ∙ out.goes.cpu) i) found.body.values) in
     subst (λ (z : TableView). IsWithoutValue z c.bucket_of_key-number.result c.push_out-element.new.pass c.args.key.now c.push_out-element.result c.take_from.new.out found.chain.bodies) (sym c.self.view_is)
     (found.body, without_pushed out c.push_out-element.ensures.pushed, c.push_out-element.ensures.element, value)
 
 pub returns-in-Some-clause-called : goal.returns-in-Some-clause-called
 returns-in-Some-clause-called g c =
     let found = c.in-Some.removed in
-    let out = subst (λ (z : TableView). TookOut z c.bucket_of_key-number.result c.enter-chain.new.pass c.take_from.new.pass c.enter-chain.result.bodies c.args.key.now found.body found.chain.bodies) c.self.view_is c.in-Some.ensures.takes.0 in
+    let out = subst (λ (z : TableView). HasOut z c.bucket_of_key-number.result c.enter-chain.new.pass c.take_from.new.pass c.enter-chain.result.bodies c.args.key.now found) c.self.view_is c.in-Some.ensures.takes in
     take_done c.requires.can c.enter-chain.ensures c.bucket_of_key-number.ensures.value out c.push_out-element.ensures.pushed
     (subst (λ (x : TableView × ℕ). GivenBack x.0 c.bucket_of_key-number.result c.push_out-element.new.pass c.give_taken.new.pass (parts.Bucket (Take c.args.key.now (Some (x.1, c.take_from.new.out)))) c.push_out-element.new.pass.view.hand) (λ i. (c.self.view_is i, c.push_out-element.ensures.element i)) c.give_taken.ensures)
 

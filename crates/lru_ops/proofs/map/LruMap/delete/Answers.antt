@@ -4,7 +4,7 @@ use Rattle.place_words.specs.declared.bucket_part.BucketPart.TheVariants.{Delete
 use Rattle.place_words.specs.declared.history.Part.TheVariants as parts
 use Rattle.place_table.specs.Passes.{TableView}
 use Rattle.place_table.specs.BucketHeld.{HoldsBucket}
-use Rattle.place_table.specs.BucketTurns.{TookOut, IsWithout, GivenBack}
+use Rattle.place_table.specs.BucketTurns.{HasOut, IsWithout, GivenBack}
 use Rattle.place_table.proofs.BucketUnder.{holds_bucket}
 use Rattle.lru_ops.proofs.Keys.{can_free, delete_missed, delete_done}
 use Rattle.lru_ops.proofs.map.LruMap.delete.Goals as goal
@@ -16,14 +16,14 @@ delete_from-requires-after_bounds g c κs within =
 pub give_deleted-requires-after_bounds : goal.give_deleted-requires-after_bounds
 give_deleted-requires-after_bounds g c κs within =
     let found = c.in-Some.removed in
-    let out = subst (λ (z : TableView). TookOut z c.bucket_of_key-number.result c.enter-chain.new.pass c.delete_from.new.pass c.enter-chain.result.bodies c.args.key.now found.body found.chain.bodies) c.self.view_is c.in-Some.ensures in
+    let out = subst (λ (z : TableView). HasOut z c.bucket_of_key-number.result c.enter-chain.new.pass c.delete_from.new.pass c.enter-chain.result.bodies c.args.key.now found) c.self.view_is c.in-Some.ensures in
     let e_is = c.element-element.ensures ∙ ap (λ (z : Stored). z.element) c.body.ensures in
     subst (λ (z : TableView). IsWithout z c.bucket_of_key-number.result c.delete_from.new.pass c.args.key.now c.element-element.result found.chain.bodies) (sym c.self.view_is) (found.body, out.without, e_is)
 
 pub push_free-requires-after_bounds : goal.push_free-requires-after_bounds
 push_free-requires-after_bounds g c κs within =
     let found = c.in-Some.removed in
-    let out = subst (λ (z : TableView). TookOut z c.bucket_of_key-number.result c.enter-chain.new.pass c.delete_from.new.pass c.enter-chain.result.bodies c.args.key.now found.body found.chain.bodies) c.self.view_is c.in-Some.ensures in
+    let out = subst (λ (z : TableView). HasOut z c.bucket_of_key-number.result c.enter-chain.new.pass c.delete_from.new.pass c.enter-chain.result.bodies c.args.key.now found) c.self.view_is c.in-Some.ensures in
     let e_is = c.element-element.ensures ∙ ap (λ (z : Stored). z.element) c.body.ensures in
     let gave = subst (λ (x : TableView × ℕ). GivenBack x.0 c.bucket_of_key-number.result c.delete_from.new.pass c.give_deleted.new.pass (parts.Bucket (Delete c.args.key.now (Some x.1))) c.delete_from.new.pass.view.hand) (λ i. (c.self.view_is i, e_is i)) c.give_deleted.ensures in
     can_free c.requires.can c.enter-chain.ensures out gave
@@ -31,7 +31,7 @@ push_free-requires-after_bounds g c κs within =
 pub returns-in-Some : goal.returns-in-Some
 returns-in-Some g c =
     let found = c.in-Some.removed in
-    let out = subst (λ (z : TableView). TookOut z c.bucket_of_key-number.result c.enter-chain.new.pass c.delete_from.new.pass c.enter-chain.result.bodies c.args.key.now found.body found.chain.bodies) c.self.view_is c.in-Some.ensures in
+    let out = subst (λ (z : TableView). HasOut z c.bucket_of_key-number.result c.enter-chain.new.pass c.delete_from.new.pass c.enter-chain.result.bodies c.args.key.now found) c.self.view_is c.in-Some.ensures in
     let e_is = c.element-element.ensures ∙ ap (λ (z : Stored). z.element) c.body.ensures in
     let gave = subst (λ (x : TableView × ℕ). GivenBack x.0 c.bucket_of_key-number.result c.delete_from.new.pass c.give_deleted.new.pass (parts.Bucket (Delete c.args.key.now (Some x.1))) c.delete_from.new.pass.view.hand) (λ i. (c.self.view_is i, e_is i)) c.give_deleted.ensures in
     delete_done c.requires.can c.enter-chain.ensures c.bucket_of_key-number.ensures.value out gave c.push_free.ensures

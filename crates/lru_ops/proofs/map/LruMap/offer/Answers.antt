@@ -5,6 +5,9 @@ use Rattle.lru_ops.proofs.map.LruMap.offer.Goals as goal
 pub update_in-answer-requires-clause-holds : goal.update_in-answer-requires-clause-holds
 update_in-answer-requires-clause-holds g c κs within = holds_bucket c.enter-chain.ensures.inside
 
+pub update_in-answer-requires-clause-real : goal.update_in-answer-requires-clause-real
+update_in-answer-requires-clause-real g c κs within = c.requires.can.taken.real
+
 pub free_left-requires : goal.free_left-requires
 free_left-requires g c = (
   c.type_bounds.sync-G,

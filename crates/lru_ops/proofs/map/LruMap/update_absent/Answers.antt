@@ -1,16 +1,15 @@
 use Rattle.std.proofs.Common.{ap, sym, subst, ◌∙◌, Some}
-use Rattle.map_types.proofs.CreationLemmas.{bounds_of_shape}
 use Rattle.map_types.specs.Stored.{Stored}
 use Rattle.place_words.specs.declared.bucket_part.Put.TheVariants as puts
 use Rattle.place_table.specs.Passes.{TableView}
 use Rattle.place_table.specs.BucketHeld.{HoldsBucket}
-use Rattle.place_table.specs.BucketPuts.{AreUpdateArguments, IsOffered, PutsInPlace, Adds}
-use Rattle.lru_ops.proofs.Offering.{offers_absent, offers_added}
+use Rattle.place_table.specs.BucketPuts.{AreUpdateArguments, IsOffered, PutsInPlace, Adds, asked_of, update_call}
 use Rattle.lru_ops.proofs.Ends.{lru_of}
+use Rattle.lru_ops.proofs.Offering.{offers_absent, offers_added}
 use Rattle.lru_ops.proofs.map.LruMap.update_absent.Goals as goal
 
-pub refuse-requires-clause-holds : goal.refuse-requires-clause-holds
-refuse-requires-clause-holds g c κs within =
+pub refuse_update-requires-clause-holds : goal.refuse_update-requires-clause-holds
+refuse_update-requires-clause-holds g c κs within =
     let a = c.args in
     subst (λ (z : TableView). HoldsBucket z a.taken.number a.pass.now a.taken.chain.bodies) (sym c.self.view_is) c.requires.holds
 
@@ -18,31 +17,26 @@ pub returns-then-write-eq-BPF_EXIST-clause-ends : goal.returns-then-write-eq-BPF
 returns-then-write-eq-BPF_EXIST-clause-ends g c =
     let a = c.args in
     let e_is = c.element.ensures ∙ ap (λ (z : Stored). z.element) c.body.ensures in
-    offers_absent (lru_of _ _ c.self.view_is c.self.invariant.1) c.requires.offered e_is
-    (subst (λ (z : TableView). PutsInPlace z a.taken.number a.pass.now c.refuse.new.pass a.write.side a.write.flags a.write.key.now a.write.value.now (Some c.element.result) puts.Absent) c.self.view_is c.refuse.ensures)
+    offers_absent c.requires.real c.requires.offered e_is
+    (subst (λ (z : TableView). PutsInPlace z a.taken.number a.pass.now c.refuse_update.new.pass (asked_of a.write.side a.write.flags a.write.key.now a.write.value.now (Some c.element.result)) puts.Absent) c.self.view_is c.refuse_update.ensures)
 
-pub add-requires-clause-bounds : goal.add-requires-clause-bounds
-add-requires-clause-bounds g c κs within =
-    bounds_of_shape _ c.self.invariant.0
-
-pub add-requires-clause-holds : goal.add-requires-clause-holds
-add-requires-clause-holds g c κs within =
+pub add_key-requires-clause-holds : goal.add_key-requires-clause-holds
+add_key-requires-clause-holds g c κs within =
     let a = c.args in
     subst (λ (z : TableView). HoldsBucket z a.taken.number a.pass.now a.taken.chain.bodies) (sym c.self.view_is) c.requires.holds
 
-pub add-requires-clause-gives : goal.add-requires-clause-gives
-add-requires-clause-gives g c κs within =
+pub add_key-requires-clause-gives : goal.add_key-requires-clause-gives
+add_key-requires-clause-gives g c κs within =
     let a = c.args in
     subst (λ (z : TableView). AreUpdateArguments z a.taken.number a.write.side a.write.key.now a.write.value.now) (sym c.self.view_is) c.requires.gives
 
-pub add-requires-clause-offered : goal.add-requires-clause-offered
-add-requires-clause-offered g c κs within =
+pub add_key-requires-clause-offered : goal.add_key-requires-clause-offered
+add_key-requires-clause-offered g c κs within =
     let a = c.args in
     subst (λ (z : TableView). IsOffered z a.taken.number a.pass.now a.body) (sym c.self.view_is) c.requires.offered
 
 pub returns-clause-ends : goal.returns-clause-ends
 returns-clause-ends g c =
     let a = c.args in
-    let e_is = c.element.ensures ∙ ap (λ (z : Stored). z.element) c.body.ensures in
-    offers_added (lru_of _ _ c.self.view_is c.self.invariant.1) c.requires.offered e_is
-    (subst (λ (z : TableView). Adds z a.taken.number a.pass.now c.add.new.pass a.write.side a.write.flags a.write.key.now a.write.value.now (Some c.element.result) a.body.element) c.self.view_is c.add.ensures)
+    offers_added (lru_of _ _ c.self.view_is c.self.invariant.1)
+    (subst (λ (z : TableView). Adds z a.taken.number a.pass.now c.add_key.new.pass (update_call a.write.side a.write.flags a.write.key.now a.write.value.now) a.body.element) c.self.view_is c.add_key.ensures)

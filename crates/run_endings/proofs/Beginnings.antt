@@ -1,0 +1,78 @@
+-- How a run begins, or ends before its script runs: from what is read to the source, and from the source to the words.
+use Rattle.std.proofs.Common.{◌≡◌, ℕ, List, Option, Result, Ok, Err, subst, arith}
+use Rattle.std.specs.Prelude.{IfErr, IfOk, IsTrue}
+use Rattle.map_script.specs.declared.refusal.ScriptRefusal.{ScriptRefusal}
+use Rattle.map_script.specs.declared.script.Script.{Script}
+use Rattle.map_script.specs.Reading.{IsReading}
+use Rattle.run_ends.specs.SourceReads.{TakesUpTo}
+use Rattle.run_ends.specs.Writes.{Written}
+use Rattle.run_ends.proofs.Io.{TakesFront-all}
+use Rattle.run_words.specs.declared.words.Asked.{Asked}
+use Rattle.run_words.specs.Words.{are_words, asked_of, mode_of, options_of}
+use Rattle.run_endings.specs.declared.finish.Due.{Due}
+use Rattle.run_endings.specs.Finish.{Ending, BadWords, ReadFault, TooLong, Faulty, Refused, OutOfMemory, Ran, HasCause, HasInput, HasSource, IsInput}
+use Rattle.run_endings.specs.Runs.{NeverRan, EndsEarly, IsDue, IsDueOf}
+
+-- What was read, by what was returned of it
+
+module _ (text : Result Script ScriptRefusal) where
+  pub read_so : (read found : Result Script ScriptRefusal) → read ≡ found → IsReading read text → IsReading found text
+  read_so read found is reading = subst (λ (r : Result Script ScriptRefusal). IsReading r text) is reading
+
+  pub refused_so : (refusal found : ScriptRefusal) → refusal ≡ found → IsReading (Err refusal) text → IsReading (Err found) text
+  refused_so refusal found is reading = subst (λ (r : ScriptRefusal). IsReading (Err r) text) is reading
+
+-- From an input to its source
+
+-- an input that isn't too long was read
+pub up_to_input : (before after : Option (List ℕ)) (input : List ℕ) → IsInput before after input → TakesUpTo 16777217 before after
+up_to_input before after input is = (input, TakesFront-all before after input is.all, omega (arith, is.short))
+
+module _ (asked : Asked) (before after : Option (List ℕ)) (rose : Type 0) (input : List ℕ) (is : IsInput before after input) where
+  of_input : (ending : Ending) → HasInput NeverRan asked input ending → HasSource NeverRan asked before after rose ending
+  of_input BadWords cause = absurd cause
+  of_input ReadFault cause = absurd cause
+  of_input TooLong cause = absurd cause
+  of_input (Faulty line why) cause = (input, is, cause)
+  of_input (Refused why) cause = (input, is, cause)
+  of_input OutOfMemory cause = up_to_input before after input is
+  of_input (Ran was_asked script kept) cause = (input, is, cause)
+
+  pub err_by_input : (result : Result Due ℕ) (written now : Option Written) (wrote : Type 0) → IfErr result (EndsEarly (HasInput NeverRan asked input) written now wrote) → IfErr result (EndsEarly (HasSource NeverRan asked before after rose) written now wrote)
+  err_by_input (Ok due) written now wrote early = tt
+  err_by_input (Err status) written now wrote early = record {
+    ending = early.ending;
+    cause = of_input early.ending early.cause;
+    none = early.none;
+    delivered = early.delivered;
+  }
+
+  pub ok_by_input : (result : Result Due ℕ) → IfOk result (IsDueOf asked input) → IfOk result (λ due. (input : List ℕ) × IsInput before after input × IsDueOf asked input due)
+  ok_by_input (Ok due) of = (input, is, of)
+  ok_by_input (Err status) of = tt
+
+-- From a source to the words
+
+pub same_asked : (words : List (List ℕ)) (asked : Asked) → asked.options ≡ options_of words → asked.mode ≡ mode_of words → asked ≡ asked_of words
+same_asked words asked options mode = λ i. record { mode = mode i; options = options i }
+
+module _ (words : List (List ℕ)) (good : IsTrue (are_words words)) (asked : Asked) (is : asked ≡ asked_of words) (before after : Option (List ℕ)) where
+  of_source : (rose : Type 0) (ending : Ending) → HasSource NeverRan (asked_of words) before after rose ending → HasCause NeverRan words before after rose ending
+  of_source rose BadWords cause = absurd cause
+  of_source rose ReadFault cause = (good, cause)
+  of_source rose TooLong cause = (good, cause)
+  of_source rose (Faulty line why) cause = (good, cause)
+  of_source rose (Refused why) cause = (good, cause)
+  of_source rose OutOfMemory cause = cause
+  of_source rose (Ran was_asked script kept) cause = (good, cause)
+
+  pub err_by_source : (rose : Type 0) (result : Result Due ℕ) (written now : Option Written) (wrote : Type 0) → IfErr result (EndsEarly (HasSource NeverRan asked before after rose) written now wrote) → IfErr result (EndsEarly (HasCause NeverRan words before after rose) written now wrote)
+  err_by_source rose (Ok due) written now wrote early = tt
+  err_by_source rose (Err status) written now wrote early =
+      let so : EndsEarly (HasSource NeverRan (asked_of words) before after rose) written now wrote status =
+      subst (λ (a : Asked). EndsEarly (HasSource NeverRan a before after rose) written now wrote status) is early in
+      record { ending = so.ending; cause = of_source rose so.ending so.cause; none = so.none; delivered = so.delivered }
+
+  pub ok_by_source : (result : Result Due ℕ) → IfOk result (λ due. (input : List ℕ) × IsInput before after input × IsDueOf asked input due) → IfOk result (IsDue words before after)
+  ok_by_source (Ok due) of = (good, (of.0, of.1, subst (λ (a : Asked). IsDueOf a of.0 due) is of.2))
+  ok_by_source (Err status) of = tt
