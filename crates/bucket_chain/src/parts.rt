@@ -1,7 +1,6 @@
-//! The entries of a bucket's turns. Each takes memory for its copies of keys and values, and there is none where that isn't
-//! found.
+//! The entries of a bucket's turns. Each takes memory for its copies of keys and values, and only want of it refuses one.
 
-ghost use Rattle.std.specs.Prelude.{◌≡◌, IfOk, IfSome, Some, None};
+ghost use Rattle.std.specs.Prelude.{◌≡◌, IfOk, Some, None};
 ghost use Rattle.place_words.specs.declared.bucket_part.BucketPart.TheVariants as turns;
 ghost use Rattle.place_words.specs.declared.history.Part.TheVariants as parts;
 
@@ -23,11 +22,11 @@ fn bytes_of(alloc: Global, bytes: &[u8]) -> Result<Bytes, NoMemory>
 }
 
 /// The entry of a lookup that found no element.
-pub fn lookup_missed(alloc: Global, side: Side, key: &[u8]) -> Option<Part>
-    ensures { IfSome result (λ part. part ≡ parts.Bucket (turns.Lookup side key.now None)) }
+pub fn lookup_missed(alloc: Global, side: Side, key: &[u8]) -> Result<Part, NoMemory>
+    ensures { IfOk result (λ part. part ≡ parts.Bucket (turns.Lookup side key.now None)) }
 {
-    let key = bytes_of(alloc, key).ok()?;
-    Some(Part::Bucket(BucketPart::Lookup {
+    let key = bytes_of(alloc, key)?;
+    Ok(Part::Bucket(BucketPart::Lookup {
         side,
         key,
         got: None,
@@ -35,13 +34,19 @@ pub fn lookup_missed(alloc: Global, side: Side, key: &[u8]) -> Option<Part>
 }
 
 /// The entry of a lookup that found an element with this value.
-pub fn lookup_got(alloc: Global, side: Side, key: &[u8], element: u32, value: &[u8]) -> Option<Part>
-    ensures { IfSome result (λ part. part
+pub fn lookup_got(
+    alloc: Global,
+    side: Side,
+    key: &[u8],
+    element: u32,
+    value: &[u8],
+) -> Result<Part, NoMemory>
+    ensures { IfOk result (λ part. part
         ≡ parts.Bucket (turns.Lookup side key.now (Some (element, value.now)))) }
 {
-    let key = bytes_of(alloc, key).ok()?;
-    let value = bytes_of(alloc, value).ok()?;
-    Some(Part::Bucket(BucketPart::Lookup {
+    let key = bytes_of(alloc, key)?;
+    let value = bytes_of(alloc, value)?;
+    Ok(Part::Bucket(BucketPart::Lookup {
         side,
         key,
         got: Some((element, value)),
@@ -49,29 +54,29 @@ pub fn lookup_got(alloc: Global, side: Side, key: &[u8], element: u32, value: &[
 }
 
 /// The entry of a delete, and the element that is gone.
-pub fn deleted(alloc: Global, key: &[u8], gone: Option<u32>) -> Option<Part>
-    ensures { IfSome result (λ part. part ≡ parts.Bucket (turns.Delete key.now gone)) }
+pub fn deleted(alloc: Global, key: &[u8], gone: Option<u32>) -> Result<Part, NoMemory>
+    ensures { IfOk result (λ part. part ≡ parts.Bucket (turns.Delete key.now gone)) }
 {
-    let key = bytes_of(alloc, key).ok()?;
-    Some(Part::Bucket(BucketPart::Delete { key, gone }))
+    let key = bytes_of(alloc, key)?;
+    Ok(Part::Bucket(BucketPart::Delete { key, gone }))
 }
 
 /// The entry of a take that found no element.
-pub fn take_missed(alloc: Global, key: &[u8]) -> Option<Part>
-    ensures { IfSome result (λ part. part ≡ parts.Bucket (turns.Take key.now None)) }
+pub fn take_missed(alloc: Global, key: &[u8]) -> Result<Part, NoMemory>
+    ensures { IfOk result (λ part. part ≡ parts.Bucket (turns.Take key.now None)) }
 {
-    let key = bytes_of(alloc, key).ok()?;
-    Some(Part::Bucket(BucketPart::Take { key, gone: None }))
+    let key = bytes_of(alloc, key)?;
+    Ok(Part::Bucket(BucketPart::Take { key, gone: None }))
 }
 
 /// The entry of a take of an element with this value.
-pub fn take_got(alloc: Global, key: &[u8], element: u32, value: &[u8]) -> Option<Part>
-    ensures { IfSome result (λ part. part
+pub fn take_got(alloc: Global, key: &[u8], element: u32, value: &[u8]) -> Result<Part, NoMemory>
+    ensures { IfOk result (λ part. part
         ≡ parts.Bucket (turns.Take key.now (Some (element, value.now)))) }
 {
-    let key = bytes_of(alloc, key).ok()?;
-    let value = bytes_of(alloc, value).ok()?;
-    Some(Part::Bucket(BucketPart::Take {
+    let key = bytes_of(alloc, key)?;
+    let value = bytes_of(alloc, value)?;
+    Ok(Part::Bucket(BucketPart::Take {
         key,
         gone: Some((element, value)),
     }))
@@ -86,13 +91,13 @@ pub fn updated(
     value: &[u8],
     offer: Option<u32>,
     put: Put,
-) -> Option<Part>
-    ensures { IfSome result (λ part. part
+) -> Result<Part, NoMemory>
+    ensures { IfOk result (λ part. part
         ≡ parts.Bucket (turns.Update side flags key.now value.now offer put)) }
 {
-    let key = bytes_of(alloc, key).ok()?;
-    let value = bytes_of(alloc, value).ok()?;
-    Some(Part::Bucket(BucketPart::Update {
+    let key = bytes_of(alloc, key)?;
+    let value = bytes_of(alloc, value)?;
+    Ok(Part::Bucket(BucketPart::Update {
         side,
         flags,
         key,

@@ -18,7 +18,7 @@ use Rattle.place_words.specs.Traces.{IsTrace}
 use Rattle.place_words.specs.Turns.{Turn, TurnAt, bucket_of_key, on_bucket_of, on_lock, turns_of}
 use Rattle.place_words.specs.Walks.{IsNextTrace, IsReadTrace, GoesOn, Walks, buckets_from}
 use Rattle.place_table.specs.declared.view.Turned.{Turned}
-use Rattle.place_table.specs.Calls.{CanCall, Called, spare_element, element_of}
+use Rattle.place_table.specs.Calls.{CanCall, Called, CalledWhole, spare_element, element_of}
 use Rattle.place_table.specs.Known.{Learns, turn_of, turn_at}
 use Rattle.place_table.specs.Passes.{PassView, TableView, spare_of}
 use Rattle.place_table.proofs.TakeToGive.{stays_idle}
@@ -38,7 +38,7 @@ pub can_walk : {t : TableView} {p : PassView} → CanCall t p → CanWalk t p
 can_walk can = record { of_table = can.of_table; begun = can.begun; no_lock = can.in_no_call.holds_nothing }
 
 -- a call whose turns are a trace of it
-pub called_looked : {t : TableView} {p s : PassView} {steps told : List Turned} {lost : List ℕ} (verb : Verb) (reply : Reply) → CanCall t p → Looked t p s steps told lost → IsTrace t.shape p.cpu (spare_element p) verb (map (turn_at t.shape) told) reply
+abbrev pub called_looked : {t : TableView} {p s : PassView} {steps told : List Turned} {lost : List ℕ} (verb : Verb) (reply : Reply) → CanCall t p → Looked t p s steps told lost → IsTrace t.shape p.cpu (spare_element p) verb (map (turn_at t.shape) told) reply
     → Called t p s verb reply
 called_looked {t} {p} {s} {steps} {told} {lost} verb reply can looked trace =
     let goes = looked.went.made.goes in
@@ -114,8 +114,8 @@ walks_read shape cpu remove count start flags turns reply to_read trace =
 
 module _ {t : TableView} {p : PassView} (remove : Bool) (count : ℕ) (start : Option ℕ) (flags : ℕ) (can : CanCall t p) where
   -- no lock was taken
-  called_none : (reply : Reply) → IsReadTrace t.shape p.cpu remove count start flags [] reply → Called t p p (verbs.BatchRead remove count start flags) reply
-  called_none reply trace = called_looked (verbs.BatchRead remove count start flags) reply can (looked_nowhere t p) trace
+  called_none : (reply : Reply) → IsReadTrace t.shape p.cpu remove count start flags [] reply → CalledWhole t p p (verbs.BatchRead remove count start flags) reply
+  called_none reply trace = (called_looked (verbs.BatchRead remove count start flags) reply can (looked_nowhere t p) trace, refl)
 
   -- a batch read that makes no walk
   pub none_to_read : flags ≡ 0 → count ≡ 0 → Answers t p p (verbs.BatchRead remove count start flags) (Ok outs.Idle)

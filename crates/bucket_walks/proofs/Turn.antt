@@ -23,18 +23,19 @@ use Rattle.place_table.specs.declared.view.Hold.{Hold}
 use Rattle.place_table.specs.declared.view.Notes.{Notes}
 use Rattle.place_table.specs.declared.view.Turned.{Turned}
 use Rattle.place_words.specs.declared.step.Lists.{Lists}
-use Rattle.place_table.specs.Calls.{CouldBe, IsTold}
+use Rattle.place_table.specs.Calls.{CouldBe, IsTold, TellsTurn}
 use Rattle.place_table.specs.Contents.{content_told, FitsLock}
 use Rattle.place_table.specs.Flushes.{flushes}
 use Rattle.place_table.specs.InBucket.{InBucket}
 use Rattle.place_table.specs.Known.{IsBy, Learns}
 use Rattle.place_table.specs.Passes.{PassView, TableView, TookLock, CanGive, GaveBack, MayGiveBack, Goes, with_view, entry_of, ready, TookTicket}
-use Rattle.place_table.specs.TurnNotes.{NotesFit, WasRead, ProbeFits, CameToHand}
+use Rattle.place_table.specs.TurnNotes.{NotesFit, WasRead, ProbeFits, CameToHand, clears_noted}
 use Rattle.place_table.specs.Views.{known_log, given, with_lost, no_notes, notes_below, holds_below, ticket_of}
 use Rattle.place_table.proofs.BucketBodies.{rows_taken}
 use Rattle.place_table.proofs.Entries.{append_nil}
 use Rattle.place_table.proofs.Ranges.{bucket_there}
 use Rattle.place_table.proofs.TakeToGive.{none_passed}
+use Rattle.place_table.proofs.Telling.{tells_turn}
 use Rattle.place_table.proofs.Going.{goes_on, goes_took, goes_gave, goes_gave_some, given_turn, same_head, learns_after, learns_took, learns_gave}
 use Rattle.place_table.proofs.StoredHashes.{none_stored}
 use Rattle.place_table.proofs.TurnClears.{same_clears}
@@ -88,7 +89,7 @@ module _ {t : TableView} {bucket : ℕ} {q : PassView} (chain : BodyList) (b : I
           allowed = subst (Allows t.shape q.cpu (parts.Bucket part)) found turn.allowed;
           same_free = λ e. ap (times e) (sym (ap (λ (l : Lists). l.free) b.now));
           same_rows = λ e. ap (times e) (append_nil (numbers chain.bodies)) ∙ rows_taken b e;
-          rows_kept = λ _ j e h n other _ _ _ is_row. absurd (none_stored t.shape (Bucket bucket) (contents.Bucket chain) e n tt b.sized is_row);
+          rows_kept = λ _ j e h n other _ _ _ _ is_row. absurd (none_stored t.shape (Bucket bucket) (contents.Bucket chain) e n tt b.sized is_row);
           gone = λ _ c e h is_local _ _. absurd (not_local bucket c (sym named ∙ is_local));
         };
         notes_fit = none_noted t.shape q.view b.hold part is;
@@ -97,6 +98,10 @@ module _ {t : TableView} {bucket : ℕ} {q : PassView} (chain : BodyList) (b : I
   pub may_give : (found : Option Part) → IfSome found (λ x. x ≡ parts.Bucket part) → MayGiveBack t (Bucket bucket) q (contents.Bucket chain) found
   may_give None same = (parts.Bucket part, can_give)
   may_give (Some x) same = subst (CanGive t (Bucket bucket) q (contents.Bucket chain)) (sym same) can_give
+
+  -- what is told of it is so
+  tells : (n : ℕ) (hold : Hold) (other : Part) → hold ≡ can_give.hold → TellsTurn t.shape (given_turn q n hold other) (parts.Bucket part)
+  tells n hold other same = tells_turn can_give n hold other same (clears_noted can_give.notes) refl
 
   -- two parts that could be given at once: the turn of the one could be that of the other
   could_be : (n : ℕ) (stands : Part) (other : CanGive t (Bucket bucket) q (contents.Bucket chain) stands) → CouldBe t.shape (given_turn q n other.hold stands) (given_turn q n can_give.hold (parts.Bucket part))
@@ -108,6 +113,7 @@ module _ {t : TableView} {bucket : ℕ} {q : PassView} (chain : BodyList) (b : I
         earlier = ap (λ (h : Hold). h.log) same;
         cpu = refl;
         call = refl;
+        moment = refl;
         allowed = subst (λ (h : Hold). Allows t.shape q.cpu (parts.Bucket part) (content t.shape (lock_named t.shape h.lock) h.log)) same can_give.may_put.allowed;
         same_marks = sym can_give.notes_fit.marks_are ∙ (ap (λ (n : Notes). n.marks) notes ∙ other.notes_fit.marks_are);
         same_clears = same_clears t.shape q.view q.view can_give.hold other.hold (parts.Bucket part) stands other.notes (subst (NotesFit t.shape q.view can_give.hold (parts.Bucket part)) notes can_give.notes_fit) other.notes_fit;
@@ -137,7 +143,7 @@ module _ {t : TableView} {bucket : ℕ} {q : PassView} (chain : BodyList) (b : I
                 goes = subst (Goes p s (step ∷ [])) (append_nil lost) (goes_on p q s [] (step ∷ []) [] lost (goes_took t (Bucket bucket) p q (contents.Bucket chain) took) goes);
                 held = ap (λ (z : PassView). z.view.held) s_is ∙ (ap holds_below b.held ∙ sym none_held);
                 notes = ap (λ (z : PassView). z.view.notes) s_is
-                    ∙ (none_passed t (Bucket bucket) q (contents.Bucket chain) stands (notes_below q.view.notes) (not_global bucket) can (ap (λ (z : Notes). z.owners) (same_head (sym can.notes_are ∙ b.notes)))
+                    ∙ (none_passed t (Bucket bucket) q (contents.Bucket chain) stands (not_global bucket) can (ap (λ (z : Notes). z.owners) (same_head (sym can.notes_are ∙ b.notes)))
                     ∙ ap (λ (z : PassView). notes_below z.view.notes) took.after_is);
               };
               spares = ap (λ (z : PassView). z.spares) s_is ∙ ap (λ (z : PassView). z.spares) took.after_is;
@@ -157,9 +163,11 @@ module _ {t : TableView} {bucket : ℕ} {q : PassView} (chain : BodyList) (b : I
     -- whether memory for the entry was found or not
     pub looks : (found : Option Part) → IfSome found (λ x. x ≡ parts.Bucket part) → GaveBack t (Bucket bucket) q s (contents.Bucket chain) found → LooksInto t bucket p s part
     looks None same gave =
-        looks_by gave.part (gave.can.hold.lock ∷ []) (ticket_of (ready q.view gave.took)) gave.took gave.at q.view.kept gave.can (goes_gave_some t (Bucket bucket) q s (contents.Bucket chain) gave) gave.after_is
-        (inr (among_first gave.can.hold.lock [], could_be (ticket_of (ready q.view gave.took)) gave.part gave.can))
+        looks_by gave.part (gave.can.hold.lock ∷ []) (ticket_of (ready q.view gave.took)) gave.took gave.at q.view.kept gave.can (goes_gave_some t (Bucket bucket) q s (contents.Bucket chain) gave) gave.after_is (
+          inr (among_first gave.can.hold.lock [], could_be (ticket_of (ready q.view gave.took)) gave.part gave.can),
+          tells (ticket_of (ready q.view gave.took)) gave.can.hold gave.part (same_head (sym gave.can.innermost ∙ can_give.innermost)),
+        )
     looks (Some x) same gave =
         let hold_is : gave.hold ≡ can_give.hold = same_head (sym gave.innermost ∙ can_give.innermost) in
         let recorded : Goes q s (given_turn q gave.ticket can_give.hold (parts.Bucket part) ∷ []) [] = subst (λ (z : Hold × Part). Goes q s (given_turn q gave.ticket z.0 z.1 ∷ []) []) (λ i. (hold_is i, same i)) (goes_gave q s x gave) in
-        looks_by (parts.Bucket part) [] gave.ticket gave.took gave.at gave.kept can_give recorded (gave.after_is ∙ (λ i. with_view q (given gave.at (hold_is i) (entry_of q gave.ticket (same i)) gave.kept (ready q.view gave.took)))) (inl refl)
+        looks_by (parts.Bucket part) [] gave.ticket gave.took gave.at gave.kept can_give recorded (gave.after_is ∙ (λ i. with_view q (given gave.at (hold_is i) (entry_of q gave.ticket (same i)) gave.kept (ready q.view gave.took)))) (inl refl, tells gave.ticket can_give.hold (parts.Bucket part) refl)

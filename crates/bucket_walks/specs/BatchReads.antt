@@ -14,7 +14,7 @@ use Rattle.place_words.specs.declared.bucket_part.Walked.TheVariants.{Over, Take
 use Rattle.place_words.specs.Buckets.{as_read}
 use Rattle.place_words.specs.Walks.{Walks, buckets_from, pair_of, stopped_at}
 use Rattle.place_table.specs.declared.view.Turned.{Turned}
-use Rattle.place_table.specs.Calls.{Called}
+use Rattle.place_table.specs.Calls.{Called, CalledWhole}
 use Rattle.place_table.specs.Known.{turn_at}
 use Rattle.place_table.specs.Passes.{PassView, TableView}
 use Rattle.bucket_walks.specs.declared.read.BatchOut.{BatchOut}
@@ -75,13 +75,13 @@ pub record ReadsOn (t : TableView) (from : ℕ) (before after : PassView) (limit
   pub looked : Looked t before after steps told lost
   pub trace : Walks t.shape before.cpu false limit (buckets_from t.shape from) [] (map (turn_at t.shape) told) (Batch (stop_of t.shape next pairs) pairs next)
 
--- A batch read made a trace of it, with the reply that goes with its answer. One that makes no walk changed nothing, and where memory
--- wasn't found nothing was done.
+-- A batch read made a trace of it, with the reply that goes with its answer. One that makes no walk changed nothing and gave no lock
+-- back, and where memory wasn't found nothing was done.
 abbrev pub Answers : TableView → PassView → PassView → Verb → Result BatchOut BatchRefusal → Type 0
-Answers t before after verb (Ok Idle) = (after ≡ before) × Called t before after verb Done
+Answers t before after verb (Ok Idle) = (after ≡ before) × CalledWhole t before after verb Done
 Answers t before after verb (Ok (Read stop taken next)) = Called t before after verb (Batch stop taken next)
-Answers t before after verb (Err refusals.Einval) = (after ≡ before) × Called t before after verb (Refused Einval)
-Answers t before after verb (Err refusals.Past) = (after ≡ before) × Called t before after verb (Refused Enoent)
+Answers t before after verb (Err refusals.Einval) = (after ≡ before) × CalledWhole t before after verb (Refused Einval)
+Answers t before after verb (Err refusals.Past) = (after ≡ before) × CalledWhole t before after verb (Refused Enoent)
 Answers t before after verb (Err refusals.NoMemory) = after ≡ before
 
 -- a walk was to be made

@@ -38,7 +38,7 @@ pub(crate) fn first_in<R: Wait, G: Gate>(
         pass,
         DomainId::Bucket(bucket),
         Content::Bucket(chain),
-        part,
+        part.ok(),
         gate,
     );
     found
@@ -74,7 +74,7 @@ pub(crate) fn next_in<R: Wait, G: Gate>(
         pass,
         DomainId::Bucket(from.bucket),
         Content::Bucket(chain),
-        part,
+        part.ok(),
         gate,
     );
     after

@@ -1,7 +1,7 @@
-//! The entries of the turns of buckets. Each takes memory for its copies of keys, and there is none where that isn't
-//! found. That of an empty bucket has no key to copy.
+//! The entries of the turns of buckets. Each takes memory for its copies of keys, and only want of it refuses one. That of an
+//! empty bucket has no key to copy.
 
-ghost use Rattle.std.specs.Prelude.{◌≡◌, ◌<◌, ◌∷◌, [], false, All, IfOk, IfSome};
+ghost use Rattle.std.specs.Prelude.{◌≡◌, ◌<◌, ◌∷◌, [], false, All, IfOk};
 ghost use Rattle.map_types.specs.Creation.{IsShape};
 ghost use Rattle.map_types.specs.declared.kind.Side.TheVariants.{Sys};
 ghost use Rattle.map_types.specs.Shape.{HasBounds};
@@ -38,25 +38,30 @@ fn bytes_of(alloc: Global, bytes: &[u8]) -> Result<Bytes, NoMemory>
 }
 
 /// The entry of a look at the head of a bucket, which has this key where there is one.
-pub(crate) fn first_part(alloc: Global, found: bool, key: &[u8]) -> Option<Part>
-    ensures { IfSome result (λ part. part ≡ parts.Bucket (turns.First (key_where found key.now))) }
+pub(crate) fn first_part(alloc: Global, found: bool, key: &[u8]) -> Result<Part, NoMemory>
+    ensures { IfOk result (λ part. part ≡ parts.Bucket (turns.First (key_where found key.now))) }
 {
     if found {
-        let key = bytes_of(alloc, key).ok()?;
-        Some(Part::Bucket(BucketPart::First { key: Some(key) }))
+        let key = bytes_of(alloc, key)?;
+        Ok(Part::Bucket(BucketPart::First { key: Some(key) }))
     } else {
-        Some(Part::Bucket(BucketPart::First { key: None }))
+        Ok(Part::Bucket(BucketPart::First { key: None }))
     }
 }
 
 /// The entry of a look at what follows a key.
-pub(crate) fn next_part(alloc: Global, key: &[u8], after: After, next: &[u8]) -> Option<Part>
-    ensures { IfSome result (λ part. part
+pub(crate) fn next_part(
+    alloc: Global,
+    key: &[u8],
+    after: After,
+    next: &[u8],
+) -> Result<Part, NoMemory>
+    ensures { IfOk result (λ part. part
         ≡ parts.Bucket (turns.Next key.now (found_after after next.now))) }
 {
-    let key = bytes_of(alloc, key).ok()?;
-    let found = next_found(alloc, after, next).ok()?;
-    Some(Part::Bucket(BucketPart::Next { key, found }))
+    let key = bytes_of(alloc, key)?;
+    let found = next_found(alloc, after, next)?;
+    Ok(Part::Bucket(BucketPart::Next { key, found }))
 }
 
 /// What follows a key, with a copy of the key that does.
@@ -78,16 +83,16 @@ pub fn walk_part(
     cpu: u32,
     room: u32,
     chain: &Chain,
-) -> Option<Part>
+) -> Result<Part, NoMemory>
     requires shape { IsShape shape.now }
     requires bounds { HasBounds shape.now }
     requires cpu { cpu < shape.now.cpus }
     requires sized { All (IsSized shape.now) chain.now.bodies }
-    ensures { IfSome result (λ part. part
+    ensures { IfOk result (λ part. part
         ≡ parts.Bucket (turns.Walk remove room (walked_by shape.now cpu room chain.now.bodies))) }
 {
-    let result = walked(alloc, shape, cpu, room, chain).ok()?;
-    Some(Part::Bucket(BucketPart::Walk {
+    let result = walked(alloc, shape, cpu, room, chain)?;
+    Ok(Part::Bucket(BucketPart::Walk {
         remove,
         room,
         result,

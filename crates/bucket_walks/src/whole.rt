@@ -42,7 +42,7 @@ pub(crate) fn read_in<R: Wait, G: Gate>(
         pass,
         DomainId::Bucket(bucket),
         Content::Bucket(chain),
-        part,
+        part.ok(),
         gate,
     );
     whole

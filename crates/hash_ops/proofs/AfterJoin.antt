@@ -91,20 +91,20 @@ last_told shape lost (step ∷ steps) (one ∷ inner) x are =
 -- it is of the same lock, allowed where the turn that was made stands, and leaves the same
 told_lock : (shape : Shape) (lost : List ℕ) (step x : Turned) → IsTold shape lost step x → x.lock ≡ step.lock
 told_lock shape lost step x is =
-    ⊎_elim (λ (same : x ≡ step). ap (λ (z : Turned). z.lock) same) (λ (could : (is_among step.lock lost ≡ true) × CouldBe shape step x). could.1.lock) is
+    ⊎_elim (λ (same : x ≡ step). ap (λ (z : Turned). z.lock) same) (λ (could : (is_among step.lock lost ≡ true) × CouldBe shape step x). could.1.lock) is.0
 
 pub told_allowed : (shape : Shape) (lost : List ℕ) (step x : Turned) → IsTold shape lost step x → IsAllowedAt shape step → Allows shape x.entry.cpu x.entry.part (content shape (lock_named shape step.lock) step.earlier)
 told_allowed shape lost step x is allowed =
     ⊎_elim
     (λ (same : x ≡ step). subst (λ (z : Turned). Allows shape z.entry.cpu z.entry.part (content shape (lock_named shape step.lock) step.earlier)) (sym same) allowed.allowed)
-    (λ (could : (is_among step.lock lost ≡ true) × CouldBe shape step x). could.1.allowed) is
+    (λ (could : (is_among step.lock lost ≡ true) × CouldBe shape step x). could.1.allowed) is.0
 
 told_leaves : (shape : Shape) (lost : List ℕ) (step x : Turned) → IsTold shape lost step x
     → content_after shape step.entry.cpu step.entry.part (content shape (lock_named shape step.lock) step.earlier) ≡ content_after shape x.entry.cpu x.entry.part (content shape (lock_named shape step.lock) step.earlier)
 told_leaves shape lost step x is =
     ⊎_elim
     (λ (same : x ≡ step). ap (λ (z : Turned). content_after shape z.entry.cpu z.entry.part (content shape (lock_named shape step.lock) step.earlier)) (sym same))
-    (λ (could : (is_among step.lock lost ≡ true) × CouldBe shape step x). sym could.1.leaves) is
+    (λ (could : (is_among step.lock lost ≡ true) × CouldBe shape step x). sym could.1.leaves) is.0
 
 lock_is : (shape : Shape) (step : Turned) (turn : Turn) → turn_of shape step ≡ turn → step.lock ≡ lock_number shape turn.lock
 lock_is shape step turn is = sym (number_of_named shape step.lock) ∙ ap (λ (z : Turn). lock_number shape z.lock) is

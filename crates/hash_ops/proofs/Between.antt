@@ -36,6 +36,7 @@ use Rattle.place_table.specs.declared.bucket_takes.TakenOut.{TakenOut}
 use Rattle.place_table.specs.BucketPuts.{AreUpdateArguments, PutsInPlace, UpdateCall, asked_of, put_part, update_part, with_offer}
 use Rattle.place_table.specs.BucketTurns.{GivenBack, HasOut}
 use Rattle.place_table.proofs.Ranges.{bucket_there}
+use Rattle.place_table.proofs.TurnsOn.{told_append}
 use Rattle.hash_ops.specs.Calls.{spare_element, element_of, AreTold}
 use Rattle.hash_ops.specs.Free.{CanReach, Reached}
 use Rattle.hash_ops.specs.Under.{HasItsSpares, LeftBucket, AnsweredAt}
@@ -112,6 +113,7 @@ pub record Between (t : TableView) (q r : PassView) (inner : List Turned) : Type
   pub carried : r.view.carried ≡ q.view.carried
   pub by_call : All (IsBy q.cpu q.call) inner
   pub learns : Learns t.shape q.view r.view inner []
+  pub told : AreTold t.shape [] inner inner
 
 pub between_nothing : (t : TableView) (q : PassView) → Between t q q []
 between_nothing t q = record {
@@ -121,6 +123,7 @@ between_nothing t q = record {
   carried = refl;
   by_call = All-nil (IsBy q.cpu q.call);
   learns = learns_none t.shape q.view;
+  told = tt;
 }
 
 pub between_reached : {t : TableView} {q r : PassView} {steps : List Turned} → Reached t q r steps → Between t q r steps
@@ -131,6 +134,7 @@ between_reached reached = record {
   carried = reached.carried;
   by_call = reached.by_call;
   learns = reached.learns;
+  told = reached.told;
 }
 
 pub between_out : {t : TableView} {bucket : ℕ} {q r : PassView} {bodies : List Stored} {key : List ℕ} {found : TakenOut} → HasOut t bucket q r bodies key found → Between t q r []
@@ -141,6 +145,7 @@ between_out {t} {bucket} {q} out = record {
   carried = out.carried;
   by_call = All-nil (IsBy q.cpu q.call);
   learns = out.learns;
+  told = tt;
 }
 
 pub between_spared : {t : TableView} {q r : PassView} → r ≡ with_spares q r.spares → Between t q r []
@@ -151,6 +156,7 @@ between_spared {t} {q} {r} is = subst (λ (z : PassView). Between t q z []) (sym
   carried = refl;
   by_call = All-nil (IsBy q.cpu q.call);
   learns = learns_none t.shape q.view;
+  told = tt;
 }
 
 pub between_on : {t : TableView} {q r s : PassView} {first second : List Turned} → Between t q r first → Between t r s second → Between t q s (first ++ second)
@@ -161,6 +167,7 @@ between_on {t} {q} {r} {s} {first} {second} a b = record {
   carried = b.carried ∙ a.carried;
   by_call = All-append (IsBy q.cpu q.call) first second a.by_call (subst (λ (z : ℕ × ℕ). All (IsBy z.0 z.1) second) (λ i. (a.goes.cpu i, a.goes.call i)) b.by_call);
   learns = learns_on t.shape q.view r.view s.view first second [] [] a.learns b.learns;
+  told = told_append t.shape [] first second first second a.told b.told;
 }
 
 -- Once it is given back
@@ -181,7 +188,7 @@ module _ {t : TableView} {bucket : ℕ} {q r s : PassView} {inner : List Turned}
 
   -- as they are told
   pub whole_told : AreTold t.shape g.lost (inner ++ g.step ∷ []) (inner ++ g.told ∷ [])
-  whole_told = told_more t.shape g.lost inner g.step g.told g.is_told
+  whole_told = told_more t.shape g.lost inner g.step g.told b.told g.is_told
 
   pub whole_turns : (turns : List Turn) → map (turn_of t.shape) inner ≡ turns → map (turn_of t.shape) (inner ++ g.told ∷ []) ≡ turns ++ on_lock (Bucket bucket) part ∷ []
   whole_turns turns turns_are = map-append (turn_of t.shape) inner (g.told ∷ []) ∙ (λ i. turns_are i ++ g.turn i ∷ [])

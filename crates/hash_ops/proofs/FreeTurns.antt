@@ -1,5 +1,5 @@
 -- A turn of a freelist, and what is left of a pass after some.
-use Rattle.std.proofs.Common.{◌≡◌, ℕ, ◌<◌, Bool, true, false, List, [], ◌∷◌, ◌++◌, sym, refl, ap, ◌∙◌, subst, arith, Some}
+use Rattle.std.proofs.Common.{inl, ◌≡◌, ℕ, ◌<◌, Bool, true, false, List, [], ◌∷◌, ◌++◌, sym, refl, ap, ◌∙◌, subst, arith, Some}
 use Rattle.std.specs.Prelude.{IsTrue, All, nat_lt, not, reverse, ◌&&◌}
 use Rattle.std.proofs.lemmas.List.Elements.{All-nil, All-cons, All-head, All-tail, All-append}
 use Rattle.map_types.specs.declared.attr.Shape.{Shape}
@@ -11,7 +11,9 @@ use Rattle.cpu_freelist.specs.Stack.{FreelistView}
 use Rattle.place_words.specs.declared.free_part.FreePart.{FreePart}
 use Rattle.place_words.specs.declared.history.Part.{Part}
 use Rattle.place_words.specs.declared.history.Part.TheVariants as parts
+use Rattle.place_words.specs.declared.visits.Visit.{Visit}
 use Rattle.place_words.specs.Bodies.{numbers}
+use Rattle.place_words.specs.Histories.{bits_cleared}
 use Rattle.place_words.specs.Locks.{is_lock, lock_named, lock_number, rank_of}
 use Rattle.place_words.specs.Traces.{on_freelist_of}
 use Rattle.place_words.proofs.LockLemmas.{named_by_number}
@@ -27,11 +29,13 @@ use Rattle.place_table.specs.Flushes.{flushes}
 use Rattle.place_table.specs.Known.{Learns}
 use Rattle.place_table.specs.Passes.{PassView, TableView, IsPassOf, CanTake, TookLock, CanGive, Gave, Goes}
 use Rattle.place_table.specs.Rules.{IsAboveAll}
-use Rattle.place_table.specs.TurnNotes.{NotesFit, WasRead, ProbeFits, CameToHand, clears_among}
+use Rattle.place_table.specs.TurnNotes.{NotesFit, WasRead, ProbeFits, CameToHand, clears_among, clears_noted}
 use Rattle.place_table.specs.Views.{no_notes, hold_at}
 use Rattle.place_table.proofs.TakeToGive.{taken_of_table, none_passed}
 use Rattle.place_table.proofs.Going.{same_head, AreElsewhere, given_turn, goes_on, goes_nowhere, goes_of_table, goes_begun, learns_on, learns_none}
 use Rattle.place_table.proofs.Leaves.{passes_below}
+use Rattle.place_table.proofs.Telling.{tells_turn}
+use Rattle.place_table.proofs.TurnsOn.{told_append}
 use Rattle.place_table.proofs.Worlds.{hold_at_first}
 use Rattle.hash_ops.specs.Calls.{turn_of, IsBy}
 use Rattle.hash_ops.specs.Free.{CanReach, AreOnFreelists, Reached}
@@ -94,10 +98,10 @@ abbrev IsOnFreelist : Shape → Turned → Type 0
 IsOnFreelist shape step = (c : ℕ) × (c < shape.cpus) × (step.lock ≡ lock_number shape (Freelist c))
 
 -- the turn of a freelist, with what changes in hand, leaves a pass that has reached it
-pub reached_once : (t : TableView) (cpu : ℕ) (p q r s : PassView) (here back : Content) (part : Part) (now : Lists) (notes : Notes) (took : TookLock t (Freelist cpu) p q here) → IsQuiet notes → cpu < t.shape.cpus → Goes q r [] [] → r.spares ≡ q.spares → r.view.bits ≡ q.view.bits → r.view.carried ≡ q.view.carried → Learns t.shape q.view r.view [] []
+pub reached_once : (t : TableView) (cpu : ℕ) (p q r s : PassView) (here back : Content) (part : Part) (now : Lists) (notes : Notes) (took : TookLock t (Freelist cpu) p q here) → IsQuiet notes → bits_cleared part ≡ [] → cpu < t.shape.cpus → Goes q r [] [] → r.spares ≡ q.spares → r.view.bits ≡ q.view.bits → r.view.carried ≡ q.view.carried → Learns t.shape q.view r.view [] []
     → IsUnder p r took.hold now notes → CanGive t (Freelist cpu) r back part → (gave : Gave r s part) → Reached t p s (given_turn r gave.ticket gave.hold part ∷ [])
-reached_once t cpu p q r s here back part now notes took quiet within goes spares bits carried learns under can gave =
-    let made = turn_made t (Freelist cpu) p q r s here [] [] part now notes took goes under (λ below. none_passed t (Freelist cpu) r back part below (λ is. cc) can (ap (λ (z : Notes). z.owners) (same_head (sym can.notes_are ∙ under.notes_are)) ∙ quiet.owners)) gave in
+reached_once t cpu p q r s here back part now notes took quiet none_told within goes spares bits carried learns under can gave =
+    let made = turn_made t (Freelist cpu) p q r s here [] [] part now notes took goes under (none_passed t (Freelist cpu) r back part (λ is. cc) can (ap (λ (z : Notes). z.owners) (same_head (sym can.notes_are ∙ under.notes_are)) ∙ quiet.owners)) gave in
     let same_cpu : r.cpu ≡ p.cpu = goes.cpu ∙ ap (λ (z : PassView). z.cpu) took.after_is in
     let same_call : r.call ≡ p.call = goes.call ∙ ap (λ (z : PassView). z.call) took.after_is in
     let lock_is : gave.hold.lock ≡ lock_number t.shape (Freelist cpu) = ap (λ (h : Hold). h.lock) (given_hold p r s took.hold now notes part gave under) ∙ took.lock_is in record {
@@ -110,6 +114,7 @@ reached_once t cpu p q r s here back part now notes took quiet within goes spare
       by_call = All-cons (IsBy p.cpu p.call) (given_turn r gave.ticket gave.hold part) [] (same_cpu, same_call) (All-nil (IsBy p.cpu p.call));
       on_freelists = All-cons (IsOnFreelist t.shape) (given_turn r gave.ticket gave.hold part) [] (cpu, within, lock_is) (All-nil (IsOnFreelist t.shape));
       learns = turn_learns t (Freelist cpu) p q r s here back [] part now notes took under can tt learns gave;
+      told = ((inl refl, tells_turn can gave.ticket gave.hold part (same_head (sym gave.innermost ∙ can.innermost)) (clears_noted can.notes) (ap (λ (l : List Visit). l ++ clears_noted can.notes) (sym none_told))), tt);
     }
 
 -- and the turn is one of this freelist
@@ -132,6 +137,7 @@ reached_nowhere t p = record {
   by_call = All-nil (IsBy p.cpu p.call);
   on_freelists = All-nil (IsOnFreelist t.shape);
   learns = learns_none t.shape p.view;
+  told = tt;
 }
 
 pub reached_on : (t : TableView) (p q r : PassView) (first second : List Turned) → Reached t p q first → Reached t q r second → Reached t p r (first ++ second)
@@ -145,6 +151,7 @@ reached_on t p q r first second a b = record {
   by_call = All-append (IsBy p.cpu p.call) first second a.by_call (subst (λ (call : ℕ). All (IsBy p.cpu call) second) a.goes.call (subst (λ (cpu : ℕ). All (IsBy cpu q.call) second) a.goes.cpu b.by_call));
   on_freelists = All-append (IsOnFreelist t.shape) first second a.on_freelists b.on_freelists;
   learns = learns_on t.shape p.view q.view r.view first second [] [] a.learns b.learns;
+  told = told_append t.shape [] first second first second a.told b.told;
 }
 
 -- freelists may be taken again

@@ -134,7 +134,7 @@ module _ {t : TableView} {cpu : ℕ} {p q : PassView} {body : Stored} {f : Freel
       let learns = learns_moved t.shape claims.0 (lock_number q.view.shape (Freelist cpu)) (without_free body.element (now_under (Freelist cpu) q.view)) (with_in_hand body.element q.cpu q.view.hand) (with_came (lock_number q.view.shape (Freelist cpu)) body.element q.view.held q.view.notes) (owner_word q.view.shape body.element) (1 + q.cpu) q r claims.1 in
       let turn = turn_is t cpu p q r s here (turns.Popped body.element) now (notes_popped body.element) took is_there under gave in record {
         steps = given_turn r gave.ticket gave.hold part ∷ [];
-        reached = reached_once t cpu p q r s here (contents.Freelist f) part now (notes_popped body.element) took (quiet_popped body.element) within (goes_popped r claims) (ap (λ (z : PassView). z.spares) claims.1) (ap (λ (z : PassView). z.view.bits) claims.1) (ap (λ (z : PassView). z.view.carried) claims.1) learns under (can_give_popped r can is_there claims) gave;
+        reached = reached_once t cpu p q r s here (contents.Freelist f) part now (notes_popped body.element) took (quiet_popped body.element) refl within (goes_popped r claims) (ap (λ (z : PassView). z.spares) claims.1) (ap (λ (z : PassView). z.view.bits) claims.1) (ap (λ (z : PassView). z.view.carried) claims.1) learns under (can_give_popped r can is_there claims) gave;
         trace = record {
           passed = [];
           giver = cpu;
@@ -162,7 +162,7 @@ module _ {t : TableView} {cpu : ℕ} {p q : PassView} {f : FreelistView} (took :
       let learns = learns_none t.shape q.view in
       let turn = turn_is t cpu p q q s here turns.FoundEmpty took.hold.now no_notes took is_there under gave in record {
         steps = given_turn q gave.ticket gave.hold part ∷ [];
-        reached = reached_once t cpu p q q s here here part took.hold.now no_notes took quiet_none within (goes_nowhere q) refl refl refl learns under (can_give_empty can is_there empty) gave;
+        reached = reached_once t cpu p q q s here here part took.hold.now no_notes took quiet_none refl within (goes_nowhere q) refl refl refl learns under (can_give_empty can is_there empty) gave;
         trace = ap (λ (x : Turn). x ∷ []) turn;
         hand = ap (λ (z : PassView). z.view.hand) gave.after_is ∙ ap (λ (z : PassView). z.view.hand) took.after_is;
         fresh = tt;

@@ -1,5 +1,5 @@
 -- A push puts an element on a freelist, which has room for it.
-use Rattle.std.proofs.Common.{◌≡◌, ℕ, suc, ◌<◌, ◌≤◌, cond, List, [], ◌∷◌, length, sym, ap, ◌∙◌, subst, arith}
+use Rattle.std.proofs.Common.{refl, ◌≡◌, ℕ, suc, ◌<◌, ◌≤◌, cond, List, [], ◌∷◌, length, sym, ap, ◌∙◌, subst, arith}
 use Rattle.std.specs.Prelude.{IsTrue}
 use Rattle.std.proofs.lemmas.List.{length-map}
 use Rattle.std.proofs.lemmas.List.Elements.{All-cons}
@@ -87,7 +87,7 @@ module _ {t : TableView} {cpu : ℕ} {p q : PassView} {f : FreelistView} {body :
         let now : Lists = with_free e (without_row e took.hold.now) in
         let learns = learns_moved t.shape settles.0 (lock_number q.view.shape (Freelist cpu)) (with_free e (without_row e (now_under (Freelist cpu) q.view))) (without_in_hand e q.cpu q.view.hand) q.view.notes (owner_word q.view.shape e) 0 q r settles.1 in record {
           step = given_turn r gave.ticket gave.hold part;
-          reached = reached_once t cpu p q r s here (contents.Freelist new) part now no_notes took quiet_none within goes_pushed (ap (λ (z : PassView). z.spares) settles.1) (ap (λ (z : PassView). z.view.bits) settles.1) (ap (λ (z : PassView). z.view.carried) settles.1) learns under_pushed can_give_pushed gave;
+          reached = reached_once t cpu p q r s here (contents.Freelist new) part now no_notes took quiet_none refl within goes_pushed (ap (λ (z : PassView). z.spares) settles.1) (ap (λ (z : PassView). z.view.bits) settles.1) (ap (λ (z : PassView). z.view.carried) settles.1) learns under_pushed can_give_pushed gave;
           turn = turn_is t cpu p q r s here (turns.Pushed e) now no_notes took is_there under_pushed gave ∙ (λ i. on_freelist_of (mine i) (turns.Pushed (same i)));
           hand = ap (λ (z : PassView). z.view.hand) gave.after_is ∙ (ap (λ (z : PassView). z.view.hand) settles.1 ∙ (ap (λ (z : PassView). without_in_hand e z.cpu z.view.hand) took.after_is ∙ ap (λ (x : ℕ). without_in_hand x p.cpu p.view.hand) same));
         }

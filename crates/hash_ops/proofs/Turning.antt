@@ -75,7 +75,7 @@ can_give t lock p q r here back part now notes took no_hashes under of_table beg
         allowed = subst (Allows t.shape r.cpu part) told_there allowed;
         same_free = λ e. ap (λ (d : DomainId). times e (lists_of (content_told d back)).free) named ∙ same_free e;
         same_rows = λ e. ap (λ (d : DomainId). times e (rows (lists_of (content_told d back)))) named ∙ same_rows e;
-        rows_kept = λ _ j e h n other _ _ _ is. absurd (none_stored t.shape lock back e n no_hashes fits (ap (λ (d : DomainId). stored_in (content_told d back) e) (sym named) ∙ is));
+        rows_kept = λ _ j e h n other _ _ _ _ is. absurd (none_stored t.shape lock back e n no_hashes fits (ap (λ (d : DomainId). stored_in (content_told d back) e) (sym named) ∙ is));
         gone = λ _ c e h _ was _. absurd (none_stored t.shape lock here e h no_hashes took.fits (ap (λ z. stored_in z e) told_there ∙ was));
       };
       notes_fit = notes_fit;
@@ -87,11 +87,11 @@ given_hold p r s hold now notes part gave under = same_head (sym gave.innermost 
 
 -- from the take to the give, with these turns between them
 pub turn_made : (t : TableView) (lock : DomainId) (p q r s : PassView) (here : Content) (inner : List Turned) (lost : List ℕ) (part : Part) (now : Lists) (notes : Notes) (took : TookLock t lock p q here) → Goes q r inner lost
-    → IsUnder p r took.hold now notes → ((below : List Notes) → passed_on part below ≡ below) → (gave : Gave r s part) → Made p s (inner ++ given_turn r gave.ticket gave.hold part ∷ []) lost
+    → IsUnder p r took.hold now notes → passed_on part r.view.notes ≡ notes_below r.view.notes → (gave : Gave r s part) → Made p s (inner ++ given_turn r gave.ticket gave.hold part ∷ []) lost
 turn_made t lock p q r s here inner lost part now notes took goes under passes gave = record {
   goes = goes_on p r s inner (given_turn r gave.ticket gave.hold part ∷ []) lost [] (subst (Goes p r inner) (append_nil lost) (goes_on p q r [] inner [] lost (goes_took t lock p q here took) goes)) (goes_gave r s part gave);
   held = ap (λ (z : PassView). z.view.held) gave.after_is ∙ ap holds_below under.held;
-  notes = ap (λ (z : PassView). z.view.notes) gave.after_is ∙ (passes (notes_below r.view.notes) ∙ ap notes_below under.notes_are);
+  notes = ap (λ (z : PassView). z.view.notes) gave.after_is ∙ (passes ∙ ap notes_below under.notes_are);
 }
 
 pub turn_learns : (t : TableView) (lock : DomainId) (p q r s : PassView) (here back : Content) (inner : List Turned) (part : Part) (now : Lists) (notes : Notes) (took : TookLock t lock p q here) → IsUnder p r took.hold now notes

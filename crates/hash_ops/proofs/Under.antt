@@ -1,6 +1,6 @@
 -- A call from where it takes the bucket of its key to where it has given it back: what it enters with, what its turns tell, and what
 -- it leaves.
-use Rattle.std.proofs.Common.{◌≡◌, ℕ, cond, true, false, List, [], ◌∷◌, ◌++◌, map, inl, ⊎_elim, sym, refl, ap, ◌∙◌, subst, Option}
+use Rattle.std.proofs.Common.{◌≡◌, ℕ, cond, true, false, List, [], ◌∷◌, ◌++◌, map, ⊎_elim, sym, refl, ap, ◌∙◌, subst, Option}
 use Rattle.std.specs.Prelude.{flat_map, All}
 use Rattle.map_types.specs.declared.attr.Shape.{Shape}
 use Rattle.map_types.specs.declared.call.Verb.{Verb}
@@ -26,6 +26,7 @@ use Rattle.place_table.specs.Views.{is_among, is_in_hand_of, holding, notes_belo
 use Rattle.place_table.proofs.Going.{goes_on, goes_took, learns_after, learns_took}
 use Rattle.place_table.proofs.Entries.{append_nil}
 use Rattle.place_table.specs.Calls.{bits_of_part, bits_of_turns}
+use Rattle.place_table.proofs.TurnsOn.{told_append, told_where}
 use Rattle.hash_ops.specs.Calls.{CanCall, Leaves, Called, CalledOn, CouldBe, IsTold, AreTold, LosesAtMost, spare_element}
 use Rattle.place_table.specs.BucketTurns.{Entered}
 use Rattle.hash_ops.specs.Under.{HasItsSpares, Enters, LeftBucket, Answered, AnsweredAt}
@@ -59,9 +60,9 @@ enters {t} {bucket} {p} {q} {chain} plain none_shared can entered =
 
 -- What is told
 
-pub told_more : (shape : Shape) (lost : List ℕ) (inner : List Turned) (last told : Turned) → IsTold shape lost last told → AreTold shape lost (inner ++ last ∷ []) (inner ++ told ∷ [])
-told_more shape lost [] last told is = (is, tt)
-told_more shape lost (step ∷ steps) last told is = (inl refl, told_more shape lost steps last told is)
+pub told_more : (shape : Shape) (lost : List ℕ) (inner : List Turned) (last told : Turned) → AreTold shape [] inner inner → IsTold shape lost last told → AreTold shape lost (inner ++ last ∷ []) (inner ++ told ∷ [])
+told_more shape lost inner last told are is =
+    told_append shape lost inner (last ∷ []) inner (told ∷ []) (told_where shape [] lost (λ n among. true_false (sym among)) inner inner are) (is, tt)
 
 -- where no record is lost, the turns are told as they were made
 pub told_whole : (shape : Shape) (steps told : List Turned) → AreTold shape [] steps told → told ≡ steps
@@ -69,7 +70,7 @@ told_whole shape [] [] are = refl
 told_whole shape [] (told ∷ others) are = absurd are
 told_whole shape (step ∷ steps) [] are = absurd are
 told_whole shape (step ∷ steps) (told ∷ others) are =
-    let first : told ≡ step = ⊎_elim (λ (same : told ≡ step). same) (λ (x : (false ≡ true) × CouldBe shape step told). true_false (sym x.0)) are.0 in
+    let first : told ≡ step = ⊎_elim (λ (same : told ≡ step). same) (λ (x : (false ≡ true) × CouldBe shape step told). true_false (sym x.0)) are.0.0 in
     (λ i. first i ∷ told_whole shape steps others are.1 i)
 
 -- Answers

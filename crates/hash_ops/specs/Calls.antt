@@ -1,25 +1,16 @@
 -- What calls on one key of a map that doesn't evict answer. What each call leaves of its pass is defined below it, for all kinds.
-use Rattle.std.specs.Prelude.{◌≡◌, ℕ, ◌<◌, List, Result, Ok, Err}
-use Rattle.map_types.specs.declared.call.Verb.{Verb}
-use Rattle.map_types.specs.declared.kind.DomainId.TheVariants.{Bucket}
+use Rattle.std.specs.Prelude.{◌≡◌, ℕ, ◌<◌, Result, Ok, Err}
 use Rattle.map_types.specs.declared.refusal.Errno.TheVariants as errnos
 use Rattle.map_types.specs.declared.reply.Reply.{Reply}
 use Rattle.map_types.specs.declared.reply.Reply.TheVariants.{Done, Refused}
-use Rattle.place_words.specs.Locks.{lock_number}
-use Rattle.place_words.specs.Traces.{bucket_of_key}
 pub use Rattle.place_table.specs.BucketPuts.{UpdateCall, update_call, verb_of}
 pub use Rattle.place_table.specs.Calls.{CanCall, element_of, spare_element, Leaves, CouldBe, IsTold, AreTold, Called, CalledWhole, reply_of_value, reply_of_done}
+pub use Rattle.place_table.specs.KeyCalls.{CalledOn}
 pub use Rattle.place_table.specs.Known.{turn_of, turn_at, IsBy}
 use Rattle.place_table.specs.Passes.{PassView, TableView}
 pub use Rattle.place_table.specs.BucketTurns.{LosesAtMost}
 use Rattle.hash_ops.specs.declared.map.PlainRefusal.{PlainRefusal}
 use Rattle.hash_ops.specs.declared.map.PlainRefusal.TheVariants as refusals
-
--- A call on a key did what its turns tell, and answered so. No lock but the key's bucket was given back without a part, and that one
--- once at most.
-abbrev pub CalledOn : TableView → PassView → PassView → Verb → List ℕ → Reply → Type 0
-CalledOn t before after verb key reply =
-    (called : Called t before after verb reply) × LosesAtMost (lock_number t.shape (Bucket (bucket_of_key t.shape key))) called.lost
 
 -- an update did so
 abbrev pub Updated : TableView → PassView → PassView → UpdateCall → Reply → Type 0

@@ -11,7 +11,7 @@ use Rattle.place_table.specs.Known.{Learns}
 use Rattle.place_table.specs.Passes.{PassView, TableView, IsPassOf, HasBegun, Goes}
 use Rattle.place_table.specs.Rules.{IsAboveAll}
 use Rattle.place_table.specs.Views.{is_among, is_in_hand_of, with_in_hand, without_in_hand}
-use Rattle.hash_ops.specs.Calls.{turn_of, IsBy}
+use Rattle.hash_ops.specs.Calls.{AreTold, turn_of, IsBy}
 
 -- freelists may be taken: nothing that is held has their rank
 pub record CanReach (t : TableView) (p : PassView) : Type 0 where
@@ -34,6 +34,8 @@ pub record Reached (t : TableView) (before after : PassView) (steps : List Turne
   pub by_call : All (IsBy before.cpu before.call) steps
   pub on_freelists : AreOnFreelists t.shape steps
   pub learns : Learns t.shape before.view after.view steps []
+  -- as they are told
+  pub told : AreTold t.shape [] steps steps
 
 -- an element of the map that was in no hand of the pass
 pub record IsFresh (t : TableView) (p : PassView) (body : Stored) : Type 0 where

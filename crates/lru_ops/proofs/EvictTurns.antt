@@ -50,15 +50,16 @@ use Rattle.place_table.specs.Plays.{OwnerFits, IsListedHere}
 use Rattle.place_table.specs.Rules.{IsAboveAll, is_hand_of}
 use Rattle.place_table.specs.Flushes.{flushes}
 use Rattle.place_table.specs.StoredHashes.{stored_in}
-use Rattle.place_table.specs.TurnNotes.{HasOnlyHash, WasRead, ProbeFits, CameToHand, clears_among}
-use Rattle.place_table.specs.Views.{is_among, is_in_hand_of, hold_at, now_under, with_now, with_in_hand, detached, owner_read, with_owner_read, holding, known_log, no_notes, given, holds_below, notes_below, owners_probed, hold_with}
+use Rattle.place_table.specs.TurnNotes.{HasOnlyHash, WasRead, ProbeFits, CameToHand, clears_among, clears_noted}
+use Rattle.place_table.specs.Views.{is_among, is_in_hand_of, hold_at, now_under, with_now, with_in_hand, detached, owner_read, with_owner_read, holding, known_log, no_notes, given, holds_below, notes_below, with_owners_read, passed_on, hold_with}
 use Rattle.place_table.specs.Words.{owner_word}
 use Rattle.place_table.proofs.Entries.{append_nil}
 use Rattle.place_table.proofs.Going.{goes_on, goes_took, goes_moved, goes_noted, goes_gave, goes_of_table, goes_begun, given_turn, same_head, learns_on, learns_nothing, learns_took, learns_given}
 use Rattle.place_table.proofs.Hands.{now_at_is}
 use Rattle.place_table.proofs.Worlds.{hold_at_first, hold_at_other, some_is, none_some, true_false}
 use Rattle.place_table.proofs.BucketTurns.{left_is}
-use Rattle.lru_ops.specs.Evictions.{HoldsLists, CanProbe, Inside, IsEvict, hand_with, EndedWith, EvictedWith}
+use Rattle.place_table.proofs.Telling.{tells_turn}
+use Rattle.lru_ops.specs.Evictions.{HoldsLists, CanProbe, Inside, IsEvict, hand_with, EndedWith, EvictedWith, owners_probed}
 use Rattle.lru_ops.proofs.Holders.{SawSeen, saw_on, saw_none, saw_probe}
 
 -- The body of an element that was found
@@ -359,7 +360,7 @@ module _ {t : TableView} {bucket e : ℕ} {q : PassView} {bodies : List Stored} 
           allowed = subst (Allows t.shape r.cpu part) found (subst (λ (c : ℕ). Allows t.shape c part (in_bucket bodies)) (sym w.goes.cpu) turn.allowed);
           same_free = λ x. ap (times x) (sym no_free);
           same_rows = λ x. ap (times x) (append_nil (numbers back.bodies)) ∙ counted x;
-          rows_kept = λ _ j x h n other held not_mine before after. absurd (none_some (sym (none_stored_in back.bodies x) ∙ after));
+          rows_kept = λ _ j x h n other held _ not_mine before after. absurd (none_some (sym (none_stored_in back.bodies x) ∙ after));
           gone = λ _ c x h is. absurd (bucket_no_local bucket c (sym named ∙ is));
         };
         notes_fit = record {
@@ -373,9 +374,9 @@ module _ {t : TableView} {bucket e : ℕ} {q : PassView} {bodies : List Stored} 
         };
       }
 
-  ended : (r s : PassView) (now : Lists) (notes : Notes) (hand : List InHand) (back : BodyList) (seen : Seen) → (w : Worked t bucket e q r bodies b now notes hand) → hand ≡ hand_with q.cpu e seen q.view.hand → SawSeen t.shape w.touched e seen
+  ended : (r s : PassView) (now : Lists) (notes : Notes) (hand : List InHand) (back : BodyList) (seen : Seen) → (w : Worked t bucket e q r bodies b now notes hand) → hand ≡ hand_with q.cpu e seen q.view.hand → SawSeen t.shape w.touched e seen → with_owners_read notes.owners b.below ≡ owners_probed e seen b.below
       → (can : CanGive t (Bucket bucket) r (contents.Bucket back) (parts.Bucket (Evict e seen))) → Gave r s (parts.Bucket (Evict e seen)) → EndedWith t bucket e q s seen
-  ended r s now notes hand back seen w hand_is saw can gave =
+  ended r s now notes hand back seen w hand_is saw handed_on can gave =
       let part : Part = parts.Bucket (Evict e seen) in
       let can_is : can.hold ≡ hold_with b.hold now = same_head (sym can.innermost ∙ w.held) in
       let gave_is : gave.hold ≡ can.hold = same_head (sym gave.innermost ∙ can.innermost) in
@@ -388,13 +389,14 @@ module _ {t : TableView} {bucket e : ℕ} {q : PassView} {bodies : List Stored} 
         turn = turn;
         goes = goes_on q r s [] (turn ∷ []) [] [] w.goes (subst (λ (h : Hold). Goes r s (given_turn r gave.ticket h part ∷ []) []) gave_is (goes_gave r s part gave));
         held = ap (λ (z : PassView). z.view.held) after ∙ (ap holds_below w.held ∙ sym (ap holds_below b.held));
-        notes = ap (λ (z : PassView). z.view.notes) after ∙ (λ i. owners_probed e seen (notes_below ((w.notes_are ∙ sym (ap (λ (l : List Notes). notes ∷ notes_below l) b.notes)) i)));
+        notes = ap (λ (z : PassView). z.view.notes) after ∙ (ap (passed_on part) w.notes_are ∙ (handed_on ∙ sym (ap (λ (l : List Notes). owners_probed e seen (notes_below l)) b.notes)));
         carried = ap (λ (z : PassView). z.view.carried) after ∙ w.carried;
         hand = ap (λ (z : PassView). z.view.hand) after ∙ (w.in_hand ∙ hand_is);
         spares = ap (λ (z : PassView). z.spares) after ∙ w.spares;
         is_evict = record {
           lock = ap (λ (h : Hold). h.lock) can_is ∙ b.lock_is;
           entry = λ i. record { ticket = gave.ticket; cpu = w.goes.cpu i; call = w.goes.call i; part = part };
+          tells = tells_turn can gave.ticket can.hold part refl (clears_noted can.notes) refl;
         };
         saw = saw_probe t.shape q r s w.touched _ e seen turn w.touched_are saw (touched_by (ap (λ (z : PassView). z.view.touched) after)) refl;
         learns = learns_given t (Bucket bucket) q r (contents.Bucket back) [] gave.ticket part s.view can
@@ -420,7 +422,7 @@ module _ {t : TableView} {bucket e : ℕ} {q : PassView} {bodies : List Stored} 
   pub ended_removed : (at : ℕ) (body : Stored) (back : BodyList) (s : PassView) → Some body ≡ body_of e bodies → back.bodies ≡ without_element e bodies
       → Gave (with_view q (detached at bucket e q.cpu q.view)) s (parts.Bucket (Evict e Removed)) → EndedWith t bucket e q s Removed
   ended_removed at body back s taken left gave =
-      ended (with_view q (detached at bucket e q.cpu q.view)) s (without_row e (lists_of (in_bucket bodies))) no_notes (with_in_hand e q.cpu q.view.hand) back Removed (worked_detached at) refl tt
+      ended (with_view q (detached at bucket e q.cpu q.view)) s (without_row e (lists_of (in_bucket bodies))) no_notes (with_in_hand e q.cpu q.view.hand) back Removed (worked_detached at) refl tt refl
       (can_give_removed at body back taken left) gave
 
   pub can_give_held : (at holder : ℕ) (owner : Owner) (back : BodyList) → body_of e bodies ≡ None → back.bodies ≡ bodies → owner ≡ owners.Hand holder → holder < t.shape.cpus → holder ≢ q.cpu
@@ -436,7 +438,7 @@ module _ {t : TableView} {bucket e : ℕ} {q : PassView} {bodies : List Stored} 
       → Gave (with_view q (owner_read at e owner q.view)) s (parts.Bucket (Evict e (Held holder))) → EndedWith t bucket e q s (Held holder)
   unfolding worked_seen
   ended_held at holder owner back s none same hand few other gave =
-      ended (with_view q (owner_read at e owner q.view)) s b.hold.now (seen_notes owner) q.view.hand back (Held holder) (worked_seen at owner) refl (read_holder at holder owner hand)
+      ended (with_view q (owner_read at e owner q.view)) s b.hold.now (seen_notes owner) q.view.hand back (Held holder) (worked_seen at owner) refl (read_holder at holder owner hand) (ap (λ (o : Owner). with_owner_read e o b.below) hand)
       (can_give_held at holder owner back none same hand few other) gave
 
 -- from before the take

@@ -239,6 +239,7 @@ pub record Ready (t : TableView) (hash : ℕ) (turning turning_after : RotateNot
   pub marks : notes.marks ≡ []
   pub off : notes.off ≡ []
   pub cleared : AreCleared (got_cleared got) (active ++ (inactive ++ looks_told (note_of shrunk looks forced))) (clears_noted notes)
+  pub in_order : (behind : List Visit) × (clears_noted notes ≡ (active ++ (inactive ++ looks_told (note_of shrunk looks forced))) ++ behind)
   pub owners : All (ProbeFits notes.owners) (shrink_probes (note_of shrunk looks forced))
   pub came : All (CameToHand s.view (hold_with hold now) notes) (option_to_list got)
   pub probes : List ProbeCall
@@ -364,6 +365,7 @@ module _ {t : TableView} {set worked : SetView} {turning turning_after : RotateN
         marks = ap (λ (n : Notes). n.marks) n_is;
         off = ap (λ (n : Notes). n.off) n_is;
         cleared = (λ i. clears_among (reverse (asked_after (k.calls_are i) ((n_is i).asked)))) ∙ clears_told bits;
+        in_order = ([], (λ i. clears_among (reverse (asked_after (k.calls_are i) ((n_is i).asked)))) ∙ (clears_told bits ∙ sym (append_nil bits)));
         owners = subst (All (ProbeFits (owners_after w.probes d.notes.owners))) k.probes_are (probes_fit w.probes d.notes.owners);
         came = All-nil (CameToHand r.view (hold_with hold_there (lists_after w.probes hold_there.now)) (notes_after w.calls w.probes d.notes));
         probes = w.probes;
@@ -469,6 +471,7 @@ module _ {t : TableView} {set worked : SetView} {turning turning_after : RotateN
           marks = ap (λ (x : Notes). x.marks) n_is;
           off = ap (λ (x : Notes). x.off) n_is;
           cleared = (bits, g.bit, [], clears_then, append_nil bits);
+          in_order = (record { element = e; bit = g.bit } ∷ [], clears_then);
           owners = subst (All (ProbeFits (owners_after w.probes d.notes.owners))) k.probes_are (probes_fit w.probes d.notes.owners);
           came = All-cons (CameToHand s.view (hold_with hold_there then) noted_then) e [] ((let more = times_cons_same e n.came in omega (arith, more)), in_hand) (All-nil (CameToHand s.view (hold_with hold_there then) noted_then));
           probes = w.probes;

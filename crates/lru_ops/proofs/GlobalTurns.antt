@@ -48,6 +48,7 @@ use Rattle.place_table.specs.StoredHashes.{stored_in}
 use Rattle.place_table.specs.TurnNotes.{AreCleared, CameToHand, ProbeFits, TellsFlush, WasRead, clears_among, clears_noted}
 use Rattle.place_table.specs.Views.{is_among, known_log, holds_below, notes_below, passed_on, no_notes, hold_with}
 use Rattle.place_table.proofs.Entries.{append_nil}
+use Rattle.place_table.proofs.Telling.{tells_turn}
 use Rattle.place_table.proofs.Going.{AreElsewhere, log_elsewhere, given_turn, goes_on, goes_took, goes_of_table, goes_begun, same_head, learns_on, learns_after, learns_gave, learns_took}
 use Rattle.local_lists.specs.LocalLists.{LocalView}
 use Rattle.lru_lists.specs.declared.bits.ProbeCall.{ProbeCall}
@@ -73,7 +74,7 @@ use Rattle.lru_ops.proofs.GlobalWalk.{same_second, same_tail}
 use Rattle.lru_ops.proofs.Holders.{TellsNoHolder, saw_both, saw_none, saw_on}
 use Rattle.lru_ops.proofs.LocalTurns.{evicts_apart_from, evicts_stay}
 use Rattle.lru_ops.proofs.NoneFound.{filled_none, held_elsewhere, none_taken, nothing_came}
-use Rattle.lru_ops.proofs.OwnTurns.{GaveAs, gave_as, gave_some_as, evicts_bits, evicts_by, chase_of, cleared_times, lock_among, told_last}
+use Rattle.lru_ops.proofs.OwnTurns.{GaveAs, gave_as, gave_some_as, evicts_bits, evicts_by, evicts_told, chase_of, cleared_times, lock_among, told_last}
 use Rattle.lru_ops.proofs.SameFlushes.{flushes_passed, flushes_same, flushes_told}
 use Rattle.lru_ops.proofs.SetWork.{stored_row}
 use Rattle.lru_ops.proofs.FillTaken.{stored_global}
@@ -176,7 +177,7 @@ module _ {t : TableView} {lists : LocalView} {p q : PassView} {set : SetView} (r
             allowed = subst (Allows t.shape s.cpu part) found_here y.allowed;
             same_free = λ x. ap (λ (c : Content). times x (lists_of c).free) out_there ∙ ap (times x) (sym y.same_free);
             same_rows = λ x. ap (λ (c : Content). times x (rows (lists_of c))) out_there ∙ (times_append x (elements_of out.active) (elements_of out.inactive) ∙ sym (y.same_rows x));
-            rows_kept = λ _ j x h n other held _ before after.
+            rows_kept = λ _ j x h n other held _ _ before after.
                 let here : stored_hash x (rows_on out) ≡ Some n = sym (stored_global out x) ∙ (ap (λ (c : Content). stored_in c x) (sym out_there) ∙ after) in
                 let row = stored_row x n out here in
                 let same : row.0.element ≡ x = its_row x out row.0 row.1 in
@@ -233,6 +234,7 @@ module _ {t : TableView} {lists : LocalView} {p q : PassView} {set : SetView} (r
         earlier = refl;
         cpu = refl;
         call = refl;
+        moment = refl;
         allowed = allowed_there;
         same_marks = sym y.no_marks ∙ (ap (λ (n : Notes). n.marks) (sym notes_there) ∙ can.notes_fit.marks_are);
         same_clears = λ x. cleared_times x [] (bits_cleared part) _ cleared_are ∙ (ap (λ (n : Notes). times x (visited_elements (clears_noted n))) (sym notes_there) ∙ sym (cleared_times x (also_cleared actual) (bits_cleared actual) _ can.notes_fit.clears_are));
@@ -240,7 +242,11 @@ module _ {t : TableView} {lists : LocalView} {p q : PassView} {set : SetView} (r
       }
 
       is_told : IsTold t.shape lost step told
-      is_told = ⊎_elim (λ (same : actual ≡ part). inl (ap (given_turn s g.ticket can.hold) (sym same))) (λ (gone : is_among can.hold.lock lost ≡ true). inr (gone, could_be)) told_as
+      unfolding can_give_global
+      is_told = (
+        ⊎_elim (λ (same : actual ≡ part). inl (ap (given_turn s g.ticket can.hold) (sym same))) (λ (gone : is_among can.hold.lock lost ≡ true). inr (gone, could_be)) told_as,
+        tells_turn can_give_global g.ticket can.hold actual hold_there [] (cleared_are ∙ sym (append_nil (bits_cleared part))),
+      )
 
       abbrev bits : List BitTouch
       bits = map clears_found (bits_cleared part)
@@ -299,8 +305,8 @@ module _ {t : TableView} {lists : LocalView} {p q : PassView} {set : SetView} (r
       notes_left : u.view.notes ≡ record y.around { flushed = y.around.flushed ++ flushes_told actual } ∷ y.below
       notes_left =
           g.notes
-          ∙ (ap (λ (l : List Notes). passed_on actual (notes_below l)) y.noted
-          ∙ flushes_passed t.shape s.cpu actual content_there (set_told set) y.around y.below set_there can.may_put.allowed)
+          ∙ (ap (passed_on actual) y.noted
+          ∙ flushes_passed t.shape s.cpu actual content_there (set_told set) y.notes y.around y.below set_there can.may_put.allowed)
 
       flushes_there : All (TellsFlush (y.around.flushed ++ flushes_told actual)) (map flush_visit y.flushed)
       flushes_there =
@@ -348,7 +354,7 @@ module _ {t : TableView} {lists : LocalView} {p q : PassView} {set : SetView} (r
         steps = y.turns ++ step ∷ [];
         told_steps = y.turns ++ told ∷ [];
         lost = lost;
-        told_are = told_last t.shape lost y.turns step told is_told;
+        told_are = told_last t.shape lost y.turns step told (evicts_told t.shape lost q.cpu q.call y.walked y.probes y.turns y.are_evicts) is_told;
         goes = subst (Goes p u (y.turns ++ step ∷ [])) (append_nil lost) (goes_on p s u y.turns (step ∷ []) [] lost to_s g.goes);
         by_call = All-append (IsBy p.cpu p.call) y.turns (step ∷ [])
             (subst (λ (z : ℕ × ℕ). All (IsBy z.0 z.1) y.turns) (λ i. (to_q.cpu i, to_q.call i)) (evicts_by t.shape q.cpu q.call y.walked y.probes y.turns y.are_evicts))

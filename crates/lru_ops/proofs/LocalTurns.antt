@@ -46,6 +46,7 @@ use Rattle.place_table.specs.StoredHashes.{stored_in}
 use Rattle.place_table.specs.TurnNotes.{NotesFit, clears_noted}
 use Rattle.place_table.specs.Views.{is_among, is_in_hand_of, hold_at, known_log, came_last, hashes_given, holds_below, notes_below, passed_on, no_notes, hold_with}
 use Rattle.place_table.proofs.Entries.{append_nil}
+use Rattle.place_table.proofs.Telling.{tells_turn}
 use Rattle.place_table.proofs.Going.{AreElsewhere, log_elsewhere, given_turn, goes_on, goes_took, goes_of_table, goes_begun, same_head, learns_on, learns_after, learns_gave, learns_took}
 use Rattle.lru_lists.specs.declared.bits.ProbeCall.{ProbeCall}
 use Rattle.local_lists.specs.LocalLists.{LocalView, local_told}
@@ -57,7 +58,7 @@ use Rattle.place_table.proofs.TurnsOn.{among_behind, among_before, told_where, t
 use Rattle.lru_ops.proofs.Ends.{bits_append}
 use Rattle.lru_ops.proofs.EvictTurns.{bucket_apart}
 use Rattle.lru_ops.proofs.Holders.{TellsNoHolder, saw_on, saw_none, saw_nothing, saw_on_both, saw_both}
-use Rattle.lru_ops.proofs.OwnTurns.{GaveAs, evict_lock, evicts_by, evicts_bits, chase_of, cleared_times}
+use Rattle.lru_ops.proofs.OwnTurns.{GaveAs, evict_lock, evicts_by, evicts_bits, evicts_told, chase_of, cleared_times}
 use Rattle.lru_ops.proofs.OwnWalk.{hold_at_only}
 
 -- Where the CPUs share lists, each has local ones.
@@ -145,10 +146,10 @@ evicts_stay shape cpu call rows (probe ∷ probes) (turn ∷ turns) are =
 
 -- What lies there tells which parts may be made
 
-local_passed : (shape : Shape) (cpu : ℕ) (part : Part) (there : Content) (lists : LocalLists) (below : List Notes) → in_locals lists ≡ there → Allows shape cpu part there → passed_on part below ≡ below
-local_passed shape cpu part there lists below is allowed = go part (subst (Allows shape cpu part) (sym is) allowed)
+local_passed : (shape : Shape) (cpu : ℕ) (part : Part) (there : Content) (lists : LocalLists) (all : List Notes) → in_locals lists ≡ there → Allows shape cpu part there → passed_on part all ≡ notes_below all
+local_passed shape cpu part there lists all is allowed = go part (subst (Allows shape cpu part) (sym is) allowed)
   where
-    go : (part : Part) → Allows shape cpu part (in_locals lists) → passed_on part below ≡ below
+    go : (part : Part) → Allows shape cpu part (in_locals lists) → passed_on part all ≡ notes_below all
     go (parts.Bucket part) allowed = absurd allowed
     go (parts.Free part) allowed = absurd allowed
     go (parts.Local part) allowed = refl
@@ -159,10 +160,6 @@ local_tells_none : (shape : Shape) (cpu : ℕ) (part : Part) (there : Content) (
 local_tells_none shape cpu part there lists is allowed e holder same =
     let here : Allows shape cpu (parts.Bucket (Evict e (Held holder))) (in_locals lists) = subst (λ (z : Part × Content). Allows shape cpu z.0 z.1) (λ i. (same i, sym is i)) allowed in
     absurd here
-
-told_same : (shape : Shape) (turns : List Turned) → AreTold shape [] turns turns
-told_same shape [] = tt
-told_same shape (turn ∷ turns) = (inl refl, told_same shape turns)
 
 saw_twice : (shape : Shape) (q s : PassView) (turns : List Turned) → SawHolders shape q s turns → SawHolders shape q s (turns ++ turns)
 saw_twice shape q s turns saw = record { touched = saw.touched; touched_are = saw.touched_are; saw = All-append (SawHolder shape saw.touched) turns turns saw.saw saw.saw }
@@ -217,7 +214,7 @@ module _ {t : TableView} {c : ℕ} {lists : LocalView} {p q : PassView} (b : OnL
             allowed = subst (Allows t.shape s.cpu entry_part) found_local y.allowed;
             same_free = y.same_free;
             same_rows = λ x. ap (times x) (append_nil (elements_of out.pending)) ∙ y.same_rows x;
-            rows_kept = λ _ j x h n other held not_mine before after.
+            rows_kept = λ _ j x h n other held _ not_mine before after.
                 let only = hold_at_only j (hold_with b.took.hold y.now) other (ap (hold_at j) (sym y.held) ∙ held) in
                 let was : stored_in (in_locals (local_told lists)) x ≡ Some h = (λ i. stored_in (found_local i) x) ∙ ((λ i. stored_in (content t.shape (lock_named t.shape (only.0 i)) ((only.1 i).log)) x) ∙ before) in
                 y.rows_kept x h n (ap (λ (l : List Notes). is_in_hand_of x b.took.hold.cpu s.view.hand && is_among x (came_last l)) (sym y.noted) ∙ not_mine) (sym (stored_pending lists x) ∙ was) (sym (stored_pending out x) ∙ after);
@@ -259,6 +256,7 @@ module _ {t : TableView} {c : ℕ} {lists : LocalView} {p q : PassView} (b : OnL
         earlier = refl;
         cpu = refl;
         call = refl;
+        moment = refl;
         allowed = allowed_there;
         same_marks = sym y.notes_fit.marks_are ∙ (ap (λ (n : Notes). n.marks) (sym notes_there) ∙ can.notes_fit.marks_are);
         same_clears = λ x. cleared_times x (also_cleared entry_part) (bits_cleared entry_part) _ y.notes_fit.clears_are ∙ (ap (λ (n : Notes). times x (visited_elements (clears_noted n))) (sym notes_there) ∙ sym (cleared_times x (also_cleared actual) (bits_cleared actual) _ can.notes_fit.clears_are));
@@ -266,7 +264,11 @@ module _ {t : TableView} {c : ℕ} {lists : LocalView} {p q : PassView} (b : OnL
       }
 
       is_told : IsTold t.shape lost step told
-      is_told = ⊎_elim (λ (same : actual ≡ entry_part). inl (ap (given_turn s g.ticket can.hold) (sym same))) (λ (gone : is_among can.hold.lock lost ≡ true). inr (gone, could_be)) told_as
+      unfolding can_give_around
+      is_told = (
+        ⊎_elim (λ (same : actual ≡ entry_part). inl (ap (given_turn s g.ticket can.hold) (sym same))) (λ (gone : is_among can.hold.lock lost ≡ true). inr (gone, could_be)) told_as,
+        tells_turn can_give_around g.ticket can.hold actual hold_there (clears_noted y.notes) refl,
+      )
 
       abbrev bits : List BitTouch
       bits = map reads_bit (local_reads part) ++ map clears_bit (local_also part)
@@ -305,7 +307,7 @@ module _ {t : TableView} {c : ℕ} {lists : LocalView} {p q : PassView} (b : OnL
             made = record {
               goes = goes_on p s u y.steps (step ∷ []) y.inner_lost lost to_s g.goes;
               held = g.held ∙ (ap holds_below y.held ∙ sym b.alone);
-              notes = g.notes ∙ (ap (λ (l : List Notes). passed_on actual (notes_below l)) y.noted ∙ (local_passed t.shape s.cpu actual content_there (local_told lists) (notes_below q.view.notes) lists_around can.may_put.allowed ∙ ap notes_below taken_noted));
+              notes = g.notes ∙ (local_passed t.shape s.cpu actual content_there (local_told lists) s.view.notes lists_around can.may_put.allowed ∙ (ap notes_below y.noted ∙ ap notes_below taken_noted));
             };
             by_call = All-append (IsBy p.cpu p.call) y.steps (step ∷ [])
                 (subst (λ (z : ℕ × ℕ). All (IsBy z.0 z.1) y.steps) (λ i. (to_q.cpu i, to_q.call i)) y.by_call)
@@ -349,7 +351,7 @@ module _ {t : TableView} {c : ℕ} {lists : LocalView} {p q : PassView} (b : OnL
           steps = y.turns;
           inner = y.turns;
           inner_lost = [];
-          inner_told = told_same t.shape y.turns;
+          inner_told = evicts_told t.shape [] q.cpu q.call lists.pending y.probes y.turns y.are_evicts;
           goes = y.goes;
           by_call = evicts_by t.shape q.cpu q.call lists.pending y.probes y.turns y.are_evicts;
           elsewhere = subst (λ (n : ℕ). AreElsewhere n y.turns) (sym b.took.lock_is) (evicts_apart_from t.shape q.cpu q.call (Local c) lists.pending y.probes y.turns power b.there (omega arith) y.are_evicts);

@@ -24,7 +24,7 @@ use Rattle.place_words.specs.Turns.{Turn, TurnAt, bucket_of_key, on_lock, on_buc
 use Rattle.place_table.specs.BucketPuts.{PutsInPlace, Writes, Adds, Replaces, update_part}
 use Rattle.place_table.specs.declared.view.InHand.{InHand}
 use Rattle.place_table.specs.declared.view.Turned.{Turned}
-use Rattle.place_table.specs.Calls.{CanCall, Called, spare_element, finds_moved_on}
+use Rattle.place_table.specs.Calls.{CanCall, Called, CalledWhole, spare_element, finds_moved_on}
 use Rattle.place_table.specs.Known.{BitTouch, Learns, turn_of, turn_at, IsBy}
 use Rattle.place_table.specs.Passes.{PassView, TableView}
 use Rattle.place_table.specs.Views.{is_in_hand_of, bucket_known, with_in_hand, without_in_hand}
@@ -315,23 +315,25 @@ either_same true spare = refl
 either_same false spare = refl
 
 -- flags that are unknown are refused, and nothing was done
-pub called_unknown : {t : TableView} {p : PassView} (side : Side) (flags : ℕ) (key value : List ℕ) → CanCall t p → 2 < flags → Called t p p (verbs.Update side flags key value) (Refused errnos.Einval)
+pub called_unknown : {t : TableView} {p : PassView} (side : Side) (flags : ℕ) (key value : List ℕ) → CanCall t p → 2 < flags → CalledWhole t p p (verbs.Update side flags key value) (Refused errnos.Einval)
 called_unknown {t} {p} side flags key value can unknown =
-    let changed = changed_nothing t p in
-    record {
-      steps = [];
-      told = [];
-      lost = [];
-      told_are = tt;
-      leaves = record {
-        made = changed.made;
-        in_no_call = can.in_no_call;
-        by_call = changed.by_call;
-        other_spares = λ other _. refl;
-        bits = λ plain. refl;
-        learns = changed.learns;
-      };
-      trace = by_either (is_lru t.shape.kind) _ _ (inl (unknown, refl, refl)) (inl (unknown, refl, refl));
-      none_moved = changed.none_moved;
-      spare = either_same (is_lru t.shape.kind) (spare_element p);
-    }
+    let changed = changed_nothing t p in (
+      record {
+        steps = [];
+        told = [];
+        lost = [];
+        told_are = tt;
+        leaves = record {
+          made = changed.made;
+          in_no_call = can.in_no_call;
+          by_call = changed.by_call;
+          other_spares = λ other _. refl;
+          bits = λ plain. refl;
+          learns = changed.learns;
+        };
+        trace = by_either (is_lru t.shape.kind) _ _ (inl (unknown, refl, refl)) (inl (unknown, refl, refl));
+        none_moved = changed.none_moved;
+        spare = either_same (is_lru t.shape.kind) (spare_element p);
+      },
+      refl,
+    )

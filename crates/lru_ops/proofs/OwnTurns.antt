@@ -53,6 +53,8 @@ use Rattle.place_table.specs.TurnNotes.{WasRead, AreCleared, CameToHand, clears_
 use Rattle.place_table.proofs.Came.{came_among}
 use Rattle.place_table.specs.Views.{is_among, is_in_hand_of, hold_at, known_log, bucket_known, hash_given, hashes_given, came_last, learned, holding, holds_below, notes_below, passed_on, no_notes, with_in_hand, hold_with, ticket_of}
 use Rattle.place_table.proofs.Entries.{append_nil}
+use Rattle.place_table.proofs.Telling.{tells_turn}
+use Rattle.place_table.proofs.TurnsOn.{told_append}
 use Rattle.place_table.proofs.Going.{AreElsewhere, log_elsewhere, given_turn, goes_on, goes_took, goes_gave, goes_gave_some, goes_of_table, goes_begun, same_head, learns_on, learns_after, learns_gave, learns_took}
 use Rattle.place_table.proofs.Worlds.{true_false}
 use Rattle.lru_lists.specs.declared.bits.ProbeCall.{ProbeCall}
@@ -167,9 +169,14 @@ chase_of shape cpu call rows (probe ∷ probes) (turn ∷ turns) power are =
 
 -- Telling
 
-pub told_last : (shape : Shape) (lost : List ℕ) (steps : List Turned) (step told : Turned) → IsTold shape lost step told → AreTold shape lost (steps ++ step ∷ []) (steps ++ told ∷ [])
-told_last shape lost [] step told is = (is, tt)
-told_last shape lost (first ∷ steps) step told is = (inl refl, told_last shape lost steps step told is)
+pub evicts_told : (shape : Shape) (lost : List ℕ) (cpu call : ℕ) (rows : List Row) (probes : List ProbeCall) (turns : List Turned) → AreEvicts shape cpu call rows probes turns → AreTold shape lost turns turns
+evicts_told shape lost cpu call rows [] [] are = tt
+evicts_told shape lost cpu call rows [] (turn ∷ turns) are = absurd are
+evicts_told shape lost cpu call rows (probe ∷ probes) [] are = absurd are
+evicts_told shape lost cpu call rows (probe ∷ probes) (turn ∷ turns) are = ((inl refl, are.0.tells), evicts_told shape lost cpu call rows probes turns are.2)
+
+pub told_last : (shape : Shape) (lost : List ℕ) (steps : List Turned) (step told : Turned) → AreTold shape lost steps steps → IsTold shape lost step told → AreTold shape lost (steps ++ step ∷ []) (steps ++ told ∷ [])
+told_last shape lost steps step told are is = told_append shape lost steps (step ∷ []) steps (told ∷ []) are (is, tt)
 
 pub cleared_times : (x : ℕ) (also : List ℕ) (told done : List Visit) → AreCleared also told done → times x (visited_elements told ++ also) ≡ times x (visited_elements done)
 cleared_times x [] told done are = ap (times x) (append_nil (visited_elements told)) ∙ ap (λ (l : List Visit). times x (visited_elements l)) (sym are)
@@ -185,10 +192,10 @@ cleared_times x (e ∷ also) told done are =
     ∙ (ap (times x) (sym (map-append (λ (v : Visit). v.element) before (visit ∷ behind))) ∙ ap (λ (l : List Visit). times x (visited_elements l)) (sym are.3))))
 
 -- nothing that an own turn tells is handed on
-own_passed : (shape : Shape) (cpu : ℕ) (part : Part) (there : Content) (lists : _) (below : List Notes) → in_own lists ≡ there → Allows shape cpu part there → passed_on part below ≡ below
-own_passed shape cpu part there lists below is allowed = go part (subst (Allows shape cpu part) (sym is) allowed)
+own_passed : (shape : Shape) (cpu : ℕ) (part : Part) (there : Content) (lists : _) (all : List Notes) → in_own lists ≡ there → Allows shape cpu part there → passed_on part all ≡ notes_below all
+own_passed shape cpu part there lists all is allowed = go part (subst (Allows shape cpu part) (sym is) allowed)
   where
-    go : (part : Part) → Allows shape cpu part (in_own lists) → passed_on part below ≡ below
+    go : (part : Part) → Allows shape cpu part (in_own lists) → passed_on part all ≡ notes_below all
     go (parts.Bucket part) allowed = absurd allowed
     go (parts.Free part) allowed = absurd allowed
     go (parts.Local part) allowed = absurd allowed
@@ -226,7 +233,7 @@ pub record GaveAs (t : TableView) (s u : PassView) (hold : Hold) (part : Part) (
   pub ticket : ℕ
   pub goes : Goes s u (given_turn s ticket hold part ∷ []) lost
   pub held : u.view.held ≡ holds_below s.view.held
-  pub notes : u.view.notes ≡ passed_on part (notes_below s.view.notes)
+  pub notes : u.view.notes ≡ passed_on part s.view.notes
   pub hand : u.view.hand ≡ s.view.hand
   pub carried : u.view.carried ≡ s.view.carried
   pub spares : u.spares ≡ s.spares
@@ -330,7 +337,7 @@ module _ {t : TableView} {p q s : PassView} {set out : SetView} {hash : ℕ} {tu
           allowed = subst (Allows t.shape s.cpu part) found_here y.allowed;
           same_free = λ x. ap (λ (c : Content). times x (lists_of c).free) out_there ∙ ap (times x) y.same_free;
           same_rows = λ x. ap (λ (c : Content). times x (rows (lists_of c))) out_there ∙ y.same_rows x;
-          rows_kept = λ _ j x h n other held not_mine before after.
+          rows_kept = λ _ j x h n other held _ not_mine before after.
               let only = hold_at_only j own_hold other (ap (hold_at j) (sym y.held) ∙ held) in
               let was : stored_in (in_own (set_told set)) x ≡ Some h = (λ i. stored_in (found_here i) x) ∙ ((λ i. stored_in (content t.shape (lock_named t.shape (only.0 i)) ((only.1 i).log)) x) ∙ before) in
               y.rows_kept x h n (ap (λ (l : List Notes). is_in_hand_of x y.hold.cpu s.view.hand && is_among x (came_last l)) (sym y.noted) ∙ not_mine) (sym (stored_here set x) ∙ was) (sym (stored_here out x) ∙ (ap (λ (c : Content). stored_in c x) (sym out_there) ∙ after));
@@ -381,6 +388,7 @@ module _ {t : TableView} {p q s : PassView} {set out : SetView} {hash : ℕ} {tu
       earlier = refl;
       cpu = refl;
       call = refl;
+      moment = refl;
       allowed = subst (Allows t.shape s.cpu part) set_there y.allowed;
       same_marks = sym y.marks ∙ (ap (λ (n : Notes). n.marks) (sym notes_there) ∙ can.notes_fit.marks_are);
       same_clears = λ x. cleared_times x (also_cleared part) (bits_cleared part) _ y.cleared ∙ (ap (λ (n : Notes). times x (visited_elements (clears_noted n))) (sym notes_there) ∙ sym (cleared_times x (also_cleared actual) (bits_cleared actual) _ can.notes_fit.clears_are));
@@ -388,7 +396,11 @@ module _ {t : TableView} {p q s : PassView} {set out : SetView} {hash : ℕ} {tu
     }
 
     is_told : IsTold t.shape lost step told
-    is_told = ⊎_elim (λ (same : actual ≡ part). inl (ap (given_turn s g.ticket can.hold) (sym same))) (λ (gone : is_among can.hold.lock lost ≡ true). inr (gone, could_be)) told_as
+    unfolding can_give
+    is_told = (
+      ⊎_elim (λ (same : actual ≡ part). inl (ap (given_turn s g.ticket can.hold) (sym same))) (λ (gone : is_among can.hold.lock lost ≡ true). inr (gone, could_be)) told_as,
+      tells_turn can_give g.ticket can.hold actual hold_there y.in_order.0 y.in_order.1,
+    )
 
     bits_told : map clears_found (y.active ++ (y.inactive ++ looks_told (note_of shrunk y.looks y.forced))) ++ map clears_bit (got_cleared got) ≡ bits_of_turns t.shape (y.turns ++ told ∷ [])
     bits_told =
@@ -426,11 +438,11 @@ module _ {t : TableView} {p q s : PassView} {set out : SetView} {hash : ℕ} {tu
 
     changed : Changed t p u (y.turns ++ step ∷ []) (y.turns ++ told ∷ []) lost
     changed = record {
-      told_are = told_last t.shape lost y.turns step told is_told;
+      told_are = told_last t.shape lost y.turns step told (evicts_told t.shape lost q.cpu q.call (rows_on set) y.probes y.turns y.are_evicts) is_told;
       made = record {
         goes = goes_there;
         held = g.held ∙ (ap holds_below y.held ∙ sym begins.in_no_call.holds_nothing);
-        notes = g.notes ∙ (ap (λ (l : List Notes). passed_on actual (notes_below l)) y.noted ∙ (own_passed t.shape s.cpu actual content_there (set_told set) y.below set_there can.may_put.allowed ∙ below_is));
+        notes = g.notes ∙ (own_passed t.shape s.cpu actual content_there (set_told set) s.view.notes set_there can.may_put.allowed ∙ (ap notes_below y.noted ∙ below_is));
       };
       by_call = All-append (IsBy p.cpu p.call) y.turns (step ∷ [])
           (subst (λ (z : ℕ × ℕ). All (IsBy z.0 z.1) y.turns) (λ i. (to_q.cpu i, to_q.call i)) (evicts_by t.shape q.cpu q.call (rows_on set) y.probes y.turns y.are_evicts))

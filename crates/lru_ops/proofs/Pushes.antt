@@ -1,5 +1,5 @@
 -- How an element is freed: a turn of a lock of lists, from its take to its give; and the turn of a CPU's own set, in which an element lives.
-use Rattle.std.proofs.Common.{◌+◌, ◌≡◌, ◌≢◌, ℕ, suc, ◌<◌, ◌≤◌, cond, eqb, Bool, true, false, List, [], ◌∷◌, ◌++◌, map, length, inl, inr, ⊎_elim, sym, refl, ap, ◌∙◌, subst, arith, Option, Some, None}
+use Rattle.std.proofs.Common.{◌+◌, ◌≡◌, ◌≢◌, ℕ, suc, ◌<◌, ◌≤◌, cond, eqb, Bool, true, false, List, [], ◌∷◌, ◌++◌, map, length, inl, inr, ⊎_elim, sym, refl, ap, ◌∙◌, subst, append_assoc, arith, Option, Some, None}
 use Rattle.std.specs.Prelude.{◌⊎◌, IsTrue, IsFalse, All, MatchBool, MatchOption, ◌%◌, ◌^◌, ◌||◌, ◌&&◌, not, option_map}
 use Rattle.std.proofs.lemmas.List.Elements.{All-nil, All-cons, filter-append}
 use Rattle.std.proofs.lemmas.Bool.{cases_lt, lt-ltb, ne_eqb}
@@ -23,6 +23,7 @@ use Rattle.place_words.specs.declared.history.Part.TheVariants as parts
 use Rattle.place_words.specs.declared.list_part.OwnPart.TheVariants as own
 use Rattle.place_words.specs.Bodies.{numbers}
 use Rattle.place_words.specs.Histories as histories
+use Rattle.place_words.specs.declared.visits.Visit.{Visit}
 use Rattle.place_words.specs.Histories.{content, content_after, Allows, IsLegal, marks, bits_cleared, bits_read, also_cleared}
 use Rattle.place_words.specs.Locks.{is_lock, lock_named, lock_number}
 use Rattle.place_words.specs.SerialOrder.{probes_in}
@@ -43,6 +44,7 @@ use Rattle.place_table.specs.declared.view.View.{View}
 use Rattle.place_table.specs.declared.view.Hold.{Hold}
 use Rattle.place_table.specs.declared.view.Notes.{Notes}
 use Rattle.place_table.specs.declared.view.Turned.{Turned}
+use Rattle.place_table.specs.declared.view.WordStep.{WordStep}
 use Rattle.place_table.specs.Calls.{clears_bit, bits_of_part, finds_moved_on}
 use Rattle.place_table.specs.Contents.{content_told, set_told, set_under, lists_of, lists_of_set, FitsLock, FitsSet}
 use Rattle.place_table.specs.Flushes.{flushes}
@@ -56,9 +58,11 @@ use Rattle.place_table.proofs.Entries.{append_nil}
 use Rattle.place_table.proofs.Going.{goes_on, goes_took, goes_moved, goes_noted, goes_gave, goes_of_table, goes_begun, given_turn, same_head, learns_on, learns_after, learns_took, learns_moved, learns_cleared, learns_gave}
 use Rattle.place_table.proofs.Hands.{now_at_is}
 use Rattle.place_table.proofs.StoredHashes.{stored_listed}
-use Rattle.place_table.proofs.Worlds.{some_is, none_some, hold_at_first}
+use Rattle.place_table.proofs.TicketsTaken.{took_touched}
+use Rattle.place_table.proofs.Worlds.{some_is, none_some, true_false, hold_at_first}
+use Rattle.place_table.proofs.Telling.{tells_turn}
 use Rattle.lru_ops.specs.Lists.{Changed, CanFree, Freed}
-use Rattle.lru_ops.specs.Shared.{FreedBy}
+use Rattle.lru_ops.specs.Shared.{FreedBy, HasTouched}
 use Rattle.percpu_values.specs.BodyList.{pushed}
 
 -- The set in which an element lives
@@ -159,6 +163,22 @@ learns_any {shape} {v} {w} {e} {was} l = record {
     any None = tt
     any (Some bit) = tt
 
+-- Steps on words
+
+has_touched : (p q : PassView) (made : List WordStep) → q.view.touched ≡ p.view.touched ++ made → HasTouched p q
+has_touched p q made are = record { steps = made; steps_are = are }
+
+pub touched_on : (p q r : PassView) → HasTouched p q → HasTouched q r → HasTouched p r
+touched_on p q r a b =
+    record { steps = a.steps ++ b.steps; steps_are = b.steps_are ∙ (ap (λ (l : List WordStep). l ++ b.steps) a.steps_are ∙ append_assoc p.view.touched a.steps b.steps) }
+
+touched_gave : (s z : PassView) (part : Part) → Gave s z part → HasTouched s z
+touched_gave s z part gave =
+    let given_back : WordStep = record { at = gave.at; word = gave.hold.lock; seen = None; left = 0 } in
+    let made = took_touched s.view gave.took.drawn gave.took.ticket gave.took.reached gave.took.touched gave.took.takes in
+    has_touched s z (made.more ++ given_back ∷ [])
+    (ap (λ (x : PassView). x.view.touched) gave.after_is ∙ (ap (λ (l : List WordStep). l ++ given_back ∷ []) made.are ∙ append_assoc s.view.touched made.more (given_back ∷ [])))
+
 -- Turns under way
 
 -- what is noted of a turn in which the bit of one element was cleared
@@ -173,6 +193,7 @@ pub record Underway (t : TableView) (hold : Hold) (p s : PassView) (now : Lists)
   pub noted : s.view.notes ≡ notes ∷ p.view.notes
   pub spares : s.spares ≡ p.spares
   pub carried : s.view.carried ≡ p.view.carried
+  pub touched : HasTouched p s
   pub learns : Learns t.shape p.view s.view [] touches
 
 -- What may be given back under a lock by a part, from what lay there at the take, where these lists lie there now: nothing that was
@@ -194,6 +215,7 @@ pub record TurnMade (t : TableView) (lock : DomainId) (hold : Hold) (part : Part
   pub earlier : step.earlier ≡ hold.log
   pub hand : z.view.hand ≡ s.view.hand
   pub readings : z.view.readings ≡ s.view.readings
+  pub touched : HasTouched p z
 
 -- the notes of a turn whose part reads no bit, probes nothing and gives nothing out
 pub fits_with : (shape : Shape) (v : View) (hold : Hold) (part : Part) (notes : Notes) → notes.marks ≡ marks shape part → AreCleared (also_cleared part) (bits_cleared part) (clears_noted notes) → bits_read part ≡ [] → FlushedFit shape v part notes.flushed → notes.off ≡ [] → probes_in part ≡ [] → given_out_by part ≡ [] → NotesFit shape v hold part notes
@@ -221,6 +243,9 @@ module _ {t : TableView} {lock : DomainId} {p q : PassView} {body : Stored} {her
   held_there : q.view.held ≡ took.hold ∷ []
   held_there = ap (λ (z : PassView). z.view.held) took.after_is ∙ ap (λ (l : List Hold). took.hold ∷ l) can.no_lock
 
+  touched_there : HasTouched p q
+  touched_there = has_touched p q _ (ap (λ (z : PassView). z.view.touched) took.after_is)
+
   pub underway_taken : Underway t took.hold p q took.hold.now no_notes []
   underway_taken = record {
     goes = goes_there;
@@ -228,6 +253,7 @@ module _ {t : TableView} {lock : DomainId} {p q : PassView} {body : Stored} {her
     noted = ap (λ (z : PassView). z.view.notes) took.after_is;
     spares = ap (λ (z : PassView). z.spares) took.after_is;
     carried = ap (λ (z : PassView). z.view.carried) took.after_is;
+    touched = touched_there;
     learns = learns_took t lock p q here took;
   }
 
@@ -282,6 +308,7 @@ module _ {t : TableView} {lock : DomainId} {p q : PassView} {body : Stored} {her
         noted = ap (λ (z : PassView). z.view.notes) settle.1 ∙ (ap (λ (z : PassView). z.view.notes) clear.after_is ∙ ap (λ (z : PassView). with_clear body.element bit z.view.notes) took.after_is);
         spares = ap (λ (z : PassView). z.spares) settle.1 ∙ (ap (λ (z : PassView). z.spares) clear.after_is ∙ ap (λ (z : PassView). z.spares) took.after_is);
         carried = ap (λ (z : PassView). z.view.carried) settle.1 ∙ (ap (λ (z : PassView). z.view.carried) clear.after_is ∙ ap (λ (z : PassView). z.view.carried) took.after_is);
+        touched = touched_on p r s (touched_on p q r touched_there (has_touched q r _ (ap (λ (z : PassView). z.view.touched) clear.after_is))) (has_touched r s _ (ap (λ (z : PassView). z.view.touched) settle.1));
         learns =
             let known : Learns t.shape q.view r.view [] (clears_bit body.element ∷ []) = learns_any (subst (λ (z : PassView). Learns t.shape q.view z.view [] (record { element = body.element; seen = Some bit; left = false } ∷ [])) (sym clear.after_is) (learns_cleared t.shape clear.at body.element bit q.view clear.known)) in
             learns_on t.shape p.view r.view s.view [] [] (clears_bit body.element ∷ []) []
@@ -316,7 +343,7 @@ module _ {t : TableView} {lock : DomainId} {p q : PassView} {body : Stored} {her
             allowed = subst (Allows t.shape s.cpu part) found leads.allowed;
             same_free = λ x. ap (λ (d : DomainId). times x (lists_of (content_told d back)).free) named ∙ leads.same_free x;
             same_rows = λ x. ap (λ (d : DomainId). times x (rows (lists_of (content_told d back)))) named ∙ leads.same_rows x;
-            rows_kept = λ _ j x h n other held _ was is_now.
+            rows_kept = λ _ j x h n other held _ _ was is_now.
                 some_is (sym (ap (λ (z : histories.Content). stored_in z x) (was_there j other held) ∙ was) ∙ leads.same_hashes x n (ap (λ (d : DomainId). stored_in (content_told d back) x) (sym named) ∙ is_now));
             gone = λ _ on x h is_local was none.
                 let inside = leads.none_gone x (stored_listed (content_told lock here) x h (ap (λ (z : histories.Content). stored_in z x) found ∙ was)) in absurd (omega (arith, none, inside));
@@ -332,9 +359,9 @@ module _ {t : TableView} {lock : DomainId} {p q : PassView} {body : Stored} {her
             (sym (ap (hold_at j) u.held) ∙ held)
 
     -- and was
-    pub turn_made : (z : PassView) → IsTrue (is_lru t.shape.kind) → (meant : CanGive t lock s back part) → Gave s z part → bits_of_part t.shape part ≡ touches → passed_on part p.view.notes ≡ p.view.notes
+    pub turn_made : (z : PassView) → IsTrue (is_lru t.shape.kind) → (meant : CanGive t lock s back part) → Gave s z part → bits_of_part t.shape part ≡ touches → bits_cleared part ≡ [] → passed_on part (notes ∷ p.view.notes) ≡ p.view.notes
         → (IsTrue t.shape.common → (logs : ℕ → List Entry) → KnowsAll t.shape logs p.view → IsFalse (finds_moved_on part)) → TurnMade t lock took.hold part p s z
-    turn_made z lru meant gave bits hands_on moved =
+    turn_made z lru meant gave bits none_told hands_on moved =
         let hold_is : meant.hold ≡ hold_with took.hold now = same_head (sym meant.innermost ∙ u.held) in
         let gave_is : gave.hold ≡ meant.hold = same_head (sym gave.innermost ∙ meant.innermost) in
         let step : Turned = given_turn s gave.ticket meant.hold part in
@@ -347,11 +374,11 @@ module _ {t : TableView} {lock : DomainId} {p q : PassView} {body : Stored} {her
         record {
           step = step;
           changed = record {
-            told_are = (inl refl, tt);
+            told_are = ((inl refl, tells_turn meant gave.ticket meant.hold part refl (clears_noted meant.notes) (ap (λ (l : List Visit). l ++ clears_noted meant.notes) (sym none_told))), tt);
             made = record {
               goes = goes_on p s z [] (step ∷ []) [] [] u.goes made;
               held = ap (λ (x : PassView). x.view.held) gave.after_is ∙ (ap holds_below u.held ∙ sym can.no_lock);
-              notes = ap (λ (x : PassView). x.view.notes) gave.after_is ∙ (ap (λ (l : List Notes). passed_on part (notes_below l)) u.noted ∙ hands_on);
+              notes = ap (λ (x : PassView). x.view.notes) gave.after_is ∙ (ap (passed_on part) u.noted ∙ hands_on);
             };
             by_call = All-cons (IsBy p.cpu p.call) step [] (u.goes.cpu, u.goes.call) (All-nil (IsBy p.cpu p.call));
             spares = ap (λ (x : PassView). x.spares) gave.after_is ∙ u.spares;
@@ -363,6 +390,7 @@ module _ {t : TableView} {lock : DomainId} {p q : PassView} {body : Stored} {her
           earlier = ap (λ (h : Hold). h.log) hold_is;
           hand = ap (λ (x : PassView). x.view.hand) gave.after_is;
           readings = ap (λ (x : PassView). x.view.readings) gave.after_is;
+          touched = touched_on p s z u.touched (touched_gave s z part gave);
         }
 
 -- Pushes
@@ -371,7 +399,8 @@ module _ {t : TableView} {lock : DomainId} {p q : PassView} {body : Stored} {her
 pub record IsPush (shape : Shape) (e : ℕ) (part : Part) : Type 0 where
   pub noted : (v : View) (hold : Hold) (bit : Bool) → NotesFit shape v hold part (with_clear_of e bit)
   pub bits : bits_of_part shape part ≡ clears_bit e ∷ []
-  pub hands_on : (below : List Notes) → passed_on part below ≡ below
+  pub none_told : bits_cleared part ≡ []
+  pub hands_on : (all : List Notes) → passed_on part all ≡ notes_below all
   pub finds_it : IsFalse (finds_moved_on part)
 
 -- the turn of a push, from the take of its lock
@@ -387,9 +416,10 @@ module _ {t : TableView} {lock : DomainId} {p q r s : PassView} {body : Stored} 
 
   pub freed : {back : Content} (z : PassView) → IsTrue (is_lru t.shape.kind) → CanGive t lock s back part → Gave s z part → FreedBy t (on_lock lock part) body p z
   freed z lru meant gave =
-      let made = turn_made is_there can took pushed_here z lru meant gave push.bits (push.hands_on p.view.notes) (λ _ _ _. push.finds_it) in record {
+      let made = turn_made is_there can took pushed_here z lru meant gave push.bits push.none_told (push.hands_on (with_clear_of body.element bit ∷ p.view.notes)) (λ _ _ _. push.finds_it) in record {
         step = made.step;
         changed = made.changed;
+        touched = made.touched;
         turn_is = made.turn;
         hand = made.hand ∙ hand_pushed is_there can took clear settle;
       }
@@ -399,14 +429,6 @@ pub frees_on : (shape : Shape) (e : ℕ) (turns : List TurnAt) (common : Bool) �
     → MatchBool common (FreesPending e turns ⊎ (FreesFlushed e turns ⊎ (turns_of turns ≡ freed_globally e ∷ []))) (turns_of turns ≡ on_lock (CpuLru (set_of shape e)) (parts.Own (own.Push e)) ∷ []) → Frees shape e turns
 frees_on shape e turns common is frees =
     subst (λ b. MatchBool b (FreesPending e turns ⊎ (FreesFlushed e turns ⊎ (turns_of turns ≡ freed_globally e ∷ []))) (turns_of turns ≡ on_lock (CpuLru (set_of shape e)) (parts.Own (own.Push e)) ∷ [])) (sym is) frees
-
-pub freed_once : {t : TableView} {turn : Turn} {body : Stored} {p z : PassView} → ((turns : List TurnAt) → turns_of turns ≡ turn ∷ [] → Frees t.shape body.element turns) → FreedBy t turn body p z → Freed t body p z
-freed_once {t} frees by = record {
-  steps = by.step ∷ [];
-  changed = by.changed;
-  trace = frees (map (turn_at t.shape) (by.step ∷ [])) (ap (λ (x : Turn). x ∷ []) by.turn_is);
-  hand = by.hand;
-}
 
 -- List sets
 
@@ -519,13 +541,19 @@ is_own_push : (shape : Shape) (e : ℕ) → IsPush shape e (own_push e)
 is_own_push shape e = record {
   noted = λ v hold bit. fits_with shape v hold (own_push e) (with_clear_of e bit) refl ([], bit, [], refl, refl) refl tt refl refl refl;
   bits = refl;
-  hands_on = λ below. refl;
+  none_told = refl;
+  hands_on = λ all. refl;
   finds_it = refl;
 }
 
 pub freed_own : {t : TableView} {body : Stored} {c : ℕ} {p z : PassView} → t.shape.common ≡ false → c ≡ set_of t.shape body.element → FreedBy t (on_lock (CpuLru c) (own_push body.element)) body p z → Freed t body p z
-freed_own {t} {body} apart c_is by =
-    freed_once (λ turns are. frees_on t.shape body.element turns false apart (are ∙ ap (λ (k : ℕ). on_lock (CpuLru k) (own_push body.element) ∷ []) c_is)) by
+freed_own {t} {body} apart c_is by = record {
+  steps = by.step ∷ [];
+  changed = by.changed;
+  trace = frees_on t.shape body.element (map (turn_at t.shape) (by.step ∷ [])) false apart (ap (λ (x : Turn). x ∷ []) by.turn_is ∙ ap (λ (k : ℕ). on_lock (CpuLru k) (own_push body.element) ∷ []) c_is);
+  by_home = λ common. true_false (sym common ∙ apart);
+  hand = by.hand;
+}
 
 on_own_set : (shape : Shape) (c e : ℕ) → OnSet shape (CpuLru c) e (own_push e)
 unfolding own_after stored_in

@@ -188,11 +188,11 @@ same_flushes set flushed rest (global.Push x) are allowed cleared =
     (λ _ none. absurd (omega (arith, none))) inside)
 
 -- What lies there tells which parts may be made: what one of the global lists hands on is what it flushed.
-pub flushes_passed : (shape : Shape) (cpu : ℕ) (part : Part) (there : Content) (set : ListSet) (n : Notes) (below : List Notes) → in_global set ≡ there → Allows shape cpu part there
-    → passed_on part (n ∷ below) ≡ record n { flushed = n.flushed ++ flushes_told part } ∷ below
-flushes_passed shape cpu part there set n below is allowed = go part (subst (Allows shape cpu part) (sym is) allowed)
+pub flushes_passed : (shape : Shape) (cpu : ℕ) (part : Part) (there : Content) (set : ListSet) (inner n : Notes) (below : List Notes) → in_global set ≡ there → Allows shape cpu part there
+    → passed_on part (inner ∷ n ∷ below) ≡ record n { flushed = n.flushed ++ flushes_told part } ∷ below
+flushes_passed shape cpu part there set inner n below is allowed = go part (subst (Allows shape cpu part) (sym is) allowed)
   where
-    go : (part : Part) → Allows shape cpu part (in_global set) → passed_on part (n ∷ below) ≡ record n { flushed = n.flushed ++ flushes_told part } ∷ below
+    go : (part : Part) → Allows shape cpu part (in_global set) → passed_on part (inner ∷ n ∷ below) ≡ record n { flushed = n.flushed ++ flushes_told part } ∷ below
     go (parts.Bucket part) allowed = absurd allowed
     go (parts.Free part) allowed = absurd allowed
     go (parts.Local part) allowed = absurd allowed

@@ -1,6 +1,6 @@
 -- How an element is freed where the CPUs share lists: at the home that its home word shows, on a CPU's local lists where it is pending
 -- there, else on the global lists.
-use Rattle.std.proofs.Common.{◌+◌, ◌≡◌, ◌≢◌, ℕ, suc, ◌<◌, ◌≤◌, cond, eqb, Bool, true, false, List, [], ◌∷◌, ◌++◌, length, inl, inr, ⊎_elim, sym, refl, ap, ◌∙◌, subst, arith, Option, Some}
+use Rattle.std.proofs.Common.{◌+◌, ◌≡◌, ◌≢◌, ℕ, suc, ◌<◌, ◌≤◌, cond, eqb, Bool, true, false, List, [], ◌∷◌, ◌++◌, length, drop, inl, inr, ⊎_elim, sym, refl, ap, ◌∙◌, subst, append_assoc, arith, Option, Some}
 use Rattle.std.specs.Prelude.{IsTrue, IsFalse, All, ◌^◌, ◌&&◌, ◌||◌, ◌↔◌, not, nat_lt, IsSome, is_some}
 use Rattle.std.proofs.lemmas.List.Elements.{All-nil, All-cons}
 use Rattle.std.proofs.lemmas.Bool.{eqb-true, cases_lt}
@@ -32,8 +32,8 @@ use Rattle.place_words.specs.Histories.{content, in_locals}
 use Rattle.place_words.specs.Locals.{local_after}
 use Rattle.place_words.specs.Locks.{is_lock, lock_named, lock_number}
 use Rattle.place_words.specs.Sets.{has_row}
-use Rattle.place_words.specs.Takings.{freed_globally, ends_flushed}
-use Rattle.place_words.specs.Turns.{TurnAt, on_lock}
+use Rattle.place_words.specs.Takings.{FreesFlushed, freed_globally, ends_flushed}
+use Rattle.place_words.specs.Turns.{Turn, TurnAt, on_lock, turns_of}
 use Rattle.place_words.proofs.LockLemmas.{named_by_number, number_within}
 use Rattle.place_words.specs.declared.step.Lists.{Lists}
 use Rattle.place_words.specs.State.{rows}
@@ -44,44 +44,40 @@ use Rattle.place_table.specs.declared.view.Hold.{Hold}
 use Rattle.place_table.specs.declared.view.HomeIn.{HomeIn}
 use Rattle.place_table.specs.declared.view.InHand.{InHand}
 use Rattle.place_table.specs.declared.view.Turned.{Turned}
+use Rattle.place_table.specs.declared.view.WordStep.{WordStep}
 use Rattle.place_table.specs.Calls.{finds_moved_on}
 use Rattle.place_table.specs.Contents.{content_told, lists_of, FitsLocal}
 use Rattle.place_table.specs.Known.{BitTouch, Learns, KnowsAll, turn_at, IsBy}
 use Rattle.place_table.specs.Passes.{PassView, TableView, TookLock, CanSettle, CanGive, Gave, Cleared, Settled, SawHome, with_view}
 use Rattle.place_table.specs.Plays.{MayBeHome}
+use Rattle.place_table.specs.Rules.{home_step}
 use Rattle.place_table.specs.StoredHashes.{stored_in}
 use Rattle.place_table.specs.Views.{hold_at, is_in_hand_of, home_known, with_reading, home_then, readings_then, without_in_hand, with_home_read, home_read, touching, no_notes, hold_with}
 use Rattle.place_table.specs.Words.{home_word}
 use Rattle.place_table.proofs.Entries.{append_nil}
 use Rattle.place_table.proofs.FlushedLast.{flushed_told}
+use Rattle.place_table.proofs.Readings.{reading_known}
 use Rattle.place_table.proofs.Going.{goes_noted, goes_of_table, goes_begun, learns_nothing}
 use Rattle.place_table.proofs.Worlds.{true_false, by_bool, some_is, both_true}
-use Rattle.lru_ops.specs.Lists.{Changed, CanFree, Freed}
-use Rattle.lru_ops.specs.Shared.{CanPushAt, LiesUnder, FreedBy, FoundMoved}
+use Rattle.lru_ops.specs.Lists.{Changed, CanFree, Freed, FreesFrom, ReadHomeFirst}
+use Rattle.lru_ops.specs.Shared.{CanPushAt, LiesUnder, FreedBy, FoundMoved, HasTouched}
 use Rattle.lru_ops.proofs.Ends.{changed_on}
-use Rattle.lru_ops.proofs.Pushes.{Leads, TurnMade, IsPush, OnSet, Pushing, with_clear_of, fits_with, has_row_in, left_times, left_hash, none_lost, room_left, underway_taken, can_settle_listed, can_give_under, turn_made, can_give_pushed, freed, frees_on, freed_once}
+use Rattle.lru_ops.proofs.Pushes.{Leads, TurnMade, IsPush, OnSet, Pushing, with_clear_of, fits_with, has_row_in, left_times, left_hash, none_lost, room_left, underway_taken, can_settle_listed, can_give_under, turn_made, can_give_pushed, freed, frees_on, touched_on}
 use Rattle.percpu_values.specs.BodyList.{pushed}
 
 -- Homes that were read
 
--- a home that was read of what is in a CPU's hand is known of it
-reading_known : (e c : ℕ) (home : Home) (hand : List InHand) (readings : List HomeIn) → is_in_hand_of e c hand ≡ true → home_known e c (with_reading e home hand readings) ≡ Some home
-reading_known e c home [] readings in_hand = true_false (sym in_hand)
-reading_known e c home (x ∷ xs) readings in_hand =
-    by_test x.element e (λ b. cond (b && eqb x.cpu c) true (is_in_hand_of e c xs) ≡ true → home_known e c (cond b (record { element = e; cpu = x.cpu; home = home } ∷ with_reading e home xs readings) (with_reading e home xs readings)) ≡ Some home)
-    (λ _ here. by_test e e (λ z. home_at (z && eqb x.cpu c) ≡ Some home) (λ _. by_bool (eqb x.cpu c) (λ b. cond b true (is_in_hand_of e c xs) ≡ true → home_at b ≡ Some home) (λ _ _. refl) (λ _ later. reading_known e c home xs readings later) here) (λ other. absurd (other refl)))
-    (λ _ later. reading_known e c home xs readings later) in_hand
-  where
-    home_at : Bool → Option Home
-    home_at b = cond b (Some home) (home_known e c (with_reading e home xs readings))
-
--- and what was known is known at a take, as it is then
-known_then : (e c : ℕ) (shape : Shape) (hold : Hold) (readings : List HomeIn) (old : Home) → home_known e c readings ≡ Some old → home_known e c (readings_then shape hold readings) ≡ Some (home_then shape hold e old)
+-- what was known of a home is known at a take, as it is then
+known_then : (e c : ℕ) (shape : Shape) (hold : Hold) (readings : List HomeIn) (old : HomeIn) → home_known e c readings ≡ Some old → (now : HomeIn) × (home_known e c (readings_then shape hold readings) ≡ Some now) × (now.home ≡ home_then shape hold e old.home)
 known_then e c shape hold [] old known = absurd cc
 known_then e c shape hold (x ∷ xs) old known =
     by_bool (eqb x.element e && eqb x.cpu c)
-    (λ b. cond b (Some x.home) (home_known e c xs) ≡ Some old → cond b (Some (home_then shape hold x.element x.home)) (home_known e c (readings_then shape hold xs)) ≡ Some (home_then shape hold e old))
-    (λ hit is. (λ i. Some (home_then shape hold (eqb-true x.element e (both_true (eqb x.element e) (eqb x.cpu c) hit).0 i) (some_is is i))))
+    (λ b. cond b (Some x) (home_known e c xs) ≡ Some old → (now : HomeIn) × (cond b (Some (record x { home = home_then shape hold x.element x.home })) (home_known e c (readings_then shape hold xs)) ≡ Some now) × (now.home ≡ home_then shape hold e old.home))
+    (λ hit is. (
+      record x { home = home_then shape hold x.element x.home },
+      refl,
+      ap (λ (z : ℕ). home_then shape hold z x.home) (eqb-true x.element e (both_true (eqb x.element e) (eqb x.cpu c) hit).0) ∙ ap (λ (z : HomeIn). home_then shape hold e z.home) (some_is is),
+    ))
     (λ _ later. known_then e c shape hold xs old later) known
 
 -- one that was read to be on local lists, and is on them no more, is on the global ones
@@ -121,13 +117,24 @@ module _ {t : TableView} {p q : PassView} {body : Stored} {home : Home} (x : Rea
   may_be : MayBeHome t.shape home
   may_be = x.saw.fits.is_there x.lru
 
+  -- what the look tells
+  read_now : HomeIn
+  read_now = record { element = body.element; cpu = p.cpu; home = home; at = x.saw.at; turns = x.saw.turns }
+
+  read_here : home_known body.element p.cpu (with_reading x.saw.at x.saw.turns body.element home p.view.hand p.view.readings) ≡ Some read_now
+  unfolding read_now
+  read_here = reading_known x.saw.at x.saw.turns body.element p.cpu home p.view.hand p.view.readings x.can.in_hand
+
   pub can_push_at : (lock : DomainId) → home ≡ homes.In lock → CanPushAt t lock body q
+  unfolding read_now
   can_push_at lock is =
       subst (λ (z : PassView). CanPushAt t lock body z) (sym x.saw.after_is) record {
         can = record { of_table = x.can.of_table; begun = x.can.begun; no_lock = x.can.no_lock; real = x.can.real; sized = x.can.sized; in_hand = x.can.in_hand; not_carried = x.can.not_carried };
         common = x.common;
         there = (subst (MayBeHome t.shape) is may_be).0;
-        read = reading_known body.element p.cpu home p.view.hand p.view.readings x.can.in_hand ∙ ap (λ (h : Home). Some h) is;
+        reading = read_now;
+        read = read_here;
+        home_is = is;
       }
 
   pub lies_under : (lock : DomainId) → home ≡ homes.In lock → LiesUnder t lock body.element q
@@ -143,27 +150,91 @@ module _ {t : TableView} {p q : PassView} {body : Stored} {home : Home} (x : Rea
       subst (λ (z : PassView). Changed t p z [] [] []) (sym x.saw.after_is) record {
         told_are = tt;
         made = record {
-          goes = goes_noted (with_home_read body.element home p.view.held p.view.notes) p.view.bits (touching x.saw.at (home_word p.view.shape body.element) (Some (home_code home)) (home_code home) p.view) (with_reading body.element home p.view.hand p.view.readings) p (with_view p (home_read x.saw.at body.element home p.view)) refl;
+          goes = goes_noted (with_home_read body.element home p.view.held p.view.notes) p.view.bits (touching x.saw.at (home_word p.view.shape body.element) (Some (home_code home)) (home_code home) p.view) (with_reading x.saw.at x.saw.turns body.element home p.view.hand p.view.readings) p (with_view p (home_read x.saw.at x.saw.turns body.element home p.view)) refl;
           held = refl;
           notes = ap (λ (held : List Hold). with_home_read body.element home held p.view.notes) x.can.no_lock;
         };
         by_call = All-nil (IsBy p.cpu p.call);
         spares = refl;
         carried = refl;
-        learns = subst (Learns t.shape p.view (home_read x.saw.at body.element home p.view) []) (sym (ap (λ b. cond {A = List BitTouch} b [] []) x.lru)) (learns_nothing t.shape p.view (home_read x.saw.at body.element home p.view) refl refl refl refl);
+        learns = subst (Learns t.shape p.view (home_read x.saw.at x.saw.turns body.element home p.view) []) (sym (ap (λ b. cond {A = List BitTouch} b [] []) x.lru)) (learns_nothing t.shape p.view (home_read x.saw.at x.saw.turns body.element home p.view) refl refl refl refl);
         none_moved = λ _ _ _. All-nil (λ (turn : Turned). IsFalse (finds_moved_on turn.entry.part));
       }
 
-  pub freed_since : (z : PassView) → Freed t body q z → Freed t body p z
-  freed_since z freed = record {
-    steps = freed.steps;
-    changed = changed_on changed_read freed.changed;
-    trace = freed.trace;
-    hand = freed.hand ∙ ap (λ (z : PassView). without_in_hand body.element z.cpu z.view.hand) x.saw.after_is;
-  }
+  is_global : ((c : ℕ) → home ≢ homes.In (Local c)) → home ≡ homes.In Global
+  is_global no_local = global_home t.shape home x.common x.lru may_be (λ holder. x.saw.fits.of_hand p.cpu holder x.can.begun x.can.in_hand x.can.not_carried) no_local
+
+  -- the reading is the first step on a word, and these turns free the element from there
+  freed_from : (z : PassView) → HasTouched q z → (turns : List TurnAt) → FreesFrom home x.saw.turns body.element turns → (h : Home) × (first : ReadHomeFirst t p z body.element h) × FreesFrom h first.saw.turns body.element turns
+  freed_from z more turns frees =
+      let reading : WordStep = home_step t.shape (record { element = body.element; home = home }) x.saw.at in
+      let read_so : q.view.touched ≡ p.view.touched ++ reading ∷ [] =
+      ap (λ (y : PassView). y.view.touched) x.saw.after_is ∙ ap (λ (s : Shape). p.view.touched ++ home_step s (record { element = body.element; home = home }) x.saw.at ∷ []) x.can.of_table.1 in (
+        home,
+        record {
+          read = q;
+          saw = x.saw;
+          later = more.steps;
+          touched_are = more.steps_are ∙ (ap (λ (l : List WordStep). l ++ more.steps) read_so ∙ append_assoc p.view.touched (reading ∷ []) more.steps);
+        },
+        frees,
+      )
+
+  hand_since : (z : PassView) → z.view.hand ≡ without_in_hand body.element q.cpu q.view.hand → z.view.hand ≡ without_in_hand body.element p.cpu p.view.hand
+  hand_since z hand = hand ∙ ap (λ (y : PassView). without_in_hand body.element y.cpu y.view.hand) x.saw.after_is
+
+  -- freed where it is pending
+  pub freed_pending : (c : ℕ) (z : PassView) → home ≡ homes.In (Local c) → FreedBy t (on_lock (Local c) (parts.Local (local.Push body.element true))) body q z → Freed t body p z
+  freed_pending c z is by =
+      let turns : List TurnAt = turn_at t.shape by.step ∷ [] in
+      let are : turns_of turns ≡ on_lock (Local c) (parts.Local (local.Push body.element true)) ∷ [] = ap (λ (y : Turn). y ∷ []) by.turn_is in record {
+        steps = by.step ∷ [];
+        changed = changed_on changed_read by.changed;
+        trace = frees_on t.shape body.element turns true x.common (inl (record { on = c; turns_are = are }));
+        by_home = λ _. freed_from z by.touched turns (subst (λ (h : Home). FreesFrom h x.saw.turns body.element turns) (sym is) (inl are));
+        hand = hand_since z by.hand;
+      }
+
+  -- freed on the global lists at once
+  pub freed_global : (z : PassView) → ((c : ℕ) → home ≢ homes.In (Local c)) → FreedBy t (freed_globally body.element) body q z → Freed t body p z
+  freed_global z no_local by =
+      let turns : List TurnAt = turn_at t.shape by.step ∷ [] in
+      let are : turns_of turns ≡ freed_globally body.element ∷ [] = ap (λ (y : Turn). y ∷ []) by.turn_is in record {
+        steps = by.step ∷ [];
+        changed = changed_on changed_read by.changed;
+        trace = frees_on t.shape body.element turns true x.common (inr (inr are));
+        by_home = λ _. freed_from z by.touched turns (subst (λ (h : Home). FreesFrom h x.saw.turns body.element turns) (sym (is_global no_local)) are);
+        hand = hand_since z by.hand;
+      }
+
+  -- or after it was found to have moved on, flushed since the reading
+  moved_since : (c : ℕ) (r : PassView) (moved : FoundMoved t c body q r) → IsTrue (ends_flushed body.element false (drop x.saw.turns moved.step.earlier))
+  unfolding read_now
+  moved_since c r moved = moved.since read_now (ap (λ (y : PassView). home_known body.element y.cpu y.view.readings) x.saw.after_is ∙ read_here)
+
+  pub freed_moved : (c : ℕ) (left : Stored) (r z : PassView) → home ≡ homes.In (Local c) → (left ≡ body) × FoundMoved t c body q r → FreedBy t (freed_globally left.element) left r z → Freed t body p z
+  freed_moved c left r z is found then =
+      let moved = found.1 in
+      let by : FreedBy t (freed_globally body.element) body r z = subst (λ (b : Stored). FreedBy t (freed_globally b.element) b r z) found.0 then in
+      let turns : List TurnAt = turn_at t.shape moved.step ∷ turn_at t.shape by.step ∷ [] in
+      let flushed : FreesFlushed body.element turns = record {
+        on = c;
+        first = turn_at t.shape moved.step;
+        second = turn_at t.shape by.step;
+        turns_are = refl;
+        first_is = moved.turn_is;
+        was_flushed = moved.was_flushed;
+        second_is = by.turn_is;
+      } in record {
+        steps = moved.step ∷ by.step ∷ [];
+        changed = changed_on changed_read (changed_on moved.changed by.changed);
+        trace = frees_on t.shape body.element turns true x.common (inr (inl flushed));
+        by_home = λ _. freed_from z (touched_on q r z moved.touched by.touched) turns (subst (λ (h : Home). FreesFrom h x.saw.turns body.element turns) (sym is) (inr (flushed, refl, moved_since c r moved)));
+        hand = hand_since z (by.hand ∙ (λ i. without_in_hand body.element (moved.changed.made.goes.cpu i) (moved.hand i)));
+      }
 
   pub can_push_global : ((c : ℕ) → home ≢ homes.In (Local c)) → CanPushAt t Global body q
-  can_push_global no_local = can_push_at Global (global_home t.shape home x.common x.lru may_be (λ holder. x.saw.fits.of_hand p.cpu holder x.can.begun x.can.in_hand x.can.not_carried) no_local)
+  can_push_global no_local = can_push_at Global (is_global no_local)
 
 -- Global lists
 
@@ -174,7 +245,8 @@ is_global_push : (shape : Shape) (e : ℕ) → IsPush shape e (global_push e)
 is_global_push shape e = record {
   noted = λ v hold bit. fits_with shape v hold (global_push e) (with_clear_of e bit) refl ([], bit, [], refl, refl) refl tt refl refl refl;
   bits = refl;
-  hands_on = λ below. refl;
+  none_told = refl;
+  hands_on = λ all. refl;
   finds_it = refl;
 }
 
@@ -192,8 +264,9 @@ on_global_lists shape e = record {
 -- the element is listed there at the take
 listed_there : {t : TableView} {p q : PassView} {body : Stored} {set : SetView} → CanPushAt t Global body p → (took : TookLock t Global p q (contents.Set set)) → IsIn body.element (rows took.hold.now)
 listed_there {t} {p} {q} {body} {set} can took =
-    took.at_home body.element p.cpu took.within
-    (ap (λ (z : PassView). home_known body.element p.cpu z.view.readings) took.after_is ∙ known_then body.element p.cpu p.view.shape took.hold p.view.readings (homes.In Global) can.read)
+    let then = known_then body.element p.cpu p.view.shape took.hold p.view.readings can.reading can.read in
+    took.at_home body.element p.cpu then.0 took.within (ap (λ (z : PassView). home_known body.element p.cpu z.view.readings) took.after_is ∙ then.1)
+    (then.2 ∙ ap (λ (h : Home). home_then p.view.shape took.hold body.element h) can.home_is)
 
 pub pushing_global : (t : TableView) (p q r s : PassView) (body : Stored) (set : SetView) (e : ℕ) (bit : Bool) → IsTrue (is_lru t.shape.kind) → CanPushAt t Global body p → e ≡ body.element
     → TookLock t Global p q (contents.Set set) → Cleared e q r bit → Settled Global e r s → Pushing t Global global_push p q r s body set bit
@@ -223,12 +296,10 @@ is_local_push : (shape : Shape) (e : ℕ) → IsPush shape e (local_push true e)
 is_local_push shape e = record {
   noted = λ v hold bit. fits_with shape v hold (local_push true e) (with_clear_of e bit) refl ([], bit, [], refl, refl) refl tt refl refl refl;
   bits = refl;
-  hands_on = λ below. refl;
+  none_told = refl;
+  hands_on = λ all. refl;
   finds_it = refl;
 }
-
-pub freed_pending : {t : TableView} {body : Stored} {c : ℕ} {p z : PassView} → IsTrue t.shape.common → FreedBy t (on_lock (Local c) (local_push true body.element)) body p z → Freed t body p z
-freed_pending {t} {body} {c} common by = freed_once (λ turns are. frees_on t.shape body.element turns true common (inl (record { on = c; turns_are = are }))) by
 
 no_row : (e : ℕ) (rows : List Row) → times e (elements_of rows) ≡ 0 → has_row e rows ≡ false
 no_row e [] none = refl
@@ -331,14 +402,17 @@ module _ {t : TableView} {c : ℕ} {p q : PassView} {body : Stored} {lists : Loc
     pub found_moved : {back : LocalView} (z : PassView) → IsTrue (is_lru t.shape.kind) → LiesUnder t (Local c) e p → CanGive t (Local c) q (contents.Local back) (local_push false e) → Gave q z (local_push false e) → FoundMoved t c body p z
     found_moved {back} z lru lies meant gave =
         let made : TurnMade t (Local c) took.hold (local_push false e) p q z =
-        turn_made read.there can took (underway_taken read.there can took) z lru meant gave refl refl (λ common logs knows. absurd (never_known lies logs knows)) in
+        turn_made read.there can took (underway_taken read.there can took) z lru meant gave refl refl refl (λ common logs knows. absurd (never_known lies logs knows)) in
         let goes = made.changed.made.goes in
+        let told = flushed_told t.shape c read.reading.turns e took.hold.log took.legal (took.moved_on e p.cpu c read.reading took.within refl read.read read.home_is none_listed) in
+        let then = known_then e p.cpu p.view.shape took.hold p.view.readings read.reading read.read in
         let hand_is : z.view.hand ≡ p.view.hand = made.hand ∙ ap (λ (x : PassView). x.view.hand) took.after_is in record {
           step = made.step;
           changed = made.changed;
+          touched = made.touched;
           turn_is = made.turn;
-          was_flushed = subst (λ (l : List Entry). IsTrue (ends_flushed e false l)) (sym made.earlier)
-              (flushed_told t.shape c e took.hold.log took.legal (took.moved_on e p.cpu c took.within refl read.read none_listed));
+          was_flushed = subst (λ (l : List Entry). IsTrue (ends_flushed e false l)) (sym made.earlier) told.1;
+          since = λ known found. subst (λ (z : ℕ × List Entry). IsTrue (ends_flushed e false (drop z.0 z.1))) (λ i. (ap (λ (h : HomeIn). h.turns) (some_is (sym read.read ∙ found)) i, sym made.earlier i)) told.0;
           hand = hand_is;
           can = record {
             can = record {
@@ -352,35 +426,11 @@ module _ {t : TableView} {c : ℕ} {p q : PassView} {body : Stored} {lists : Loc
             };
             common = read.common;
             there = read.common;
-            read = (λ i. home_known e (goes.cpu i) ((made.readings ∙ ap (λ (x : PassView). x.view.readings) took.after_is) i))
-                ∙ (known_then e p.cpu p.view.shape took.hold p.view.readings (homes.In (Local c)) read.read
-                ∙ ap (λ (h : Home). Some h) (then_global p.view.shape took.hold e c (sym took.lock_is) none_listed));
+            reading = then.0;
+            read = (λ i. home_known e (goes.cpu i) ((made.readings ∙ ap (λ (x : PassView). x.view.readings) took.after_is) i)) ∙ then.1;
+            home_is = then.2 ∙ (ap (λ (h : Home). home_then p.view.shape took.hold e h) read.home_is ∙ then_global p.view.shape took.hold e c (sym took.lock_is) none_listed);
           };
         }
-
--- freed on the global lists at once, or after it was found to have moved on
-pub freed_global : {t : TableView} {body : Stored} {p z : PassView} → IsTrue t.shape.common → FreedBy t (freed_globally body.element) body p z → Freed t body p z
-freed_global {t} {body} common by = freed_once (λ turns are. frees_on t.shape body.element turns true common (inr (inr are))) by
-
-pub freed_moved : {t : TableView} {body left : Stored} {c : ℕ} {p q z : PassView} → (left ≡ body) × FoundMoved t c body p q → FreedBy t (freed_globally left.element) left q z → Freed t body p z
-freed_moved {t} {body} {left} {c} {p} {q} {z} found then =
-    let moved = found.1 in
-    let by : FreedBy t (freed_globally body.element) body q z = subst (λ (b : Stored). FreedBy t (freed_globally b.element) b q z) found.0 then in
-    let turns : List TurnAt = turn_at t.shape moved.step ∷ turn_at t.shape by.step ∷ [] in record {
-      steps = moved.step ∷ by.step ∷ [];
-      changed = changed_on moved.changed by.changed;
-      trace = frees_on t.shape body.element turns true moved.can.common
-          (inr (inl (record {
-            on = c;
-            first = turn_at t.shape moved.step;
-            second = turn_at t.shape by.step;
-            turns_are = refl;
-            first_is = moved.turn_is;
-            was_flushed = moved.was_flushed;
-            second_is = by.turn_is;
-          })));
-      hand = by.hand ∙ (λ i. without_in_hand body.element (moved.changed.made.goes.cpu i) (moved.hand i));
-    }
 
 -- whether the element was pending is what taking its row answered
 pub was_pending : (e : ℕ) (pending : List Row) (found : Option Row) (answer : Bool) → (IsSome found ↔ IsIn e (elements_of pending)) → answer ≡ is_some found → answer ≡ true → IsIn e (elements_of pending)
@@ -420,9 +470,8 @@ module _ {t : TableView} {c : ℕ} {p q r s : PassView} {body : Stored} {lists :
       (can_give_pushed (is_local_push t.shape body.element) x.can.there x.can.can x.took x.clear x.settle
       (local_leads x.can.can x.took s.cpu back x.pending (is ∙ ap (λ (z : LocalView). with_free (pushed body z.free) z) (off_is ∙ ap (λ (n : ℕ). without_pending n lists) e_is)) whole))
 
-  pub local_freed : (e : ℕ) (back : LocalView) (z : PassView) → e ≡ body.element → CanGive t (Local c) s (contents.Local back) (local_push true e) → Gave s z (local_push true e) → Freed t body p z
+  pub local_freed : (e : ℕ) (back : LocalView) (z : PassView) → e ≡ body.element → CanGive t (Local c) s (contents.Local back) (local_push true e) → Gave s z (local_push true e) → FreedBy t (on_lock (Local c) (local_push true body.element)) body p z
   local_freed e back z e_is meant gave =
-      freed_pending x.can.common
       (freed (is_local_push t.shape body.element) x.can.there x.can.can x.took x.clear x.settle z x.lru (subst (λ (n : ℕ). CanGive t (Local c) s (contents.Local back) (local_push true n)) e_is meant) (subst (λ (n : ℕ). Gave s z (local_push true n)) e_is gave))
 
 -- It was not pending there any more, and nothing was done.

@@ -8,7 +8,8 @@ use Rattle.map_types.specs.declared.reply.Reply.TheVariants.{Done, Refused}
 use Rattle.map_types.specs.Kind.{is_percpu}
 use Rattle.key_hash.specs.Jhash.{hash}
 use Rattle.place_table.specs.BucketPuts.{UpdateCall, verb_of}
-use Rattle.place_table.specs.Calls.{Called}
+use Rattle.place_table.specs.Calls.{Called, CalledWhole}
+pub use Rattle.place_table.specs.KeyCalls.{CalledOn}
 use Rattle.place_table.specs.Passes.{PassView, TableView}
 use Rattle.lru_ops.specs.declared.map.LruRefusal.{LruRefusal}
 use Rattle.lru_ops.specs.declared.map.LruRefusal.TheVariants as refusals
@@ -37,7 +38,7 @@ MayRefuse kind flags refusals.Enomem = (flags ≤ 2) × IsFalse (only_writes kin
 -- What an update answers. Unknown flags are refused before anything is looked at.
 abbrev pub Updates : TableView → PassView → PassView → UpdateCall → Result (Unit {0}) LruRefusal → Type 0
 Updates t before after update (Ok done) = Called t before after (verb_of update) Done
-Updates t before after update (Err refusals.Einval) = (after ≡ before) × Called t before after (verb_of update) (Refused errnos.Einval)
+Updates t before after update (Err refusals.Einval) = (after ≡ before) × CalledWhole t before after (verb_of update) (Refused errnos.Einval)
 Updates t before after update (Err refusals.Enoent) = Called t before after (verb_of update) (Refused errnos.Enoent)
 Updates t before after update (Err refusals.Eexist) = Called t before after (verb_of update) (Refused errnos.Eexist)
 Updates t before after update (Err refusals.Enomem) = FoundNoElement t update.side update.flags update.key update.value before after

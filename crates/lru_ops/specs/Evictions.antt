@@ -26,12 +26,13 @@ use Rattle.place_table.specs.declared.view.InHand.{InHand}
 use Rattle.place_table.specs.declared.view.Notes.{Notes}
 use Rattle.place_table.specs.declared.view.Turned.{Turned}
 use Rattle.place_table.specs.declared.view.WordStep.{WordStep}
+use Rattle.place_table.specs.Calls.{TellsTurn}
 use Rattle.place_table.specs.Contents.{lists_of}
 use Rattle.place_table.specs.Known.{Learns}
 use Rattle.place_table.specs.Passes.{PassView, TableView, IsPassOf, HasBegun, Goes}
 use Rattle.place_table.specs.Rules.{owner_step, HasStep, IsAboveAll}
 use Rattle.place_table.specs.TurnNotes.{HasOnlyHash}
-use Rattle.place_table.specs.Views.{is_among, is_in_hand_of, known_log, no_notes, with_in_hand, without_in_hand, holds_below, notes_below, owners_probed, hold_with}
+use Rattle.place_table.specs.Views.{is_among, is_in_hand_of, known_log, no_notes, with_in_hand, without_in_hand, holds_below, notes_below, with_owner_read, hold_with}
 use Rattle.lru_ops.specs.declared.probing.Destination.{Destination}
 use Rattle.lru_ops.specs.declared.probing.Destination.TheVariants.{OwnFree, LocalFree, OwnHand}
 use Rattle.lru_lists.specs.declared.bits.Probed.{Probed}
@@ -114,10 +115,11 @@ pub record TakenOut (t : TableView) (bucket e : ℕ) (q : PassView) (left : List
   pub taken : Some body ≡ body_of e bodies
   pub left_is : left ≡ without_element e bodies
 
--- the turn is a probe of this bucket for this element, by this CPU in this call, with this answer
+-- the turn is a probe of this bucket for this element, by this CPU in this call, with this answer, and tells what was read in it
 pub record IsEvict (shape : Shape) (cpu call bucket e : ℕ) (seen : Seen) (turn : Turned) : Type 0 where
   pub lock : turn.lock ≡ lock_number shape (Bucket bucket)
   pub entry : turn.entry ≡ record { ticket = turn.entry.ticket; cpu = cpu; call = call; part = parts.Bucket (Evict e seen) }
+  pub tells : TellsTurn shape turn turn.entry.part
 
 -- Where the turn is a probe that found its element in the hand of a CPU, one of these steps on words read the owner of the element
 -- so.
@@ -136,6 +138,11 @@ pub record SawHolders (shape : Shape) (before after : PassView) (turns : List Tu
 abbrev pub hand_with : ℕ → ℕ → Seen → List InHand → List InHand
 hand_with cpu e Removed hand = with_in_hand e cpu hand
 hand_with cpu e (Held holder) hand = hand
+
+-- what a probe read of an owner, as it is noted of the turn around it
+abbrev pub owners_probed : ℕ → Seen → List Notes → List Notes
+owners_probed e Removed below = below
+owners_probed e (Held holder) below = with_owner_read e (Hand holder) below
 
 -- The bucket was given back with the turn. What the probe read is noted of the turn around it.
 pub record EndedWith (t : TableView) (bucket e : ℕ) (q s : PassView) (seen : Seen) : Type 0 where

@@ -1,5 +1,5 @@
 -- How an element is taken for a new key, and how one is freed: what each leaves of a pass.
-use Rattle.std.specs.Prelude.{IsTrue, ◌≡◌, ◌≢◌, ℕ, ◌<◌, true, false, All, List, [], ◌∷◌, ◌++◌, map, option_map, reverse, Option, None, Some, MatchOption, MatchBool}
+use Rattle.std.specs.Prelude.{IsTrue, ◌≡◌, ◌≢◌, ◌⊎◌, ℕ, ◌<◌, true, false, All, List, [], ◌∷◌, ◌++◌, drop, map, option_map, reverse, Option, None, Some, MatchOption, MatchBool}
 use Rattle.key_hash.specs.Bucket.{bucket_number}
 use Rattle.map_types.specs.declared.attr.Shape.{Shape}
 use Rattle.map_types.specs.declared.kind.DomainId.TheVariants.{Local, Global, CpuLru}
@@ -9,6 +9,8 @@ use Rattle.map_types.specs.Listed.{elements_of}
 use Rattle.map_types.specs.Stored.{Stored, IsSized}
 use Rattle.place_words.specs.declared.bucket_part.Seen.TheVariants.{Held}
 use Rattle.place_words.specs.declared.history.Part.TheVariants as parts
+use Rattle.place_words.specs.declared.home.Home.{Home}
+use Rattle.place_words.specs.declared.home.Home.TheVariants as homes
 use Rattle.place_words.specs.declared.list_part.GlobalPart.TheVariants as global
 use Rattle.place_words.specs.declared.list_part.LocalPart.TheVariants as local
 use Rattle.place_words.specs.declared.list_part.Stolen.TheVariants.{Nothing}
@@ -21,12 +23,14 @@ use Rattle.place_words.specs.Histories.{in_locals, in_global, in_own}
 use Rattle.place_words.specs.Locals.{LocalLists}
 use Rattle.place_words.specs.Sets.{ListSet, own_scans, rotated_set}
 use Rattle.place_words.specs.Shrinking.{after_looks, forced_rows}
-use Rattle.place_words.specs.Takings.{Acquires, Frees, walk_probes}
-use Rattle.place_words.specs.Turns.{found, on_lock, ring}
+use Rattle.place_words.specs.Takings.{Acquires, Frees, FreesFlushed, freed_globally, ends_flushed, walk_probes}
+use Rattle.place_words.specs.Turns.{TurnAt, found, on_lock, ring, turns_of}
 use Rattle.place_table.specs.declared.view.Turned.{Turned}
+use Rattle.place_table.specs.declared.view.WordStep.{WordStep}
 use Rattle.place_table.specs.Calls.{AreTold, FindNoneMoved, bits_of_turns}
 use Rattle.place_table.specs.Known.{Learns, turn_of, turn_at, IsBy}
-use Rattle.place_table.specs.Passes.{PassView, TableView, IsPassOf, HasBegun, Made}
+use Rattle.place_table.specs.Passes.{PassView, TableView, IsPassOf, HasBegun, Made, SawHome}
+use Rattle.place_table.specs.Rules.{home_step}
 use Rattle.place_table.specs.Views.{is_in_hand_of, bucket_known, with_in_hand, without_in_hand}
 use Rattle.lru_ops.specs.Evictions.{SawHolders}
 use Rattle.lru_ops.specs.OwnTurns.{note_of, own_part}
@@ -154,9 +158,30 @@ pub record CanFree (t : TableView) (body : Stored) (p : PassView) : Type 0 where
   pub in_hand : is_in_hand_of body.element p.cpu p.view.hand ≡ true
   pub not_carried : is_in_hand_of body.element p.cpu p.view.carried ≡ false
 
--- it was freed, by turns that free it, and is in the CPU's hand no more
+-- The first step on a word that the pass made meanwhile read the home of an element so, and tells how many turns local lists had had
+-- that it read.
+pub record ReadHomeFirst (t : TableView) (before after : PassView) (e : ℕ) (home : Home) : Type 0 where
+  pub read : PassView
+  pub saw : SawHome t e before read home
+  pub later : List WordStep
+  pub touched_are : after.view.touched ≡ before.view.touched ++ home_step t.shape (record { element = e; home = home }) saw.at ∷ later
+
+-- The turns that free an element whose home was read so, as local lists once these had had n turns: the one of these local lists, where
+-- it was pending; or one that didn't find it there any more, and one of the global lists, since of the turns that they had had since the
+-- reading the last one that put it on pending or took it off flushed it; or where the home was read as the global lists, their turn
+-- alone.
+abbrev pub FreesFrom : Home → ℕ → ℕ → List TurnAt → Type 0
+FreesFrom (homes.In (Local cpu)) n e turns =
+    (turns_of turns ≡ on_lock (Local cpu) (parts.Local (local.Push e true)) ∷ [])
+    ⊎ ((moved : FreesFlushed e turns) × (moved.on ≡ cpu) × IsTrue (ends_flushed e false (drop n moved.first.earlier)))
+FreesFrom (homes.In Global) n e turns = turns_of turns ≡ freed_globally e ∷ []
+FreesFrom home n e turns = ⊥
+
+-- It was freed, by turns that free it, and is in the CPU's hand no more. Where the CPUs share lists its home was read first, and the
+-- turns are those that free it from there.
 pub record Freed (t : TableView) (body : Stored) (before after : PassView) : Type 0 where
   pub steps : List Turned
   pub changed : Changed t before after steps steps []
   pub trace : Frees t.shape body.element (map (turn_at t.shape) steps)
+  pub by_home : IsTrue t.shape.common → (home : Home) × (first : ReadHomeFirst t before after body.element home) × FreesFrom home first.saw.turns body.element (map (turn_at t.shape) steps)
   pub hand : after.view.hand ≡ without_in_hand body.element before.cpu before.view.hand

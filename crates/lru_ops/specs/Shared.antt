@@ -1,5 +1,5 @@
 -- How an element is taken where the CPUs share lists: the parts of a taking, and what each leaves of a pass.
-use Rattle.std.specs.Prelude.{◌≡◌, ℕ, ◌<◌, true, false, All, IsTrue, List, [], ◌∷◌, ◌++◌, map, option_map, Option, None, Some, MatchOption}
+use Rattle.std.specs.Prelude.{◌≡◌, ℕ, ◌<◌, true, false, All, IsTrue, List, [], ◌∷◌, ◌++◌, drop, map, option_map, Option, None, Some, MatchOption}
 use Rattle.map_types.specs.declared.kind.DomainId.{DomainId}
 use Rattle.map_types.specs.declared.kind.DomainId.TheVariants.{Local, Global}
 use Rattle.map_types.specs.ElementLists.{IsIn}
@@ -20,7 +20,9 @@ use Rattle.place_words.specs.Locks.{is_lock, lock_number}
 use Rattle.place_words.specs.Takings.{Refills, Steals, IsChased, stolen_element, brings_home, ends_flushed}
 use Rattle.place_words.specs.Turns.{Turn, found, on_lock}
 use Rattle.place_words.specs.Wholeness.{all_of}
+use Rattle.place_table.specs.declared.view.HomeIn.{HomeIn}
 use Rattle.place_table.specs.declared.view.Turned.{Turned}
+use Rattle.place_table.specs.declared.view.WordStep.{WordStep}
 use Rattle.place_table.specs.Calls.{CanCall, FindNoneMoved, AreTold, bits_of_turns}
 use Rattle.place_table.specs.Contents.{lists_of}
 use Rattle.place_table.specs.Known.{Learns, KnowsAll, turn_at, turn_of, IsBy}
@@ -30,7 +32,7 @@ use Rattle.lru_ops.specs.declared.refill.Refilled.{Refilled}
 use Rattle.lru_ops.specs.declared.shared.Taken.{Taken}
 use Rattle.lru_ops.specs.declared.shared.Taken.TheVariants as taken
 use Rattle.lru_ops.specs.Evictions.{SawHolders}
-use Rattle.lru_ops.specs.Lists.{Changed, Acquired, IsTakenFor, CanFree, Freed, GaveNone, StoleNone, StoleNoneOf}
+use Rattle.lru_ops.specs.Lists.{Changed, Acquired, IsTakenFor, CanFree, GaveNone, StoleNone, StoleNoneOf}
 
 -- A call in which nothing was done yet, on a map whose CPUs share lists.
 pub record CanTakeShared (t : TableView) (p : PassView) : Type 0 where
@@ -144,31 +146,41 @@ pub record CanPushAt (t : TableView) (lock : DomainId) (body : Stored) (p : Pass
   pub can : CanFree t body p
   pub common : IsTrue t.shape.common
   pub there : IsTrue (is_lock t.shape lock)
-  pub read : home_known body.element p.cpu p.view.readings ≡ Some (homes.In lock)
+  pub reading : HomeIn
+  pub read : home_known body.element p.cpu p.view.readings ≡ Some reading
+  pub home_is : reading.home ≡ homes.In lock
 
 -- Where the pass knows the turns of all locks, the element lies under this one.
 abbrev pub LiesUnder : TableView → DomainId → ℕ → PassView → Type 0
 LiesUnder t lock e p =
     (logs : ℕ → List Entry) → KnowsAll t.shape logs p.view → IsIn e (all_of (lists_of (content t.shape lock (logs (lock_number t.shape lock)))))
 
+-- the steps on words that the pass made meanwhile
+pub record HasTouched (before after : PassView) : Type 0 where
+  pub steps : List WordStep
+  pub steps_are : after.view.touched ≡ before.view.touched ++ steps
+
 -- It was freed by one turn, which is this one, and is in the CPU's hand no more.
 pub record FreedBy (t : TableView) (turn : Turn) (body : Stored) (before after : PassView) : Type 0 where
   pub step : Turned
   pub changed : Changed t before after (step ∷ []) (step ∷ []) []
+  pub touched : HasTouched before after
   pub turn_is : turn_of t.shape step ≡ turn
   pub hand : after.view.hand ≡ without_in_hand body.element before.cpu before.view.hand
 
--- A push that found its element moved on: by one turn of the local lists of a CPU, from which it had been flushed. It is in the CPU's
--- hand still, and its home is the global lists.
+-- A push that found its element moved on: by one turn of the local lists of a CPU, from which it had been flushed, in a turn that they
+-- had since its home was read. It is in the CPU's hand still, and its home is the global lists.
 pub record FoundMoved (t : TableView) (cpu : ℕ) (body : Stored) (before after : PassView) : Type 0 where
   pub step : Turned
   pub changed : Changed t before after (step ∷ []) (step ∷ []) []
+  pub touched : HasTouched before after
   pub turn_is : turn_of t.shape step ≡ on_lock (Local cpu) (parts.Local (local.Push body.element false))
   pub was_flushed : IsTrue (ends_flushed body.element false step.earlier)
+  pub since : (read : HomeIn) → home_known body.element before.cpu before.view.readings ≡ Some read → IsTrue (ends_flushed body.element false (drop read.turns step.earlier))
   pub hand : after.view.hand ≡ before.view.hand
   pub can : CanPushAt t Global body after
 
 -- what a push on the local lists of a CPU leaves: the element is freed, or was found to have moved on
 abbrev pub PushesLocal : TableView → ℕ → Stored → PassView → PassView → Option Stored → Type 0
-PushesLocal t cpu body before after None = Freed t body before after
+PushesLocal t cpu body before after None = FreedBy t (on_lock (Local cpu) (parts.Local (local.Push body.element true))) body before after
 PushesLocal t cpu body before after (Some left) = (left ≡ body) × FoundMoved t cpu body before after

@@ -6,8 +6,8 @@ ghost use Rattle.map_types.specs.declared.kind.Side.TheVariants.{Sys};
 ghost use Rattle.map_types.specs.Kind.{is_lru, is_percpu};
 ghost use Rattle.map_types.specs.ValueLen.{value_len_of};
 ghost use Rattle.place_words.specs.Turns.{bucket_of_key};
-ghost use Rattle.place_table.specs.Calls.{CanCall, Called, reply_of_value, reply_of_done};
-ghost use Rattle.lru_ops.specs.Calls.{MayRefuse, Updates};
+ghost use Rattle.place_table.specs.Calls.{CanCall, reply_of_value, reply_of_done};
+ghost use Rattle.lru_ops.specs.Calls.{CalledOn, MayRefuse, Updates};
 ghost use Rattle.lru_ops.specs.Offers.{AreUpdateArguments, CanFreeLeft, HasFreedLeft, CanOffer, OfferAnswers, offer_of, update_call};
 
 use crate::map::{LruMap, LruRefusal};
@@ -36,7 +36,7 @@ impl LruMap {
         requires can { CanCall self.now pass.old }
         requires key { length key.now ≡ self.now.shape.key_size }
         requires out { length out.old ≡ value_len_of self.now.shape side }
-        ensures called { Called self.now pass.old pass.new (verbs.Lookup side key.now)
+        ensures called { CalledOn self.now pass.old pass.new (verbs.Lookup side key.now) key.now
             (reply_of_value result out.new) }
         ensures refused { IfErr result (λ _. out.new ≡ out.old) }
     {
@@ -105,7 +105,8 @@ impl LruMap {
     ) -> Result<(), Absent>
         requires can { CanCall self.now pass.old }
         requires key { length key.now ≡ self.now.shape.key_size }
-        ensures { Called self.now pass.old pass.new (verbs.Delete key.now) (reply_of_done result) }
+        ensures { CalledOn self.now pass.old pass.new (verbs.Delete key.now) key.now
+            (reply_of_done result) }
     {
         let number = self.bucket_of_key(key);
         let chain = self.enter(rt, pass, number, gate);
@@ -136,7 +137,7 @@ impl LruMap {
         requires can { CanCall self.now pass.old }
         requires key { length key.now ≡ self.now.shape.key_size }
         requires out { length out.old ≡ value_len_of self.now.shape Sys }
-        ensures called { Called self.now pass.old pass.new (verbs.Take key.now)
+        ensures called { CalledOn self.now pass.old pass.new (verbs.Take key.now) key.now
             (reply_of_value result out.new) }
         ensures refused { IfErr result (λ _. out.new ≡ out.old) }
     {

@@ -1,7 +1,8 @@
 //! The round of thefts of a CPU that found no free element.
 
-ghost use Rattle.std.specs.Prelude.{◌≡◌, ◌<◌, [], IfSome};
+ghost use Rattle.std.specs.Prelude.{◌≡◌, ◌<◌, ◌⊎◌, [], IfSome, IfNone};
 ghost use Rattle.place_words.specs.Turns.{ring};
+ghost use Rattle.lru_lists.specs.declared.notes.Noted.TheVariants as noted;
 ghost use Rattle.lru_ops.specs.Lists.{MapEvicts};
 ghost use Rattle.lru_ops.specs.Shared.{CanSteal, StoleFrom, StoleRound, CanBringHome, BroughtHome};
 ghost use Rattle.lru_ops.specs.Thefts.{CanSearch, Walked, Searched, stolen_of, IsTheft, both_walks};
@@ -178,7 +179,8 @@ fn stolen_of(got: &Option<BoxedBody>) -> Stolen
 
 /// The entry of a theft's turn, none where memory for a part of it was not found.
 fn steal_part(stolen: Stolen, first: Noted<Look>, second: Noted<Try>) -> Option<Part>
-    ensures { IfSome result (IsTheft stolen first second) }
+    ensures told { IfSome result (IsTheft stolen first second) }
+    ensures lost { IfNone result ((first ≡ noted.Lost) ⊎ (second ≡ noted.Lost)) }
 {
     let (Noted::Kept(first), Noted::Kept(second)) = (first, second) else {
         return None;

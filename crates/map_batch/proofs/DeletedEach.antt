@@ -65,4 +65,4 @@ module _ (t : TableView) (p : PassView) (keys : List (List ℕ)) where
   deletes_by q flags result is = subst (λ (f : ℕ). DeletesBatch t p q f keys result) (sym is)
 
   pub deletes_refused : (flags : ℕ) → CanCall t p → flags ≢ 0 → DeletesBatch t p p flags keys (Err writes.Einval)
-  deletes_refused flags can other = (other, refl, (called_nothing (BatchDelete flags keys) (Refused errnos.Einval) can (batch_refused t.shape p.cpu (spare_element p) flags _ other)).0)
+  deletes_refused flags can other = (other, refl, called_nothing (BatchDelete flags keys) (Refused errnos.Einval) can (batch_refused t.shape p.cpu (spare_element p) flags _ other))

@@ -112,6 +112,7 @@ module _ {t : TableView} {bucket : ℕ} {q r : PassView} {bodies gone left : Lis
         carried = u.carried;
         by_call = All-nil (IsBy r.cpu r.call);
         learns = u.learns;
+        told = tt;
       }
 
   pub can_push_out : CanPushOut t bucket body r

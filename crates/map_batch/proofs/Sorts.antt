@@ -27,14 +27,14 @@ on_plain false P Q is second = second
 module _ (t : TableView) (before after : PassView) (update : UpdateCall) where
   plain_updates : (answer : Result (Unit {0}) PlainRefusal) → IsFalse (is_lru t.shape.kind) → plain_calls.Updates t before after update answer → Updates t before after update (answer_of_plain answer)
   plain_updates (Ok done) is updates = on_plain (is_lru t.shape.kind) _ _ is updates
-  plain_updates (Err plain.Einval) is updates = (updates.0, on_plain (is_lru t.shape.kind) _ _ is updates.1)
+  plain_updates (Err plain.Einval) is updates = updates
   plain_updates (Err plain.Enoent) is updates = on_plain (is_lru t.shape.kind) _ _ is updates
   plain_updates (Err plain.Eexist) is updates = on_plain (is_lru t.shape.kind) _ _ is updates
   plain_updates (Err plain.E2big) is updates = on_plain (is_lru t.shape.kind) _ _ is updates
 
   lru_updates : (answer : Result (Unit {0}) LruRefusal) → IsTrue (is_lru t.shape.kind) → lru_calls.Updates t before after update answer → Updates t before after update (answer_of_lru answer)
   lru_updates (Ok done) is updates = on_evicting (is_lru t.shape.kind) _ _ is updates
-  lru_updates (Err lru.Einval) is updates = (updates.0, on_evicting (is_lru t.shape.kind) _ _ is updates.1)
+  lru_updates (Err lru.Einval) is updates = updates
   lru_updates (Err lru.Enoent) is updates = on_evicting (is_lru t.shape.kind) _ _ is updates
   lru_updates (Err lru.Eexist) is updates = on_evicting (is_lru t.shape.kind) _ _ is updates
   lru_updates (Err lru.Enomem) is updates = on_evicting (is_lru t.shape.kind) _ _ is updates

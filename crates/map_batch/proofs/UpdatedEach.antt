@@ -43,8 +43,8 @@ plain_only true C D is = absurd is
 plain_only false C D is = is
 
 -- nothing lost is no more than that
-nothing_lost : (b : Bool) {C : Type 0} (lost : C → List ℕ) (lock : ℕ) → MatchBool b C ((c : C) × (lost c ≡ [])) → MatchBool b C ((c : C) × LosesAtMost lock (lost c))
-nothing_lost true lost lock c = c
+nothing_lost : (b : Bool) {C : Type 0} (lost : C → List ℕ) (lock : ℕ) → (c : C) × (lost c ≡ []) → MatchBool b C ((c : C) × LosesAtMost lock (lost c))
+nothing_lost true lost lock whole = whole.0
 nothing_lost false lost lock whole = (whole.0, inl whole.1)
 
 -- Updates
@@ -137,8 +137,4 @@ module _ (t : TableView) (p : PassView) (pairs : List (List ℕ × List ℕ)) wh
 
   pub updates_refused : (flags : ℕ) → CanCall t p → flags ≢ 0 → UpdatesBatch t p p flags pairs (Err writes.Einval)
   updates_refused flags can other =
-      let called = called_nothing (BatchUpdate flags pairs) (Refused errnos.Einval) can (batch_refused t.shape p.cpu (spare_element p) flags _ other) in (
-        other,
-        refl,
-        again (is_lru t.shape.kind) (λ (c : Called t p p (BatchUpdate flags pairs) (Refused errnos.Einval)). c.lost ≡ []) called.0 (λ _. called.1),
-      )
+      (other, refl, called_nothing (BatchUpdate flags pairs) (Refused errnos.Einval) can (batch_refused t.shape p.cpu (spare_element p) flags _ other))

@@ -52,11 +52,7 @@ Updated t before after update reply =
 
 -- Flags that aren't known were refused before anything was looked at.
 abbrev pub RefusedFlags : TableView → PassView → PassView → UpdateCall → Type 0
-RefusedFlags t before after update =
-    (after ≡ before)
-    × MatchBool (is_lru t.shape.kind)
-    (Called t before after (verb_of update) (replies.Refused Einval))
-    (CalledWhole t before after (verb_of update) (replies.Refused Einval))
+RefusedFlags t before after update = (after ≡ before) × CalledWhole t before after (verb_of update) (replies.Refused Einval)
 
 -- A map that doesn't evict was full. One that evicts never is.
 abbrev pub FoundFull : TableView → PassView → PassView → UpdateCall → Type 0

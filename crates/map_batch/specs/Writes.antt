@@ -12,7 +12,7 @@ use Rattle.map_types.specs.Kind.{is_lru}
 use Rattle.map_types.specs.Pairs.{key_of, value_of, pair_at}
 use Rattle.place_words.specs.Locks.{lock_number}
 use Rattle.place_words.specs.Turns.{bucket_of_key}
-use Rattle.place_table.specs.Calls.{Called}
+use Rattle.place_table.specs.Calls.{Called, CalledWhole}
 use Rattle.place_table.specs.Passes.{PassView, TableView}
 use Rattle.map_batch.specs.declared.writes.BatchCount.{BatchCount}
 use Rattle.map_batch.specs.declared.writes.WriteRefusal.{WriteRefusal}
@@ -58,7 +58,7 @@ abbrev pub UpdatesBatch : TableView → PassView → PassView → ℕ → List (
 UpdatesBatch t before after flags pairs (Ok count) =
     (flags ≡ 0) × BatchUpdated t before after flags pairs (take (suc count.done) pairs) (Count count.stop count.done) × UpdatesUpTo t before after pairs count
 UpdatesBatch t before after flags pairs (Err writes.Einval) =
-    (flags ≢ 0) × (after ≡ before) × BatchUpdated t before after flags pairs [] (Refused errnos.Einval)
+    (flags ≢ 0) × (after ≡ before) × CalledWhole t before after (BatchUpdate flags pairs) (Refused errnos.Einval)
 
 -- A delete is refused with ENOENT alone.
 abbrev pub DeletesUpTo : List (List ℕ) → BatchCount → Type 0
@@ -70,4 +70,4 @@ abbrev pub DeletesBatch : TableView → PassView → PassView → ℕ → List (
 DeletesBatch t before after flags keys (Ok count) =
     (flags ≡ 0) × Called t before after (BatchDelete flags keys) (Count count.stop count.done) × DeletesUpTo keys count
 DeletesBatch t before after flags keys (Err writes.Einval) =
-    (flags ≢ 0) × (after ≡ before) × Called t before after (BatchDelete flags keys) (Refused errnos.Einval)
+    (flags ≢ 0) × (after ≡ before) × CalledWhole t before after (BatchDelete flags keys) (Refused errnos.Einval)

@@ -5,7 +5,8 @@ ghost use Rattle.map_types.specs.Creation.{IsShape};
 ghost use Rattle.map_types.specs.declared.call.Verb.TheVariants as verbs;
 ghost use Rattle.map_types.specs.declared.kind.Side.TheVariants.{Sys};
 ghost use Rattle.map_types.specs.ValueLen.{value_len_of};
-ghost use Rattle.place_table.specs.Calls.{CanCall, Called, reply_of_value, reply_of_done};
+ghost use Rattle.place_table.specs.Calls.{CanCall, reply_of_value, reply_of_done};
+ghost use Rattle.place_table.specs.KeyCalls.{CalledOn};
 ghost use Rattle.place_table.specs.Closing.{IsClosed};
 ghost use Rattle.place_table.specs.Passes.{IsFirstPass, IsPassOf, IsInNoCall};
 ghost use Rattle.place_table.specs.Views.{is_among};
@@ -85,8 +86,8 @@ impl AnyMap {
         requires can { CanCall (table_of self.now) pass.old }
         requires key { length key.now ≡ (table_of self.now).shape.key_size }
         requires out { length out.old ≡ value_len_of (table_of self.now).shape side }
-        ensures called { Called (table_of self.now) pass.old pass.new (verbs.Lookup side key.now)
-            (reply_of_value result out.new) }
+        ensures called { CalledOn (table_of self.now) pass.old pass.new (verbs.Lookup side key.now)
+            key.now (reply_of_value result out.new) }
         ensures refused { IfErr result (λ _. out.new ≡ out.old) }
     {
         match self {
@@ -137,7 +138,7 @@ impl AnyMap {
     ) -> Result<(), Absent>
         requires can { CanCall (table_of self.now) pass.old }
         requires key { length key.now ≡ (table_of self.now).shape.key_size }
-        ensures { Called (table_of self.now) pass.old pass.new (verbs.Delete key.now)
+        ensures { CalledOn (table_of self.now) pass.old pass.new (verbs.Delete key.now) key.now
             (reply_of_done result) }
     {
         match self {
@@ -158,7 +159,7 @@ impl AnyMap {
         requires can { CanCall (table_of self.now) pass.old }
         requires key { length key.now ≡ (table_of self.now).shape.key_size }
         requires out { length out.old ≡ value_len_of (table_of self.now).shape Sys }
-        ensures called { Called (table_of self.now) pass.old pass.new (verbs.Take key.now)
+        ensures called { CalledOn (table_of self.now) pass.old pass.new (verbs.Take key.now) key.now
             (reply_of_value result out.new) }
         ensures refused { IfErr result (λ _. out.new ≡ out.old) }
     {

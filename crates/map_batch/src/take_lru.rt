@@ -135,14 +135,14 @@ fn take_out<R: Wait, G: Gate>(
     let cpu = table.cpu_of(pass);
     let part = walk_part(alloc, true, shape, cpu, room, &chain);
     if !read_whole(shape, cpu, &chain, &mut taking.out) {
-        table.give(pass, lock, Content::Bucket(chain), part, gate);
+        table.give(pass, lock, Content::Bucket(chain), part.ok(), gate);
         return false;
     }
     while let Some(body) = chain.take_out(0) {
         table.detach(pass, body.body().element(), bucket);
         taking.gone.push(body);
     }
-    table.give(pass, lock, Content::Bucket(chain), part, gate);
+    table.give(pass, lock, Content::Bucket(chain), part.ok(), gate);
     true
 }
 

@@ -100,7 +100,7 @@ fn take_in<R: Wait, G: Gate>(
         pass,
         DomainId::Bucket(bucket),
         Content::Bucket(chain),
-        part,
+        part.ok(),
         gate,
     );
     whole

@@ -23,10 +23,9 @@ use Rattle.place_table.specs.declared.view.Turned.{Turned}
 use Rattle.place_table.specs.declared.view.WordStep.{WordStep}
 use Rattle.place_table.specs.declared.view.Ended.{Ended}
 use Rattle.place_table.specs.declared.view.View.{View}
-use Rattle.place_table.specs.Passes.{PassView, TableView, spare_of, either_spare, IsInNoCall, IsPassOf, IsKeptOf, CanJoin, Joined, AreApart}
+use Rattle.place_table.specs.Passes.{PassView, TableView, spare_of, either_spare, IsInNoCall, IsPassOf, IsKeptOf, CanJoin, Joined}
 use Rattle.place_table.specs.Tickets.{turn_tickets}
 use Rattle.place_table.specs.Views.{is_among, all_strands, current_strand, joined, next}
-use Rattle.place_table.proofs.Worlds.{true_false}
 use Rattle.hash_ops.specs.Calls.{element_of}
 use Rattle.map_run.specs.declared.worker.Worker.{Worker}
 use Rattle.file_order.specs.Replies.{count_of, replies_by, replies_of}
@@ -134,11 +133,6 @@ module _ {t : TableView} {number : ℕ} {calls : List Call} {start : PassView} {
     in_no_call = so_far.in_no_call;
     other_in_no_call = worked.in_no_call;
   }
-
-  apart : AreApart p.view.cpus r.view.cpus
-  apart cpu here =
-      ap (is_among cpu) one_cpu
-      ∙ not_among_one cpu n (λ same. true_false (sym here ∙ (ap (λ (c : ℕ). is_among c p.view.cpus) same ∙ so_far.gone n (omega arith) real)))
 
   steps_are : r.view.steps ≡ worked.made
   steps_are = worked.steps ∙ ap (λ (l : List Turned). l ++ worked.made) split.no_steps.0
@@ -255,7 +249,7 @@ module _ {t : TableView} {number : ℕ} {calls : List Call} {start : PassView} {
     pub joined_more : HaveJoined t number calls start (n + 1) q (lists ++ own ∷ []) (counts ++ length r.view.kept ∷ [])
     joined_more = record {
       of_table = (ap (λ (z : PassView). z.table) joins.after_is ∙ so_far.of_table.0, ap (λ (v : View). v.shape) view_is ∙ so_far.of_table.1);
-      in_no_call = joins.in_no_call apart;
+      in_no_call = joins.in_no_call;
       here = below_more n (λ cpu. is_among cpu q.view.cpus ≡ true)
           (cpus_are n ∙ ap (cond (is_among n p.view.cpus) true) (ap (is_among n) one_cpu ∙ among_one n) ∙ or_true (is_among n p.view.cpus))
           (λ cpu other below. cpus_are cpu ∙ ap (λ (b : Bool). cond b true (is_among cpu r.view.cpus)) (so_far.here cpu below));

@@ -44,9 +44,9 @@ allowed_within shape cpu turn content allowed remove room all is = by (bucket_in
     by (Some bodies) may = omega (arith, may.0, ap (length {A = Stored}) may.1, length-map bodies (as_read shape cpu))
 
 told_one : (shape : Shape) (lost : List ℕ) (step told : Turned) → IsAllowedAt shape step → IsTold shape lost step told → IsWithinRoom (turn_of shape told)
-told_one shape lost step told allowed (inl same) =
+told_one shape lost step told allowed (inl same, tells) =
     subst (λ (one : Turned). IsWithinRoom (turn_of shape one)) (sym same) (allowed_within shape step.entry.cpu (turn_of shape step) _ allowed.allowed)
-told_one shape lost step told allowed (inr could) = allowed_within shape told.entry.cpu (turn_of shape told) _ could.1.allowed
+told_one shape lost step told allowed (inr could, tells) = allowed_within shape told.entry.cpu (turn_of shape told) _ could.1.allowed
 
 told_within : (shape : Shape) (lost : List ℕ) (steps told : List Turned) → AreAllowedAt shape steps → AreTold shape lost steps told → All IsWithinRoom (map (turn_of shape) told)
 told_within shape lost [] [] allowed are = All-nil IsWithinRoom

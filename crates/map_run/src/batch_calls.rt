@@ -16,7 +16,7 @@ use map_batch::{
 };
 use map_types::{Bytes, Errno, Gate, List, NoMemory, Pairs, Reply};
 use place_table::Pass;
-use std::alloc::Global;
+use std::alloc::{AllocError, Global};
 use std::sync::Wait;
 
 /// Answers the keys and values of whole buckets, and takes their elements out where `remove` says so.
@@ -45,7 +45,7 @@ pub(crate) fn batch_read<R: Wait, G: Gate>(
         Ok(BatchOut::Read { stop, taken, next }) => Ok(Reply::Batch { stop, taken, next }),
         Err(BatchRefusal::Einval) => Ok(Reply::Refused(Errno::Einval)),
         Err(BatchRefusal::Past) => Ok(Reply::Refused(Errno::Enoent)),
-        Err(BatchRefusal::NoMemory) => Err(NoMemory),
+        Err(BatchRefusal::NoMemory) => Err(AllocError.into()),
     }
 }
 

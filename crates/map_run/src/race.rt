@@ -26,7 +26,7 @@ use map_script::Script;
 use map_types::{Call, Gate, NoMemory, Reply};
 use place_table::{Closed, Pass};
 use run_records::{Piece, Told, keep};
-use std::alloc::Global;
+use std::alloc::{AllocError, Global};
 use std::sync::Wait;
 use std::thread;
 use std::thread::Threads;
@@ -333,7 +333,7 @@ fn work_all<R: Threads + Wait + Sync, G: Gate>(
 {
     work_at_once(rt, alloc, map, before, calls, gate, workers.as_mut_slice());
     if has_failed(workers.as_slice()) {
-        return Err(NoMemory);
+        return Err(AllocError.into());
     }
     Ok(())
 }

@@ -14,7 +14,7 @@ use crate::script::{Form, Script};
 use crate::stage::{Stage, ended};
 use map_types::NoMemory;
 use memchr::memchr;
-use std::alloc::Global;
+use std::alloc::{AllocError, Global};
 use std::marker::Model;
 use std::mem;
 
@@ -98,7 +98,7 @@ impl ScriptReader {
     {
         match refusal_of(&self.read) {
             None => self.feed_on(piece),
-            Some(ScriptRefusal::NoMemory) => Err(NoMemory),
+            Some(ScriptRefusal::NoMemory) => Err(AllocError.into()),
             Some(_) => {
                 self.line_feeds += count_line_feeds(piece);
                 Ok(())
@@ -206,9 +206,9 @@ impl ScriptReader {
     {
         match self.line.extend_from_slice(part) {
             Ok(()) => Ok(()),
-            Err(_) => {
+            Err(error) => {
                 self.read = Err(ScriptRefusal::NoMemory);
-                Err(NoMemory)
+                Err(error.into())
             }
         }
     }
@@ -253,7 +253,7 @@ fn memory_of(read: &Result<Stage, ScriptRefusal>) -> Result<(), NoMemory>
     ensures missing { OnErr result (read.now ≡ Err refusals.NoMemory) }
 {
     match read {
-        Err(ScriptRefusal::NoMemory) => Err(NoMemory),
+        Err(ScriptRefusal::NoMemory) => Err(AllocError.into()),
         _ => Ok(()),
     }
 }

@@ -4,7 +4,7 @@ ghost use Rattle.std.specs.Prelude.{◌≡◌, ◌==◌, ◌++◌, ◌∷◌, []
 ghost use Rattle.map_types.specs.Lists.{items_of};
 
 use crate::NoMemory;
-use std::alloc::Global;
+use std::alloc::{AllocError, Global};
 use std::marker::Model;
 use std::sync::Arc;
 
@@ -107,7 +107,7 @@ impl<T: Drop> List<T> {
     {
         match &mut self.items {
             Items::Own(items) => Ok(items.push(item)?),
-            Items::Shared(_) => Err(NoMemory),
+            Items::Shared(_) => Err(AllocError.into()),
         }
     }
 }

@@ -20,23 +20,27 @@ pub enum Errno {
     Enospc = 28,
 }
 
-/// Memory for the answer was not found.
+/// Memory for the answer was not found. It is made from an allocator's error alone, which it keeps.
 #[derive(Clone, Copy, Debug, PartialEq, Eq)]
-pub struct NoMemory;
+pub struct NoMemory {
+    cause: AllocError,
+}
 
 impl From<AllocError> for NoMemory {
     ghost from_gives = { λ _ _. Unit {0} };
 
-    fn from(_error: AllocError) -> NoMemory {
-        NoMemory
+    fn from(cause: AllocError) -> NoMemory {
+        NoMemory { cause }
     }
 }
 
 impl<T: Drop> From<AllocFailed<T>> for NoMemory {
     ghost from_gives = { λ _ _. Unit {0} };
 
-    fn from(_error: AllocFailed<T>) -> NoMemory {
-        NoMemory
+    fn from(error: AllocFailed<T>) -> NoMemory {
+        NoMemory {
+            cause: error.into(),
+        }
     }
 }
 

@@ -1,6 +1,6 @@
 -- From what an update does in its key's bucket to what its turn leaves, for each that it may put.
 use Rattle.std.proofs.Common.{◌≡◌, ◌≢◌, ℕ, suc, ◌<◌, cond, true, false, List, [], ◌∷◌, sym, refl, ap, ◌∙◌, subst, arith, Option, Some, None}
-use Rattle.std.specs.Prelude.{IsTrue, IfSome, MatchOption, slice_get, map, All}
+use Rattle.std.specs.Prelude.{IfSome, MatchOption, slice_get, map, All}
 use Rattle.map_types.specs.declared.attr.Shape.{Shape}
 use Rattle.map_types.specs.declared.kind.DomainId.TheVariants.{Bucket}
 use Rattle.map_types.specs.Kind.{is_lru, is_percpu}
@@ -14,7 +14,6 @@ use Rattle.place_words.specs.declared.bucket_part.BucketPart.TheVariants.{Update
 use Rattle.place_words.specs.declared.bucket_part.Put.{Put}
 use Rattle.place_words.specs.declared.bucket_part.Put.TheVariants as puts
 use Rattle.place_words.specs.declared.history.Part.{Part}
-use Rattle.place_words.specs.declared.history.Part.TheVariants as parts
 use Rattle.place_words.specs.Bodies.{numbers, present, without_key}
 use Rattle.place_words.specs.Buckets.{AllowsInBucket, AllowsPut, bucket_after, bucket_after_put, bucket_marks, marks_of_put, new_stored, written_over}
 use Rattle.place_words.specs.Histories.{in_bucket}

@@ -29,7 +29,6 @@ use Rattle.place_table.proofs.Worlds.{by_bool}
 use Rattle.place_table.specs.BucketHeld.{HoldsBucket, HoldsWithout}
 use Rattle.place_table.specs.BucketTurns.{GivenBack, MarkedFor, HasOut}
 use Rattle.place_table.specs.declared.bucket_takes.TakenOut.{TakenOut}
-use Rattle.place_table.specs.declared.view.Hold.{Hold}
 use Rattle.place_table.proofs.BucketOut.{rows_here, sets_none, is_real}
 use Rattle.place_table.proofs.BucketUnder.{Under, under_nothing, under_marked_on, under_detached, Gives, gives}
 

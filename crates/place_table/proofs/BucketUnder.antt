@@ -1,7 +1,7 @@
 -- What a pass does while it holds a key's bucket alone, and what it leaves once it has given the bucket back.
 use Rattle.std.proofs.Common.{◌+◌, ◌≡◌, ℕ, ◌<◌, cond, true, List, [], ◌∷◌, ◌++◌, map, inl, inr, sym, refl, ap, ◌∙◌, subst, Option, Some, None}
 use Rattle.std.specs.Prelude.{IsTrue, IfSome, All, MatchBool, false}
-use Rattle.std.proofs.lemmas.List.Elements.{All-nil, All-head}
+use Rattle.std.proofs.lemmas.List.Elements.{All-nil}
 use Rattle.map_types.specs.declared.attr.Shape.{Shape}
 use Rattle.map_types.specs.declared.kind.DomainId.{DomainId}
 use Rattle.map_types.specs.declared.kind.DomainId.TheVariants.{Bucket, Local}
@@ -11,15 +11,13 @@ use Rattle.map_types.specs.ElementLists.{times, IsIn}
 use Rattle.map_types.proofs.RowLemmas.{by_test}
 use Rattle.percpu_values.specs.BodyList.{BodyList}
 use Rattle.place_words.specs.declared.bucket_part.BucketPart.{BucketPart}
-use Rattle.place_words.specs.declared.bucket_part.BucketPart.TheVariants.{Lookup, Update, Delete, Take, Next, First, Walk, Evict}
-use Rattle.place_words.specs.declared.bucket_part.Seen.TheVariants.{Removed, Held}
 use Rattle.place_words.specs.declared.history.Part.{Part}
 use Rattle.place_words.specs.declared.history.Part.TheVariants as parts
 use Rattle.place_words.specs.declared.history.StrandStep.{StrandStep}
 use Rattle.place_words.specs.Bodies.{numbers}
 use Rattle.place_words.specs.Histories.{in_bucket, content, content_after, Allows, IsLegal, marks, clears}
 use Rattle.place_words.specs.Locks.{lock_named, lock_number}
-use Rattle.place_words.specs.SerialOrder.{bucket_probes, probes_in}
+use Rattle.place_words.specs.SerialOrder.{bucket_probes}
 use Rattle.place_words.specs.Turns.{on_lock}
 use Rattle.place_words.proofs.LockLemmas.{named_by_number}
 use Rattle.place_words.specs.declared.step.Lists.{Lists}
@@ -34,7 +32,7 @@ use Rattle.place_table.specs.declared.view.HashIn.{HashIn}
 use Rattle.place_table.specs.declared.view.Notes.{Notes}
 use Rattle.place_table.specs.declared.view.OwnerSeen.{OwnerSeen}
 use Rattle.place_table.specs.declared.view.Turned.{Turned}
-use Rattle.place_table.specs.Calls.{CouldBe, IsTold, sets_bit, bits_of_part, bits_of_turns}
+use Rattle.place_table.specs.Calls.{CouldBe, IsTold, TellsTurn, sets_bit, bits_of_part, bits_of_turns}
 use Rattle.place_table.specs.Contents.{content_told, FitsLock}
 use Rattle.place_table.specs.InBucket.{InBucket}
 use Rattle.place_table.specs.Known.{Learns, BitTouch}
@@ -42,11 +40,12 @@ use Rattle.place_table.specs.Passes.{PassView, TableView, CanMark, TookLock, Can
 use Rattle.place_table.specs.Plays.{AreElements, IsApartFromHands}
 use Rattle.place_table.specs.StoredHashes.{stored_in}
 use Rattle.place_table.specs.Flushes.{flushes}
-use Rattle.place_table.specs.TurnNotes.{WasRead, ProbeFits, CameToHand}
-use Rattle.place_table.specs.Views.{hold_at, now_at, now_under, with_in_hand, without_in_hand, bits_with, with_mark, touching, known_log, holding, given, with_lost, moved, with_hashes, with_now, notes_below, holds_below, passed_on, passed_on_by_bucket, hold_with, ticket_of}
+use Rattle.place_table.specs.TurnNotes.{WasRead, ProbeFits, CameToHand, clears_noted}
+use Rattle.place_table.specs.Views.{hold_at, now_at, now_under, with_in_hand, without_in_hand, bits_with, with_mark, touching, known_log, holding, given, with_lost, moved, with_hashes, with_now, notes_below, holds_below, passed_on, hold_with, ticket_of, with_owners_read}
 use Rattle.place_table.specs.Words.{owner_word, bit_word}
 use Rattle.place_table.proofs.BucketTurns.{IsTurnWith}
 use Rattle.place_table.proofs.Entries.{append_nil}
+use Rattle.place_table.proofs.Telling.{tells_turn}
 use Rattle.place_table.proofs.Going.{goes_on, goes_nowhere, goes_took, goes_moved, goes_noted, goes_gave, goes_gave_some, goes_of_table, goes_begun, given_turn, same_head, learns_on, learns_none, learns_moved, learns_marked, learns_gave}
 use Rattle.place_table.proofs.Hands.{now_at_is}
 use Rattle.place_table.proofs.Ranges.{bucket_there}
@@ -127,21 +126,8 @@ is_bucket_part shape cpu (parts.Global part) bodies allowed = absurd allowed
 is_bucket_part shape cpu (parts.Own part) bodies allowed = absurd allowed
 
 -- a turn in which no owner was read hands none on to a turn around it
-none_read : (part : BucketPart) (below : List Notes) → All (ProbeFits []) (bucket_probes part) → passed_on_by_bucket part below ≡ below
-none_read (Lookup side key got) below fit = refl
-none_read (Update side flags key value offer put) below fit = refl
-none_read (Delete key removed) below fit = refl
-none_read (Take key taken) below fit = refl
-none_read (Next key found) below fit = refl
-none_read (First key) below fit = refl
-none_read (Walk remove room result) below fit = refl
-none_read (Evict e Removed) below fit = refl
-none_read (Evict e (Held holder)) below fit = absurd (All-head (ProbeFits []) (record { element = e; probed = Held holder }) [] fit)
-
-none_handed_on : (part : BucketPart) (stands : Part) (notes : Notes) (below : List Notes) → stands ≡ parts.Bucket part → notes.owners ≡ [] → All (ProbeFits notes.owners) (probes_in stands) → passed_on stands below ≡ below
-none_handed_on part stands notes below is none fit =
-    ap (λ (p : Part). passed_on p below) is
-    ∙ none_read part below (subst (λ (z : Part × List OwnerSeen). All (ProbeFits z.1) (probes_in z.0)) (λ i. (is i, none i)) fit)
+none_handed_on : (part : BucketPart) (stands : Part) (notes : Notes) (below all : List Notes) → stands ≡ parts.Bucket part → all ≡ notes ∷ below → notes.owners ≡ [] → passed_on stands all ≡ below
+none_handed_on part stands notes below all is all_are none = (λ i. passed_on (is i) (all_are i)) ∙ ap (λ (l : List OwnerSeen). with_owners_read l below) none
 
 -- the steps on bits that it tells: the bits that it sets
 told_bits : (shape : Shape) (told : Turned) (part : BucketPart) → told.entry.part ≡ parts.Bucket part → bits_of_turns shape (told ∷ []) ≡ map sets_bit (marks shape (parts.Bucket part)) ++ []
@@ -338,7 +324,7 @@ module _ {t : TableView} {bucket : ℕ} {q r : PassView} {bodies : List Stored} 
           allowed = subst (Allows t.shape r.cpu (parts.Bucket part)) found_here turn.turn.allowed;
           same_free = λ e. ap (times e) (sym (ap (λ (l : Lists). l.free) h.now_is ∙ no_free));
           same_rows = λ e. ap (times e) (append_nil (numbers back.bodies)) ∙ (turn.counts e ∙ (counted e ∙ ap (λ (l : Lists). times e (rows l)) (sym h.now_is)));
-          rows_kept = λ _ j e n m other _ _ _ is. absurd (none_in_bucket back.bodies e m is);
+          rows_kept = λ _ j e n m other _ _ _ _ is. absurd (none_in_bucket back.bodies e m is);
           gone = λ _ c e n is _ _. absurd (not_local bucket c (sym named ∙ is));
         };
         notes_fit = record {
@@ -383,7 +369,7 @@ module _ {t : TableView} {bucket : ℕ} {q r : PassView} {bodies : List Stored} 
         goes = subst (Goes q s (step ∷ [])) (append_nil lost) (goes_on q r s [] (step ∷ []) [] lost u.goes goes);
         by_call = (u.goes.cpu, u.goes.call);
         held = ap (λ (z : PassView). z.view.held) is ∙ ap holds_below h.held;
-        notes = ap (λ (z : PassView). z.view.notes) is ∙ (none_handed_on stands_is.0 stands can.notes (notes_below r.view.notes) stands_is.1 owners_is can.notes_fit.held ∙ (ap notes_below h.notes ∙ u.below_is));
+        notes = ap (λ (z : PassView). z.view.notes) is ∙ (none_handed_on stands_is.0 stands can.notes can.notes_below r.view.notes stands_is.1 can.notes_are owners_is ∙ (sym (ap notes_below can.notes_are) ∙ (ap notes_below h.notes ∙ u.below_is)));
         spares = ap (λ (z : PassView). z.spares) is ∙ u.spares;
         carried = ap (λ (z : PassView). z.view.carried) is ∙ u.carried;
         hand_is = ap (λ (z : PassView). z.view.hand) is ∙ u.hand_is;
@@ -394,6 +380,10 @@ module _ {t : TableView} {bucket : ℕ} {q r : PassView} {bodies : List Stored} 
     where
       named_by : (meant : CanGive t (Bucket bucket) r back (parts.Bucket part)) → lock_named t.shape meant.hold.lock ≡ Bucket bucket
       named_by meant = ap (lock_named t.shape) meant.lock_is ∙ named_by_number t.shape (Bucket bucket) (bucket_there t.shape bucket u.holds.there)
+
+  -- what is told of it is so
+  tells : (n : ℕ) (back : Content) (part : BucketPart) (hold : Hold) (other : Part) (can : CanGive t (Bucket bucket) r back (parts.Bucket part)) → hold ≡ can.hold → TellsTurn t.shape (given_turn r n hold other) (parts.Bucket part)
+  tells n back part hold other can same = tells_turn can n hold other same (clears_noted can.notes) refl
 
   -- two parts that could be given at once: the turn of the one could be that of the other
   could_be : (n : ℕ) (back : Content) (part : BucketPart) (stands : Part) (can : CanGive t (Bucket bucket) r back (parts.Bucket part)) (other : CanGive t (Bucket bucket) r back stands) → CouldBe t.shape (given_turn r n other.hold stands) (given_turn r n can.hold (parts.Bucket part))
@@ -407,6 +397,7 @@ module _ {t : TableView} {bucket : ℕ} {q r : PassView} {bodies : List Stored} 
         earlier = ap (λ (h : Hold). h.log) same;
         cpu = refl;
         call = refl;
+        moment = refl;
         allowed = subst (λ (h : Hold). Allows t.shape r.cpu (parts.Bucket part) (content t.shape (lock_named t.shape h.lock) h.log)) same can.may_put.allowed;
         same_marks = sym can.notes_fit.marks_are ∙ (ap (λ (n : Notes). n.marks) notes ∙ other.notes_fit.marks_are);
         same_clears = λ e. sym (ap (λ (p : Part). times e (clears p)) stands_is.1);
@@ -422,15 +413,18 @@ module _ {t : TableView} {bucket : ℕ} {q r : PassView} {bodies : List Stored} 
   gives_by back part None marks_are can is = (
     (parts.Bucket part, can),
     λ s gave.
-        given_by (contents.Bucket back) part gave.part (gave.can.hold.lock ∷ []) (ticket_of (ready r.view gave.took)) gave.took gave.at r.view.kept s marks_are (inr (λ i. gave.can.lock_is i ∷ [])) gave.can can (goes_gave_some t (Bucket bucket) r s (contents.Bucket back) gave) gave.after_is
-        (inr (among_first gave.can.hold.lock [], could_be (ticket_of (ready r.view gave.took)) (contents.Bucket back) part gave.part can gave.can)),
+        given_by (contents.Bucket back) part gave.part (gave.can.hold.lock ∷ []) (ticket_of (ready r.view gave.took)) gave.took gave.at r.view.kept s marks_are (inr (λ i. gave.can.lock_is i ∷ [])) gave.can can (goes_gave_some t (Bucket bucket) r s (contents.Bucket back) gave) gave.after_is (
+          inr (among_first gave.can.hold.lock [], could_be (ticket_of (ready r.view gave.took)) (contents.Bucket back) part gave.part can gave.can),
+          tells (ticket_of (ready r.view gave.took)) (contents.Bucket back) part gave.can.hold gave.part can (same_head (sym gave.can.innermost ∙ can.innermost)),
+        ),
   )
   gives_by back part (Some x) marks_are can is = (
     subst (CanGive t (Bucket bucket) r (contents.Bucket back)) (sym is) can,
     λ s gave.
         let hold_is : gave.hold ≡ can.hold = same_head (sym gave.innermost ∙ can.innermost) in
         let recorded : Goes r s (given_turn r gave.ticket can.hold (parts.Bucket part) ∷ []) [] = subst (λ (z : Hold × Part). Goes r s (given_turn r gave.ticket z.0 z.1 ∷ []) []) (λ i. (hold_is i, is i)) (goes_gave r s x gave) in
-        given_by (contents.Bucket back) part (parts.Bucket part) [] gave.ticket gave.took gave.at gave.kept s marks_are (inl refl) can can recorded (gave.after_is ∙ (λ i. with_view r (given gave.at (hold_is i) (entry_of r gave.ticket (is i)) gave.kept (ready r.view gave.took)))) (inl refl),
+        given_by (contents.Bucket back) part (parts.Bucket part) [] gave.ticket gave.took gave.at gave.kept s marks_are (inl refl) can can recorded (gave.after_is ∙ (λ i. with_view r (given gave.at (hold_is i) (entry_of r gave.ticket (is i)) gave.kept (ready r.view gave.took))))
+        (inl refl, tells gave.ticket (contents.Bucket back) part can.hold (parts.Bucket part) can refl),
   )
 
   pub gives : (back : BodyList) (part : BucketPart) (elements : List ℕ) → IsTurnWith t.shape q.cpu part bodies back.bodies elements → ((x : ℕ) → times x elements ≡ times x (rows now)) → now.free ≡ [] → bucket_probes part ≡ [] → marked ≡ marks t.shape (parts.Bucket part)

@@ -1,7 +1,5 @@
 -- What came in the turns of locks that are held, as other notes are made, locks are taken and given back, and elements come.
-use Rattle.std.proofs.Common.{◌≡◌, ◌≢◌, ℕ, suc, ◌<◌, arith, eqb, cond, Bool, true, false, List, [], ◌∷◌, sym, refl, ap, Some}
-use Rattle.place_words.specs.declared.bucket_part.BucketPart.TheVariants.{Lookup, Update, Delete, Take, Next, First, Walk, Evict}
-use Rattle.place_words.specs.declared.bucket_part.Seen.TheVariants.{Removed, Held}
+use Rattle.std.proofs.Common.{◌≡◌, ◌≢◌, ℕ, suc, ◌<◌, arith, eqb, cond, Bool, true, false, List, [], ◌∷◌, sym, refl, ap, ◌∙◌, Some}
 use Rattle.place_words.specs.declared.history.Part.{Part}
 use Rattle.place_words.specs.declared.history.Part.TheVariants as parts
 use Rattle.place_words.specs.declared.list_part.GlobalPart.TheVariants as global
@@ -11,7 +9,6 @@ use Rattle.place_words.specs.declared.home.Home.TheVariants as homes
 use Rattle.place_words.specs.Codes.{home_code}
 use Rattle.place_words.specs.Locks.{lock_number}
 use Rattle.place_words.specs.declared.owner.Owner.{Owner}
-use Rattle.place_words.specs.declared.owner.Owner.TheVariants as owners
 use Rattle.place_words.specs.declared.step.Lists.{Lists}
 use Rattle.map_types.specs.declared.attr.Shape.{Shape}
 use Rattle.map_types.specs.declared.kind.DomainId.{DomainId}
@@ -20,10 +17,11 @@ use Rattle.map_types.specs.ElementLists.{times, IsIn}
 use Rattle.map_types.proofs.RowLemmas.{by_test}
 use Rattle.place_table.specs.declared.view.Hold.{Hold}
 use Rattle.place_table.specs.declared.view.Notes.{Notes}
+use Rattle.place_table.specs.declared.view.OwnerSeen.{OwnerSeen}
 use Rattle.place_table.specs.declared.view.WordStep.{WordStep}
 use Rattle.place_table.specs.Rules.{AreNoted}
-use Rattle.place_table.specs.Views.{is_among, hold_at, came_at, came_last, with_mark, with_clear, with_bit_read, with_owner_read, with_home_read, with_flushed, with_came, with_come_home, with_off, left_local, with_left_home, with_now, held_without, held_with, notes_below, passed_on}
-use Rattle.place_table.proofs.Worlds.{none_some}
+use Rattle.place_table.specs.Views.{is_among, hold_at, came_at, came_last, with_mark, with_clear, with_bit_read, with_owner_read, with_home_read, with_flushed, with_came, with_come_home, with_off, has_left, with_carried_off, left_local, with_left_home, with_now, held_without, held_with, notes_below, owners_last, with_owners_read, passed_on}
+use Rattle.place_table.proofs.Worlds.{by_bool, none_some}
 
 -- Other notes
 
@@ -70,19 +68,15 @@ came_other k h (x ∷ xs) [] other = refl
 came_other k h below (n ∷ ns) other =
     by_test h.lock k (λ b. cond b n.came (came_at k below ns) ≡ came_at k below ns) (λ same. absurd (other (sym same))) (λ _. refl)
 
-pub came_passed : (part : Part) (k : ℕ) (held : List Hold) (notes : List Notes) → came_at k held (passed_on part notes) ≡ came_at k held notes
-came_passed (parts.Bucket (Lookup side key got)) k held notes = refl
-came_passed (parts.Bucket (Update side flags key value offer put)) k held notes = refl
-came_passed (parts.Bucket (Delete key removed)) k held notes = refl
-came_passed (parts.Bucket (Take key taken)) k held notes = refl
-came_passed (parts.Bucket (Next key found)) k held notes = refl
-came_passed (parts.Bucket (First key)) k held notes = refl
-came_passed (parts.Bucket (Walk remove room result)) k held notes = refl
-came_passed (parts.Bucket (Evict e Removed)) k held notes = refl
-came_passed (parts.Bucket (Evict e (Held holder))) k held notes = came_owner_read e (owners.Hand holder) k held notes
+came_owners_read : (xs : List OwnerSeen) (k : ℕ) (held : List Hold) (notes : List Notes) → came_at k held (with_owners_read xs notes) ≡ came_at k held notes
+came_owners_read [] k held notes = refl
+came_owners_read (x ∷ xs) k held notes = came_owner_read x.element x.owner k held (with_owners_read xs notes) ∙ came_owners_read xs k held notes
+
+pub came_passed : (part : Part) (k : ℕ) (held : List Hold) (notes : List Notes) → came_at k held (passed_on part notes) ≡ came_at k held (notes_below notes)
+came_passed (parts.Bucket part) k held notes = came_owners_read (owners_last notes) k held (notes_below notes)
 came_passed (parts.Free part) k held notes = refl
 came_passed (parts.Local part) k held notes = refl
-came_passed (parts.Global (global.Turn flushed active inactive free shrink)) k held notes = came_flushed flushed k held notes
+came_passed (parts.Global (global.Turn flushed active inactive free shrink)) k held notes = came_flushed flushed k held (notes_below notes)
 came_passed (parts.Global (global.Push e)) k held notes = refl
 came_passed (parts.Own part) k held notes = refl
 
@@ -135,6 +129,13 @@ came_off k e m (h ∷ hs) (n ∷ ns) =
     by_test h.lock k (λ b. came_at m (h ∷ hs) (cond b (record n { off = e ∷ n.off } ∷ ns) (n ∷ with_off k e hs ns)) ≡ came_at m (h ∷ hs) (n ∷ ns))
     (λ _. refl) (λ _. ap (cond (eqb h.lock m) n.came) (came_off k e m hs ns))
 
+came_carried_off : (shape : Shape) (e m : ℕ) (held : List Hold) (notes : List Notes) → came_at m held (with_carried_off shape e held notes) ≡ came_at m held notes
+came_carried_off shape e m [] notes = refl
+came_carried_off shape e m (h ∷ hs) [] = refl
+came_carried_off shape e m (h ∷ hs) (n ∷ ns) =
+    by_bool (has_left shape e h n.came) (λ b. cond (eqb h.lock m) (cond b (record n { off = e ∷ n.off }) n).came (came_at m hs (with_carried_off shape e hs ns)) ≡ cond (eqb h.lock m) n.came (came_at m hs ns))
+    (λ _. ap (cond (eqb h.lock m) n.came) (came_carried_off shape e m hs ns)) (λ _. ap (cond (eqb h.lock m) n.came) (came_carried_off shape e m hs ns))
+
 came_left_local : (shape : Shape) (from : Home) (e m : ℕ) (held : List Hold) (notes : List Notes) → came_at m held (left_local shape from e held notes) ≡ came_at m held notes
 came_left_local shape homes.Unlisted e m held notes = refl
 came_left_local shape (homes.In (Local c)) e m held notes = came_off (lock_number shape (Local c)) e m held notes
@@ -142,7 +143,7 @@ came_left_local shape (homes.In Global) e m held notes = refl
 came_left_local shape (homes.In (CpuLru c)) e m held notes = refl
 came_left_local shape (homes.In (Bucket b)) e m held notes = refl
 came_left_local shape (homes.In (Freelist c)) e m held notes = refl
-came_left_local shape (homes.Hand c) e m held notes = refl
+came_left_local shape (homes.Hand c) e m held notes = came_carried_off shape e m held notes
 
 pub came_left_home : (shape : Shape) (from to : Home) (e m : ℕ) (held : List Hold) (notes : List Notes) → came_at m held (with_left_home shape from to e held notes) ≡ came_at m held notes
 came_left_home shape from homes.Unlisted e m held notes = refl

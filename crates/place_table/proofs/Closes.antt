@@ -5,9 +5,11 @@ use mathlib.Core.Option.{some}
 use lib.ListN.{get_elem?}
 use Rattle.atomic_table.specs.Table.{State, Final, Seen}
 use Rattle.map_types.specs.declared.attr.Shape.{Shape}
+use Rattle.map_types.specs.Creation.{IsShape}
 use Rattle.map_types.specs.declared.kind.DomainId.{DomainId}
 use Rattle.map_types.specs.declared.kind.DomainId.TheVariants as named
 use Rattle.map_types.specs.Stored.{Stored, IsSized}
+use Rattle.map_types.proofs.CreationLemmas.{bounds_of_shape}
 use Rattle.map_types.proofs.RowLemmas.{by_test}
 use Rattle.place_words.specs.declared.history.Entry.{Entry}
 use Rattle.place_words.specs.declared.history.Strand.{Strand}
@@ -31,12 +33,14 @@ use Rattle.place_table.specs.Tickets.{NoneLost, turn_tickets}
 use Rattle.place_table.proofs.TicketLemmas.{each_append, each_to, exact_there, first_there, inner_there}
 use Rattle.place_table.proofs.TicketsShared.{idle_reached}
 use Rattle.place_words.proofs.Ascending.{ascend_to}
-use Rattle.place_table.proofs.TicketsClosed.{each_once}
+use Rattle.place_table.proofs.TicketsClosed as tickets_closed
 use Rattle.place_table.specs.Rules.{World, Rule, PassKnows, entries, hold_of, is_hand_of, turns_on, turns_of, indexes, StandIn, ArePast, HaveNoSteps, touches_of, IsOfStrand, AreReads, logs_of}
-use Rattle.place_table.specs.Passes.{PassView, HasCpusOf, HandsReal}
+use Rattle.place_table.specs.Passes.{PassView, HasCpusOf, HandsReal, IsInNoCall, spare_of}
 use Rattle.place_table.specs.Closing.{ClosedView, AreSlots, has_lock, strands_told, state_left, AreTurnsOf, IsClosed, AreTouchesOf, AreWordsOf, HaveTickets}
+use Rattle.place_table.specs.Elements.{HoldsEachOnce}
 use Rattle.place_table.specs.Leaving.{WasLeft}
 use Rattle.place_table.proofs.Worlds.{true_false, none_some, hold_of_mine, has_mine, own_hand, by_bool}
+use Rattle.place_table.proofs.ElementsLeft.{IsSpare, each_once}
 use Rattle.place_table.proofs.Locks.{free_home, seat_at}
 use Rattle.place_table.proofs.Leaves.{passes_below, any_of}
 use Rattle.place_table.proofs.MapLeft.{bucket_left}
@@ -49,6 +53,7 @@ use Rattle.place_table.proofs.Touches.{are_touches_of}
 -- what was true at the end, before anything is handed out
 pub record AtEnd (shape : Shape) (v : View) (words : List ℕ) (slots : List Behind) : Type 0 where
   pub shape_is : v.shape ≡ shape
+  pub is_shape : IsShape shape
   pub log : ℕ → List Entry
   pub lost : ℕ → Bool
   pub core : cores.State
@@ -162,6 +167,7 @@ module _ (shape : Shape) (s : State Behind View) (r : Rule shape s) (pass : ℕ)
   at_end words slots words_are counted given_back =
       let w = r.world in let kn = r.knows pass v at_pass in record {
         shape_is = kn.shape_is;
+        is_shape = r.is_shape;
         log = λ k. entries (w.log k);
         lost = w.lost;
         core = w.core;
@@ -185,7 +191,7 @@ module _ (shape : Shape) (s : State Behind View) (r : Rule shape s) (pass : ℕ)
         ticketed = λ none.
             let mine = r.tickets.known pass v at_pass in
             let drawn : ℕ = get_or s.words (ticket_word shape) 0 in record {
-              each_once = each_once shape drawn (logs_of w) w.lost w.pass_of_cpu s.views r.tickets none
+              each_once = tickets_closed.each_once shape drawn (logs_of w) w.lost w.pass_of_cpu s.views r.tickets none
                   (λ t c out. let found = inner_there out.view.held out.inner out.inner_is in none_some (sym (nobody found.0.lock) ∙ (first_there shape s r (w.pass_of_cpu c) out.view out.seat found.0 found.1 found.2).holder_is));
               in_histories = λ k below there. r.tickets.ascend k (none k below there);
               in_strands =
@@ -236,7 +242,25 @@ bodies_sized shape v words slots e bit spares bucket less =
     passes_named : (lock : DomainId) (k : ℕ) → lock_named shape k ≡ lock → is_lock shape lock ≡ true → has_lock shape k ≡ true
     passes_named lock k same there = ap (is_lock shape) same ∙ there
 
-module _ (shape : Shape) (p : PassView) (words : List ℕ) (slots : List Behind) (closed : ClosedView) (e : AtEnd shape p.view words slots) (hands : HandsReal shape p.view.cpus p.view.hand) (mine : HasCpusOf shape (current_strand p.view)) (within : All (HasCpusOf shape) (all_strands p.view)) (was : WasLeft shape e.log e.lost e.core.bit (all_strands p.view) p.spares closed) where
+module _ (shape : Shape) (p : PassView) (words : List ℕ) (slots : List Behind) (closed : ClosedView) (e : AtEnd shape p.view words slots) (all : (c : ℕ) → c < shape.cpus → is_among c p.view.cpus ≡ true) (idle : IsInNoCall p)
+    (hands : HandsReal shape p.view.cpus p.view.hand) (mine : HasCpusOf shape (current_strand p.view)) (within : All (HasCpusOf shape) (all_strands p.view)) (was : WasLeft shape e.log e.lost e.core.bit (all_strands p.view) p.spares closed) where
+  -- what is in hand are the spares
+  held_spare : (x c : ℕ) → c < shape.cpus → is_hand_of c (e.core.owner x) ≡ true → IsSpare shape p.spares x c
+  held_spare x c below held =
+      let kept = idle.spares_only x c (all c below) (sym (e.hands x c below) ∙ held) in
+      record { body = kept.0; kept = kept.1; element = kept.2; hash = ap (λ (s : Shape). s.kind) (sym e.shape_is) ∙ kept.3 }
+
+  spare_held : (c : ℕ) (body : Stored) → spare_of c p.spares ≡ Some body → (body.element < shape.elements) × (is_hand_of c (e.core.owner body.element) ≡ true)
+  spare_held c body is =
+      let here = idle.spares_in_hand c body is in
+      let real = hands body.element c here in
+      (real.0, e.hands body.element c (mine c real.1) ∙ here)
+
+  each_left : HoldsEachOnce shape closed.finals
+  each_left =
+      subst (HoldsEachOnce shape) (sym was.left.finals_are)
+      (each_once shape (bounds_of_shape shape e.is_shape) e.log e.core e.placed e.lists_are e.core.bit p.spares held_spare spare_held)
+
   none_lost_of : closed.lost ≡ false → NoneLost shape e.lost
   none_lost_of kept k below there =
       by_bool (e.lost k) (λ b. e.lost k ≡ b → b ≡ false)
@@ -254,6 +278,7 @@ module _ (shape : Shape) (p : PassView) (words : List ℕ) (slots : List Behind)
     hands = e.hands;
     in_hand = λ x c has. let real = hands x c has in (real.0, mine c real.1);
     sized = λ bucket less. subst (All (IsSized shape)) (sym (bucket_left was.left bucket less)) (bodies_sized shape p.view words slots e e.core.bit p.spares bucket less);
+    elements = each_left;
     known = e.known;
     bits = e.bits;
     turns = e.turns;
@@ -287,10 +312,13 @@ at_its_end shape key given words slots pass v u key_is shape_is view_is f all no
     (λ c below. ap (λ (w : View). is_among c w.cpus) view_is ∙ all c (subst (λ (s : Shape). c < s.cpus) shape_is below))
     (ap (λ (w : View). w.held) view_is ∙ no_lock)
 
-pub if_closed : {E : Type 0} (shape given : Shape) (p q : PassView) (words : List ℕ) (slots : List Behind) (r : Result ClosedView E) (e : AtEnd shape p.view words slots) → HandsReal p.view.shape p.view.cpus p.view.hand → All (HasCpusOf p.view.shape) p.view.ended → HasCpusOf p.view.shape (current_strand p.view) → shape ≡ given → p ≡ q
+pub if_closed : {E : Type 0} (shape given : Shape) (p q : PassView) (words : List ℕ) (slots : List Behind) (r : Result ClosedView E) (e : AtEnd shape p.view words slots) → ((c : ℕ) → c < given.cpus → is_among c q.view.cpus ≡ true) → IsInNoCall q
+    → HandsReal p.view.shape p.view.cpus p.view.hand → All (HasCpusOf p.view.shape) p.view.ended → HasCpusOf p.view.shape (current_strand p.view) → shape ≡ given → p ≡ q
     → IfOk r (WasLeft shape e.log e.lost e.core.bit (all_strands p.view) p.spares) → IfOk r (IsClosed given q)
-if_closed shape given p q words slots (Ok closed) e hands ended current shape_is pass_is left =
+if_closed shape given p q words slots (Ok closed) e all idle hands ended current shape_is pass_is left =
     subst (λ (s : Shape). IsClosed s q closed) shape_is
     (subst (λ (x : PassView). IsClosed shape x closed) pass_is
-    (closed_is shape p words slots closed e (subst (λ (s : Shape). HandsReal s p.view.cpus p.view.hand) e.shape_is hands) (subst (λ (s : Shape). HasCpusOf s (current_strand p.view)) e.shape_is current) (subst (λ (s : Shape). All (HasCpusOf s) (all_strands p.view)) e.shape_is (all_within p.view ended current)) left))
-if_closed shape given p q words slots (Err refused) e hands ended current shape_is pass_is left = tt
+    (closed_is shape p words slots closed e
+    (λ c below. ap (λ (x : PassView). is_among c x.view.cpus) pass_is ∙ all c (subst (λ (s : Shape). c < s.cpus) shape_is below)) (subst IsInNoCall (sym pass_is) idle)
+    (subst (λ (s : Shape). HandsReal s p.view.cpus p.view.hand) e.shape_is hands) (subst (λ (s : Shape). HasCpusOf s (current_strand p.view)) e.shape_is current) (subst (λ (s : Shape). All (HasCpusOf s) (all_strands p.view)) e.shape_is (all_within p.view ended current)) left))
+if_closed shape given p q words slots (Err refused) e all idle hands ended current shape_is pass_is left = tt

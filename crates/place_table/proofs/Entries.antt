@@ -6,6 +6,7 @@ use Rattle.place_words.specs.declared.history.Entry.{Entry}
 use Rattle.place_words.specs.declared.history.StrandStep.{StrandStep}
 use Rattle.place_words.specs.Locks.{is_same_lock}
 use Rattle.place_words.specs.Strands.{places_on}
+use Rattle.place_table.specs.declared.view.View.{View}
 use Rattle.place_table.specs.declared.view.WordStep.{WordStep}
 use Rattle.place_table.specs.declared.view.Turned.{Turned}
 use Rattle.place_table.specs.Views.{turned, place_of}
@@ -42,11 +43,11 @@ turns_of_other t u i (x ∷ xs) e n =
     (λ _. ap (λ l. (i, x.1) ∷ l) rest) (λ _. rest)
 
 -- the steps on one lock
-pub turns_on_same : (k : ℕ) (before : List Entry) (e : Entry) (steps : List Turned) (s : Turned) → s ≡ turned k before e → turns_on k (steps ++ s ∷ []) ≡ turns_on k steps ++ (length before, e) ∷ []
-turns_on_same k before e [] s is =
+pub turns_on_same : (k : ℕ) (before : List Entry) (e : Entry) (v : View) (steps : List Turned) (s : Turned) → s ≡ turned k before e v → turns_on k (steps ++ s ∷ []) ≡ turns_on k steps ++ (length before, e) ∷ []
+turns_on_same k before e v [] s is =
     subst (λ (z : Turned). turns_on k (z ∷ []) ≡ (length before, e) ∷ []) (sym is) (by_test k k (λ b. cond {A = List (ℕ × Entry)} b ((length before, e) ∷ []) [] ≡ (length before, e) ∷ []) (λ _. refl) (λ n. absurd (n refl)))
-turns_on_same k before e (x ∷ xs) s is =
-    let rest = turns_on_same k before e xs s is in
+turns_on_same k before e v (x ∷ xs) s is =
+    let rest = turns_on_same k before e v xs s is in
     by_test x.lock k (λ b. cond b ((place_of x, x.entry) ∷ turns_on k (xs ++ s ∷ [])) (turns_on k (xs ++ s ∷ [])) ≡ cond b ((place_of x, x.entry) ∷ turns_on k xs) (turns_on k xs) ++ (length before, e) ∷ [])
     (λ _. ap (λ l. (place_of x, x.entry) ∷ l) rest) (λ _. rest)
 

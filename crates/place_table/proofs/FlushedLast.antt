@@ -1,5 +1,5 @@
 -- An element that was flushed by the rows of local lists, before each turn and after it, was flushed by what the parts tell.
-use Rattle.std.proofs.Common.{◌≡◌, ℕ, suc, ◌≤◌, ◌⊎◌, inl, inr, ⊎_elim, eqb, cond, Bool, true, false, List, [], ◌∷◌, sym, refl, ◌∙◌, subst, arith, Option, Some, None}
+use Rattle.std.proofs.Common.{◌≡◌, ℕ, zero, suc, ◌≤◌, drop, ◌⊎◌, inl, inr, ⊎_elim, eqb, cond, Bool, true, false, List, [], ◌∷◌, sym, refl, ◌∙◌, subst, arith, Option, Some, None}
 use Rattle.std.specs.Prelude.{◌||◌}
 use Rattle.map_types.specs.declared.attr.Shape.{Shape}
 use Rattle.map_types.specs.declared.kind.DomainId.TheVariants.{Local}
@@ -14,7 +14,7 @@ use Rattle.place_words.specs.declared.list_part.LocalPart.{LocalPart}
 use Rattle.place_words.specs.declared.list_part.LocalPart.TheVariants as local
 use Rattle.place_words.specs.declared.list_part.Stolen.TheVariants.{Free, Pending, Nothing}
 use Rattle.place_words.specs.declared.visits.Visit.{Visit}
-use Rattle.place_words.specs.Histories.{Allows, AllAllowed, IsLegal, content_after, in_locals}
+use Rattle.place_words.specs.Histories.{Content, Allows, AllAllowed, IsLegal, content_after, in_locals}
 use Rattle.place_words.specs.Locals.{LocalLists, new_locals, AllowsOnLocal, local_after}
 use Rattle.place_words.specs.RowMoves.{rows_of}
 use Rattle.place_words.specs.Sets.{row_with}
@@ -22,7 +22,7 @@ use Rattle.place_words.specs.Takings.{stored_hash, is_one, has_visit, flushed_by
 use Rattle.place_words.proofs.KeepLaws.{has_one, stolen_there}
 use Rattle.place_words.proofs.RowCounts.{any, rows_any}
 use Rattle.place_words.proofs.ShrinkProbes.{stored_there}
-use Rattle.place_table.specs.Flushes.{is_visited, local_flushes, flushes, flushed_then, flushed_from, flushed_last}
+use Rattle.place_table.specs.Flushes.{is_visited, local_flushes, flushes, flushed_then, flushed_from, flushed_behind, flushed_since}
 use Rattle.place_table.specs.StoredHashes.{stored_in}
 use Rattle.place_table.proofs.Worlds.{by_bool, true_false, none_some}
 
@@ -114,6 +114,52 @@ unfolding AllAllowed flushed_from
 are_told shape e [] was then lists goes allowed is = goes is
 are_told shape e (entry ∷ entries) was then lists goes allowed is = turn_told shape e entry.cpu entry.part entries (are_told shape e entries) was then lists goes allowed.0 allowed.1 is
 
--- The last turn that put an element on pending or took it off flushed it, as a push tells that finds it there no more.
-pub flushed_told : (shape : Shape) (c e : ℕ) (entries : List Entry) → IsLegal shape (Local c) entries → flushed_last shape (Local c) e entries ≡ true → ends_flushed e false entries ≡ true
-flushed_told shape c e entries legal is = are_told shape e entries false false (new_locals c) (λ flushed. flushed) legal is
+-- The turns behind the first ones alone
+
+abbrev AreToldBehind : Shape → ℕ → ℕ → List Entry → Type 0
+AreToldBehind shape n e entries =
+    (lists : LocalLists) → AllAllowed shape (in_locals lists) entries → flushed_behind shape n e (in_locals lists) entries ≡ true → ends_flushed e false (drop n entries) ≡ true
+
+turn_behind : (shape : Shape) (n e cpu : ℕ) (part : Part) (entries : List Entry) → AreToldBehind shape n e entries → (lists : LocalLists) → Allows shape cpu part (in_locals lists) → AllAllowed shape (content_after shape cpu part (in_locals lists)) entries
+    → flushed_behind shape n e (content_after shape cpu part (in_locals lists)) entries ≡ true → ends_flushed e false (drop n entries) ≡ true
+turn_behind shape n e cpu (parts.Bucket part) entries others lists allowed legal is = absurd allowed
+turn_behind shape n e cpu (parts.Free part) entries others lists allowed legal is = absurd allowed
+turn_behind shape n e cpu (parts.Local part) entries others lists allowed legal is = others (local_after part lists) legal is
+turn_behind shape n e cpu (parts.Global part) entries others lists allowed legal is = absurd allowed
+turn_behind shape n e cpu (parts.Own part) entries others lists allowed legal is = absurd allowed
+
+since_told : (shape : Shape) (n e : ℕ) (entries : List Entry) → AreToldBehind shape n e entries
+unfolding flushed_behind AllAllowed
+since_told shape zero e entries lists legal is = are_told shape e entries false false lists (λ flushed. flushed) legal is
+since_told shape (suc n) e [] lists legal is = true_false (sym is)
+since_told shape (suc n) e (entry ∷ entries) lists legal is = turn_behind shape n e entry.cpu entry.part entries (since_told shape n e entries) lists legal.0 legal.1 is
+
+-- what the turns behind the first ones flushed last, all of them did
+then_goes : (was now by_it : Bool) (before after : Option ℕ) → (was ≡ true → now ≡ true) → flushed_then was by_it before after ≡ true → flushed_then now by_it before after ≡ true
+then_goes was now by_it before (Some h) goes is = true_false (sym is)
+then_goes was now by_it (Some h) None goes is = is
+then_goes was now by_it None None goes is = goes is
+
+from_goes : (shape : Shape) (e : ℕ) (was now : Bool) (before : Content) (entries : List Entry) → (was ≡ true → now ≡ true) → flushed_from shape e was before entries ≡ true → flushed_from shape e now before entries ≡ true
+unfolding flushed_from
+from_goes shape e was now before [] goes is = goes is
+from_goes shape e was now before (entry ∷ entries) goes is =
+    let after : Content = content_after shape entry.cpu entry.part before in
+    from_goes shape e (flushed_then was (flushes e entry.part) (stored_in before e) (stored_in after e)) (flushed_then now (flushes e entry.part) (stored_in before e) (stored_in after e)) after entries
+    (then_goes was now (flushes e entry.part) (stored_in before e) (stored_in after e) goes) is
+
+since_all : (shape : Shape) (n e : ℕ) (was : Bool) (before : Content) (entries : List Entry) → flushed_behind shape n e before entries ≡ true → flushed_from shape e was before entries ≡ true
+unfolding flushed_behind flushed_from
+since_all shape zero e was before entries is = from_goes shape e false was before entries (λ never. true_false (sym never)) is
+since_all shape (suc n) e was before [] is = true_false (sym is)
+since_all shape (suc n) e was before (entry ∷ entries) is =
+    let after : Content = content_after shape entry.cpu entry.part before in
+    since_all shape n e (flushed_then was (flushes e entry.part) (stored_in before e) (stored_in after e)) after entries is
+
+-- The last of the turns behind the first ones that put an element on pending or took it off flushed it, as a push tells that finds it
+-- there no more; and so did the last of all turns.
+pub flushed_told : (shape : Shape) (c n e : ℕ) (entries : List Entry) → IsLegal shape (Local c) entries → flushed_since shape (Local c) n e entries ≡ true → (ends_flushed e false (drop n entries) ≡ true) × (ends_flushed e false entries ≡ true)
+flushed_told shape c n e entries legal is = (
+  since_told shape n e entries (new_locals c) legal is,
+  are_told shape e entries false false (new_locals c) (λ flushed. flushed) legal (since_all shape n e false (in_locals (new_locals c)) entries is),
+)

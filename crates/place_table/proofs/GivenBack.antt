@@ -3,7 +3,7 @@ use Rattle.std.proofs.Common.{◌≡◌, ◌≢◌, ℕ, ◌+◌, ◌<◌, ◌�
 use Rattle.std.specs.Prelude.{◌&&◌, IsTrue, IsFalse, MatchOption}
 use mathlib.Core.Option.{some}
 use lib.ListN.{get_elem?}
-use Rattle.atomic_table.specs.Table.{State, Allows, gives, rest, step, put_back}
+use Rattle.atomic_table.specs.Table.{State, Allows, gives, stepped, rest, step, put_back}
 use Rattle.atomic_table.proofs.Lists.{at_set, set_here, set_else}
 use Rattle.map_types.specs.declared.attr.Shape.{Shape}
 use Rattle.map_types.specs.declared.kind.DomainId.{DomainId}
@@ -25,7 +25,6 @@ use Rattle.place_words.specs.declared.step.Lists.{Lists}
 use Rattle.place_words.specs.declared.step.Step.TheVariants.{Give}
 use Rattle.place_words.specs.declared.owner.Owner.TheVariants as owners
 use Rattle.place_words.specs.Openings.{is_free}
-use Rattle.place_words.specs.Places.{home_of_place}
 use Rattle.map_types.specs.Kind.{is_lru}
 use Rattle.map_types.proofs.RowLemmas.{by_test}
 use Rattle.place_words.specs.State.{rows, is_bucket, HasOnlyItsLists, HasCursorInside}
@@ -39,16 +38,16 @@ use Rattle.place_table.specs.declared.view.View.{View}
 use Rattle.place_table.specs.declared.view.Hold.{Hold}
 use Rattle.place_table.specs.declared.view.Notes.{Notes}
 use Rattle.place_table.specs.Contents.{content_told, lists_of, FitsLock}
-use Rattle.place_table.specs.Laws.{StepsAs, goes_by}
+use Rattle.place_table.specs.Laws.{StepsAs, goes_by, LeadsOn}
 use Rattle.place_table.specs.declared.view.Turned.{Turned}
 use Rattle.place_table.specs.Views as views
-use Rattle.place_table.specs.Views.{is_among, hold_at, known_log, holding, has_all, is_in_hand_of, home_then, passed_on, notes_below}
-use Rattle.place_table.specs.Rules.{World, Rule, PassKnows, givers, strands_of, AtHome, Tagged, entries, hold, hold_of, IsAboveAll, Ascends, turns_on, turns_of, indexes, logs_of, AreTagged, HashesRight, StillHome, HasRow, IsBrought, IsHashed, HasCome, is_hand_of, LeadTo, AreNoted}
+use Rattle.place_table.specs.Views.{is_among, hold_at, known_log, holding, has_all, is_in_hand_of, home_then, passed_on}
+use Rattle.place_table.specs.Rules.{World, Rule, PassKnows, givers, strands_of, AtHome, Tagged, entries, hold, hold_of, IsAboveAll, Ascends, turns_on, turns_of, indexes, logs_of, AreTagged, HashesRight, StillHome, HasRow, IsHashed, is_hand_of, LeadTo, AreNoted, IsCounted}
 use Rattle.place_table.specs.Words.{lock_code, owner_word, home_word, bit_word, ticket_word, opening_words}
 use Rattle.place_table.specs.Plays.{Seated, MayPut, MayGive, HasItsTicket, IsRecorded, IsKeptOrLost, GivesBack, GivesSome, entry_by}
 use Rattle.place_table.specs.TurnNotes.{NotesFit}
 use Rattle.place_table.specs.StoredHashes.{stored_in}
-use Rattle.place_table.proofs.StoredHashes.{renewed, hashes_gave, hash_stays, hashed_gave, IsGiven, IsOlder, given_known, given_kept, given_new, in_all, lies_on}
+use Rattle.place_table.proofs.StoredHashes.{renewed, elsewhere, hashes_gave, hash_stays, hashed_gave, IsGiven, IsOlder, given_known, given_kept, given_new, in_all}
 use Rattle.place_table.proofs.Came.{came_first, came_other, came_passed}
 use Rattle.place_table.proofs.HashSteps.{no_bucket_home}
 use Rattle.place_table.proofs.Entries.{append_nil, entries_more, entries_length, turns_of_same, turns_of_other, turns_on_same, turns_on_other, places_on_same, places_on_other, indexes_more}
@@ -56,7 +55,6 @@ use Rattle.place_table.proofs.Stands.{Grows, stand_more, stand_behind}
 use Rattle.place_table.proofs.Worlds.{at_put4, by_bool, true_false, some_is, none_some, hold_of_mine, IsMineOrFree, hold_of_other, HoldIs, hold_of_is, hold_at_first, hold_at_other, none_below, above_each, lock_still_lost, all_here, here_all, among_first, others, past_stays, tagged_stays, tagged_more, SameStrands, knows_none, hand_is, both_true}
 use Rattle.place_table.proofs.Readings.{still_gave, home_is_hand, listed_at_home}
 use Rattle.place_table.specs.Flushes.{flushes}
-use Rattle.place_words.specs.declared.home.Home.{Home}
 use Rattle.place_table.specs.declared.view.HashIn.{HashIn}
 use Rattle.place_words.specs.Wholeness.{all_of}
 use Rattle.place_table.specs.declared.view.WordStep.{WordStep}
@@ -68,7 +66,9 @@ use Rattle.place_table.specs.Tickets as by_tickets
 use Rattle.place_table.specs.Views.{ticket_of}
 use Rattle.place_table.proofs.TicketLemmas.{theirs_there}
 use Rattle.place_table.proofs.TicketChanges.{tickets_given}
-use Rattle.place_table.proofs.Locks.{allows_of, there, elements_there, apart_there}
+use Rattle.place_table.proofs.Locks.{allows_of, there, elements_there}
+use Rattle.place_table.specs.declared.view.HomeIn.{HomeIn}
+use Rattle.place_table.proofs.Counted.{counted_more, counted_within}
 
 -- what lies under a lock of one kind has only the lists of that kind, and its cursor in its place
 fits_lists : (shape : Shape) (lock : DomainId) (here : Content) → FitsLock shape lock here → HasOnlyItsLists lock (lists_of (content_told lock here))
@@ -200,27 +200,32 @@ module _ (shape : Shape) (slots pass : ℕ) (v : View) (b : Behind) (cs : List (
       let at = found_hold w kn in
       hand_is h.cpu (w.core.owner x) (both_true _ _ (sym (kn.hands x h.cpu (r.ranked.within h.cpu (lock_number shape lock) at.holder_is)) ∙ (both_true _ _ is).0)).0
 
-  -- what is in its hand and listed there, and didn't come in the turn, has a row there or was brought
-  rowed_there : (s : State Behind View) (r : Rule shape s) → get_elem? s.views pass ≡ some v → IsTrue (is_lru shape.kind) → (x : ℕ) → fresh x ≡ false → r.world.core.owner x ≡ owners.Hand h.cpu → IsIn x (rows (r.world.core.lists (lock_number shape lock)))
-      → HasRow shape r.world.log r.world.hash (lock_number shape lock) x ⊎ IsBrought shape r.world.core.holder r.world.log r.world.hash (lock_number shape lock) x
-  unfolding fresh
-  rowed_there s r at_pass lru x other owner_is listed =
+  -- what came in the turn
+  come : ℕ → Bool
+  come x = is_among x (views.came_last v.notes)
+
+  come_to_hand : (s : State Behind View) (r : Rule shape s) → get_elem? s.views pass ≡ some v → (x : ℕ) → come x ≡ true → r.world.core.owner x ≡ owners.Hand h.cpu → fresh x ≡ true
+  unfolding fresh come
+  come_to_hand s r at_pass x came owner_is =
+      let w = r.world in let kn = r.knows pass v at_pass in
+      let at = found_hold w kn in
+      let within : h.cpu < shape.cpus = r.ranked.within h.cpu (lock_number shape lock) at.holder_is in
+      let in_hand : is_in_hand_of x h.cpu v.hand ≡ true = kn.hands x h.cpu within ∙ ((λ i. is_hand_of h.cpu (owner_is i) && eqb (at.mine i) pass) ∙ by_test h.cpu h.cpu (λ t. (t && eqb pass pass) ≡ true) (λ _. by_test pass pass (λ t. t ≡ true) (λ _. refl) (λ ne. absurd (ne refl))) (λ ne. absurd (ne refl))) in
+      λ i. in_hand i && came i
+
+  -- what is listed there has a row there, or came in the turn
+  rowed_there : (s : State Behind View) (r : Rule shape s) → get_elem? s.views pass ≡ some v → IsTrue (is_lru shape.kind) → (x : ℕ) → IsFalse (is_bucket (lock_named shape (lock_number shape lock))) → IsIn x (rows (r.world.core.lists (lock_number shape lock)))
+      → HasRow shape r.world.log r.world.hash (lock_number shape lock) x ⊎ (come x ≡ true)
+  unfolding come
+  rowed_there s r at_pass lru x no_bucket listed =
       let w = r.world in let k : ℕ = lock_number shape lock in let kn = r.knows pass v at_pass in
       let at = found_hold w kn in
-      let within : h.cpu < shape.cpus = r.ranked.within h.cpu k at.holder_is in
-      let in_hand : is_in_hand_of x h.cpu v.hand ≡ true = kn.hands x h.cpu within ∙ ((λ i. is_hand_of h.cpu (owner_is i) && eqb (at.mine i) pass) ∙ by_test h.cpu h.cpu (λ t. (t && eqb pass pass) ≡ true) (λ _. by_test pass pass (λ t. t ≡ true) (λ _. refl) (λ ne. absurd (ne refl))) (λ ne. absurd (ne refl))) in
-      let real : x < shape.elements = (elements_there shape s r k).rows_real x listed in
-      let no_bucket : IsFalse (is_bucket lock) = by_bool (is_bucket lock) (λ t. t ≡ false)
-      (λ bucket. let none = (apart_there shape s r pass v at_pass k x h.cpu (kn.cpus h.cpu within ∙ (ap (λ (z : ℕ). eqb z pass) at.mine ∙ by_test pass pass (λ t. t ≡ true) (λ _. refl) (λ ne. absurd (ne refl)))) in_hand).1 (inr (ap is_bucket (named_by_number shape lock is) ∙ bucket)) in absurd (omega (arith, none, listed)))
-      (λ _. refl) in
-      let home_is : w.core.home x ≡ homes.In lock = r.placed.placed.homes x real ∙ (ap (home_of_place shape) (lies_on shape w.core.lists w.core.owner w.core.home r.placed.place r.placed.placed k x (ap is_bucket (named_by_number shape lock is) ∙ no_bucket) (in_all x (w.core.lists k) listed))
-      ∙ (ap (λ (b : Bool). cond b (homes.In (lock_named shape k)) homes.Unlisted) lru ∙ ap homes.In (named_by_number shape lock is))) in
+      let its : Hold = hold k h.cpu (w.log k) (w.core.lists k) (w.lost k) in
+      let found : hold_at k v.held ≡ Some its = kn.held k ∙ (ap (λ (z : Option ℕ). hold_of pass w.pass_of_cpu k z (w.log k) (w.core.lists k) (w.lost k)) at.holder_is ∙ hold_of_mine w.pass_of_cpu pass k h.cpu (w.log k) (w.core.lists k) (w.lost k) at.mine) in
       ⊎_elim
-      (λ (had : HasRow shape w.log w.hash k x). inl had)
-      (⊎_elim
-      (λ (brought : IsBrought shape w.core.holder w.log w.hash k x). inr brought)
-      (λ (come : HasCome w.core.holder (views.came_at k v.held v.notes) k x h.cpu). true_false (sym (λ i. in_hand i && (ap (is_among x) (sym came_is) ∙ come.inside) i) ∙ other)))
-      ((kn.hashed lru x h.cpu lock real within in_hand home_is).row at.holder_is)
+      (λ (had : stored_in (content shape (lock_named shape k) (entries (w.log k))) x ≡ Some (w.hash x)). inl record { stored = had })
+      (λ (came : is_among x (views.came_at k v.held v.notes) ≡ true). inr (ap (is_among x) (sym came_is) ∙ came))
+      (kn.rowed lru k x its found no_bucket listed)
 
   own_hashes : (s : State Behind View) (r : Rule shape s) → get_elem? s.views pass ≡ some v → (x c : ℕ) (noted : HashIn) → c < shape.cpus → (IsTrue (is_lru shape.kind) → fresh x ≡ false → renewed true (stored_in back x) (r.world.hash x) ≡ r.world.hash x) → views.hash_known x c (views.given (made r.world) h e kept v).hashes ≡ Some noted → (is_in_hand_of x c v.hand ≡ true) × (bucket_number (renewed (is_lru shape.kind) (stored_in back x) (r.world.hash x)) shape.buckets ≡ noted.bucket)
   unfolding gave_world fresh
@@ -252,7 +257,7 @@ module _ (shape : Shape) (slots pass : ℕ) (v : View) (b : Behind) (cs : List (
       → (known_lost : List ℕ) → ((m : ℕ) → is_among m known_lost ≡ true → (is_among m v.lost ≡ true) ⊎ ((m ≡ lock_number shape lock) × (lost_of b.history ≡ true)))
       → (after : Rule shape record { words = set s.words (lock_number shape lock) 0; homes = set s.homes (lock_number shape lock) (some b); views = set s.views pass (views.with_lost known_lost (views.given (made r.world) h e kept v)) })
       × goes_by shape (Give h.cpu lock (lists_of (content_told lock may.here))) 0 r.world.core after.world.core
-  unfolding gave_step gave_world fresh
+  unfolding gave_step gave_world fresh come
   gave_rule s r at_pass known_lost is_lost =
       let k : ℕ = lock_number shape lock in
       let w = r.world in let kn = r.knows pass v at_pass in
@@ -272,13 +277,13 @@ module _ (shape : Shape) (slots pass : ℕ) (v : View) (b : Behind) (cs : List (
       let w' : World = gave_world w in
       let nv : View = views.with_lost known_lost (views.given (made w) h e kept v) in
       let last : WordStep = gave_step w in
-      let new_turn : Turned = views.turned h.lock h.log e in
+      let new_turn : Turned = views.turned h.lock h.log e v in
       let grown : (m : ℕ) → Grows (entries (w.log m)) (entries (put w.log k l' m)) = λ m. at_put w.log k l' (λ i l. Grows (entries (w.log i)) (entries l)) m (e ∷ [], es_is) (λ _. ([], sym (append_nil _))) in
       let same : SameStrands w w' = record { pass_of_strand = λ _. refl; cpus_of_strand = λ _. refl; next = refl; current = λ _. refl; past = λ _. refl; pass_of_cpu = λ _. refl; still = λ steps z. stand_more (logs_of w) (logs_of w') steps grown z } in
       let mine_lock : IsMineOrFree w.pass_of_cpu pass (w.core.holder k) = subst (IsMineOrFree w.pass_of_cpu pass) (sym at.holder_is) at.mine in
       let losses : (m : ℕ) → put w.lost k lo' m ≡ false → w.lost m ≡ false = λ m. at_put w.lost k lo' (λ i lo. lo ≡ false → w.lost i ≡ false) m
       (λ lo. either_record b.history _ _ _ rec (λ lost _. true_false (sym lost ∙ lo)) (λ x _ p. p.0)) (λ _ lo. lo) in
-      let on_here : turns_on k (v.steps ++ new_turn ∷ []) ≡ turns_on k v.steps ++ (length h.log, e) ∷ [] = turns_on_same k h.log e v.steps new_turn (ap (λ (z : ℕ). views.turned z h.log e) at_lock) in
+      let on_here : turns_on k (v.steps ++ new_turn ∷ []) ≡ turns_on k v.steps ++ (length h.log, e) ∷ [] = turns_on_same k h.log e v v.steps new_turn (ap (λ (z : ℕ). views.turned z h.log e v) at_lock) in
       let on_else : (m : ℕ) → m ≢ k → turns_on m (v.steps ++ new_turn ∷ []) ≡ turns_on m v.steps = λ m ne. turns_on_other m v.steps new_turn (λ y. ne (sym y ∙ at_lock)) in
       let kept_else : (m : ℕ) → m ≢ k → places_on (lock_named shape m) kept ≡ places_on (lock_named shape m) v.kept = λ m ne. either_record b.history _ _ _ rec
       (λ _ p. ap (places_on (lock_named shape m)) p)
@@ -288,17 +293,23 @@ module _ (shape : Shape) (slots pass : ℕ) (v : View) (b : Behind) (cs : List (
       let innermost : (m : ℕ) → m ≢ k → w.core.holder m ≡ Some h.cpu → rank_of (lock_named shape m) < rank_of (lock_named shape k) = λ m ne holds.
       let there_is : hold_at m below ≡ Some (hold m h.cpu (w.log m) (w.core.lists m) (w.lost m)) = sym (hold_at_other m h below (λ y. ne (y ∙ at_lock))) ∙ (sym (ap (hold_at m) is_held) ∙ (kn.held m ∙ (ap (λ (z : Option ℕ). hold_of pass w.pass_of_cpu m z (w.log m) (w.core.lists m) (w.lost m)) holds ∙ hold_of_mine w.pass_of_cpu pass m h.cpu (w.log m) (w.core.lists m) (w.lost m) at.mine))) in
       above_each shape (rank_of (lock_named shape k)) below m (hold m h.cpu (w.log m) (w.core.lists m) (w.lost m)) (subst (λ (z : ℕ). IsAboveAll shape (rank_of (lock_named shape z)) below) at_lock ranks.0) there_is in
-      let rows_stay : IsTrue (is_lru shape.kind) → (j x n m : ℕ) → fresh x ≡ false → w.core.holder j ≡ Some h.cpu → stored_in (content shape (lock_named shape j) (entries (w.log j))) x ≡ Some n → stored_in back x ≡ Some m → n ≡ m = λ lru j x n m other holds.
-      m0.rows_kept lru j x n m (hold j h.cpu (w.log j) (w.core.lists j) (w.lost j)) (kn.held j ∙ (ap (λ (z : Option ℕ). hold_of pass w.pass_of_cpu j z (w.log j) (w.core.lists j) (w.lost j)) holds ∙ hold_of_mine w.pass_of_cpu pass j h.cpu (w.log j) (w.core.lists j) (w.lost j) at.mine)) other in
+      let rows_stay : IsTrue (is_lru shape.kind) → (j x n m : ℕ) → (j ≡ k) ⊎ (come x ≡ true) → fresh x ≡ false → w.core.holder j ≡ Some h.cpu → stored_in (content shape (lock_named shape j) (entries (w.log j))) x ≡ Some n → stored_in back x ≡ Some m → n ≡ m = λ lru j x n m from other holds.
+      m0.rows_kept lru j x n m (hold j h.cpu (w.log j) (w.core.lists j) (w.lost j)) (kn.held j ∙ (ap (λ (z : Option ℕ). hold_of pass w.pass_of_cpu j z (w.log j) (w.core.lists j) (w.lost j)) holds ∙ hold_of_mine w.pass_of_cpu pass j h.cpu (w.log j) (w.core.lists j) (w.lost j) at.mine)) from other in
       let gone_there : IsTrue (is_lru shape.kind) → (c x n : ℕ) → lock_named shape k ≡ Local c → stored_in (content shape (lock_named shape k) es) x ≡ Some n → times x (all_of (w.core.lists k)) ≡ 0 → (w.core.home x ≡ homes.Hand h.cpu) ⊎ (flushes x e.part ≡ true) = λ lru c x n named was none. ⊎_elim
       (λ (off : is_in_hand_of x h.cpu v.carried ≡ true). inl (home_is_hand h.cpu (w.core.home x) (both_true _ _ (sym (kn.carried x h.cpu (r.ranked.within h.cpu k at.holder_is)) ∙ off)).0))
       (λ (by_it : flushes x e.part ≡ true). inr by_it)
       (m0.gone lru c x n named was none) in
-      let still_there : (x : ℕ) (read : Home) → x < shape.elements → StillHome shape w.core.holder w.log x (w.core.home x) read → StillHome shape (put w.core.holder k None) (put w.log k l') x (w.core.home x) read =
-      still_gave shape w.core.holder w.core.lists w.core.owner w.core.home r.placed.place r.placed.placed w.log k h.cpu may.here m0.fits l' e es_is content_is m0.same_rows gone_there in
+      let still_there : (x : ℕ) (read : HomeIn) → x < shape.elements → IsCounted shape w.touches read.at read.turns read.home → StillHome shape w.core.holder w.log read.turns x (w.core.home x) read.home → StillHome shape (put w.core.holder k None) (put w.log k l') read.turns x (w.core.home x) read.home = λ x read x_real counted.
+      still_gave shape w.core.holder w.core.lists w.core.owner w.core.home r.placed.place r.placed.placed w.log k h.cpu may.here m0.fits l' e es_is content_is m0.same_rows gone_there read.turns x read.home
+      (λ c read_is at_k. counted_within shape w.touches read.at read.turns k c read.home (w.log k) (r.gave_back k real) counted read_is at_k) x_real in
       let hash_there : IsTrue (is_lru shape.kind) → (x : ℕ) → fresh x ≡ false → renewed true (stored_in back x) (w.hash x) ≡ w.hash x = λ lru x other.
-      hash_stays shape w.core.holder w.core.lists w.core.owner w.core.home r.placed.place r.placed.placed w.log w.hash (r.hashes lru) k h.cpu at.holder_is may.here m0.fits l' content_is m0.same_rows innermost fresh (fresh_there s r at_pass) (rowed_there s r at_pass lru) (rows_stay lru) x other in
+      hash_stays shape w.core.holder w.core.lists w.core.owner w.core.home r.placed.place r.placed.placed w.log w.hash (r.hashes lru) k h.cpu at.holder_is may.here m0.fits l' content_is m0.same_rows innermost fresh (fresh_there s r at_pass) come (come_to_hand s r at_pass) (rowed_there s r at_pass lru) (rows_stay lru) x other in
       let held_now : w.core.holder k ≡ Some h.cpu = at.holder_is in
+      let hash_else : (m x : ℕ) → IsFalse (is_bucket (lock_named shape m)) → m ≢ k → IsIn x (rows (w.core.lists m)) → renewed (is_lru shape.kind) (stored_in back x) (w.hash x) ≡ w.hash x = λ m x no_bucket ne inside.
+      by_bool (is_lru shape.kind) (λ t. is_lru shape.kind ≡ t → renewed t (stored_in back x) (w.hash x) ≡ w.hash x)
+      (λ lru _. elsewhere shape w.core.holder w.core.lists w.core.owner w.core.home r.placed.place r.placed.placed w.log w.hash (r.hashes lru) k h.cpu held_now may.here m0.fits l' content_is m0.same_rows innermost fresh (fresh_there s r at_pass) come (come_to_hand s r at_pass) (rowed_there s r at_pass lru) (rows_stay lru)
+      m x no_bucket ne (in_all x (w.core.lists m) inside) (stored_in back x) refl)
+      (λ _ _. refl) refl in
       let counted : length h.log ≡ length (w.log k) + 0 = ap length log_is ∙ (entries_length (w.log k) ∙ (let g : length (w.log k) ≡ length (w.log k) + 0 = omega arith in g)) in (
         record {
           world = w';
@@ -314,7 +325,7 @@ module _ (shape : Shape) (slots pass : ℕ) (v : View) (b : Behind) (cs : List (
           placed = step_keeps_places shape w.core (Give h.cpu lock n') bounds can r.placed;
           ranked = step_keeps_ranks shape w.core (Give h.cpu lock n') can r.ranked;
           hashes = λ lru. subst (λ (t : Bool). HashesRight shape (put w.core.holder k None) (put w.core.lists k n') w.core.owner (put w.log k l') (λ x. renewed t (stored_in back x) (w.hash x))) (sym lru)
-              (hashes_gave shape w.core.holder w.core.lists w.core.owner w.core.home r.placed.place r.placed.placed w.log w.hash (r.hashes lru) k h.cpu at.holder_is may.here m0.fits l' content_is m0.same_rows innermost fresh (fresh_there s r at_pass) (rowed_there s r at_pass lru) (rows_stay lru));
+              (hashes_gave shape w.core.holder w.core.lists w.core.owner w.core.home r.placed.place r.placed.placed w.log w.hash (r.hashes lru) k h.cpu at.holder_is may.here m0.fits l' content_is m0.same_rows innermost fresh (fresh_there s r at_pass) come (come_to_hand s r at_pass) (rowed_there s r at_pass lru) (rows_stay lru));
           legal = λ m. at_put w.log k l' (λ i l. IsLegal shape (lock_named shape i) (entries l)) m
               (subst (IsLegal shape (lock_named shape k)) (sym es_is) (legal_more shape (lock_named shape k) es e (r.legal k) m0.allowed))
               (λ _. r.legal m);
@@ -377,18 +388,30 @@ module _ (shape : Shape) (slots pass : ℕ) (v : View) (b : Behind) (cs : List (
                     let here_is : here ≡ back = ap (λ z. content_after z e.cpu e.part (content z (lock_named z h.lock) h.log)) kn.shape_is ∙ (sym may.may_put.told_is ∙ ap (λ (z : ℕ). content_told (lock_named shape z) may.here) at_lock) in
                     let came : List ℕ = views.came_last v.notes in
                     let hashes' : List HashIn = views.hashes_given h.cpu v.shape.buckets here came v.hand v.hashes in
-                    let came' : List ℕ = views.came_at m (views.holds_below v.held) (passed_on e.part (notes_below v.notes)) in
+                    let came' : List ℕ = views.came_at m (views.holds_below v.held) (passed_on e.part v.notes) in
                     subst (λ (t : Bool). IsHashed shape (put w.core.holder k None) (put w.log k l') (λ y. renewed t (stored_in back y) (w.hash y)) (cond (is_lru v.shape.kind) hashes' v.hashes) came' m x d) (sym lru)
                     (subst (λ (t : Bool). IsHashed shape (put w.core.holder k None) (put w.log k l') (λ y. renewed true (stored_in back y) (w.hash y)) (cond t hashes' v.hashes) came' m x d) (sym (ap (λ z. is_lru z.kind) kn.shape_is ∙ lru))
-                    (hashed_gave shape w.core.holder w.core.lists w.core.owner w.core.home r.placed.place r.placed.placed w.log w.hash (r.hashes lru) k h.cpu held_now may.here m0.fits l' content_is m0.same_rows innermost fresh (fresh_there s r at_pass) (rowed_there s r at_pass lru) (rows_stay lru)
+                    (hashed_gave shape w.core.holder w.core.lists w.core.owner w.core.home r.placed.place r.placed.placed w.log w.hash (r.hashes lru) k h.cpu held_now may.here m0.fits l' content_is m0.same_rows innermost fresh (fresh_there s r at_pass) come (come_to_hand s r at_pass) (rowed_there s r at_pass lru) (rows_stay lru)
                     v.hashes hashes' (views.came_at m v.held v.notes) came' m x d
                     (no_bucket_home shape w.core.lists w.core.owner w.core.home r.placed.place r.placed.placed lru x at real_x at_home)
                     (listed_at_home shape w.core.holder w.core.lists w.core.owner w.core.home r.placed.place r.placed.placed w.log x at real_x (ap is_free owner_is) at_home)
                     (λ noted found. given_kept here h.cpu v.shape.buckets came x d v.hashes v.hand record { noted = noted; last = found })
                     (λ mine inside same_lock n stored. given_new here h.cpu v.shape.buckets came x d v.hashes n v.hand in_hand mine (ap (is_among x) (sym came_is) ∙ (ap (λ (z : ℕ). is_among x (views.came_at z v.held v.notes)) (sym same_lock) ∙ inside)) (ap (λ z. stored_in z x) here_is ∙ stored))
-                    (λ ne. ap (λ (l : List Hold). views.came_at m (views.holds_below l) (passed_on e.part (notes_below v.notes))) is_held ∙ (came_passed e.part m below (notes_below v.notes) ∙ (sym (came_other m h below v.notes (λ y. ne (y ∙ at_lock))) ∙ ap (λ (l : List Hold). views.came_at m l v.notes) (sym is_held))))
+                    (λ ne. ap (λ (l : List Hold). views.came_at m (views.holds_below l) (passed_on e.part v.notes)) is_held ∙ (came_passed e.part m below v.notes ∙ (sym (came_other m h below v.notes (λ y. ne (y ∙ at_lock))) ∙ ap (λ (l : List Hold). views.came_at m l v.notes) (sym is_held))))
                     (kn.hashed lru x d at real_x within in_hand at_home)));
-                readings = λ x d read within found. let was = kn.readings x d read within found in record { real = was.real; in_hand = was.in_hand; still = still_there x read was.real was.still };
+                rowed = λ lru m x other found no_bucket inside.
+                    let there_is : hold_at m below ≡ Some other = ap (hold_at m) (sym (ap views.holds_below is_held)) ∙ found in
+                    let ne : m ≢ k = λ same. none_some (sym none_there ∙ (ap (λ (z : ℕ). hold_at z below) (sym same) ∙ there_is)) in
+                    let apart : m ≢ h.lock = λ y. ne (y ∙ at_lock) in
+                    let was : hold_at m v.held ≡ Some other = ap (hold_at m) is_held ∙ (hold_at_other m h below apart ∙ there_is) in
+                    let is = hold_of_is w.pass_of_cpu pass m (w.core.holder m) (w.log m) (w.core.lists m) (w.lost m) other (sym (kn.held m) ∙ was) in
+                    let listed : IsIn x (rows (w.core.lists m)) = subst (λ (z : Hold). IsIn x (rows z.now)) is.hold_is inside in
+                    ⊎_elim
+                    (λ (had : stored_in (content shape (lock_named shape m) other.log) x ≡ Some (w.hash x)). inl (had ∙ ap Some (sym (hash_else m x no_bucket ne listed))))
+                    (λ (came : is_among x (views.came_at m v.held v.notes) ≡ true). inr (ap (is_among x)
+                    (ap (λ (l : List Hold). views.came_at m (views.holds_below l) (passed_on e.part v.notes)) is_held ∙ (came_passed e.part m below v.notes ∙ (sym (came_other m h below v.notes apart) ∙ ap (λ (l : List Hold). views.came_at m l v.notes) (sym is_held)))) ∙ came))
+                    (kn.rowed lru m x other was no_bucket inside);
+                readings = λ x d read within found. let was = kn.readings x d read within found in record { real = was.real; in_hand = was.in_hand; counted = counted_more shape w.touches (w.current pass, last) read.at read.turns read.home was.counted; still = still_there x read was.real was.counted was.still };
                 known = λ m log. by_bool (has_all v) (λ t. known_log m (cond t (record { lock = h.lock; log = h.log ++ e ∷ [] } ∷ v.known) v.known) ≡ Some log → entries (put w.log k l' m) ≡ log)
                     (λ _. at_put w.log k l' (λ i l. cond (eqb h.lock i) (Some (h.log ++ e ∷ [])) (known_log i v.known) ≡ Some log → entries l ≡ log) m
                     (by_test h.lock k (λ t. cond t (Some (h.log ++ e ∷ [])) (known_log k v.known) ≡ Some log → entries l' ≡ log)
@@ -407,8 +430,8 @@ module _ (shape : Shape) (slots pass : ℕ) (v : View) (b : Behind) (cs : List (
                       lost = at_put w.lost k lo' (λ i lo. i ≡ k → lo ≡ true) m (λ _. here.1) (λ ne same. absurd (ne same)) here.0;
                     })
                     (is_lost m among);
-                noted = subst (λ (l : List Hold). AreNoted shape (v.touched ++ last ∷ []) l (passed_on e.part (notes_below v.notes))) (sym (ap views.holds_below is_held))
-                    (noted_gave shape v v.touched last h below v.notes e.part refl ranks.0 (subst (λ (l : List Hold). AreNoted shape v.touched l v.notes) is_held kn.noted) may.noted);
+                noted = subst (λ (l : List Hold). AreNoted shape (v.touched ++ last ∷ []) l (passed_on e.part v.notes)) (sym (ap views.holds_below is_held))
+                    (noted_gave shape v.touched last h below v.notes e.part refl ranks.0 (subst (λ (l : List Hold). AreNoted shape v.touched l v.notes) is_held kn.noted));
                 strand = record {
                   pass_of_strand = kn.strand.pass_of_strand;
                   numbered = kn.strand.numbered;
@@ -452,8 +475,12 @@ module _ (shape : Shape) (slots pass : ℕ) (v : View) (b : Behind) (cs : List (
               (λ yes. absurd (t.0 (sym theirs ∙ (ap w.pass_of_cpu (same_hands d h.cpu (sym in_hand ∙ fresh_there s r at_pass x yes)) ∙ at.mine)))) (λ _. refl)))
               (λ _ _. refl) refl)
               (λ _ _ _ _ _ _ at. inl at)
+              (λ m x other found no_bucket inside.
+              let is = hold_of_is w.pass_of_cpu j m (w.core.holder m) (w.log m) (w.core.lists m) (w.lost m) other (sym (ku.held m) ∙ found) in
+              hash_else m x no_bucket (λ m_is. t.0 (sym is.mine ∙ (ap w.pass_of_cpu (some_is (sym is.holder_is ∙ (ap w.core.holder m_is ∙ held_now))) ∙ at.mine))) (subst (λ (z : Hold). IsIn x (rows z.now)) is.hold_is inside))
               (λ tag own. other_same shape w pass v kn last j tag t.0 own)
-              (λ x d read real _ _ still. still_there x read real still))
+              (λ read. counted_more shape w.touches (w.current pass, last) read.at read.turns read.home)
+              (λ x d read real _ _ counted still. still_there x read real counted still))
               (at_set s.views pass j nv u f);
         },
         record {
@@ -470,6 +497,34 @@ module _ (shape : Shape) (slots pass : ℕ) (v : View) (b : Behind) (cs : List (
     gave_rule s r at_pass v.lost (λ m among. inl among),
     record { hold = h; below = below; innermost = is_held; kept_is = kept_or_lost shape v h e kept b (r.knows pass v at_pass).shape_is may.records; numbered = may.numbered; ticket_is = has_ticket v e kept b shape h may.records may.ticketed; at = made r.world; after_is = refl },
   )
+
+  -- what is put back is what the turn makes of what lay there, and the lock's turns go on by it
+  pub gives_lead : (lost : List ℕ) → (lost ≡ v.lost) ⊎ ((b.history ≡ None) × (lost ≡ h.lock ∷ v.lost)) → (s : State Behind View) (r : Rule shape s) → get_elem? s.views pass ≡ some v
+      → (at : ℕ) × ((after : Rule shape (stepped s (lock_number shape lock) 0 pass ((lock_number shape lock, b) ∷ cs) (views.with_lost lost (views.given at h e kept v)) gives)) × LeadsOn shape (lock_number shape lock) e b (logs_of r.world) (logs_of after.world))
+  unfolding gave_rule gave_world lost_of
+  gives_lead lost lost_is s r at_pass =
+      let k : ℕ = lock_number shape lock in
+      let w = r.world in let kn = r.knows pass v at_pass in
+      let m = put_back_there w kn in
+      let known : (m : ℕ) → is_among m lost ≡ true → (is_among m v.lost ≡ true) ⊎ ((m ≡ k) × (lost_of b.history ≡ true)) = λ m among. ⊎_elim
+      (λ (same : lost ≡ v.lost). inl (ap (is_among m) (sym same) ∙ among))
+      (λ (more : (b.history ≡ None) × (lost ≡ h.lock ∷ v.lost)). by_test h.lock m (λ t. cond t true (is_among m v.lost) ≡ true → (is_among m v.lost ≡ true) ⊎ ((m ≡ k) × (lost_of b.history ≡ true)))
+      (λ same _. inr (sym same ∙ at_lock, ap lost_of more.0)) (λ _ f. inl f) (ap (is_among m) (sym more.1) ∙ among))
+      lost_is in
+      let rule = gave_rule s r at_pass lost known in (
+        made w,
+        (
+          rule.0,
+          record {
+            here = may.here;
+            content_is = may.content_is;
+            allowed = m.allowed;
+            told_is = m.told_is;
+            log_is = ap entries (put_here w.log k (w.log k ++ (w.current pass, e) ∷ [])) ∙ entries_more (w.log k) (w.current pass, e);
+            others = λ j ne. ap entries (put_else w.log k (w.log k ++ (w.current pass, e) ∷ []) j ne);
+          },
+        ),
+      )
 
 -- the same, at the seat and the number that a caller has
 pub gives_at : (shape : Shape) (slots pass : ℕ) (me : Seated) (b : Behind) (cs : List (ℕ × Behind)) (h : Hold) (below : List Hold) (k : ℕ) (e : Entry) (kept : List StrandStep) → me.1 ≡ (k, b) ∷ cs → me.0.held ≡ h ∷ below → h.lock ≡ k → IsTrue (is_lock shape (lock_named shape k))

@@ -161,7 +161,7 @@ goes_spared p q is =
 
 -- the turn of a give
 abbrev pub given_turn : PassView → ℕ → Hold → Part → Turned
-given_turn p ticket hold part = turned hold.lock hold.log (entry_of p ticket part)
+given_turn p ticket hold part = turned hold.lock hold.log (entry_of p ticket part) p.view
 
 -- its number
 one_numbered : (p q : PassView) {z : PassView} (n : ℕ) (hold : Hold) (part : Part) → IsNumbered p.view n q.view → q ≡ z → AreNumbered p.view z.view (given_turn p n hold part ∷ [])

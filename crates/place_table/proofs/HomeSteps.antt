@@ -22,7 +22,7 @@ use Rattle.place_words.specs.declared.history.Entry.{Entry}
 use Rattle.place_words.specs.Histories.{content}
 use Rattle.place_words.specs.Locks.{is_lock, lock_named, lock_number}
 use Rattle.place_words.specs.Openings.{is_free}
-use Rattle.place_words.proofs.LockLemmas.{named_by_number, number_within}
+use Rattle.place_words.proofs.LockLemmas.{named_by_number, number_of_named, number_within}
 use Rattle.place_words.specs.declared.step.Lists.{Lists}
 use Rattle.place_words.specs.declared.step.Step.TheVariants.{Rehome, Clear, Glance}
 use Rattle.place_words.specs.State.{rows, is_bucket}
@@ -43,25 +43,26 @@ use Rattle.place_table.specs.Contents.{lists_of}
 use Rattle.place_table.specs.Laws.{StepsAs, goes_by}
 use Rattle.place_table.specs.Views.{is_among, hold_at, is_in_hand_of, known_log, now_at, with_now, with_places, held_without, held_with, carried_without, carried_with, with_come_home, with_left_home, came_at, without_readings, kept_hashes, noted, with_clear, with_home_read, with_reading, bits_with, touching}
 use Rattle.place_table.specs.Views as views
-use Rattle.place_table.specs.Rules.{World, Rule, PassKnows, entries, AtHome, Ascends, is_home_of, StillHome, IsHashed, HasCome, hold, hold_of}
+use Rattle.place_table.specs.Rules.{World, Rule, PassKnows, entries, AtHome, Ascends, is_home_of, StillHome, IsCounted, IsHashed, HasCome, hold, hold_of}
 use Rattle.place_table.specs.Words.{owner_word, home_word, bit_word}
 use Rattle.place_table.specs.Passes.{PassView, TableView, Carries, IsPassOf, HasBegun, with_view, Rehomed}
 use Rattle.place_table.specs.Plays.{Seated, HoldsLock, IsKnownHome, IsKnownFree, MayBeHome, MayGoHome, OwnerFits, HomeFits, Rehomes, Clears, MayClear, SeesHome}
 use Rattle.place_table.proofs.Hands.{ascends_now, carries_now, AreInHands, comes_to_hand, leaves_hand, stays_in_hand, IsHomeOfPass}
 use Rattle.place_table.proofs.Locks.{allows_of}
 use Rattle.place_table.proofs.TicketLemmas.{inner_with, inner_without}
-use Rattle.place_table.proofs.PlaceSteps.{IsHeldByPass, AreHeld, now_is, held_moved, place_rule, hashes_kept, now_there, holds_there}
+use Rattle.place_table.proofs.PlaceSteps.{IsHeldByPass, AreHeld, rowed_moved, now_is, held_moved, place_rule, hashes_kept, now_there, holds_there}
 use Rattle.place_table.proofs.WordSteps.{clears_by, look_rule}
 use Rattle.place_table.proofs.OwnersSeen.{owner_fits}
 use Rattle.place_table.proofs.Worlds.{true_false, by_bool, none_some, both_true, some_is, has_mine, hand_is, in_hand_is, hold_of_mine, hashed_stands, hashed_away, IsAway}
-use Rattle.place_table.proofs.Readings.{without_home, still_flushed, still_is, IsNew, read_home_known, home_is_hand}
-use Rattle.place_table.proofs.Rehomes.{hashes_rehomed}
+use Rattle.place_table.proofs.Readings.{listed_at_home, without_home, still_flushed, still_is, IsNew, read_home_known, home_is_hand}
+use Rattle.place_table.proofs.Rehomes.{rows_come, hashes_rehomed}
 use Rattle.place_table.proofs.NotesDone.{noted_with, noted_without, noted_home_come, noted_left_home, noted_home, word_off}
 use Rattle.place_table.proofs.Came.{came_home_read, came_with, came_without, came_home, came_left_home, come_from_other, came_here}
 use Rattle.place_table.proofs.StoredHashes.{kept_there}
 use Rattle.place_table.specs.declared.view.WordStep.{WordStep}
 use Rattle.place_table.proofs.StepLog.{made}
 use Rattle.place_table.proofs.CodeLemmas.{has_home_code, lies_has_code, one_home}
+use Rattle.place_table.proofs.Counted.{turns_told, counted_now}
 
 -- the home is a lock that a CPU of the pass holds, or the hand of one
 abbrev IsInReach : Shape → World → ℕ → Home → Type 0
@@ -299,6 +300,21 @@ module _ (shape : Shape) (s : State Behind View) (r : Rule shape s) (pass : ℕ)
       its_code (Bucket b) may = absurd may
       its_code (Freelist x) may = absurd may
 
+  -- it comes to the lock where it goes, in the turn of that lock
+  comes_there : (to : Home) → CanRehome shape r.world.core c e to → (lock : DomainId) → to ≡ homes.In lock → home_code (r.world.core.home e) ≢ home_code (homes.In lock)
+      → is_among e (came_at (lock_number shape lock) (held_with shape to (r.world.core.owner e) e (held_without shape (r.world.core.home e) (r.world.core.owner e) e v.held)) (notes_then v.shape (r.world.core.home e) to e v)) ≡ true
+  comes_there to can lock at moves =
+      let w = r.world in let kn = r.knows pass v at_pass in
+      let k : ℕ = lock_number shape lock in
+      let from : Home = w.core.home e in
+      let left : List Notes = with_left_home v.shape from to e v.held v.notes in
+      let holds = entered to can.to_there lock at in
+      let mine = has_mine shape w pass v c kn has in
+      let found : hold_at k v.held ≡ Some (hold k c (w.log k) (w.core.lists k) (w.lost k)) = kn.held k ∙ (ap (λ (z : Option ℕ). hold_of pass w.pass_of_cpu k z (w.log k) (w.core.lists k) (w.lost k)) holds.held ∙ hold_of_mine w.pass_of_cpu pass k c (w.log k) (w.core.lists k) (w.lost k) mine) in
+      ap (is_among e) (came_then to k)
+      ∙ ((λ i. is_among e (came_at k v.held (with_come_home (kn.shape_is i) from (at i) e v.held left)))
+      ∙ (ap (λ (z : List Notes). is_among e (came_at k v.held z)) (come_from_other shape from lock e v.held left moves) ∙ came_here shape v.touched k e (hold k c (w.log k) (w.core.lists k) (w.lost k)) v.held left (noted_left_home shape v.shape v.touched from to e v.held v.notes kn.noted) found))
+
   -- It comes there in the turn of the lock where it goes, or is in the hand of another CPU. Where that was its home already, it
   -- doesn't come, and what was known of it is so still.
   hashed_home : (to : Home) → CanRehome shape r.world.core c e to → IsTrue (is_lru shape.kind) → (d : ℕ) (lock : DomainId) → d < shape.cpus → is_in_hand_of e d v.hand ≡ true → to ≡ homes.In lock
@@ -307,7 +323,6 @@ module _ (shape : Shape) (s : State Behind View) (r : Rule shape s) (pass : ℕ)
       let w = r.world in let kn = r.knows pass v at_pass in
       let k : ℕ = lock_number shape lock in
       let from : Home = w.core.home e in
-      let left : List Notes = with_left_home v.shape from to e v.held v.notes in
       let came : List ℕ = came_at k (held_with shape to (w.core.owner e) e (held_without shape from (w.core.owner e) e v.held)) (notes_then v.shape from to e v) in
       by_test (home_code from) (home_code (homes.In lock)) (λ _. IsHashed shape w.core.holder w.log w.hash (kept_hashes v.hand v.hashes) came k e d)
       (λ same.
@@ -317,15 +332,7 @@ module _ (shape : Shape) (s : State Behind View) (r : Rule shape s) (pass : ℕ)
       (kn.hashed lru e d lock real within in_hand (stayed to can lock at same)))
       (λ moves. by_test d c (λ _. IsHashed shape w.core.holder w.log w.hash (kept_hashes v.hand v.hashes) came k e d)
       (λ same.
-      let holds = entered to can.to_there lock at in
-      let mine = has_mine shape w pass v c kn has in
-      let found : hold_at k v.held ≡ Some (hold k c (w.log k) (w.core.lists k) (w.lost k)) = kn.held k ∙ (ap (λ (z : Option ℕ). hold_of pass w.pass_of_cpu k z (w.log k) (w.core.lists k) (w.lost k)) holds.held ∙ hold_of_mine w.pass_of_cpu pass k c (w.log k) (w.core.lists k) (w.lost k) mine) in
-      let come : HasCome w.core.holder came k e d = record {
-        held = holds.held ∙ ap Some (sym same);
-        inside = ap (is_among e) (came_then to k)
-            ∙ ((λ i. is_among e (came_at k v.held (with_come_home (kn.shape_is i) from (at i) e v.held left)))
-            ∙ (ap (λ (z : List Notes). is_among e (came_at k v.held z)) (come_from_other shape from lock e v.held left moves) ∙ came_here shape v.touched k e (hold k c (w.log k) (w.core.lists k) (w.lost k)) v.held left (noted_left_home shape v.shape v.touched from to e v.held v.notes kn.noted) found));
-      } in
+      let come : HasCome w.core.holder came k e d = record { held = (entered to can.to_there lock at).held ∙ ap Some (sym same); inside = comes_there to can lock at moves } in
       record { from = inr (inr come); row = λ _. inr (inr come) })
       (λ other.
       let owner_is : w.core.owner e ≡ owners.Hand d = hand_is d (w.core.owner e) (both_true _ _ (sym (kn.hands e d within) ∙ in_hand)).0 in
@@ -386,17 +393,27 @@ module _ (shape : Shape) (s : State Behind View) (r : Rule shape s) (pass : ℕ)
               (came_still to m x)
               (kn.hashed lru x d its x_real within in_hand (sym (put_else w.core.home e to x other) ∙ at)))),
         );
+        are_rowed = λ lru. rowed_moved shape w pass v kn lru lists (held_with shape to owner e (held_without shape from owner e v.held)) (notes_then v.shape from to e v)
+            (held_joined shape w pass owner e away to (held_without shape from owner e v.held) joined (held_left shape w pass owner e w.core.lists from v.held left kn.held)) (came_still to)
+            (λ m x _ no_bucket inside. ⊎_elim
+            (λ (was : IsIn x (rows (w.core.lists m))). inl was)
+            (λ (its : (x ≡ e) × (to ≡ homes.In (lock_named shape m)) × (is_free owner ≡ false)).
+            let number : lock_number shape (lock_named shape m) ≡ m = number_of_named shape m in
+            by_test (home_code from) (home_code (homes.In (lock_named shape m))) (λ _. IsIn x (rows (w.core.lists m)) ⊎ (is_among x (came_at m (held_with shape to owner e (held_without shape from owner e v.held)) (notes_then v.shape from to e v)) ≡ true))
+            (λ same. inl (subst (λ (z : ℕ × ℕ). IsIn z.0 (rows (w.core.lists z.1))) (λ i. (sym its.0 i, number i)) (listed_at_home shape w.core.holder w.core.lists w.core.owner w.core.home r.placed.place r.placed.placed w.log e (lock_named shape m) real its.2 (stayed to can (lock_named shape m) its.1 same))))
+            (λ moves. inr ((λ i. is_among (its.0 i) (came_at (sym number i) (held_with shape to owner e (held_without shape from owner e v.held)) (notes_then v.shape from to e v))) ∙ comes_there to can (lock_named shape m) its.1 moves)))
+            (rows_come shape w.core r.placed w.log w.hash (r.hashes lru) lru c e to can (step_keeps_places shape w.core (Rehome c e to) bounds can r.placed) m x no_bucket inside));
         at_home = λ x d its x_real in_hand theirs at. by_test x e (λ _. (w.core.home x ≡ homes.In its) ⊎ IsAway shape w.core.holder w.core.holder (w.core.home x) d its)
             (λ same. inr (subst (λ (y : ℕ). IsAway shape w.core.holder w.core.holder (w.core.home y) d its) (sym same)
             (goes_away to can d its (ap w.core.owner (sym same) ∙ in_hand) (λ is. theirs (ap w.pass_of_cpu is ∙ mine)) (sym (put_here w.core.home e to) ∙ (ap (put w.core.home e to) (sym same) ∙ at)))))
             (λ other. inl (sym (put_else w.core.home e to x other) ∙ at));
         are_read = λ x d read within found.
             let k = without_home x d read e v.readings found in let was = kn.readings x d read within k.1 in
-            record { real = was.real; in_hand = was.in_hand; still = subst (λ (z : Home). StillHome shape w.core.holder w.log x z read) (sym (put_else w.core.home e to x k.0)) was.still };
-        still = λ x d read in_hand theirs still. by_test x e (λ _. StillHome shape w.core.holder w.log x (put w.core.home e to x) read)
-            (λ same. subst (λ (z : ℕ). StillHome shape w.core.holder w.log z (put w.core.home e to z) read) (sym same) (subst (λ (z : Home). StillHome shape w.core.holder w.log e z read) (sym (put_here w.core.home e to))
-            (still_flushed shape w.core r.placed w.log w.hash r.hashes (bounds.common_evicts can.common) c e to can d read (ap w.core.owner (sym same) ∙ in_hand) (λ is. theirs (ap w.pass_of_cpu is ∙ mine)) (subst (λ (z : ℕ). StillHome shape w.core.holder w.log z (w.core.home z) read) same still))))
-            (λ other. subst (λ (z : Home). StillHome shape w.core.holder w.log x z read) (sym (put_else w.core.home e to x other)) still);
+            record { real = was.real; in_hand = was.in_hand; counted = was.counted; still = subst (λ (z : Home). StillHome shape w.core.holder w.log read.turns x z read.home) (sym (put_else w.core.home e to x k.0)) was.still };
+        still = λ x d n read in_hand theirs still. by_test x e (λ _. StillHome shape w.core.holder w.log n x (put w.core.home e to x) read)
+            (λ same. subst (λ (z : ℕ). StillHome shape w.core.holder w.log n z (put w.core.home e to z) read) (sym same) (subst (λ (z : Home). StillHome shape w.core.holder w.log n e z read) (sym (put_here w.core.home e to))
+            (still_flushed shape w.core r.placed w.log w.hash r.hashes (bounds.common_evicts can.common) c e to can n d read (ap w.core.owner (sym same) ∙ in_hand) (λ is. theirs (ap w.pass_of_cpu is ∙ mine)) (subst (λ (z : ℕ). StillHome shape w.core.holder w.log n z (w.core.home z) read) same still))))
+            (λ other. subst (λ (z : Home). StillHome shape w.core.holder w.log n x z read) (sym (put_else w.core.home e to x other)) still);
       }
 
 pub rehomes_step : (shape : Shape) (slots pass : ℕ) (me : Seated) (c e : ℕ) (from to : Home) → IsTrue shape.common → e < shape.elements → is_among c me.0.cpus ≡ true → IsKnownHome shape me.0 c e from → MayGoHome shape me.0 c e to
@@ -562,20 +579,22 @@ sees_home_step shape slots pass me e real s r wide at_pass _ =
     let kn = r.knows pass me.0 at_pass in
     let w = r.world in
     let home : Home = w.core.home e in
+    let turns : ℕ = turns_told shape w.touches home in
     let home_is : home ≡ home_of_place shape (r.placed.place e) = r.placed.placed.homes e real in
     let x : WordStep = record { at = made w; word = home_word shape e; seen = Some (home_code home); left = home_code home } in (
-      noted (with_home_read e home me.0.held me.0.notes) me.0.bits (touching (made w) (home_word shape e) (Some (home_code home)) (home_code home) me.0) (with_reading e home me.0.hand me.0.readings) me.0,
+      noted (with_home_read e home me.0.held me.0.notes) me.0.bits (touching (made w) (home_word shape e) (Some (home_code home)) (home_code home) me.0) (with_reading (made w) turns e home me.0.hand me.0.readings) me.0,
       keeps,
       tt,
-      look_rule shape s r pass me.0 at_pass (with_home_read e home me.0.held me.0.notes) (λ k. came_home_read e home k me.0.held me.0.notes) (home_word shape e) (home_code home) me.1 me.0.bits (with_reading e home me.0.hand me.0.readings)
+      look_rule shape s r pass me.0 at_pass (with_home_read e home me.0.held me.0.notes) (λ k. came_home_read e home k me.0.held me.0.notes) (home_word shape e) (home_code home) me.1 me.0.bits (with_reading (made w) turns e home me.0.hand me.0.readings)
           (λ x d read within found. ⊎_elim
-          (λ (new : IsNew x d e home read me.0.hand). record {
+          (λ (new : IsNew (made w) turns x d e home read me.0.hand). record {
             real = subst (λ (z : ℕ). z < shape.elements) (sym new.same) real;
             in_hand = subst (λ (z : ℕ). is_in_hand_of z d me.0.hand ≡ true) (sym new.same) new.in_hand;
-            still = still_is shape w.core.holder w.log x (w.core.home x) read (ap w.core.home new.same ∙ new.is);
+            counted = subst (λ (z : (ℕ × ℕ) × Home). IsCounted shape w.touches z.0.0 z.0.1 z.1) (λ i. ((new.at_is i, new.turns_are i), new.home_is i)) (counted_now shape w.touches home);
+            still = still_is shape w.core.holder w.log read.turns x (w.core.home x) read.home (ap w.core.home new.same ∙ new.home_is);
           })
           (λ (old : views.home_known x d me.0.readings ≡ Some read). kn.readings x d read within old)
-          (read_home_known x d e home read me.0.hand me.0.readings found))
+          (read_home_known (made w) turns x d e home read me.0.hand me.0.readings found))
           (omega (arith, r.words)) (r.home_words e real)
           (omega arith)
           (noted_home shape me.0.touched (x ∷ []) me.0.held me.0.notes e home kn.noted (word_off shape me.0.touched x me.0.held me.0.notes kn.noted (omega arith)) (inl refl)) kn.bits kn.only e real,
@@ -585,7 +604,8 @@ sees_home_step shape slots pass me e real s r wide at_pass _ =
         has_code = subst HasHomeCode (sym home_is) (has_home_code shape e (w.core.owner e) (r.placed.place e) (bounds_of_shape shape r.is_shape) (r.placed.placed.owners e real) (r.placed.placed.places e real));
         fits = subst (λ z. HomeFits z me.0 e home) (sym kn.shape_is) (home_fits shape s r pass me.0 at_pass e real);
         at = made w;
-        after_is = λ i. (noted (with_home_read e home me.0.held me.0.notes) me.0.bits (touching (made w) (home_word (sym kn.shape_is i) e) (Some (home_code home)) (home_code home) me.0) (with_reading e home me.0.hand me.0.readings) me.0, me.1);
+        turns = turns;
+        after_is = λ i. (noted (with_home_read e home me.0.held me.0.notes) me.0.bits (touching (made w) (home_word (sym kn.shape_is i) e) (Some (home_code home)) (home_code home) me.0) (with_reading (made w) turns e home me.0.hand me.0.readings) me.0, me.1);
       },
     )
 

@@ -1,6 +1,7 @@
 -- A pass takes in another.
 use Rattle.std.proofs.Common.{◌≡◌, ◌≢◌, ℕ, suc, ◌<◌, ◌⊎◌, ⊎_elim, inl, inr, eqb, cond, Bool, true, false, List, [], ◌∷◌, ◌++◌, length, set, sym, refl, ap, ◌∙◌, subst, arith, Option, Some, None, length-set, get_or}
 use Rattle.std.specs.Prelude.{◌&&◌}
+use Rattle.std.proofs.lemmas.Bool.{eq-eqb, eqb-true}
 use lib.ListN.{get_elem?}
 use mathlib.Core.Option.{some}
 use Rattle.atomic_table.specs.Table.{State, Joins}
@@ -17,11 +18,11 @@ use Rattle.place_table.specs.declared.view.HashIn.{HashIn}
 use Rattle.place_table.specs.declared.view.Hold.{Hold}
 use Rattle.place_table.specs.declared.view.Notes.{Notes}
 use Rattle.place_words.specs.Locks.{lock_number}
-use Rattle.place_table.specs.Views.{is_among, hold_at, is_in_hand_of, hash_known, came_at, current_strand, all_strands, joined, spent, home_known}
+use Rattle.place_table.specs.Views.{is_among, hold_at, is_in_hand_of, in_no_hand_of, hash_known, came_at, current_strand, all_strands, joined, spent, home_known}
 use Rattle.place_table.specs.Words.{ticket_word}
 use Rattle.place_table.proofs.TicketsShared.{tickets_joined}
 use Rattle.place_table.specs.Rules.{Tagged, World, hold, hold_of, is_hand_of, is_home_of, IsStrand, ArePast, IsLostLock, IsHashed, HasHash, HasCome, HasRow, IsBrought, PassKnows, Rule, logs_of}
-use Rattle.place_table.proofs.Worlds.{true_false, by_bool, none_some, lock_still_lost}
+use Rattle.place_table.proofs.Worlds.{true_false, by_bool, none_some, both_true, lock_still_lost}
 use Rattle.place_table.proofs.Locks.{there}
 use Rattle.place_table.proofs.Splits.{and_false}
 use Rattle.place_table.proofs.StrandMoves.{among_append, among_later, no_turns_yet, no_touches_yet, of_strands_move, SameTurns, GoesTo, StaysListed, strand_moves, past_moves, tagged_moves, past_pass_of_strand, not_theirs, past_append, done, past_done, among_done, fresh_done, no_steps_append, not_one}
@@ -78,6 +79,37 @@ hand_append e d (x ∷ xs) ys = go (eqb x.element e && eqb x.cpu d) (hand_append
     go : (b : Bool) → is_in_hand_of e d (xs ++ ys) ≡ cond (is_in_hand_of e d xs) true (is_in_hand_of e d ys) → cond b true (is_in_hand_of e d (xs ++ ys)) ≡ cond (cond b true (is_in_hand_of e d xs)) true (is_in_hand_of e d ys)
     go true later = refl
     go false later = later
+
+-- what is in a hand that is none of these
+same_test : (x : InHand) → (eqb x.element x.element && eqb x.cpu x.cpu) ≡ true
+same_test x = (λ i. eq-eqb x.element x.element refl i && eq-eqb x.cpu x.cpu refl i)
+
+pub in_others : (e d : ℕ) (cpus : List ℕ) (hand : List InHand) → is_among d cpus ≡ false → is_in_hand_of e d (in_no_hand_of cpus hand) ≡ is_in_hand_of e d hand
+in_others e d cpus [] apart = refl
+in_others e d cpus (x ∷ xs) apart =
+    by_bool (is_among x.cpu cpus) (λ t. is_among x.cpu cpus ≡ t → is_in_hand_of e d (cond t (in_no_hand_of cpus xs) (x ∷ in_no_hand_of cpus xs)) ≡ cond (eqb x.element e && eqb x.cpu d) true (is_in_hand_of e d xs))
+    (λ _ among. in_others e d cpus xs apart
+    ∙ by_bool (eqb x.element e && eqb x.cpu d) (λ t. (eqb x.element e && eqb x.cpu d) ≡ t → is_in_hand_of e d xs ≡ cond t true (is_in_hand_of e d xs))
+    (λ _ hit. true_false (sym among ∙ (ap (λ (c : ℕ). is_among c cpus) (eqb-true x.cpu d (both_true (eqb x.element e) (eqb x.cpu d) hit).1) ∙ apart))) (λ _ _. refl) refl)
+    (λ _ _. ap (cond (eqb x.element e && eqb x.cpu d) true) (in_others e d cpus xs apart)) refl
+
+pub in_no_others : (e d : ℕ) (cpus : List ℕ) (hand : List InHand) → is_in_hand_of e d (in_no_hand_of cpus hand) ≡ true → is_among d cpus ≡ false
+in_no_others e d cpus [] in_hand = true_false (sym in_hand)
+in_no_others e d cpus (x ∷ xs) in_hand =
+    by_bool (is_among x.cpu cpus) (λ t. is_among x.cpu cpus ≡ t → is_in_hand_of e d (cond t (in_no_hand_of cpus xs) (x ∷ in_no_hand_of cpus xs)) ≡ true → is_among d cpus ≡ false)
+    (λ _ _ later. in_no_others e d cpus xs later)
+    (λ _ none here.
+    by_bool (eqb x.element e && eqb x.cpu d) (λ t. (eqb x.element e && eqb x.cpu d) ≡ t → cond t true (is_in_hand_of e d (in_no_hand_of cpus xs)) ≡ true → is_among d cpus ≡ false)
+    (λ _ hit _. ap (λ (c : ℕ). is_among c cpus) (sym (eqb-true x.cpu d (both_true (eqb x.element e) (eqb x.cpu d) hit).1)) ∙ none)
+    (λ _ _ later. in_no_others e d cpus xs later) refl here)
+    refl in_hand
+
+-- where none of it is in these hands, all stays
+none_taken : (cpus : List ℕ) (hand : List InHand) → ((e d : ℕ) → is_in_hand_of e d hand ≡ true → is_among d cpus ≡ false) → in_no_hand_of cpus hand ≡ hand
+none_taken cpus [] apart = refl
+none_taken cpus (x ∷ xs) apart =
+    (λ i. cond (apart x.element x.cpu (ap (λ (t : Bool). cond t true (is_in_hand_of x.element x.cpu xs)) (same_test x)) i) (in_no_hand_of cpus xs) (x ∷ in_no_hand_of cpus xs))
+    ∙ ap (λ (l : List InHand). x ∷ l) (none_taken cpus xs (λ e d later. apart e d (or_there (eqb x.element e && eqb x.cpu d) (is_in_hand_of e d xs) later)))
 
 both_or : (x p q : Bool) → cond (x && p) true (x && q) ≡ (x && cond p true q)
 both_or true p q = refl
@@ -215,10 +247,25 @@ module _ (shape : Shape) (id other : ℕ) (v u : View) (apart : other ≢ id) (n
   unfolding merged
   same_turns w = record { log = λ _. refl; lost = λ _. refl; next = omega arith; touches = refl }
 
+  -- nothing is in a hand of both
+  hands_apart : (s : State Behind View) (r : Rule shape s) → get_elem? s.views id ≡ some v → get_elem? s.views other ≡ some u → (e d : ℕ) → is_in_hand_of e d u.hand ≡ true → is_among d v.cpus ≡ false
+  hands_apart s r at_id at_other e d in_hand =
+      let w : World = r.world in let kn = r.knows id v at_id in let ku = r.knows other u at_other in
+      by_bool (is_among d v.cpus) (λ t. is_among d v.cpus ≡ t → t ≡ false)
+      (λ _ among.
+      let real = kn.within d among in
+      let mine = eqb-true (w.pass_of_cpu d) id (sym (kn.cpus d real) ∙ among) in
+      let theirs = eqb-true (w.pass_of_cpu d) other (both_true (is_hand_of d (w.core.owner e)) (eqb (w.pass_of_cpu d) other) (sym (ku.hands e d real) ∙ in_hand)).1 in
+      absurd (apart (sym theirs ∙ mine)))
+      (λ _ _. refl) refl
+
   -- the pass with the CPUs of both
-  both_know : (s : State Behind View) (r : Rule shape s) → get_elem? s.views id ≡ some v → get_elem? s.views other ≡ some u → PassKnows shape (merged r.world) id (joined v u)
+  abbrev both_hands : View
+  both_hands = record (joined v u) { hand = v.hand ++ u.hand }
+
+  both_know_all : (s : State Behind View) (r : Rule shape s) → get_elem? s.views id ≡ some v → get_elem? s.views other ≡ some u → PassKnows shape (merged r.world) id both_hands
   unfolding merged
-  both_know s r at_id at_other =
+  both_know_all s r at_id at_other =
       let w : World = r.world in let w' : World = merged w in let kn = r.knows id v at_id in let ku = r.knows other u at_other in
       let first = past_done shape w id v kn.strand kn.past kn.apart in let second = past_done shape w other u ku.strand ku.past ku.apart in record {
         shape_is = kn.shape_is;
@@ -239,9 +286,10 @@ module _ (shape : Shape) (id other : ℕ) (v u : View) (apart : other ≢ id) (n
             (λ not_first _. hashed_with shape w.core.holder w.log w.hash u.hashes (v.hashes ++ u.hashes) u.notes u.held k e d nor_lock
             (λ noted found. known_second e d v.hashes u.hashes (none_noted e d v.hashes (hash_known e d v.hashes) refl (λ before known. true_false (sym (kn.hashes e d before within known).in_hand ∙ not_first))) ∙ found)
             (ku.hashed lru e d lock real within (sym (hand_append e d v.hand u.hand ∙ ap (λ (t : Bool). cond t true (is_in_hand_of e d u.hand)) not_first) ∙ in_hand) at)) refl;
+        rowed = λ lru k e hold found. absurd (none_some found);
         readings = λ e d read within found. ⊎_elim
-            (λ (first : home_known e d v.readings ≡ Some read). let is = kn.readings e d read within first in record { real = is.real; in_hand = hand_append e d v.hand u.hand ∙ ap (λ (t : Bool). cond t true (is_in_hand_of e d u.hand)) is.in_hand; still = is.still })
-            (λ (second : home_known e d u.readings ≡ Some read). let is = ku.readings e d read within second in record { real = is.real; in_hand = hand_append e d v.hand u.hand ∙ or_there (is_in_hand_of e d v.hand) (is_in_hand_of e d u.hand) is.in_hand; still = is.still })
+            (λ (first : home_known e d v.readings ≡ Some read). let is = kn.readings e d read within first in record { real = is.real; in_hand = hand_append e d v.hand u.hand ∙ ap (λ (t : Bool). cond t true (is_in_hand_of e d u.hand)) is.in_hand; counted = is.counted; still = is.still })
+            (λ (second : home_known e d u.readings ≡ Some read). let is = ku.readings e d read within second in record { real = is.real; in_hand = hand_append e d v.hand u.hand ∙ or_there (is_in_hand_of e d v.hand) (is_in_hand_of e d u.hand) is.in_hand; counted = is.counted; still = is.still })
             (append_home e d read v.readings u.readings found);
         known = λ k log f. absurd (none_some f);
         bits = λ e bit f. absurd (none_some f);
@@ -267,6 +315,11 @@ module _ (shape : Shape) (id other : ℕ) (v u : View) (apart : other ≢ id) (n
             ((refl, tt), no_steps_append (all_strands v) (all_strands u) (no_steps_append v.ended (current_strand v ∷ []) a.1 (a.0, tt)) (no_steps_append u.ended (current_strand u ∷ []) b.1 (b.0, tt)));
       }
 
+  both_know : (s : State Behind View) (r : Rule shape s) → get_elem? s.views id ≡ some v → get_elem? s.views other ≡ some u → PassKnows shape (merged r.world) id (joined v u)
+  both_know s r at_id at_other =
+      subst (λ (hand : List InHand). PassKnows shape (merged r.world) id (record (joined v u) { hand = v.hand ++ hand })) (sym (none_taken v.cpus u.hand (hands_apart s r at_id at_other)))
+      (both_know_all s r at_id at_other)
+
   -- what is left of the other
   spent_knows : (s : State Behind View) (r : Rule shape s) → get_elem? s.views other ≡ some u → PassKnows shape (merged r.world) other (spent u.shape)
   unfolding merged
@@ -282,6 +335,7 @@ module _ (shape : Shape) (id other : ℕ) (v u : View) (apart : other ≢ id) (n
         carried = λ e d less. sym (ap (λ t. is_home_of d (w.core.home e) && t) (fold_other (w.pass_of_cpu d)) ∙ and_false (is_home_of d (w.core.home e)));
         hashes = λ e d noted within found. absurd (none_some found);
         hashed = λ lru e d lock real within in_hand at. true_false (sym in_hand);
+        rowed = λ lru k e hold found. absurd (none_some found);
         readings = λ e d read within found. absurd (none_some found);
         known = λ k log f. absurd (none_some f);
         bits = λ e bit f. absurd (none_some f);
@@ -316,6 +370,7 @@ module _ (shape : Shape) (id other : ℕ) (v u : View) (apart : other ≢ id) (n
         carried = λ e d less. kx.carried e d less ∙ ap (λ b. is_home_of d (w.core.home e) && b) (sym (fold_else (w.pass_of_cpu d) j not_id not_other));
         hashes = λ e d noted within found. kx.hashes e d noted within found;
         hashed = kx.hashed;
+        rowed = kx.rowed;
         readings = kx.readings;
         known = kx.known;
         bits = kx.bits;

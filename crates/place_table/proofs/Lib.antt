@@ -1,3 +1,4 @@
+pub mod Counted
 pub mod Crossing
 pub mod BucketBodies
 pub mod BucketOut
@@ -8,6 +9,7 @@ pub mod BucketUnder
 pub mod Came
 pub mod Closes
 pub mod CodeLemmas
+pub mod ElementsLeft
 pub mod Entries
 pub mod FirstPass
 pub mod FirstSets
@@ -17,6 +19,7 @@ pub mod FirstWords
 pub mod Flags
 pub mod FlushedLast
 pub mod TakeToGive
+pub mod Telling
 pub mod GivenBack
 pub mod Going
 pub mod Hands
@@ -33,6 +36,7 @@ pub mod OwnerSteps
 pub mod OwnersSeen
 pub mod Parted
 pub mod Passes
+pub mod PartsMade
 pub mod PlaceSteps
 pub mod Ranges
 pub mod Readings

@@ -1,5 +1,5 @@
 -- The step by which a lock is taken, with its slot.
-use Rattle.std.proofs.Common.{◌≡◌, ℕ, zero, suc, ◌+◌, ◌<◌, ◌≤◌, inl, inr, ⊎_elim, eqb, Bool, true, false, List, [], ◌∷◌, length, get_or, set, sym, refl, ap, ◌∙◌, subst, arith, Option, Some, None, length-set, get_or-set_other, get_or-set_same}
+use Rattle.std.proofs.Common.{◌≡◌, ℕ, zero, suc, ◌+◌, ◌<◌, ◌≤◌, ◌⊎◌, inl, inr, ⊎_elim, eqb, cond, Bool, true, false, List, [], ◌∷◌, length, get_or, set, sym, refl, ap, ◌∙◌, subst, arith, Option, Some, None, length-set, get_or-set_other, get_or-set_same}
 use Rattle.std.specs.Prelude.{◌&&◌, IsTrue, IsFalse, nat_lt}
 use Rattle.std.proofs.lemmas.Bool.{ltb-true}
 use mathlib.Core.Option.{some, none, some-ne-none}
@@ -12,7 +12,9 @@ use Rattle.map_types.specs.declared.attr.Shape.{Shape}
 use Rattle.map_types.specs.declared.kind.DomainId.{DomainId}
 use Rattle.map_types.specs.declared.kind.DomainId.TheVariants.{Local, Global, CpuLru, Bucket, Freelist}
 use Rattle.map_types.proofs.CreationLemmas.{bounds_of_shape}
+use Rattle.map_types.proofs.RowLemmas.{by_test}
 use Rattle.place_words.specs.declared.history.Entry.{Entry}
+use Rattle.place_words.specs.declared.home.Home.{Home}
 use Rattle.place_words.specs.declared.home.Home.TheVariants as homes
 use Rattle.map_types.specs.ElementLists.{put, one, times, IsIn}
 use Rattle.place_words.specs.Histories.{content, IsLegal}
@@ -36,15 +38,17 @@ use Rattle.place_table.specs.declared.view.View.{View}
 use Rattle.place_table.specs.declared.view.Hold.{Hold}
 use Rattle.place_table.specs.Contents.{lists_of}
 use Rattle.place_table.specs.Laws.{StepsAs, goes_if, goes_by}
-use Rattle.place_table.specs.Views.{is_among, hold_at, holding, home_then}
-use Rattle.place_table.specs.Rules.{World, Rule, PassKnows, AtHome, IsSlotAfter, entries, hold, hold_of, IsAboveAll, logs_of, AreTagged, IsFresh, AreOfStrands, StillHome, HasRow, IsBrought, LeadTo}
+use Rattle.place_table.specs.StoredHashes.{stored_in}
+use Rattle.place_table.specs.Views.{is_among, hold_at, holding, home_then, came_at, no_notes}
+use Rattle.place_table.specs.Rules.{World, Rule, PassKnows, AtHome, IsSlotAfter, entries, hold, hold_of, IsAboveAll, logs_of, AreTagged, IsFresh, AreOfStrands, StillHome, IsCounted, HasRow, IsBrought, LeadTo}
 use Rattle.place_table.specs.Words.{lock_code, owner_word, home_word, bit_word, ticket_word, opening_words}
 use Rattle.place_table.specs.Plays.{Seated, Tries, AreElements, IsApartFromHands}
 use Rattle.place_table.proofs.StoredHashes.{lies_on_one}
+use Rattle.place_table.proofs.Came.{came_other}
 use Rattle.place_table.proofs.HashSteps.{hashed_taken}
-use Rattle.place_table.proofs.Worlds.{by_bool, true_false, none_some, hold_of_mine, hold_of_other, hold_of_is, hold_at_first, hold_at_other, above_each, has_mine, in_hand_is, lock_still_lost, others, past_stays, tagged_stays, SameStrands, hash_stands, hand_is, both_true}
+use Rattle.place_table.proofs.Worlds.{by_bool, true_false, some_is, none_some, hold_of_mine, hold_of_other, hold_of_is, hold_at_first, hold_at_other, above_each, has_mine, in_hand_is, lock_still_lost, others, past_stays, tagged_stays, SameStrands, hash_stands, hand_is, both_true}
 use Rattle.place_table.proofs.Readings.{still_took, then_known, then_still, at_home_then, listed_in_set, flushed_off}
-use Rattle.place_table.specs.Flushes.{flushed_last}
+use Rattle.place_table.specs.Flushes.{flushed_since}
 use Rattle.place_words.specs.Wholeness.{all_of}
 use Rattle.place_table.specs.declared.view.WordStep.{WordStep}
 use Rattle.place_table.proofs.StepLog.{made, time_more, givers_other, touches_with, lead_with, of_strands_with, strand_with, past_same, other_same}
@@ -52,6 +56,8 @@ use Rattle.place_table.proofs.NotesDone.{none_off}
 use Rattle.place_table.specs.declared.view.Ticket.TheVariants.{Unread}
 use Rattle.place_table.specs.Tickets.{Tickets}
 use Rattle.place_table.proofs.TicketLemmas.{tickets_stay}
+use Rattle.place_table.specs.declared.view.HomeIn.{HomeIn}
+use Rattle.place_table.proofs.Counted.{counted_more, counted_then}
 
 -- a step that is told as one of the core is one that the rule allows
 pub allows_of : (shape : Shape) (slots pass : ℕ) (me : Seated) (i : ℕ) (f : ℕ → ℕ) (goes : ℕ → cores.State → cores.State → Type 0) (told_then : ℕ → Seated → Type 0)
@@ -246,16 +252,35 @@ module _ (shape : Shape) (slots pass : ℕ) (me : Seated) (lock : DomainId) (c :
                     let owner_is : w.core.owner x ≡ owners.Hand d = hand_is d (w.core.owner x) (both_true _ _ (sym (kn.hands x d within) ∙ in_hand)).0 in
                     hashed_taken shape w.core.holder w.core.lists w.core.owner w.core.home r.placed.place r.placed.placed w.log w.hash (r.hashes lru) lru x at real_x at_home (ap is_free owner_is)
                     k c free h refl v.held v.notes v.hashes d (kn.hashed lru x d at real_x within in_hand at_home);
+                rowed = λ lru m x hold found no_bucket inside. by_test h.lock m (λ t. cond t (Some h) (hold_at m v.held) ≡ Some hold → (stored_in (content shape (lock_named shape m) hold.log) x ≡ Some (w.hash x)) ⊎ (is_among x (came_at m (h ∷ v.held) (no_notes ∷ v.notes)) ≡ true))
+                    (λ same at.
+                    let is : h ≡ hold = some_is at in
+                    let here : k ≡ m = same in
+                    let listed : IsIn x (rows (w.core.lists m)) = subst (λ (z : ℕ). IsIn x (rows (w.core.lists z))) here (subst (λ (z : Hold). IsIn x (rows z.now)) (sym is) inside) in
+                    let none_holds : w.core.holder m ≡ None = ap w.core.holder (sym here) ∙ free in
+                    ⊎_elim
+                    (λ (had : HasRow shape w.log w.hash m x). inl (ap (λ (z : Hold). stored_in (content shape (lock_named shape m) z.log) x) (sym is) ∙ (ap (λ (z : ℕ). stored_in (content shape (lock_named shape m) (entries (w.log z))) x) here ∙ had.stored)))
+                    (⊎_elim
+                    (λ (fresh : IsFresh w.core.holder w.core.owner m x). absurd (none_some (sym none_holds ∙ fresh.held)))
+                    (λ (brought : IsBrought shape w.core.holder w.log w.hash m x). absurd (none_some (sym none_holds ∙ brought.held))))
+                    ((r.hashes lru).have m x no_bucket listed))
+                    (λ other at. ⊎_elim
+                    (λ (had : stored_in (content shape (lock_named shape m) hold.log) x ≡ Some (w.hash x)). inl had)
+                    (λ (come : is_among x (came_at m v.held v.notes) ≡ true). inr (ap (is_among x) (came_other m h v.held (no_notes ∷ v.notes) (λ y. other (sym y))) ∙ come))
+                    (kn.rowed lru m x hold at no_bucket inside)) found;
                 readings = λ x d read within found.
                     let then = then_known x d read v.shape h v.readings found in
                     let was = kn.readings x d then.0 within then.1 in
                     let owner_is : w.core.owner x ≡ owners.Hand d = hand_is d (w.core.owner x) (both_true _ _ (sym (kn.hands x d within) ∙ was.in_hand)).0 in
-                    let is : home_then shape h x then.0 ≡ read = ap (λ (z : Shape). home_then z h x then.0) (sym kn.shape_is) ∙ then.2 in
+                    let old : HomeIn = then.0 in let same_then = then.2 in
+                    let is : home_then shape h x old.home ≡ read.home = ap (λ (z : Shape). home_then z h x old.home) (sym kn.shape_is) ∙ same_then.home_is in
                     record {
                       real = was.real;
                       in_hand = was.in_hand;
-                      still = still_took shape w.core.holder w.log k c x (w.core.home x) read
-                          (subst (StillHome shape w.core.holder w.log x (w.core.home x)) is (then_still shape w.core.holder w.core.lists w.core.owner w.core.home r.placed.place r.placed.placed w.log h refl x d then.0 was.real owner_is was.still));
+                      counted = counted_more shape w.touches (w.current pass, took_step w) read.at read.turns read.home
+                          (subst (λ (z : (ℕ × ℕ) × Home). IsCounted shape w.touches z.0.0 z.0.1 z.1) (λ i. ((same_then.at_is i, same_then.turns_are i), is i)) (counted_then shape h x w.touches old.at old.turns old.home was.counted));
+                      still = still_took shape w.core.holder w.log k c read.turns x (w.core.home x) read.home
+                          (subst (λ (z : ℕ × Home). StillHome shape w.core.holder w.log z.0 x (w.core.home x) z.1) (λ i. (same_then.turns_are i, is i)) (then_still shape w.core.holder w.core.lists w.core.owner w.core.home r.placed.place r.placed.placed w.log h refl old.turns x d old.home was.real owner_is was.still));
                     };
                 known = kn.known;
                 bits = kn.bits;
@@ -279,8 +304,10 @@ module _ (shape : Shape) (slots pass : ℕ) (me : Seated) (lock : DomainId) (c :
               ku.bits
               (λ _ _ _ _. refl)
               (λ _ _ _ _ _ _ at. inl at)
+              (λ _ _ _ _ _ _. refl)
               (λ tag own. other_same shape w pass v kn x j tag t.0 own)
-              (λ x d read _ _ _ still. still_took shape w.core.holder w.log k c x (w.core.home x) read still))
+              (λ read. counted_more shape w.touches (w.current pass, x) read.at read.turns read.home)
+              (λ y d read _ _ _ _ still. still_took shape w.core.holder w.log k c read.turns y (w.core.home y) read.home still))
               (at_set s.views pass j nv u f);
         },
         record { enabled = can; changed = refl },
@@ -318,19 +345,20 @@ module _ (shape : Shape) (slots pass : ℕ) (me : Seated) (lock : DomainId) (c :
             apart = subst (λ z. IsApartFromHands me.0 (lock_named z k) (w.core.lists k)) (sym kn.shape_is) (apart_there shape s r pass me.0 at_pass k);
             legal = subst (λ z. IsLegal z (lock_named z k) (entries (w.log k))) (sym kn.shape_is) (r.legal k);
             known = λ log f. kn.known k log f;
-            at_home = λ x d other within found at.
-                let then = then_known x d (homes.In other) me.0.shape h me.0.readings found in
+            at_home = λ x d other read within found read_is at.
+                let then = then_known x d read me.0.shape h me.0.readings found in
+                let old : HomeIn = then.0 in let same_then = then.2 in
                 let less : d < shape.cpus = subst (λ z. d < z.cpus) kn.shape_is within in
                 let was = kn.readings x d then.0 less then.1 in
                 let owner_is : w.core.owner x ≡ owners.Hand d = hand_is d (w.core.owner x) (both_true _ _ (sym (kn.hands x d less) ∙ was.in_hand)).0 in
-                let is : home_then shape h x then.0 ≡ homes.In other = ap (λ (z : Shape). home_then z h x then.0) (sym kn.shape_is) ∙ then.2 in
-                at_home_then shape w.core.holder w.core.lists w.core.owner w.core.home r.placed.place r.placed.placed w.log h refl x d other then.0 was.real owner_is was.still is (ap (λ (z : Shape). lock_number z other) (sym kn.shape_is) ∙ at);
-            moved_on = λ x d f within named read none.
+                let is : home_then shape h x old.home ≡ homes.In other = ap (λ (z : Shape). home_then z h x old.home) (sym kn.shape_is) ∙ (same_then.home_is ∙ read_is) in
+                at_home_then shape w.core.holder w.core.lists w.core.owner w.core.home r.placed.place r.placed.placed w.log h refl old.turns x d other old.home was.real owner_is was.still is (ap (λ (z : Shape). lock_number z other) (sym kn.shape_is) ∙ at);
+            moved_on = λ x d f read within named found read_is none.
                 let less : d < shape.cpus = subst (λ z. d < z.cpus) kn.shape_is within in
-                let was = kn.readings x d (homes.In (Local f)) less read in
+                let was = kn.readings x d read less found in
                 let owner_is : w.core.owner x ≡ owners.Hand d = hand_is d (w.core.owner x) (both_true _ _ (sym (kn.hands x d less) ∙ was.in_hand)).0 in
-                subst (λ (z : Shape). flushed_last z (lock_named z k) x (entries (w.log k)) ≡ true) (sym kn.shape_is)
-                (flushed_off shape w.core.holder w.core.lists w.core.owner w.core.home r.placed.place r.placed.placed w.log k x f was.real (ap is_free owner_is) (ap (λ (z : Shape). lock_named z k) (sym kn.shape_is) ∙ named) free none was.still);
+                subst (λ (z : Shape). flushed_since z (lock_named z k) read.turns x (entries (w.log k)) ≡ true) (sym kn.shape_is)
+                (flushed_off shape w.core.holder w.core.lists w.core.owner w.core.home r.placed.place r.placed.placed w.log k read.turns x f was.real (ap is_free owner_is) (ap (λ (z : Shape). lock_named z k) (sym kn.shape_is) ∙ named) free none (subst (StillHome shape w.core.holder w.log read.turns x (w.core.home x)) read_is was.still));
             alone = λ lru no_bucket j x other found nor_other inside.
                 let at = hold_of_is w.pass_of_cpu pass j (w.core.holder j) (w.log j) (w.core.lists j) (w.lost j) other (sym (kn.held j) ∙ found) in
                 ap (λ (z : Hold). times x (all_of z.now)) at.hold_is

@@ -1,11 +1,8 @@
 -- What a pass has noted in its turns under way was done by steps of its strand.
-use Rattle.std.proofs.Common.{◌≡◌, ℕ, ◌<◌, ◌≤◌, arith, inl, inr, ⊎_elim, cond, Bool, List, [], ◌∷◌, ◌++◌, sym, ap, ◌∙◌, subst, append_assoc, true, false}
-use Rattle.std.proofs.lemmas.List.Elements.{All-head}
+use Rattle.std.proofs.Common.{◌≡◌, ℕ, ◌<◌, ◌≤◌, arith, inl, inr, ⊎_elim, cond, Bool, List, [], ◌∷◌, ◌++◌, sym, refl, ap, ◌∙◌, subst, append_assoc, true, false}
 use Rattle.map_types.specs.declared.attr.Shape.{Shape}
 use Rattle.map_types.specs.declared.kind.DomainId.TheVariants.{Local, Global, CpuLru, Bucket, Freelist}
 use Rattle.map_types.proofs.RowLemmas.{by_test}
-use Rattle.place_words.specs.declared.bucket_part.BucketPart.TheVariants.{Lookup, Update, Delete, Take, Next, First, Walk, Evict}
-use Rattle.place_words.specs.declared.bucket_part.Seen.TheVariants.{Removed, Held}
 use Rattle.place_words.specs.declared.history.Part.{Part}
 use Rattle.place_words.specs.declared.history.Part.TheVariants as parts
 use Rattle.place_words.specs.declared.list_part.GlobalPart.TheVariants as global
@@ -14,17 +11,15 @@ use Rattle.place_words.specs.Codes.{home_code}
 use Rattle.place_words.specs.declared.home.Home.{Home}
 use Rattle.place_words.specs.declared.home.Home.TheVariants as homes
 use Rattle.place_words.specs.declared.owner.Owner.{Owner}
-use Rattle.place_words.specs.declared.owner.Owner.TheVariants as owners
 use Rattle.place_words.specs.Locks.{lock_number, lock_count, lock_named, rank_of}
 use Rattle.place_words.specs.declared.step.Lists.{Lists}
 use Rattle.place_words.specs.Steps.{left_by, joined_by}
 use Rattle.place_table.specs.declared.view.Hold.{Hold}
-use Rattle.place_table.specs.declared.view.View.{View}
 use Rattle.place_table.specs.declared.view.Notes.{Notes}
 use Rattle.place_table.specs.declared.view.OwnerSeen.{OwnerSeen}
 use Rattle.place_table.specs.declared.view.WordStep.{WordStep}
-use Rattle.place_table.specs.Views.{now_at, with_now, held_without, held_with, with_came, with_come_home, with_off, left_local, with_left_home, with_mark, with_clear, with_bit_read, with_home_read, with_owner_read, with_flushed, notes_below, passed_on}
-use Rattle.place_table.specs.TurnNotes.{WasReadInHand, ProbeFits, NotesFit, InnermostFits}
+use Rattle.place_table.specs.Views.{now_at, with_now, held_without, held_with, with_came, with_come_home, with_off, has_left, with_carried_off, left_local, with_left_home, with_mark, with_clear, with_bit_read, with_home_read, with_owner_read, with_owners_read, with_flushed, passed_on}
+use Rattle.place_table.proofs.Worlds.{by_bool}
 use Rattle.place_table.specs.Rules.{IsAboveAll, AreOff, AreOffHeld, take_step, HasStep, AreNoted, mark_step, bit_step, owner_step, home_step, AreDone, IsDone}
 
 -- Steps among others
@@ -49,14 +44,13 @@ done_more shape steps more n done = record {
   homes = are_more (home_step shape) steps more n.homes done.homes;
 }
 
--- an owner that was noted as a hand was read so
-was_read : (shape : Shape) (steps : List WordStep) (e c : ℕ) (xs : List OwnerSeen) → AreDone (owner_step shape) steps xs → WasReadInHand e c xs → HasStep (owner_step shape record { element = e; owner = owners.Hand c }) steps
-was_read shape steps e c [] are was = absurd was
-was_read shape steps e c (x ∷ xs) are was =
-    ⊎_elim
-    (λ (here : (x.element ≡ e) × (x.owner ≡ owners.Hand c)). subst (λ (z : ℕ × Owner). HasStep (owner_step shape record { element = z.0; owner = z.1 }) steps) (λ i. (here.0 i, here.1 i)) are.0)
-    (λ (later : WasReadInHand e c xs). was_read shape steps e c xs are.1 later)
-    was
+are_behind : {A : Type 0} (by : A → ℕ → WordStep) (steps more : List WordStep) (xs : List A) → AreDone by more xs → AreDone by (steps ++ more) xs
+are_behind by steps more [] are = tt
+are_behind by steps more (x ∷ xs) are = (has_behind (by x) steps more are.0, are_behind by steps more xs are.1)
+
+are_both : {A : Type 0} (by : A → ℕ → WordStep) (steps : List WordStep) (xs ys : List A) → AreDone by steps xs → AreDone by steps ys → AreDone by steps (xs ++ ys)
+are_both by steps [] ys first second = second
+are_both by steps (x ∷ xs) ys first second = (first.0, are_both by steps xs ys first.1 second)
 
 -- Steps on other words than those of locks that are held
 
@@ -218,6 +212,14 @@ noted_off shape steps k e (h ∷ hs) (n ∷ ns) are =
     (λ _. (are.0, are.1, are.2, are.3, are.4, are.5, record { marks = are.6.marks; asked = are.6.asked; owners = are.6.owners; homes = are.6.homes }, are.7))
     (λ _. (are.0, are.1, are.2, are.3, are.4, are.5, are.6, noted_off shape are.0 k e hs ns are.7))
 
+noted_carried_off : (shape other : Shape) (steps : List WordStep) (e : ℕ) (holds : List Hold) (notes : List Notes) → AreNoted shape steps holds notes → AreNoted shape steps holds (with_carried_off other e holds notes)
+noted_carried_off shape other steps e [] notes are = tt
+noted_carried_off shape other steps e (h ∷ hs) [] are = absurd are
+noted_carried_off shape other steps e (h ∷ hs) (n ∷ ns) are =
+    by_bool (has_left other e h n.came) (λ b. AreNoted shape steps (h ∷ hs) (cond b (record n { off = e ∷ n.off }) n ∷ with_carried_off other e hs ns))
+    (λ _. (are.0, are.1, are.2, are.3, are.4, are.5, record { marks = are.6.marks; asked = are.6.asked; owners = are.6.owners; homes = are.6.homes }, noted_carried_off shape other are.0 e hs ns are.7))
+    (λ _. (are.0, are.1, are.2, are.3, are.4, are.5, are.6, noted_carried_off shape other are.0 e hs ns are.7))
+
 noted_left_local : (shape other : Shape) (steps : List WordStep) (from : Home) (e : ℕ) (holds : List Hold) (notes : List Notes) → AreNoted shape steps holds notes → AreNoted shape steps holds (left_local other from e holds notes)
 noted_left_local shape other steps homes.Unlisted e holds notes are = are
 noted_left_local shape other steps (homes.In (Local c)) e holds notes are = noted_off shape steps (lock_number other (Local c)) e holds notes are
@@ -225,7 +227,7 @@ noted_left_local shape other steps (homes.In Global) e holds notes are = are
 noted_left_local shape other steps (homes.In (CpuLru c)) e holds notes are = are
 noted_left_local shape other steps (homes.In (Bucket b)) e holds notes are = are
 noted_left_local shape other steps (homes.In (Freelist c)) e holds notes are = are
-noted_left_local shape other steps (homes.Hand c) e holds notes are = are
+noted_left_local shape other steps (homes.Hand c) e holds notes are = noted_carried_off shape other steps e holds notes are
 
 pub noted_left_home : (shape other : Shape) (steps : List WordStep) (from to : Home) (e : ℕ) (holds : List Hold) (notes : List Notes) → AreNoted shape steps holds notes → AreNoted shape steps holds (with_left_home other from to e holds notes)
 noted_left_home shape other steps from homes.Unlisted e holds notes are = are
@@ -263,11 +265,31 @@ noted_with shape steps homes.Unlisted owner e holds notes are = are
 noted_with shape steps (homes.In lock) owner e holds notes are = noted_now shape steps (lock_number shape lock) (joined_by lock owner e (now_at (lock_number shape lock) holds)) holds notes are
 noted_with shape steps (homes.Hand c) owner e holds notes are = are
 
--- A lock is given back, and what a probe read or a turn flushed under it is handed on.
+-- A lock is given back, and which owners were read under a bucket's, or what a turn flushed under the global one, is handed on.
 
-pub noted_gave : (shape : Shape) (v : View) (steps : List WordStep) (x : WordStep) (h : Hold) (below : List Hold) (notes : List Notes) (part : Part) → x.word ≡ h.lock → IsAboveAll shape (rank_of (lock_named shape h.lock)) below → AreNoted shape steps (h ∷ below) notes → InnermostFits shape v h part notes → AreNoted shape (steps ++ x ∷ []) below (passed_on part (notes_below notes))
-noted_gave shape v steps x h below [] part at above are fits = absurd are
-noted_gave shape v steps x h below (n ∷ ns) part at above are fits = go part fits
+owners_noted : (xs : List OwnerSeen) (n : Notes) (ns : List Notes) → with_owners_read xs (n ∷ ns) ≡ record n { owners = xs ++ n.owners } ∷ ns
+owners_noted [] n ns = refl
+owners_noted (x ∷ xs) n ns = ap (with_owner_read x.element x.owner) (owners_noted xs n ns)
+
+noted_owners : (shape : Shape) (steps more : List WordStep) (holds : List Hold) (notes : List Notes) (xs : List OwnerSeen) → AreNoted shape steps holds notes → AreOffHeld holds more → AreDone (owner_step shape) more xs → AreNoted shape (steps ++ more) holds (with_owners_read xs notes)
+noted_owners shape steps more [] notes xs are off read = tt
+noted_owners shape steps more (h ∷ hs) [] xs are off read = absurd are
+noted_owners shape steps more (h ∷ hs) (n ∷ ns) xs are off read =
+    let done = done_more shape are.1 more n are.6 in
+    subst (AreNoted shape (steps ++ more) (h ∷ hs)) (sym (owners_noted xs n ns)) (
+      are.0,
+      are.1 ++ more,
+      are.2,
+      ap (λ (l : List WordStep). l ++ more) are.3 ∙ append_assoc are.0 (take_step h are.2 ∷ are.1) more,
+      are.4,
+      off_more (h ∷ hs) are.1 more are.5 off,
+      record { marks = done.marks; asked = done.asked; owners = are_both (owner_step shape) (are.1 ++ more) xs n.owners (are_behind (owner_step shape) are.1 more xs read) done.owners; homes = done.homes },
+      are.7,
+    )
+
+pub noted_gave : (shape : Shape) (steps : List WordStep) (x : WordStep) (h : Hold) (below : List Hold) (notes : List Notes) (part : Part) → x.word ≡ h.lock → IsAboveAll shape (rank_of (lock_named shape h.lock)) below → AreNoted shape steps (h ∷ below) notes → AreNoted shape (steps ++ x ∷ []) below (passed_on part notes)
+noted_gave shape steps x h below [] part at above are = absurd are
+noted_gave shape steps x h below (n ∷ ns) part at above are = go part
   where
     since : List WordStep
     since = take_step h are.2 ∷ (are.1 ++ x ∷ [])
@@ -283,21 +305,13 @@ noted_gave shape v steps x h below (n ∷ ns) part at above are fits = go part f
     stays : AreNoted shape (steps ++ x ∷ []) below ns
     stays = subst (λ (l : List WordStep). AreNoted shape l below ns) long (noted_more shape are.0 since below ns are.7 off)
 
-    go : (part : Part) → NotesFit shape v h part n → AreNoted shape (steps ++ x ∷ []) below (passed_on part ns)
-    go (parts.Bucket (Lookup side key got)) fits = stays
-    go (parts.Bucket (Update side flags key value offer put)) fits = stays
-    go (parts.Bucket (Delete key removed)) fits = stays
-    go (parts.Bucket (Take key taken)) fits = stays
-    go (parts.Bucket (Next key found)) fits = stays
-    go (parts.Bucket (First key)) fits = stays
-    go (parts.Bucket (Walk remove room result)) fits = stays
-    go (parts.Bucket (Evict e Removed)) fits = stays
-    go (parts.Bucket (Evict e (Held holder))) fits =
-        subst (λ (l : List WordStep). AreNoted shape l below (with_owner_read e (owners.Hand holder) ns)) long
-        (noted_owner shape are.0 since below ns e (owners.Hand holder) are.7 off
-        (inr (has_more (owner_step shape record { element = e; owner = owners.Hand holder }) are.1 (x ∷ []) (was_read shape are.1 e holder n.owners are.6.owners (All-head (ProbeFits n.owners) (record { element = e; probed = Held holder }) [] fits.held)))))
-    go (parts.Free part) fits = stays
-    go (parts.Local part) fits = stays
-    go (parts.Global (global.Turn flushed active inactive free shrink)) fits = noted_flushed shape (steps ++ x ∷ []) flushed below ns stays
-    go (parts.Global (global.Push e)) fits = stays
-    go (parts.Own part) fits = stays
+    read : AreDone (owner_step shape) since n.owners
+    read = are_behind (owner_step shape) (take_step h are.2 ∷ []) (are.1 ++ x ∷ []) n.owners (are_more (owner_step shape) are.1 (x ∷ []) n.owners are.6.owners)
+
+    go : (part : Part) → AreNoted shape (steps ++ x ∷ []) below (passed_on part (n ∷ ns))
+    go (parts.Bucket part) = subst (λ (l : List WordStep). AreNoted shape l below (with_owners_read n.owners ns)) long (noted_owners shape are.0 since below ns n.owners are.7 off read)
+    go (parts.Free part) = stays
+    go (parts.Local part) = stays
+    go (parts.Global (global.Turn flushed active inactive free shrink)) = noted_flushed shape (steps ++ x ∷ []) flushed below ns stays
+    go (parts.Global (global.Push e)) = stays
+    go (parts.Own part) = stays

@@ -28,7 +28,7 @@ use Rattle.place_words.specs.Ranks.{Ranked}
 use Rattle.place_words.specs.Steps.{lists_under, with_free, without_free, with_row, without_row, with_owner, CanClaim, CanSettle, CanAttach, IsLockHome, IsInHeldBucket, IsEnabled, after, CoreStep}
 use Rattle.place_words.proofs.ElementLemmas.{at_put, put_here, put_else}
 use Rattle.place_words.proofs.OwnerSteps.{was_inside}
-use Rattle.place_words.proofs.RowLemmas.{stands_where, free_is, head_is_in, lies_is}
+use Rattle.place_words.proofs.RowLemmas.{stands_where, free_is, head_is_in, lies_is, rows_with_row_other, rows_without_row_other, rows_without_row_same}
 use Rattle.place_words.proofs.StepLaws.{step_keeps_places, step_keeps_ranks}
 use Rattle.place_table.specs.declared.content.Behind.{Behind}
 use Rattle.place_table.specs.declared.view.Notes.{Notes}
@@ -46,7 +46,7 @@ use Rattle.place_table.specs.Plays.{Seated, Claims, Settles, Attaches, Detaches}
 use Rattle.place_table.proofs.Hands.{ascends_now, AreInHands, comes_to_hand, leaves_hand, was_in_hand, IsOwnerOfPass}
 use Rattle.place_table.proofs.Locks.{allows_of}
 use Rattle.place_table.proofs.TicketLemmas.{inner_now}
-use Rattle.place_table.proofs.PlaceSteps.{IsHeldByPass, AreHashes, now_is, held_moved, place_rule, held_there, by_pass_there, now_there, holds_there, readings_kept, hashes_kept}
+use Rattle.place_table.proofs.PlaceSteps.{IsHeldByPass, AreHashes, rowed_moved, now_is, held_moved, place_rule, held_there, by_pass_there, now_there, holds_there, readings_kept, hashes_kept}
 use Rattle.place_table.proofs.Came.{came_now, came_more, came_here}
 use Rattle.place_table.proofs.HashSteps.{lies_home, row_of_bucket, hashed_kept}
 use Rattle.place_words.specs.Locks.{lock_named}
@@ -63,11 +63,12 @@ use Rattle.place_table.proofs.StepLog.{made}
 
 module _ (shape : Shape) (s : State Behind View) (r : Rule shape s) (pass : ℕ) (v : View) (at_pass : get_elem? s.views pass ≡ some v) (lock : DomainId) (h : Hold) (found : hold_at (lock_number shape lock) v.held ≡ Some h)
     (e : ℕ) (owner : Owner) (hand : List InHand) (notes : List Notes) (hashes : List HashIn) (cs : List (ℕ × Behind)) (real : e < shape.elements) (was : IsOwnerOfPass r.world.pass_of_cpu pass (r.world.core.owner e)) (is : IsOwnerOfPass r.world.pass_of_cpu pass owner)
-    (in_hands : AreInHands is_hand_of shape.cpus pass r.world.pass_of_cpu (put r.world.core.owner e owner) hand) (are_noted : AreNoted shape v.touched v.held notes) where
+    (in_hands : AreInHands is_hand_of shape.cpus pass r.world.pass_of_cpu (put r.world.core.owner e owner) hand) (are_noted : AreNoted shape v.touched v.held notes)
+    (more : (m x : ℕ) → is_among x (came_at m v.held v.notes) ≡ true → is_among x (came_at m v.held notes) ≡ true) where
   -- the element has this owner from now on, and under the lock lies this
-  owner_rule : (now : Lists) → AreHashes shape r.world r.world.core.home hand hashes (with_now (lock_number shape lock) now v.held) notes → (IsTrue (is_lru shape.kind) → HashesRight shape r.world.core.holder (put r.world.core.lists (lock_number shape lock) now) (put r.world.core.owner e owner) r.world.log r.world.hash) → Placed shape (with_owner shape r.world.core e owner lock now) → Ranked shape (with_owner shape r.world.core e owner lock now)
+  owner_rule : (now : Lists) → (IsFalse (is_bucket (lock_named shape (lock_number shape lock))) → (x : ℕ) → IsIn x (rows now) → IsIn x (rows (r.world.core.lists (lock_number shape lock))) ⊎ (is_among x (came_at (lock_number shape lock) v.held notes) ≡ true)) → AreHashes shape r.world r.world.core.home hand hashes (with_now (lock_number shape lock) now v.held) notes → (IsTrue (is_lru shape.kind) → HashesRight shape r.world.core.holder (put r.world.core.lists (lock_number shape lock) now) (put r.world.core.owner e owner) r.world.log r.world.hash) → Placed shape (with_owner shape r.world.core e owner lock now) → Ranked shape (with_owner shape r.world.core e owner lock now)
       → (after : Rule shape (stepped s (owner_word shape e) (owner_code owner) pass cs (record (moved (made r.world) (lock_number shape lock) now hand notes (owner_word shape e) (owner_code owner) v) { hashes = hashes }) keeps)) × (after.world.core ≡ with_owner shape r.world.core e owner lock now)
-  owner_rule now are_hashes right placed ranked =
+  owner_rule now come are_hashes right placed ranked =
       let i : ℕ = owner_word shape e in let k : ℕ = lock_number shape lock in let code : ℕ = owner_code owner in
       let w = r.world in let kn = r.knows pass v at_pass in
       let by_pass = by_pass_there shape s r pass v at_pass k h found in
@@ -91,21 +92,27 @@ module _ (shape : Shape) (s : State Behind View) (r : Rule shape s) (pass : ℕ)
         ranked = ranked;
         hashes = right;
         are_hashes = are_hashes;
+        are_rowed = λ lru. rowed_moved shape w pass v kn lru (put w.core.lists k now) (with_now k now v.held) notes (held_moved w pass k w.core.lists v.held now kn.held by_pass)
+            (λ m x before. ap (is_among x) (came_now k m now v.held notes) ∙ more m x before)
+            (λ m x _ no_bucket. at_put w.core.lists k now (λ j l. IsFalse (is_bucket (lock_named shape j)) → IsIn x (rows l) → IsIn x (rows (w.core.lists j)) ⊎ (is_among x (came_at j (with_now k now v.held) notes) ≡ true)) m
+            (λ at_k inside. ⊎_elim (λ (was : IsIn x (rows (w.core.lists k))). inl was) (λ (comes : is_among x (came_at k v.held notes) ≡ true). inr (ap (is_among x) (came_now k k now v.held notes) ∙ comes)) (come at_k x inside))
+            (λ _ _ inside. inl inside) no_bucket);
         at_home = λ _ _ _ _ _ _ at. inl at;
         are_read = readings_kept shape w pass v kn hand;
-        still = λ _ _ _ _ _ still. still;
+        still = λ _ _ _ _ _ _ still. still;
       }
 
   -- a step of the core that does so
-  owner_step : (step : Step) (change : Lists → Lists) → ((now : Lists) → AreHashes shape r.world r.world.core.home hand hashes (with_now (lock_number shape lock) now v.held) notes) → IsEnabled shape r.world.core step → after shape r.world.core step ≡ with_owner shape r.world.core e owner lock (change (lists_under shape r.world.core lock))
+  owner_step : (step : Step) (change : Lists → Lists) → ((now : Lists) → AreHashes shape r.world r.world.core.home hand hashes (with_now (lock_number shape lock) now v.held) notes) → (IsFalse (is_bucket (lock_named shape (lock_number shape lock))) → (x : ℕ) → IsIn x (rows (change (r.world.core.lists (lock_number shape lock)))) → IsIn x (rows (r.world.core.lists (lock_number shape lock))) ⊎ (is_among x (came_at (lock_number shape lock) v.held notes) ≡ true))
+      → IsEnabled shape r.world.core step → after shape r.world.core step ≡ with_owner shape r.world.core e owner lock (change (lists_under shape r.world.core lock))
       → (IsTrue (is_lru shape.kind) → HashesRight shape r.world.core.holder (put r.world.core.lists (lock_number shape lock) (change (lists_under shape r.world.core lock))) (put r.world.core.owner e owner) r.world.log r.world.hash)
       → (nv : View) × (a : Act Behind) × Valid s.homes cs a × ((now : Rule shape (stepped s (owner_word shape e) (owner_code owner) pass cs nv a)) × CoreStep shape r.world.core step now.world.core)
       × ((at : ℕ) × ◌≡◌ {A = Seated} (nv, carried_after cs a) (record (moved at (lock_number v.shape lock) (change (now_under lock v)) hand notes (owner_word v.shape e) (owner_code owner) v) { hashes = hashes }, cs))
-  owner_step step change are_hashes can after_is right =
+  owner_step step change are_hashes come can after_is right =
       let k : ℕ = lock_number shape lock in
       let w = r.world in let kn = r.knows pass v at_pass in
       let bounds = bounds_of_shape shape r.is_shape in
-      let rule = owner_rule (change (w.core.lists k)) (are_hashes (change (w.core.lists k))) right (subst (Placed shape) after_is (step_keeps_places shape w.core step bounds can r.placed)) (subst (Ranked shape) after_is (step_keeps_ranks shape w.core step can r.ranked)) in
+      let rule = owner_rule (change (w.core.lists k)) come (are_hashes (change (w.core.lists k))) right (subst (Placed shape) after_is (step_keeps_places shape w.core step bounds can r.placed)) (subst (Ranked shape) after_is (step_keeps_ranks shape w.core step can r.ranked)) in
       let told : w.core.lists k ≡ now_under lock v =
       sym (now_is w pass k w.core.lists v.held kn.held (by_pass_there shape s r pass v at_pass k h found)) ∙ ap (λ (z : Shape). now_at (lock_number z lock) v.held) (sym kn.shape_is) in (
         record (moved (made w) k (change (w.core.lists k)) hand notes (owner_word shape e) (owner_code owner) v) { hashes = hashes },
@@ -136,6 +143,7 @@ claims_step shape slots pass me e lock hold real is found head s r wide at_pass 
     owner_step shape s r pass v at_pass lock hold found e (owners.Hand hold.cpu) (with_in_hand e hold.cpu v.hand) (with_came (lock_number v.shape lock) e v.held v.notes) (kept_hashes (with_in_hand e hold.cpu v.hand) v.hashes) me.1 real (subst (IsOwnerOfPass w.pass_of_cpu pass) (sym was) tt) at.mine
     (comes_to_hand is_hand_of shape.cpus pass e hold.cpu w.pass_of_cpu w.core.owner (put w.core.owner e (owners.Hand hold.cpu)) v.hand (λ x. put_else w.core.owner e (owners.Hand hold.cpu) x) kn.hands
     at.mine (λ c. ap (is_hand_of c) was) (λ c. ap (is_hand_of c) (put_here w.core.owner e (owners.Hand hold.cpu)))) (noted_came shape v.touched (lock_number v.shape lock) e v.held v.notes kn.noted)
+    (λ m x before. came_more (lock_number v.shape lock) e m x v.held v.notes before)
     (Claim hold.cpu e lock) (λ l. with_row lock e (without_free e l))
     (λ now. (
       hashes_kept shape w pass v kn (with_in_hand e hold.cpu v.hand),
@@ -153,7 +161,11 @@ claims_step shape slots pass me e lock hold real is found head s r wide at_pass 
           } in
           record { from = inr (inr come); row = λ _. inr (inr come) })
           (λ _ _ there. hashed_kept shape w pass v kn k now (with_in_hand e hold.cpu v.hand) (with_came (lock_number v.shape lock) e v.held v.notes) (λ m y inside. came_more (lock_number v.shape lock) e m y v.held v.notes inside) lru x d its x_real within there in_hand at_home) refl in_hand,
-    )) can refl
+    ))
+    (λ _ x inside. by_test x e (λ _. IsIn x (rows (w.core.lists k)) ⊎ (is_among x (came_at k v.held (with_came (lock_number v.shape lock) e v.held v.notes)) ≡ true))
+    (λ same. inr ((λ i. is_among (same i) (came_at k v.held (with_came (lock_number (kn.shape_is i) lock) e v.held v.notes))) ∙ came_here shape v.touched k e hold v.held v.notes kn.noted found))
+    (λ other. inl (let same = rows_with_row_other lock x e (without_free e (w.core.lists k)) other in omega (arith, same, inside))))
+    can refl
     (λ lru. hashes_claimed shape w.core.holder w.core.lists w.core.owner w.core.home r.placed.place r.placed.placed w.log w.hash (r.hashes lru) lock k e hold.cpu at.holder_is first)
 
 pub claims : (shape : Shape) (slots pass : ℕ) (me : Seated) (e c i code : ℕ) (lock : DomainId) (hold : Hold) (view : ℕ → View) → i ≡ owner_word shape e → code ≡ 1 + c → hold.cpu ≡ c → ((at : ℕ) → view at ≡ views.claimed at lock e c me.0)
@@ -188,8 +200,15 @@ settles_step shape slots pass me e lock hold real is found has_free_list has in_
     } in
     owner_step shape s r pass v at_pass lock hold found e owners.Free (without_in_hand e hold.cpu v.hand) v.notes (kept_hashes (without_in_hand e hold.cpu v.hand) v.hashes) me.1 real (subst (IsOwnerOfPass w.pass_of_cpu pass) (sym was) at.mine) tt
     (leaves_hand is_hand_of shape.cpus pass e hold.cpu w.pass_of_cpu w.core.owner (put w.core.owner e owners.Free) v.hand (λ x. put_else w.core.owner e owners.Free x) kn.hands
-    (λ c. ap (is_hand_of c) was) (λ c. ap (is_hand_of c) (put_here w.core.owner e owners.Free))) kn.noted
-    (Settle hold.cpu e lock) (λ l. with_free e (without_row e l)) (hashes_left shape w pass v kn (lock_number shape lock) e hold.cpu) can refl
+    (λ c. ap (is_hand_of c) was) (λ c. ap (is_hand_of c) (put_here w.core.owner e owners.Free))) kn.noted (λ m x before. before)
+    (Settle hold.cpu e lock) (λ l. with_free e (without_row e l)) (hashes_left shape w pass v kn (lock_number shape lock) e hold.cpu)
+    (λ _ x inside. by_test x e (λ _. IsIn x (rows (w.core.lists (lock_number shape lock))) ⊎ (is_among x (came_at (lock_number shape lock) v.held v.notes) ≡ true))
+    (λ same.
+    let none = rows_without_row_same e (w.core.lists (lock_number shape lock)) ((elements_there shape s r (lock_number shape lock)).rows_once e) in
+    let there : IsIn e (rows (without_row e (w.core.lists (lock_number shape lock)))) = subst (λ (z : ℕ). IsIn z (rows (without_row e (w.core.lists (lock_number shape lock))))) same inside in
+    absurd (omega (arith, none, there)))
+    (λ other. inl (let stays = rows_without_row_other x e (w.core.lists (lock_number shape lock)) other in omega (arith, stays, inside))))
+    can refl
     (λ lru. hashes_settled shape w.core.holder w.core.lists w.core.owner w.core.home r.placed.place r.placed.placed w.log w.hash (r.hashes lru) lock (lock_number shape lock) e hold.cpu at.holder_is (subst (λ (d : DomainId). IsFalse (is_bucket d)) (sym (named_by_number shape lock is)) has_free_list) (can.listed lru) ((elements_there shape s r (lock_number shape lock)).rows_once e))
 
 pub settles : (shape : Shape) (slots pass : ℕ) (me : Seated) (e c i code : ℕ) (lock : DomainId) (hold : Hold) (view : ℕ → View) → i ≡ owner_word shape e → code ≡ 0 → hold.cpu ≡ c → ((at : ℕ) → view at ≡ views.settled at lock e c me.0)
@@ -237,8 +256,10 @@ attaches_step shape slots pass me e bucket hold real there found has in_hand not
     record { holds = holds_there shape s r pass v at_pass lock hold found is; real = real; in_hand = was; not_carried = λ lru. lock_home shape s r pass v at_pass e hold.cpu real has was lru (not_carried lru) } in
     owner_step shape s r pass v at_pass lock hold found e (owners.Bucket bucket) (without_in_hand e hold.cpu v.hand) v.notes (kept_hashes (without_in_hand e hold.cpu v.hand) v.hashes) me.1 real (subst (IsOwnerOfPass w.pass_of_cpu pass) (sym was) at.mine) tt
     (leaves_hand is_hand_of shape.cpus pass e hold.cpu w.pass_of_cpu w.core.owner (put w.core.owner e (owners.Bucket bucket)) v.hand (λ x. put_else w.core.owner e (owners.Bucket bucket) x) kn.hands
-    (λ c. ap (is_hand_of c) was) (λ c. ap (is_hand_of c) (put_here w.core.owner e (owners.Bucket bucket)))) kn.noted
-    (Attach hold.cpu e bucket) (λ l. with_row lock e l) (hashes_left shape w pass v kn (lock_number shape lock) e hold.cpu) can refl
+    (λ c. ap (is_hand_of c) was) (λ c. ap (is_hand_of c) (put_here w.core.owner e (owners.Bucket bucket)))) kn.noted (λ m x before. before)
+    (Attach hold.cpu e bucket) (λ l. with_row lock e l) (hashes_left shape w pass v kn (lock_number shape lock) e hold.cpu)
+    (λ no_bucket. true_false (sym (ap is_bucket (named_by_number shape lock is)) ∙ no_bucket))
+    can refl
     (λ lru. hashes_attached shape w.core.holder w.core.lists w.core.owner w.core.home r.placed.place r.placed.placed w.log w.hash (r.hashes lru) lock (lock_number shape lock) e hold.cpu at.holder_is
     (ap is_bucket (named_by_number shape lock is)) bucket (let known = bucket_noted e hold.cpu bucket v.hashes (hashed lru).0 in (kn.hashes e hold.cpu known.0 (kn.within hold.cpu has) known.1).bucket_is ∙ known.2) was
     (λ m nb held.
@@ -271,7 +292,7 @@ detaches_step shape slots pass me e bucket hold there found inside s r wide at_p
     let kept : List HashIn = kept_hashes hand v.hashes in
     owner_step shape s r pass v at_pass lock hold found e (owners.Hand hold.cpu) (with_in_hand e hold.cpu v.hand) v.notes (cond (is_lru v.shape.kind) (new ∷ kept_hashes (with_in_hand e hold.cpu v.hand) v.hashes) (kept_hashes (with_in_hand e hold.cpu v.hand) v.hashes)) me.1 can.real (subst (IsOwnerOfPass w.pass_of_cpu pass) (sym was) tt) at.mine
     (comes_to_hand is_hand_of shape.cpus pass e hold.cpu w.pass_of_cpu w.core.owner (put w.core.owner e (owners.Hand hold.cpu)) v.hand (λ x. put_else w.core.owner e (owners.Hand hold.cpu) x) kn.hands
-    at.mine (λ c. ap (is_hand_of c) was) (λ c. ap (is_hand_of c) (put_here w.core.owner e (owners.Hand hold.cpu)))) kn.noted
+    at.mine (λ c. ap (is_hand_of c) was) (λ c. ap (is_hand_of c) (put_here w.core.owner e (owners.Hand hold.cpu)))) kn.noted (λ m x before. before)
     (Detach hold.cpu e bucket) (λ l. without_row e l)
     (λ now. by_bool (is_lru shape.kind) (λ t. is_lru shape.kind ≡ t → AreHashes shape w w.core.home hand (cond (is_lru v.shape.kind) (new ∷ kept) kept) (with_now (lock_number shape lock) now v.held) v.notes)
     (λ lru _. subst (λ (t : Bool). AreHashes shape w w.core.home hand (cond t (new ∷ kept) kept) (with_now (lock_number shape lock) now v.held) v.notes) (sym (ap (λ z. is_lru z.kind) kn.shape_is ∙ lru)) (
@@ -294,7 +315,9 @@ detaches_step shape slots pass me e bucket hold there found inside s r wide at_p
     (λ plain _. subst (λ (t : Bool). AreHashes shape w w.core.home hand (cond t (new ∷ kept) kept) (with_now (lock_number shape lock) now v.held) v.notes) (sym (ap (λ z. is_lru z.kind) kn.shape_is ∙ plain)) (
       hashes_kept shape w pass v kn hand,
       (λ lru. true_false (sym lru ∙ plain)),
-    )) refl) can refl
+    )) refl)
+    (λ no_bucket. true_false (sym (ap is_bucket (named_by_number shape lock (let is : IsTrue (is_lock shape lock) = grind (arith, nat_tests) in is))) ∙ no_bucket))
+    can refl
     (λ lru. hashes_detached shape w.core.holder w.core.lists w.core.owner w.core.home r.placed.place r.placed.placed w.log w.hash (r.hashes lru) lock (lock_number shape lock) e hold.cpu at.holder_is (ap is_bucket (named_by_number shape lock (let is : IsTrue (is_lock shape lock) = grind (arith, nat_tests) in is))) bucket was)
 
 pub detaches : (shape : Shape) (slots pass : ℕ) (me : Seated) (e bucket c i code : ℕ) (hold : Hold) (view : ℕ → View) → i ≡ owner_word shape e → code ≡ 1 + c → hold.cpu ≡ c → ((at : ℕ) → view at ≡ views.detached at bucket e c me.0)

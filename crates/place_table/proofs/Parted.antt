@@ -15,13 +15,14 @@ use Rattle.place_table.specs.declared.content.Behind.{Behind}
 use Rattle.place_table.specs.declared.strands.FinishedStrand.{FinishedStrand}
 use Rattle.place_table.specs.declared.view.View.{View}
 use Rattle.place_table.specs.declared.view.Hold.{Hold}
-use Rattle.place_table.specs.Views.{is_among, is_in_hand_of, without_cpu, in_hand_of, in_other_hands, current_strand, all_strands, split_from, split_off, joined}
+use Rattle.place_table.specs.declared.view.InHand.{InHand}
+use Rattle.place_table.specs.Views.{is_among, is_in_hand_of, without_cpu, in_hand_of, in_other_hands, in_no_hand_of, current_strand, all_strands, split_from, split_off, joined}
 use Rattle.place_table.specs.Plays.{Seated}
-use Rattle.place_table.specs.Passes.{PassView, TableView, Carries, HasCpusOf, IsPass, IsPassOf, IsInNoCall, AreFinished, flags_of, spare_of, SparesDiffer, with_view, with_spares, CanSplit, Split, AreApart, CanJoin, either_spare, Joined}
-use Rattle.place_table.proofs.Worlds.{true_false, none_some, among_first}
+use Rattle.place_table.specs.Passes.{PassView, TableView, Carries, HasCpusOf, IsPass, IsPassOf, IsInNoCall, AreFinished, flags_of, spare_of, SparesDiffer, with_view, with_spares, CanSplit, Split, CanJoin, either_spare, Joined}
+use Rattle.place_table.proofs.Worlds.{true_false, by_bool, none_some, among_first}
 use Rattle.place_table.proofs.StrandMoves.{among_append}
 use Rattle.place_table.proofs.Splits.{among_without_same, among_without_other, others_same, others_other, own_same, own_other}
-use Rattle.place_table.proofs.Joins.{hand_append, in_either}
+use Rattle.place_table.proofs.Joins.{hand_append, in_either, in_others, in_no_others}
 
 -- a CPU of which what is left doesn't tell is another
 other_than : (c cpu : ℕ) (P : ℕ → Bool) → P cpu ≡ false → P c ≡ true → c ≢ cpu
@@ -158,9 +159,13 @@ split_few t p cpu v is of_table has v_is within =
 -- Two passes that were joined
 
 -- a spare that is kept after is kept in one of them
-kept_in_either : {P : Type 0} (first second after : Option Stored) (body : Stored) → after ≡ either_spare first second → after ≡ Some body → (first ≡ Some body → P) → (second ≡ Some body → P) → P
-kept_in_either None second after body is here f g = g (sym is ∙ here)
+kept_in_either : {P : Type 0} (first second after : Option Stored) (body : Stored) → after ≡ either_spare first second → after ≡ Some body → (first ≡ Some body → P) → (first ≡ None → second ≡ Some body → P) → P
+kept_in_either None second after body is here f g = g refl (sym is ∙ here)
 kept_in_either (Some x) second after body is here f g = f (sym is ∙ here)
+
+-- what a pass that was joined to another brings was in its hands
+in_theirs : (e c : ℕ) (cpus : List ℕ) (hand : List InHand) → is_in_hand_of e c (in_no_hand_of cpus hand) ≡ true → is_in_hand_of e c hand ≡ true
+in_theirs e c cpus hand in_hand = sym (in_others e c cpus hand (in_no_others e c cpus hand in_hand)) ∙ in_hand
 
 pub is_pass_joined : (v u : View) (slots others : List (ℕ × Behind)) (strand steps now : List StrandStep) (spares theirs all : List (Option Stored)) (flags more both : List Bool) (ended other_ended kept : Option (Vec FinishedStrand Global)) (after : Seated)
     → IsPass v slots strand spares flags ended → IsPass u others steps theirs more other_ended → v.held ≡ [] → u.shape ≡ v.shape → after ≡ (joined v u, slots) → now ≡ [] → both ≡ flags_of (v.cpus ++ u.cpus) → AreFinished (all_strands v ++ all_strands u) kept
@@ -173,15 +178,15 @@ is_pass_joined v u slots others strand steps now spares theirs all flags more bo
       ended_are = finished;
       spares_fit = λ c body here. kept_in_either (spare_of c spares) (spare_of c theirs) (spare_of c all) body (spares_are c) here
           (λ ours. pass.spares_fit c body ours)
-          (λ is. subst (λ (z : Shape). IsSized z body) same_shape (other.spares_fit c body is));
+          (λ _ is. subst (λ (z : Shape). IsSized z body) same_shape (other.spares_fit c body is));
       ended_within = All-append (HasCpusOf v.shape) (all_strands v) (all_strands u) (all_within v pass.ended_within pass.within)
           (subst (λ (z : Shape). All (HasCpusOf z) (all_strands u)) same_shape (all_within u other.ended_within other.within));
       within = λ c among. in_either (is_among c v.cpus) (is_among c u.cpus) (c < v.shape.cpus) (pass.within c) (λ is. subst (λ (z : Shape). c < z.cpus) same_shape (other.within c is)) (sym (among_append c v.cpus u.cpus) ∙ among);
       unread = refl;
-      hands_real = λ e c in_hand. in_either (is_in_hand_of e c v.hand) (is_in_hand_of e c u.hand) ((e < v.shape.elements) × (is_among c (v.cpus ++ u.cpus) ≡ true))
+      hands_real = λ e c in_hand. in_either (is_in_hand_of e c v.hand) (is_in_hand_of e c (in_no_hand_of v.cpus u.hand)) ((e < v.shape.elements) × (is_among c (v.cpus ++ u.cpus) ≡ true))
           (λ ours. let real = pass.hands_real e c ours in (real.0, among_append c v.cpus u.cpus ∙ ap (λ b. cond b true (is_among c u.cpus)) real.1))
-          (λ is. let real = other.hands_real e c is in (subst (λ (z : Shape). e < z.elements) same_shape real.0, among_append c v.cpus u.cpus ∙ either_true (is_among c v.cpus) (is_among c u.cpus) real.1))
-          (sym (hand_append e c v.hand u.hand) ∙ in_hand);
+          (λ is. let real = other.hands_real e c (in_theirs e c v.cpus u.hand is) in (subst (λ (z : Shape). e < z.elements) same_shape real.0, among_append c v.cpus u.cpus ∙ either_true (is_among c v.cpus) (is_among c u.cpus) real.1))
+          (sym (hand_append e c v.hand (in_no_hand_of v.cpus u.hand)) ∙ in_hand);
     }
   where
     either_true : (a b : Bool) → b ≡ true → cond a true b ≡ true
@@ -199,34 +204,52 @@ no_spare_here p cpu is own apart = go (spare_of cpu p.spares) refl
     go None here = refl
     go (Some body) here = true_false (sym (own body.element cpu (is.spares_in_hand cpu body here)) ∙ apart)
 
-module _ (before other : PassView) (all : List (Option Stored)) (is : IsInNoCall before) (other_is : IsInNoCall other) (own : HandsOwn before.view) (other_own : HandsOwn other.view) (apart : AreApart before.view.cpus other.view.cpus)
+module _ (before other : PassView) (all : List (Option Stored)) (is : IsInNoCall before) (other_is : IsInNoCall other) (own : HandsOwn before.view) (other_own : HandsOwn other.view) (same_shape : other.view.shape ≡ before.view.shape)
     (spares_are : (cpu : ℕ) → spare_of cpu all ≡ either_spare (spare_of cpu before.spares) (spare_of cpu other.spares)) where
-  -- the spare of a CPU of the pass is the one that it had, and that of a CPU of the other is the other's
+  abbrev HasOne : ℕ → Type 0
+  HasOne cpu = (body : Stored) × (spare_of cpu all ≡ Some body)
+
+  -- the spare of a CPU of the pass is the one that it had, and that of a CPU of the other alone is the other's
   ours : (cpu : ℕ) (body : Stored) → spare_of cpu before.spares ≡ Some body → spare_of cpu all ≡ Some body
   ours cpu body here = spares_are cpu ∙ ap (λ (o : Option Stored). either_spare o (spare_of cpu other.spares)) here
 
-  theirs : (cpu : ℕ) (body : Stored) → is_among cpu other.view.cpus ≡ true → spare_of cpu other.spares ≡ Some body → spare_of cpu all ≡ Some body
-  theirs cpu body among here =
-      spares_are cpu ∙ ap (λ (o : Option Stored). either_spare o (spare_of cpu other.spares)) (no_spare_here before cpu is own (not_ours (is_among cpu before.view.cpus) refl)) ∙ here
-    where
-      not_ours : (b : Bool) → is_among cpu before.view.cpus ≡ b → b ≡ false
-      not_ours false _ = refl
-      not_ours true mine = true_false (sym among ∙ apart cpu mine)
+  theirs : (cpu : ℕ) (body : Stored) → spare_of cpu before.spares ≡ None → spare_of cpu other.spares ≡ Some body → spare_of cpu all ≡ Some body
+  theirs cpu body none here = spares_are cpu ∙ ap (λ (o : Option Stored). either_spare o (spare_of cpu other.spares)) none ∙ here
 
-  joined_in_no_call : other.view.shape ≡ before.view.shape → IsInNoCall (with_spares (with_view before (joined before.view other.view)) all)
-  joined_in_no_call same_shape =
+  one_of_both : (cpu : ℕ) (body : Stored) → spare_of cpu other.spares ≡ Some body → HasOne cpu
+  one_of_both cpu body here = go (spare_of cpu before.spares) refl
+    where
+      go : (found : Option Stored) → spare_of cpu before.spares ≡ found → HasOne cpu
+      go None none = (body, theirs cpu body none here)
+      go (Some x) at = (x, ours cpu x at)
+
+  -- a CPU whose spare only the other keeps is none of the pass
+  not_ours : (cpu : ℕ) (body : Stored) → spare_of cpu before.spares ≡ None → spare_of cpu other.spares ≡ Some body → is_among cpu before.view.cpus ≡ false
+  not_ours cpu body none here =
+      let held = other_is.spares_in_hand cpu body here in
+      let kept = other_is.spares_only body.element cpu (other_own body.element cpu held) held in
+      by_bool (is_among cpu before.view.cpus) (λ b. is_among cpu before.view.cpus ≡ b → b ≡ false)
+      (λ _ mine. absurd (none_some (sym none ∙ (is.none_out (ap (λ (z : Shape). z.kind) (sym same_shape) ∙ kept.3) cpu mine).1)))
+      (λ _ _. refl) refl
+
+  joined_in_no_call : IsInNoCall (with_spares (with_view before (joined before.view other.view)) all)
+  joined_in_no_call =
       let v = before.view in let u = other.view in record {
         holds_nothing = refl;
-        spares_only = λ e cpu _ in_hand. in_either (is_in_hand_of e cpu v.hand) (is_in_hand_of e cpu u.hand) ((body : Stored) × (spare_of cpu all ≡ Some body) × (body.element ≡ e) × (v.shape.kind ≡ Hash))
+        spares_only = λ e cpu _ in_hand. in_either (is_in_hand_of e cpu v.hand) (is_in_hand_of e cpu (in_no_hand_of v.cpus u.hand)) ((body : Stored) × (spare_of cpu all ≡ Some body) × (body.element ≡ e) × (v.shape.kind ≡ Hash))
             (λ here. let kept = is.spares_only e cpu (own e cpu here) here in (kept.0, ours cpu kept.0 kept.1, kept.2, kept.3))
-            (λ here. let mine = other_own e cpu here in let kept = other_is.spares_only e cpu mine here in (kept.0, theirs cpu kept.0 mine kept.1, kept.2, ap (λ (z : Shape). z.kind) (sym same_shape) ∙ kept.3))
-            (sym (hand_append e cpu v.hand u.hand) ∙ in_hand);
-        spares_in_hand = λ cpu body here. hand_append body.element cpu v.hand u.hand ∙ kept_in_either (spare_of cpu before.spares) (spare_of cpu other.spares) (spare_of cpu all) body (spares_are cpu) here
-            (λ at. ap (λ b. cond b true (is_in_hand_of body.element cpu u.hand)) (is.spares_in_hand cpu body at))
-            (λ at. either_true (is_in_hand_of body.element cpu v.hand) (is_in_hand_of body.element cpu u.hand) (other_is.spares_in_hand cpu body at));
-        none_out = λ hash cpu among. in_either (is_among cpu v.cpus) (is_among cpu u.cpus) ((body : Stored) × (spare_of cpu all ≡ Some body))
+            (λ left.
+            let here = in_theirs e cpu v.cpus u.hand left in
+            let kept = other_is.spares_only e cpu (other_own e cpu here) here in
+            (kept.0, theirs cpu kept.0 (no_spare_here before cpu is own (in_no_others e cpu v.cpus u.hand left)) kept.1, kept.2, ap (λ (z : Shape). z.kind) (sym same_shape) ∙ kept.3))
+            (sym (hand_append e cpu v.hand (in_no_hand_of v.cpus u.hand)) ∙ in_hand);
+        spares_in_hand = λ cpu body here. hand_append body.element cpu v.hand (in_no_hand_of v.cpus u.hand) ∙ kept_in_either (spare_of cpu before.spares) (spare_of cpu other.spares) (spare_of cpu all) body (spares_are cpu) here
+            (λ at. ap (λ b. cond b true (is_in_hand_of body.element cpu (in_no_hand_of v.cpus u.hand))) (is.spares_in_hand cpu body at))
+            (λ none at. either_true (is_in_hand_of body.element cpu v.hand) (is_in_hand_of body.element cpu (in_no_hand_of v.cpus u.hand))
+            (in_others body.element cpu v.cpus u.hand (not_ours cpu body none at) ∙ other_is.spares_in_hand cpu body at));
+        none_out = λ hash cpu among. in_either (is_among cpu v.cpus) (is_among cpu u.cpus) (HasOne cpu)
             (λ mine. let kept = is.none_out hash cpu mine in (kept.0, ours cpu kept.0 kept.1))
-            (λ mine. let kept = other_is.none_out (ap (λ (z : Shape). z.kind) same_shape ∙ hash) cpu mine in (kept.0, theirs cpu kept.0 mine kept.1))
+            (λ mine. let kept = other_is.none_out (ap (λ (z : Shape). z.kind) same_shape ∙ hash) cpu mine in one_of_both cpu kept.0 kept.1)
             (sym (among_append cpu v.cpus u.cpus) ∙ among);
         carries_nothing = (λ i. is.carries_nothing i ++ other_is.carries_nothing i);
       }
@@ -243,7 +266,7 @@ joined_is t before other table seat view all can own other_own table_is seat_is 
     (λ i. record { table = table_is i; seat = seat_is i; cpu = before.cpu; call = before.call; view = view_is i; spares = all }) in record {
       after_is = after_is;
       spares_are = spares_are;
-      in_no_call = λ apart. subst IsInNoCall (sym after_is) (joined_in_no_call before other all can.in_no_call can.other_in_no_call own other_own apart spares_are (can.other_of_table.1 ∙ sym can.of_table.1));
+      in_no_call = subst IsInNoCall (sym after_is) (joined_in_no_call before other all can.in_no_call can.other_in_no_call own other_own (can.other_of_table.1 ∙ sym can.of_table.1) spares_are);
     }
 
 -- the same of the passes as a caller sees them

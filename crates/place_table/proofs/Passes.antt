@@ -15,7 +15,8 @@ use Rattle.place_words.specs.declared.history.Entry.{Entry}
 use Rattle.place_words.specs.declared.history.Part.{Part}
 use Rattle.place_words.specs.declared.history.StrandStep.{StrandStep}
 use Rattle.place_words.specs.declared.owner.Owner.{Owner}
-use Rattle.place_words.specs.Codes.{owner_code, HasOwnerCode}
+use Rattle.place_words.specs.Codes.{owner_code, HasOwnerCode, home_code, HasHomeCode}
+use Rattle.place_words.specs.declared.home.Home.{Home}
 use Rattle.place_words.specs.Histories.{content, IsLegal}
 use Rattle.place_words.specs.Locks.{is_lock, lock_named, lock_number}
 use Rattle.place_words.specs.Takings.{set_of}
@@ -32,8 +33,8 @@ use Rattle.place_table.specs.declared.view.Notes.{Notes}
 use Rattle.place_table.specs.declared.view.BitSeen.{BitSeen}
 use Rattle.place_table.specs.Rules.{KeptAs}
 use Rattle.place_table.specs.Contents.{content_told, lists_of, FitsLock}
-use Rattle.place_table.specs.Flushes.{flushed_last}
-use Rattle.place_table.specs.Views.{is_among, is_in_hand_of, hold_at, known_log, home_known, holding, given, with_lost, losing, holds_below, noted, owner_read}
+use Rattle.place_table.specs.Flushes.{flushed_since}
+use Rattle.place_table.specs.Views.{is_among, is_in_hand_of, hold_at, known_log, home_known, holding, given, with_lost, losing, holds_below, noted, owner_read, home_read}
 use Rattle.place_table.specs.declared.view.Ticket.{Ticket}
 use Rattle.place_table.specs.declared.view.Ticket.TheVariants.{Unread, Drawn}
 use Rattle.place_table.specs.Views.{ticketed, ticket_of, number_by, next, numbered_entry, reached_by, refused_by}
@@ -41,10 +42,10 @@ use Rattle.place_table.specs.Tickets.{IsTaken}
 use Rattle.place_table.specs.Plays.{TakesTicket}
 use Rattle.place_table.proofs.TicketsTaken.{IsTicketed, put_unticketed, notes_unticketed, numbered_by}
 use Rattle.place_table.specs.Recording.{IsLost, RecordsIn, Records, recorded_step, last_from, last_in, entry_given, no_entry, history_with}
-use Rattle.place_table.specs.Plays.{Seated, Took, AreElements, IsApartFromHands, GivesBack, GivesSome, entry_by, IsKeptOrLost, MayPut, MayGive, OwnerFits, SeesOwner}
+use Rattle.place_table.specs.Plays.{Seated, Took, AreElements, IsApartFromHands, GivesBack, GivesSome, entry_by, IsKeptOrLost, MayPut, MayGive, OwnerFits, SeesOwner, HomeFits, SeesHome}
 use Rattle.place_table.specs.TurnNotes.{NotesFit, InnermostFits}
-use Rattle.place_table.specs.Passes.{PassView, TableView, Carries, HandsReal, IsPass, IsPassOf, with_view, without_content, entry_of, HasBegun, SparesDiffer, TookLock, CanGive, Gave, GaveSome, SawOwner, spare_of}
-use Rattle.place_table.proofs.CodeLemmas.{one_owner, has_owner_code}
+use Rattle.place_table.specs.Passes.{PassView, TableView, Carries, HandsReal, IsPass, IsPassOf, with_view, without_content, entry_of, HasBegun, SparesDiffer, TookLock, CanGive, Gave, GaveSome, SawOwner, SawHome, spare_of}
+use Rattle.place_table.proofs.CodeLemmas.{one_owner, one_home, has_owner_code}
 use Rattle.place_table.proofs.Worlds.{some_is}
 use Rattle.place_table.specs.declared.view.WordStep.{WordStep}
 use Rattle.place_table.specs.declared.view.HomeIn.{HomeIn}
@@ -102,10 +103,10 @@ takes_of t lock before after here k cpu old taken out b is begun mine real befor
       apart = subst (λ (v : View). IsApartFromHands v lock took.hold.now) old_is (subst (λ (d : DomainId). IsApartFromHands old.0 d took.hold.now) named (subst (λ (z : Shape). IsApartFromHands old.0 (lock_named z k) took.hold.now) shape_is took.apart));
       legal = subst (λ (d : DomainId). IsLegal t.shape d took.hold.log) named (subst (λ (z : Shape). IsLegal z (lock_named z k) took.hold.log) shape_is took.legal);
       known = λ log found. took.known log ((λ i. known_log (k_is i) ((old_is i).known)) ∙ found);
-      at_home = λ e c within found. took.at_home e c lock (subst (λ (z : Shape). c < z.cpus) (sym shape_is) within) (ap (λ (v : View). home_known e c v.readings) (sym view_is) ∙ found) (ap (λ (z : Shape). lock_number z lock) shape_is ∙ sym k_is);
-      moved_on = λ e c d within lock_is read none.
-          subst (λ (l : DomainId). flushed_last t.shape l e took.hold.log ≡ true) named (subst (λ (z : Shape). flushed_last z (lock_named z k) e took.hold.log ≡ true) shape_is
-          (took.moved_on e c d (subst (λ (z : Shape). c < z.cpus) (sym shape_is) within) (ap (λ (z : Shape). lock_named z k) shape_is ∙ (named ∙ lock_is)) (ap (λ (v : View). home_known e c v.readings) old_is ∙ read) none));
+      at_home = λ e c read within found read_is. took.at_home e c lock read (subst (λ (z : Shape). c < z.cpus) (sym shape_is) within) (ap (λ (v : View). home_known e c v.readings) (sym view_is) ∙ found) read_is (ap (λ (z : Shape). lock_number z lock) shape_is ∙ sym k_is);
+      moved_on = λ e c d read within lock_is found read_is none.
+          subst (λ (l : DomainId). flushed_since t.shape l read.turns e took.hold.log ≡ true) named (subst (λ (z : Shape). flushed_since z (lock_named z k) read.turns e took.hold.log ≡ true) shape_is
+          (took.moved_on e c d read (subst (λ (z : Shape). c < z.cpus) (sym shape_is) within) (ap (λ (z : Shape). lock_named z k) shape_is ∙ (named ∙ lock_is)) (ap (λ (v : View). home_known e c v.readings) old_is ∙ found) read_is none));
       alone = λ lru no_bucket j e other found nor_other inside.
           took.alone (ap (λ (z : Shape). is_lru z.kind) shape_is ∙ lru) (ap is_bucket (ap (λ (z : Shape). lock_named z k) shape_is ∙ named) ∙ no_bucket) j e other
           (ap (λ (v : View). hold_at j v.held) old_is ∙ found) (ap (λ (z : Shape). is_bucket (lock_named z j)) shape_is ∙ nor_other) inside;
@@ -374,6 +375,20 @@ saw_owner t e before after old new found owner is of_table old_is sees has code 
       fits = subst (λ (z : Shape × View × Owner). OwnerFits z.0 z.1 e z.2) (λ i. (shape_is i, old_is i, same i)) sees.fits;
       at = sees.at;
       after_is = after_is ∙ (ap (λ (z : Seated). with_view before z.0) sees.after_is ∙ (λ i. with_view before (owner_read sees.at e (same i) (old_is i))));
+    }
+
+-- and so for a home
+pub saw_home : (t : TableView) (e : ℕ) (before after : PassView) (old new : Seated) (found : ℕ) (home : Home) → IsPassOf t before → old.0 ≡ before.view → SeesHome e old found new → HasHomeCode home → home_code home ≡ found
+    → after ≡ with_view before new.0 → SawHome t e before after home
+saw_home t e before after old new found home of_table old_is sees has code after_is =
+    let shape_is : old.0.shape ≡ t.shape = ap (λ (v : View). v.shape) old_is ∙ of_table.1 in
+    let same : sees.home ≡ home = one_home sees.home home sees.has_code has (sym sees.found_is ∙ sym code) in
+    record {
+      has_code = has;
+      fits = subst (λ (z : Shape × View × Home). HomeFits z.0 z.1 e z.2) (λ i. (shape_is i, old_is i, same i)) sees.fits;
+      at = sees.at;
+      turns = sees.turns;
+      after_is = after_is ∙ (ap (λ (z : Seated). with_view before z.0) sees.after_is ∙ (λ i. with_view before (home_read sees.at sees.turns e (same i) (old_is i))));
     }
 
 -- the CPU of a pass is one of the sixteen at most that a map has

@@ -1,7 +1,7 @@
 -- Elements change places: what lies under locks that CPUs of a pass hold changes, and so may the owners and the homes of
 -- elements that no other pass has in hand.
-use Rattle.std.proofs.Common.{true, None, ◌≡◌, ℕ, ◌<◌, ◌≤◌, ◌⊎◌, ⊎_elim, eqb, List, length, get_or, set, sym, refl, ap, ◌∙◌, subst, arith, Option, Some, length-set, get_or-set_other, [], ◌∷◌, inl}
-use Rattle.std.specs.Prelude.{◌&&◌, IsTrue}
+use Rattle.std.proofs.Common.{true, None, ◌≡◌, ℕ, ◌<◌, ◌≤◌, ◌⊎◌, ⊎_elim, eqb, List, length, get_or, set, sym, refl, ap, ◌∙◌, subst, arith, Option, Some, length-set, get_or-set_other, [], ◌∷◌, inl, inr}
+use Rattle.std.specs.Prelude.{◌&&◌, IsTrue, IsFalse}
 use mathlib.Core.Option.{some}
 use lib.ListN.{get_elem?}
 use Rattle.atomic_table.specs.Table.{State, keeps, stepped}
@@ -13,10 +13,12 @@ use Rattle.place_words.specs.declared.home.Home.TheVariants as homed
 use Rattle.place_words.specs.declared.owner.Owner.{Owner}
 use Rattle.place_words.specs.declared.owner.Owner.TheVariants as owned
 use Rattle.place_words.specs.Codes.{owner_code, home_code}
-use Rattle.map_types.specs.ElementLists.{put}
-use Rattle.place_words.specs.Locks.{is_lock, lock_count, lock_number}
+use Rattle.map_types.specs.ElementLists.{put, IsIn}
+use Rattle.place_words.specs.Histories.{content}
+use Rattle.place_words.specs.Locks.{is_lock, lock_count, lock_number, lock_named}
 use Rattle.place_words.specs.declared.step.Lists.{Lists}
 use Rattle.place_words.specs.State as cores
+use Rattle.place_words.specs.State.{rows, is_bucket}
 use Rattle.place_words.specs.Places.{Placed}
 use Rattle.place_words.specs.Ranks.{Ranked}
 use Rattle.place_words.specs.Steps.{Holds}
@@ -30,9 +32,10 @@ use Rattle.place_table.specs.declared.view.Notes.{Notes}
 use Rattle.place_table.specs.Views.{hold_at, now_at, with_now, with_places, home_known, hash_known, kept_hashes, kept_readings, touching, is_among, is_in_hand_of, came_at}
 use Rattle.place_table.specs.Tickets.{Tickets, innermost}
 use Rattle.place_table.proofs.TicketLemmas.{tickets_stay}
-use Rattle.place_table.specs.Rules.{World, Rule, PassKnows, HashesRight, AtHome, Ascends, entries, hold, hold_of, is_hand_of, is_home_of, StillHome, IsReading, IsHashOf, IsHashed, AreNoted, logs_of}
+use Rattle.place_table.specs.Rules.{World, Rule, PassKnows, HashesRight, AreRowed, AtHome, Ascends, entries, hold, hold_of, is_hand_of, is_home_of, StillHome, IsReading, IsHashOf, IsHashed, AreNoted, logs_of}
 use Rattle.place_table.specs.Words.{owner_word, home_word, bit_word, ticket_word}
 use Rattle.map_types.specs.Kind.{is_lru}
+use Rattle.place_table.specs.StoredHashes.{stored_in}
 use Rattle.place_table.proofs.StoredHashes.{kept_known}
 use Rattle.place_table.proofs.Hands.{now_at_is, hold_at_now, hold_at_else, AreInHands, IsOwnerOfPass, IsHomeOfPass, not_their_owner, not_their_home}
 use Rattle.place_table.proofs.Worlds.{true_false, hold_of_mine, IsMineOrFree, hold_of_other, HoldIs, hold_of_is, others, IsAway, lock_still_lost, past_stays, tagged_stays, SameStrands}
@@ -42,6 +45,7 @@ use Rattle.place_table.proofs.StepLog.{made, time_more, givers_other, touches_wi
 use Rattle.place_table.specs.declared.view.WordStep.{WordStep}
 use Rattle.place_table.proofs.Locks.{there}
 use Rattle.place_table.proofs.NotesDone.{word_off, noted_more}
+use Rattle.place_table.proofs.Counted.{counted_more, reading_more}
 
 -- a CPU of the pass holds the lock
 pub record IsHeldByPass (w : World) (pass k : ℕ) : Type 0 where
@@ -92,11 +96,12 @@ pub record MovesPlaces (shape : Shape) (w : World) (pass : ℕ) (lists : ℕ →
   pub placed : Placed shape (core_moved w lists owner home)
   pub ranked : Ranked shape (core_moved w lists owner home)
   pub hashes : IsTrue (is_lru shape.kind) → HashesRight shape w.core.holder lists owner w.log w.hash
-  pub are_read : (e c : ℕ) (read : Home) → c < shape.cpus → home_known e c readings ≡ Some read → IsReading shape w.core.holder w.log home hand e c read
+  pub are_read : (e c : ℕ) (read : HomeIn) → c < shape.cpus → home_known e c readings ≡ Some read → IsReading shape w.core.holder w.log home w.touches hand e c read
   pub are_hashes : AreHashes shape w home hand noted held notes
+  pub are_rowed : IsTrue (is_lru shape.kind) → AreRowed shape w.hash held notes
   -- and what others have in hand, and what they read of it
   pub at_home : (e c : ℕ) (lock : DomainId) → e < shape.elements → w.core.owner e ≡ owned.Hand c → ¬ (w.pass_of_cpu c ≡ pass) → home e ≡ homed.In lock → (w.core.home e ≡ homed.In lock) ⊎ IsAway shape w.core.holder w.core.holder (w.core.home e) c lock
-  pub still : (e c : ℕ) (read : Home) → w.core.owner e ≡ owned.Hand c → ¬ (w.pass_of_cpu c ≡ pass) → StillHome shape w.core.holder w.log e (w.core.home e) read → StillHome shape w.core.holder w.log e (home e) read
+  pub still : (e c n : ℕ) (read : Home) → w.core.owner e ≡ owned.Hand c → ¬ (w.pass_of_cpu c ≡ pass) → StillHome shape w.core.holder w.log n e (w.core.home e) read → StillHome shape w.core.holder w.log n e (home e) read
 
 module _ (shape : Shape) (s : State Behind View) (r : Rule shape s) (pass : ℕ) (v : View) (at_pass : get_elem? s.views pass ≡ some v) (lists : ℕ → Lists) (owner : ℕ → Owner) (home : ℕ → Home) where
   moved_world : World → WordStep → World
@@ -165,7 +170,8 @@ module _ (shape : Shape) (s : State Behind View) (r : Rule shape s) (pass : ℕ)
                 carried = moves.are_carried;
                 hashes = moves.are_hashes.0;
                 hashed = moves.are_hashes.1;
-                readings = moves.are_read;
+                rowed = moves.are_rowed;
+                readings = λ e d read within found. reading_more shape w.core.holder w.log home w.touches (w.current pass, x) hand e d read (moves.are_read e d read within found);
                 known = kn.known;
                 bits = kn.bits;
                 only = kn.only;
@@ -197,22 +203,42 @@ module _ (shape : Shape) (s : State Behind View) (r : Rule shape s) (pass : ℕ)
               ku.bits
               (λ _ _ _ _. refl)
               (λ e c lock e_real in_hand theirs at. moves.at_home e c lock e_real in_hand (λ ours. t.0 (sym theirs ∙ ours)) at)
+              (λ _ _ _ _ _ _. refl)
               (λ tag own. other_same shape w pass v kn x j tag t.0 own)
-              (λ e c read _ in_hand theirs still. moves.still e c read in_hand (λ ours. t.0 (sym theirs ∙ ours)) still))
+              (λ read. counted_more shape w.touches (w.current pass, x) read.at read.turns read.home)
+              (λ e c read _ in_hand theirs _ still. moves.still e c read.turns read.home in_hand (λ ours. t.0 (sym theirs ∙ ours)) still))
               (at_set s.views pass j nv u f);
         },
         refl,
       )
 
 -- readings of what is still in hand, where no home changes
-pub readings_kept : (shape : Shape) (w : World) (pass : ℕ) (v : View) (kn : PassKnows shape w pass v) (hand : List InHand) → (e c : ℕ) (read : Home) → c < shape.cpus → home_known e c (kept_readings hand v.readings) ≡ Some read → IsReading shape w.core.holder w.log w.core.home hand e c read
+pub readings_kept : (shape : Shape) (w : World) (pass : ℕ) (v : View) (kn : PassKnows shape w pass v) (hand : List InHand) → (e c : ℕ) (read : HomeIn) → c < shape.cpus → home_known e c (kept_readings hand v.readings) ≡ Some read → IsReading shape w.core.holder w.log w.core.home w.touches hand e c read
 readings_kept shape w pass v kn hand e c read within found =
-    let k = kept_home e c read hand v.readings found in let was = kn.readings e c read within k.0 in record { real = was.real; in_hand = k.1; still = was.still }
+    let k = kept_home e c read hand v.readings found in let was = kn.readings e c read within k.0 in record { real = was.real; in_hand = k.1; counted = was.counted; still = was.still }
 
 -- hashes of what is still in hand
 pub hashes_kept : (shape : Shape) (w : World) (pass : ℕ) (v : View) (kn : PassKnows shape w pass v) (hand : List InHand) → (e c : ℕ) (noted : HashIn) → c < shape.cpus → hash_known e c (kept_hashes hand v.hashes) ≡ Some noted → IsHashOf shape w.hash hand e c noted.bucket
 hashes_kept shape w pass v kn hand e c noted within found =
     let k = kept_known e c noted hand v.hashes found in record { in_hand = k.1; bucket_is = (kn.hashes e c noted within k.0).bucket_is }
+
+-- what is listed under the locks that are held has its row or came, where it was listed there before or came now
+pub rowed_moved : (shape : Shape) (w : World) (pass : ℕ) (v : View) → PassKnows shape w pass v → IsTrue (is_lru shape.kind) → (lists : ℕ → Lists) (held : List Hold) (notes : List Notes) → AreHeld w pass lists held
+    → ((m e : ℕ) → is_among e (came_at m v.held v.notes) ≡ true → is_among e (came_at m held notes) ≡ true)
+    → ((m e : ℕ) → IsHeldByPass w pass m → IsFalse (is_bucket (lock_named shape m)) → IsIn e (rows (lists m)) → IsIn e (rows (w.core.lists m)) ⊎ (is_among e (came_at m held notes) ≡ true))
+    → AreRowed shape w.hash held notes
+rowed_moved shape w pass v kn lru lists held notes are more come k e found_hold found no_bucket inside =
+    let at = hold_of_is w.pass_of_cpu pass k (w.core.holder k) (w.log k) (lists k) (w.lost k) found_hold (sym (are k) ∙ found) in
+    let by_pass : IsHeldByPass w pass k = record { cpu = found_hold.cpu; holder_is = at.holder_is; mine = at.mine } in
+    let there : IsIn e (rows (lists k)) = subst (λ (z : Hold). IsIn e (rows z.now)) at.hold_is inside in
+    let before : hold_at k v.held ≡ Some (hold k found_hold.cpu (w.log k) (w.core.lists k) (w.lost k)) = kn.held k ∙ hold_there w pass k (w.core.lists k) by_pass in
+    ⊎_elim
+    (λ (listed : IsIn e (rows (w.core.lists k))). ⊎_elim
+    (λ (had : stored_in (content shape (lock_named shape k) (entries (w.log k))) e ≡ Some (w.hash e)). inl (ap (λ (z : Hold). stored_in (content shape (lock_named shape k) z.log) e) at.hold_is ∙ had))
+    (λ (was : is_among e (came_at k v.held v.notes) ≡ true). inr (more k e was))
+    (kn.rowed lru k e (hold k found_hold.cpu (w.log k) (w.core.lists k) (w.lost k)) before no_bucket listed))
+    (λ (now : is_among e (came_at k held notes) ≡ true). inr now)
+    (come k e by_pass no_bucket there)
 
 -- a lock that the pass knows to be held
 module _ (shape : Shape) (s : State Behind View) (r : Rule shape s) (pass : ℕ) (v : View) (at_pass : get_elem? s.views pass ≡ some v) (k : ℕ) (h : Hold) (found : hold_at k v.held ≡ Some h) where

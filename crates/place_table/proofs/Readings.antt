@@ -1,5 +1,5 @@
 -- Homes that were read, as locks are taken and given back and as elements go home elsewhere.
-use Rattle.std.proofs.Common.{◌≡◌, ◌≢◌, ℕ, ◌<◌, ◌⊎◌, inl, inr, ⊎_elim, eqb, cond, Bool, true, false, List, [], ◌∷◌, ◌++◌, sym, refl, ap, ◌∙◌, subst, arith, Option, Some, None}
+use Rattle.std.proofs.Common.{◌≡◌, ◌≢◌, ℕ, zero, suc, ◌<◌, ◌≤◌, length, ◌⊎◌, inl, inr, ⊎_elim, eqb, cond, Bool, true, false, List, [], ◌∷◌, ◌++◌, sym, refl, ap, ◌∙◌, subst, arith, Option, Some, None}
 use Rattle.std.specs.Prelude.{◌&&◌, not, IsTrue, nat_lt}
 use Rattle.std.proofs.lemmas.Bool.{and_parts, eqb-true}
 use Rattle.map_types.specs.declared.attr.Shape.{Shape}
@@ -33,7 +33,7 @@ use Rattle.place_table.specs.declared.view.InHand.{InHand}
 use Rattle.place_table.specs.declared.view.HomeIn.{HomeIn}
 use Rattle.place_table.specs.Contents.{content_told, lists_of, FitsLock}
 use Rattle.place_table.specs.StoredHashes.{stored_in}
-use Rattle.place_table.specs.Flushes.{flushes, flushed_then, flushed_from, flushed_last}
+use Rattle.place_table.specs.Flushes.{flushes, flushed_then, flushed_from, flushed_behind, flushed_since}
 use Rattle.place_table.specs.Views.{is_in_hand_of, home_known, kept_readings, without_readings, with_reading, home_then, readings_then}
 use Rattle.place_table.specs.Rules.{Tagged, entries, HashesRight, IsFresh, WasFlushed, StillHome, is_home_of, HasRow, IsBrought}
 use Rattle.place_table.proofs.StoredHashes.{stored_listed, in_all, lies_on}
@@ -46,64 +46,84 @@ pub or_there : (a b : Bool) → b ≡ true → cond a true b ≡ true
 or_there true b is = refl
 or_there false b is = is
 
-pub kept_home : (e c : ℕ) (read : Home) (hand : List InHand) (readings : List HomeIn) → home_known e c (kept_readings hand readings) ≡ Some read → (home_known e c readings ≡ Some read) × (is_in_hand_of e c hand ≡ true)
+pub kept_home : (e c : ℕ) (read : HomeIn) (hand : List InHand) (readings : List HomeIn) → home_known e c (kept_readings hand readings) ≡ Some read → (home_known e c readings ≡ Some read) × (is_in_hand_of e c hand ≡ true)
 kept_home e c read hand [] is = absurd (none_some is)
 kept_home e c read hand (x ∷ xs) is =
     by_bool (is_in_hand_of x.element x.cpu hand) (λ t. home_known e c (cond t (x ∷ kept_readings hand xs) (kept_readings hand xs)) ≡ Some read → (home_known e c (x ∷ xs) ≡ Some read) × (is_in_hand_of e c hand ≡ true))
-    (λ there f. by_bool (eqb x.element e && eqb x.cpu c) (λ t. cond t (Some x.home) (home_known e c (kept_readings hand xs)) ≡ Some read → (cond t (Some x.home) (home_known e c xs) ≡ Some read) × (is_in_hand_of e c hand ≡ true))
+    (λ there f. by_bool (eqb x.element e && eqb x.cpu c) (λ t. cond t (Some x) (home_known e c (kept_readings hand xs)) ≡ Some read → (cond t (Some x) (home_known e c xs) ≡ Some read) × (is_in_hand_of e c hand ≡ true))
     (λ same g. (g, same_hand true same there)) (λ _ g. kept_home e c read hand xs g) f)
-    (λ gone f. by_bool (eqb x.element e && eqb x.cpu c) (λ t. (cond t (Some x.home) (home_known e c xs) ≡ Some read) × (is_in_hand_of e c hand ≡ true))
+    (λ gone f. by_bool (eqb x.element e && eqb x.cpu c) (λ t. (cond t (Some x) (home_known e c xs) ≡ Some read) × (is_in_hand_of e c hand ≡ true))
     (λ same. true_false (sym (kept_home e c read hand xs f).1 ∙ same_hand false same gone))
     (λ _. kept_home e c read hand xs f)) is
   where
     same_hand : (b : Bool) → (eqb x.element e && eqb x.cpu c) ≡ true → is_in_hand_of x.element x.cpu hand ≡ b → is_in_hand_of e c hand ≡ b
     same_hand b same there = let both = both_true _ _ same in ((λ i. is_in_hand_of (sym (eqb-true x.element e both.0) i) (sym (eqb-true x.cpu c both.1) i) hand)) ∙ there
 
-pub append_home : (e c : ℕ) (read : Home) (xs ys : List HomeIn) → home_known e c (xs ++ ys) ≡ Some read → (home_known e c xs ≡ Some read) ⊎ (home_known e c ys ≡ Some read)
+pub append_home : (e c : ℕ) (read : HomeIn) (xs ys : List HomeIn) → home_known e c (xs ++ ys) ≡ Some read → (home_known e c xs ≡ Some read) ⊎ (home_known e c ys ≡ Some read)
 append_home e c read [] ys found = inr found
 append_home e c read (x ∷ xs) ys found =
-    by_bool (eqb x.element e && eqb x.cpu c) (λ t. cond t (Some x.home) (home_known e c (xs ++ ys)) ≡ Some read → (cond t (Some x.home) (home_known e c xs) ≡ Some read) ⊎ (home_known e c ys ≡ Some read))
+    by_bool (eqb x.element e && eqb x.cpu c) (λ t. cond t (Some x) (home_known e c (xs ++ ys)) ≡ Some read → (cond t (Some x) (home_known e c xs) ≡ Some read) ⊎ (home_known e c ys ≡ Some read))
     (λ _ f. inl f) (λ _ f. append_home e c read xs ys f) found
 
-pub without_home : (x c : ℕ) (read : Home) (e : ℕ) (readings : List HomeIn) → home_known x c (without_readings e readings) ≡ Some read → (x ≢ e) × (home_known x c readings ≡ Some read)
+pub without_home : (x c : ℕ) (read : HomeIn) (e : ℕ) (readings : List HomeIn) → home_known x c (without_readings e readings) ≡ Some read → (x ≢ e) × (home_known x c readings ≡ Some read)
 without_home x c read e [] is = absurd (none_some is)
 without_home x c read e (y ∷ ys) is =
     by_test y.element e (λ b. home_known x c (cond b (without_readings e ys) (y ∷ without_readings e ys)) ≡ Some read → (x ≢ e) × (home_known x c (y ∷ ys) ≡ Some read))
     (λ same f. let later = without_home x c read e ys f in (
       later.0,
-      by_bool (eqb y.element x && eqb y.cpu c) (λ t. cond t (Some y.home) (home_known x c ys) ≡ Some read) (λ hit. absurd (later.0 (sym (eqb-true y.element x (both_true _ _ hit).0) ∙ same))) (λ _. later.1),
+      by_bool (eqb y.element x && eqb y.cpu c) (λ t. cond t (Some y) (home_known x c ys) ≡ Some read) (λ hit. absurd (later.0 (sym (eqb-true y.element x (both_true _ _ hit).0) ∙ same))) (λ _. later.1),
     ))
-    (λ other f. by_bool (eqb y.element x && eqb y.cpu c) (λ t. cond t (Some y.home) (home_known x c (without_readings e ys)) ≡ Some read → (x ≢ e) × (cond t (Some y.home) (home_known x c ys) ≡ Some read))
+    (λ other f. by_bool (eqb y.element x && eqb y.cpu c) (λ t. cond t (Some y) (home_known x c (without_readings e ys)) ≡ Some read → (x ≢ e) × (cond t (Some y) (home_known x c ys) ≡ Some read))
     (λ hit g. ((λ is_e. other (eqb-true y.element x (both_true _ _ hit).0 ∙ is_e)), g))
     (λ _ g. without_home x c read e ys g) f) is
 
 -- a reading that was made just now, or an older one
-pub record IsNew (x c e : ℕ) (home read : Home) (hand : List InHand) : Type 0 where
+pub record IsNew (at turns x c e : ℕ) (home : Home) (read : HomeIn) (hand : List InHand) : Type 0 where
   pub same : x ≡ e
   pub in_hand : is_in_hand_of e c hand ≡ true
-  pub is : home ≡ read
+  pub home_is : home ≡ read.home
+  pub at_is : at ≡ read.at
+  pub turns_are : turns ≡ read.turns
 
-pub read_home_known : (x c e : ℕ) (home read : Home) (hand : List InHand) (readings : List HomeIn) → home_known x c (with_reading e home hand readings) ≡ Some read → IsNew x c e home read hand ⊎ (home_known x c readings ≡ Some read)
-read_home_known x c e home read [] readings found = inr found
-read_home_known x c e home read (y ∷ ys) readings found =
-    by_test y.element e (λ b. home_known x c (cond b (record { element = e; cpu = y.cpu; home = home } ∷ with_reading e home ys readings) (with_reading e home ys readings)) ≡ Some read → (b ≡ eqb y.element e) → IsNew x c e home read (y ∷ ys) ⊎ (home_known x c readings ≡ Some read))
-    (λ _ f hand_is. by_bool (eqb e x && eqb y.cpu c) (λ t. cond t (Some home) (home_known x c (with_reading e home ys readings)) ≡ Some read → IsNew x c e home read (y ∷ ys) ⊎ (home_known x c readings ≡ Some read))
+pub read_home_known : (at turns x c e : ℕ) (home : Home) (read : HomeIn) (hand : List InHand) (readings : List HomeIn) → home_known x c (with_reading at turns e home hand readings) ≡ Some read → IsNew at turns x c e home read hand ⊎ (home_known x c readings ≡ Some read)
+read_home_known at turns x c e home read [] readings found = inr found
+read_home_known at turns x c e home read (y ∷ ys) readings found =
+    by_test y.element e (λ b. home_known x c (cond b (record { element = e; cpu = y.cpu; home = home; at = at; turns = turns } ∷ with_reading at turns e home ys readings) (with_reading at turns e home ys readings)) ≡ Some read → (b ≡ eqb y.element e) → IsNew at turns x c e home read (y ∷ ys) ⊎ (home_known x c readings ≡ Some read))
+    (λ _ f hand_is. by_bool (eqb e x && eqb y.cpu c) (λ t. cond t (Some (record { element = e; cpu = y.cpu; home = home; at = at; turns = turns })) (home_known x c (with_reading at turns e home ys readings)) ≡ Some read → IsNew at turns x c e home read (y ∷ ys) ⊎ (home_known x c readings ≡ Some read))
     (λ hit g. inl record {
       same = sym (eqb-true e x (both_true _ _ hit).0);
       in_hand = (λ i. cond (sym hand_is i && (both_true (eqb e x) (eqb y.cpu c) hit).1 i) true (is_in_hand_of e c ys));
-      is = some_is g;
+      home_is = ap (λ (z : HomeIn). z.home) (some_is g);
+      at_is = ap (λ (z : HomeIn). z.at) (some_is g);
+      turns_are = ap (λ (z : HomeIn). z.turns) (some_is g);
     })
-    (λ _ g. later (read_home_known x c e home read ys readings g)) f)
-    (λ _ f _. later (read_home_known x c e home read ys readings f)) found (refl_of (eqb y.element e))
+    (λ _ g. later (read_home_known at turns x c e home read ys readings g)) f)
+    (λ _ f _. later (read_home_known at turns x c e home read ys readings f)) found (refl_of (eqb y.element e))
   where
     refl_of : (b : Bool) → b ≡ b
     refl_of b = refl
 
-    later : IsNew x c e home read ys ⊎ (home_known x c readings ≡ Some read) → IsNew x c e home read (y ∷ ys) ⊎ (home_known x c readings ≡ Some read)
+    later : IsNew at turns x c e home read ys ⊎ (home_known x c readings ≡ Some read) → IsNew at turns x c e home read (y ∷ ys) ⊎ (home_known x c readings ≡ Some read)
     later before = ⊎_elim
-        (λ (new : IsNew x c e home read ys). inl record { same = new.same; in_hand = or_there (eqb y.element e && eqb y.cpu c) (is_in_hand_of e c ys) new.in_hand; is = new.is })
+        (λ (new : IsNew at turns x c e home read ys). inl record { same = new.same; in_hand = or_there (eqb y.element e && eqb y.cpu c) (is_in_hand_of e c ys) new.in_hand; home_is = new.home_is; at_is = new.at_is; turns_are = new.turns_are })
         (λ (old : home_known x c readings ≡ Some read). inr old)
         before
+
+-- a home that was read of what is in a CPU's hand is known of it
+pub reading_known : (at turns e c : ℕ) (home : Home) (hand : List InHand) (readings : List HomeIn) → is_in_hand_of e c hand ≡ true → home_known e c (with_reading at turns e home hand readings) ≡ Some (record { element = e; cpu = c; home = home; at = at; turns = turns })
+reading_known at turns e c home [] readings in_hand = true_false (sym in_hand)
+reading_known at turns e c home (x ∷ xs) readings in_hand =
+    by_test x.element e (λ b. cond (b && eqb x.cpu c) true (is_in_hand_of e c xs) ≡ true → home_known e c (cond b (read_by x.cpu ∷ with_reading at turns e home xs readings) (with_reading at turns e home xs readings)) ≡ Some (read_by c))
+    (λ _ here. by_test e e (λ z. home_at (z && eqb x.cpu c) ≡ Some (read_by c))
+    (λ _. by_test x.cpu c (λ b. cond b true (is_in_hand_of e c xs) ≡ true → home_at b ≡ Some (read_by c)) (λ same _. ap (λ (d : ℕ). Some (read_by d)) same) (λ _ later. reading_known at turns e c home xs readings later) here)
+    (λ other. absurd (other refl)))
+    (λ _ later. reading_known at turns e c home xs readings later) in_hand
+  where
+    read_by : ℕ → HomeIn
+    read_by d = record { element = e; cpu = d; home = home; at = at; turns = turns }
+
+    home_at : Bool → Option HomeIn
+    home_at b = cond b (Some (read_by x.cpu)) (home_known e c (with_reading at turns e home xs readings))
 
 pub home_is_hand : (c : ℕ) (home : Home) → is_home_of c home ≡ true → home ≡ homes.Hand c
 home_is_hand c homes.Unlisted is = absurd cc
@@ -112,49 +132,49 @@ home_is_hand c (homes.Hand d) is = ap homes.Hand (eqb-true d c is)
 
 -- What a reading still says
 
-pub still_is : (shape : Shape) (holder : ℕ → Option ℕ) (log : ℕ → List Tagged) (e : ℕ) (now read : Home) → now ≡ read → StillHome shape holder log e now read
-still_is shape holder log e now homes.Unlisted is = is
-still_is shape holder log e now (homes.In (Local c)) is = inl is
-still_is shape holder log e now (homes.In Global) is = is
-still_is shape holder log e now (homes.In (CpuLru c)) is = is
-still_is shape holder log e now (homes.In (Bucket b)) is = is
-still_is shape holder log e now (homes.In (Freelist c)) is = is
-still_is shape holder log e now (homes.Hand c) is = is
+pub still_is : (shape : Shape) (holder : ℕ → Option ℕ) (log : ℕ → List Tagged) (n e : ℕ) (now read : Home) → now ≡ read → StillHome shape holder log n e now read
+still_is shape holder log n e now homes.Unlisted is = is
+still_is shape holder log n e now (homes.In (Local c)) is = inl is
+still_is shape holder log n e now (homes.In Global) is = is
+still_is shape holder log n e now (homes.In (CpuLru c)) is = is
+still_is shape holder log n e now (homes.In (Bucket b)) is = is
+still_is shape holder log n e now (homes.In (Freelist c)) is = is
+still_is shape holder log n e now (homes.Hand c) is = is
 
 -- a reading is told apart: it is the home, or it is of a local lock
-pub record IsGone (shape : Shape) (holder : ℕ → Option ℕ) (log : ℕ → List Tagged) (e : ℕ) (now read : Home) : Type 0 where
+pub record IsGone (shape : Shape) (holder : ℕ → Option ℕ) (log : ℕ → List Tagged) (n e : ℕ) (now read : Home) : Type 0 where
   pub cpu : ℕ
   pub read_is : read ≡ homes.In (Local cpu)
   pub now_is : now ≡ homes.In Global
   pub there : IsTrue (is_lock shape (Local cpu))
-  pub was : WasFlushed shape holder log (lock_number shape (Local cpu)) e
+  pub was : WasFlushed shape holder log (lock_number shape (Local cpu)) n e
 
-pub still_parts : (shape : Shape) (holder : ℕ → Option ℕ) (log : ℕ → List Tagged) (e : ℕ) (now read : Home) → StillHome shape holder log e now read → (now ≡ read) ⊎ IsGone shape holder log e now read
-still_parts shape holder log e now homes.Unlisted is = inl is
-still_parts shape holder log e now (homes.In (Local c)) is = ⊎_elim (λ same. inl same) (λ t. inr record { cpu = c; read_is = refl; now_is = t.0; there = t.1; was = t.2 }) is
-still_parts shape holder log e now (homes.In Global) is = inl is
-still_parts shape holder log e now (homes.In (CpuLru c)) is = inl is
-still_parts shape holder log e now (homes.In (Bucket b)) is = inl is
-still_parts shape holder log e now (homes.In (Freelist c)) is = inl is
-still_parts shape holder log e now (homes.Hand c) is = inl is
+pub still_parts : (shape : Shape) (holder : ℕ → Option ℕ) (log : ℕ → List Tagged) (n e : ℕ) (now read : Home) → StillHome shape holder log n e now read → (now ≡ read) ⊎ IsGone shape holder log n e now read
+still_parts shape holder log n e now homes.Unlisted is = inl is
+still_parts shape holder log n e now (homes.In (Local c)) is = ⊎_elim (λ same. inl same) (λ t. inr record { cpu = c; read_is = refl; now_is = t.0; there = t.1; was = t.2 }) is
+still_parts shape holder log n e now (homes.In Global) is = inl is
+still_parts shape holder log n e now (homes.In (CpuLru c)) is = inl is
+still_parts shape holder log n e now (homes.In (Bucket b)) is = inl is
+still_parts shape holder log n e now (homes.In (Freelist c)) is = inl is
+still_parts shape holder log n e now (homes.Hand c) is = inl is
 
-still_gone : (shape : Shape) (holder : ℕ → Option ℕ) (log : ℕ → List Tagged) (e : ℕ) (now read : Home) → IsGone shape holder log e now read → StillHome shape holder log e now read
-still_gone shape holder log e now read gone = subst (StillHome shape holder log e now) (sym gone.read_is) (inr (gone.now_is, gone.there, gone.was))
+still_gone : (shape : Shape) (holder : ℕ → Option ℕ) (log : ℕ → List Tagged) (n e : ℕ) (now read : Home) → IsGone shape holder log n e now read → StillHome shape holder log n e now read
+still_gone shape holder log n e now read gone = subst (StillHome shape holder log n e now) (sym gone.read_is) (inr (gone.now_is, gone.there, gone.was))
 
-was_same : (shape : Shape) (holder holder' : ℕ → Option ℕ) (log log' : ℕ → List Tagged) (m e : ℕ) → holder' m ≡ holder m → log' m ≡ log m → WasFlushed shape holder log m e → WasFlushed shape holder' log' m e
-was_same shape holder holder' log log' m e holds logs was =
+was_same : (shape : Shape) (holder holder' : ℕ → Option ℕ) (log log' : ℕ → List Tagged) (m n e : ℕ) → holder' m ≡ holder m → log' m ≡ log m → WasFlushed shape holder log m n e → WasFlushed shape holder' log' m n e
+was_same shape holder holder' log log' m n e holds logs was =
     ⊎_elim
     (λ (held : (cpu : ℕ) × (h : ℕ) × (holder m ≡ Some cpu) × (stored_in (content shape (lock_named shape m) (entries (log m))) e ≡ Some h)).
     inl (held.0, held.1, holds ∙ held.2, ap (λ (l : List Tagged). stored_in (content shape (lock_named shape m) (entries l)) e) logs ∙ held.3))
-    (λ (last : flushed_last shape (lock_named shape m) e (entries (log m)) ≡ true). inr (ap (λ (l : List Tagged). flushed_last shape (lock_named shape m) e (entries l)) logs ∙ last))
+    (λ (last : flushed_since shape (lock_named shape m) n e (entries (log m)) ≡ true). inr (ap (λ (l : List Tagged). flushed_since shape (lock_named shape m) n e (entries l)) logs ∙ last))
     was
 
 -- a lock is taken
-pub still_took : (shape : Shape) (holder : ℕ → Option ℕ) (log : ℕ → List Tagged) (k c e : ℕ) (now read : Home) → StillHome shape holder log e now read → StillHome shape (put holder k (Some c)) log e now read
-still_took shape holder log k c e now read still =
+pub still_took : (shape : Shape) (holder : ℕ → Option ℕ) (log : ℕ → List Tagged) (k c n e : ℕ) (now read : Home) → StillHome shape holder log n e now read → StillHome shape (put holder k (Some c)) log n e now read
+still_took shape holder log k c n e now read still =
     ⊎_elim
-    (λ (same : now ≡ read). still_is shape (put holder k (Some c)) log e now read same)
-    (λ (gone : IsGone shape holder log e now read). still_gone shape (put holder k (Some c)) log e now read record {
+    (λ (same : now ≡ read). still_is shape (put holder k (Some c)) log n e now read same)
+    (λ (gone : IsGone shape holder log n e now read). still_gone shape (put holder k (Some c)) log n e now read record {
       cpu = gone.cpu;
       read_is = gone.read_is;
       now_is = gone.now_is;
@@ -163,10 +183,10 @@ still_took shape holder log k c e now read still =
           (λ (held : (cpu : ℕ) × (h : ℕ) × (holder (lock_number shape (Local gone.cpu)) ≡ Some cpu) × (stored_in (content shape (lock_named shape (lock_number shape (Local gone.cpu))) (entries (log (lock_number shape (Local gone.cpu))))) e ≡ Some h)).
           inl (at_put holder k (Some c) (λ j ho. (holder j ≡ Some held.0) → (stored_in (content shape (lock_named shape j) (entries (log j))) e ≡ Some held.1) → (cpu : ℕ) × (h : ℕ) × (ho ≡ Some cpu) × (stored_in (content shape (lock_named shape j) (entries (log j))) e ≡ Some h)) (lock_number shape (Local gone.cpu))
           (λ _ st. (c, held.1, refl, st)) (λ _ at st. (held.0, held.1, at, st)) held.2 held.3))
-          (λ (last : flushed_last shape (lock_named shape (lock_number shape (Local gone.cpu))) e (entries (log (lock_number shape (Local gone.cpu)))) ≡ true). inr last)
+          (λ (last : flushed_since shape (lock_named shape (lock_number shape (Local gone.cpu))) n e (entries (log (lock_number shape (Local gone.cpu)))) ≡ true). inr last)
           gone.was;
     })
-    (still_parts shape holder log e now read still)
+    (still_parts shape holder log n e now read still)
 
 -- the flushes of a history with one turn more
 from_more : (shape : Shape) (e : ℕ) (was : Bool) (before : histories.Content) (es : List Entry) (entry : Entry)
@@ -176,9 +196,16 @@ from_more shape e was before [] entry = refl
 from_more shape e was before (x ∷ xs) entry =
     from_more shape e (flushed_then was (flushes e x.part) (stored_in before e) (stored_in (content_after shape x.cpu x.part before) e)) (content_after shape x.cpu x.part before) xs entry
 
-last_more : (shape : Shape) (lock : DomainId) (e : ℕ) (es : List Entry) (entry : Entry)
-    → flushed_last shape lock e (es ++ entry ∷ []) ≡ flushed_then (flushed_last shape lock e es) (flushes e entry.part) (stored_in (content shape lock es) e) (stored_in (content_after shape entry.cpu entry.part (content shape lock es)) e)
-last_more shape lock e es entry = from_more shape e false (opening_content shape lock) es entry
+behind_more : (shape : Shape) (n e : ℕ) (before : histories.Content) (es : List Entry) (entry : Entry) → n ≤ length es
+    → flushed_behind shape n e before (es ++ entry ∷ []) ≡ flushed_then (flushed_behind shape n e before es) (flushes e entry.part) (stored_in (replayed shape before es) e) (stored_in (content_after shape entry.cpu entry.part (replayed shape before es)) e)
+unfolding flushed_behind replayed
+behind_more shape zero e before es entry few = from_more shape e false before es entry
+behind_more shape (suc n) e before [] entry few = absurd (omega (arith, few))
+behind_more shape (suc n) e before (x ∷ xs) entry few = behind_more shape n e (content_after shape x.cpu x.part before) xs entry (omega (arith, few))
+
+since_more : (shape : Shape) (lock : DomainId) (n e : ℕ) (es : List Entry) (entry : Entry) → n ≤ length es
+    → flushed_since shape lock n e (es ++ entry ∷ []) ≡ flushed_then (flushed_since shape lock n e es) (flushes e entry.part) (stored_in (content shape lock es) e) (stored_in (content_after shape entry.cpu entry.part (content shape lock es)) e)
+since_more shape lock n e es entry few = behind_more shape n e (opening_content shape lock) es entry few
 
 local_apart : (c : ℕ) → homes.In (Local c) ≡ homes.In Global → ⊥
 local_apart c is = cc
@@ -210,13 +237,13 @@ module _ (shape : Shape) (holder : ℕ → Option ℕ) (lists : ℕ → Lists) (
       let lies_there = lies_on shape lists owner home place p k e (ap is_bucket named) inside in
       local_apart c (sym (p.homes e real ∙ (ap (home_of_place shape) lies_there ∙ (ap (λ (b : Bool). cond b (homes.In (lock_named shape k)) homes.Unlisted) lru ∙ ap homes.In named))) ∙ at)
 
-  flushed_now : (e c : ℕ) → e < shape.elements → lock_named shape k ≡ Local c → home e ≡ homes.In Global → WasFlushed shape holder log k e → flushed_last shape (lock_named shape k) e (entries l') ≡ true
-  flushed_now e c real named at was =
+  flushed_now : (n e c : ℕ) → n ≤ length (entries (log k)) → e < shape.elements → lock_named shape k ≡ Local c → home e ≡ homes.In Global → WasFlushed shape holder log k n e → flushed_since shape (lock_named shape k) n e (entries l') ≡ true
+  flushed_now n e c few real named at was =
       let es : List Entry = entries (log k) in
       let after_is : stored_in (content_after shape entry.cpu entry.part (content shape (lock_named shape k) es)) e ≡ stored_in (content_told (lock_named shape k) here) e =
       ap (λ z. stored_in z e) (sym (content_more shape (lock_named shape k) es entry) ∙ (ap (content shape (lock_named shape k)) (sym more) ∙ new_is)) in
-      ap (flushed_last shape (lock_named shape k) e) more ∙ (last_more shape (lock_named shape k) e es entry
-      ∙ (ap (flushed_then (flushed_last shape (lock_named shape k) e es) (flushes e entry.part) (stored_in (content shape (lock_named shape k) es) e)) (after_is ∙ none_after (stored_in (content_told (lock_named shape k) here) e) refl)
+      ap (flushed_since shape (lock_named shape k) n e) more ∙ (since_more shape (lock_named shape k) n e es entry few
+      ∙ (ap (flushed_then (flushed_since shape (lock_named shape k) n e es) (flushes e entry.part) (stored_in (content shape (lock_named shape k) es) e)) (after_is ∙ none_after (stored_in (content_told (lock_named shape k) here) e) refl)
       ∙ go (stored_in (content shape (lock_named shape k) es) e) refl))
     where
       none_after : (found : Option ℕ) → stored_in (content_told (lock_named shape k) here) e ≡ found → found ≡ None
@@ -228,7 +255,7 @@ module _ (shape : Shape) (holder : ℕ → Option ℕ) (lists : ℕ → Lists) (
       not_there : times e (all_of (lists k)) ≡ 0
       not_there = by_test (times e (all_of (lists k))) 0 (λ _. times e (all_of (lists k)) ≡ 0) (λ none. none) (λ some_there. absurd (away e c real named at (omega arith)))
 
-      go : (before : Option ℕ) → stored_in (content shape (lock_named shape k) (entries (log k))) e ≡ before → flushed_then (flushed_last shape (lock_named shape k) e (entries (log k))) (flushes e entry.part) before None ≡ true
+      go : (before : Option ℕ) → stored_in (content shape (lock_named shape k) (entries (log k))) e ≡ before → flushed_then (flushed_since shape (lock_named shape k) n e (entries (log k))) (flushes e entry.part) before None ≡ true
       go (Some h) is =
           let lru = evicts_there shape (place e) (is_lru shape.kind) refl (sym (p.homes e real) ∙ at) in
           ⊎_elim
@@ -238,27 +265,27 @@ module _ (shape : Shape) (holder : ℕ → Option ℕ) (lists : ℕ → Lists) (
       go None is =
           ⊎_elim
           (λ (held : (cpu : ℕ) × (h : ℕ) × (holder k ≡ Some cpu) × (stored_in (content shape (lock_named shape k) (entries (log k))) e ≡ Some h)). absurd (none_some (sym is ∙ held.3)))
-          (λ (last : flushed_last shape (lock_named shape k) e (entries (log k)) ≡ true). last)
+          (λ (last : flushed_since shape (lock_named shape k) n e (entries (log k)) ≡ true). last)
           was
 
-  pub still_gave : (e : ℕ) (read : Home) → e < shape.elements → StillHome shape holder log e (home e) read → StillHome shape (put holder k None) (put log k l') e (home e) read
-  still_gave e read real still =
+  pub still_gave : (n e : ℕ) (read : Home) → ((c : ℕ) → read ≡ homes.In (Local c) → lock_number shape (Local c) ≡ k → n ≤ length (entries (log k))) → e < shape.elements → StillHome shape holder log n e (home e) read → StillHome shape (put holder k None) (put log k l') n e (home e) read
+  still_gave n e read within real still =
       ⊎_elim
-      (λ (same : home e ≡ read). still_is shape (put holder k None) (put log k l') e (home e) read same)
-      (λ (g : IsGone shape holder log e (home e) read). still_gone shape (put holder k None) (put log k l') e (home e) read record {
+      (λ (same : home e ≡ read). still_is shape (put holder k None) (put log k l') n e (home e) read same)
+      (λ (g : IsGone shape holder log n e (home e) read). still_gone shape (put holder k None) (put log k l') n e (home e) read record {
         cpu = g.cpu;
         read_is = g.read_is;
         now_is = g.now_is;
         there = g.there;
         was =
             let m : ℕ = lock_number shape (Local g.cpu) in
-            by_test m k (λ _. WasFlushed shape (put holder k None) (put log k l') m e)
-            (λ same. subst (λ (z : ℕ). WasFlushed shape (put holder k None) (put log k l') z e) (sym same)
-            (inr (ap (λ (l : List Tagged). flushed_last shape (lock_named shape k) e (entries l)) (put_here log k l')
-            ∙ flushed_now e g.cpu real (ap (lock_named shape) (sym same) ∙ named_by_number shape (Local g.cpu) g.there) g.now_is (subst (λ (z : ℕ). WasFlushed shape holder log z e) same g.was))))
-            (λ other. was_same shape holder (put holder k None) log (put log k l') m e (put_else holder k None m other) (put_else log k l' m other) g.was);
+            by_test m k (λ _. WasFlushed shape (put holder k None) (put log k l') m n e)
+            (λ same. subst (λ (z : ℕ). WasFlushed shape (put holder k None) (put log k l') z n e) (sym same)
+            (inr (ap (λ (l : List Tagged). flushed_since shape (lock_named shape k) n e (entries l)) (put_here log k l')
+            ∙ flushed_now n e g.cpu (within g.cpu g.read_is same) real (ap (lock_named shape) (sym same) ∙ named_by_number shape (Local g.cpu) g.there) g.now_is (subst (λ (z : ℕ). WasFlushed shape holder log z n e) same g.was))))
+            (λ other. was_same shape holder (put holder k None) log (put log k l') m n e (put_else holder k None m other) (put_else log k l' m other) g.was);
       })
-      (still_parts shape holder log e (home e) read still)
+      (still_parts shape holder log n e (home e) read still)
 
 none_lower : (lock : DomainId) → rank_of lock < 1 → ⊥
 none_lower (Local c) low = omega arith
@@ -290,8 +317,8 @@ module _ (shape : Shape) (core : cores.State) (placed : Placed shape core) (log 
       go (carried c) is = absurd (no_hand c (sym (ap (home_of_place shape) is ∙ ap (λ (b : Bool). cond b (homes.Hand c) homes.Unlisted) lru) ∙ is_home))
 
   -- what a flush leaves of a reading of the local lock that it was flushed from
-  flushed_from_it : (c d : ℕ) → core.owner e ≡ owners.Hand c → c ≢ by → core.home e ≡ homes.In (Local d) → IsTrue (is_lock shape (Local d)) × WasFlushed shape core.holder log (lock_number shape (Local d)) e
-  flushed_from_it c d in_hand other at =
+  flushed_from_it : (n c d : ℕ) → core.owner e ≡ owners.Hand c → c ≢ by → core.home e ≡ homes.In (Local d) → IsTrue (is_lock shape (Local d)) × WasFlushed shape core.holder log (lock_number shape (Local d)) n e
+  flushed_from_it n c d in_hand other at =
       let k : ℕ = lock_number shape (Local d) in
       let holds : Holds shape core by (Local d) = subst (MayLeave shape core by) at can.from_there in
       let named : lock_named shape k ≡ Local d = named_by_number shape (Local d) holds.is_lock in
@@ -316,13 +343,13 @@ module _ (shape : Shape) (core : cores.State) (placed : Placed shape core) (log 
       same_hand : (a b : ℕ) → owners.Hand a ≡ owners.Hand b → a ≡ b
       same_hand a b is = cc
 
-  pub still_flushed : (c : ℕ) (read : Home) → core.owner e ≡ owners.Hand c → c ≢ by → StillHome shape core.holder log e (core.home e) read → StillHome shape core.holder log e to read
-  still_flushed c read in_hand other still = to_global to can.to_there
+  pub still_flushed : (n c : ℕ) (read : Home) → core.owner e ≡ owners.Hand c → c ≢ by → StillHome shape core.holder log n e (core.home e) read → StillHome shape core.holder log n e to read
+  still_flushed n c read in_hand other still = to_global to can.to_there
     where
-      left : (now : Home) → core.home e ≡ now → now ≡ read → StillHome shape core.holder log e (homes.In Global) read
+      left : (now : Home) → core.home e ≡ now → now ≡ read → StillHome shape core.holder log n e (homes.In Global) read
       left homes.Unlisted at same = absurd (subst (MayLeave shape core by) at can.from_there)
-      left (homes.In (Local d)) at same = let was = flushed_from_it c d in_hand other at in subst (StillHome shape core.holder log e (homes.In Global)) same (inr (refl, was.0, was.1))
-      left (homes.In Global) at same = still_is shape core.holder log e (homes.In Global) read same
+      left (homes.In (Local d)) at same = let was = flushed_from_it n c d in_hand other at in subst (StillHome shape core.holder log n e (homes.In Global)) same (inr (refl, was.0, was.1))
+      left (homes.In Global) at same = still_is shape core.holder log n e (homes.In Global) read same
       left (homes.In (CpuLru d)) at same =
           let holds : Holds shape core by (CpuLru d) = subst (MayLeave shape core by) at can.from_there in
           absurd (no_sets shape.common can.common (and_parts (is_lru shape.kind) (not shape.common) (and_parts (is_lru shape.kind && not shape.common) (nat_lt d shape.cpus) holds.is_lock).0).1)
@@ -363,14 +390,14 @@ module _ (shape : Shape) (core : cores.State) (placed : Placed shape core) (log 
                   let may : MayLie shape e (core.owner e) (carried x) = subst (MayLie shape e (core.owner e)) is (placed.placed.places e can.real) in
                   same_home d x (sym (sym (ap (home_of_place shape) is ∙ ap (λ (b : Bool). cond b (homes.Hand x) homes.Unlisted) lru) ∙ is_home)) ∙ same_owner x c (sym may.1 ∙ in_hand)
 
-      to_global : (there : Home) → MayEnter shape core by (core.owner e) there → StillHome shape core.holder log e there read
+      to_global : (there : Home) → MayEnter shape core by (core.owner e) there → StillHome shape core.holder log n e there read
       to_global homes.Unlisted may = absurd may
       to_global (homes.In (Local d)) may = absurd (other (subst (IsFreeOrInHand by) in_hand may.1))
       to_global (homes.In Global) may =
           ⊎_elim
           (λ (same : core.home e ≡ read). left (core.home e) refl same)
-          (λ (gone : IsGone shape core.holder log e (core.home e) read). still_gone shape core.holder log e (homes.In Global) read record { cpu = gone.cpu; read_is = gone.read_is; now_is = refl; there = gone.there; was = gone.was })
-          (still_parts shape core.holder log e (core.home e) read still)
+          (λ (gone : IsGone shape core.holder log n e (core.home e) read). still_gone shape core.holder log n e (homes.In Global) read record { cpu = gone.cpu; read_is = gone.read_is; now_is = refl; there = gone.there; was = gone.was })
+          (still_parts shape core.holder log n e (core.home e) read still)
       to_global (homes.In (CpuLru d)) may = absurd may
       to_global (homes.In (Bucket b)) may = absurd may
       to_global (homes.In (Freelist d)) may = absurd may
@@ -381,11 +408,25 @@ module _ (shape : Shape) (core : cores.State) (placed : Placed shape core) (log 
 
 -- A lock is taken
 
-pub then_known : (e c : ℕ) (read : Home) (shape : Shape) (h : Hold) (readings : List HomeIn) → home_known e c (readings_then shape h readings) ≡ Some read → (old : Home) × (home_known e c readings ≡ Some old) × (home_then shape h e old ≡ read)
+-- what was known is so still, but that its home may be known to be the global lists now
+pub record IsThen (e : ℕ) (shape : Shape) (h : Hold) (old read : HomeIn) : Type 0 where
+  pub home_is : home_then shape h e old.home ≡ read.home
+  pub at_is : old.at ≡ read.at
+  pub turns_are : old.turns ≡ read.turns
+
+pub then_known : (e c : ℕ) (read : HomeIn) (shape : Shape) (h : Hold) (readings : List HomeIn) → home_known e c (readings_then shape h readings) ≡ Some read → (old : HomeIn) × (home_known e c readings ≡ Some old) × IsThen e shape h old read
 then_known e c read shape h [] found = absurd (none_some found)
 then_known e c read shape h (x ∷ xs) found =
-    by_bool (eqb x.element e && eqb x.cpu c) (λ t. cond t (Some (home_then shape h x.element x.home)) (home_known e c (readings_then shape h xs)) ≡ Some read → (old : Home) × (cond t (Some x.home) (home_known e c xs) ≡ Some old) × (home_then shape h e old ≡ read))
-    (λ hit f. (x.home, refl, ap (λ (z : ℕ). home_then shape h z x.home) (sym (eqb-true x.element e (both_true (eqb x.element e) (eqb x.cpu c) hit).0)) ∙ some_is f))
+    by_bool (eqb x.element e && eqb x.cpu c) (λ t. cond t (Some (record x { home = home_then shape h x.element x.home })) (home_known e c (readings_then shape h xs)) ≡ Some read → (old : HomeIn) × (cond t (Some x) (home_known e c xs) ≡ Some old) × IsThen e shape h old read)
+    (λ hit f. (
+      x,
+      refl,
+      record {
+        home_is = ap (λ (z : ℕ). home_then shape h z x.home) (sym (eqb-true x.element e (both_true (eqb x.element e) (eqb x.cpu c) hit).0)) ∙ ap (λ (z : HomeIn). z.home) (some_is f);
+        at_is = ap (λ (z : HomeIn). z.at) (some_is f);
+        turns_are = ap (λ (z : HomeIn). z.turns) (some_is f);
+      },
+    ))
     (λ _ f. then_known e c read shape h xs f) found
 
 -- where the lists lack an element, no reading of the local lock stays
@@ -475,43 +516,43 @@ module _ (shape : Shape) (holder : ℕ → Option ℕ) (lists : ℕ → Lists) (
   listed_in_set e real not_free lru own = listed_at_home e (CpuLru (set_of shape e)) real not_free (home_in_set e real lru own)
 
   -- an element in hand whose home was read as local lists that nobody holds, and which is pending there no more, was flushed from them
-  pub flushed_off : (k e d : ℕ) → e < shape.elements → is_free (owner e) ≡ false → lock_named shape k ≡ Local d → holder k ≡ None → times e (rows (lists k)) ≡ 0 → StillHome shape holder log e (home e) (homes.In (Local d)) → flushed_last shape (lock_named shape k) e (entries (log k)) ≡ true
-  flushed_off k e d real not_free named free none still =
+  pub flushed_off : (k n e d : ℕ) → e < shape.elements → is_free (owner e) ≡ false → lock_named shape k ≡ Local d → holder k ≡ None → times e (rows (lists k)) ≡ 0 → StillHome shape holder log n e (home e) (homes.In (Local d)) → flushed_since shape (lock_named shape k) n e (entries (log k)) ≡ true
+  flushed_off k n e d real not_free named free none still =
       let at : lock_number shape (Local d) ≡ k = ap (lock_number shape) (sym named) ∙ number_of_named shape k in
       ⊎_elim
       (λ (same : home e ≡ homes.In (Local d)). let inside : IsIn e (rows (lists k)) = subst (λ (z : ℕ). IsIn e (rows (lists z))) at (listed_at_home e (Local d) real not_free same) in absurd (omega (arith, none, inside)))
-      (λ (gone : (home e ≡ homes.In Global) × IsTrue (is_lock shape (Local d)) × WasFlushed shape holder log (lock_number shape (Local d)) e).
+      (λ (gone : (home e ≡ homes.In Global) × IsTrue (is_lock shape (Local d)) × WasFlushed shape holder log (lock_number shape (Local d)) n e).
       ⊎_elim
       (λ (held : (cpu : ℕ) × (h : ℕ) × (holder k ≡ Some cpu) × (stored_in (content shape (lock_named shape k) (entries (log k))) e ≡ Some h)). absurd (none_some (sym free ∙ held.2)))
-      (λ (last : flushed_last shape (lock_named shape k) e (entries (log k)) ≡ true). last)
-      (subst (λ (z : ℕ). WasFlushed shape holder log z e) at gone.2))
+      (λ (last : flushed_since shape (lock_named shape k) n e (entries (log k)) ≡ true). last)
+      (subst (λ (z : ℕ). WasFlushed shape holder log z n e) at gone.2))
       still
 
   module _ (h : Hold) (now : h.now ≡ lists h.lock) where
-    pub then_still : (e c : ℕ) (old : Home) → e < shape.elements → owner e ≡ owners.Hand c → StillHome shape holder log e (home e) old → StillHome shape holder log e (home e) (home_then shape h e old)
-    then_still e c homes.Unlisted real in_hand still = still
-    then_still e c (homes.In (Local d)) real in_hand still =
-        by_bool (eqb (lock_number shape (Local d)) h.lock && eqb (times e (rows h.now)) 0) (λ t. StillHome shape holder log e (home e) (cond t (homes.In Global) (homes.In (Local d))))
+    pub then_still : (n e c : ℕ) (old : Home) → e < shape.elements → owner e ≡ owners.Hand c → StillHome shape holder log n e (home e) old → StillHome shape holder log n e (home e) (home_then shape h e old)
+    then_still n e c homes.Unlisted real in_hand still = still
+    then_still n e c (homes.In (Local d)) real in_hand still =
+        by_bool (eqb (lock_number shape (Local d)) h.lock && eqb (times e (rows h.now)) 0) (λ t. StillHome shape holder log n e (home e) (cond t (homes.In Global) (homes.In (Local d))))
         (λ hit. let both = both_true (eqb (lock_number shape (Local d)) h.lock) (eqb (times e (rows h.now)) 0) hit in ⊎_elim
         (λ (same : home e ≡ homes.In (Local d)).
         let inside : IsIn e (rows h.now) = subst (λ (l : Lists). IsIn e (rows l)) (sym now) (subst (λ (z : ℕ). IsIn e (rows (lists z))) (eqb-true (lock_number shape (Local d)) h.lock both.0) (listed_at_home e (Local d) real (ap is_free in_hand) same)) in
         let none : times e (rows h.now) ≡ 0 = eqb-true (times e (rows h.now)) 0 both.1 in absurd (omega arith))
-        (λ (gone : IsGone shape holder log e (home e) (homes.In (Local d))). gone.now_is)
-        (still_parts shape holder log e (home e) (homes.In (Local d)) still))
+        (λ (gone : IsGone shape holder log n e (home e) (homes.In (Local d))). gone.now_is)
+        (still_parts shape holder log n e (home e) (homes.In (Local d)) still))
         (λ _. still)
-    then_still e c (homes.In Global) real in_hand still = still
-    then_still e c (homes.In (CpuLru d)) real in_hand still = still
-    then_still e c (homes.In (Bucket b)) real in_hand still = still
-    then_still e c (homes.In (Freelist d)) real in_hand still = still
-    then_still e c (homes.Hand d) real in_hand still = still
+    then_still n e c (homes.In Global) real in_hand still = still
+    then_still n e c (homes.In (CpuLru d)) real in_hand still = still
+    then_still n e c (homes.In (Bucket b)) real in_hand still = still
+    then_still n e c (homes.In (Freelist d)) real in_hand still = still
+    then_still n e c (homes.Hand d) real in_hand still = still
 
-    pub at_home_then : (e c : ℕ) (lock : DomainId) (old : Home) → e < shape.elements → owner e ≡ owners.Hand c → StillHome shape holder log e (home e) old → home_then shape h e old ≡ homes.In lock → lock_number shape lock ≡ h.lock → IsIn e (rows h.now)
-    at_home_then e c lock old real in_hand still is at =
+    pub at_home_then : (n e c : ℕ) (lock : DomainId) (old : Home) → e < shape.elements → owner e ≡ owners.Hand c → StillHome shape holder log n e (home e) old → home_then shape h e old ≡ homes.In lock → lock_number shape lock ≡ h.lock → IsIn e (rows h.now)
+    at_home_then n e c lock old real in_hand still is at =
         by_test (times e (rows h.now)) 0 (λ _. IsIn e (rows h.now))
         (λ none. ⊎_elim
         (λ (same : home e ≡ homes.In lock). subst (λ (l : Lists). IsIn e (rows l)) (sym now) (subst (λ (z : ℕ). IsIn e (rows (lists z))) at (listed_at_home e lock real (ap is_free in_hand) same)))
-        (λ (gone : IsGone shape holder log e (home e) (homes.In lock)). absurd (not_then shape h e gone.cpu old (is ∙ gone.read_is) (ap (lock_number shape) (sym (same_lock lock (Local gone.cpu) gone.read_is)) ∙ at) none))
-        (still_parts shape holder log e (home e) (homes.In lock) (subst (StillHome shape holder log e (home e)) is (then_still e c old real in_hand still))))
+        (λ (gone : IsGone shape holder log n e (home e) (homes.In lock)). absurd (not_then shape h e gone.cpu old (is ∙ gone.read_is) (ap (lock_number shape) (sym (same_lock lock (Local gone.cpu) gone.read_is)) ∙ at) none))
+        (still_parts shape holder log n e (home e) (homes.In lock) (subst (StillHome shape holder log n e (home e)) is (then_still n e c old real in_hand still))))
         (λ some_there. omega arith)
       where
         same_lock : (a b : DomainId) → homes.In a ≡ homes.In b → a ≡ b

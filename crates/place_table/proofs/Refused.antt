@@ -1,29 +1,37 @@
 -- What a pass tells of its steps on words is so, and what the rule refuses: a step on a word that leaves it otherwise than the
 -- step tells, and a word read otherwise than it is.
-use Rattle.std.proofs.Common.{◌≡◌, ◌≢◌, ℕ, ◌+◌, ◌<◌, ◌⊎◌, inl, inr, ⊎_elim, cond, true, List, [], ◌∷◌, ◌++◌, length, get_or, set, sym, refl, ap, ◌∙◌, subst, arith, Some, None, get_or-set_same, get_or-set_other}
+use Rattle.std.proofs.Common.{◌≡◌, ◌≢◌, ℕ, ◌+◌, ◌<◌, ◌⊎◌, inl, inr, ⊎_elim, cond, true, List, [], ◌∷◌, ◌++◌, length, take, get_or, set, sym, refl, ap, ◌∙◌, subst, arith, Some, None, get_or-set_same, get_or-set_other}
 use mathlib.Core.Option.{some, some-injective}
 use lib.ListN.{get_elem?}
 use Rattle.atomic_table.specs.Table.{State, Allows, Act, stepped}
 use Rattle.atomic_table.proofs.Lists.{at_set, set_here, set_else}
 use Rattle.map_types.specs.declared.attr.Shape.{Shape}
+use Rattle.map_types.specs.declared.kind.DomainId.TheVariants.{Local}
 use Rattle.map_types.specs.ElementLists.{one}
 use Rattle.map_types.proofs.RowLemmas.{by_test}
 use Rattle.place_words.specs.declared.history.Entry.{Entry}
 use Rattle.place_words.specs.declared.history.StrandStep.{StrandStep}
+use Rattle.place_words.specs.declared.home.Home.TheVariants as homes
 use Rattle.place_words.specs.declared.owner.Owner.TheVariants as owners
+use Rattle.place_words.specs.Codes.{home_code}
+use Rattle.place_words.specs.Locks.{is_lock, lock_number}
+use Rattle.place_words.proofs.LockLemmas.{number_within}
 use Rattle.place_table.specs.declared.content.Behind.{Behind}
 use Rattle.place_table.specs.declared.view.View.{View}
 use Rattle.place_table.specs.declared.view.Ticket.TheVariants.{Drawn}
 use Rattle.place_table.specs.declared.view.Ended.{Ended}
 use Rattle.place_table.specs.declared.view.WordStep.{WordStep}
-use Rattle.place_table.specs.Views.{is_among, ticket_drawn, marked, cleared, bit_read, owner_read}
-use Rattle.place_table.specs.Words.{word_count, owner_word, bit_word, ticket_word, opening_words}
+use Rattle.place_table.specs.Views.{is_among, is_in_hand_of, ticket_drawn, marked, cleared, bit_read, owner_read, home_read}
+use Rattle.place_table.specs.Words.{word_count, owner_word, home_word, bit_word, ticket_word, opening_words}
 use Rattle.place_table.specs.Refusals.{IsToldTrue}
-use Rattle.place_table.specs.Rules.{World, Rule, ArePast}
+use Rattle.place_table.specs.Rules.{World, Rule, ArePast, givers, logs_of}
 use Rattle.place_table.specs.Plays.{Seated, GivesBack, DrawsTicket, Marks, Clears, SeesBit}
 use Rattle.place_table.proofs.Locks.{there, seat_at}
 use Rattle.place_table.proofs.StepOrder.{Has, HasBy, steps_of, has_last, has_first, has_split, touches_by, by_touches, by_steps, some_by, strand_by, one_strand_by, Ascend, ascends, before_last, order_is, number_is, lead_last}
 use Rattle.place_table.proofs.Worlds.{true_false}
+use Rattle.place_table.proofs.Counted.{gives_before, strands_long}
+use Rattle.place_table.proofs.Readings.{reading_known}
+use Rattle.std.specs.Prelude.{IsTrue}
 
 abbrev get_or_in : List ℕ → ℕ → ℕ
 get_or_in words i = get_or words i 0
@@ -194,6 +202,20 @@ module _ (shape : Shape) (s : State Behind View) (r : Rule shape s) (pass : ℕ)
 pub tells_true : (shape : Shape) (s : State Behind View) (pass i n : ℕ) (v u : View) (cs : List (ℕ × Behind)) (a : Act Behind) (x : WordStep) (r : Rule shape s) → get_elem? s.views pass ≡ some v → Rule shape (stepped s i n pass cs u a)
     → x.word < word_count shape → u.touched ≡ v.touched ++ x ∷ [] → u.ended ≡ v.ended → IsToldTrue s.words (set s.words i n) (length r.world.touches) x
 tells_true shape s pass i n v u cs a x r at_pass r' real more same = told shape s r pass v u at_pass (stepped s i n pass cs u a) r' refl x more same real
+
+-- A home that is told to be local lists is told with the number of turns that their lock had then.
+pub tells_turns : (shape : Shape) (s : State Behind View) (pass i n : ℕ) (v : View) (cs : List (ℕ × Behind)) (a : Act Behind) (at turns e c cpu : ℕ) (r : Rule shape s) → get_elem? s.views pass ≡ some v → Rule shape (stepped s i n pass cs (home_read at turns e (homes.In (Local cpu)) v) a)
+    → IsTrue (is_lock shape (Local cpu)) → c < shape.cpus → is_in_hand_of e c v.hand ≡ true → turns ≡ length (logs_of r.world (lock_number shape (Local cpu)))
+tells_turns shape s pass i n v cs a at turns e c cpu r at_pass r' is_there within in_hand =
+    let k : ℕ = lock_number shape (Local cpu) in
+    let u : View = home_read at turns e (homes.In (Local cpu)) v in
+    let x : WordStep = record { at = at; word = home_word v.shape e; seen = Some (home_code (homes.In (Local cpu))); left = home_code (homes.In (Local cpu)) } in
+    let more : steps_of r'.world.touches ≡ steps_of r.world.touches ++ x ∷ [] = one_more shape s r pass v u at_pass (stepped s i n pass cs u a) r' refl x refl refl in
+    let number : at ≡ length r.world.touches = (let counted = number_is 0 r.world.touches r'.world.touches x r'.in_time more in omega (arith, counted)) in
+    let kn = r'.knows pass u (here_then shape s r pass v u at_pass (stepped s i n pass cs u a) r' refl x refl refl) in
+    let read = (kn.readings e c (record { element = e; cpu = c; home = homes.In (Local cpu); at = at; turns = turns }) within (reading_known at turns e c (homes.In (Local cpu)) v.hand v.readings in_hand)).counted in
+    read.1 ∙ (ap (λ (z : ℕ). length (givers k (take z r'.world.touches))) number ∙ (gives_before k r.world.touches r'.world.touches x more
+    ∙ (ap length (r.gave_back k (number_within shape (Local cpu) is_there)) ∙ strands_long (r.world.log k))))
 
 -- A mark that stores nothing is refused: the rule doesn't allow it where the bit is 0.
 pub mark_stores : (shape : Shape) (slots pass e : ℕ) (me : Seated) (s : State Behind View) → Rule shape s → length s.homes ≡ slots → get_elem? s.views pass ≡ some me.0 → e < shape.elements → get_or s.words (bit_word shape e) 0 ≡ 0

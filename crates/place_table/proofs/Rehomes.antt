@@ -113,6 +113,33 @@ module _ (shape : Shape) (core : cores.State) (placed : Placed shape core) (log 
       lower (Bucket b) may other = absurd may
       lower (Freelist c) may other = absurd (no_sets (is_lru shape.kind) lru (and_parts (not (is_lru shape.kind)) (nat_lt c shape.cpus) may).0)
 
+  not_free_there : (m : ℕ) → IsIn e (rows (lists m)) → is_free (core.owner e) ≡ false
+  not_free_there m inside = go (core.owner e) refl
+    where
+      row : has_row (is_lru shape.kind) (lock_named shape m) (core.owner e) (lies_at m (after.place e)) ≡ true
+      row = (stands_where shape.elements e _ _ (after.placed.rows m e) inside).stands
+
+      go : (o : Owner) → core.owner e ≡ o → is_free o ≡ false
+      go owners.Free is = true_false (sym (sym (ap (λ (z : Owner). has_row (is_lru shape.kind) (lock_named shape m) z (lies_at m (after.place e))) is ∙ no_row_free (is_lru shape.kind) (lock_named shape m) (lies_at m (after.place e))) ∙ row))
+      go (owners.Bucket b) is = refl
+      go (owners.Hand c) is = refl
+
+  -- it is on the lists of its new home
+  home_there : (m : ℕ) → IsFalse (is_bucket (lock_named shape m)) → IsIn e (rows (lists m)) → to ≡ homes.In (lock_named shape m)
+  home_there m nb inside =
+      let at = lies_on shape lists core.owner (put core.home e to) after.place after.placed m e nb (in_all e (lists m) inside) in
+      sym (put_here core.home e to) ∙ (after.placed.homes e can.real ∙ (ap (home_of_place shape) at ∙ ap (λ (b : Bool). cond b (homes.In (lock_named shape m)) homes.Unlisted) lru))
+
+  -- what is listed now was listed there before, or is the element at its new home
+  pub rows_come : (m x : ℕ) → IsFalse (is_bucket (lock_named shape m)) → IsIn x (rows (after_joining shape to (core.owner e) e (after_leaving shape (core.home e) (core.owner e) e core.lists) m))
+      → IsIn x (rows (core.lists m)) ⊎ ((x ≡ e) × (to ≡ homes.In (lock_named shape m)) × (is_free (core.owner e) ≡ false))
+  rows_come m x nb inside =
+      by_test x e (λ _. IsIn x (rows (core.lists m)) ⊎ ((x ≡ e) × (to ≡ homes.In (lock_named shape m)) × (is_free (core.owner e) ≡ false)))
+      (λ same. let there : IsIn e (rows (lists m)) = subst (λ (z : ℕ). IsIn z (rows (lists m))) same inside in inr (same, home_there m nb there, not_free_there m there))
+      (λ other.
+      let stays = rows_joined to (core.owner e) (after_leaving shape (core.home e) (core.owner e) e core.lists) m x other ∙ rows_left (core.home e) (core.owner e) core.lists m x other in
+      inl (omega (arith, stays, inside)))
+
   pub hashes_rehomed : HashesRight shape core.holder (after_joining shape to (core.owner e) e (after_leaving shape (core.home e) (core.owner e) e core.lists)) core.owner log hash
   hashes_rehomed = record {
     in_bucket = right.in_bucket;
@@ -123,23 +150,6 @@ module _ (shape : Shape) (core : cores.State) (placed : Placed shape core) (log 
         right.have m x nb (omega (arith, stays, inside)));
   }
     where
-      not_free_there : (m : ℕ) → IsIn e (rows (lists m)) → is_free (core.owner e) ≡ false
-      not_free_there m inside = go (core.owner e) refl
-        where
-          row : has_row (is_lru shape.kind) (lock_named shape m) (core.owner e) (lies_at m (after.place e)) ≡ true
-          row = (stands_where shape.elements e _ _ (after.placed.rows m e) inside).stands
-
-          go : (o : Owner) → core.owner e ≡ o → is_free o ≡ false
-          go owners.Free is = true_false (sym (sym (ap (λ (z : Owner). has_row (is_lru shape.kind) (lock_named shape m) z (lies_at m (after.place e))) is ∙ no_row_free (is_lru shape.kind) (lock_named shape m) (lies_at m (after.place e))) ∙ row))
-          go (owners.Bucket b) is = refl
-          go (owners.Hand c) is = refl
-
-      -- it is on the lists of its new home
-      home_there : (m : ℕ) → IsFalse (is_bucket (lock_named shape m)) → IsIn e (rows (lists m)) → to ≡ homes.In (lock_named shape m)
-      home_there m nb inside =
-          let at = lies_on shape lists core.owner (put core.home e to) after.place after.placed m e nb (in_all e (lists m) inside) in
-          sym (put_here core.home e to) ∙ (after.placed.homes e can.real ∙ (ap (home_of_place shape) at ∙ ap (λ (b : Bool). cond b (homes.In (lock_named shape m)) homes.Unlisted) lru))
-
       number_is : (m : ℕ) (lock : DomainId) → homes.In lock ≡ homes.In (lock_named shape m) → lock_number shape lock ≡ m
       number_is m lock is = ap (lock_number shape) (same_lock lock (lock_named shape m) is) ∙ number_of_named shape m
         where

@@ -196,6 +196,7 @@ module _ (shape : Shape) (id c : ℕ) (v : View) (cpu : is_among c v.cpus ≡ tr
         hashed = λ lru e d lock real within in_hand at. by_test d c (λ _. IsHashed shape w.core.holder w.log w.hash (kept_hashes (in_hand_of c v.hand) v.hashes) [] (lock_number shape lock) e d)
             (λ same. hashed_apart w kn lru (in_hand_of c v.hand) e d lock real within (ap (λ (z : ℕ). is_in_hand_of e z v.hand) same ∙ (sym (own_same e c v.hand) ∙ (ap (λ (z : ℕ). is_in_hand_of e z (in_hand_of c v.hand)) (sym same) ∙ in_hand))) in_hand at)
             (λ other. true_false (sym in_hand ∙ own_other e d c v.hand other));
+        rowed = λ lru k e hold found. absurd (none_some found);
         readings = readings_kept shape w id v kn (in_hand_of c v.hand);
         known = λ k log f. absurd (none_some f);
         bits = λ e bit f. absurd (none_some f);
@@ -238,6 +239,7 @@ module _ (shape : Shape) (id c : ℕ) (v : View) (cpu : is_among c v.cpus ≡ tr
         hashed = λ lru e d lock real within in_hand at. by_test d c (λ _. IsHashed shape w.core.holder w.log w.hash (kept_hashes (in_other_hands c v.hand) v.hashes) [] (lock_number shape lock) e d)
             (λ same. true_false (sym in_hand ∙ (ap (λ (z : ℕ). is_in_hand_of e z (in_other_hands c v.hand)) same ∙ others_same e c v.hand)))
             (λ other. hashed_apart w kn lru (in_other_hands c v.hand) e d lock real within (sym (others_other e d c v.hand other) ∙ in_hand) in_hand at);
+        rowed = λ lru k e hold found. absurd (none_some found);
         readings = readings_kept shape w id v kn (in_other_hands c v.hand);
         known = λ k log f. absurd (none_some f);
         bits = λ e bit f. absurd (none_some f);
@@ -274,6 +276,7 @@ module _ (shape : Shape) (id c : ℕ) (v : View) (cpu : is_among c v.cpus ≡ tr
         carried = λ e d less. ku.carried e d less ∙ ap (λ b. is_home_of d (w.core.home e) && b) (sym (theirs w n j d mine not_id not_new));
         hashes = λ e d noted within found. ku.hashes e d noted within found;
         hashed = ku.hashed;
+        rowed = ku.rowed;
         readings = ku.readings;
         known = ku.known;
         bits = ku.bits;

@@ -161,14 +161,15 @@ lies_on_one shape lists owner home place p k j e ne no_bucket nor_other inside =
     (λ some_there. absurd (ne (same_lies j k (sym (lies_on shape lists owner home place p j e nor_other (omega arith)) ∙ lies_on shape lists owner home place p k e no_bucket inside))))
 
 -- A lock that this CPU holds, the last that it took, is given back with a content whose rows have new hashes only for what came in
--- the turn and is in the CPU's hand.
+-- the turn and is in the CPU's hand. What is listed there has its row since the lock was taken, or came in the turn.
 module _ (shape : Shape) (holder : ℕ → Option ℕ) (lists : ℕ → Lists) (owner : ℕ → Owner) (home : ℕ → Home) (place : ℕ → ElementPlace) (p : PlacedAt shape lists owner home place) (log : ℕ → List Tagged) (hash : ℕ → ℕ) (right : HashesRight shape holder lists owner log hash)
     (k cpu : ℕ) (held : holder k ≡ Some cpu) (here : Content) (fits : FitsLock shape (lock_named shape k) here) (l' : List Tagged) (new_is : content shape (lock_named shape k) (entries l') ≡ content_told (lock_named shape k) here)
     (same_rows : (e : ℕ) → times e (rows (lists_of (content_told (lock_named shape k) here))) ≡ times e (rows (lists k)))
     (innermost : (m : ℕ) → m ≢ k → holder m ≡ Some cpu → rank_of (lock_named shape m) < rank_of (lock_named shape k))
     (fresh : ℕ → Bool) (fresh_is : (e : ℕ) → fresh e ≡ true → owner e ≡ owners.Hand cpu)
-    (rowed : (e : ℕ) → fresh e ≡ false → owner e ≡ owners.Hand cpu → IsIn e (rows (lists k)) → HasRow shape log hash k e ⊎ IsBrought shape holder log hash k e)
-    (kept : (j e h n : ℕ) → fresh e ≡ false → holder j ≡ Some cpu → stored_in (content shape (lock_named shape j) (entries (log j))) e ≡ Some h → stored_in (content_told (lock_named shape k) here) e ≡ Some n → h ≡ n) where
+    (come : ℕ → Bool) (come_is : (e : ℕ) → come e ≡ true → owner e ≡ owners.Hand cpu → fresh e ≡ true)
+    (rowed : (e : ℕ) → IsFalse (is_bucket (lock_named shape k)) → IsIn e (rows (lists k)) → HasRow shape log hash k e ⊎ (come e ≡ true))
+    (kept : (j e h n : ℕ) → (j ≡ k) ⊎ (come e ≡ true) → fresh e ≡ false → holder j ≡ Some cpu → stored_in (content shape (lock_named shape j) (entries (log j))) e ≡ Some h → stored_in (content_told (lock_named shape k) here) e ≡ Some n → h ≡ n) where
   -- it, as histories tell it
   abbrev back : histories.Content
   back = content_told (lock_named shape k) here
@@ -184,13 +185,14 @@ module _ (shape : Shape) (holder : ℕ → Option ℕ) (lists : ℕ → Lists) (
       go (Some n) is =
           let no_bucket = stored_no_bucket shape (lock_named shape k) here e n fits is in
           let listed = was_listed e n is in
-          let by_row : HasRow shape log hash k e → n ≡ hash e = λ had. sym (kept k e (hash e) n other held had.stored is) in
-          let by_lock : IsBrought shape holder log hash k e → n ≡ hash e = λ brought. sym (kept brought.from e (hash e) n other (brought.holds ∙ (sym brought.held ∙ held)) brought.row.stored is) in
+          let by_row : HasRow shape log hash k e → n ≡ hash e = λ had. sym (kept k e (hash e) n (inl refl) other held had.stored is) in
           ⊎_elim by_row
+          (λ (came : come e ≡ true). ⊎_elim by_row
           (⊎_elim
-          (λ (f : IsFresh holder owner k e). ⊎_elim by_row by_lock (rowed e other (f.in_hand ∙ ap owners.Hand (some_is (sym f.held ∙ held))) listed))
-          by_lock)
-          (right.have k e no_bucket listed)
+          (λ (f : IsFresh holder owner k e). true_false (sym (come_is e came (f.in_hand ∙ ap owners.Hand (some_is (sym f.held ∙ held)))) ∙ other))
+          (λ (brought : IsBrought shape holder log hash k e). sym (kept brought.from e (hash e) n (inr came) other (brought.holds ∙ (sym brought.held ∙ held)) brought.row.stored is)))
+          (right.have k e no_bucket listed))
+          (rowed e no_bucket listed)
 
   abbrev IsListed : ℕ → ℕ → Type 0
   IsListed m e = HasRow shape (put log k l') (λ x. renewed true (stored_in back x) (hash x)) m e ⊎ (IsFresh (put holder k None) owner m e ⊎ IsBrought shape (put holder k None) (put log k l') (λ x. renewed true (stored_in back x) (hash x)) m e)
@@ -201,7 +203,7 @@ module _ (shape : Shape) (holder : ℕ → Option ℕ) (lists : ℕ → Lists) (
     stored = ap (λ (l : List Tagged). stored_in (content shape (lock_named shape m) (entries l)) e) (put_else log k l' m ne) ∙ (had.stored ∙ ap Some (sym same));
   }
 
-  elsewhere : (m e : ℕ) → IsFalse (is_bucket (lock_named shape m)) → m ≢ k → IsIn e (all_of (lists m)) → (found : Option ℕ) → stored_in back e ≡ found → renewed true found (hash e) ≡ hash e
+  pub elsewhere : (m e : ℕ) → IsFalse (is_bucket (lock_named shape m)) → m ≢ k → IsIn e (all_of (lists m)) → (found : Option ℕ) → stored_in back e ≡ found → renewed true found (hash e) ≡ hash e
   elsewhere m e nb ne inside None is = refl
   elsewhere m e nb ne inside (Some n) is =
       let no_bucket = stored_no_bucket shape (lock_named shape k) here e n fits is in

@@ -1,11 +1,9 @@
 -- From what a take tells to what a give asks.
 use Rattle.std.proofs.Common.{◌≡◌, ◌≢◌, ℕ, zero, suc, ◌<◌, cond, true, List, [], sym, refl, ap, ◌∙◌, subst, arith}
 use Rattle.std.specs.Prelude.{IsTrue}
-use Rattle.std.proofs.lemmas.List.Elements.{All-head}
 use Rattle.map_types.specs.declared.attr.Shape.{Shape}
 use Rattle.map_types.specs.declared.kind.DomainId.{DomainId}
 use Rattle.map_types.specs.declared.kind.DomainId.TheVariants.{Local, Global, CpuLru, Bucket, Freelist}
-use Rattle.place_words.specs.declared.bucket_part.BucketPart.TheVariants.{Lookup, Update, Delete, Take, Next, First, Walk, Evict}
 use Rattle.place_words.specs.declared.history.Part.{Part}
 use Rattle.place_words.specs.declared.history.Part.TheVariants as parts
 use Rattle.map_types.specs.ElementLists.{times}
@@ -24,13 +22,12 @@ use Rattle.place_table.specs.declared.content.Content.TheVariants as contents
 use Rattle.place_table.specs.StoredHashes.{stored_in}
 use Rattle.place_table.specs.Contents.{content_told, lists_of, FitsLock}
 use Rattle.place_table.specs.declared.view.View.{View}
-use Rattle.place_table.specs.declared.view.Notes.{Notes}
 use Rattle.place_table.specs.declared.view.Turned.{Turned}
-use Rattle.place_table.specs.Views.{no_notes, is_among, is_in_hand_of, numbers_below, passed_on}
-use Rattle.place_table.specs.TurnNotes.{NotesFit, WasReadInHand, ProbeFits}
+use Rattle.place_table.specs.Views.{no_notes, is_among, is_in_hand_of, numbers_below, passed_on, notes_below, with_owners_read}
+use Rattle.place_table.specs.TurnNotes.{NotesFit}
 use Rattle.place_table.specs.Passes.{PassView, TableView, IsPassOf, HasBegun, TookLock, CanGive, Went, IsInNoCall, IsFirstPass, spare_of}
 use Rattle.place_table.proofs.StoredHashes.{stored_listed, HasNoHashes, none_stored}
-use Rattle.place_words.specs.declared.bucket_part.Seen.TheVariants.{Removed, Held}
+use Rattle.place_table.specs.declared.view.OwnerSeen.{OwnerSeen}
 
 -- a bucket or a freelist that was taken may be given back by a part that changes nothing
 pub unchanged : (t : TableView) (lock : DomainId) (p q : PassView) (here : Content) (part : Part) → HasNoHashes lock → (took : TookLock t lock p q here) → IsPassOf t q → HasBegun q → IsTrue (is_lock t.shape lock)
@@ -56,7 +53,7 @@ unchanged t lock p q here part no_hashes took of_table begun there allowed same 
         allowed = subst (Allows t.shape q.cpu part) told_there allowed;
         same_free = λ e. ap (λ (l : Lists). times e l.free) lists_there;
         same_rows = λ e. ap (λ (l : Lists). times e (rows l)) lists_there;
-        rows_kept = λ lru j e h n other _ _ _ is. absurd (none_stored t.shape lock here e n no_hashes took.fits (ap (λ (d : DomainId). stored_in (content_told d here) e) (sym named) ∙ is));
+        rows_kept = λ lru j e h n other _ _ _ _ is. absurd (none_stored t.shape lock here e n no_hashes took.fits (ap (λ (d : DomainId). stored_in (content_told d here) e) (sym named) ∙ is));
         gone = λ lru c e h _ was none.
             let inside = stored_listed (content_told lock here) e h (ap (λ z. stored_in z e) told_there ∙ was) in
             let both = times_append e took.hold.now.free (rows took.hold.now) in
@@ -86,24 +83,16 @@ none_shared shape (Bucket b) (contents.Set lists) set other fits is = fits
 none_shared shape (Freelist c) (contents.Set lists) set other fits is = fits
 
 -- A turn of another lock than the global one in which no owner was read hands nothing on to the turn around it.
-pub none_passed : (t : TableView) (lock : DomainId) (p : PassView) (here : Content) (part : Part) (below : List Notes) → lock ≢ Global → (can : CanGive t lock p here part) → can.notes.owners ≡ [] → passed_on part below ≡ below
-none_passed t lock p here (parts.Bucket (Lookup side key got)) below other can none = refl
-none_passed t lock p here (parts.Bucket (Update side flags key value offer put)) below other can none = refl
-none_passed t lock p here (parts.Bucket (Delete key removed)) below other can none = refl
-none_passed t lock p here (parts.Bucket (Take key taken)) below other can none = refl
-none_passed t lock p here (parts.Bucket (Next key found)) below other can none = refl
-none_passed t lock p here (parts.Bucket (First key)) below other can none = refl
-none_passed t lock p here (parts.Bucket (Walk remove room result)) below other can none = refl
-none_passed t lock p here (parts.Bucket (Evict e Removed)) below other can none = refl
-none_passed t lock p here (parts.Bucket (Evict e (Held holder))) below other can none =
-    absurd (subst (WasReadInHand e holder) none (All-head (ProbeFits can.notes.owners) (record { element = e; probed = Held holder }) [] can.notes_fit.held))
-none_passed t lock p here (parts.Free part) below other can none = refl
-none_passed t lock p here (parts.Local part) below other can none = refl
-none_passed t lock p here (parts.Global part) below other can none =
+pub none_passed : (t : TableView) (lock : DomainId) (p : PassView) (here : Content) (part : Part) → lock ≢ Global → (can : CanGive t lock p here part) → can.notes.owners ≡ [] → passed_on part p.view.notes ≡ notes_below p.view.notes
+none_passed t lock p here (parts.Bucket part) other can none =
+    ap (passed_on (parts.Bucket part)) can.notes_are ∙ (ap (λ (l : List OwnerSeen). with_owners_read l can.notes_below) none ∙ sym (ap notes_below can.notes_are))
+none_passed t lock p here (parts.Free part) other can none = refl
+none_passed t lock p here (parts.Local part) other can none = refl
+none_passed t lock p here (parts.Global part) other can none =
     let named : lock_named t.shape can.hold.lock ≡ lock = ap (lock_named t.shape) can.lock_is ∙ named_by_number t.shape lock can.there in
     let left = global_left t.shape p.cpu part (content t.shape (lock_named t.shape can.hold.lock) can.hold.log) can.may_put.allowed in
     absurd (none_shared t.shape (lock_named t.shape can.hold.lock) here left.0 (λ is. other (sym named ∙ is)) can.may_put.fits (can.may_put.told_is ∙ left.1))
-none_passed t lock p here (parts.Own part) below other can none = refl
+none_passed t lock p here (parts.Own part) other can none = refl
 
 -- a pass in no call is in none afterwards
 pub stays_idle : (p q : PassView) (more : List Turned) (lost : List ℕ) → IsInNoCall p → Went p q more lost → IsInNoCall q

@@ -36,6 +36,7 @@ use Rattle.place_table.proofs.Locks.{there, allows_of}
 use Rattle.place_table.specs.Laws.{StepsAs, stays}
 use Rattle.place_table.proofs.TicketLemmas.{exact_there, theirs_there, first_there, inner_there}
 use Rattle.place_table.proofs.TicketChanges.{tickets_read, tickets_drawn, tickets_seen}
+use Rattle.place_table.proofs.Counted.{counted_more, reading_more}
 
 -- one step more
 abbrev looked : World → ℕ → WordStep → World
@@ -108,8 +109,9 @@ module _ (shape : Shape) (s : State Behind View) (r : Rule shape s) (pass : ℕ)
               hashed = λ lru y d lock real within in_hand at. let k : ℕ = lock_number shape lock in
                   hashed_stands shape w.core.holder w'.core.holder w.log w'.log w.hash w'.hash v.hashes v.hashes (came_at k v.held v.notes) (came_at k v.held v.notes) k y d
                   (λ m held. (held, refl)) (λ held. held) refl refl (λ inside. inside) (kn.hashed lru y d lock real within in_hand at);
+              rowed = kn.rowed;
               hashes = λ y d noted within found. hash_stands shape w.hash w'.hash v.hand y d noted.bucket (kn.hashes y d noted within found) (λ _. refl);
-              readings = kn.readings;
+              readings = λ y d read within found. reading_more shape w.core.holder w.log w.core.home w.touches (w.current pass, x) v.hand y d read (kn.readings y d read within found);
               known = right_logs;
               bits = kn.bits;
               only = right_only;
@@ -120,8 +122,8 @@ module _ (shape : Shape) (s : State Behind View) (r : Rule shape s) (pass : ℕ)
               apart = kn.apart;
               idle = λ empty. let was = kn.idle empty in ((was.0.0, reads_more v.touched x was.0.1 (only_read empty)), was.1);
             })
-            (λ t. others shape w w' j u same (r.knows j u t.1) (λ _. refl) (λ _ _ _. refl) (λ _ _ _. refl) (λ _ _ _. refl) (λ _ z. z) (r.knows j u t.1).known (r.knows j u t.1).bits (λ _ _ _ _. refl) (λ _ _ _ _ _ _ at. inl at)
-            (λ tag own. other_same shape w pass v kn x j tag t.0 own) (λ _ _ _ _ _ _ still. still))
+            (λ t. others shape w w' j u same (r.knows j u t.1) (λ _. refl) (λ _ _ _. refl) (λ _ _ _. refl) (λ _ _ _. refl) (λ _ z. z) (r.knows j u t.1).known (r.knows j u t.1).bits (λ _ _ _ _. refl) (λ _ _ _ _ _ _ at. inl at) (λ _ _ _ _ _ _. refl)
+            (λ tag own. other_same shape w pass v kn x j tag t.0 own) (λ read. counted_more shape w.touches (w.current pass, x) read.at read.turns read.home) (λ _ _ _ _ _ _ _ still. still))
             (at_set s.views pass j nv u h);
       }
 

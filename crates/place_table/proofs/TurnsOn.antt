@@ -22,7 +22,7 @@ told_where shape lost more are [] [] is = tt
 told_where shape lost more are [] (told ∷ others) is = absurd is
 told_where shape lost more are (step ∷ steps) [] is = absurd is
 told_where shape lost more are (step ∷ steps) (told ∷ others) is = (
-  ⊎_elim (λ (same : told ≡ step). inl same) (λ (x : (is_among step.lock lost ≡ true) × CouldBe shape step told). inr (are step.lock x.0, x.1)) is.0,
+  (⊎_elim (λ (same : told ≡ step). inl same) (λ (x : (is_among step.lock lost ≡ true) × CouldBe shape step told). inr (are step.lock x.0, x.1)) is.0.0, is.0.1),
   told_where shape lost more are steps others is.1,
 )
 

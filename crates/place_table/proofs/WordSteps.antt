@@ -11,13 +11,13 @@ use Rattle.map_types.specs.declared.kind.DomainId.TheVariants.{Bucket}
 use Rattle.map_types.proofs.CreationLemmas.{bounds_of_shape}
 use Rattle.place_words.specs.declared.owner.Owner.{Owner}
 use Rattle.place_words.specs.declared.owner.Owner.TheVariants as owners
-use Rattle.place_words.specs.declared.home.Home.{Home}
 use Rattle.place_words.specs.Codes.{owner_code}
 use Rattle.map_types.specs.ElementLists.{put, one, IsIn}
 use Rattle.map_types.proofs.RowLemmas.{times_append, by_test}
-use Rattle.place_words.specs.Locks.{is_lock, lock_count, lock_number}
+use Rattle.place_words.specs.Histories.{content}
+use Rattle.place_words.specs.Locks.{is_lock, lock_count, lock_named, lock_number}
 use Rattle.place_words.specs.declared.step.Step.TheVariants.{Mark, Clear, Glance}
-use Rattle.place_words.specs.State.{rows}
+use Rattle.place_words.specs.State.{rows, is_bucket}
 use Rattle.place_words.specs.State as cores
 use Rattle.place_words.specs.Places.{Placed, MayOwn}
 use Rattle.place_words.specs.Ranks.{Ranked}
@@ -31,9 +31,10 @@ use Rattle.place_table.specs.declared.view.Notes.{Notes}
 use Rattle.place_table.specs.declared.view.BitSeen.{BitSeen}
 use Rattle.place_table.specs.Laws.{StepsAs, goes_by}
 use Rattle.place_table.specs.Views.{is_among, hold_at, bit_seen, has_all, noted, with_mark, with_clear, with_bit_read, with_owner_read, bits_with, touching, home_known, came_at}
+use Rattle.place_table.specs.StoredHashes.{stored_in}
 use Rattle.place_table.specs.Tickets.{Tickets}
 use Rattle.place_table.proofs.TicketLemmas.{tickets_stay}
-use Rattle.place_table.specs.Rules.{World, Rule, PassKnows, IsFresh, IsSeen, LeadTo, IsReading, HasRow, IsBrought, AreNoted, logs_of}
+use Rattle.place_table.specs.Rules.{World, Rule, PassKnows, AreRowed, IsFresh, IsSeen, LeadTo, IsReading, HasRow, IsBrought, AreNoted, logs_of}
 use Rattle.place_table.specs.Words.{owner_word, home_word, bit_word, ticket_word, opening_words}
 use Rattle.place_table.specs.Plays.{Seated, Marks, Clears, SeesBit, SeesOwner, OwnerFits}
 use Rattle.place_table.proofs.Came.{came_marked, came_cleared, came_bit_read, came_owner_read}
@@ -44,6 +45,7 @@ use Rattle.place_table.specs.declared.view.HomeIn.{HomeIn}
 use Rattle.place_table.specs.declared.view.WordStep.{WordStep}
 use Rattle.place_table.proofs.StepLog.{made, time_more, givers_other, touches_with, lead_with, of_strands_with, strand_with, past_same, other_same, reads_more}
 use Rattle.place_table.proofs.NotesDone.{word_off, noted_mark, noted_clear, noted_bit, noted_owner}
+use Rattle.place_table.proofs.Counted.{counted_more, reading_more}
 
 -- with other notes a pass knows the same, and what it keeps of bits has to be so
 abbrev AreSo : World → List BitSeen → Type 0
@@ -103,6 +105,14 @@ only_all shape w pass v e b kn =
     by_bool (has_all v) (λ t. ((v.known ≡ []) × (cond t (record { element = e; bit = b } ∷ v.bits) v.bits ≡ [])) ⊎ ((c : ℕ) → c < shape.cpus → is_among c v.cpus ≡ true))
     (λ all. inr (λ c less. here_all v.shape.cpus v.cpus all c (subst (λ z. c < z.cpus) (sym kn.shape_is) less)))
     (λ _. kn.only)
+
+-- what is listed under locks that are held has its row, or came, where other notes are made
+pub rowed_still : (shape : Shape) (hash : ℕ → ℕ) (held : List Hold) (notes notes' : List Notes) → ((k : ℕ) → came_at k held notes' ≡ came_at k held notes) → AreRowed shape hash held notes → AreRowed shape hash held notes'
+rowed_still shape hash held notes notes' same are k e hold found no_bucket inside =
+    ⊎_elim
+    (λ (had : stored_in (content shape (lock_named shape k) hold.log) e ≡ Some (hash e)). inl had)
+    (λ (come : is_among e (came_at k held notes) ≡ true). inr (ap (is_among e) (same k) ∙ come))
+    (are k e hold found no_bucket inside)
 
 module _ (shape : Shape) (s : State Behind View) (r : Rule shape s) (pass : ℕ) (v : View) (at_pass : get_elem? s.views pass ≡ some v) (notes : List Notes) (same_came : (k : ℕ) → came_at k v.held notes ≡ came_at k v.held v.notes) where
   -- what other passes know of bits where this one has a CPU
@@ -170,8 +180,9 @@ module _ (shape : Shape) (s : State Behind View) (r : Rule shape s) (pass : ℕ)
               hashed = λ lru y d lock real within in_hand at. let k : ℕ = lock_number shape lock in
                   hashed_stands shape w.core.holder w'.core.holder w.log w'.log w.hash w'.hash v.hashes v.hashes (came_at k v.held v.notes) (came_at k v.held notes) k y d
                   (λ m held. (held, refl)) (λ held. held) refl refl (λ inside. ap (is_among y) (same_came k) ∙ inside) (kn.hashed lru y d lock real within in_hand at);
+              rowed = λ lru. rowed_still shape w.hash v.held v.notes notes same_came (kn.rowed lru);
               hashes = λ y d noted within found. hash_stands shape w.hash w'.hash v.hand y d noted.bucket (kn.hashes y d noted within found) (λ _. refl);
-              readings = kn.readings;
+              readings = λ y d read within found. reading_more shape w.core.holder w.log w.core.home w.touches (w.current pass, x) v.hand y d read (kn.readings y d read within found);
               known = kn.known;
               bits = learnt shape w pass v f e b kn here_is else_is;
               only = only_all shape w pass v e b kn;
@@ -182,13 +193,13 @@ module _ (shape : Shape) (s : State Behind View) (r : Rule shape s) (pass : ℕ)
               apart = kn.apart;
               idle = λ empty. let was = kn.idle empty in ((was.0.0, reads_more v.touched x was.0.1 (only_read empty)), was.1);
             })
-            (λ t. others shape w w' j u same (r.knows j u t.1) (λ _. refl) (λ _ _ _. refl) (λ _ _ _. refl) (λ _ _ _. refl) (λ _ z. z) (r.knows j u t.1).known (others_know j u t.1 t.0) (λ _ _ _ _. refl) (λ _ _ _ _ _ _ at. inl at)
-            (λ tag own. other_same shape w pass v kn x j tag t.0 own) (λ _ _ _ _ _ _ still. still))
+            (λ t. others shape w w' j u same (r.knows j u t.1) (λ _. refl) (λ _ _ _. refl) (λ _ _ _. refl) (λ _ _ _. refl) (λ _ z. z) (r.knows j u t.1).known (others_know j u t.1 t.0) (λ _ _ _ _. refl) (λ _ _ _ _ _ _ at. inl at) (λ _ _ _ _ _ _. refl)
+            (λ tag own. other_same shape w pass v kn x j tag t.0 own) (λ read. counted_more shape w.touches (w.current pass, x) read.at read.turns read.home) (λ _ _ _ _ _ _ _ still. still))
             (at_set s.views pass j nv u h);
       }
 
   -- a look at the word i, which is n, by which the pass comes to know no bit or one
-  unfoldable pub look_rule : (i n : ℕ) (cs : List (ℕ × Behind)) (bits : List BitSeen) (readings : List HomeIn) → ((x c : ℕ) (read : Home) → c < shape.cpus → home_known x c readings ≡ Some read → IsReading shape r.world.core.holder r.world.log r.world.core.home v.hand x c read) → i < length s.words → get_or s.words i 0 ≡ n → lock_count shape ≤ i → AreNoted shape (touching (made r.world) i (Some n) n v) v.held notes → AreSo r.world bits → ((v.known ≡ []) × (bits ≡ [])) ⊎ ((c : ℕ) → c < shape.cpus → is_among c v.cpus ≡ true)
+  unfoldable pub look_rule : (i n : ℕ) (cs : List (ℕ × Behind)) (bits : List BitSeen) (readings : List HomeIn) → ((x c : ℕ) (read : HomeIn) → c < shape.cpus → home_known x c readings ≡ Some read → IsReading shape r.world.core.holder r.world.log r.world.core.home r.world.touches v.hand x c read) → i < length s.words → get_or s.words i 0 ≡ n → lock_count shape ≤ i → AreNoted shape (touching (made r.world) i (Some n) n v) v.held notes → AreSo r.world bits → ((v.known ≡ []) × (bits ≡ [])) ⊎ ((c : ℕ) → c < shape.cpus → is_among c v.cpus ≡ true)
       → (e : ℕ) → e < shape.elements
       → (after : Rule shape (stepped s i (get_or s.words i 0) pass cs (noted notes bits (touching (made r.world) i (Some n) n v) readings v) keeps)) × goes_by shape (Glance 0 e) 0 r.world.core after.world.core
   look_rule i n cs bits readings are_read inside found_is behind are_noted so only e real =
@@ -235,8 +246,9 @@ module _ (shape : Shape) (s : State Behind View) (r : Rule shape s) (pass : ℕ)
                 hashed = λ lru y d lock real within in_hand at. let k : ℕ = lock_number shape lock in
                     hashed_stands shape w.core.holder w'.core.holder w.log w'.log w.hash w'.hash v.hashes v.hashes (came_at k v.held v.notes) (came_at k v.held notes) k y d
                     (λ m held. (held, refl)) (λ held. held) refl refl (λ inside. ap (is_among y) (same_came k) ∙ inside) (kn.hashed lru y d lock real within in_hand at);
+                rowed = λ lru. rowed_still shape w.hash v.held v.notes notes same_came (kn.rowed lru);
                 hashes = λ y d noted within found. hash_stands shape w.hash w'.hash v.hand y d noted.bucket (kn.hashes y d noted within found) (λ _. refl);
-                readings = are_read;
+                readings = λ y d read within found. reading_more shape w.core.holder w.log w.core.home w.touches (w.current pass, x) v.hand y d read (are_read y d read within found);
                 known = kn.known;
                 bits = so;
                 only = only;
@@ -247,8 +259,8 @@ module _ (shape : Shape) (s : State Behind View) (r : Rule shape s) (pass : ℕ)
                 apart = kn.apart;
                 idle = λ empty. let was = kn.idle empty in ((was.0.0, reads_more v.touched x was.0.1 refl), was.1);
               })
-              (λ t. others shape w w' j u same (r.knows j u t.1) (λ _. refl) (λ _ _ _. refl) (λ _ _ _. refl) (λ _ _ _. refl) (λ _ z. z) (r.knows j u t.1).known (r.knows j u t.1).bits (λ _ _ _ _. refl) (λ _ _ _ _ _ _ at. inl at)
-              (λ tag own. other_same shape w pass v kn x j tag t.0 own) (λ _ _ _ _ _ _ still. still))
+              (λ t. others shape w w' j u same (r.knows j u t.1) (λ _. refl) (λ _ _ _. refl) (λ _ _ _. refl) (λ _ _ _. refl) (λ _ z. z) (r.knows j u t.1).known (r.knows j u t.1).bits (λ _ _ _ _. refl) (λ _ _ _ _ _ _ at. inl at) (λ _ _ _ _ _ _. refl)
+              (λ tag own. other_same shape w pass v kn x j tag t.0 own) (λ read. counted_more shape w.touches (w.current pass, x) read.at read.turns read.home) (λ _ _ _ _ _ _ _ still. still))
               (at_set s.views pass j nv u h);
         },
         record { enabled = (bounds.some_cpu, real); changed = refl },

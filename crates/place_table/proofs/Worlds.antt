@@ -1,6 +1,6 @@
 -- How what is true of the table changes at one lock or element, and what stays for the passes that make no step.
 use Rattle.std.proofs.Common.{◌≡◌, ◌≢◌, ℕ, zero, suc, ◌<◌, ◌⊎◌, inl, inr, ⊎_elim, eqb, cond, Bool, true, false, List, [], ◌∷◌, ◌++◌, sym, refl, ap, ◌∙◌, subst, arith, Option, Some, None}
-use Rattle.std.specs.Prelude.{◌&&◌}
+use Rattle.std.specs.Prelude.{◌&&◌, IsFalse}
 use Rattle.std.proofs.lemmas.Bool.{eqb-true}
 use Rattle.map_types.specs.declared.attr.Shape.{Shape}
 use Rattle.place_words.specs.declared.history.Entry.{Entry}
@@ -8,10 +8,11 @@ use Rattle.place_words.specs.declared.history.StrandStep.{StrandStep}
 use Rattle.place_words.specs.declared.owner.Owner.{Owner}
 use Rattle.place_words.specs.declared.owner.Owner.TheVariants as owners
 use Rattle.key_hash.specs.Bucket.{bucket_number}
-use Rattle.map_types.specs.ElementLists.{put}
+use Rattle.map_types.specs.ElementLists.{put, IsIn}
 use Rattle.place_words.specs.Histories.{content}
 use Rattle.place_words.specs.Locks.{lock_named, lock_number, rank_of}
 use Rattle.place_words.specs.declared.step.Lists.{Lists}
+use Rattle.place_words.specs.State.{rows, is_bucket}
 use Rattle.place_table.specs.declared.view.View.{View}
 use Rattle.place_table.specs.declared.view.Hold.{Hold}
 use Rattle.place_table.specs.declared.view.InHand.{InHand}
@@ -21,11 +22,12 @@ use Rattle.place_table.specs.declared.view.Turned.{Turned}
 use Rattle.place_table.specs.declared.view.Ended.{Ended}
 use Rattle.place_table.specs.declared.view.WordStep.{WordStep}
 use Rattle.place_table.specs.Views.{is_among, hold_at, is_in_hand_of, known_log, bit_seen, has_all_below, hash_known, came_at}
-use Rattle.place_table.specs.Rules.{Tagged, entries, World, hold, hold_of, is_hand_of, is_home_of, IsAboveAll, turns_of, StandIn, logs_of, IsStrand, ArePast, IsTagged, AreTagged, IsLostLock, PassKnows, IsHashOf, IsHashed, HasHash, HasCome, HasRow, IsBrought, touches_of, Touch, IsOfStrand, AreOfStrands, StillHome}
+use Rattle.place_table.specs.Rules.{Tagged, entries, World, hold, hold_of, is_hand_of, is_home_of, IsAboveAll, turns_of, StandIn, logs_of, IsStrand, ArePast, IsTagged, AreTagged, IsLostLock, PassKnows, IsHashOf, IsHashed, HasHash, HasCome, HasRow, IsBrought, touches_of, Touch, IsOfStrand, AreOfStrands, StillHome, IsCounted}
 use Rattle.place_words.specs.declared.home.Home.{Home}
 use Rattle.place_words.specs.declared.home.Home.TheVariants as homes
 use Rattle.map_types.specs.declared.kind.DomainId.{DomainId}
 use Rattle.map_types.proofs.RowLemmas.{by_test}
+use Rattle.place_table.specs.declared.view.HomeIn.{HomeIn}
 
 -- the same of four functions that change at one place
 pub at_put4 : {A B C D : Type 0} (f : ℕ → A) (g : ℕ → B) (h : ℕ → C) (l : ℕ → D) (i : ℕ) (x : A) (y : B) (z : C) (u : D) (F : ℕ → A → B → C → D → Type 0) (j : ℕ)
@@ -327,10 +329,12 @@ pub others : (shape : Shape) (w w' : World) (j : ℕ) (u : View) → SameStrands
     → ((e : ℕ) (bit : Bool) → bit_seen e u.bits ≡ Some bit → w'.core.bit e ≡ bit)
     → ((e c : ℕ) → w.core.owner e ≡ owners.Hand c → w.pass_of_cpu c ≡ j → w'.hash e ≡ w.hash e)
     → ((e c : ℕ) (lock : DomainId) → e < shape.elements → w.core.owner e ≡ owners.Hand c → w.pass_of_cpu c ≡ j → w'.core.home e ≡ homes.In lock → (w.core.home e ≡ homes.In lock) ⊎ IsAway shape w.core.holder w'.core.holder (w.core.home e) c lock)
+    → ((k e : ℕ) (hold : Hold) → hold_at k u.held ≡ Some hold → IsFalse (is_bucket (lock_named shape k)) → IsIn e (rows hold.now) → w'.hash e ≡ w.hash e)
     → ((t : ℕ) → w.pass_of_strand t ≡ j → touches_of t w'.touches ≡ touches_of t w.touches)
-    → ((e c : ℕ) (read : Home) → e < shape.elements → w.core.owner e ≡ owners.Hand c → w.pass_of_cpu c ≡ j → StillHome shape w.core.holder w.log e (w.core.home e) read → StillHome shape w'.core.holder w'.log e (w'.core.home e) read)
+    → ((read : HomeIn) → IsCounted shape w.touches read.at read.turns read.home → IsCounted shape w'.touches read.at read.turns read.home)
+    → ((e c : ℕ) (read : HomeIn) → e < shape.elements → w.core.owner e ≡ owners.Hand c → w.pass_of_cpu c ≡ j → IsCounted shape w.touches read.at read.turns read.home → StillHome shape w.core.holder w.log read.turns e (w.core.home e) read.home → StillHome shape w'.core.holder w'.log read.turns e (w'.core.home e) read.home)
     → PassKnows shape w' j u
-others shape w w' j u same kn holds hands carried turns losses known bits hashes at_home touches readings = record {
+others shape w w' j u same kn holds hands carried turns losses known bits hashes at_home listed touches counts readings = record {
   shape_is = kn.shape_is;
   cpus = λ c less. kn.cpus c less ∙ sym (ap (λ (z : ℕ). eqb z j) (same.pass_of_cpu c));
   within = kn.within;
@@ -350,10 +354,14 @@ others shape w w' j u same kn holds hands carried turns losses known bits hashes
       (λ (away : IsAway shape w.core.holder w'.core.holder (w.core.home e) c lock). let j : ℕ = lock_number shape away.from in
       hashed_away shape w.core.holder w'.core.holder w.log w'.log w.hash w'.hash u.hashes u.hashes (came_at j u.held u.notes) (came_at k u.held u.notes) j k e c away.left away.now refl (kn.hashed lru e c away.from real within in_hand away.was))
       (at_home e c lock real own theirs at);
+  rowed = λ lru k e hold found no_bucket inside. ⊎_elim
+      (λ (had : stored_in (content shape (lock_named shape k) hold.log) e ≡ Some (w.hash e)). inl (had ∙ ap Some (sym (listed k e hold found no_bucket inside))))
+      (λ (come : is_among e (came_at k u.held u.notes) ≡ true). inr come)
+      (kn.rowed lru k e hold found no_bucket inside);
   hashes = λ e c noted within found. hash_stands shape w.hash w'.hash u.hand e c noted.bucket (kn.hashes e c noted within found)
       (λ in_hand. let is = both_true _ _ (sym (kn.hands e c within) ∙ in_hand) in hashes e c (hand_is c (w.core.owner e) is.0) (eqb-true (w.pass_of_cpu c) j is.1));
   readings = λ e c read within found. let was = kn.readings e c read within found in let is = both_true _ _ (sym (kn.hands e c within) ∙ was.in_hand) in
-      record { real = was.real; in_hand = was.in_hand; still = readings e c read was.real (hand_is c (w.core.owner e) is.0) (eqb-true (w.pass_of_cpu c) j is.1) was.still };
+      record { real = was.real; in_hand = was.in_hand; counted = counts read was.counted; still = readings e c read was.real (hand_is c (w.core.owner e) is.0) (eqb-true (w.pass_of_cpu c) j is.1) was.counted was.still };
   known = known;
   bits = bits;
   only = kn.only;

@@ -20,10 +20,16 @@ use Rattle.place_words.specs.Histories.{content, content_after, Allows, marks, b
 use Rattle.place_words.specs.Locks.{lock_named}
 use Rattle.place_words.specs.Traces.{IsTrace}
 use Rattle.place_words.specs.Walks.{spare_left}
+use Rattle.place_table.specs.declared.view.Hold.{Hold}
+use Rattle.place_table.specs.declared.view.Moment.{Moment}
+use Rattle.place_table.specs.declared.view.Notes.{Notes}
 use Rattle.place_table.specs.declared.view.Turned.{Turned}
+use Rattle.place_table.specs.declared.view.View.{View}
 use Rattle.place_table.specs.Known.{BitTouch, Learns, KnowsAll, turn_at, IsBy}
 use Rattle.place_table.specs.Passes.{PassView, TableView, IsPassOf, HasBegun, IsInNoCall, Made, SparesDiffer, spare_of}
-use Rattle.place_table.specs.Views.{is_among}
+use Rattle.place_table.specs.Plays.{WentOff}
+use Rattle.place_table.specs.TurnNotes.{NotesFit, clears_noted}
+use Rattle.place_table.specs.Views.{is_among, spent}
 
 -- a call asks that its pass is of the map, has begun, and is in no other call
 pub record CanCall (t : TableView) (p : PassView) : Type 0 where
@@ -92,6 +98,26 @@ pub record Leaves (t : TableView) (before after : PassView) (steps : List Turned
   pub bits : is_lru t.shape.kind ≡ false → after.view.bits ≡ before.view.bits
   pub learns : Learns t.shape before.view after.view steps touches
 
+-- what a pass knows that knows no more than this of a moment
+abbrev pub view_then : Shape → Moment → View
+view_then shape moment = record (spent shape) { held = moment.held; hand = moment.hand; carried = moment.carried; notes = moment.notes }
+
+-- A part tells a turn that was made: it tells what was done and read in the turn, as was noted when its lock was given back, and what was gone
+-- from local lists by then is flushed by it, or was carried. The bits that it tells are what the first clears of the turn found, in their
+-- order.
+pub record TellsTurn (shape : Shape) (turn : Turned) (part : Part) : Type 0 where
+  pub hold : Hold
+  pub below : List Hold
+  pub innermost : turn.moment.held ≡ hold ∷ below
+  pub lock_is : hold.lock ≡ turn.lock
+  pub log_is : hold.log ≡ turn.earlier
+  pub notes : Notes
+  pub notes_below : List Notes
+  pub notes_are : turn.moment.notes ≡ notes ∷ notes_below
+  pub notes_fit : NotesFit shape (view_then shape turn.moment) hold part notes
+  pub first_clears : (behind : List Visit) × (clears_noted notes ≡ bits_cleared part ++ behind)
+  pub gone : IsTrue (is_lru shape.kind) → WentOff shape (view_then shape turn.moment) hold part
+
 -- A turn, and another that could have been made in its place: of the same lock after the same turns, by the same CPU in the same
 -- call, with a part that is allowed there too, sets bits of the same elements and clears bits of the same ones, and leaves the same.
 pub record CouldBe (shape : Shape) (step told : Turned) : Type 0 where
@@ -99,15 +125,18 @@ pub record CouldBe (shape : Shape) (step told : Turned) : Type 0 where
   pub earlier : told.earlier ≡ step.earlier
   pub cpu : told.entry.cpu ≡ step.entry.cpu
   pub call : told.entry.call ≡ step.entry.call
+  pub moment : told.moment ≡ step.moment
   pub allowed : Allows shape told.entry.cpu told.entry.part (content shape (lock_named shape step.lock) step.earlier)
   pub same_marks : marks shape told.entry.part ≡ marks shape step.entry.part
   pub same_clears : (e : ℕ) → times e (clears told.entry.part) ≡ times e (clears step.entry.part)
   pub leaves : content_after shape told.entry.cpu told.entry.part (content shape (lock_named shape step.lock) step.earlier)
       ≡ content_after shape step.entry.cpu step.entry.part (content shape (lock_named shape step.lock) step.earlier)
 
--- A turn as a call tells it: the one that was made; or, where the lock was given back without a part, one that could have been.
+-- A turn as a call tells it: the one that was made; or, where the lock was given back without a part, one that could have been. Whichever
+-- it is, it tells what was done and read in the turn.
 abbrev pub IsTold : Shape → List ℕ → Turned → Turned → Type 0
-IsTold shape lost step told = (told ≡ step) ⊎ ((is_among step.lock lost ≡ true) × CouldBe shape step told)
+IsTold shape lost step told =
+    ((told ≡ step) ⊎ ((is_among step.lock lost ≡ true) × CouldBe shape step told)) × TellsTurn shape step told.entry.part
 
 abbrev pub AreTold : Shape → List ℕ → List Turned → List Turned → Type 0
 AreTold shape lost [] [] = Unit {0}

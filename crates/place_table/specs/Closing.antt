@@ -17,6 +17,7 @@ use Rattle.place_words.specs.State as cores
 use Rattle.place_words.specs.Places.{Placed}
 use Rattle.place_table.specs.declared.content.Behind.{Behind}
 use Rattle.place_table.specs.Contents.{lists_of}
+use Rattle.place_table.specs.Elements.{HoldsEachOnce}
 use Rattle.place_table.specs.declared.view.Ended.{Ended}
 use Rattle.place_table.specs.Views.{is_among, is_in_hand_of, known_log, bit_seen, all_strands, is_recorded}
 use Rattle.place_table.specs.Rules.{IsSlotAfter, is_hand_of, turns_on, indexes, StandIn, Touch, touches_of, LeadTo}
@@ -131,6 +132,8 @@ pub record IsClosed (shape : Shape) (pass : PassView) (closed : ClosedView) : Ty
   -- and what the pass has in hand is an element of the map, in the hand of one of its CPUs
   pub in_hand : (e c : ℕ) → is_in_hand_of e c pass.view.hand ≡ true → (e < shape.elements) × (c < shape.cpus)
   pub sized : (bucket : ℕ) → bucket < shape.buckets → All (IsSized shape) (slice_index_or closed.finals.buckets bucket [])
+  -- so what is handed out of the map has each element once, whether a record is lost or not
+  pub elements : HoldsEachOnce shape closed.finals
   -- what the pass knew is so, and every turn is one of its strands
   pub known : (k : ℕ) (turns : List Entry) → known_log k pass.view.known ≡ Some turns → log k ≡ turns
   pub bits : (e : ℕ) (bit : Bool) → bit_seen e pass.view.bits ≡ Some bit → core.bit e ≡ bit

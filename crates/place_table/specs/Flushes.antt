@@ -1,5 +1,5 @@
 -- Elements that a CPU's local lists lost to the global ones, as histories tell it.
-use Rattle.std.specs.Prelude.{ℕ, Bool, true, false, ◌==◌, List, [], ◌∷◌, Option, None, Some, if◌then◌else◌}
+use Rattle.std.specs.Prelude.{ℕ, zero, suc, Bool, true, false, ◌==◌, List, [], ◌∷◌, Option, None, Some, if◌then◌else◌}
 use Rattle.map_types.specs.declared.attr.Shape.{Shape}
 use Rattle.map_types.specs.declared.kind.DomainId.{DomainId}
 use Rattle.place_words.specs.declared.history.Entry.{Entry}
@@ -37,5 +37,11 @@ flushed_from shape e was before (entry ∷ entries) =
     let now = content_after shape entry.cpu entry.part before in
     flushed_from shape e (flushed_then was (flushes e entry.part) (stored_in before e) (stored_in now e)) now entries
 
-abbrev pub flushed_last : Shape → DomainId → ℕ → List Entry → Bool
-flushed_last shape lock e entries = flushed_from shape e false (opening_content shape lock) entries
+-- of the turns behind the first n alone
+unfoldable pub flushed_behind : Shape → ℕ → ℕ → Content → List Entry → Bool
+flushed_behind shape zero e before entries = flushed_from shape e false before entries
+flushed_behind shape (suc n) e before [] = false
+flushed_behind shape (suc n) e before (entry ∷ entries) = flushed_behind shape n e (content_after shape entry.cpu entry.part before) entries
+
+abbrev pub flushed_since : Shape → DomainId → ℕ → ℕ → List Entry → Bool
+flushed_since shape lock n e entries = flushed_behind shape n e (opening_content shape lock) entries

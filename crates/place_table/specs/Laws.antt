@@ -1,10 +1,10 @@
 -- Each operation on a word of the table is the step of the core that has its name, and the rule holds before and after it.
-use Rattle.std.specs.Prelude.{◌≡◌, ◌≢◌, ℕ, ◌+◌, ◌<◌, ◌==◌, true, false, List, [], ◌∷◌, ◌++◌, Some, IsTrue, IsFalse, length, slice_index, slice_set}
+use Rattle.std.specs.Prelude.{◌≡◌, ◌≢◌, ◌⊎◌, ℕ, ◌+◌, ◌<◌, ◌==◌, true, false, List, [], ◌∷◌, ◌++◌, None, Some, IsTrue, IsFalse, length, slice_index, slice_set}
 use mathlib.Core.Option.{some, none}
 use lib.ListN.{get_elem?}
 use prog.Atomic.{either}
 use Rattle.atomic_table.specs.Table as table
-use Rattle.atomic_table.specs.Table.{Me, Act, Valid, stepped, carried_after, step}
+use Rattle.atomic_table.specs.Table.{Me, Act, Valid, gives, stepped, carried_after, step}
 use Rattle.map_types.specs.declared.attr.Shape.{Shape}
 use Rattle.map_types.specs.declared.kind.DomainId.{DomainId}
 use Rattle.map_types.specs.declared.kind.DomainId.TheVariants.{Bucket}
@@ -14,7 +14,8 @@ use Rattle.place_words.specs.declared.home.Home.{Home}
 use Rattle.place_words.specs.Codes.{home_code}
 use Rattle.map_types.specs.ElementLists.{IsIn, IsHead}
 use Rattle.map_types.specs.Kind.{is_lru}
-use Rattle.place_words.specs.Locks.{is_lock, lock_number, rank_of}
+use Rattle.place_words.specs.Histories.{content, content_after, Allows}
+use Rattle.place_words.specs.Locks.{is_lock, lock_named, lock_number, rank_of}
 use Rattle.place_words.specs.declared.step.Step.{Step}
 use Rattle.place_words.specs.declared.step.Step.TheVariants.{Take, Give, Claim, Settle, Attach, Detach, Rehome, Mark, Clear, Glance}
 use Rattle.place_words.specs.State as cores
@@ -25,8 +26,9 @@ use Rattle.place_table.specs.declared.view.View.{View}
 use Rattle.place_table.specs.declared.view.Hold.{Hold}
 use Rattle.place_table.specs.declared.view.Ticket.TheVariants.{Unread, Drawing}
 use Rattle.place_table.specs.Contents.{content_told, lists_of}
-use Rattle.place_table.specs.Views.{is_among, hold_at, is_in_hand_of, split_from, split_off, joined, spent}
-use Rattle.place_table.specs.Rules.{Rule, IsAboveAll}
+use Rattle.place_table.specs.declared.content.Content.{Content}
+use Rattle.place_table.specs.Views.{is_among, hold_at, is_in_hand_of, given, with_lost, split_from, split_off, joined, spent}
+use Rattle.place_table.specs.Rules.{Rule, IsAboveAll, logs_of}
 use Rattle.place_table.specs.Words.{owner_word, home_word, bit_word, ticket_word}
 use Rattle.place_table.specs.Plays.{Seated, MayGive, Tries, GivesBack, ReadsTicket, DrawsTicket, SeesTicket, Claims, Settles, Attaches, Detaches, Marks, Clears, SeesBit, SeesOwner, SeesHome, IsKnownHome, MayGoHome, Rehomes, MayClear, IsInnermost, IsHashedInto}
 
@@ -70,6 +72,28 @@ GiveIsStep =
     → (entry : Entry) (kept : List StrandStep) (may : MayGive shape v hold entry kept behind)
     → StepsAs shape slots pass (v, (lock_number shape lock, behind) ∷ slots_below) (lock_number shape lock) (λ _. 0)
     (goes_by shape (Give hold.cpu lock (lists_of (content_told lock may.here)))) (λ _. GivesBack entry kept (v, (lock_number shape lock, behind) ∷ slots_below))
+
+-- What is given back with a lock is what an allowed turn makes of what lay there at the take, to which the lock's turns had led. From then
+-- on this turn is its last one, and no other lock has another turn.
+pub record LeadsOn (shape : Shape) (k : ℕ) (entry : Entry) (behind : Behind) (before after : ℕ → List Entry) : Type 0 where
+  pub here : Content
+  pub content_is : behind.content ≡ Some here
+  pub allowed : Allows shape entry.cpu entry.part (content shape (lock_named shape k) (before k))
+  pub told_is : content_told (lock_named shape k) here ≡ content_after shape entry.cpu entry.part (content shape (lock_named shape k) (before k))
+  pub log_is : after k ≡ before k ++ entry ∷ []
+  pub others : (m : ℕ) → m ≢ k → after m ≡ before m
+
+-- So it is of each lock that is given back, whether its turns are recorded or not: where no history is put back with it, as where no part is
+-- given, the pass may know that the record is lost.
+abbrev pub GiveLeadsOn : Type 0
+GiveLeadsOn =
+    (shape : Shape) (pass : ℕ) (v : View) (behind : Behind) (slots_below : List (ℕ × Behind)) (lock : DomainId) (hold : Hold) (below : List Hold)
+    → IsInnermost v hold below → IsTrue (is_lock shape lock) → hold.lock ≡ lock_number shape lock
+    → (entry : Entry) (kept : List StrandStep) → MayGive shape v hold entry kept behind
+    → (lost : List ℕ) → (lost ≡ v.lost) ⊎ ((behind.history ≡ None) × (lost ≡ hold.lock ∷ v.lost))
+    → (s : table.State Behind View) (r : Rule shape s) → get_elem? s.views pass ≡ some v
+    → (at : ℕ) × ((after : Rule shape (stepped s (lock_number shape lock) 0 pass ((lock_number shape lock, behind) ∷ slots_below) (with_lost lost (given at hold entry kept v)) gives))
+    × LeadsOn shape (lock_number shape lock) entry behind (logs_of r.world) (logs_of after.world))
 
 -- the pass holds this lock, with what lies there
 abbrev pub IsHeld : Shape → Seated → DomainId → Hold → Type 0

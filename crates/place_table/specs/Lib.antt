@@ -4,9 +4,11 @@ pub mod BucketTurns
 pub mod Calls
 pub mod Closing
 pub mod Contents
+pub mod Elements
 pub mod Flushes
 pub mod Idle
 pub mod InBucket
+pub mod KeyCalls
 pub mod Known
 pub mod Laws
 pub mod Leaving

@@ -24,7 +24,7 @@ use Rattle.place_words.specs.Takings.{set_of}
 use Rattle.place_words.specs.State.{rows, is_bucket}
 use Rattle.place_words.specs.Places.{MayOwn}
 use Rattle.place_words.specs.Wholeness.{all_of}
-use Rattle.place_table.specs.Flushes.{flushed_last}
+use Rattle.place_table.specs.Flushes.{flushed_since}
 use Rattle.place_table.specs.declared.content.Content.{Content}
 use Rattle.place_table.specs.declared.content.Behind.{Behind}
 use Rattle.place_table.specs.declared.strands.FinishedStrand.{FinishedStrand}
@@ -33,6 +33,7 @@ use Rattle.place_table.specs.declared.view.View.{View}
 use Rattle.place_table.specs.Idle.{LearnsAll}
 use Rattle.place_table.specs.declared.view.Hold.{Hold}
 use Rattle.place_table.specs.declared.view.InHand.{InHand}
+use Rattle.place_table.specs.declared.view.HomeIn.{HomeIn}
 use Rattle.place_table.specs.declared.view.Notes.{Notes}
 use Rattle.place_table.specs.declared.view.Turned.{Turned}
 use Rattle.place_table.specs.declared.view.Ended.{Ended}
@@ -187,10 +188,10 @@ pub record TookLock (t : TableView) (lock : DomainId) (before after : PassView) 
   pub legal : IsLegal t.shape lock hold.log
   pub known : (log : List Entry) → known_log (lock_number t.shape lock) before.view.known ≡ Some log → hold.log ≡ log
   -- an element whose home was read, and is known to be this lock, is listed under it
-  pub at_home : (e c : ℕ) → c < t.shape.cpus → home_known e c after.view.readings ≡ Some (homes.In lock) → IsIn e (rows hold.now)
-  -- and one whose home was read as these local lists, and which is pending there no more, was flushed from them
-  pub moved_on : (e c d : ℕ) → c < t.shape.cpus → lock ≡ Local d → home_known e c before.view.readings ≡ Some (homes.In (Local d)) → times e (rows hold.now) ≡ 0
-      → flushed_last t.shape lock e hold.log ≡ true
+  pub at_home : (e c : ℕ) (read : HomeIn) → c < t.shape.cpus → home_known e c after.view.readings ≡ Some read → read.home ≡ homes.In lock → IsIn e (rows hold.now)
+  -- and one whose home was read as these local lists, and which is pending there no more, was flushed from them since
+  pub moved_on : (e c d : ℕ) (read : HomeIn) → c < t.shape.cpus → lock ≡ Local d → home_known e c before.view.readings ≡ Some read → read.home ≡ homes.In (Local d) → times e (rows hold.now) ≡ 0
+      → flushed_since t.shape lock read.turns e hold.log ≡ true
   -- what lies on the lists of this lock lies on those of no other that is held
   pub alone : IsTrue (is_lru t.shape.kind) → IsFalse (is_bucket lock)
       → (k e : ℕ) (other : Hold) → hold_at k before.view.held ≡ Some other → IsFalse (is_bucket (lock_named t.shape k)) → IsIn e (all_of hold.now)
@@ -435,7 +436,9 @@ pub record SawHome (t : TableView) (e : ℕ) (before after : PassView) (home : H
   pub has_code : HasHomeCode home
   pub fits : HomeFits t.shape before.view e home
   pub at : ℕ
-  pub after_is : after ≡ with_view before (home_read at e home before.view)
+  -- where the home is local lists, how many turns their lock had had
+  pub turns : ℕ
+  pub after_is : after ≡ with_view before (home_read at turns e home before.view)
 
 -- Of these turns, in order, some are recorded behind what was recorded before.
 abbrev pub IsKeptOf : Shape → List Turned → List StrandStep → List StrandStep → Type 0
@@ -503,10 +506,6 @@ pub record Split (cpu : ℕ) (before after off : PassView) : Type 0 where
   pub in_no_call : IsInNoCall after
   pub off_in_no_call : IsInNoCall off
 
--- no CPU is among both
-abbrev pub AreApart : List ℕ → List ℕ → Type 0
-AreApart cpus others = (cpu : ℕ) → is_among cpu cpus ≡ true → is_among cpu others ≡ false
-
 -- join asks for two passes of the table that are in no call
 pub record CanJoin (t : TableView) (p other : PassView) : Type 0 where
   pub of_table : IsPassOf t p
@@ -519,9 +518,9 @@ abbrev pub either_spare : Option Stored → Option Stored → Option Stored
 either_spare (Some body) other = Some body
 either_spare None other = other
 
--- What it leaves: the pass has the CPUs of both, their hands and spares, and the strands of both, which have ended. Where no CPU
--- is in both, as is always so, it is in no call. `after` differs from `before` in its view and its spares alone.
+-- What it leaves: the pass has the CPUs of both, their hands and spares, and the strands of both, which have ended. It is in no call.
+-- `after` differs from `before` in its view and its spares alone.
 pub record Joined (before other after : PassView) : Type 0 where
   pub after_is : after ≡ with_spares (with_view before (joined before.view other.view)) after.spares
   pub spares_are : (cpu : ℕ) → spare_of cpu after.spares ≡ either_spare (spare_of cpu before.spares) (spare_of cpu other.spares)
-  pub in_no_call : AreApart before.view.cpus other.view.cpus → IsInNoCall after
+  pub in_no_call : IsInNoCall after

@@ -34,6 +34,7 @@ use Rattle.place_table.specs.Idle.{LearnsAll}
 use Rattle.place_table.specs.declared.view.Hold.{Hold}
 use Rattle.place_table.specs.declared.view.InHand.{InHand}
 use Rattle.place_table.specs.declared.view.HashIn.{HashIn}
+use Rattle.place_table.specs.declared.view.HomeIn.{HomeIn}
 use Rattle.place_table.specs.declared.view.Notes.{Notes}
 use Rattle.place_table.specs.declared.view.Ticket.TheVariants.{Drawn}
 use Rattle.place_table.specs.Words.{ticket_bound}
@@ -43,7 +44,7 @@ use Rattle.place_table.specs.Views.{is_among, hold_at, is_in_hand_of, bucket_kno
 use Rattle.place_table.specs.Rules.{IsSlotAfter, is_hand_of}
 use Rattle.place_table.specs.TurnNotes.{HasOnlyHash, NotesFit, InnermostFits}
 use Rattle.place_table.specs.StoredHashes.{stored_in}
-use Rattle.place_table.specs.Flushes.{flushes, flushed_last}
+use Rattle.place_table.specs.Flushes.{flushes, flushed_since}
 
 -- a seat at the table: what it knows, and the slots that it has
 abbrev pub Seated : Type 0
@@ -78,11 +79,11 @@ pub record Took (k cpu : ℕ) (before after : Seated) : Type 0 where
   pub legal : IsLegal before.0.shape (lock_named before.0.shape k) hold.log
   pub known : (log : List Entry) → known_log k before.0.known ≡ Some log → hold.log ≡ log
   -- an element whose home was read, and is known to be this lock, is listed under it
-  pub at_home : (e c : ℕ) (lock : DomainId) → c < before.0.shape.cpus → home_known e c after.0.readings ≡ Some (homes.In lock) → lock_number before.0.shape lock ≡ k
+  pub at_home : (e c : ℕ) (lock : DomainId) (read : HomeIn) → c < before.0.shape.cpus → home_known e c after.0.readings ≡ Some read → read.home ≡ homes.In lock → lock_number before.0.shape lock ≡ k
       → IsIn e (rows hold.now)
-  -- and one whose home was read as local lists under this lock, and which is pending there no more, was flushed from them
-  pub moved_on : (e c d : ℕ) → c < before.0.shape.cpus → lock_named before.0.shape k ≡ Local d → home_known e c before.0.readings ≡ Some (homes.In (Local d)) → times e (rows hold.now) ≡ 0
-      → flushed_last before.0.shape (lock_named before.0.shape k) e hold.log ≡ true
+  -- and one whose home was read as local lists under this lock, and which is pending there no more, was flushed from them since
+  pub moved_on : (e c d : ℕ) (read : HomeIn) → c < before.0.shape.cpus → lock_named before.0.shape k ≡ Local d → home_known e c before.0.readings ≡ Some read → read.home ≡ homes.In (Local d) → times e (rows hold.now) ≡ 0
+      → flushed_since before.0.shape (lock_named before.0.shape k) read.turns e hold.log ≡ true
   -- what lies on the lists of this lock lies on those of no other that is held
   pub alone : IsTrue (is_lru before.0.shape.kind) → IsFalse (is_bucket (lock_named before.0.shape k))
       → (j e : ℕ) (other : Hold) → hold_at j before.0.held ≡ Some other → IsFalse (is_bucket (lock_named before.0.shape j)) → IsIn e (all_of hold.now)
@@ -108,11 +109,15 @@ put_back shape hold here = content_told (lock_named shape hold.lock) here
 abbrev pub has_come_to_hand : View → Hold → ℕ → Bool
 has_come_to_hand v hold e = is_in_hand_of e hold.cpu v.hand && is_among e (came_last v.notes)
 
--- Of any other element the row that is put back has the hash of each row that the element had, when that was taken, under this lock or
--- another one that the pass holds.
+-- a row that is put back may be the one that its element had under this lock, or, where it came in this turn, under another one
+abbrev pub MayComeFrom : View → Hold → ℕ → ℕ → Type 0
+MayComeFrom v hold j e = (j ≡ hold.lock) ⊎ (is_among e (came_last v.notes) ≡ true)
+
+-- Of an element that hasn't come to the CPU's hand in this turn, the row that is put back has the hash of the row that it had under this lock
+-- when that was taken, and, where it came in this turn, of each row that it had under another lock that the pass holds.
 abbrev pub KeepsHashes : Shape → View → Hold → Content → Type 0
 KeepsHashes shape v hold here =
-    (j e h n : ℕ) (other : Hold) → hold_at j v.held ≡ Some other → has_come_to_hand v hold e ≡ false
+    (j e h n : ℕ) (other : Hold) → hold_at j v.held ≡ Some other → MayComeFrom v hold j e → has_come_to_hand v hold e ≡ false
     → stored_in (content shape (lock_named shape j) other.log) e ≡ Some h → stored_in (put_back shape hold here) e ≡ Some n → h ≡ n
 
 -- what was pending when a local lock was taken, and is on its lists no more, was flushed by the turn, or the CPU carries it
@@ -356,7 +361,9 @@ pub record SeesHome (e : ℕ) (before : Seated) (found : ℕ) (after : Seated) :
   pub has_code : HasHomeCode home
   pub fits : HomeFits before.0.shape before.0 e home
   pub at : ℕ
-  pub after_is : after ≡ (home_read at e home before.0, before.1)
+  -- where the home is local lists, how many turns their lock had had
+  pub turns : ℕ
+  pub after_is : after ≡ (home_read at turns e home before.0, before.1)
 
 -- A bit may be cleared of what is in the CPU's hand, and on a map that evicts of what stands on the lists of a lock that the
 -- CPU holds.

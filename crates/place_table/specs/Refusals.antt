@@ -1,20 +1,23 @@
 -- What a pass tells of its steps on words is so. The rule allows no step that is told otherwise than it is done.
-use Rattle.std.specs.Prelude.{◌≡◌, ◌≢◌, ℕ, ◌+◌, ◌<◌, List, [], ◌∷◌, ◌++◌, length, slice_index_or, slice_set}
+use Rattle.std.specs.Prelude.{◌≡◌, ◌≢◌, ℕ, ◌+◌, ◌<◌, true, IsTrue, List, [], ◌∷◌, ◌++◌, length, slice_index_or, slice_set}
 use mathlib.Core.Option.{some}
 use lib.ListN.{get_elem?}
 use Rattle.atomic_table.specs.Table as table
 use Rattle.atomic_table.specs.Table.{Act, Allows, stepped}
 use Rattle.map_types.specs.declared.attr.Shape.{Shape}
+use Rattle.map_types.specs.declared.kind.DomainId.TheVariants.{Local}
 use Rattle.place_words.specs.declared.history.Entry.{Entry}
 use Rattle.place_words.specs.declared.history.StrandStep.{StrandStep}
+use Rattle.place_words.specs.declared.home.Home.TheVariants as homes
 use Rattle.place_words.specs.declared.owner.Owner.TheVariants as owners
+use Rattle.place_words.specs.Locks.{is_lock, lock_number}
 use Rattle.place_table.specs.declared.content.Behind.{Behind}
 use Rattle.place_table.specs.declared.view.View.{View}
 use Rattle.place_table.specs.declared.view.Ticket.TheVariants.{Drawn}
 use Rattle.place_table.specs.declared.view.WordStep.{WordStep}
-use Rattle.place_table.specs.Views.{owner_read}
+use Rattle.place_table.specs.Views.{owner_read, home_read, is_in_hand_of}
 use Rattle.place_table.specs.Words.{word_count, owner_word, bit_word, ticket_word}
-use Rattle.place_table.specs.Rules.{Rule, IsSeen}
+use Rattle.place_table.specs.Rules.{Rule, IsSeen, logs_of}
 use Rattle.place_table.specs.Plays.{Seated, GivesBack, DrawsTicket, Marks, Clears, SeesBit}
 
 -- A step is told as it was done: what it tells that it saw in its word was there, what it tells that it left is there after it, and
@@ -76,6 +79,15 @@ LooksAtItsOwner =
     (shape : Shape) (slots pass e i : ℕ) (f : ℕ → ℕ) (me : Seated)
     → InEachState shape slots pass me (λ s. e < shape.elements → owner_word shape e ≢ i → word_of s i < 18446744073709551616 → 0 < word_of s (owner_word shape e)
     → Refuses shape slots pass me i f (TellsFree e me))
+
+-- A home that is told to be local lists is told with the number of turns that their lock had then, of an element in the hand of a CPU of
+-- the pass: whatever the table and the pass are, where the rule holds before and after.
+abbrev pub TellsTurns : Type 0
+TellsTurns =
+    (shape : Shape) (s : table.State Behind View) (pass i n : ℕ) (v : View) (slots : List (ℕ × Behind)) (act : Act Behind) (at turns e c cpu : ℕ) (r : Rule shape s)
+    → get_elem? s.views pass ≡ some v → Rule shape (stepped s i n pass slots (home_read at turns e (homes.In (Local cpu)) v) act)
+    → IsTrue (is_lock shape (Local cpu)) → c < shape.cpus → is_in_hand_of e c v.hand ≡ true
+    → turns ≡ length (logs_of r.world (lock_number shape (Local cpu)))
 
 -- a draw that adds another number than 1 isn't allowed
 abbrev pub DrawsOne : Type 0

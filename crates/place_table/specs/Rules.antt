@@ -1,5 +1,5 @@
 -- The rule of the table. It holds between any two steps on its words.
-use Rattle.std.specs.Prelude.{◌+◌, ◌≡◌, ◌≢◌, ◌⊎◌, ℕ, suc, ◌==◌, ◌<◌, Bool, true, false, ◌&&◌, List, [], ◌∷◌, ◌++◌, length, Option, None, Some, MatchOption, MatchBool, IsTrue, slice_index_or, if◌then◌else◌, IsFalse}
+use Rattle.std.specs.Prelude.{◌+◌, ◌≡◌, ◌≢◌, ◌⊎◌, ℕ, suc, ◌==◌, ◌<◌, ◌≤◌, Bool, true, false, ◌&&◌, List, [], ◌∷◌, ◌++◌, length, take, Option, None, Some, MatchOption, MatchBool, IsTrue, slice_index_or, if◌then◌else◌, IsFalse}
 use mathlib.Core.Option.{some, none}
 use mathlib.Core.Option as maybe
 use lib.ListN.{get_elem?}
@@ -33,9 +33,10 @@ use Rattle.place_table.specs.declared.view.View.{View}
 use Rattle.place_table.specs.declared.view.Hold.{Hold}
 use Rattle.place_table.specs.declared.view.InHand.{InHand}
 use Rattle.place_table.specs.declared.view.HashIn.{HashIn}
+use Rattle.place_table.specs.declared.view.HomeIn.{HomeIn}
 use Rattle.place_table.specs.declared.view.Turned.{Turned}
 use Rattle.place_table.specs.declared.view.Ended.{Ended}
-use Rattle.place_table.specs.Flushes.{flushed_last}
+use Rattle.place_table.specs.Flushes.{flushed_since}
 use Rattle.place_table.specs.declared.view.WordStep.{WordStep}
 use Rattle.place_table.specs.Tickets.{Tickets}
 use Rattle.place_table.specs.Words.{word_count, owner_word, home_word, bit_word, ticket_word, lock_code, opening_words}
@@ -289,25 +290,33 @@ pub record IsHashed (shape : Shape) (holder : ℕ → Option ℕ) (log : ℕ →
   pub from : HasHash true hashes e c ⊎ (HasHash false hashes e c ⊎ HasCome holder came k e c)
   pub row : holder k ≡ Some c → HasRow shape log hash k e ⊎ (IsBrought shape holder log hash k e ⊎ HasCome holder came k e c)
 
--- An element was flushed from the local lists under this lock: whoever did it still holds the lock, under which it was pending
--- when it was taken, or the last turn that put the element on pending or took it off flushed it.
-abbrev pub WasFlushed : Shape → (ℕ → Option ℕ) → (ℕ → List Tagged) → ℕ → ℕ → Type 0
-WasFlushed shape holder log k e =
+-- An element was flushed from the local lists under this lock, in a turn behind its first n ones: whoever did it still holds the
+-- lock, under which it was pending when it was taken, or the last of the turns behind those that put the element on pending or took
+-- it off flushed it.
+abbrev pub WasFlushed : Shape → (ℕ → Option ℕ) → (ℕ → List Tagged) → ℕ → ℕ → ℕ → Type 0
+WasFlushed shape holder log k n e =
     ((cpu : ℕ) × (h : ℕ) × (holder k ≡ Some cpu) × (stored_in (content shape (lock_named shape k) (entries (log k))) e ≡ Some h))
-    ⊎ (flushed_last shape (lock_named shape k) e (entries (log k)) ≡ true)
+    ⊎ (flushed_since shape (lock_named shape k) n e (entries (log k)) ≡ true)
 
--- What a reading of a home still says of the home that is: a local lock is still the home, or the home is the global lists and
--- the element was flushed from the local ones; any other home is still the home.
-abbrev pub StillHome : Shape → (ℕ → Option ℕ) → (ℕ → List Tagged) → ℕ → Home → Home → Type 0
-StillHome shape holder log e now (homes.In (Local c)) =
-    (now ≡ homes.In (Local c)) ⊎ ((now ≡ homes.In Global) × IsTrue (is_lock shape (Local c)) × WasFlushed shape holder log (lock_number shape (Local c)) e)
-StillHome shape holder log e now read = now ≡ read
+-- What a reading of a home still says of the home that is: a local lock, which had had n turns, is still the home, or the home is the
+-- global lists and the element was flushed from the local ones since; any other home is still the home.
+abbrev pub StillHome : Shape → (ℕ → Option ℕ) → (ℕ → List Tagged) → ℕ → ℕ → Home → Home → Type 0
+StillHome shape holder log n e now (homes.In (Local c)) =
+    (now ≡ homes.In (Local c)) ⊎ ((now ≡ homes.In Global) × IsTrue (is_lock shape (Local c)) × WasFlushed shape holder log (lock_number shape (Local c)) n e)
+StillHome shape holder log n e now read = now ≡ read
+
+-- Where a home was read as local lists by the step with this number, so many turns had ended under their lock: it had been given back
+-- so often by the steps on words before that one.
+abbrev pub IsCounted : Shape → List Touch → ℕ → ℕ → Home → Type 0
+IsCounted shape touches at n (homes.In (Local c)) = (at ≤ length touches) × (n ≡ length (givers (lock_number shape (Local c)) (take at touches)))
+IsCounted shape touches at n read = Unit {0}
 
 -- a reading of the home of an element in the hand of a CPU
-pub record IsReading (shape : Shape) (holder : ℕ → Option ℕ) (log : ℕ → List Tagged) (home : ℕ → Home) (hand : List InHand) (e c : ℕ) (read : Home) : Type 0 where
+pub record IsReading (shape : Shape) (holder : ℕ → Option ℕ) (log : ℕ → List Tagged) (home : ℕ → Home) (touches : List Touch) (hand : List InHand) (e c : ℕ) (read : HomeIn) : Type 0 where
   pub real : e < shape.elements
   pub in_hand : is_in_hand_of e c hand ≡ true
-  pub still : StillHome shape holder log e (home e) read
+  pub counted : IsCounted shape touches read.at read.turns read.home
+  pub still : StillHome shape holder log read.turns e (home e) read.home
 
 -- The steps by which a lock was taken, a bit set, a bit cleared or read, an owner read, and a home read, each with its number.
 abbrev pub take_step : Hold → ℕ → WordStep
@@ -347,6 +356,13 @@ pub record IsDone (shape : Shape) (steps : List WordStep) (notes : Notes) : Type
   pub owners : AreDone (owner_step shape) steps notes.owners
   pub homes : AreDone (home_step shape) steps notes.homes
 
+-- On a map that evicts: what is listed under one of these locks, which is no bucket's, has a row there with its stored hash since the
+-- lock was taken, or has come in the turn under way.
+abbrev pub AreRowed : Shape → (ℕ → ℕ) → List Hold → List Notes → Type 0
+AreRowed shape hash held notes =
+    (k e : ℕ) (hold : Hold) → hold_at k held ≡ Some hold → IsFalse (is_bucket (lock_named shape k)) → IsIn e (rows hold.now)
+    → (stored_in (content shape (lock_named shape k) hold.log) e ≡ Some (hash e)) ⊎ (is_among e (came_at k held notes) ≡ true)
+
 -- none of these steps is on the word of one of these locks
 abbrev pub AreOffHeld : List Hold → List WordStep → Type 0
 AreOffHeld [] steps = Unit {0}
@@ -380,8 +396,10 @@ pub record PassKnows (shape : Shape) (world : World) (pass : ℕ) (v : View) : T
   pub hashes : (e c : ℕ) (noted : HashIn) → c < shape.cpus → hash_known e c v.hashes ≡ Some noted → IsHashOf shape world.hash v.hand e c noted.bucket
   pub hashed : IsTrue (is_lru shape.kind) → (e c : ℕ) (lock : DomainId) → e < shape.elements → c < shape.cpus → is_in_hand_of e c v.hand ≡ true → world.core.home e ≡ homes.In lock
       → IsHashed shape world.core.holder world.log world.hash v.hashes (came_at (lock_number shape lock) v.held v.notes) (lock_number shape lock) e c
-  -- and the homes that were read of them
-  pub readings : (e c : ℕ) (read : Home) → c < shape.cpus → home_known e c v.readings ≡ Some read → IsReading shape world.core.holder world.log world.core.home v.hand e c read
+  -- and what is listed under the locks that are held
+  pub rowed : IsTrue (is_lru shape.kind) → AreRowed shape world.hash v.held v.notes
+  -- and the homes that were read of what is in hand
+  pub readings : (e c : ℕ) (read : HomeIn) → c < shape.cpus → home_known e c v.readings ≡ Some read → IsReading shape world.core.holder world.log world.core.home world.touches v.hand e c read
   -- what only a pass with all CPUs keeps: turns of locks and bits
   pub known : (k : ℕ) (log : List Entry) → known_log k v.known ≡ Some log → entries (world.log k) ≡ log
   pub bits : (e : ℕ) (bit : Bool) → bit_seen e v.bits ≡ Some bit → world.core.bit e ≡ bit

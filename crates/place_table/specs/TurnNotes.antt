@@ -54,7 +54,7 @@ WasRead (x ∷ xs) visit = (x ≡ record { element = visit.element; bit = visit.
 
 -- Owners
 
--- the owner of an element was read as the hand of a CPU while the lock was the last one taken, or by a turn inside that told it
+-- the owner of an element was read as the hand of a CPU while the lock was the last one taken, or under a bucket's lock inside
 abbrev pub WasReadInHand : ℕ → ℕ → List OwnerSeen → Type 0
 WasReadInHand e cpu [] = ⊥
 WasReadInHand e cpu (x ∷ xs) = ((x.element ≡ e) × (x.owner ≡ Hand cpu)) ⊎ WasReadInHand e cpu xs

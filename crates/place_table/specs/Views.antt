@@ -1,5 +1,5 @@
 -- What a pass knows, and how each step changes it.
-use Rattle.std.specs.Prelude.{ℕ, zero, suc, ◌+◌, ◌==◌, nat_lt, max, Bool, true, false, not, ◌&&◌, List, [], ◌∷◌, ◌++◌, length, Option, None, Some, if◌then◌else◌}
+use Rattle.std.specs.Prelude.{ℕ, zero, suc, ◌+◌, ◌==◌, nat_lt, max, Bool, true, false, not, ◌&&◌, ◌||◌, List, [], ◌∷◌, ◌++◌, length, Option, None, Some, is_some, if◌then◌else◌}
 use Rattle.map_types.specs.declared.attr.Shape.{Shape}
 use Rattle.map_types.specs.declared.kind.DomainId.{DomainId}
 use Rattle.map_types.specs.declared.kind.DomainId.TheVariants.{Bucket, Local, Global}
@@ -8,11 +8,6 @@ use Rattle.place_words.specs.declared.history.StrandStep.{StrandStep}
 use Rattle.place_words.specs.declared.home.Home.{Home}
 use Rattle.place_words.specs.declared.home.Home.TheVariants as homes
 use Rattle.place_words.specs.declared.owner.Owner.{Owner}
-use Rattle.place_words.specs.declared.owner.Owner.TheVariants as owners
-use Rattle.place_words.specs.declared.bucket_part.BucketPart.{BucketPart}
-use Rattle.place_words.specs.declared.bucket_part.BucketPart.TheVariants.{Evict}
-use Rattle.place_words.specs.declared.bucket_part.Seen.{Seen}
-use Rattle.place_words.specs.declared.bucket_part.Seen.TheVariants.{Removed, Held}
 use Rattle.place_words.specs.declared.history.Part.{Part}
 use Rattle.place_words.specs.declared.list_part.GlobalPart.{GlobalPart}
 use Rattle.place_words.specs.declared.list_part.GlobalPart.TheVariants as global
@@ -34,8 +29,10 @@ use Rattle.place_table.specs.declared.view.InHand.{InHand}
 use Rattle.place_table.specs.declared.view.HashIn.{HashIn}
 use Rattle.place_table.specs.declared.view.HomeIn.{HomeIn}
 use Rattle.place_table.specs.declared.view.Notes.{Notes}
+use Rattle.place_table.specs.declared.view.OwnerSeen.{OwnerSeen}
 use Rattle.place_table.specs.declared.view.Known.{Known}
 use Rattle.place_table.specs.declared.view.Turned.{Turned}
+use Rattle.place_table.specs.declared.view.Moment.{Moment}
 use Rattle.place_table.specs.declared.view.BitSeen.{BitSeen}
 use Rattle.place_table.specs.declared.view.WordStep.{WordStep}
 use Rattle.place_table.specs.declared.view.Ticket.{Ticket}
@@ -74,10 +71,10 @@ abbrev pub kept_hashes : List InHand → List HashIn → List HashIn
 kept_hashes hand [] = []
 kept_hashes hand (x ∷ xs) = if is_in_hand_of x.element x.cpu hand then x ∷ kept_hashes hand xs else kept_hashes hand xs
 
--- the home that was read of an element in the hand of a CPU, none where none was
-abbrev pub home_known : ℕ → ℕ → List HomeIn → Option Home
+-- the last reading of the home of an element in the hand of a CPU, none where it wasn't read
+abbrev pub home_known : ℕ → ℕ → List HomeIn → Option HomeIn
 home_known e cpu [] = None
-home_known e cpu (x ∷ xs) = if (x.element == e) && (x.cpu == cpu) then Some x.home else home_known e cpu xs
+home_known e cpu (x ∷ xs) = if (x.element == e) && (x.cpu == cpu) then Some x else home_known e cpu xs
 
 -- those of what is in hand, those of other elements, and one more of an element that is in hand
 abbrev pub kept_readings : List InHand → List HomeIn → List HomeIn
@@ -88,10 +85,11 @@ abbrev pub without_readings : ℕ → List HomeIn → List HomeIn
 without_readings e [] = []
 without_readings e (x ∷ xs) = if x.element == e then without_readings e xs else x ∷ without_readings e xs
 
-abbrev pub with_reading : ℕ → Home → List InHand → List HomeIn → List HomeIn
-with_reading e home [] readings = readings
-with_reading e home (x ∷ xs) readings =
-    if x.element == e then record { element = e; cpu = x.cpu; home = home } ∷ with_reading e home xs readings else with_reading e home xs readings
+abbrev pub with_reading : ℕ → ℕ → ℕ → Home → List InHand → List HomeIn → List HomeIn
+with_reading at turns e home [] readings = readings
+with_reading at turns e home (x ∷ xs) readings =
+    if x.element == e then record { element = e; cpu = x.cpu; home = home; at = at; turns = turns } ∷ with_reading at turns e home xs readings
+    else with_reading at turns e home xs readings
 
 -- A lock is taken: an element that was read to be on the local lists under it, and is on them no more, is on the global ones.
 abbrev pub home_then : Shape → Hold → ℕ → Home → Home
@@ -272,9 +270,13 @@ abbrev pub came_last : List Notes → List ℕ
 came_last [] = []
 came_last (n ∷ notes) = n.came
 
--- a turn of the lock k, after these turns there
-abbrev pub turned : ℕ → List Entry → Entry → Turned
-turned k earlier entry = record { lock = k; earlier = earlier; entry = entry }
+-- what a pass has and has noted at a moment
+abbrev pub moment_of : View → Moment
+moment_of v = record { held = v.held; hand = v.hand; carried = v.carried; notes = v.notes }
+
+-- a turn of the lock k, after these turns there, which a pass ended when it knew this
+abbrev pub turned : ℕ → List Entry → Entry → View → Turned
+turned k earlier entry v = record { lock = k; earlier = earlier; entry = entry; moment = moment_of v }
 
 -- the place of its entry in the history of its lock
 abbrev pub place_of : Turned → ℕ
@@ -293,14 +295,14 @@ abbrev pub with_owner_read : ℕ → Owner → List Notes → List Notes
 with_owner_read e owner [] = []
 with_owner_read e owner (n ∷ below) = record n { owners = record { element = e; owner = owner } ∷ n.owners } ∷ below
 
--- What a probe read under a bucket's lock, that its element is in a CPU's hand, belongs from then on to the turn around it.
-abbrev pub owners_probed : ℕ → Seen → List Notes → List Notes
-owners_probed e Removed below = below
-owners_probed e (Held holder) below = with_owner_read e (owners.Hand holder) below
+-- What was read of owners under a bucket's lock belongs from then on to the turn around it too.
+abbrev pub owners_last : List Notes → List OwnerSeen
+owners_last [] = []
+owners_last (n ∷ notes) = n.owners
 
-abbrev pub passed_on_by_bucket : BucketPart → List Notes → List Notes
-passed_on_by_bucket (Evict e probed) below = owners_probed e probed below
-passed_on_by_bucket part below = below
+abbrev pub with_owners_read : List OwnerSeen → List Notes → List Notes
+with_owners_read [] below = below
+with_owners_read (x ∷ xs) below = with_owner_read x.element x.owner (with_owners_read xs below)
 
 -- What a turn of the global lists flushed belongs to the turn of the local lists around it.
 abbrev pub with_flushed : List Flush → List Notes → List Notes
@@ -311,11 +313,11 @@ abbrev pub passed_on_by_global : GlobalPart → List Notes → List Notes
 passed_on_by_global (global.Turn flushed active inactive free shrink) below = with_flushed flushed below
 passed_on_by_global (global.Push e) below = below
 
--- what a turn hands on to the notes of the turn around it
+-- what is noted once the turn of the lock taken last is given back with a part: it hands some of its notes on to the turn around it
 abbrev pub passed_on : Part → List Notes → List Notes
-passed_on (parts.Bucket part) below = passed_on_by_bucket part below
-passed_on (parts.Global part) below = passed_on_by_global part below
-passed_on part below = below
+passed_on (parts.Bucket part) notes = with_owners_read (owners_last notes) (notes_below notes)
+passed_on (parts.Global part) notes = passed_on_by_global part (notes_below notes)
+passed_on part notes = notes_below notes
 
 -- What is known of hashes once a turn is given back: on a map that evicts, those of what came in it too.
 abbrev pub hashes_after : Hold → Entry → View → List HashIn
@@ -329,12 +331,12 @@ abbrev pub given : ℕ → Hold → Entry → List StrandStep → View → View
 given at hold entry kept v = record v {
   held = holds_below v.held;
   hashes = hashes_after hold entry v;
-  notes = passed_on entry.part (notes_below v.notes);
+  notes = passed_on entry.part v.notes;
   known = learned hold entry v;
   ticket = tickets.Unread;
   reached = reached_by v.ticket v.reached;
   refused = refused_by v.ticket v.refused;
-  steps = v.steps ++ turned hold.lock hold.log entry ∷ [];
+  steps = v.steps ++ turned hold.lock hold.log entry v ∷ [];
   kept = kept;
   touched = touching at hold.lock None 0 v;
 }
@@ -387,9 +389,10 @@ abbrev pub owner_read : ℕ → ℕ → Owner → View → View
 owner_read at e owner v =
     noted (with_owner_read e owner v.notes) v.bits (touching at (owner_word v.shape e) (Some (owner_code owner)) (owner_code owner) v) v.readings v
 
-abbrev pub home_read : ℕ → ℕ → Home → View → View
-home_read at e home v =
-    noted (with_home_read e home v.held v.notes) v.bits (touching at (home_word v.shape e) (Some (home_code home)) (home_code home) v) (with_reading e home v.hand v.readings) v
+-- where the home is local lists, their lock has had so many turns
+abbrev pub home_read : ℕ → ℕ → ℕ → Home → View → View
+home_read at turns e home v =
+    noted (with_home_read e home v.held v.notes) v.bits (touching at (home_word v.shape e) (Some (home_code home)) (home_code home) v) (with_reading at turns e home v.hand v.readings) v
 
 -- what lies under a lock that is held, as the pass knows it, and the locks held where other lists lie under one
 abbrev pub now_at : ℕ → List Hold → Lists
@@ -429,8 +432,25 @@ with_off k e [] notes = notes
 with_off k e (hold ∷ holds) [] = []
 with_off k e (hold ∷ holds) (n ∷ notes) = if hold.lock == k then record n { off = e ∷ n.off } ∷ notes else n ∷ with_off k e holds notes
 
+abbrev pub is_local : DomainId → Bool
+is_local (Local cpu) = true
+is_local lock = false
+
+-- One that is carried to the global lists left local lists in the turn under way where it was pending when their lock was taken, or
+-- came to them since.
+abbrev pub has_left : Shape → ℕ → Hold → List ℕ → Bool
+has_left shape e hold came =
+    is_local (lock_named shape hold.lock) && (is_some (stored_in (content shape (lock_named shape hold.lock) hold.log) e) || is_among e came)
+
+abbrev pub with_carried_off : Shape → ℕ → List Hold → List Notes → List Notes
+with_carried_off shape e [] notes = notes
+with_carried_off shape e (hold ∷ holds) [] = []
+with_carried_off shape e (hold ∷ holds) (n ∷ notes) =
+    (if has_left shape e hold n.came then record n { off = e ∷ n.off } else n) ∷ with_carried_off shape e holds notes
+
 abbrev pub left_local : Shape → Home → ℕ → List Hold → List Notes → List Notes
 left_local shape (homes.In (Local cpu)) e held notes = with_off (lock_number shape (Local cpu)) e held notes
+left_local shape (homes.Hand cpu) e held notes = with_carried_off shape e held notes
 left_local shape from e held notes = notes
 
 abbrev pub with_left_home : Shape → Home → Home → ℕ → List Hold → List Notes → List Notes
@@ -530,6 +550,11 @@ abbrev pub in_other_hands : ℕ → List InHand → List InHand
 in_other_hands cpu [] = []
 in_other_hands cpu (x ∷ xs) = if x.cpu == cpu then in_other_hands cpu xs else x ∷ in_other_hands cpu xs
 
+-- and those in the hand of none of these CPUs
+abbrev pub in_no_hand_of : List ℕ → List InHand → List InHand
+in_no_hand_of cpus [] = []
+in_no_hand_of cpus (x ∷ xs) = if is_among x.cpu cpus then in_no_hand_of cpus xs else x ∷ in_no_hand_of cpus xs
+
 -- the current strand of a pass, as one that has ended, and all its strands in order, this one last
 abbrev pub current_strand : View → Ended
 current_strand v = record { cpus = v.cpus; steps = v.steps; kept = v.kept; touched = v.touched }
@@ -577,11 +602,12 @@ split_off cpu v = record (begun_anew v) {
   ended = all_strands v;
 }
 
--- A pass takes in another's CPUs, with what is in their hands. The strands of both end, and a new one begins.
+-- A pass takes in another's CPUs, with what is in their hands. What is in the hand of a CPU that it has itself is what it knows to be
+-- there; no CPU is in two passes. The strands of both end, and a new one begins.
 abbrev pub joined : View → View → View
 joined v other = record (begun_anew v) {
   cpus = v.cpus ++ other.cpus;
-  hand = v.hand ++ other.hand;
+  hand = v.hand ++ in_no_hand_of v.cpus other.hand;
   carried = v.carried ++ other.carried;
   hashes = v.hashes ++ other.hashes;
   readings = v.readings ++ other.readings;

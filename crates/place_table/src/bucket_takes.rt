@@ -42,7 +42,7 @@ impl PlaceTable {
         let Some(place) = chain.find(key) else {
             let part = deleted(self.alloc, key, None);
             let lock = DomainId::Bucket(number);
-            self.give(pass, lock, Content::Bucket(chain), part, gate);
+            self.give(pass, lock, Content::Bucket(chain), part.ok(), gate);
             return None;
         };
         let body = body_out(&mut chain, place);
@@ -72,7 +72,7 @@ impl PlaceTable {
         let Some(place) = chain.find(key) else {
             let part = take_missed(alloc, key);
             let lock = DomainId::Bucket(number);
-            self.give(pass, lock, Content::Bucket(chain), part, gate);
+            self.give(pass, lock, Content::Bucket(chain), part.ok(), gate);
             return None;
         };
         let cpu = self.cpu_of(pass);
@@ -98,7 +98,7 @@ impl PlaceTable {
         let TakenBucket { number, chain } = left;
         let lock = DomainId::Bucket(number);
         let part = deleted(self.alloc, key, Some(element));
-        self.give(pass, lock, Content::Bucket(chain), part, gate);
+        self.give(pass, lock, Content::Bucket(chain), part.ok(), gate);
     }
 
     /// The same of a take, with what the system call read.
@@ -119,6 +119,6 @@ impl PlaceTable {
         let TakenBucket { number, chain } = left;
         let lock = DomainId::Bucket(number);
         let part = take_got(self.alloc, key, element, value);
-        self.give(pass, lock, Content::Bucket(chain), part, gate);
+        self.give(pass, lock, Content::Bucket(chain), part.ok(), gate);
     }
 }

@@ -56,7 +56,7 @@ impl PlaceTable {
         let cpu = self.cpu_of(pass);
         let Some(place) = chain.find(key) else {
             let part = lookup_missed(alloc, side, key);
-            self.give(pass, lock, Content::Bucket(chain), part, gate);
+            self.give(pass, lock, Content::Bucket(chain), part.ok(), gate);
             return Err(Absent);
         };
         let body = body_at(&chain, place);
@@ -64,7 +64,7 @@ impl PlaceTable {
         read_value(self.shape(), side, cpu, body, out);
         mark_for(self, pass, number, side, element);
         let part = lookup_got(alloc, side, key, element, out);
-        self.give(pass, lock, Content::Bucket(chain), part, gate);
+        self.give(pass, lock, Content::Bucket(chain), part.ok(), gate);
         Ok(())
     }
 }

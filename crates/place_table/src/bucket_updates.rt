@@ -47,7 +47,7 @@ impl PlaceTable {
             put,
         );
         let lock = DomainId::Bucket(number);
-        self.give(pass, lock, Content::Bucket(chain), part, gate);
+        self.give(pass, lock, Content::Bucket(chain), part.ok(), gate);
     }
 
     /// Adds an absent key with an element from the CPU's hand, and gives the bucket back.
@@ -89,7 +89,7 @@ impl PlaceTable {
             Put::Added(element),
         );
         let lock = DomainId::Bucket(number);
-        self.give(pass, lock, Content::Bucket(chain), part, gate);
+        self.give(pass, lock, Content::Bucket(chain), part.ok(), gate);
     }
 
     /// Writes the value of a present key in place, and gives the bucket back. On a map that evicts the bit of its element is set.
@@ -136,7 +136,7 @@ impl PlaceTable {
             Put::Written(element),
         );
         let lock = DomainId::Bucket(number);
-        self.give(pass, lock, Content::Bucket(chain), part, gate);
+        self.give(pass, lock, Content::Bucket(chain), part.ok(), gate);
     }
 
     /// Puts an element from the CPU's hand in the place of a present key's, and gives the bucket back. The old one is in the CPU's
@@ -182,7 +182,7 @@ impl PlaceTable {
             Put::Replaced { new, old },
         );
         let lock = DomainId::Bucket(number);
-        self.give(pass, lock, Content::Bucket(chain), part, gate);
+        self.give(pass, lock, Content::Bucket(chain), part.ok(), gate);
         replaced
     }
 }

@@ -22,7 +22,7 @@ use atomic_table::Table;
 use map_types::{NoMemory, Shape};
 use percpu_values::BoxedBody;
 use place_words::{StrandStep, owners_at_first};
-use std::alloc::Global;
+use std::alloc::{AllocError, Global};
 use std::marker::{Brand, Model};
 use std::mem;
 
@@ -73,7 +73,7 @@ impl PlaceTable {
     /// A table at its opening, and its first pass. All buckets are empty. The elements lie in the freelists of the CPUs, but for
     /// the spare elements of a map of kind HASH, or on a map that evicts free in the list sets of the CPUs, or in the one that
     /// they share. The pass has all CPUs and all spares, is in no call and has begun none. Memory for all elements is found
-    /// here, and only want of it is refused.
+    /// here, and only want of it is refused, after which nothing is left of what was made.
     pub fn create(alloc: Global, shape: &Shape) -> Result<(PlaceTable, Pass), NoMemory>
         requires shape { IsShape shape.now }
         ensures { IfOk result (λ made. (made.0.shape ≡ shape.now) × IsFirstPass made.0 made.1) }
@@ -99,7 +99,7 @@ impl PlaceTable {
                     spares,
                 },
             )),
-            Err(_) => Err(NoMemory),
+            Err(_) => Err(AllocError.into()),
         }
     }
 
@@ -128,10 +128,10 @@ impl PlaceTable {
         }
     }
 
-    /// Joins another pass of the table to this one. Both are in no call. The pass has the CPUs of both from then on, what is in
-    /// their hands, and their spares. The strands of both end, those of this pass before those of the other, and a new one
-    /// begins. Nobody waits, and only where there is no memory for all strands that have ended is the record lost, of all
-    /// locks.
+    /// Joins another pass of the table to this one. Both are in no call, and the pass is in none then. It has the CPUs of both
+    /// from then on, what is in their hands, and their spares. The strands of both end, those of this pass before those of the
+    /// other, and a new one begins. Nobody waits, and only where there is no memory for all strands that have ended is the
+    /// record lost, of all locks.
     pub fn join(&self, pass: &mut Pass, other: Pass)
         requires { CanJoin self.now pass.old other }
         ensures { Joined pass.old other pass.new }
@@ -153,8 +153,9 @@ impl PlaceTable {
         join_spares(&mut pass.spares, &mut spares);
     }
 
-    /// Closes a table whose one pass has all CPUs and is in no call, and hands out what is left. Where there is no memory
-    /// for that, the table and the pass are gone. Where memory for a strand was not found, the record of every lock is lost.
+    /// Closes a table whose one pass has all CPUs and is in no call, and hands out what is left, in which each element stands
+    /// once. Where there is no memory for that, the table and the pass are gone, and nothing is answered of them. Where memory
+    /// for a strand was not found, the record of every lock is lost.
     pub fn close(self, pass: Pass) -> Result<Closed, NoMemory>
         requires table { IsPassOf self pass }
         requires all_cpus { (c : ℕ) → c < self.shape.cpus → is_among c pass.view.cpus ≡ true }

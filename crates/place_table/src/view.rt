@@ -29,11 +29,21 @@ pub struct HashIn {
     pub given: bool,
 }
 
-/// A turn that a pass made: the lock's number, the turns of the lock before it, and the entry.
+/// A turn that a pass made: the lock's number, the turns of the lock before it, the entry, and the moment at which the lock was given
+/// back.
 pub struct Turned {
     pub lock: u64,
     pub earlier: LinkedList<Entry>,
     pub entry: Entry,
+    pub moment: Moment,
+}
+
+/// What a pass held, had in hand and carried at a moment, and what was noted under the locks held, those taken last first.
+pub struct Moment {
+    pub held: LinkedList<Hold>,
+    pub hand: LinkedList<InHand>,
+    pub carried: LinkedList<InHand>,
+    pub notes: LinkedList<Notes>,
 }
 
 /// The bit of an element, as it was read.
@@ -62,11 +72,14 @@ pub struct HomeSeen {
 }
 
 /// The home of an element in the hand of a CPU, as it was last read since it came there. Where it was read as local lists, whose lock
-/// was taken since and which had the element no more, it is the global ones.
+/// was taken since and which had the element no more, it is the global ones. With it how many steps on words had been made before the
+/// one that read it, and, of a home that was read as local lists, how many turns their lock had had then.
 pub struct HomeIn {
     pub element: u64,
     pub cpu: u64,
     pub home: Home,
+    pub at: u64,
+    pub turns: u64,
 }
 
 /// A step that a pass made on a word of the table: how many steps on words had been made before it, what it found there, where
@@ -89,7 +102,7 @@ pub enum Ticket {
 }
 
 /// What was done and read while a lock was the last one taken of those that are held, the last first; but what was flushed in the
-/// order in which it was told.
+/// order in which it was told. The owners that were read under a bucket's lock inside are among these too.
 pub struct Notes {
     /// The elements that came to the CPU's hand from this lock's free list, or to its lists from another home. One that left again
     /// stays noted, and one that goes home to the home that it has isn't noted.
@@ -101,7 +114,8 @@ pub struct Notes {
     pub homes: LinkedList<HomeSeen>,
     /// What turns of the global lists inside this turn told that they flushed.
     pub flushed: LinkedList<Flush>,
-    /// The elements that went from these local lists to the global ones, also where they came back since.
+    /// The elements that went from these local lists to the global ones, straight or by way of a hand, also where they came back
+    /// since.
     pub off: LinkedList<u64>,
 }
 

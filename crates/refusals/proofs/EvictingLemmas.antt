@@ -83,7 +83,7 @@ module _ (shape : Shape) (lost : List ℕ) (turn : Turn) where
   single (s ∷ []) (x ∷ []) are turns = record { step = s; as_told = x; steps_are = refl; told_are = refl; is = are.0; turn_is = cc }
 
   same_marks : (step told : Turned) → IsTold shape lost step told → marks shape step.entry.part ≡ marks shape told.entry.part
-  same_marks step told is = ⊎_elim (λ same. ap (λ (x : Turned). marks shape x.entry.part) (sym same)) (λ other. sym other.1.same_marks) is
+  same_marks step told is = ⊎_elim (λ same. ap (λ (x : Turned). marks shape x.entry.part) (sym same)) (λ other. sym other.1.same_marks) is.0
 
 the_first : {X : Type 0} (b : Bool) (xs ys : List X) → b ≡ true → cond b xs ys ≡ xs
 the_first true xs ys is = refl
@@ -276,7 +276,7 @@ told_befores shape lost (s ∷ ss) [] are = absurd are
 told_befores shape lost (s ∷ ss) (x ∷ xs) are = both (one are.0) (told_befores shape lost ss xs are.1)
   where
     one : IsTold shape lost s x → x.earlier ≡ s.earlier
-    one is = ⊎_elim (λ same. ap (λ (y : Turned). y.earlier) same) (λ other. other.1.earlier) is
+    one is = ⊎_elim (λ same. ap (λ (y : Turned). y.earlier) same) (λ other. other.1.earlier) is.0
 
     both : x.earlier ≡ s.earlier → befores_at (map (turn_at shape) xs) ≡ befores ss → x.earlier ∷ befores_at (map (turn_at shape) xs) ≡ s.earlier ∷ befores ss
     both here rest = cc

@@ -29,7 +29,7 @@ module _ (shape : Shape) (cpu call : ℕ) where
     lock_is = ap (λ (k : ℕ). lock_named shape k) (sym other.1.lock);
     allowed = subst (λ (c : ℕ). Allows shape c told.entry.part (lay shape step)) (other.1.cpu ∙ by) other.1.allowed;
     leaves = sym other.1.leaves ∙ ap (λ (c : ℕ). content_after shape c told.entry.part (lay shape step)) (other.1.cpu ∙ by);
-  }) is
+  }) is.0
     where
       as_made : told ≡ step → Did shape cpu step (turn_of shape told)
       as_made same = subst (λ (x : Turned). Did shape cpu step (turn_of shape x)) (sym same) (record {
@@ -134,7 +134,7 @@ module _ (shape : Shape) (lost : List ℕ) where
   told_one : (step told : Turned) → IsTold shape lost step told → Allows shape step.entry.cpu step.entry.part (lay shape step) → Allows shape told.entry.cpu told.entry.part (lay shape told)
   told_one step told is allowed =
       ⊎_elim (λ same. subst (λ (x : Turned). Allows shape x.entry.cpu x.entry.part (lay shape x)) (sym same) allowed)
-      (λ other. subst (λ (lies : Content). Allows shape told.entry.cpu told.entry.part lies) (same_lies other.1.lock other.1.earlier) other.1.allowed) is
+      (λ other. subst (λ (lies : Content). Allows shape told.entry.cpu told.entry.part lies) (same_lies other.1.lock other.1.earlier) other.1.allowed) is.0
     where
       same_lies : told.lock ≡ step.lock → told.earlier ≡ step.earlier → lay shape step ≡ lay shape told
       same_lies lock earlier = ap (λ (k : ℕ). content shape (lock_named shape k) step.earlier) (sym lock) ∙ ap (λ (log : List Entry). content shape (lock_named shape told.lock) log) (sym earlier)

@@ -1,5 +1,5 @@
 -- What steps on words and calls on a table do.
-use Rattle.std.proofs.Common.{◌≡◌, ◌≢◌, ℕ, Bool, true, false, not, cond, ⊎_elim, List, [], ◌∷◌, ◌++◌, map, filter, get_or, set, sym, refl, ap, ◌∙◌, arith, None, Some, get_or-set_same}
+use Rattle.std.proofs.Common.{◌≡◌, ◌≢◌, ℕ, Bool, true, false, not, cond, ⊎_elim, List, [], ◌∷◌, ◌++◌, map, filter, get_or, set, sym, refl, ap, ◌∙◌, arith, append_assoc, None, Some, get_or-set_same}
 use Rattle.std.proofs.lemmas.List.{append_cancel_left}
 use Rattle.map_types.specs.declared.attr.Shape.{Shape}
 use Rattle.map_types.specs.declared.kind.DomainId.TheVariants.{Bucket}
@@ -8,6 +8,7 @@ use Rattle.map_types.specs.declared.reply.Reply.{Reply}
 use Rattle.map_types.specs.Kind.{is_lru}
 use Rattle.map_types.specs.ElementLists.{one}
 use Rattle.place_words.specs.declared.history.Part.{Part}
+use Rattle.place_words.specs.declared.visits.Visit.{Visit}
 use Rattle.place_words.specs.Codes.{home_code}
 use Rattle.place_words.specs.Histories.{marks}
 use Rattle.place_words.specs.Turns.{Turn}
@@ -18,16 +19,17 @@ use Rattle.place_table.specs.declared.view.Turned.{Turned}
 use Rattle.place_table.specs.declared.view.View.{View}
 use Rattle.place_table.specs.declared.view.WordStep.{WordStep}
 use Rattle.place_table.specs.BucketTurns.{LooksUp}
-use Rattle.place_table.specs.Calls.{CouldBe}
+use Rattle.place_table.specs.Calls.{CouldBe, IsTold}
 use Rattle.place_table.specs.Closing.{ClosedView, IsClosed, all_locks, history_of, strand_told, strands_told}
 use Rattle.place_table.specs.Passes.{PassView, TableView, Marked, ready}
 use Rattle.place_table.specs.Views.{marked, cleared, rehomed, all_strands, is_among, is_recorded, ticket_of, with_mark}
+use Rattle.place_table.specs.TurnNotes.{clears_noted}
 use Rattle.place_table.specs.Words.{bit_word, home_word}
 use Rattle.place_table.specs.Plays.{Seated}
 use Rattle.place_table.proofs.CodeLemmas.{one_owner, has_owner_code}
 use Rattle.place_table.proofs.Going.{given_turn, goes_gave, goes_gave_some, same_head}
 use Rattle.place_table.proofs.Refused.{tells_true}
-use Rattle.refusals.specs.Table.{MarkSetsTheBit, ClearTakesTheBit, RehomeStoresTheHome, TurnTellsItsPart, SystemLookupMarksNone, OwnerIsTheOneRead, StrandsAreHandedOut}
+use Rattle.refusals.specs.Table.{MarkSetsTheBit, ClearTakesTheBit, RehomeStoresTheHome, TurnTellsItsPart, TurnTellsItsBits, SystemLookupMarksNone, OwnerIsTheOneRead, StrandsAreHandedOut}
 
 abbrev word_in : ℕ → List ℕ → ℕ
 word_in i words = get_or words i 0
@@ -76,6 +78,15 @@ pub tells_its_part : TurnTellsItsPart
 tells_its_part before after part other gave is_not told =
     is_not (ap (λ (t : Turned). t.entry.part) (last_same before.view.steps _ _ (ap (λ (p : PassView). p.view.steps) (sym told.after_is ∙ gave.after_is))))
 
+pub tells_its_bits : TurnTellsItsBits
+tells_its_bits shape lost step told noted below before found other more others notes_are cleared told_are is_not is =
+    let tells = is.1 in
+    let behind : List Visit = tells.first_clears.0 in
+    let same : tells.notes ≡ noted = same_head (sym tells.notes_are ∙ notes_are) in
+    let both : before ++ found ∷ more ≡ (before ++ other ∷ others) ++ behind =
+    sym cleared ∙ (ap clears_noted (sym same) ∙ (tells.first_clears.1 ∙ ap (λ (l : List Visit). l ++ behind) told_are)) in
+    is_not (sym (same_head (append_cancel_left before (found ∷ more) ((other ∷ others) ++ behind) (both ∙ append_assoc before (other ∷ others) behind))))
+
 not_empty : (x : ℕ) (xs : List ℕ) → x ∷ xs ≡ [] → ⊥
 not_empty x xs is = cc
 
@@ -97,7 +108,7 @@ module _ {t : TableView} {bucket : ℕ} (e : ℕ) {before middle after : PassVie
       ⊎_elim
       (λ (same : g.told ≡ g.step). ap (λ (turn : Turned). marks t.shape turn.entry.part) (sym same) ∙ none)
       (λ (other : (is_among g.step.lock g.lost ≡ true) × CouldBe t.shape g.step g.told). sym other.1.same_marks ∙ none)
-      g.is_told
+      g.is_told.0
 
   -- so no part that fits what is noted made it
   not_made : (n : ℕ) (hold : Hold) (part : Part) (notes : Notes) (below : List Notes) → middle.view.notes ≡ notes ∷ below → notes.marks ≡ marks t.shape part → after.view.steps ≡ middle.view.steps ++ given_turn middle n hold part ∷ [] → ⊥

@@ -54,7 +54,7 @@ module _ (shape : Shape) (kept bucket : ℕ) (lost : List ℕ) (loses : LosesAtM
       ⊎_elim (λ same. ap (turn_of shape) (sym same) ∙ turn_is)
       (λ other. absurd (both_no (is_among step.lock lost)
       (not_lost shape step.lock kept bucket cpu lost loses in_bucket (ap (lock_named shape) (sym other.1.lock) ∙ ap (λ (x : Turn). x.lock) turn_is)) other.0))
-      is
+      is.0
 
   recorded_more : (cpu : ℕ) (cpus : List ℕ) (step : Turned) (steps : List Turned) → turn_of shape step ≡ on_freelist_of cpu FoundEmpty → Recorded cpus steps → Recorded (cpu ∷ cpus) (step ∷ steps)
   recorded_more cpu cpus step steps is (looks, last, are, turns, kept_all) = (

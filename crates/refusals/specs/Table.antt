@@ -1,5 +1,5 @@
 -- What steps on words and calls on a table do: what does otherwise is refused.
-use Rattle.std.specs.Prelude.{◌≡◌, ◌≢◌, ℕ, ◌<◌, List, [], length, filter, slice_index_or, Option}
+use Rattle.std.specs.Prelude.{◌≡◌, ◌≢◌, ℕ, ◌<◌, List, [], ◌∷◌, ◌++◌, length, filter, slice_index_or, Option}
 use mathlib.Core.Option.{some}
 use lib.ListN.{get_elem?}
 use Rattle.atomic_table.specs.Table as table
@@ -12,15 +12,21 @@ use Rattle.map_types.specs.Creation.{IsShape}
 use Rattle.place_words.specs.declared.history.Part.{Part}
 use Rattle.place_words.specs.declared.home.Home.{Home}
 use Rattle.place_words.specs.declared.owner.Owner.{Owner}
+use Rattle.place_words.specs.declared.visits.Visit.{Visit}
 use Rattle.place_words.specs.Codes.{home_code}
+use Rattle.place_words.specs.Histories.{bits_cleared}
 use Rattle.place_table.specs.declared.content.Behind.{Behind}
 use Rattle.place_table.specs.declared.content.Content.{Content}
+use Rattle.place_table.specs.declared.view.Notes.{Notes}
+use Rattle.place_table.specs.declared.view.Turned.{Turned}
 use Rattle.place_table.specs.declared.view.View.{View}
 use Rattle.place_table.specs.BucketTurns.{LooksUp}
+use Rattle.place_table.specs.Calls.{IsTold}
 use Rattle.place_table.specs.Closing.{ClosedView, IsClosed}
 use Rattle.place_table.specs.Passes.{PassView, TableView, Gave, GaveBack, Marked, MayGiveBack, SawOwner}
 use Rattle.place_table.specs.Plays.{Seated, Marks, Clears, Rehomes}
 use Rattle.place_table.specs.Rules.{Rule}
+use Rattle.place_table.specs.TurnNotes.{clears_noted}
 use Rattle.place_table.specs.Views.{all_strands, is_recorded}
 use Rattle.place_table.specs.Words.{bit_word, home_word}
 
@@ -64,6 +70,14 @@ SystemLookupMarksNone =
 abbrev pub OwnerIsTheOneRead : Type 0
 OwnerIsTheOneRead =
     (t : TableView) (e : ℕ) (before after : PassView) (owner other : Owner) → IsShape t.shape → SawOwner t e before after owner → other ≢ owner → ¬ SawOwner t e before after other
+
+-- A turn isn't told with another bit than the clear in its place found, whether its record is lost or not: not where the bits before it
+-- are told as the clears before found them.
+abbrev pub TurnTellsItsBits : Type 0
+TurnTellsItsBits =
+    (shape : Shape) (lost : List ℕ) (step told : Turned) (noted : Notes) (below : List Notes) (before : List Visit) (found other : Visit) (more others : List Visit)
+    → step.moment.notes ≡ noted ∷ below → clears_noted noted ≡ before ++ found ∷ more → bits_cleared told.entry.part ≡ before ++ other ∷ others → other ≢ found
+    → ¬ IsTold shape lost step told
 
 -- Where a history is handed out, and a strand has a step that is recorded, a closed table has a strand.
 abbrev pub StrandsAreHandedOut : Type 0

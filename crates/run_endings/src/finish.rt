@@ -181,7 +181,7 @@ fn begin_with_script<K: Sink>(
 {
     match script_due(alloc, asked.mode, script) {
         Ok(script) => Ok(Due { asked, script }),
-        Err(NoMemory) => Err(end_with_line(sink, 5, b"bpfmap: memory\n")),
+        Err(NoMemory { .. }) => Err(end_with_line(sink, 5, b"bpfmap: memory\n")),
     }
 }
 

@@ -162,7 +162,7 @@ impl MemSink {
           faults = 0;
         }) }
     {
-        let bytes = Vec::with_capacity(alloc, room as usize).map_err(|_| NoMemory)?;
+        let bytes = Vec::with_capacity(alloc, room as usize)?;
         Ok(MemSink {
             bytes,
             flushed: 0,

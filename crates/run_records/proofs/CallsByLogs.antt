@@ -40,8 +40,8 @@ use Rattle.serial_laws.proofs.TurnsMade.{AreMade, EachTurn}
 -- Turns as the call tells them
 
 told_step : (shape : Shape) (step told : Turned) → IsTold shape [] step told → told ≡ step
-told_step shape step told (inl same) = same
-told_step shape step told (inr could) = absurd (both_ways false refl could.0)
+told_step shape step told (inl same, tells) = same
+told_step shape step told (inr could, tells) = absurd (both_ways false refl could.0)
 
 told_same : (shape : Shape) (steps told : List Turned) → AreTold shape [] steps told → told ≡ steps
 told_same shape [] [] are = refl

@@ -7,7 +7,7 @@ use crate::pieces::{Piece, record_of};
 use map_report::{PhaseStart, RunRecord};
 use map_types::{NoMemory, Reply};
 use place_table::Closed;
-use std::alloc::Global;
+use std::alloc::{AllocError, Global};
 
 /// What is told of a run beside what its table leaves.
 #[derive(Drop)]
@@ -29,7 +29,7 @@ pub fn keep(
         × (kept.1 ≡ closed) × (closed.lost ≡ false)) }
 {
     if closed.lost() {
-        return Err(NoMemory);
+        return Err(AllocError.into());
     }
     let Told {
         replies,

@@ -26,9 +26,9 @@ search-got-requires-clause-can g c κs within =
 pub give-requires-2-after_bounds : goal.give-requires-2-after_bounds
 give-requires-2-after_bounds g c κs within =
     may_give_found c.requires.evicts c.requires.can c.requires.there c.in-Local.is c.take.ensures c.in_default-pop_free.ensures.top c.pop_free.ensures.exact
-    c.steal_part-part.result c.empty-first.ensures c.empty-second.ensures c.search-got.ensures c.stolen_of.ensures c.steal_part-part.ensures
+    c.steal_part-part.result c.empty-first.ensures c.empty-second.ensures c.search-got.ensures c.stolen_of.ensures c.steal_part-part.ensures.told
 
 pub returns : goal.returns
 returns g c =
     found_stolen c.requires.evicts c.requires.can c.requires.there c.in-Local.is c.take.ensures c.in_default-pop_free.ensures.top c.pop_free.ensures.exact
-    c.steal_part-part.result c.empty-first.ensures c.empty-second.ensures c.search-got.ensures c.stolen_of.ensures c.steal_part-part.ensures c.give-2.ensures
+    c.steal_part-part.result c.empty-first.ensures c.empty-second.ensures c.search-got.ensures c.stolen_of.ensures c.steal_part-part.ensures.told c.give-2.ensures

@@ -5,6 +5,7 @@ use Rattle.map_types.specs.Shape.{HasBounds}
 use Rattle.place_table.specs.declared.content.Content.TheVariants as contents
 use Rattle.place_table.specs.Passes.{TableView, MayGiveBack, GaveBack}
 use Rattle.place_table.specs.BucketTurns.{Entered}
+use Rattle.place_table.proofs.PartsMade.{made_part}
 use Rattle.map_batch.proofs.TakenOut.{may_give_taken, takes_into}
 use Rattle.map_batch.proofs.take_plain.take_in.Goals as goal
 
@@ -24,8 +25,8 @@ give-requires-after_bounds g c κs within =
     let shape = c.shape-shape.result.now in
     let shape_is = c.shape-shape.ensures ∙ ap (λ (z : TableView). z.shape) c.table-table.ensures.value in
     let entered = subst (λ (z : TableView). Entered z c.args.bucket c.args.pass.now c.enter_bucket-chain.new.pass chain) c.table-table.ensures.value c.enter_bucket-chain.ensures in
-    subst (λ (z : TableView). MayGiveBack z (locks.Bucket c.args.bucket) c.push_read.new.pass (contents.Bucket back) c.walk_part-part.result) (sym c.table-table.ensures.value)
-    (may_give_taken entered c.table-table.ensures.plain c.push_read.new.pass back c.args.out.now c.read_whole-whole.new.out shape c.cpu_of-cpu.result c.left-room.result c.read_whole-whole.result c.walk_part-part.result shape_is c.cpu_of-cpu.ensures.value c.left-room.ensures.value c.read_whole-whole.ensures c.walk_part-part.ensures c.push_read.ensures)
+    subst (λ (z : TableView). MayGiveBack z (locks.Bucket c.args.bucket) c.push_read.new.pass (contents.Bucket back) c.ok.result) (sym c.table-table.ensures.value)
+    (may_give_taken entered c.table-table.ensures.plain c.push_read.new.pass back c.args.out.now c.read_whole-whole.new.out shape c.cpu_of-cpu.result c.left-room.result c.read_whole-whole.result c.ok.result shape_is c.cpu_of-cpu.ensures.value c.left-room.ensures.value c.read_whole-whole.ensures (made_part _ c.walk_part-part.result c.ok.ensures.value c.walk_part-part.ensures) c.push_read.ensures)
 
 pub returns : goal.returns
 returns g c =
@@ -34,5 +35,5 @@ returns g c =
     let shape = c.shape-shape.result.now in
     let shape_is = c.shape-shape.ensures ∙ ap (λ (z : TableView). z.shape) c.table-table.ensures.value in
     let entered = subst (λ (z : TableView). Entered z c.args.bucket c.args.pass.now c.enter_bucket-chain.new.pass chain) c.table-table.ensures.value c.enter_bucket-chain.ensures in
-    takes_into entered c.table-table.ensures.plain c.push_read.new.pass back c.args.out.now c.read_whole-whole.new.out shape c.cpu_of-cpu.result c.left-room.result c.read_whole-whole.result c.walk_part-part.result shape_is c.cpu_of-cpu.ensures.value c.left-room.ensures.value c.read_whole-whole.ensures c.walk_part-part.ensures c.push_read.ensures
-    (subst (λ (z : TableView). GaveBack z (locks.Bucket c.args.bucket) c.push_read.new.pass c.give.new.pass (contents.Bucket back) c.walk_part-part.result) c.table-table.ensures.value c.give.ensures)
+    takes_into entered c.table-table.ensures.plain c.push_read.new.pass back c.args.out.now c.read_whole-whole.new.out shape c.cpu_of-cpu.result c.left-room.result c.read_whole-whole.result c.ok.result shape_is c.cpu_of-cpu.ensures.value c.left-room.ensures.value c.read_whole-whole.ensures (made_part _ c.walk_part-part.result c.ok.ensures.value c.walk_part-part.ensures) c.push_read.ensures
+    (subst (λ (z : TableView). GaveBack z (locks.Bucket c.args.bucket) c.push_read.new.pass c.give.new.pass (contents.Bucket back) c.ok.result) c.table-table.ensures.value c.give.ensures)

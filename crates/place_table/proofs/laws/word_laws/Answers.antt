@@ -1,6 +1,6 @@
 use Rattle.place_table.proofs.HomeSteps.{clears_step, rehomes_step, sees_home_step}
 use Rattle.place_table.proofs.Locks.{tries}
-use Rattle.place_table.proofs.GivenBack.{gives_back}
+use Rattle.place_table.proofs.GivenBack.{gives_back, gives_lead}
 use Rattle.place_table.proofs.OwnerSteps.{claims_step, settles_step, attaches_step, detaches_step}
 use Rattle.place_table.proofs.WordSteps.{marks_step, sees_bit_step, sees_owner_step}
 use Rattle.place_table.proofs.Joins.{joins_no_step}
@@ -12,6 +12,7 @@ pub returns : goal.returns
 returns c = record {
   take = λ shape slots pass me lock cpu has is above unread. tries shape slots pass me lock cpu has is above unread;
   give = λ shape slots pass v behind slots_below lock hold below innermost is at_lock entry kept may. gives_back shape slots pass v behind slots_below lock hold below innermost is at_lock entry kept may;
+  leads = λ shape pass v behind slots_below lock hold below innermost is at_lock entry kept may lost lost_is s r seated. gives_lead shape 0 pass v behind slots_below lock hold below innermost is at_lock entry kept may lost lost_is s r seated;
   claim = λ shape slots pass me e lock hold real is found head. claims_step shape slots pass me e lock hold real is found head;
   settle = λ shape slots pass me e lock hold real is found has_free_list has in_hand listed. settles_step shape slots pass me e lock hold real is found has_free_list has in_hand listed;
   attach = λ shape slots pass me e bucket hold real there found has in_hand not_carried hashed. attaches_step shape slots pass me e bucket hold real there found has in_hand not_carried hashed;

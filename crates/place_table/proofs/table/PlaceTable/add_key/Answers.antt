@@ -1,4 +1,4 @@
-use Rattle.std.proofs.Common.{◌≡◌, ◌<◌, ◌^◌, ◌-◌, List, ◌∷◌, length, ap, sym, subst, ◌∙◌}
+use Rattle.std.proofs.Common.{◌<◌, ◌^◌, ◌-◌, List, ◌∷◌, length, ap, sym, subst, ◌∙◌}
 use Rattle.map_types.specs.Shape.{HasBounds}
 use Rattle.map_types.specs.Stored.{Stored}
 use Rattle.bucket_chain.specs.Places.{place_of_key}
@@ -6,6 +6,7 @@ use Rattle.place_table.specs.BucketPuts.{asked_of}
 use Rattle.place_table.proofs.BucketBodies.{nowhere}
 use Rattle.place_table.proofs.BucketOut.{bounds_here, few}
 use Rattle.place_table.proofs.BucketPuts.{can_attach_offered, adds}
+use Rattle.place_table.proofs.PartsMade.{made_part}
 use Rattle.place_table.proofs.table.PlaceTable.add_key.Goals as goal
 
 pub fill_body-requires-clause-bounds : goal.fill_body-requires-clause-bounds
@@ -29,7 +30,7 @@ give-requires-after_bounds g c κs within =
     let asked = asked_of a.write.side a.write.flags a.write.key.now a.write.value.now c.offer_on.result in
     let e_is = c.element-element.ensures ∙ ap (λ (z : Stored). z.element) (c.body.ensures ∙ c.fill_body.ensures.stored) in
     (adds a.taken.chain c.requires.holds asked c.shape-shape.ensures c.cpu_of-cpu.ensures.value a.body.element c.element-element.result e_is c.offer_on.ensures c.fill_body.new.body c.fill_body.ensures.stored c.fill_body.ensures.sized c.attach.new.pass c.attach.ensures
-    c.add_head.new.self c.requires.absent c.requires.adds (c.add_head.ensures ∙ ap (λ (bodies : List Stored). c.fill_body.new.body ∷ bodies) c.reserve_one.ensures.bodies) c.updated-part.result c.updated-part.ensures).0
+    c.add_head.new.self c.requires.absent c.requires.adds (c.add_head.ensures ∙ ap (λ (bodies : List Stored). c.fill_body.new.body ∷ bodies) c.reserve_one.ensures.bodies) c.ok.result (made_part _ c.updated-part.result c.ok.ensures.value c.updated-part.ensures)).0
 
 pub returns : goal.returns
 returns g c =
@@ -37,4 +38,4 @@ returns g c =
     let asked = asked_of a.write.side a.write.flags a.write.key.now a.write.value.now c.offer_on.result in
     let e_is = c.element-element.ensures ∙ ap (λ (z : Stored). z.element) (c.body.ensures ∙ c.fill_body.ensures.stored) in
     (adds a.taken.chain c.requires.holds asked c.shape-shape.ensures c.cpu_of-cpu.ensures.value a.body.element c.element-element.result e_is c.offer_on.ensures c.fill_body.new.body c.fill_body.ensures.stored c.fill_body.ensures.sized c.attach.new.pass c.attach.ensures
-    c.add_head.new.self c.requires.absent c.requires.adds (c.add_head.ensures ∙ ap (λ (bodies : List Stored). c.fill_body.new.body ∷ bodies) c.reserve_one.ensures.bodies) c.updated-part.result c.updated-part.ensures).1 c.give.new.pass c.give.ensures
+    c.add_head.new.self c.requires.absent c.requires.adds (c.add_head.ensures ∙ ap (λ (bodies : List Stored). c.fill_body.new.body ∷ bodies) c.reserve_one.ensures.bodies) c.ok.result (made_part _ c.updated-part.result c.ok.ensures.value c.updated-part.ensures)).1 c.give.new.pass c.give.ensures

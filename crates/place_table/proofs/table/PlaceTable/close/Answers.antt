@@ -33,5 +33,5 @@ returns c =
     let all_words : c.word_count.result ≡ word_count c.self.inside.shape = c.word_count.ensures ∙ c.self.invariant.1 in
     let marked = c.in_ok-marked.ensures e.core.bit (λ n less. ap (λ (i : ℕ). get_or words i 0) (omega (arith, all_words)) ∙ e.words_told.bits n less) in
     let finished = c.finish-ended.ensures v.ended (current_strand v) c.pass.invariant.ended_are c.pass.invariant.cpus_are c.pass.invariant.strand_is in
-    if_closed c.self.inside.shape c.args.self.shape _ c.args.pass words slots c.read_slots.result e c.pass.invariant.hands_real c.pass.invariant.ended_within c.pass.invariant.within table c.pass.view_is
+    if_closed c.self.inside.shape c.args.self.shape _ c.args.pass words slots c.read_slots.result e c.requires.all_cpus c.requires.in_no_call c.pass.invariant.hands_real c.pass.invariant.ended_within c.pass.invariant.within table c.pass.view_is
     (c.read_slots.ensures e.log e.lost e.core.bit (v.ended ++ current_strand v ∷ []) contents histories marked finished)

@@ -2,15 +2,16 @@ use Rattle.std.proofs.Common.{ap, ◌∙◌}
 use Rattle.map_types.specs.Stored.{Stored}
 use Rattle.place_table.proofs.BucketOut.{can_mark_at}
 use Rattle.place_table.proofs.BucketTurned.{delete_misses, has_out}
+use Rattle.place_table.proofs.PartsMade.{made_part}
 use Rattle.place_table.proofs.table.PlaceTable.delete_from.Goals as goal
 
 pub give-requires-after_bounds : goal.give-requires-after_bounds
 give-requires-after_bounds g c κs within =
-    (delete_misses c.args.taken.chain c.requires c.args.key.now c.in_default.ensures.holder c.deleted-part.result c.deleted-part.ensures).0
+    (delete_misses c.args.taken.chain c.requires c.args.key.now c.in_default.ensures.holder c.ok.result (made_part _ c.deleted-part.result c.ok.ensures.value c.deleted-part.ensures)).0
 
 pub returns-in_default : goal.returns-in_default
 returns-in_default g c =
-    (delete_misses c.args.taken.chain c.requires c.args.key.now c.in_default.ensures.holder c.deleted-part.result c.deleted-part.ensures).1 c.give.new.pass c.give.ensures
+    (delete_misses c.args.taken.chain c.requires c.args.key.now c.in_default.ensures.holder c.ok.result (made_part _ c.deleted-part.result c.ok.ensures.value c.deleted-part.ensures)).1 c.give.new.pass c.give.ensures
 
 pub detach-requires : goal.detach-requires
 detach-requires g c =

@@ -7,16 +7,17 @@ use Rattle.place_table.proofs.BucketBodies.{sized_at}
 use Rattle.bucket_chain.proofs.Turns.{found_body}
 use Rattle.place_table.proofs.BucketOut.{bounds_here, can_mark_at}
 use Rattle.place_table.proofs.BucketTurned.{lookup_misses, looked}
+use Rattle.place_table.proofs.PartsMade.{made_part}
 use Rattle.place_table.proofs.table.PlaceTable.look_up.Goals as goal
 
 pub give-requires-after_bounds : goal.give-requires-after_bounds
 give-requires-after_bounds g c κs within =
-    (lookup_misses c.args.taken.chain c.requires.holds c.args.side c.args.key.now c.in_default.ensures.holder c.lookup_missed-part.result c.lookup_missed-part.ensures).0
+    (lookup_misses c.args.taken.chain c.requires.holds c.args.side c.args.key.now c.in_default.ensures.holder c.ok.result (made_part _ c.lookup_missed-part.result c.ok.ensures.value c.lookup_missed-part.ensures)).0
 
 pub returns-in_default-clause-looks_up : goal.returns-in_default-clause-looks_up
 returns-in_default-clause-looks_up g c = record {
   got = None;
-  gives = (lookup_misses c.args.taken.chain c.requires.holds c.args.side c.args.key.now c.in_default.ensures.holder c.lookup_missed-part.result c.lookup_missed-part.ensures).1 c.give.new.pass c.give.ensures;
+  gives = (lookup_misses c.args.taken.chain c.requires.holds c.args.side c.args.key.now c.in_default.ensures.holder c.ok.result (made_part _ c.lookup_missed-part.result c.ok.ensures.value c.lookup_missed-part.ensures)).1 c.give.new.pass c.give.ensures;
   reply_is = refl;
 }
 
@@ -36,7 +37,7 @@ pub give-requires-2-after_bounds : goal.give-requires-2-after_bounds
 give-requires-2-after_bounds g c κs within =
     let body = c.body_at-body.result.now in
     let read : c.read_value.new.out ≡ value_read c.args.self.now.shape c.args.side c.args.pass.now.cpu body.values = c.read_value.ensures ∙ (λ i. value_read (c.shape.ensures i) c.args.side (c.cpu_of-cpu.ensures.value i) body.values) in
-    (looked c.args.taken.chain c.requires.holds c.args.side c.element-element.result c.mark_for.new.pass c.mark_for.ensures c.args.key.now c.read_value.new.out c.in-Some.place body c.in-Some.ensures.holder (sym c.body_at-body.ensures) c.element-element.ensures read c.lookup_got-part.result c.lookup_got-part.ensures).0
+    (looked c.args.taken.chain c.requires.holds c.args.side c.element-element.result c.mark_for.new.pass c.mark_for.ensures c.args.key.now c.read_value.new.out c.in-Some.place body c.in-Some.ensures.holder (sym c.body_at-body.ensures) c.element-element.ensures read c.ok-2.result (made_part _ c.lookup_got-part.result c.ok-2.ensures.value c.lookup_got-part.ensures)).0
 
 pub returns-clause-looks_up : goal.returns-clause-looks_up
 returns-clause-looks_up g c =
@@ -44,6 +45,6 @@ returns-clause-looks_up g c =
     let read : c.read_value.new.out ≡ value_read c.args.self.now.shape c.args.side c.args.pass.now.cpu body.values = c.read_value.ensures ∙ (λ i. value_read (c.shape.ensures i) c.args.side (c.cpu_of-cpu.ensures.value i) body.values) in
     record {
       got = Some (c.element-element.result, c.read_value.new.out);
-      gives = (looked c.args.taken.chain c.requires.holds c.args.side c.element-element.result c.mark_for.new.pass c.mark_for.ensures c.args.key.now c.read_value.new.out c.in-Some.place body c.in-Some.ensures.holder (sym c.body_at-body.ensures) c.element-element.ensures read c.lookup_got-part.result c.lookup_got-part.ensures).1 c.give-2.new.pass c.give-2.ensures;
+      gives = (looked c.args.taken.chain c.requires.holds c.args.side c.element-element.result c.mark_for.new.pass c.mark_for.ensures c.args.key.now c.read_value.new.out c.in-Some.place body c.in-Some.ensures.holder (sym c.body_at-body.ensures) c.element-element.ensures read c.ok-2.result (made_part _ c.lookup_got-part.result c.ok-2.ensures.value c.lookup_got-part.ensures)).1 c.give-2.new.pass c.give-2.ensures;
       reply_is = refl;
     }

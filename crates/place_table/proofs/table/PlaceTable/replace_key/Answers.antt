@@ -4,6 +4,7 @@ use Rattle.map_types.specs.Stored.{Stored}
 use Rattle.place_table.specs.BucketPuts.{asked_of}
 use Rattle.place_table.proofs.BucketOut.{bounds_here}
 use Rattle.place_table.proofs.BucketPuts.{can_attach_offered, can_mark_new, can_detach_was, replaces_it}
+use Rattle.place_table.proofs.PartsMade.{made_part}
 use Rattle.place_table.proofs.table.PlaceTable.replace_key.Goals as goal
 
 pub fill_body-requires-clause-bounds : goal.fill_body-requires-clause-bounds
@@ -34,7 +35,7 @@ give-requires-after_bounds g c κs within =
     let old_is = c.element-old.ensures ∙ ap (λ (z : Stored). z.element) c.body-2.ensures in
     (replaces_it a.taken.chain c.requires.holds asked c.shape-shape.ensures c.cpu_of-cpu.ensures.value a.body.element c.element-new.result e_is c.offer_on.ensures c.fill_body.new.body c.fill_body.ensures.stored c.fill_body.ensures.sized c.attach.new.pass c.attach.ensures
     c.mark_on.new.pass c.mark_on.ensures c.element-old.result c.detach.new.pass c.detach.ensures a.place c.replace_head-replaced.result c.replace_head-replaced.ensures.taken c.replace_head-replaced.ensures.holder old_is
-    c.replace_head-replaced.new.self c.requires.single c.requires.replaces c.replace_head-replaced.ensures.of_key c.updated-part.result c.updated-part.ensures).0
+    c.replace_head-replaced.new.self c.requires.single c.requires.replaces c.replace_head-replaced.ensures.of_key c.ok.result (made_part _ c.updated-part.result c.ok.ensures.value c.updated-part.ensures)).0
 
 pub returns : goal.returns
 returns g c =
@@ -44,4 +45,4 @@ returns g c =
     let old_is = c.element-old.ensures ∙ ap (λ (z : Stored). z.element) c.body-2.ensures in
     (replaces_it a.taken.chain c.requires.holds asked c.shape-shape.ensures c.cpu_of-cpu.ensures.value a.body.element c.element-new.result e_is c.offer_on.ensures c.fill_body.new.body c.fill_body.ensures.stored c.fill_body.ensures.sized c.attach.new.pass c.attach.ensures
     c.mark_on.new.pass c.mark_on.ensures c.element-old.result c.detach.new.pass c.detach.ensures a.place c.replace_head-replaced.result c.replace_head-replaced.ensures.taken c.replace_head-replaced.ensures.holder old_is
-    c.replace_head-replaced.new.self c.requires.single c.requires.replaces c.replace_head-replaced.ensures.of_key c.updated-part.result c.updated-part.ensures).1 c.give.new.pass c.give.ensures
+    c.replace_head-replaced.new.self c.requires.single c.requires.replaces c.replace_head-replaced.ensures.of_key c.ok.result (made_part _ c.updated-part.result c.ok.ensures.value c.updated-part.ensures)).1 c.give.new.pass c.give.ensures

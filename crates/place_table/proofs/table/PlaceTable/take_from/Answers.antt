@@ -7,15 +7,16 @@ use Rattle.map_types.specs.Stored.{Stored, IsSized}
 use Rattle.place_table.proofs.BucketBodies.{sized_at}
 use Rattle.place_table.proofs.BucketOut.{bounds_here, can_mark_at}
 use Rattle.place_table.proofs.BucketTurned.{take_misses, has_out}
+use Rattle.place_table.proofs.PartsMade.{made_part}
 use Rattle.place_table.proofs.table.PlaceTable.take_from.Goals as goal
 
 pub give-requires-after_bounds : goal.give-requires-after_bounds
 give-requires-after_bounds g c κs within =
-    (take_misses c.args.taken.chain c.requires.holds c.args.key.now c.in_default.ensures.holder c.take_missed-part.result c.take_missed-part.ensures).0
+    (take_misses c.args.taken.chain c.requires.holds c.args.key.now c.in_default.ensures.holder c.ok.result (made_part _ c.take_missed-part.result c.ok.ensures.value c.take_missed-part.ensures)).0
 
 pub returns-in_default-clause-takes : goal.returns-in_default-clause-takes
 returns-in_default-clause-takes g c =
-    (take_misses c.args.taken.chain c.requires.holds c.args.key.now c.in_default.ensures.holder c.take_missed-part.result c.take_missed-part.ensures).1 c.give.new.pass c.give.ensures
+    (take_misses c.args.taken.chain c.requires.holds c.args.key.now c.in_default.ensures.holder c.ok.result (made_part _ c.take_missed-part.result c.ok.ensures.value c.take_missed-part.ensures)).1 c.give.new.pass c.give.ensures
 
 pub read_value-requires-clause-bounds : goal.read_value-requires-clause-bounds
 read_value-requires-clause-bounds g c = subst HasBounds (sym c.shape.ensures) (bounds_here _ _ c.self.view_is c.self.invariant.2)
