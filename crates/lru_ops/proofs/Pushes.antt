@@ -165,12 +165,12 @@ learns_any {shape} {v} {w} {e} {was} l = record {
 
 -- Steps on words
 
-has_touched : (p q : PassView) (made : List WordStep) → q.view.touched ≡ p.view.touched ++ made → HasTouched p q
-has_touched p q made are = record { steps = made; steps_are = are }
+has_touched : (p q : PassView) (made : List WordStep) → q.view.touched ≡ p.view.touched ++ made → q.view.homes_read ≡ p.view.homes_read → HasTouched p q
+has_touched p q made are same = record { steps = made; steps_are = are; no_home = same }
 
 pub touched_on : (p q r : PassView) → HasTouched p q → HasTouched q r → HasTouched p r
 touched_on p q r a b =
-    record { steps = a.steps ++ b.steps; steps_are = b.steps_are ∙ (ap (λ (l : List WordStep). l ++ b.steps) a.steps_are ∙ append_assoc p.view.touched a.steps b.steps) }
+    record { steps = a.steps ++ b.steps; steps_are = b.steps_are ∙ (ap (λ (l : List WordStep). l ++ b.steps) a.steps_are ∙ append_assoc p.view.touched a.steps b.steps); no_home = b.no_home ∙ a.no_home }
 
 touched_gave : (s z : PassView) (part : Part) → Gave s z part → HasTouched s z
 touched_gave s z part gave =
@@ -178,6 +178,7 @@ touched_gave s z part gave =
     let made = took_touched s.view gave.took.drawn gave.took.ticket gave.took.reached gave.took.touched gave.took.takes in
     has_touched s z (made.more ++ given_back ∷ [])
     (ap (λ (x : PassView). x.view.touched) gave.after_is ∙ (ap (λ (l : List WordStep). l ++ given_back ∷ []) made.are ∙ append_assoc s.view.touched made.more (given_back ∷ [])))
+    (ap (λ (x : PassView). x.view.homes_read) gave.after_is)
 
 -- Turns under way
 
@@ -244,7 +245,7 @@ module _ {t : TableView} {lock : DomainId} {p q : PassView} {body : Stored} {her
   held_there = ap (λ (z : PassView). z.view.held) took.after_is ∙ ap (λ (l : List Hold). took.hold ∷ l) can.no_lock
 
   touched_there : HasTouched p q
-  touched_there = has_touched p q _ (ap (λ (z : PassView). z.view.touched) took.after_is)
+  touched_there = has_touched p q _ (ap (λ (z : PassView). z.view.touched) took.after_is) (ap (λ (z : PassView). z.view.homes_read) took.after_is)
 
   pub underway_taken : Underway t took.hold p q took.hold.now no_notes []
   underway_taken = record {
@@ -308,7 +309,7 @@ module _ {t : TableView} {lock : DomainId} {p q : PassView} {body : Stored} {her
         noted = ap (λ (z : PassView). z.view.notes) settle.1 ∙ (ap (λ (z : PassView). z.view.notes) clear.after_is ∙ ap (λ (z : PassView). with_clear body.element bit z.view.notes) took.after_is);
         spares = ap (λ (z : PassView). z.spares) settle.1 ∙ (ap (λ (z : PassView). z.spares) clear.after_is ∙ ap (λ (z : PassView). z.spares) took.after_is);
         carried = ap (λ (z : PassView). z.view.carried) settle.1 ∙ (ap (λ (z : PassView). z.view.carried) clear.after_is ∙ ap (λ (z : PassView). z.view.carried) took.after_is);
-        touched = touched_on p r s (touched_on p q r touched_there (has_touched q r _ (ap (λ (z : PassView). z.view.touched) clear.after_is))) (has_touched r s _ (ap (λ (z : PassView). z.view.touched) settle.1));
+        touched = touched_on p r s (touched_on p q r touched_there (has_touched q r _ (ap (λ (z : PassView). z.view.touched) clear.after_is) (ap (λ (z : PassView). z.view.homes_read) clear.after_is))) (has_touched r s _ (ap (λ (z : PassView). z.view.touched) settle.1) (ap (λ (z : PassView). z.view.homes_read) settle.1));
         learns =
             let known : Learns t.shape q.view r.view [] (clears_bit body.element ∷ []) = learns_any (subst (λ (z : PassView). Learns t.shape q.view z.view [] (record { element = body.element; seen = Some bit; left = false } ∷ [])) (sym clear.after_is) (learns_cleared t.shape clear.at body.element bit q.view clear.known)) in
             learns_on t.shape p.view r.view s.view [] [] (clears_bit body.element ∷ []) []

@@ -57,7 +57,7 @@ use Rattle.place_table.specs.Words.{home_word}
 use Rattle.place_table.proofs.Entries.{append_nil}
 use Rattle.place_table.proofs.FlushedLast.{flushed_told}
 use Rattle.place_table.proofs.Readings.{reading_known}
-use Rattle.place_table.proofs.Going.{goes_noted, goes_of_table, goes_begun, learns_nothing}
+use Rattle.place_table.proofs.Going.{goes_read, goes_of_table, goes_begun, learns_nothing}
 use Rattle.place_table.proofs.Worlds.{true_false, by_bool, some_is, both_true}
 use Rattle.lru_ops.specs.Lists.{Changed, CanFree, Freed, FreesFrom, ReadHomeFirst}
 use Rattle.lru_ops.specs.Shared.{CanPushAt, LiesUnder, FreedBy, FoundMoved, HasTouched}
@@ -150,7 +150,7 @@ module _ {t : TableView} {p q : PassView} {body : Stored} {home : Home} (x : Rea
       subst (λ (z : PassView). Changed t p z [] [] []) (sym x.saw.after_is) record {
         told_are = tt;
         made = record {
-          goes = goes_noted (with_home_read body.element home p.view.held p.view.notes) p.view.bits (touching x.saw.at (home_word p.view.shape body.element) (Some (home_code home)) (home_code home) p.view) (with_reading x.saw.at x.saw.turns body.element home p.view.hand p.view.readings) p (with_view p (home_read x.saw.at x.saw.turns body.element home p.view)) refl;
+          goes = goes_read (p.view.homes_read ++ record { element = body.element; home = home; at = x.saw.at; turns = x.saw.turns } ∷ []) (with_home_read body.element home p.view.held p.view.notes) p.view.bits (touching x.saw.at (home_word p.view.shape body.element) (Some (home_code home)) (home_code home) p.view) (with_reading x.saw.at x.saw.turns body.element home p.view.hand p.view.readings) p (with_view p (home_read x.saw.at x.saw.turns body.element home p.view)) refl;
           held = refl;
           notes = ap (λ (held : List Hold). with_home_read body.element home held p.view.notes) x.can.no_lock;
         };
@@ -176,6 +176,7 @@ module _ {t : TableView} {p q : PassView} {body : Stored} {home : Home} (x : Rea
           saw = x.saw;
           later = more.steps;
           touched_are = more.steps_are ∙ (ap (λ (l : List WordStep). l ++ more.steps) read_so ∙ append_assoc p.view.touched (reading ∷ []) more.steps);
+          homes_are = more.no_home ∙ ap (λ (y : PassView). y.view.homes_read) x.saw.after_is;
         },
         frees,
       )

@@ -158,13 +158,15 @@ pub record CanFree (t : TableView) (body : Stored) (p : PassView) : Type 0 where
   pub in_hand : is_in_hand_of body.element p.cpu p.view.hand ≡ true
   pub not_carried : is_in_hand_of body.element p.cpu p.view.carried ≡ false
 
--- The first step on a word that the pass made meanwhile read the home of an element so, and tells how many turns local lists had had
--- that it read.
+-- The first step on a word that the pass made meanwhile read the home of an element so, and no other read one. How many turns local
+-- lists had had that it read stands, with the number of the step, with the pass's looks at homes: what stands there is counted in every
+-- state of the table (`KeepsTurns`), so the number can't be another.
 pub record ReadHomeFirst (t : TableView) (before after : PassView) (e : ℕ) (home : Home) : Type 0 where
   pub read : PassView
   pub saw : SawHome t e before read home
   pub later : List WordStep
   pub touched_are : after.view.touched ≡ before.view.touched ++ home_step t.shape (record { element = e; home = home }) saw.at ∷ later
+  pub homes_are : after.view.homes_read ≡ before.view.homes_read ++ record { element = e; home = home; at = saw.at; turns = saw.turns } ∷ []
 
 -- The turns that free an element whose home was read so, as local lists once these had had n turns: the one of these local lists, where
 -- it was pending; or one that didn't find it there any more, and one of the global lists, since of the turns that they had had since the

@@ -155,10 +155,11 @@ abbrev pub LiesUnder : TableView → DomainId → ℕ → PassView → Type 0
 LiesUnder t lock e p =
     (logs : ℕ → List Entry) → KnowsAll t.shape logs p.view → IsIn e (all_of (lists_of (content t.shape lock (logs (lock_number t.shape lock)))))
 
--- the steps on words that the pass made meanwhile
+-- the steps on words that the pass made meanwhile, none of which read a home
 pub record HasTouched (before after : PassView) : Type 0 where
   pub steps : List WordStep
   pub steps_are : after.view.touched ≡ before.view.touched ++ steps
+  pub no_home : after.view.homes_read ≡ before.view.homes_read
 
 -- It was freed by one turn, which is this one, and is in the CPU's hand no more.
 pub record FreedBy (t : TableView) (turn : Turn) (body : Stored) (before after : PassView) : Type 0 where

@@ -11,13 +11,14 @@ use Rattle.place_words.specs.Locks.{lock_number}
 use Rattle.place_words.specs.State.{rows}
 use Rattle.place_table.specs.declared.view.Hold.{Hold}
 use Rattle.place_table.specs.declared.view.HomeIn.{HomeIn}
+use Rattle.place_table.specs.declared.view.HomeRead.{HomeRead}
 use Rattle.place_table.specs.declared.view.InHand.{InHand}
 use Rattle.place_table.specs.declared.view.WordStep.{WordStep}
 use Rattle.place_table.specs.Views.{home_then}
-use Rattle.place_table.specs.Rules.{Tagged, Touch, entries, givers, strands_of, IsCounted, IsReading}
+use Rattle.place_table.specs.Rules.{Tagged, Touch, entries, givers, strands_of, IsCounted, AreReadingsCounted, IsReading}
 use Rattle.place_table.proofs.StepOrder.{steps_of, heads, tails}
 use Rattle.place_table.proofs.StrandNumbers.{cons_nil}
-use Rattle.place_table.proofs.Worlds.{by_bool}
+use Rattle.place_table.proofs.Worlds.{by_bool, homes_stay}
 
 taken_more : (n : ℕ) (xs : List Touch) (x : Touch) → n ≤ length xs → take n (xs ++ x ∷ []) ≡ take n xs
 taken_more zero xs x few = refl
@@ -54,6 +55,18 @@ reading_more shape holder log home touches x hand e c read is = record {
   counted = counted_more shape touches x read.at read.turns read.home is.counted;
   still = is.still;
 }
+
+pub homes_more : (shape : Shape) (touches : List Touch) (x : Touch) (homes_read : List HomeRead) → AreReadingsCounted shape touches homes_read → AreReadingsCounted shape (touches ++ x ∷ []) homes_read
+homes_more shape touches x homes_read are = homes_stay shape touches (touches ++ x ∷ []) (λ read. counted_more shape touches x read.at read.turns read.home) homes_read are
+
+-- one look more
+pub homes_with : (shape : Shape) (touches : List Touch) (homes_read : List HomeRead) (x : HomeRead) → AreReadingsCounted shape touches homes_read → IsCounted shape touches x.at x.turns x.home → AreReadingsCounted shape touches (homes_read ++ x ∷ [])
+homes_with shape touches [] x are is = (is, tt)
+homes_with shape touches (y ∷ ys) x are is = (are.0, homes_with shape touches ys x are.1 is)
+
+pub home_last : (shape : Shape) (touches : List Touch) (homes_read : List HomeRead) (x : HomeRead) → AreReadingsCounted shape touches (homes_read ++ x ∷ []) → IsCounted shape touches x.at x.turns x.home
+home_last shape touches [] x are = are.0
+home_last shape touches (y ∷ ys) x are = home_last shape touches ys x are.1
 
 -- nor does a take
 pub counted_then : (shape : Shape) (h : Hold) (e : ℕ) (touches : List Touch) (at n : ℕ) (old : Home) → IsCounted shape touches at n old → IsCounted shape touches at n (home_then shape h e old)

@@ -68,7 +68,7 @@ use Rattle.place_table.proofs.TicketLemmas.{theirs_there}
 use Rattle.place_table.proofs.TicketChanges.{tickets_given}
 use Rattle.place_table.proofs.Locks.{allows_of, there, elements_there}
 use Rattle.place_table.specs.declared.view.HomeIn.{HomeIn}
-use Rattle.place_table.proofs.Counted.{counted_more, counted_within}
+use Rattle.place_table.proofs.Counted.{counted_more, counted_within, homes_more}
 
 -- what lies under a lock of one kind has only the lists of that kind, and its cursor in its place
 fits_lists : (shape : Shape) (lock : DomainId) (here : Content) → FitsLock shape lock here → HasOnlyItsLists lock (lists_of (content_told lock here))
@@ -411,6 +411,7 @@ module _ (shape : Shape) (slots pass : ℕ) (v : View) (b : Behind) (cs : List (
                     (λ (came : is_among x (views.came_at m v.held v.notes) ≡ true). inr (ap (is_among x)
                     (ap (λ (l : List Hold). views.came_at m (views.holds_below l) (passed_on e.part v.notes)) is_held ∙ (came_passed e.part m below v.notes ∙ (sym (came_other m h below v.notes apart) ∙ ap (λ (l : List Hold). views.came_at m l v.notes) (sym is_held)))) ∙ came))
                     (kn.rowed lru m x other was no_bucket inside);
+                homes_read = homes_more shape w.touches (w.current pass, last) v.homes_read kn.homes_read;
                 readings = λ x d read within found. let was = kn.readings x d read within found in record { real = was.real; in_hand = was.in_hand; counted = counted_more shape w.touches (w.current pass, last) read.at read.turns read.home was.counted; still = still_there x read was.real was.counted was.still };
                 known = λ m log. by_bool (has_all v) (λ t. known_log m (cond t (record { lock = h.lock; log = h.log ++ e ∷ [] } ∷ v.known) v.known) ≡ Some log → entries (put w.log k l' m) ≡ log)
                     (λ _. at_put w.log k l' (λ i l. cond (eqb h.lock i) (Some (h.log ++ e ∷ [])) (known_log i v.known) ≡ Some log → entries l ≡ log) m

@@ -1,5 +1,6 @@
 -- What is left of a pass after each call on the table, and after some calls in their order.
 use Rattle.place_words.specs.Tickets.{AscendIn}
+use Rattle.place_table.specs.declared.view.HomeRead.{HomeRead}
 use Rattle.place_table.specs.Tickets.{turn_tickets}
 use Rattle.std.proofs.Common.{◌≡◌, ◌≢◌, ℕ, ◌<◌, inl, inr, ⊎_elim, cond, Bool, true, false, List, [], ◌∷◌, ◌++◌, sym, refl, ap, ◌∙◌, subst, append_assoc, Option, None, Some, MatchOption, suc, arith}
 use Rattle.std.specs.Prelude.{IsTrue}
@@ -25,7 +26,7 @@ use Rattle.place_table.specs.declared.view.Turned.{Turned}
 use Rattle.place_table.specs.Known.{AreAllowedAt, log_then, log_after_all, GoOn, bit_then, bit_after_all, BitTouch, SeesBit, SeeOn, Learns, KnowsAll, FollowOn, log_after, logs_after}
 use Rattle.place_table.specs.Plays.{IsKnownBit}
 use Rattle.place_table.specs.Passes.{PassView, TableView, IsPassOf, HasBegun, TookLock, CanGive, Gave, GaveSome, IsKeptOf, Goes, Made, with_view, with_spares, entry_of, ready, AreNumbered, AreCounted, IsNumbered}
-use Rattle.place_table.specs.Views.{has_all, has_all_below, known_log, bit_seen, bits_with, marked, cleared, bit_read, learned, moved, noted, turned, place_of, kept_step, holding, is_among, with_hashes, ticket_of, next}
+use Rattle.place_table.specs.Views.{has_all, has_all_below, known_log, bit_seen, bits_with, marked, cleared, bit_read, learned, moved, noted, turned, place_of, kept_step, holding, is_among, with_hashes, ticket_of, next, with_homes_read}
 use Rattle.place_words.proofs.Ascending.{ascend_on}
 use Rattle.place_table.proofs.Entries.{append_nil}
 use Rattle.place_table.specs.declared.view.WordStep.{WordStep}
@@ -129,6 +130,22 @@ goes_moved {hashes} at k now hand notes word left p q is =
 
 pub goes_noted : (notes : List Notes) (bits : List BitSeen) (touched : List WordStep) (readings : List HomeIn) (p q : PassView) → q ≡ with_view p (noted notes bits touched readings p.view) → Goes p q [] []
 goes_noted notes bits touched readings p q is =
+    subst (λ (z : PassView). Goes p z [] []) (sym is) record {
+      table = refl;
+      seat = refl;
+      cpu = refl;
+      call = refl;
+      shape = refl;
+      cpus = refl;
+      steps = sym (append_nil p.view.steps);
+      numbers = record { reached = omega arith; refused = omega arith; ascend = omega arith; exact = λ _. refl };
+      kept = refl;
+      ended = refl;
+      lost_is = refl;
+    }
+
+pub goes_read : (homes_read : List HomeRead) (notes : List Notes) (bits : List BitSeen) (touched : List WordStep) (readings : List HomeIn) (p q : PassView) → q ≡ with_view p (with_homes_read homes_read (noted notes bits touched readings p.view)) → Goes p q [] []
+goes_read homes_read notes bits touched readings p q is =
     subst (λ (z : PassView). Goes p z [] []) (sym is) record {
       table = refl;
       seat = refl;

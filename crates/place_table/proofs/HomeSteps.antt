@@ -1,5 +1,5 @@
 -- The step on a home word: an element goes from the lists of a lock, or from a hand that carries it, to others.
-use Rattle.std.proofs.Common.{◌≡◌, ◌≢◌, ℕ, ◌+◌, ◌<◌, ◌⊎◌, inl, inr, ⊎_elim, eqb, cond, Bool, true, false, List, [], ◌∷◌, get_or, set, sym, refl, ap, ◌∙◌, subst, arith, get_or-set_other, get_or-set_same, None, Some, Option}
+use Rattle.std.proofs.Common.{◌≡◌, ◌≢◌, ℕ, ◌+◌, ◌<◌, ◌⊎◌, inl, inr, ⊎_elim, eqb, cond, Bool, true, false, List, [], ◌∷◌, ◌++◌, get_or, set, sym, refl, ap, ◌∙◌, subst, arith, get_or-set_other, get_or-set_same, None, Some, Option}
 use Rattle.std.specs.Prelude.{◌&&◌, IsTrue, IsFalse}
 use Rattle.std.proofs.lemmas.Bool.{and_parts, eq-eqb}
 use mathlib.Core.Option.{some}
@@ -34,6 +34,7 @@ use Rattle.place_words.proofs.ElementLemmas.{at_put, put_here, put_else}
 use Rattle.place_words.proofs.RowLemmas.{stands_where, free_is, lies_is, row_lies}
 use Rattle.place_words.proofs.StepLaws.{step_keeps_places, step_keeps_ranks}
 use Rattle.place_words.proofs.WholeLemmas.{each_in_one_place}
+use Rattle.place_table.specs.declared.view.HomeRead.{HomeRead}
 use Rattle.place_table.specs.declared.content.Behind.{Behind}
 use Rattle.place_table.specs.declared.view.View.{View}
 use Rattle.place_table.specs.declared.view.Hold.{Hold}
@@ -41,7 +42,7 @@ use Rattle.place_table.specs.declared.view.InHand.{InHand}
 use Rattle.place_table.specs.declared.view.Notes.{Notes}
 use Rattle.place_table.specs.Contents.{lists_of}
 use Rattle.place_table.specs.Laws.{StepsAs, goes_by}
-use Rattle.place_table.specs.Views.{is_among, hold_at, is_in_hand_of, known_log, now_at, with_now, with_places, held_without, held_with, carried_without, carried_with, with_come_home, with_left_home, came_at, without_readings, kept_hashes, noted, with_clear, with_home_read, with_reading, bits_with, touching}
+use Rattle.place_table.specs.Views.{is_among, hold_at, is_in_hand_of, known_log, now_at, with_now, with_places, held_without, held_with, carried_without, carried_with, with_come_home, with_left_home, came_at, without_readings, kept_hashes, noted, with_clear, with_home_read, with_reading, bits_with, touching, with_homes_read}
 use Rattle.place_table.specs.Views as views
 use Rattle.place_table.specs.Rules.{World, Rule, PassKnows, entries, AtHome, Ascends, is_home_of, StillHome, IsCounted, IsHashed, HasCome, hold, hold_of}
 use Rattle.place_table.specs.Words.{owner_word, home_word, bit_word}
@@ -62,7 +63,7 @@ use Rattle.place_table.proofs.StoredHashes.{kept_there}
 use Rattle.place_table.specs.declared.view.WordStep.{WordStep}
 use Rattle.place_table.proofs.StepLog.{made}
 use Rattle.place_table.proofs.CodeLemmas.{has_home_code, lies_has_code, one_home}
-use Rattle.place_table.proofs.Counted.{turns_told, counted_now}
+use Rattle.place_table.proofs.Counted.{turns_told, counted_now, homes_with}
 
 -- the home is a lock that a CPU of the pass holds, or the hand of one
 abbrev IsInReach : Shape → World → ℕ → Home → Type 0
@@ -581,11 +582,14 @@ sees_home_step shape slots pass me e real s r wide at_pass _ =
     let home : Home = w.core.home e in
     let turns : ℕ = turns_told shape w.touches home in
     let home_is : home ≡ home_of_place shape (r.placed.place e) = r.placed.placed.homes e real in
-    let x : WordStep = record { at = made w; word = home_word shape e; seen = Some (home_code home); left = home_code home } in (
-      noted (with_home_read e home me.0.held me.0.notes) me.0.bits (touching (made w) (home_word shape e) (Some (home_code home)) (home_code home) me.0) (with_reading (made w) turns e home me.0.hand me.0.readings) me.0,
+    let x : WordStep = record { at = made w; word = home_word shape e; seen = Some (home_code home); left = home_code home } in
+    let homes_now : List HomeRead = me.0.homes_read ++ record { element = e; home = home; at = made w; turns = turns } ∷ [] in (
+      with_homes_read homes_now (noted (with_home_read e home me.0.held me.0.notes) me.0.bits (touching (made w) (home_word shape e) (Some (home_code home)) (home_code home) me.0) (with_reading (made w) turns e home me.0.hand me.0.readings) me.0),
       keeps,
       tt,
-      look_rule shape s r pass me.0 at_pass (with_home_read e home me.0.held me.0.notes) (λ k. came_home_read e home k me.0.held me.0.notes) (home_word shape e) (home_code home) me.1 me.0.bits (with_reading (made w) turns e home me.0.hand me.0.readings)
+      look_rule shape s r pass me.0 at_pass (with_home_read e home me.0.held me.0.notes) (λ k. came_home_read e home k me.0.held me.0.notes) (home_word shape e) (home_code home) me.1 me.0.bits homes_now
+          (homes_with shape w.touches me.0.homes_read (record { element = e; home = home; at = made w; turns = turns }) kn.homes_read (counted_now shape w.touches home))
+          (with_reading (made w) turns e home me.0.hand me.0.readings)
           (λ x d read within found. ⊎_elim
           (λ (new : IsNew (made w) turns x d e home read me.0.hand). record {
             real = subst (λ (z : ℕ). z < shape.elements) (sym new.same) real;
@@ -605,7 +609,7 @@ sees_home_step shape slots pass me e real s r wide at_pass _ =
         fits = subst (λ z. HomeFits z me.0 e home) (sym kn.shape_is) (home_fits shape s r pass me.0 at_pass e real);
         at = made w;
         turns = turns;
-        after_is = λ i. (noted (with_home_read e home me.0.held me.0.notes) me.0.bits (touching (made w) (home_word (sym kn.shape_is i) e) (Some (home_code home)) (home_code home) me.0) (with_reading (made w) turns e home me.0.hand me.0.readings) me.0, me.1);
+        after_is = λ i. (with_homes_read homes_now (noted (with_home_read e home me.0.held me.0.notes) me.0.bits (touching (made w) (home_word (sym kn.shape_is i) e) (Some (home_code home)) (home_code home) me.0) (with_reading (made w) turns e home me.0.hand me.0.readings) me.0), me.1);
       },
     )
 

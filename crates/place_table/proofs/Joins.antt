@@ -287,6 +287,7 @@ module _ (shape : Shape) (id other : ℕ) (v u : View) (apart : other ≢ id) (n
             (λ noted found. known_second e d v.hashes u.hashes (none_noted e d v.hashes (hash_known e d v.hashes) refl (λ before known. true_false (sym (kn.hashes e d before within known).in_hand ∙ not_first))) ∙ found)
             (ku.hashed lru e d lock real within (sym (hand_append e d v.hand u.hand ∙ ap (λ (t : Bool). cond t true (is_in_hand_of e d u.hand)) not_first) ∙ in_hand) at)) refl;
         rowed = λ lru k e hold found. absurd (none_some found);
+        homes_read = tt;
         readings = λ e d read within found. ⊎_elim
             (λ (first : home_known e d v.readings ≡ Some read). let is = kn.readings e d read within first in record { real = is.real; in_hand = hand_append e d v.hand u.hand ∙ ap (λ (t : Bool). cond t true (is_in_hand_of e d u.hand)) is.in_hand; counted = is.counted; still = is.still })
             (λ (second : home_known e d u.readings ≡ Some read). let is = ku.readings e d read within second in record { real = is.real; in_hand = hand_append e d v.hand u.hand ∙ or_there (is_in_hand_of e d v.hand) (is_in_hand_of e d u.hand) is.in_hand; counted = is.counted; still = is.still })
@@ -336,6 +337,7 @@ module _ (shape : Shape) (id other : ℕ) (v u : View) (apart : other ≢ id) (n
         hashes = λ e d noted within found. absurd (none_some found);
         hashed = λ lru e d lock real within in_hand at. true_false (sym in_hand);
         rowed = λ lru k e hold found. absurd (none_some found);
+        homes_read = tt;
         readings = λ e d read within found. absurd (none_some found);
         known = λ k log f. absurd (none_some f);
         bits = λ e bit f. absurd (none_some f);
@@ -371,6 +373,7 @@ module _ (shape : Shape) (id other : ℕ) (v u : View) (apart : other ≢ id) (n
         hashes = λ e d noted within found. kx.hashes e d noted within found;
         hashed = kx.hashed;
         rowed = kx.rowed;
+        homes_read = kx.homes_read;
         readings = kx.readings;
         known = kx.known;
         bits = kx.bits;

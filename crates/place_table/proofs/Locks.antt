@@ -57,7 +57,7 @@ use Rattle.place_table.specs.declared.view.Ticket.TheVariants.{Unread}
 use Rattle.place_table.specs.Tickets.{Tickets}
 use Rattle.place_table.proofs.TicketLemmas.{tickets_stay}
 use Rattle.place_table.specs.declared.view.HomeIn.{HomeIn}
-use Rattle.place_table.proofs.Counted.{counted_more, counted_then}
+use Rattle.place_table.proofs.Counted.{counted_more, counted_then, homes_more}
 
 -- a step that is told as one of the core is one that the rule allows
 pub allows_of : (shape : Shape) (slots pass : ℕ) (me : Seated) (i : ℕ) (f : ℕ → ℕ) (goes : ℕ → cores.State → cores.State → Type 0) (told_then : ℕ → Seated → Type 0)
@@ -268,6 +268,7 @@ module _ (shape : Shape) (slots pass : ℕ) (me : Seated) (lock : DomainId) (c :
                     (λ (had : stored_in (content shape (lock_named shape m) hold.log) x ≡ Some (w.hash x)). inl had)
                     (λ (come : is_among x (came_at m v.held v.notes) ≡ true). inr (ap (is_among x) (came_other m h v.held (no_notes ∷ v.notes) (λ y. other (sym y))) ∙ come))
                     (kn.rowed lru m x hold at no_bucket inside)) found;
+                homes_read = homes_more shape w.touches (w.current pass, took_step w) v.homes_read kn.homes_read;
                 readings = λ x d read within found.
                     let then = then_known x d read v.shape h v.readings found in
                     let was = kn.readings x d then.0 within then.1 in

@@ -183,6 +183,7 @@ first_knows shape bounds = record {
   hashes = λ e c noted within found. absurd (none_some found);
   hashed = λ lru e c lock real within in_hand at. true_false (sym in_hand ∙ none_in_hand shape shape.kind e c lru);
   rowed = λ lru k e hold found. absurd (none_some found);
+  homes_read = tt;
   readings = λ e c read within found. absurd (none_some found);
   known = λ k log is. known_first k (lock_count shape) log is;
   bits = λ e bit is. bit_first e shape.elements bit is;

@@ -23,6 +23,7 @@ use Rattle.place_words.specs.Takings.{set_of}
 use Rattle.place_words.proofs.LockLemmas.{named_by_number}
 use Rattle.place_words.specs.Places.{MayOwn}
 use Rattle.place_words.specs.State.{is_bucket}
+use Rattle.place_table.specs.declared.view.HomeRead.{HomeRead}
 use Rattle.place_table.specs.declared.content.Behind.{Behind}
 use Rattle.place_table.specs.declared.content.Content.{Content}
 use Rattle.place_table.specs.declared.steps.Recorded.{Recorded}
@@ -34,7 +35,7 @@ use Rattle.place_table.specs.declared.view.BitSeen.{BitSeen}
 use Rattle.place_table.specs.Rules.{KeptAs}
 use Rattle.place_table.specs.Contents.{content_told, lists_of, FitsLock}
 use Rattle.place_table.specs.Flushes.{flushed_since}
-use Rattle.place_table.specs.Views.{is_among, is_in_hand_of, hold_at, known_log, home_known, holding, given, with_lost, losing, holds_below, noted, owner_read, home_read}
+use Rattle.place_table.specs.Views.{is_among, is_in_hand_of, hold_at, known_log, home_known, holding, given, with_lost, losing, holds_below, noted, owner_read, home_read, with_homes_read}
 use Rattle.place_table.specs.declared.view.Ticket.{Ticket}
 use Rattle.place_table.specs.declared.view.Ticket.TheVariants.{Unread, Drawn}
 use Rattle.place_table.specs.Views.{ticketed, ticket_of, number_by, next, numbered_entry, reached_by, refused_by}
@@ -354,10 +355,14 @@ gave_some_of t lock before after here part can drawn ready is put given_seat beh
     same_head : {A : Type 0} {x y : A} {xs ys : List A} → x ∷ xs ≡ y ∷ ys → x ≡ y
     same_head e = cc
 
+-- a pass that has made a note, and a look at a home
+pub is_pass_read : {flags : List Bool} {ended : Option (Vec FinishedStrand Global)} (v : View) (slots : List (ℕ × Behind)) (strand : List StrandStep) (spares : List (Option Stored)) (homes_read : List HomeRead) (notes : List Notes) (bits : List BitSeen) (touched : List WordStep) (readings : List HomeIn) (after : Seated) → IsPass v slots strand spares flags ended → after ≡ (with_homes_read homes_read (noted notes bits touched readings v), slots) → IsPass after.0 after.1 strand spares flags ended
+is_pass_read {flags} {ended} v slots strand spares homes_read notes bits touched readings after pass after_is =
+    subst (λ (z : Seated). IsPass z.0 z.1 strand spares flags ended) (sym after_is) record { carries = pass.carries; strand_is = pass.strand_is; cpus_are = pass.cpus_are; ended_are = pass.ended_are; spares_fit = pass.spares_fit; within = pass.within; ended_within = pass.ended_within; hands_real = pass.hands_real; unread = pass.unread }
+
 -- a pass that has made a note
 pub is_pass_noted : {flags : List Bool} {ended : Option (Vec FinishedStrand Global)} (v : View) (slots : List (ℕ × Behind)) (strand : List StrandStep) (spares : List (Option Stored)) (notes : List Notes) (bits : List BitSeen) (touched : List WordStep) (readings : List HomeIn) (after : Seated) → IsPass v slots strand spares flags ended → after ≡ (noted notes bits touched readings v, slots) → IsPass after.0 after.1 strand spares flags ended
-is_pass_noted {flags} {ended} v slots strand spares notes bits touched readings after pass after_is =
-    subst (λ (z : Seated). IsPass z.0 z.1 strand spares flags ended) (sym after_is) record { carries = pass.carries; strand_is = pass.strand_is; cpus_are = pass.cpus_are; ended_are = pass.ended_are; spares_fit = pass.spares_fit; within = pass.within; ended_within = pass.ended_within; hands_real = pass.hands_real; unread = pass.unread }
+is_pass_noted {flags} {ended} v slots strand spares notes bits touched readings after pass after_is = is_pass_read {flags = flags} {ended = ended} v slots strand spares v.homes_read notes bits touched readings after pass after_is
 
 -- the owner that was read has a code
 pub read_has_code : (t : TableView) (e : ℕ) (before : PassView) (old new : Seated) (found : ℕ) → IsShape t.shape → IsPassOf t before → old.0 ≡ before.view → (sees : SeesOwner e old found new) → HasOwnerCode sees.owner

@@ -45,7 +45,7 @@ use Rattle.place_table.proofs.StepLog.{made, time_more, givers_other, touches_wi
 use Rattle.place_table.specs.declared.view.WordStep.{WordStep}
 use Rattle.place_table.proofs.Locks.{there}
 use Rattle.place_table.proofs.NotesDone.{word_off, noted_more}
-use Rattle.place_table.proofs.Counted.{counted_more, reading_more}
+use Rattle.place_table.proofs.Counted.{counted_more, reading_more, homes_more}
 
 -- a CPU of the pass holds the lock
 pub record IsHeldByPass (w : World) (pass k : ℕ) : Type 0 where
@@ -171,6 +171,7 @@ module _ (shape : Shape) (s : State Behind View) (r : Rule shape s) (pass : ℕ)
                 hashes = moves.are_hashes.0;
                 hashed = moves.are_hashes.1;
                 rowed = moves.are_rowed;
+                homes_read = homes_more shape w.touches (w.current pass, x) v.homes_read kn.homes_read;
                 readings = λ e d read within found. reading_more shape w.core.holder w.log home w.touches (w.current pass, x) hand e d read (moves.are_read e d read within found);
                 known = kn.known;
                 bits = kn.bits;

@@ -21,16 +21,15 @@ use Rattle.place_table.specs.declared.view.View.{View}
 use Rattle.place_table.specs.declared.view.Ticket.TheVariants.{Drawn}
 use Rattle.place_table.specs.declared.view.Ended.{Ended}
 use Rattle.place_table.specs.declared.view.WordStep.{WordStep}
-use Rattle.place_table.specs.Views.{is_among, is_in_hand_of, ticket_drawn, marked, cleared, bit_read, owner_read, home_read}
+use Rattle.place_table.specs.Views.{is_among, ticket_drawn, marked, cleared, bit_read, owner_read, home_read}
 use Rattle.place_table.specs.Words.{word_count, owner_word, home_word, bit_word, ticket_word, opening_words}
 use Rattle.place_table.specs.Refusals.{IsToldTrue}
-use Rattle.place_table.specs.Rules.{World, Rule, ArePast, givers, logs_of}
+use Rattle.place_table.specs.Rules.{World, Rule, ArePast, givers, logs_of, AreReadingsCounted}
 use Rattle.place_table.specs.Plays.{Seated, GivesBack, DrawsTicket, Marks, Clears, SeesBit}
 use Rattle.place_table.proofs.Locks.{there, seat_at}
 use Rattle.place_table.proofs.StepOrder.{Has, HasBy, steps_of, has_last, has_first, has_split, touches_by, by_touches, by_steps, some_by, strand_by, one_strand_by, Ascend, ascends, before_last, order_is, number_is, lead_last}
 use Rattle.place_table.proofs.Worlds.{true_false}
-use Rattle.place_table.proofs.Counted.{gives_before, strands_long}
-use Rattle.place_table.proofs.Readings.{reading_known}
+use Rattle.place_table.proofs.Counted.{gives_before, strands_long, home_last}
 use Rattle.std.specs.Prelude.{IsTrue}
 
 abbrev get_or_in : List ℕ → ℕ → ℕ
@@ -204,18 +203,22 @@ pub tells_true : (shape : Shape) (s : State Behind View) (pass i n : ℕ) (v u :
 tells_true shape s pass i n v u cs a x r at_pass r' real more same = told shape s r pass v u at_pass (stepped s i n pass cs u a) r' refl x more same real
 
 -- A home that is told to be local lists is told with the number of turns that their lock had then.
-pub tells_turns : (shape : Shape) (s : State Behind View) (pass i n : ℕ) (v : View) (cs : List (ℕ × Behind)) (a : Act Behind) (at turns e c cpu : ℕ) (r : Rule shape s) → get_elem? s.views pass ≡ some v → Rule shape (stepped s i n pass cs (home_read at turns e (homes.In (Local cpu)) v) a)
-    → IsTrue (is_lock shape (Local cpu)) → c < shape.cpus → is_in_hand_of e c v.hand ≡ true → turns ≡ length (logs_of r.world (lock_number shape (Local cpu)))
-tells_turns shape s pass i n v cs a at turns e c cpu r at_pass r' is_there within in_hand =
+pub tells_turns : (shape : Shape) (s : State Behind View) (pass i n : ℕ) (v : View) (cs : List (ℕ × Behind)) (a : Act Behind) (at turns e cpu : ℕ) (r : Rule shape s) → get_elem? s.views pass ≡ some v → Rule shape (stepped s i n pass cs (home_read at turns e (homes.In (Local cpu)) v) a)
+    → IsTrue (is_lock shape (Local cpu)) → turns ≡ length (logs_of r.world (lock_number shape (Local cpu)))
+tells_turns shape s pass i n v cs a at turns e cpu r at_pass r' is_there =
     let k : ℕ = lock_number shape (Local cpu) in
     let u : View = home_read at turns e (homes.In (Local cpu)) v in
     let x : WordStep = record { at = at; word = home_word v.shape e; seen = Some (home_code (homes.In (Local cpu))); left = home_code (homes.In (Local cpu)) } in
     let more : steps_of r'.world.touches ≡ steps_of r.world.touches ++ x ∷ [] = one_more shape s r pass v u at_pass (stepped s i n pass cs u a) r' refl x refl refl in
     let number : at ≡ length r.world.touches = (let counted = number_is 0 r.world.touches r'.world.touches x r'.in_time more in omega (arith, counted)) in
     let kn = r'.knows pass u (here_then shape s r pass v u at_pass (stepped s i n pass cs u a) r' refl x refl refl) in
-    let read = (kn.readings e c (record { element = e; cpu = c; home = homes.In (Local cpu); at = at; turns = turns }) within (reading_known at turns e c (homes.In (Local cpu)) v.hand v.readings in_hand)).counted in
+    let read = home_last shape r'.world.touches v.homes_read (record { element = e; home = homes.In (Local cpu); at = at; turns = turns }) kn.homes_read in
     read.1 ∙ (ap (λ (z : ℕ). length (givers k (take z r'.world.touches))) number ∙ (gives_before k r.world.touches r'.world.touches x more
     ∙ (ap length (r.gave_back k (number_within shape (Local cpu) is_there)) ∙ strands_long (r.world.log k))))
+
+-- and is kept so
+pub keeps_turns : (shape : Shape) (s : State Behind View) (pass : ℕ) (v : View) (r : Rule shape s) → get_elem? s.views pass ≡ some v → AreReadingsCounted shape r.world.touches v.homes_read
+keeps_turns shape s pass v r at_pass = (r.knows pass v at_pass).homes_read
 
 -- A mark that stores nothing is refused: the rule doesn't allow it where the bit is 0.
 pub mark_stores : (shape : Shape) (slots pass e : ℕ) (me : Seated) (s : State Behind View) → Rule shape s → length s.homes ≡ slots → get_elem? s.views pass ≡ some me.0 → e < shape.elements → get_or s.words (bit_word shape e) 0 ≡ 0

@@ -197,6 +197,7 @@ module _ (shape : Shape) (id c : ℕ) (v : View) (cpu : is_among c v.cpus ≡ tr
             (λ same. hashed_apart w kn lru (in_hand_of c v.hand) e d lock real within (ap (λ (z : ℕ). is_in_hand_of e z v.hand) same ∙ (sym (own_same e c v.hand) ∙ (ap (λ (z : ℕ). is_in_hand_of e z (in_hand_of c v.hand)) (sym same) ∙ in_hand))) in_hand at)
             (λ other. true_false (sym in_hand ∙ own_other e d c v.hand other));
         rowed = λ lru k e hold found. absurd (none_some found);
+        homes_read = tt;
         readings = readings_kept shape w id v kn (in_hand_of c v.hand);
         known = λ k log f. absurd (none_some f);
         bits = λ e bit f. absurd (none_some f);
@@ -240,6 +241,7 @@ module _ (shape : Shape) (id c : ℕ) (v : View) (cpu : is_among c v.cpus ≡ tr
             (λ same. true_false (sym in_hand ∙ (ap (λ (z : ℕ). is_in_hand_of e z (in_other_hands c v.hand)) same ∙ others_same e c v.hand)))
             (λ other. hashed_apart w kn lru (in_other_hands c v.hand) e d lock real within (sym (others_other e d c v.hand other) ∙ in_hand) in_hand at);
         rowed = λ lru k e hold found. absurd (none_some found);
+        homes_read = tt;
         readings = readings_kept shape w id v kn (in_other_hands c v.hand);
         known = λ k log f. absurd (none_some f);
         bits = λ e bit f. absurd (none_some f);
@@ -277,6 +279,7 @@ module _ (shape : Shape) (id c : ℕ) (v : View) (cpu : is_among c v.cpus ≡ tr
         hashes = λ e d noted within found. ku.hashes e d noted within found;
         hashed = ku.hashed;
         rowed = ku.rowed;
+        homes_read = ku.homes_read;
         readings = ku.readings;
         known = ku.known;
         bits = ku.bits;

@@ -36,7 +36,7 @@ use Rattle.place_table.proofs.Locks.{there, allows_of}
 use Rattle.place_table.specs.Laws.{StepsAs, stays}
 use Rattle.place_table.proofs.TicketLemmas.{exact_there, theirs_there, first_there, inner_there}
 use Rattle.place_table.proofs.TicketChanges.{tickets_read, tickets_drawn, tickets_seen}
-use Rattle.place_table.proofs.Counted.{counted_more, reading_more}
+use Rattle.place_table.proofs.Counted.{counted_more, reading_more, homes_more}
 
 -- one step more
 abbrev looked : World → ℕ → WordStep → World
@@ -111,6 +111,7 @@ module _ (shape : Shape) (s : State Behind View) (r : Rule shape s) (pass : ℕ)
                   (λ m held. (held, refl)) (λ held. held) refl refl (λ inside. inside) (kn.hashed lru y d lock real within in_hand at);
               rowed = kn.rowed;
               hashes = λ y d noted within found. hash_stands shape w.hash w'.hash v.hand y d noted.bucket (kn.hashes y d noted within found) (λ _. refl);
+              homes_read = homes_more shape w.touches (w.current pass, x) v.homes_read kn.homes_read;
               readings = λ y d read within found. reading_more shape w.core.holder w.log w.core.home w.touches (w.current pass, x) v.hand y d read (kn.readings y d read within found);
               known = right_logs;
               bits = kn.bits;

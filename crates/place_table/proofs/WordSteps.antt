@@ -24,17 +24,18 @@ use Rattle.place_words.specs.Ranks.{Ranked}
 use Rattle.place_words.specs.Steps.{IsInHeldBucket, CanClear, IsHeldHome}
 use Rattle.place_words.proofs.ElementLemmas.{put_here, put_else}
 use Rattle.place_words.proofs.StepLaws.{step_keeps_places, step_keeps_ranks}
+use Rattle.place_table.specs.declared.view.HomeRead.{HomeRead}
 use Rattle.place_table.specs.declared.content.Behind.{Behind}
 use Rattle.place_table.specs.declared.view.View.{View}
 use Rattle.place_table.specs.declared.view.Hold.{Hold}
 use Rattle.place_table.specs.declared.view.Notes.{Notes}
 use Rattle.place_table.specs.declared.view.BitSeen.{BitSeen}
 use Rattle.place_table.specs.Laws.{StepsAs, goes_by}
-use Rattle.place_table.specs.Views.{is_among, hold_at, bit_seen, has_all, noted, with_mark, with_clear, with_bit_read, with_owner_read, bits_with, touching, home_known, came_at}
+use Rattle.place_table.specs.Views.{is_among, hold_at, bit_seen, has_all, noted, with_mark, with_clear, with_bit_read, with_owner_read, bits_with, touching, home_known, came_at, with_homes_read}
 use Rattle.place_table.specs.StoredHashes.{stored_in}
 use Rattle.place_table.specs.Tickets.{Tickets}
 use Rattle.place_table.proofs.TicketLemmas.{tickets_stay}
-use Rattle.place_table.specs.Rules.{World, Rule, PassKnows, AreRowed, IsFresh, IsSeen, LeadTo, IsReading, HasRow, IsBrought, AreNoted, logs_of}
+use Rattle.place_table.specs.Rules.{World, Rule, PassKnows, AreRowed, IsFresh, IsSeen, LeadTo, IsReading, HasRow, IsBrought, AreNoted, logs_of, AreReadingsCounted}
 use Rattle.place_table.specs.Words.{owner_word, home_word, bit_word, ticket_word, opening_words}
 use Rattle.place_table.specs.Plays.{Seated, Marks, Clears, SeesBit, SeesOwner, OwnerFits}
 use Rattle.place_table.proofs.Came.{came_marked, came_cleared, came_bit_read, came_owner_read}
@@ -45,7 +46,7 @@ use Rattle.place_table.specs.declared.view.HomeIn.{HomeIn}
 use Rattle.place_table.specs.declared.view.WordStep.{WordStep}
 use Rattle.place_table.proofs.StepLog.{made, time_more, givers_other, touches_with, lead_with, of_strands_with, strand_with, past_same, other_same, reads_more}
 use Rattle.place_table.proofs.NotesDone.{word_off, noted_mark, noted_clear, noted_bit, noted_owner}
-use Rattle.place_table.proofs.Counted.{counted_more, reading_more}
+use Rattle.place_table.proofs.Counted.{counted_more, reading_more, homes_more}
 
 -- with other notes a pass knows the same, and what it keeps of bits has to be so
 abbrev AreSo : World → List BitSeen → Type 0
@@ -182,6 +183,7 @@ module _ (shape : Shape) (s : State Behind View) (r : Rule shape s) (pass : ℕ)
                   (λ m held. (held, refl)) (λ held. held) refl refl (λ inside. ap (is_among y) (same_came k) ∙ inside) (kn.hashed lru y d lock real within in_hand at);
               rowed = λ lru. rowed_still shape w.hash v.held v.notes notes same_came (kn.rowed lru);
               hashes = λ y d noted within found. hash_stands shape w.hash w'.hash v.hand y d noted.bucket (kn.hashes y d noted within found) (λ _. refl);
+              homes_read = homes_more shape w.touches (w.current pass, x) v.homes_read kn.homes_read;
               readings = λ y d read within found. reading_more shape w.core.holder w.log w.core.home w.touches (w.current pass, x) v.hand y d read (kn.readings y d read within found);
               known = kn.known;
               bits = learnt shape w pass v f e b kn here_is else_is;
@@ -199,15 +201,15 @@ module _ (shape : Shape) (s : State Behind View) (r : Rule shape s) (pass : ℕ)
       }
 
   -- a look at the word i, which is n, by which the pass comes to know no bit or one
-  unfoldable pub look_rule : (i n : ℕ) (cs : List (ℕ × Behind)) (bits : List BitSeen) (readings : List HomeIn) → ((x c : ℕ) (read : HomeIn) → c < shape.cpus → home_known x c readings ≡ Some read → IsReading shape r.world.core.holder r.world.log r.world.core.home r.world.touches v.hand x c read) → i < length s.words → get_or s.words i 0 ≡ n → lock_count shape ≤ i → AreNoted shape (touching (made r.world) i (Some n) n v) v.held notes → AreSo r.world bits → ((v.known ≡ []) × (bits ≡ [])) ⊎ ((c : ℕ) → c < shape.cpus → is_among c v.cpus ≡ true)
+  unfoldable pub look_rule : (i n : ℕ) (cs : List (ℕ × Behind)) (bits : List BitSeen) (homes_read : List HomeRead) → AreReadingsCounted shape r.world.touches homes_read → (readings : List HomeIn) → ((x c : ℕ) (read : HomeIn) → c < shape.cpus → home_known x c readings ≡ Some read → IsReading shape r.world.core.holder r.world.log r.world.core.home r.world.touches v.hand x c read) → i < length s.words → get_or s.words i 0 ≡ n → lock_count shape ≤ i → AreNoted shape (touching (made r.world) i (Some n) n v) v.held notes → AreSo r.world bits → ((v.known ≡ []) × (bits ≡ [])) ⊎ ((c : ℕ) → c < shape.cpus → is_among c v.cpus ≡ true)
       → (e : ℕ) → e < shape.elements
-      → (after : Rule shape (stepped s i (get_or s.words i 0) pass cs (noted notes bits (touching (made r.world) i (Some n) n v) readings v) keeps)) × goes_by shape (Glance 0 e) 0 r.world.core after.world.core
-  look_rule i n cs bits readings are_read inside found_is behind are_noted so only e real =
+      → (after : Rule shape (stepped s i (get_or s.words i 0) pass cs (with_homes_read homes_read (noted notes bits (touching (made r.world) i (Some n) n v) readings v)) keeps)) × goes_by shape (Glance 0 e) 0 r.world.core after.world.core
+  look_rule i n cs bits homes_read are_counted readings are_read inside found_is behind are_noted so only e real =
       let w = r.world in
       let x : WordStep = record { at = made w; word = i; seen = Some n; left = n } in
       let w' : World = looked w pass x in
       let kn = r.knows pass v at_pass in
-      let nv : View = noted notes bits (touching (made w) i (Some n) n v) readings v in
+      let nv : View = with_homes_read homes_read (noted notes bits (touching (made w) i (Some n) n v) readings v) in
       let same : SameStrands w w' = record { pass_of_strand = λ _. refl; cpus_of_strand = λ _. refl; next = refl; current = λ _. refl; past = λ _. refl; pass_of_cpu = λ _. refl; still = λ _ z. z } in
       let back : set s.words i (get_or s.words i 0) ≡ s.words = set_again s.words i (get_or s.words i 0) (found_at s.words i inside) in
       let bounds = bounds_of_shape shape r.is_shape in (
@@ -248,6 +250,7 @@ module _ (shape : Shape) (s : State Behind View) (r : Rule shape s) (pass : ℕ)
                     (λ m held. (held, refl)) (λ held. held) refl refl (λ inside. ap (is_among y) (same_came k) ∙ inside) (kn.hashed lru y d lock real within in_hand at);
                 rowed = λ lru. rowed_still shape w.hash v.held v.notes notes same_came (kn.rowed lru);
                 hashes = λ y d noted within found. hash_stands shape w.hash w'.hash v.hand y d noted.bucket (kn.hashes y d noted within found) (λ _. refl);
+                homes_read = homes_more shape w.touches (w.current pass, x) homes_read are_counted;
                 readings = λ y d read within found. reading_more shape w.core.holder w.log w.core.home w.touches (w.current pass, x) v.hand y d read (are_read y d read within found);
                 known = kn.known;
                 bits = so;
@@ -397,7 +400,7 @@ sees_owner_step shape slots pass me e real s r wide at_pass _ =
       noted (with_owner_read e owner me.0.notes) me.0.bits (touching (made w) (owner_word shape e) (Some (owner_code owner)) (owner_code owner) me.0) me.0.readings me.0,
       keeps,
       tt,
-      look_rule shape s r pass me.0 at_pass (with_owner_read e owner me.0.notes) (λ k. came_owner_read e owner k me.0.held me.0.notes) (owner_word shape e) (owner_code owner) me.1 me.0.bits me.0.readings kn.readings (omega (arith, r.words)) (r.owner_words e real)
+      look_rule shape s r pass me.0 at_pass (with_owner_read e owner me.0.notes) (λ k. came_owner_read e owner k me.0.held me.0.notes) (owner_word shape e) (owner_code owner) me.1 me.0.bits me.0.homes_read kn.homes_read me.0.readings kn.readings (omega (arith, r.words)) (r.owner_words e real)
           (omega arith)
           (noted_owner shape me.0.touched (x ∷ []) me.0.held me.0.notes e owner kn.noted (word_off shape me.0.touched x me.0.held me.0.notes kn.noted (omega arith)) (inl refl)) kn.bits kn.only e real,
       record {

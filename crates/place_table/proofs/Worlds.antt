@@ -22,12 +22,13 @@ use Rattle.place_table.specs.declared.view.Turned.{Turned}
 use Rattle.place_table.specs.declared.view.Ended.{Ended}
 use Rattle.place_table.specs.declared.view.WordStep.{WordStep}
 use Rattle.place_table.specs.Views.{is_among, hold_at, is_in_hand_of, known_log, bit_seen, has_all_below, hash_known, came_at}
-use Rattle.place_table.specs.Rules.{Tagged, entries, World, hold, hold_of, is_hand_of, is_home_of, IsAboveAll, turns_of, StandIn, logs_of, IsStrand, ArePast, IsTagged, AreTagged, IsLostLock, PassKnows, IsHashOf, IsHashed, HasHash, HasCome, HasRow, IsBrought, touches_of, Touch, IsOfStrand, AreOfStrands, StillHome, IsCounted}
+use Rattle.place_table.specs.Rules.{Tagged, entries, World, hold, hold_of, is_hand_of, is_home_of, IsAboveAll, turns_of, StandIn, logs_of, IsStrand, ArePast, IsTagged, AreTagged, IsLostLock, PassKnows, IsHashOf, IsHashed, HasHash, HasCome, HasRow, IsBrought, touches_of, Touch, IsOfStrand, AreOfStrands, StillHome, IsCounted, AreReadingsCounted}
 use Rattle.place_words.specs.declared.home.Home.{Home}
 use Rattle.place_words.specs.declared.home.Home.TheVariants as homes
 use Rattle.map_types.specs.declared.kind.DomainId.{DomainId}
 use Rattle.map_types.proofs.RowLemmas.{by_test}
 use Rattle.place_table.specs.declared.view.HomeIn.{HomeIn}
+use Rattle.place_table.specs.declared.view.HomeRead.{HomeRead}
 
 -- the same of four functions that change at one place
 pub at_put4 : {A B C D : Type 0} (f : ℕ → A) (g : ℕ → B) (h : ℕ → C) (l : ℕ → D) (i : ℕ) (x : A) (y : B) (z : C) (u : D) (F : ℕ → A → B → C → D → Type 0) (j : ℕ)
@@ -317,6 +318,13 @@ hashed_away shape holder holder' log log' hash hash' hashes hashes' came came' j
   row = λ held. absurd (now held);
 }
 
+-- the looks at homes, where each stays counted
+pub homes_stay : (shape : Shape) (touches touches' : List Touch) → ((read : HomeIn) → IsCounted shape touches read.at read.turns read.home → IsCounted shape touches' read.at read.turns read.home)
+    → (homes_read : List HomeRead) → AreReadingsCounted shape touches homes_read → AreReadingsCounted shape touches' homes_read
+homes_stay shape touches touches' stays [] are = tt
+homes_stay shape touches touches' stays (x ∷ xs) are =
+    (stays (record { element = x.element; cpu = 0; home = x.home; at = x.at; turns = x.turns }) are.0, homes_stay shape touches touches' stays xs are.1)
+
 -- THE FRAME. What a pass knows stays where its own locks, hands and strands do, and where what it keeps of turns and bits
 -- is still so.
 pub others : (shape : Shape) (w w' : World) (j : ℕ) (u : View) → SameStrands w w' → PassKnows shape w j u
@@ -362,6 +370,7 @@ others shape w w' j u same kn holds hands carried turns losses known bits hashes
       (λ in_hand. let is = both_true _ _ (sym (kn.hands e c within) ∙ in_hand) in hashes e c (hand_is c (w.core.owner e) is.0) (eqb-true (w.pass_of_cpu c) j is.1));
   readings = λ e c read within found. let was = kn.readings e c read within found in let is = both_true _ _ (sym (kn.hands e c within) ∙ was.in_hand) in
       record { real = was.real; in_hand = was.in_hand; counted = counts read was.counted; still = readings e c read was.real (hand_is c (w.core.owner e) is.0) (eqb-true (w.pass_of_cpu c) j is.1) was.counted was.still };
+  homes_read = homes_stay shape w.touches w'.touches counts u.homes_read kn.homes_read;
   known = known;
   bits = bits;
   only = kn.only;

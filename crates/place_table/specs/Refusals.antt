@@ -15,9 +15,9 @@ use Rattle.place_table.specs.declared.content.Behind.{Behind}
 use Rattle.place_table.specs.declared.view.View.{View}
 use Rattle.place_table.specs.declared.view.Ticket.TheVariants.{Drawn}
 use Rattle.place_table.specs.declared.view.WordStep.{WordStep}
-use Rattle.place_table.specs.Views.{owner_read, home_read, is_in_hand_of}
+use Rattle.place_table.specs.Views.{owner_read, home_read}
 use Rattle.place_table.specs.Words.{word_count, owner_word, bit_word, ticket_word}
-use Rattle.place_table.specs.Rules.{Rule, IsSeen, logs_of}
+use Rattle.place_table.specs.Rules.{Rule, IsSeen, logs_of, AreReadingsCounted}
 use Rattle.place_table.specs.Plays.{Seated, GivesBack, DrawsTicket, Marks, Clears, SeesBit}
 
 -- A step is told as it was done: what it tells that it saw in its word was there, what it tells that it left is there after it, and
@@ -80,14 +80,21 @@ LooksAtItsOwner =
     → InEachState shape slots pass me (λ s. e < shape.elements → owner_word shape e ≢ i → word_of s i < 18446744073709551616 → 0 < word_of s (owner_word shape e)
     → Refuses shape slots pass me i f (TellsFree e me))
 
--- A home that is told to be local lists is told with the number of turns that their lock had then, of an element in the hand of a CPU of
--- the pass: whatever the table and the pass are, where the rule holds before and after.
+-- A home that is told to be local lists is told with the number of turns that their lock had then: whatever the table, the pass and the
+-- element are, where the rule holds before and after.
 abbrev pub TellsTurns : Type 0
 TellsTurns =
-    (shape : Shape) (s : table.State Behind View) (pass i n : ℕ) (v : View) (slots : List (ℕ × Behind)) (act : Act Behind) (at turns e c cpu : ℕ) (r : Rule shape s)
+    (shape : Shape) (s : table.State Behind View) (pass i n : ℕ) (v : View) (slots : List (ℕ × Behind)) (act : Act Behind) (at turns e cpu : ℕ) (r : Rule shape s)
     → get_elem? s.views pass ≡ some v → Rule shape (stepped s i n pass slots (home_read at turns e (homes.In (Local cpu)) v) act)
-    → IsTrue (is_lock shape (Local cpu)) → c < shape.cpus → is_in_hand_of e c v.hand ≡ true
+    → IsTrue (is_lock shape (Local cpu))
     → turns ≡ length (logs_of r.world (lock_number shape (Local cpu)))
+
+-- And so it stays told: in every state, of each look at a home that a pass keeps, the number of turns is how often the lock of the local
+-- lists that it read had been given back by the steps on words before it.
+abbrev pub KeepsTurns : Type 0
+KeepsTurns =
+    (shape : Shape) (s : table.State Behind View) (pass : ℕ) (v : View) (r : Rule shape s)
+    → get_elem? s.views pass ≡ some v → AreReadingsCounted shape r.world.touches v.homes_read
 
 -- a draw that adds another number than 1 isn't allowed
 abbrev pub DrawsOne : Type 0

@@ -34,6 +34,7 @@ use Rattle.place_table.specs.declared.view.Hold.{Hold}
 use Rattle.place_table.specs.declared.view.InHand.{InHand}
 use Rattle.place_table.specs.declared.view.HashIn.{HashIn}
 use Rattle.place_table.specs.declared.view.HomeIn.{HomeIn}
+use Rattle.place_table.specs.declared.view.HomeRead.{HomeRead}
 use Rattle.place_table.specs.declared.view.Turned.{Turned}
 use Rattle.place_table.specs.declared.view.Ended.{Ended}
 use Rattle.place_table.specs.Flushes.{flushed_since}
@@ -311,6 +312,11 @@ abbrev pub IsCounted : Shape → List Touch → ℕ → ℕ → Home → Type 0
 IsCounted shape touches at n (homes.In (Local c)) = (at ≤ length touches) × (n ≡ length (givers (lock_number shape (Local c)) (take at touches)))
 IsCounted shape touches at n read = Unit {0}
 
+-- and of each of these looks at homes
+abbrev pub AreReadingsCounted : Shape → List Touch → List HomeRead → Type 0
+AreReadingsCounted shape touches [] = Unit {0}
+AreReadingsCounted shape touches (x ∷ xs) = IsCounted shape touches x.at x.turns x.home × AreReadingsCounted shape touches xs
+
 -- a reading of the home of an element in the hand of a CPU
 pub record IsReading (shape : Shape) (holder : ℕ → Option ℕ) (log : ℕ → List Tagged) (home : ℕ → Home) (touches : List Touch) (hand : List InHand) (e c : ℕ) (read : HomeIn) : Type 0 where
   pub real : e < shape.elements
@@ -400,6 +406,8 @@ pub record PassKnows (shape : Shape) (world : World) (pass : ℕ) (v : View) : T
   pub rowed : IsTrue (is_lru shape.kind) → AreRowed shape world.hash v.held v.notes
   -- and the homes that were read of what is in hand
   pub readings : (e c : ℕ) (read : HomeIn) → c < shape.cpus → home_known e c v.readings ≡ Some read → IsReading shape world.core.holder world.log world.core.home world.touches v.hand e c read
+  -- and of all homes that were read in its current strand how many turns local lists had had then
+  pub homes_read : AreReadingsCounted shape world.touches v.homes_read
   -- what only a pass with all CPUs keeps: turns of locks and bits
   pub known : (k : ℕ) (log : List Entry) → known_log k v.known ≡ Some log → entries (world.log k) ≡ log
   pub bits : (e : ℕ) (bit : Bool) → bit_seen e v.bits ≡ Some bit → world.core.bit e ≡ bit

@@ -28,6 +28,7 @@ use Rattle.place_table.specs.declared.view.Hold.{Hold}
 use Rattle.place_table.specs.declared.view.InHand.{InHand}
 use Rattle.place_table.specs.declared.view.HashIn.{HashIn}
 use Rattle.place_table.specs.declared.view.HomeIn.{HomeIn}
+use Rattle.place_table.specs.declared.view.HomeRead.{HomeRead}
 use Rattle.place_table.specs.declared.view.Notes.{Notes}
 use Rattle.place_table.specs.declared.view.OwnerSeen.{OwnerSeen}
 use Rattle.place_table.specs.declared.view.Known.{Known}
@@ -154,6 +155,7 @@ spent shape = record {
   steps = [];
   kept = [];
   touched = [];
+  homes_read = [];
   ended = [];
   lost = [];
 }
@@ -352,6 +354,10 @@ losing at hold entry v = with_lost (hold.lock ∷ v.lost) (given at hold entry v
 abbrev pub noted : List Notes → List BitSeen → List WordStep → List HomeIn → View → View
 noted notes bits touched readings v = record v { notes = notes; bits = bits; touched = touched; readings = readings }
 
+-- other looks at homes
+abbrev pub with_homes_read : List HomeRead → View → View
+with_homes_read homes_read v = record v { homes_read = homes_read }
+
 -- a note belongs to the lock taken last, and is dropped where none is held
 abbrev pub with_mark : ℕ → List Notes → List Notes
 with_mark e [] = []
@@ -392,7 +398,8 @@ owner_read at e owner v =
 -- where the home is local lists, their lock has had so many turns
 abbrev pub home_read : ℕ → ℕ → ℕ → Home → View → View
 home_read at turns e home v =
-    noted (with_home_read e home v.held v.notes) v.bits (touching at (home_word v.shape e) (Some (home_code home)) (home_code home) v) (with_reading at turns e home v.hand v.readings) v
+    with_homes_read (v.homes_read ++ record { element = e; home = home; at = at; turns = turns } ∷ [])
+    (noted (with_home_read e home v.held v.notes) v.bits (touching at (home_word v.shape e) (Some (home_code home)) (home_code home) v) (with_reading at turns e home v.hand v.readings) v)
 
 -- what lies under a lock that is held, as the pass knows it, and the locks held where other lists lie under one
 abbrev pub now_at : ℕ → List Hold → Lists
@@ -577,6 +584,7 @@ begun_anew v = record v {
   steps = [];
   kept = [];
   touched = [];
+  homes_read = [];
 }
 
 -- A CPU is split off. What stays: the other CPUs, with what is in their hands, and a new strand.

@@ -293,7 +293,7 @@ impl PlaceTable {
     }
 
     /// The home of an element. A map that doesn't evict tells none. Where each CPU has a list set of its own, it is the set in
-    /// which the element lives. Where it is local lists, and the element in a hand of the pass, contracts see too how many turns their lock had had.
+    /// which the element lives. Where it is local lists, contracts see too how many turns their lock had had.
     pub fn home_of(&self, pass: &mut Pass, element: u32) -> Home
         requires { CanLook self.now element pass.old }
         ensures { SawHome self.now element pass.old pass.new result }

@@ -82,6 +82,15 @@ pub struct HomeIn {
     pub turns: u64,
 }
 
+/// A look at the home of an element, with what it told: the home, how many steps on words had been made before it, and, of a home
+/// that was read as local lists, how many turns their lock had had then.
+pub struct HomeRead {
+    pub element: u64,
+    pub home: Home,
+    pub at: u64,
+    pub turns: u64,
+}
+
 /// A step that a pass made on a word of the table: how many steps on words had been made before it, what it found there, where
 /// the step tells, and what is there from then on.
 pub struct WordStep {
@@ -162,6 +171,8 @@ pub struct View {
     pub kept: LinkedList<StrandStep>,
     /// The steps of the current strand on words.
     pub touched: LinkedList<WordStep>,
+    /// Those of them that read homes, in their order, of elements in hand or not, whatever happened to these since.
+    pub homes_read: LinkedList<HomeRead>,
     pub ended: LinkedList<Ended>,
     /// The locks that the pass gave back without a part: the record of their turns is lost.
     pub lost: LinkedList<u64>,

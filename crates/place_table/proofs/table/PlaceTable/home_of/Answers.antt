@@ -1,9 +1,9 @@
 use Rattle.std.proofs.Common.{rules, ap}
-use Rattle.place_table.proofs.Passes.{is_pass_noted, saw_home}
+use Rattle.place_table.proofs.Passes.{is_pass_read, saw_home}
 use Rattle.place_table.proofs.table.PlaceTable.home_of.Goals as goal
 
 pub invariant_of-pass : goal.invariant_of-pass
-invariant_of-pass c = is_pass_noted _ _ _ _ _ _ _ _ _ c.pass.invariant c.read_home.ensures.seen.after_is
+invariant_of-pass c = is_pass_read _ _ _ _ _ _ _ _ _ _ c.pass.invariant c.read_home.ensures.seen.after_is
 
 pub returns : goal.returns
 returns c =
