@@ -96,6 +96,8 @@ class Trace:
             return self.batch_read()
         if self.call.verb in ("batch_update", "batch_delete"):
             return self.batch_write()
+        if self.call.verb == "each":
+            return self.hand_over()
         if self.call.flags > 2:
             return "einval"
         reply = self.evicting_update() if self.made.evicts else self.plain_update()
@@ -166,6 +168,24 @@ class Trace:
                 pairs += [f" {key}={value}" for _, key, value in part.taken]
                 bucket += 1
         return f"{stop or 'enoent'} taken {len(pairs)} next {bucket}{''.join(pairs)}"
+
+    def hand_over(self):
+        """A walk over all elements: it hands each over as a program on its CPU reads it, up to the key at which it stops."""
+        call, bucket, pairs = self.call, 0, []
+        if call.flags:
+            return "einval"
+        ends = False
+        while bucket < self.made.buckets and not ends:
+            part = self.walk(bucket, self.made.elements - len(pairs))
+            if part.over is not None:
+                break
+            bucket += 1
+            for _, key, value in part.taken:
+                pairs.append(f" {key}={self.made.read(self.made.fields(value), 'prog', call.cpu)}")
+                if key == call.stop:
+                    ends = True
+                    break
+        return f"ok taken {len(pairs)} next {bucket}{''.join(pairs)}"
 
     def walk(self, bucket, room):
         """The walk of a bucket, with the pushes of what it removes: on a freelist inside its turn, else free after it."""

@@ -102,6 +102,8 @@ class Call:
     start: int | None = None
     # Of a batch that writes: keys, with a value each where it updates.
     pairs: tuple = ()
+    # Of a walk over all elements, the key at which it stops: none where it stops at none.
+    stop: str | None = None
 
 
 @dataclasses.dataclass(frozen=True)
@@ -164,6 +166,8 @@ def read_script(text):
             cuts.append(len(calls))
         else:
             calls.append(read_call(words))
+            if calls[-1].verb == "each" and version < 2:
+                raise ValueError("a verb of version 2")
     if len(cuts) >= PHASES:
         raise ValueError("too many phases")
     return Script(version, made, calls, cuts)
@@ -194,6 +198,9 @@ def read_call(words):
         return Call(cpu, verb, flags=int(rest[0]), pairs=tuple(zip(rest[1::2], rest[2::2])))
     if verb == "batch_delete":
         return Call(cpu, verb, flags=int(rest[0]), pairs=tuple((key, "") for key in rest[1:]))
+    if verb == "each":
+        flags, stop = rest
+        return Call(cpu, verb, flags=int(flags), stop=None if stop == "-" else stop)
     side = "sys" if verb.startswith("sys") else "prog"
     verb = verb.removeprefix("sys")
     if verb == "update":
@@ -212,6 +219,8 @@ def random_script(draw, kind, flags, cpus, count, walks=False, phases=False):
     verbs += draw.choice((0, 1, 3)) * ["delete", "delete", "take"]
     if walks:
         verbs += ["next", "batch_lookup", "batch_take", "batch_update", "batch_delete"]
+        # (scripts with phases are of version 2)
+        verbs += ["each"] if phases else []
     sizes = f"key 2 value {made.value_size} max {entries}"
     lines = [f"bpfmap {1 + phases}", f"map {kind} {sizes} cpus {cpus} flags {flags} seed {made.seed}"]
     if not phases:
@@ -254,6 +263,8 @@ def random_call(draw, made, keys, verb, index, cpu=None):
         words = [draw.choice((0, 0, 0, 1)), *(word for _ in range(draw.randrange(4)) for word in (key(), system_value()))]
     elif verb == "batch_delete":
         words = [draw.choice((0, 0, 0, 1)), *(key() for _ in range(draw.randrange(4)))]
+    elif verb == "each":
+        words = [draw.choice((0, 0, 0, 1)), draw.choice(("-", key(), key()))]
     elif verb == "next":
         words = draw.choice(([], [key()], [key()]))
     elif verb.endswith("update"):

@@ -69,6 +69,7 @@ class Script:
                     continue
                 self.calls.append(read_call(words))
                 need(self.calls[-1].cpu < self.made.cpus, "the CPU")
+                need(self.version > 1 or self.calls[-1].verb != "each", "a verb of version 2")
             except BROKEN:
                 is_start = self.version > 1 and words[0] == "phase"
                 what = f"start of one of {PHASES} phases" if is_start else "call"

@@ -227,13 +227,23 @@ class Life:
         self.add(entry, f"asked for the key behind it: {found}")
 
     def walked(self, entry):
-        part = entry.part
-        for element, key, value in part.taken:
-            if key == self.key and part.removes:
-                self.end(entry)
-                self.add(entry, f"taken by a batch, value {value}: gone from element {element}")
-            elif key == self.key:
-                self.add(entry, f"read by a batch, value {value}" + (": this sets no bit" if self.made.evicts else ""))
+        part, call = entry.part, self.kept.script.calls[entry.call - 1]
+        keys = [key for _, key, _ in part.taken]
+        if self.key not in keys:
+            return
+        at = keys.index(self.key)
+        element, _, value = part.taken[at]
+        no_bit = ": this sets no bit" if self.made.evicts else ""
+        if part.removes:
+            self.end(entry)
+            self.add(entry, f"taken by a batch, value {value}: gone from element {element}")
+        elif call.verb != "each":
+            self.add(entry, f"read by a batch, value {value}{no_bit}")
+        elif call.stop in keys[:at]:
+            self.add(entry, f"read in a walk over all elements, which is stopped before it{no_bit}")
+        else:
+            value = self.made.read(self.made.fields(value), "prog", call.cpu)
+            self.add(entry, f"handed over in a walk over all elements, value {value}{no_bit}")
 
     def low(self, lock, entry):
         """A ticket after which a turn began. Where no other CPU runs beside it, it is its own: nothing else is done meanwhile."""

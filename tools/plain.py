@@ -101,11 +101,14 @@ class Plain:
         return f"the bucket's first key: {part.key}" if part.key is not None else "the bucket is empty"
 
     def walk(self, lock, entry, part):
+        call = self.kept.script.calls[self.number - 1]
+        who = f"a {'walk over all elements' if call.verb == 'each' else 'batch'} with room for {part.room} more"
         if part.over is not None:
-            return f"a batch with room for {part.room} more came by: the bucket has {part.over}, too many, and it took none"
-        keys = several([key for _, key, _ in part.taken], "key")
+            return f"{who} came by: the bucket has {part.over}, too many, and it took none"
+        keys = [key for _, key, _ in part.taken]
         gone = ", and took them out" if part.removes and part.taken else ""
-        return f"a batch with room for {part.room} more read {keys}{gone}"
+        stopped = f", and was stopped at key {call.stop}" if call.stop in keys else ""
+        return f"{who} read {several(keys, 'key')}{gone}{stopped}"
 
     def evict(self, lock, entry, part):
         if part.holder is not None:

@@ -85,7 +85,7 @@ class Story:
         self.elements.append(dict.fromkeys(elements))
         keys = [*named_keys(part), *(self.key_of[old] for old in keyed if old in self.key_of)]
         self.keys.append({self.number(name): None for name in (keys if key is None else [*keys, key])})
-        self.lines.append("\n".join(self.words.lines(part, key)))
+        self.lines.append("\n".join(self.words.lines(part, key, call)))
         if element is not None:
             self.key_of[element] = key
 

@@ -21,7 +21,7 @@ class Words:
     """Tells entries of a map. `key_of` has the key of each element that has or had one."""
 
     def __init__(self, made, key_of):
-        self.made, self.key_of, self.taken_for = made, key_of, None
+        self.made, self.key_of, self.taken_for, self.call = made, key_of, None, None
         self.tellers = {
             Lookup: self.lookup,
             Update: self.update,
@@ -39,9 +39,9 @@ class Words:
             Turn: self.turn,
         }
 
-    def lines(self, part, taken_for):
-        """The lines of a part, with the key for which it takes an element, or none."""
-        self.taken_for = taken_for
+    def lines(self, part, taken_for, call):
+        """The lines of a part of a call, with the key for which it takes an element, or none."""
+        self.taken_for, self.call = taken_for, call
         return self.tellers[type(part)](part)
 
     def named(self, element):
@@ -93,12 +93,16 @@ class Words:
         return ["the bucket is empty" if part.key is None else f"the first key is {short(part.key)}"]
 
     def walk(self, part):
-        who = f"a batch {'take' if part.removes else 'lookup'} with room for {part.room}"
+        verb = "walk over all elements" if self.call.verb == "each" else f"batch {'take' if part.removes else 'lookup'}"
+        who = f"a {verb} with room for {part.room}"
         if part.over is not None:
             return [f"{who}: the bucket has {part.over}, too many"]
         did = "takes out" if part.removes else "reads"
         lines = [f"{who}: {did} {count(len(part.taken), 'element')}"]
-        return lines + [f"- element {row[0]}: key {short(row[1])}, value {short(row[2])}" for row in part.taken]
+        lines += [f"- element {row[0]}: key {short(row[1])}, value {short(row[2])}" for row in part.taken]
+        if self.call.stop in [key for _, key, _ in part.taken]:
+            lines.append(f"it is stopped at key {short(self.call.stop)}: what stands behind it isn't handed over")
+        return lines
 
     def evict(self, part):
         who = f"{self.named(part.element)} is to be evicted"

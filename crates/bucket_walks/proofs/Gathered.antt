@@ -1,10 +1,11 @@
 -- The pairs that a batch lookup gathers: how many there are, what one more pair makes of them, and what a bucket does.
-use Rattle.std.proofs.Common.{◌≡◌, ℕ, suc, ◌+◌, ◌-◌, ◌*◌, ◌<◌, ◌≤◌, List, [], ◌∷◌, ◌++◌, length, map, take, sym, ap, ◌∙◌, subst, arith, Some}
+use Rattle.std.proofs.Common.{◌≡◌, ℕ, zero, suc, ◌+◌, ◌-◌, ◌*◌, ◌<◌, ◌≤◌, List, [], ◌∷◌, ◌++◌, length, map, take, drop, sym, refl, ap, ◌∙◌, subst, arith, Some}
 use Rattle.std.specs.Prelude.{slice_get}
 use Rattle.std.proofs.Math.Nat.{suc-mul, mul-le-mul_right}
-use Rattle.std.proofs.lemmas.List.{take_more, map-append, length-append, append_assoc}
+use Rattle.std.proofs.lemmas.List.{take_more, take-take, drop-take, length-take, length-take-le, length-drop, map-append, length-append, append_assoc}
 use Rattle.std.proofs.lemmas.Option.{get_or_from_slice_get, slice_get_within}
 use Rattle.map_types.specs.declared.attr.Shape.{Shape}
+use Rattle.map_types.specs.declared.kind.Side.{Side}
 use Rattle.map_types.specs.declared.kind.Side.TheVariants.{Sys}
 use Rattle.map_types.specs.Pairs.{pairs_of}
 use Rattle.map_types.specs.Sides.{value_read}
@@ -16,7 +17,7 @@ use Rattle.bucket_walks.specs.contracts.room.ReadRoom.{the_view}
 use Rattle.bucket_walks.specs.declared.room.ReadRoom.TheInside.{Inside}
 use Rattle.place_words.specs.Buckets.{as_read}
 use Rattle.place_words.specs.Walks.{pair_of}
-use Rattle.bucket_walks.specs.BatchReads.{PairsSoFar, IsOfMap, with_pairs, all_read}
+use Rattle.bucket_walks.specs.BatchReads.{PairsSoFar, IsOfSide, with_pairs, all_read}
 
 -- The buffers, and what they are seen as
 
@@ -31,6 +32,35 @@ pub fill_more : (count size : ℕ) (bytes now piece : List ℕ) → length bytes
 fill_more count size bytes now piece fill is sized =
     ap length is ∙ (omega (arith, length-append bytes piece, suc-mul count size, fill, sized))
 
+-- the first pieces of a size
+piece_kept : (n size : ℕ) (bytes : List ℕ) → take size (take (suc n * size) bytes) ≡ take size bytes
+piece_kept n size bytes = take-take size (suc n * size) bytes (omega (arith, suc-mul n size))
+
+pieces_kept : (n size : ℕ) (bytes : List ℕ) → drop size (take (suc n * size) bytes) ≡ take (n * size) (drop size bytes)
+pieces_kept n size bytes = let long : suc n * size ≡ size + n * size = omega (arith, suc-mul n size) in ap (λ (k : ℕ). drop size (take k bytes)) long ∙ drop-take size (n * size) bytes
+
+-- and the pairs of these
+pub pairs_kept : (n m key_size value_size : ℕ) (keys values : List ℕ) → n ≤ m → pairs_of n key_size value_size (take (n * key_size) keys) (take (n * value_size) values) ≡ take n (pairs_of m key_size value_size keys values)
+pairs_kept zero m key_size value_size keys values le = sym (take_none (pairs_of m key_size value_size keys values))
+  where
+    take_none : (pairs : List (List ℕ × List ℕ)) → take 0 pairs ≡ []
+    take_none [] = refl
+    take_none (pair ∷ pairs) = refl
+pairs_kept (suc n) zero key_size value_size keys values le = absurd (omega (arith, le))
+pairs_kept (suc n) (suc m) key_size value_size keys values le =
+    (λ i. (piece_kept n key_size keys i, piece_kept n value_size values i) ∷ pairs_of n key_size value_size (pieces_kept n key_size keys i) (pieces_kept n value_size values i))
+    ∙ ap (λ (l : List (List ℕ × List ℕ)). (take key_size keys, take value_size values) ∷ l) (pairs_kept n m key_size value_size (drop key_size keys) (drop value_size values) (omega (arith, le)))
+
+-- the pieces that are kept fill their places
+pub kept_fill : (n m size : ℕ) (bytes : List ℕ) → n ≤ m → length bytes ≡ m * size → length (take (n * size) bytes) ≡ n * size
+kept_fill n m size bytes le fill = let less = mul-le-mul_right {m = n} {n = m} size le in omega (arith, length-take (n * size) bytes, less, fill)
+
+-- the piece at an index is whole
+pub piece_sized : (i count size : ℕ) (bytes piece : List ℕ) → i < count → length bytes ≡ count * size → piece ≡ take size (drop (i * size) bytes) → length piece ≡ size
+piece_sized i count size bytes piece below fill is =
+    let one : suc i ≤ count = omega (arith, below) in
+    ap length is ∙ length-take-le size (drop (i * size) bytes) (omega (arith, length-drop (i * size) bytes, suc-mul i size, mul-le-mul_right {m = suc i} {n = count} size one, fill))
+
 abbrev pub seen_as : List (List ℕ × List ℕ) → ℕ → ℕ → ℕ → PairsSoFar
 seen_as pairs limit key_size value_size = record { pairs = pairs; limit = limit; key_size = key_size; value_size = value_size }
 
@@ -38,7 +68,7 @@ module _ (room : Inside) {now : PairsSoFar} (view : the_view room ≡ now) where
   abbrev gathered : List (List ℕ × List ℕ)
   gathered = pairs_of room.count room.key_size room.value_size room.keys.items room.values.items
 
-  counted : length now.pairs ≡ room.count
+  pub counted : length now.pairs ≡ room.count
   counted = ap (λ (p : PairsSoFar). length p.pairs) (sym view) ∙ length-pairs_of room.count room.key_size room.value_size room.keys.items room.values.items
 
   limit_is : now.limit ≡ room.limit
@@ -47,6 +77,10 @@ module _ (room : Inside) {now : PairsSoFar} (view : the_view room ≡ now) where
   pub left_is : room.limit - room.count ≡ now.limit - length now.pairs
   left_is = λ i. sym limit_is i - sym counted i
 
+  -- the piece at an index of a buffer
+  pub there : (i : ℕ) → i < length now.pairs → i < room.count
+  there i lt = omega (arith, counted, lt)
+
   pub within : room.count ≤ room.limit → length now.pairs ≤ now.limit
   within le = omega (arith, counted, limit_is, le)
 
@@ -54,26 +88,37 @@ module _ (room : Inside) {now : PairsSoFar} (view : the_view room ≡ now) where
   below lt = omega (arith, counted, limit_is, lt)
 
   -- the sizes are those of the map
-  module _ (shape : Shape) (of_map : IsOfMap shape now) where
+  module _ (shape : Shape) (side : Side) (of_map : IsOfSide shape side now) where
     key_size_is : room.key_size ≡ shape.key_size
     key_size_is = ap (λ (p : PairsSoFar). p.key_size) view ∙ of_map.keys
 
-    value_size_is : room.value_size ≡ value_len_of shape Sys
+    value_size_is : room.value_size ≡ value_len_of shape side
     value_size_is = ap (λ (p : PairsSoFar). p.value_size) view ∙ of_map.values
 
     pub key_fits : (capacity : ℕ) → length now.pairs < now.limit → length room.keys.items ≡ room.count * room.key_size → room.limit * room.key_size ≤ capacity → length room.keys.items + shape.key_size ≤ capacity
     key_fits capacity lt fill fits =
         subst (λ (n : ℕ). length room.keys.items + n ≤ capacity) key_size_is (room_left room.count room.limit room.key_size (length room.keys.items) capacity (below lt) fill fits)
 
-    pub value_fits : (capacity : ℕ) → length now.pairs < now.limit → length room.values.items ≡ room.count * room.value_size → room.limit * room.value_size ≤ capacity → length room.values.items + value_len_of shape Sys ≤ capacity
+    pub value_fits : (capacity : ℕ) → length now.pairs < now.limit → length room.values.items ≡ room.count * room.value_size → room.limit * room.value_size ≤ capacity → length room.values.items + value_len_of shape side ≤ capacity
     value_fits capacity lt fill fits =
         subst (λ (n : ℕ). length room.values.items + n ≤ capacity) value_size_is (room_left room.count room.limit room.value_size (length room.values.items) capacity (below lt) fill fits)
 
     pub key_sized : (body : Stored) → IsSized shape body → length body.key ≡ room.key_size
     key_sized body sized = sized.key_sized ∙ sym key_size_is
 
-    pub value_sized : (cpu : ℕ) (body : Stored) → IsSized shape body → cpu < shape.cpus → length (value_read shape Sys cpu body.values) ≡ room.value_size
-    value_sized cpu body sized on = length-value_read shape Sys cpu body.values (record { counted = sized.parts_counted; sized = sized.parts_sized }) on ∙ sym value_size_is
+    pub value_sized : (cpu : ℕ) (body : Stored) → IsSized shape body → cpu < shape.cpus → length (value_read shape side cpu body.values) ≡ room.value_size
+    value_sized cpu body sized on = length-value_read shape side cpu body.values (record { counted = sized.parts_counted; sized = sized.parts_sized }) on ∙ sym value_size_is
+
+  -- the first pairs alone
+  pub few_kept : (n : ℕ) → n ≤ length now.pairs → n ≤ room.count
+  few_kept n le = omega (arith, counted, le)
+
+  pub keeps : (n : ℕ) (keys values : List ℕ) → n ≤ length now.pairs → keys ≡ take (n * room.key_size) room.keys.items → values ≡ take (n * room.value_size) room.values.items
+      → seen_as (pairs_of n room.key_size room.value_size keys values) room.limit room.key_size room.value_size ≡ record now { pairs = take n now.pairs }
+  keeps n keys values le keys_are values_are =
+      (λ i. seen_as (pairs_of n room.key_size room.value_size (keys_are i) (values_are i)) room.limit room.key_size room.value_size)
+      ∙ ((λ i. seen_as (pairs_kept n room.count room.key_size room.value_size room.keys.items room.values.items (few_kept n le) i) room.limit room.key_size room.value_size)
+      ∙ ap (λ (p : PairsSoFar). record p { pairs = take n p.pairs }) view)
 
   -- one pair more
   pub pair_more : (key value keys values : List ℕ) → length room.keys.items ≡ room.count * room.key_size → length room.values.items ≡ room.count * room.value_size → length key ≡ room.key_size → length value ≡ room.value_size → keys ≡ room.keys.items ++ key → values ≡ room.values.items ++ value

@@ -1,7 +1,9 @@
--- What a batch lookup gathers, what it reads of a bucket in one turn, and what it reads of the buckets from one on.
+-- What a batch lookup or a walk over all elements gathers, what it reads of a bucket in one turn, and what a batch lookup reads of the buckets
+-- from one on.
 use Rattle.std.specs.Prelude.{◌≡◌, ◌≢◌, ℕ, ◌-◌, ◌<◌, ◌≤◌, nat_lt, unwrap_or, Bool, true, false, List, [], ◌++◌, length, map, Option, Some, Result, Ok, Err, if◌then◌else◌}
 use Rattle.map_types.specs.declared.attr.Shape.{Shape}
 use Rattle.map_types.specs.declared.call.Verb.{Verb}
+use Rattle.map_types.specs.declared.kind.Side.{Side}
 use Rattle.map_types.specs.declared.kind.Side.TheVariants.{Sys}
 use Rattle.map_types.specs.declared.refusal.Errno.{Errno}
 use Rattle.map_types.specs.declared.refusal.Errno.TheVariants.{Enoent, Einval}
@@ -30,10 +32,13 @@ pub record PairsSoFar : Type 0 where
   pub key_size : ℕ
   pub value_size : ℕ
 
--- the sizes are those of a map
-pub record IsOfMap (shape : Shape) (out : PairsSoFar) : Type 0 where
+-- the sizes are those of a map's keys, and of its values as a side reads them; for a batch that is the system call
+pub record IsOfSide (shape : Shape) (side : Side) (out : PairsSoFar) : Type 0 where
   pub keys : out.key_size ≡ shape.key_size
-  pub values : out.value_size ≡ value_len_of shape Sys
+  pub values : out.value_size ≡ value_len_of shape side
+
+abbrev pub IsOfMap : Shape → PairsSoFar → Type 0
+IsOfMap shape out = IsOfSide shape Sys out
 
 -- nothing was read yet, of a map's sizes
 pub record BeginsAt (shape : Shape) (limit : ℕ) (out : PairsSoFar) : Type 0 where
@@ -48,7 +53,7 @@ with_pairs out more = record out { pairs = out.pairs ++ more }
 abbrev pub all_read : Shape → ℕ → List Stored → List Stored
 all_read shape cpu bodies = map (as_read shape cpu) bodies
 
--- what a batch with so much room reads of a bucket on a CPU: all of it, or nothing where there is no room for that
+-- what a walk with so much room reads of a bucket on a CPU: all of it, or nothing where there is no room for that
 abbrev pub walked_by : Shape → ℕ → ℕ → List Stored → Walked
 walked_by shape cpu room bodies = if nat_lt room (length bodies) then Over (length bodies) else Taken (all_read shape cpu bodies)
 

@@ -1,20 +1,20 @@
-//! The pairs that a batch read gathers, with room for all that it may take.
+//! The pairs that a walk over buckets gathers, with room for all that it may take.
 
-ghost use Rattle.std.specs.Prelude.{◌≡◌, ◌-◌, ◌+◌, ◌<◌, ◌≤◌, [], ◌∷◌, ◌++◌, length, IfOk, vec_len, vec_capacity};
-ghost use Rattle.map_types.specs.declared.kind.Side.TheVariants.{Sys};
+ghost use Rattle.std.specs.Prelude.{◌≡◌, ◌-◌, ◌+◌, ◌<◌, ◌≤◌, [], ◌∷◌, ◌++◌, length, take, IfOk, vec_len, vec_capacity};
 ghost use Rattle.map_types.specs.Shape.{HasBounds};
+ghost use Rattle.map_types.specs.Pairs.{pair_at};
 ghost use Rattle.map_types.specs.Sides.{value_read};
 ghost use Rattle.map_types.specs.ValueLen.{value_len_of};
 ghost use Rattle.map_types.specs.Stored.{IsSized};
-ghost use Rattle.bucket_walks.specs.BatchReads.{IsOfMap};
+ghost use Rattle.bucket_walks.specs.BatchReads.{IsOfSide};
 
 use bucket_chain::read_value;
-use map_types::{NoMemory, PairBlock, Pairs, Shape, Side};
+use map_types::{NoMemory, PairBlock, Pairs, Shape, Side, piece};
 use percpu_values::Body;
 use std::alloc::Global;
 use std::marker::Model;
 
-/// Keys with values, as the system call reads them, and room for some more. Memory for all of them is found at the start.
+/// Keys with values, as a side reads them, and room for some more. Memory for all of them is found at the start.
 #[derive(Drop)]
 pub struct ReadRoom {
     count: u32,
@@ -52,7 +52,7 @@ impl Model for ReadRoom {
 
 impl ReadRoom {
     /// Room for so many pairs, of keys and values of these sizes in bytes.
-    pub(crate) fn of(
+    pub fn of(
         alloc: Global,
         limit: u32,
         key_size: u32,
@@ -75,6 +75,51 @@ impl ReadRoom {
         })
     }
 
+    /// How many pairs there are.
+    pub fn len(&self) -> u32
+        ensures { result ≡ length self.now.pairs }
+    {
+        self.count
+    }
+
+    /// The key of the pair at an index.
+    pub fn key(&self, i: u32) -> &[u8]
+        requires { i < length self.now.pairs }
+        ensures bytes { result.now ≡ (pair_at self.now.pairs i).0 }
+        ensures sized { length result.now ≡ self.now.key_size }
+    {
+        piece(
+            self.keys.as_slice(),
+            self.count as usize,
+            self.key_size,
+            i as usize,
+        )
+    }
+
+    /// The value of the pair at an index.
+    pub fn value(&self, i: u32) -> &[u8]
+        requires { i < length self.now.pairs }
+        ensures bytes { result.now ≡ (pair_at self.now.pairs i).1 }
+        ensures sized { length result.now ≡ self.now.value_size }
+    {
+        piece(
+            self.values.as_slice(),
+            self.count as usize,
+            self.value_size,
+            i as usize,
+        )
+    }
+
+    /// Keeps the first pairs, so many, and forgets the others.
+    pub fn keep(&mut self, count: u32)
+        requires { count ≤ length self.old.pairs }
+        ensures { self.new ≡ record self.old { pairs = take count self.old.pairs } }
+    {
+        self.keys.truncate(count as usize * self.key_size);
+        self.values.truncate(count as usize * self.value_size);
+        self.count = count;
+    }
+
     /// How many more pairs there is room for.
     pub fn left(&self) -> u32
         ensures value { result ≡ self.now.limit - length self.now.pairs }
@@ -83,21 +128,22 @@ impl ReadRoom {
         self.limit - self.count
     }
 
-    /// Adds the key of a body, and the value that the system call reads of it on a CPU.
-    pub(crate) fn add(&mut self, shape: &Shape, cpu: u32, body: &Body)
+    /// Adds the key of a body, and the value that a side reads of it on a CPU.
+    pub fn add(&mut self, shape: &Shape, side: Side, cpu: u32, body: &Body)
         requires bounds { HasBounds shape.now }
         requires cpu { cpu < shape.now.cpus }
         requires sized { IsSized shape.now body.now }
-        requires of_map { IsOfMap shape.now self.old }
+        requires of_map { IsOfSide shape.now side self.old }
         requires room { length self.old.pairs < self.old.limit }
         ensures { self.new
             ≡ record self.old {
               pairs = self.old.pairs
-                  ++ (body.now.key, value_read shape.now Sys cpu body.now.values) ∷ [];
+                  ++ (body.now.key, value_read shape.now side cpu body.now.values) ∷ [];
             } }
     {
         copy_pair(
             shape,
+            side,
             cpu,
             body,
             &mut self.keys,
@@ -108,7 +154,7 @@ impl ReadRoom {
     }
 
     /// The pairs.
-    pub(crate) fn into_pairs(self) -> Pairs
+    pub fn into_pairs(self) -> Pairs
         ensures { result ≡ self.pairs }
     {
         let ReadRoom {
@@ -131,9 +177,10 @@ fn zeros(alloc: Global, count: usize) -> Result<Vec<u8>, NoMemory>
     Ok(vec![in alloc; 0; count]?)
 }
 
-/// Appends the key of a body, and the value that the system call reads of it, which is read to `value` first.
+/// Appends the key of a body, and the value that a side reads of it, which is read to `value` first.
 fn copy_pair(
     shape: &Shape,
+    side: Side,
     cpu: u32,
     body: &Body,
     keys: &mut Vec<u8>,
@@ -143,19 +190,19 @@ fn copy_pair(
     requires bounds { HasBounds shape.now }
     requires cpu { cpu < shape.now.cpus }
     requires sized { IsSized shape.now body.now }
-    requires value { length value.old ≡ value_len_of shape.now Sys }
+    requires value { length value.old ≡ value_len_of shape.now side }
     requires key_room { length keys.old.items + shape.now.key_size ≤ vec_capacity keys.old }
-    requires value_room { length values.old.items + value_len_of shape.now Sys
+    requires value_room { length values.old.items + value_len_of shape.now side
         ≤ vec_capacity values.old }
     ensures keys { keys.new.items ≡ keys.old.items ++ body.now.key }
     ensures values { values.new.items
-        ≡ values.old.items ++ value_read shape.now Sys cpu body.now.values }
+        ≡ values.old.items ++ value_read shape.now side cpu body.now.values }
     ensures key_room { vec_capacity keys.old ≤ vec_capacity keys.new }
     ensures value_room { vec_capacity values.old ≤ vec_capacity values.new }
     ensures value { length value.new ≡ length value.old }
 {
     append(keys, body.key());
-    read_value(shape, Side::Sys, cpu, body, value);
+    read_value(shape, side, cpu, body, value);
     append(values, value);
 }
 

@@ -11,7 +11,7 @@ ghost use Rattle.bucket_walks.specs.BatchReads.{IsOfMap, IsGathered, ReadsInto, 
 use crate::parts::walk_part;
 use crate::room::ReadRoom;
 use bucket_chain::{Chain, body_at};
-use map_types::{DomainId, Gate, Shape};
+use map_types::{DomainId, Gate, Shape, Side};
 use place_table::{Content, Pass, PlaceTable};
 use std::alloc::Global;
 use std::sync::Wait;
@@ -75,6 +75,6 @@ fn read_all(shape: &Shape, cpu: u32, chain: &Chain, out: &mut ReadRoom)
 {
     let count = chain.len();
     for place in 0..count {
-        out.add(shape, cpu, body_at(chain, place));
+        out.add(shape, Side::Sys, cpu, body_at(chain, place));
     }
 }

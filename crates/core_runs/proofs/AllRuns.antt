@@ -13,6 +13,7 @@ use Rattle.map_types.specs.declared.refusal.Errno.TheVariants.{Enoent, Einval}
 use Rattle.map_types.specs.Kind.{is_lru}
 use Rattle.map_types.specs.Shape.{HasBounds}
 use Rattle.map_types.specs.ElementLists.{put}
+use Rattle.place_words.specs.Handing.{Callback, AfterHanding, HandsOverBuckets, IsHandingTrace, StopsAt}
 use Rattle.place_words.specs.declared.bucket_part.NextFound.{NextFound}
 use Rattle.place_words.specs.declared.bucket_part.NextFound.TheVariants as nexts
 use Rattle.place_words.specs.declared.bucket_part.Walked.{Walked}
@@ -39,7 +40,7 @@ use Rattle.core_runs.proofs.PlainGoes.{Goes, goes_none, AreSpares, pushing}
 use Rattle.core_runs.proofs.PlainRuns.{core_lists}
 use Rattle.core_runs.proofs.SharedCalls.{AreOnLocks}
 use Rattle.core_runs.proofs.Tied.{IsTied}
-use Rattle.core_runs.proofs.WalkCalls.{next_goes, read_goes}
+use Rattle.core_runs.proofs.WalkCalls.{next_goes, read_goes, each_goes}
 
 abbrev pub AreServed : Shape → List Call → Type 0
 AreServed shape [] = Unit {0}
@@ -74,6 +75,8 @@ module _ {shape : Shape} (bounds : HasBounds shape) (lru : is_lru shape.kind ≡
       (read_goes bounds lru within (supplies cpu within) remove count start flags (placed shape cpu number turns state) reply (lies_in shape state) trace (subst (AreOnLocks shape) (sym are) on) (subst (AreAllowed shape cpu (lies_in shape state)) (sym are) allowed))
   call_goes cpu within number spare (verbs.BatchUpdate flags pairs) turns state reply trace fine on allowed = write_goes bounds lru within (supplies cpu within) spare flags (updates_of pairs) number turns state reply trace fine on allowed
   call_goes cpu within number spare (verbs.BatchDelete flags keys) turns state reply trace fine on allowed = write_goes bounds lru within (supplies cpu within) spare flags (deletes_of keys) number turns state reply trace fine on allowed
+  call_goes cpu within number spare (verbs.Each flags stop) turns state reply trace fine on allowed =
+      each_goes bounds within Nobody (StopsAt stop) flags turns reply (lies_in shape state) (subst (λ (l : List Turn). IsHandingTrace shape cpu (StopsAt stop) flags l reply) (placed_turns shape cpu number turns state) trace) allowed
 
   -- From each state of the core that is tied to a state of the run the turns of calls are a run, whatever comes after them runs from
   -- the states after them.
@@ -113,6 +116,23 @@ next_spare : (shape : Shape) (key : Option (List ℕ)) (turns : List Turn) (repl
 next_spare shape None turns reply spare firsts = firsts_spare (buckets_from shape 0) turns reply spare firsts
 next_spare shape (Some key) turns reply spare trace = ap (spare_after spare) trace.turns_are ∙ goes_on_spare shape key trace.found trace.rest reply spare trace.goes_on
 
+-- a walk over all elements
+hands_spare : (shape : Shape) (cpu : ℕ) (Says : Callback) (buckets : List ℕ) (before : List (List ℕ × List ℕ)) (turns : List Turn) (reply : Reply) (spare : Option ℕ) → HandsOverBuckets shape cpu Says buckets before turns reply → spare_after spare turns ≡ spare
+hands_spare shape cpu Says [] before turns reply spare trace = ap (spare_after spare) trace.0
+hands_spare shape cpu Says (bucket ∷ buckets) before turns reply spare (result, rest, (are, goes_on)) = ap (spare_after spare) are ∙ ends result goes_on (λ now later. hands_spare shape cpu Says buckets now rest reply spare later)
+  where
+    ends : (w : Walked) → AfterHanding shape cpu Says bucket before rest reply w (λ now. HandsOverBuckets shape cpu Says buckets now rest reply) → ((now : List (List ℕ × List ℕ)) → HandsOverBuckets shape cpu Says buckets now rest reply → spare_after spare rest ≡ spare) → spare_after spare rest ≡ spare
+    ends (Over n) last go = ap (spare_after spare) last.0
+    ends (Taken all) (over, true, (hands, last)) go = ap (spare_after spare) last.0
+    ends (Taken all) (over, false, (hands, later)) go = go (before ++ over) later
+
+each_spare : (shape : Shape) (cpu : ℕ) (Says : Callback) (flags : ℕ) (turns : List Turn) (reply : Reply) (spare : Option ℕ) → IsHandingTrace shape cpu Says flags turns reply → spare_after spare turns ≡ spare
+each_spare shape cpu Says flags turns reply spare trace = by (eqb flags 0) trace
+  where
+    by : (plainly : Bool) → MatchBool plainly (HandsOverBuckets shape cpu Says (buckets_from shape 0) [] turns reply) ((turns ≡ []) × (reply ≡ Refused Einval)) → spare_after spare turns ≡ spare
+    by true told = hands_spare shape cpu Says (buckets_from shape 0) [] turns reply spare told
+    by false told = ap (spare_after spare) told.0
+
 pushing_spare : (cpu : ℕ) (es : List ℕ) (turns : List Turn) (spare : Option ℕ) → spare_after spare (pushing cpu es ++ turns) ≡ spare_after spare turns
 pushing_spare cpu [] turns spare = refl
 pushing_spare cpu (e ∷ es) turns spare = pushing_spare cpu es turns spare
@@ -147,6 +167,10 @@ module _ {shape : Shape} (bounds : HasBounds shape) (plain : is_lru shape.kind �
       let next = subst (λ (l : List Turn). IsNextTrace shape key l reply) (placed_turns shape cpu number turns state) trace in
       subst (λ (o : Option ℕ). Goes shape cpu (lies_in shape state) (AreSpares spares) turns (AreSpares (put spares cpu o))) (sym (next_spare shape key turns reply (spares cpu) next))
       (goes_weaker (lies_in shape state) (AreSpares spares) (AreSpares spares) (AreSpares (put spares cpu (spares cpu))) turns (same_spare bounds plain within spares) (next_goes bounds within (AreSpares spares) key turns reply (lies_in shape state) next allowed))
+  plain_call_goes cpu within number spares (verbs.Each flags stop) turns state reply trace allowed =
+      let each = subst (λ (l : List Turn). IsHandingTrace shape cpu (StopsAt stop) flags l reply) (placed_turns shape cpu number turns state) trace in
+      subst (λ (o : Option ℕ). Goes shape cpu (lies_in shape state) (AreSpares spares) turns (AreSpares (put spares cpu o))) (sym (each_spare shape cpu (StopsAt stop) flags turns reply (spares cpu) each))
+      (goes_weaker (lies_in shape state) (AreSpares spares) (AreSpares spares) (AreSpares (put spares cpu (spares cpu))) turns (same_spare bounds plain within spares) (each_goes bounds within (AreSpares spares) (StopsAt stop) flags turns reply (lies_in shape state) each allowed))
   plain_call_goes cpu within number spares (verbs.BatchRead remove count start flags) turns state reply trace allowed = by (eqb flags 0) (eqb count 0) (nat_lt (unwrap_or start 0) shape.buckets) trace
     where
       are : turns_of (placed shape cpu number turns state) ≡ turns

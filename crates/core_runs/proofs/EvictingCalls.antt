@@ -242,3 +242,4 @@ module _ {shape : Shape} (bounds : HasBounds shape) (lru : is_lru shape.kind ≡
   evicting_goes number (verbs.BatchRead remove count start flags) turns state reply trace fine on allowed = absurd trace
   evicting_goes number (verbs.BatchUpdate flags pairs) turns state reply trace fine on allowed = absurd trace
   evicting_goes number (verbs.BatchDelete flags keys) turns state reply trace fine on allowed = absurd trace
+  evicting_goes number (verbs.Each flags stop) turns state reply trace fine on allowed = absurd trace

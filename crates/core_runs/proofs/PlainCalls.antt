@@ -236,3 +236,4 @@ module _ {shape : Shape} (bounds : HasBounds shape) (plain : is_lru shape.kind â
   key_goes (verbs.BatchRead remove count start flags) turns reply trace allowed = absurd trace
   key_goes (verbs.BatchUpdate flags pairs) turns reply trace allowed = absurd trace
   key_goes (verbs.BatchDelete flags keys) turns reply trace allowed = absurd trace
+  key_goes (verbs.Each flags stop) turns reply trace allowed = absurd trace

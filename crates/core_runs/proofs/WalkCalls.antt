@@ -1,4 +1,4 @@
--- Next key, and batch reads, are runs of the core, on maps of any kind.
+-- Next key, batch reads and walks over all elements are runs of the core, on maps of any kind.
 use Rattle.std.proofs.Common.{◌≡◌, ℕ, suc, ◌+◌, ◌-◌, ◌<◌, ◌≤◌, Bool, true, false, cond, eqb, List, [], ◌∷◌, ◌++◌, length, map, reverse, Option, None, Some, refl, ap, ◌∙◌, sym, subst, arith}
 use Rattle.std.specs.Prelude.{MatchBool, MatchOption, unwrap_or, min, nat_lt}
 use Rattle.std.proofs.lemmas.Bool.{cond-true, lt-ltb, eq-eqb}
@@ -7,11 +7,14 @@ use Rattle.map_types.specs.declared.attr.Shape.{Shape}
 use Rattle.map_types.specs.declared.kind.DomainId.{DomainId}
 use Rattle.map_types.specs.declared.kind.DomainId.TheVariants.{Bucket}
 use Rattle.map_types.specs.declared.reply.Reply.{Reply}
+use Rattle.map_types.specs.declared.reply.Reply.TheVariants.{Refused}
+use Rattle.map_types.specs.declared.refusal.Errno.TheVariants.{Einval}
 use Rattle.map_types.specs.Kind.{is_lru}
 use Rattle.map_types.specs.Shape.{HasBounds}
 use Rattle.map_types.specs.Stored.{Stored}
 use Rattle.map_types.specs.ElementLists.{times, without}
 use Rattle.map_types.proofs.RowLemmas.{by_test}
+use Rattle.place_words.specs.Handing.{Callback, AfterHanding, HandsOverBuckets, IsHandingTrace}
 use Rattle.place_words.specs.declared.bucket_part.BucketPart.{BucketPart}
 use Rattle.place_words.specs.declared.bucket_part.BucketPart.TheVariants.{Next, First, Walk}
 use Rattle.place_words.specs.declared.bucket_part.NextFound.{NextFound}
@@ -21,12 +24,13 @@ use Rattle.place_words.specs.declared.bucket_part.Walked.TheVariants.{Over, Take
 use Rattle.place_words.specs.declared.history.Part.TheVariants as parts
 use Rattle.place_words.specs.Bodies.{numbers}
 use Rattle.place_words.specs.Buckets.{AllowsInBucket, bucket_after, as_read}
-use Rattle.place_words.specs.Histories.{Content}
+use Rattle.place_words.specs.Histories.{Content, Allows}
 use Rattle.place_words.specs.Moves.{taken_from_bucket}
 use Rattle.place_words.specs.Turns.{Turn, TurnAt, turns_of, on_lock, on_bucket_of, bucket_of_key, after_turn, after_turns, AreAllowed}
 use Rattle.place_words.specs.Walks.{Firsts, GoesOn, IsNextTrace, FreesAll, IsFreedAfter, AfterWalk, Walks, IsReadTrace, buckets_from, walked_out, pair_of}
 use Rattle.place_words.proofs.EachTurn.{AreWithin, first_within, others_within, buckets_within}
 use Rattle.place_words.specs.declared.step.Lists.{Lists}
+use Rattle.place_words.specs.declared.step.Step.{Step}
 use Rattle.place_words.specs.declared.step.Step.TheVariants as steps
 use Rattle.place_words.specs.Interleaving.{part_steps, lists_in}
 use Rattle.core_runs.proofs.BucketGoes.{gathered, goes_taking_out}
@@ -76,6 +80,46 @@ module _ {shape : Shape} (bounds : HasBounds shape) {cpu : ℕ} (within : cpu < 
       (goes_both contents Known Known Known (turn ∷ []) trace.rest
       (goes_keeping bounds within contents Known (bucket_of_key shape key) (Next key trace.found) (Rattle.key_hash.proofs.Buckets.bucket_number-lt (Rattle.key_hash.specs.Jhash.hash key shape.seed) shape.buckets bounds.buckets_power) refl refl refl may.0 (λ bodies _. refl))
       (goes_on_go key trace.found trace.rest reply (after_turn shape cpu contents turn) trace.goes_on may.1))
+
+-- A walk over all elements
+
+-- a bucket's turn that takes nothing out has no steps of its own, whatever the kind
+no_steps : (evicts : Bool) → cond {A = List Step} evicts [] [] ≡ []
+no_steps true = refl
+no_steps false = refl
+
+module _ {shape : Shape} (bounds : HasBounds shape) {cpu : ℕ} (within : cpu < shape.cpus) (Known : ℕ → ℕ → Type 0) where
+  -- a bucket's turn that leaves it
+  walk_goes : (bucket room : ℕ) (result : Walked) (contents : DomainId → Content) → bucket < shape.buckets → Allows shape cpu (parts.Bucket (Walk false room result)) (contents (Bucket bucket))
+      → Goes shape cpu contents Known (on_lock (Bucket bucket) (parts.Bucket (Walk false room result)) ∷ []) Known
+  unfolding bucket_after
+  walk_goes bucket room (Over n) contents less may = goes_keeping bounds within contents Known bucket (Walk false room (Over n)) less refl (no_steps (is_lru shape.kind)) refl may (λ bodies _. refl)
+  walk_goes bucket room (Taken all) contents less may = goes_keeping bounds within contents Known bucket (Walk false room (Taken all)) less refl (no_steps (is_lru shape.kind)) refl may (λ bodies _. refl)
+
+  handing_goes : (Says : Callback) (bucket : ℕ) (before : List (List ℕ × List ℕ)) (rest : List Turn) (reply : Reply) (result : Walked) (contents : DomainId → Content) (More : List (List ℕ × List ℕ) → Type 0)
+      → AfterHanding shape cpu Says bucket before rest reply result More → ((now : List (List ℕ × List ℕ)) → More now → Goes shape cpu contents Known rest Known) → Goes shape cpu contents Known rest Known
+  handing_goes Says bucket before rest reply (Over n) contents More last go = subst (λ (l : List Turn). Goes shape cpu contents Known l Known) (sym last.0) (goes_none contents Known)
+  handing_goes Says bucket before rest reply (Taken all) contents More (over, true, (hands, last)) go = subst (λ (l : List Turn). Goes shape cpu contents Known l Known) (sym last.0) (goes_none contents Known)
+  handing_goes Says bucket before rest reply (Taken all) contents More (over, false, (hands, later)) go = go (before ++ over) later
+
+  hands_go : (Says : Callback) (buckets : List ℕ) (before : List (List ℕ × List ℕ)) (turns : List Turn) (reply : Reply) (contents : DomainId → Content) → HandsOverBuckets shape cpu Says buckets before turns reply → AreWithin (λ b. b < shape.buckets) buckets → AreAllowed shape cpu contents turns
+      → Goes shape cpu contents Known turns Known
+  hands_go Says [] before turns reply contents trace there allowed = subst (λ (l : List Turn). Goes shape cpu contents Known l Known) (sym trace.0) (goes_none contents Known)
+  hands_go Says (bucket ∷ buckets) before turns reply contents (result, rest, (are, goes_on)) there allowed =
+      let room : ℕ = shape.elements - length before in
+      let turn : Turn = on_lock (Bucket bucket) (parts.Bucket (Walk false room result)) in
+      let may = subst (AreAllowed shape cpu contents) are allowed in
+      subst (λ (l : List Turn). Goes shape cpu contents Known l Known) (sym are)
+      (goes_both contents Known Known Known (turn ∷ []) rest
+      (walk_goes bucket room result contents (first_within (λ b. b < shape.buckets) bucket buckets there) may.0)
+      (handing_goes Says bucket before rest reply result (after_turn shape cpu contents turn) _ goes_on (λ now later. hands_go Says buckets now rest reply (after_turn shape cpu contents turn) later (others_within (λ b. b < shape.buckets) bucket buckets there) may.1)))
+
+  pub each_goes : (Says : Callback) (flags : ℕ) (turns : List Turn) (reply : Reply) (contents : DomainId → Content) → IsHandingTrace shape cpu Says flags turns reply → AreAllowed shape cpu contents turns → Goes shape cpu contents Known turns Known
+  each_goes Says flags turns reply contents trace allowed = by (eqb flags 0) trace
+    where
+      by : (plainly : Bool) → MatchBool plainly (HandsOverBuckets shape cpu Says (buckets_from shape 0) [] turns reply) ((turns ≡ []) × (reply ≡ Refused Einval)) → Goes shape cpu contents Known turns Known
+      by true told = hands_go Says (buckets_from shape 0) [] turns reply contents told (buckets_within shape 0) allowed
+      by false told = subst (λ (l : List Turn). Goes shape cpu contents Known l Known) (sym told.0) (goes_none contents Known)
 
 -- What a walk takes out
 

@@ -40,7 +40,7 @@ abbrev pub MapEvicts : TableView → Type 0
 MapEvicts t = IsShape t.shape × IsTrue (is_lru t.shape.kind)
 
 -- These turns were made, which are told so. The locks that the pass holds, what is noted of them, its spares and what it carries stay.
--- What may have changed is what it has in hand, what it knows of that, of turns and of bits, and its steps on words.
+-- What may have changed is what it has in hand, what it knows of that, of turns and of bits, and its steps on words and looks at homes.
 pub record Changed (t : TableView) (before after : PassView) (steps told : List Turned) (lost : List ℕ) : Type 0 where
   pub told_are : AreTold t.shape lost steps told
   pub made : Made before after steps lost
@@ -158,9 +158,9 @@ pub record CanFree (t : TableView) (body : Stored) (p : PassView) : Type 0 where
   pub in_hand : is_in_hand_of body.element p.cpu p.view.hand ≡ true
   pub not_carried : is_in_hand_of body.element p.cpu p.view.carried ≡ false
 
--- The first step on a word that the pass made meanwhile read the home of an element so, and no other read one. How many turns local
--- lists had had that it read stands, with the number of the step, with the pass's looks at homes: what stands there is counted in every
--- state of the table (`KeepsTurns`), so the number can't be another.
+-- The first step on a word that the pass made meanwhile read the home of an element so. This look, with the number of the step and, where
+-- it read local lists, how many turns these had had, is the one that the pass has more than before: those that it has are counted in
+-- every state of the table (`KeepsTurns`), so the number of turns can't be another.
 pub record ReadHomeFirst (t : TableView) (before after : PassView) (e : ℕ) (home : Home) : Type 0 where
   pub read : PassView
   pub saw : SawHome t e before read home

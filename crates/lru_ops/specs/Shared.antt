@@ -81,7 +81,7 @@ pub record CanSteal (t : TableView) (p : PassView) : Type 0 where
   pub hands_empty : (e cpu : ℕ) → is_among cpu p.view.cpus ≡ true → is_in_hand_of e cpu p.view.hand ≡ false
 
 -- These turns were made, which are told so. What may have changed besides is what the pass has in hand and what it carries, what it knows
--- of that, of turns and of bits, and its steps on words.
+-- of that, of turns and of bits, and its steps on words and looks at homes.
 pub record ChangedHands (t : TableView) (before after : PassView) (steps told : List Turned) (lost : List ℕ) : Type 0 where
   pub told_are : AreTold t.shape lost steps told
   pub made : Made before after steps lost
@@ -155,7 +155,7 @@ abbrev pub LiesUnder : TableView → DomainId → ℕ → PassView → Type 0
 LiesUnder t lock e p =
     (logs : ℕ → List Entry) → KnowsAll t.shape logs p.view → IsIn e (all_of (lists_of (content t.shape lock (logs (lock_number t.shape lock)))))
 
--- the steps on words that the pass made meanwhile, none of which read a home
+-- the steps on words that the pass made meanwhile, with no look at a home more
 pub record HasTouched (before after : PassView) : Type 0 where
   pub steps : List WordStep
   pub steps_are : after.view.touched ≡ before.view.touched ++ steps

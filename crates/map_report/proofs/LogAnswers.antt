@@ -1,7 +1,7 @@
 -- Which reply a call has in serial order: one that it may have, where keys and values in the buckets have the map's sizes.
 use Rattle.std.proofs.Common.{◌≡◌, ◌≢◌, ℕ, suc, ◌+◌, ◌-◌, ◌<◌, ◌≤◌, Bool, true, false, ◌&&◌, cond, eqb, ltb, List, [], ◌∷◌, ◌++◌, length, map, refl, ap, sym, ◌∙◌, subst, arith}
 use Rattle.std.specs.Prelude.{Option, None, Some, All, find, min, option_map, unwrap_or}
-use Rattle.std.specs.List.{after_first, position_or_len}
+use Rattle.std.specs.List.{after_first, list_any, position_or_len}
 use Rattle.std.proofs.lemmas.Bool.{ltb-true, ltb-false, eqb-true, eqb-false, and_parts}
 use Rattle.std.proofs.lemmas.List.{length-append, length-map}
 use Rattle.std.proofs.lemmas.List.Elements.{All-head, All-tail, All-drop, All-weaker}
@@ -32,13 +32,14 @@ use Rattle.place_words.specs.declared.bucket_part.Walked.{Walked}
 use Rattle.place_words.specs.declared.bucket_part.Walked.TheVariants.{Over, Taken}
 use Rattle.place_words.specs.Bodies.{has_key, present, first_key, next_key}
 use Rattle.place_words.specs.Buckets.{as_read, new_stored}
-use Rattle.place_words.specs.Logs.{State, new_state, all_turned, taken_out, bucket_at, present_in, acquired, popped, Does, first_does, put_offered, put_alone, puts_in, offered, evicting_does, put_popped, plain_does, got_by, key_does, first_or, firsts, following, found_next, goes_on, next_does, walked, after_walk, walks, read_does, counted_or, writes, write_does, does, after_one, answers}
+use Rattle.place_words.specs.Handing.{handed, is_stop, up_to_stop}
+use Rattle.place_words.specs.Logs.{State, new_state, all_turned, taken_out, bucket_at, present_in, acquired, popped, Does, first_does, put_offered, put_alone, puts_in, offered, evicting_does, put_popped, plain_does, got_by, key_does, first_or, firsts, following, found_next, goes_on, next_does, walked, after_walk, walks, read_does, counted_or, writes, write_does, after_handing, hands, each_does, does, after_one, answers}
 use Rattle.place_words.specs.PlainTraces.{reply_of_put, reply_of_got, reply_of_gone}
 use Rattle.place_words.specs.Turns.{ring, on_lock, bucket_of_key}
 use Rattle.place_words.specs.Walks.{buckets_from, pair_of, walked_out, refused_with, updates_of, deletes_of}
 use Rattle.place_words.proofs.BodiesKept.{BucketsAlong, buckets_along, first_are}
 use Rattle.place_words.proofs.EachTurn.{VerbPasses, AreWithin, first_within, others_within, buckets_within}
-use Rattle.map_report.specs.Record.{MayAnswer, MayAnswerUpdate, MayGive, MayDelete, MayAnswerRead, MayAnswerWrite, EachAnswered}
+use Rattle.map_report.specs.Record.{MayAnswer, MayAnswerUpdate, MayGive, MayDelete, MayAnswerRead, MayAnswerWrite, MayAnswerEach, EachAnswered}
 
 -- an element whose key has the map's size, and of whose values each side reads as many bytes as it should
 abbrev pub FitsMap : Shape → Stored → Type 0
@@ -233,6 +234,62 @@ module _ (shape : Shape) (cpu number : ℕ) (within : cpu < shape.cpus) where
       by true none = write_is most flags _ (eqb-true flags 0 none) (writes_answer state entries 0 most (omega (arith, long)))
       by false other = (refl, eqb-false flags 0 other)
 
+  -- Walks over all elements
+  abbrev IsHanded : Reply → Type 0
+  IsHanded Done = ⊥
+  IsHanded (Value bytes) = ⊥
+  IsHanded (Refused errno) = ⊥
+  IsHanded (Batch stop taken next) = (stop ≡ None) × (length taken ≤ shape.elements) × (next ≤ shape.buckets)
+  IsHanded (Count stop done) = ⊥
+
+  up_to_few : (stop : Option (List ℕ)) (pairs : List (List ℕ × List ℕ)) → length (up_to_stop stop pairs) ≤ length pairs
+  up_to_few stop [] = omega arith
+  up_to_few stop (pair ∷ pairs) = by (is_stop stop pair) (up_to_few stop pairs)
+    where
+      by : (stops : Bool) → length (up_to_stop stop pairs) ≤ length pairs → length (pair ∷ cond stops [] (up_to_stop stop pairs)) ≤ length (pair ∷ pairs)
+      by true few = omega arith
+      by false few = omega (arith, few)
+
+  handing_answers : (stop : Option (List ℕ)) (bucket : ℕ) (before : List (List ℕ × List ℕ)) (result : Walked) (later : List (List ℕ × List ℕ) → Does) → bucket < shape.buckets → length before ≤ shape.elements
+      → ((all : List Stored) → result ≡ Taken all → length all ≤ shape.elements - length before) → ((now : List (List ℕ × List ℕ)) → length now ≤ shape.elements → IsHanded (later now).reply) → IsHanded (after_handing shape cpu stop bucket before result later).reply
+  handing_answers stop bucket before (Over n) later below few room rest = (refl, few, omega (arith, below))
+  handing_answers stop bucket before (Taken all) later below few room rest = by (list_any (is_stop stop) pairs)
+    where
+      pairs : List (List ℕ × List ℕ)
+      pairs = map (handed shape cpu) all
+
+      now : List (List ℕ × List ℕ)
+      now = before ++ up_to_stop stop pairs
+
+      fewer : length now ≤ shape.elements
+      fewer = omega (arith, room all refl, few, length-append before (up_to_stop stop pairs), up_to_few stop pairs, length-map all (handed shape cpu))
+
+      by : (stopped : Bool) → IsHanded (cond stopped (record { turns = []; reply = Batch None now (suc bucket) }) (later now)).reply
+      by true = (refl, fewer, omega (arith, below))
+      by false = rest now fewer
+
+  hands_answer : (state : State) (stop : Option (List ℕ)) (buckets : List ℕ) → AreWithin (λ bucket. bucket < shape.buckets) buckets → (before : List (List ℕ × List ℕ)) → length before ≤ shape.elements → IsHanded (hands shape cpu state stop buckets before).reply
+  hands_answer state stop [] below before few = (refl, few, omega arith)
+  hands_answer state stop (bucket ∷ buckets) below before few =
+      let room : ℕ = shape.elements - length before in
+      handing_answers stop bucket before (walked shape cpu room (bucket_at shape state bucket)) (λ now. hands shape cpu state stop buckets now) (first_within (λ b. b < shape.buckets) bucket buckets below) few
+      (walked_few room (bucket_at shape state bucket)) (λ now fewer. hands_answer state stop buckets (others_within (λ b. b < shape.buckets) bucket buckets below) now fewer)
+
+  each_is : (flags : ℕ) (reply : Reply) → flags ≡ 0 → IsHanded reply → MayAnswerEach shape flags reply
+  each_is flags Done none is = absurd is
+  each_is flags (Value bytes) none is = absurd is
+  each_is flags (Refused errno) none is = absurd is
+  each_is flags (Batch stop taken next) none is = (none, is.0, is.1, is.2)
+  each_is flags (Count stop done) none is = absurd is
+
+  each_answers : (state : State) (flags : ℕ) (stop : Option (List ℕ)) → MayAnswerEach shape flags (each_does shape cpu state flags stop).reply
+  unfolding each_does
+  each_answers state flags stop = by (eqb flags 0) refl
+    where
+      by : (plainly : Bool) → eqb flags 0 ≡ plainly → MayAnswerEach shape flags (cond plainly (hands shape cpu state stop (buckets_from shape 0) []) (record { turns = []; reply = Refused Einval })).reply
+      by true none = each_is flags _ (eqb-true flags 0 none) (hands_answer state stop (buckets_from shape 0) (buckets_within shape 0) [] (omega arith))
+      by false other = (refl, eqb-false flags 0 other)
+
   -- every call
   pub may_answer : (state : State) → ((bucket : ℕ) → All (λ (body : Stored). FitsMap shape body) (bucket_at shape state bucket)) → (verb : Verb) → MayAnswer shape verb (does shape cpu number state verb).reply
   unfolding does key_does
@@ -244,6 +301,7 @@ module _ (shape : Shape) (cpu number : ℕ) (within : cpu < shape.cpus) where
   may_answer state fit (verbs.BatchRead remove count start flags) = read_answers state remove count start flags
   may_answer state fit (verbs.BatchUpdate flags pairs) = write_answers state flags (updates_of pairs) (length pairs) (length-map pairs (λ (pair : List ℕ × List ℕ). verbs.Update Sys 0 pair.0 pair.1))
   may_answer state fit (verbs.BatchDelete flags keys) = write_answers state flags (deletes_of keys) (length keys) (length-map keys (λ (key : List ℕ). verbs.Delete key))
+  may_answer state fit (verbs.Each flags stop) = each_answers state flags stop
 
 -- All calls of a run, where the buckets fit at each of its moments.
 abbrev pub FitAlong : Shape → ℕ → List Call → State → Type 0

@@ -1,13 +1,13 @@
 -- What a record of a run is, of maps of any kind: what happened under each lock replays by the kernel's rules, phase after phase,
 -- and each CPU's calls stand in these histories once, in its order, with the replies.
-use Rattle.std.specs.Prelude.{◌≡◌, ◌≢◌, ℕ, suc, ◌<◌, ◌≤◌, ◌==◌, ◌&&◌, Bool, IsTrue, IsFalse, IsPermutation, MatchBool, MatchOption, Option, Some, All, List, [], ◌∷◌, ◌++◌, length, map, filter, slice_get, slice_index_or, ⊤, if◌then◌else◌}
+use Rattle.std.specs.Prelude.{◌≡◌, ◌≢◌, ℕ, suc, ◌<◌, ◌≤◌, ◌==◌, ◌&&◌, Bool, IsTrue, IsFalse, IsPermutation, MatchBool, MatchOption, Option, None, Some, All, List, [], ◌∷◌, ◌++◌, length, map, filter, slice_get, slice_index_or, ⊤, if◌then◌else◌}
 use Rattle.std.specs.List.{list_any, flat_map, range_with_len}
 use Rattle.map_types.specs.Kind.{is_lru}
 use Rattle.map_types.specs.ValueLen.{value_len_of}
 use Rattle.map_types.specs.declared.attr.Shape.{Shape}
 use Rattle.map_types.specs.declared.call.Call.{Call}
 use Rattle.map_types.specs.declared.call.Verb.{Verb}
-use Rattle.map_types.specs.declared.call.Verb.TheVariants.{Lookup, Update, Delete, Take, Next, BatchRead, BatchUpdate, BatchDelete}
+use Rattle.map_types.specs.declared.call.Verb.TheVariants.{Lookup, Update, Delete, Take, Next, BatchRead, BatchUpdate, BatchDelete, Each}
 use Rattle.map_types.specs.declared.kind.Side.TheVariants.{Sys}
 use Rattle.map_types.specs.declared.refusal.Errno.{Errno}
 use Rattle.map_types.specs.declared.refusal.Errno.TheVariants.{Enoent, E2big, Enomem, Eexist, Einval, Enospc}
@@ -101,6 +101,14 @@ MayAnswerWrite entries flags (Refused errno) = (errno ≡ Einval) × (flags ≢ 
 MayAnswerWrite entries flags (Batch stop taken next) = ⊥
 MayAnswerWrite entries flags (Count stop done) = (flags ≡ 0) × (done ≤ entries)
 
+-- A walk over all elements of a map hands over as many as it has at most, and ends with no error at a bucket or behind the last one.
+abbrev pub MayAnswerEach : Shape → ℕ → Reply → Type 0
+MayAnswerEach shape flags Done = ⊥
+MayAnswerEach shape flags (Value bytes) = ⊥
+MayAnswerEach shape flags (Refused errno) = (errno ≡ Einval) × (flags ≢ 0)
+MayAnswerEach shape flags (Batch stop taken next) = (flags ≡ 0) × (stop ≡ None) × (length taken ≤ shape.elements) × (next ≤ shape.buckets)
+MayAnswerEach shape flags (Count stop done) = ⊥
+
 -- Which reply a call may have by its kind alone; its turns say which one it has. A lookup answers a value of its side's size, a take one of the system side's, and next key a key.
 abbrev pub MayAnswer : Shape → Verb → Reply → Type 0
 MayAnswer shape (Lookup side key) reply = MayGive (value_len_of shape side) reply
@@ -111,6 +119,7 @@ MayAnswer shape (Next key) reply = MayGive shape.key_size reply
 MayAnswer shape (BatchRead remove count start flags) reply = MayAnswerRead shape count flags reply
 MayAnswer shape (BatchUpdate flags pairs) reply = MayAnswerWrite (length pairs) flags reply
 MayAnswer shape (BatchDelete flags keys) reply = MayAnswerWrite (length keys) flags reply
+MayAnswer shape (Each flags stop) reply = MayAnswerEach shape flags reply
 
 -- one reply for each call, in order
 abbrev pub EachAnswered : Shape → List Call → List Reply → Type 0

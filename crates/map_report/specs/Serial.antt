@@ -2,17 +2,18 @@
 -- are those of the kernel's `htab_map_lookup_elem` and `htab_percpu_map_lookup_elem`, `htab_map_update_elem` and
 -- `htab_percpu_map_update_elem`, `bpf_percpu_hash_copy` and `bpf_percpu_hash_update` for the system call,
 -- `htab_map_delete_elem`, `htab_map_lookup_and_delete_elem` and `htab_percpu_map_lookup_and_delete_elem`,
--- `htab_map_get_next_key`, `__htab_map_lookup_and_delete_batch`, `generic_map_update_batch` and `generic_map_delete_batch`.
+-- `htab_map_get_next_key`, `__htab_map_lookup_and_delete_batch`, `generic_map_update_batch`, `generic_map_delete_batch` and
+-- `bpf_for_each_hash_elem`.
 use Rattle.std.specs.Prelude.{ℕ, suc, ◌-◌, ◌==◌, nat_lt, min, Bool, true, false, List, [], ◌∷◌, ◌++◌, length, map, Option, Some, None, is_some, unwrap_or, replicate, slice_index, slice_index_or, slice_set, if◌then◌else◌}
 use Rattle.std.specs.List.{flat_map}
 use Rattle.map_types.specs.declared.attr.Shape.{Shape}
 use Rattle.map_types.specs.declared.call.Call.{Call}
 use Rattle.map_types.specs.declared.call.Verb.{Verb}
-use Rattle.map_types.specs.declared.call.Verb.TheVariants.{Lookup, Update, Delete, Take, Next, BatchRead, BatchUpdate, BatchDelete}
+use Rattle.map_types.specs.declared.call.Verb.TheVariants.{Lookup, Update, Delete, Take, Next, BatchRead, BatchUpdate, BatchDelete, Each}
 use Rattle.map_types.specs.declared.kind.MapKind.{MapKind}
 use Rattle.map_types.specs.declared.kind.MapKind.TheVariants.{Hash, PercpuHash, LruHash, LruPercpuHash}
 use Rattle.map_types.specs.declared.kind.Side.{Side}
-use Rattle.map_types.specs.declared.kind.Side.TheVariants.{Sys}
+use Rattle.map_types.specs.declared.kind.Side.TheVariants.{Prog, Sys}
 use Rattle.map_types.specs.declared.refusal.Errno.{Errno}
 use Rattle.map_types.specs.declared.refusal.Errno.TheVariants.{Enoent, E2big, Eexist, Einval}
 use Rattle.map_types.specs.declared.reply.Reply.{Reply}
@@ -23,6 +24,7 @@ use Rattle.map_types.specs.Stored.{Stored}
 use Rattle.place_words.specs.declared.finals.Finals.{Finals}
 use Rattle.place_words.specs.Bodies.{present, without_key, first_key, next_key, numbers}
 pub use Rattle.place_words.specs.Buckets.{new_stored}
+use Rattle.place_words.specs.Handing.{up_to_stop}
 use Rattle.place_words.specs.Walks.{buckets_from, stopped_at, refused_with}
 use Rattle.map_report.specs.Buckets.{bucket_of_key, with_in_place}
 use Rattle.map_report.specs.Freelists.{opening_stacks, spares_popped, popped, pushed}
@@ -160,9 +162,24 @@ each_done one [] done now = (now, Count None done)
 each_done one (entry ∷ entries) done now =
     unless_stopped (refused_with (one entry now).1) done (one entry now).0 (each_done one entries (suc done) (one entry now).0)
 
--- batches know no flags
+-- batches and walks over all elements know no flags
 abbrev pub unless_flags : {X : Type 0} → ℕ → X → X × Reply → X × Reply
 unless_flags flags now after = if flags == 0 then after else (now, Refused Einval)
+
+-- an element's key, and its value as a program reads it on a CPU
+abbrev pub program_pair : Shape → ℕ → Stored → List ℕ × List ℕ
+program_pair shape cpu stored = (stored.key, value_read shape Prog cpu stored.values)
+
+-- the number behind the bucket of the key at which a walk stops, where that is there, or else the number of buckets
+abbrev pub next_behind : Shape → Option (List ℕ) → List Stored → ℕ
+next_behind shape None bodies = shape.buckets
+next_behind shape (Some key) bodies = if is_some (present key bodies) then suc (bucket_of_key shape key) else shape.buckets
+
+-- A walk over all elements hands over each element in the order of buckets, as a program on its CPU reads it, up to and including the key
+-- at which it stops, and answers where it ended.
+abbrev pub handing_reply : Shape → ℕ → Option (List ℕ) → List Stored → Reply
+handing_reply shape cpu stop bodies =
+    Batch None (up_to_stop stop (map (program_pair shape cpu) bodies)) (next_behind shape stop bodies)
 
 -- What a call on a CPU does to the map, and what it answers. A take answers as the system call's lookup. The entries of a batch
 -- update are updates by the system call with BPF_ANY (0), and those of a batch delete are deletes.
@@ -177,6 +194,7 @@ after_call shape cpu (BatchRead remove count start flags) lists = unless_flags f
 after_call shape cpu (BatchUpdate flags pairs) lists =
     unless_flags flags lists (each_done (λ (pair : List ℕ × List ℕ). after_update shape Sys cpu 0 pair.0 pair.1) pairs 0 lists)
 after_call shape cpu (BatchDelete flags keys) lists = unless_flags flags lists (each_done (after_delete shape cpu) keys 0 lists)
+after_call shape cpu (Each flags stop) lists = unless_flags flags lists (lists, handing_reply shape cpu stop (in_order shape (in_bucket_at lists)))
 
 -- the replies of calls in their order, from a state of the map on
 abbrev pub replies_from : Shape → Finals → List Call → List Reply

@@ -1,6 +1,6 @@
 -- The turns that the calls of a serial run make, on plain lists, as its record tells them.
-use Rattle.std.specs.Prelude.{ℕ, suc, ◌+◌, ◌-◌, ◌==◌, not, nat_lt, min, Bool, List, [], ◌∷◌, ◌++◌, length, map, filter, Option, None, Some, option_map, unwrap_or, slice_get, slice_index, slice_index_or, if◌then◌else◌}
-use Rattle.std.specs.List.{range_with_len, before_first}
+use Rattle.std.specs.Prelude.{ℕ, suc, ◌+◌, ◌-◌, ◌==◌, not, nat_lt, min, Bool, false, List, [], ◌∷◌, ◌++◌, length, map, filter, Option, None, Some, option_map, unwrap_or, slice_get, slice_index, slice_index_or, if◌then◌else◌}
+use Rattle.std.specs.List.{list_any, range_with_len, before_first}
 use Rattle.map_types.specs.declared.attr.Shape.{Shape}
 use Rattle.map_types.specs.declared.call.Call.{Call}
 use Rattle.map_types.specs.declared.call.Verb.{Verb}
@@ -28,6 +28,7 @@ use Rattle.place_words.specs.declared.history.Strand.{Strand}
 use Rattle.place_words.specs.declared.history.StrandStep.{StrandStep}
 use Rattle.place_words.specs.Bodies.{present, first_key, numbers}
 use Rattle.place_words.specs.Buckets.{as_read}
+use Rattle.place_words.specs.Handing.{is_stop}
 use Rattle.place_words.specs.Histories.{Content, in_bucket, on_freelist, in_locals, in_global, in_own}
 use Rattle.place_words.specs.Locals.{new_locals}
 use Rattle.place_words.specs.Sets.{new_set}
@@ -38,7 +39,7 @@ use Rattle.place_words.specs.Turns.{on_lock}
 use Rattle.place_words.specs.Walks.{buckets_from, refused_with}
 use Rattle.map_report.specs.Buckets.{bucket_of_key}
 use Rattle.map_report.specs.Freelists.{stack_at, first_not_empty}
-use Rattle.map_report.specs.Serial.{bucket_at, in_bucket_at, pair_read, if_emptied, after_update, after_delete, after_call}
+use Rattle.map_report.specs.Serial.{bucket_at, in_bucket_at, pair_read, program_pair, if_emptied, after_update, after_delete, after_call}
 
 -- what lies under each lock of a map that doesn't evict, which has no lists but buckets and freelists
 abbrev pub content_under : Finals → DomainId → Content
@@ -128,6 +129,15 @@ turns_of_read shape cpu remove count start lists =
     else if nat_lt start shape.buckets then read_turns shape cpu remove (min count shape.elements) (buckets_from shape start) [] lists
     else []
 
+-- A walk over all elements takes each bucket whole in a turn, up to the one in which it stops. It has room for the elements of the map,
+-- less those that it took before.
+abbrev pub handing_turns : Shape → ℕ → Option (List ℕ) → List ℕ → ℕ → Finals → List Turn
+handing_turns shape cpu stop [] before lists = []
+handing_turns shape cpu stop (bucket ∷ buckets) before lists =
+    let bodies = in_bucket_at lists bucket in
+    on_lock (Bucket bucket) (parts.Bucket (Walk false (shape.elements - before) (Taken (map (as_read shape cpu) bodies))))
+    ∷ (if list_any (is_stop stop) (map (program_pair shape cpu) bodies) then [] else handing_turns shape cpu stop buckets (before + length bodies) lists)
+
 -- the turns of entries, up to the first that is refused
 abbrev pub unless_refused : Option Errno → List Turn → List Turn
 unless_refused None later = later
@@ -154,6 +164,7 @@ call_turns shape cpu (verbs.BatchUpdate flags pairs) lists =
     if flags == 0 then each_turns (λ (pair : List ℕ × List ℕ). after_update shape Sys cpu 0 pair.0 pair.1) (λ (pair : List ℕ × List ℕ). turns_of_update shape Sys cpu 0 pair.0 pair.1) pairs lists else []
 call_turns shape cpu (verbs.BatchDelete flags keys) lists =
     if flags == 0 then each_turns (after_delete shape cpu) (turns_of_delete shape cpu) keys lists else []
+call_turns shape cpu (verbs.Each flags stop) lists = if flags == 0 then handing_turns shape cpu stop (buckets_from shape 0) 0 lists else []
 
 -- a turn with its lock, as an entry of that lock's history
 abbrev pub Happened : Type 0

@@ -1,6 +1,7 @@
 mod RaceCrossing
 pub mod AloneRuns
 pub mod ReadAnswers
+mod HandedCalls
 pub mod Joining
 pub mod Working
 pub mod Workers

@@ -2,6 +2,7 @@
 #![tactic(auto)]
 
 mod batch_calls;
+mod each_call;
 mod finish;
 mod hold_gate;
 mod laws;

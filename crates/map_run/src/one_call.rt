@@ -12,6 +12,7 @@ ghost use Rattle.map_report.specs.Record.{MayAnswer};
 ghost use Rattle.serial_laws.specs.Served.{IsServedCall};
 
 use crate::batch_calls::{batch_delete, batch_read, batch_update};
+use crate::each_call::each;
 use bucket_chain::Write;
 use bucket_walks::BatchRequest;
 use map_batch::{AnyMap, next_key};
@@ -78,6 +79,7 @@ pub(crate) fn run_call<R: Wait, G: Gate>(
         }
         Verb::BatchUpdate { flags, pairs } => { batch_update(rt, map, pass, *flags, pairs, gate) }
         Verb::BatchDelete { flags, keys } => batch_delete(rt, map, pass, *flags, keys, gate),
+        Verb::Each { flags, stop } => each(rt, alloc, map, pass, call.cpu, *flags, stop, gate),
     }
 }
 

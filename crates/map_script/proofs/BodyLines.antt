@@ -23,32 +23,32 @@ use Rattle.map_script.proofs.PlaceLemmas.{step_found, chosen, same_ok, at_found}
 
 -- ---- a line that is a call
 
-no_number : (shape : Shape) (rest : Tokens) (call : Call) → call_line shape (codes "phase" ∷ rest) ≡ Ok call → ⊥
+no_number : (version : ℕ) (shape : Shape) (rest : Tokens) (call : Call) → call_line version shape (codes "phase" ∷ rest) ≡ Ok call → ⊥
 unfolding call_line
-no_number shape rest call read = cc
+no_number version shape rest call read = cc
 
 -- a call line starts no phase
-no_phase : (shape : Shape) (tokens : Tokens) (call : Call) → call_line shape tokens ≡ Ok call → is_next (codes "phase") tokens ≡ false
-no_phase shape [] call read = refl
-no_phase shape (first ∷ rest) call read = go (bytes_eq first (codes "phase")) refl
+no_phase : (version : ℕ) (shape : Shape) (tokens : Tokens) (call : Call) → call_line version shape tokens ≡ Ok call → is_next (codes "phase") tokens ≡ false
+no_phase version shape [] call read = refl
+no_phase version shape (first ∷ rest) call read = go (bytes_eq first (codes "phase")) refl
   where
     go : (same : Bool) → bytes_eq first (codes "phase") ≡ same → same ≡ false
     go false is = refl
     go true is =
         let first_is : first ≡ codes "phase" = (bytes_eq-Decides first (codes "phase")).0 is in
-        absurd (no_number shape rest call (subst (λ (word : List ℕ). call_line shape (word ∷ rest) ≡ Ok call) first_is read))
+        absurd (no_number version shape rest call (subst (λ (word : List ℕ). call_line version shape (word ∷ rest) ≡ Ok call) first_is read))
 
 -- a line that is a call within the limits says that call
-pub call_said : (version : ℕ) (shape : Shape) (count room cuts : ℕ) (tokens : Tokens) (call : Call) → call_within shape count room tokens ≡ Ok call → body_line version shape count room cuts tokens ≡ Ok (says.Call call)
+pub call_said : (version : ℕ) (shape : Shape) (count room cuts : ℕ) (tokens : Tokens) (call : Call) → call_within version shape count room tokens ≡ Ok call → body_line version shape count room cuts tokens ≡ Ok (says.Call call)
 call_said version shape count room cuts tokens call found =
-    let none : starts_phase version tokens ≡ false = ap (λ (next : Bool). version == 2 && next) (no_phase shape tokens call (within_has shape count room tokens call found).read) ∙ and-false (version == 2) in
+    let none : starts_phase version tokens ≡ false = ap (λ (next : Bool). version == 2 && next) (no_phase version shape tokens call (within_has version shape count room tokens call found).read) ∙ and-false (version == 2) in
     rw (none, found) refl
 
 -- the same, of the first of some lines
-pub first_said : (version : ℕ) (shape : Shape) (count room cuts : ℕ) (lines rest : List Line) (call : Call) → FirstIs (call_within shape count room) lines call rest
+pub first_said : (version : ℕ) (shape : Shape) (count room cuts : ℕ) (lines rest : List Line) (call : Call) → FirstIs (call_within version shape count room) lines call rest
     → FirstIs (body_line version shape count room cuts) lines (says.Call call) rest
 first_said version shape count room cuts lines rest call found =
-    let made = step_found found.line.says (call_within shape count room) call found.reads in
+    let made = step_found found.line.says (call_within version shape count room) call found.reads in
     record {
       line = found.line;
       first = found.first;
@@ -60,7 +60,7 @@ first_said version shape count room cuts lines rest call found =
 -- of its tokens, behind what was read before it
 abbrev pub Tells : ℕ → Shape → Body → Tokens → BodyLine → Type 0
 Tells version shape body tokens (says.Call call) =
-    IsWithin shape (length body.calls) (reply_room shape body.calls) tokens call
+    IsWithin version shape (length body.calls) (reply_room shape body.calls) tokens call
 Tells version shape body tokens says.Phase = (version ≡ 2) × (length body.cuts < 63)
 
 few_cuts : (cuts : ℕ) (tokens : Tokens) (started : Unit {0}) → phase_within cuts tokens ≡ Ok started → cuts < 63
@@ -72,7 +72,7 @@ tokens_tell : (version : ℕ) (shape : Shape) (body : Body) (tokens : Tokens) (n
 tokens_tell version shape body tokens next read = go (starts_phase version tokens) refl read
   where
     go : (starts : Bool) → starts_phase version tokens ≡ starts
-        → cond starts (phase_within (length body.cuts) tokens >>= λ started. Ok says.Phase) (call_within shape (length body.calls) (reply_room shape body.calls) tokens >>= λ call. Ok (says.Call call)) ≡ Ok next
+        → cond starts (phase_within (length body.cuts) tokens >>= λ started. Ok says.Phase) (call_within version shape (length body.calls) (reply_room shape body.calls) tokens >>= λ call. Ok (says.Call call)) ≡ Ok next
         → Tells version shape body tokens next
     go true is read =
         let made = step_found (phase_within (length body.cuts) tokens) (λ started. Ok says.Phase) next read in
@@ -80,9 +80,9 @@ tokens_tell version shape body tokens next read = go (starts_phase version token
         let second = eqb-true version 2 (and_parts (version == 2) (is_next (codes "phase") tokens) is).0 in
         subst (Tells version shape body tokens) same (second, few_cuts (length body.cuts) tokens made.0 made.1)
     go false is read =
-        let made = step_found (call_within shape (length body.calls) (reply_room shape body.calls) tokens) (λ call. Ok (says.Call call)) next read in
+        let made = step_found (call_within version shape (length body.calls) (reply_room shape body.calls) tokens) (λ call. Ok (says.Call call)) next read in
         let same : says.Call made.0 ≡ next = cc (made.2) in
-        subst (Tells version shape body tokens) same (within_has shape (length body.calls) (reply_room shape body.calls) tokens made.0 made.1)
+        subst (Tells version shape body tokens) same (within_has version shape (length body.calls) (reply_room shape body.calls) tokens made.0 made.1)
 
 -- the same, of a line with its number
 pub line_tells : (version : ℕ) (shape : Shape) (body : Body) (line : Line) (next : BodyLine) → of_line line (line_behind version shape body) ≡ Ok next

@@ -1,7 +1,7 @@
 -- What a script that form Calls gives is like: its numbers, its keys and values, and its limits.
-use Rattle.std.proofs.Common.{◌≡◌, ℕ, ◌+◌, ◌<◌, ◌≤◌, Bool, true, false, nat_lt, cond, List, [], ◌∷◌, ◌++◌, length, Some, None, Result, Ok, Err, refl, subst, arith}
+use Rattle.std.proofs.Common.{◌≡◌, ℕ, ◌+◌, ◌<◌, ◌≤◌, ◌==◌, Bool, true, false, nat_lt, cond, List, [], ◌∷◌, ◌++◌, length, Some, None, Result, Ok, Err, refl, subst, arith}
 use Rattle.std.specs.Prelude.{IfSome, IfOk, bytes_eq, codes}
-use Rattle.std.proofs.lemmas.Bool.{cond_both, ltb-true}
+use Rattle.std.proofs.lemmas.Bool.{and_parts, cond_both, eqb-true, ltb-true}
 use Rattle.std.proofs.lemmas.List.Sums.{sum_by-cons}
 use Rattle.map_types.specs.Creation.{creation}
 use Rattle.map_types.specs.ValueLen.{value_len_of}
@@ -9,7 +9,7 @@ use Rattle.map_types.specs.declared.attr.CreateAttr.{CreateAttr}
 use Rattle.map_types.specs.declared.attr.Shape.{Shape}
 use Rattle.map_types.specs.declared.call.Call.{Call}
 use Rattle.map_types.specs.declared.call.Verb.{Verb}
-use Rattle.map_types.specs.declared.call.Verb.TheVariants.{Lookup, Update, Delete, Take, Next, BatchRead, BatchUpdate, BatchDelete}
+use Rattle.map_types.specs.declared.call.Verb.TheVariants.{Lookup, Update, Delete, Take, Next, BatchRead, BatchUpdate, BatchDelete, Each}
 use Rattle.map_types.specs.declared.kind.Side.{Side}
 use Rattle.map_types.specs.declared.kind.Side.TheVariants.{Prog, Sys}
 use Rattle.map_script.specs.declared.body.Body.{Body}
@@ -20,9 +20,9 @@ use Rattle.map_script.specs.declared.refusal.Cause.TheVariants as causes
 use Rattle.map_script.specs.declared.refusal.ScriptRefusal.{ScriptRefusal}
 use Rattle.map_script.specs.declared.script.Form.TheVariants as forms
 use Rattle.map_script.specs.declared.script.Script.{Script}
-use Rattle.map_script.specs.Grammar.{kind_of, version_line, map_line, map_attr, call_line, call_on, verb_line, lookup_places, update_places, delete_places, take_places, next_places, batch_read_places, batch_update_places, batch_delete_places, pairs_to_end, keys_to_end, reply_bytes, reply_room}
+use Rattle.map_script.specs.Grammar.{kind_of, version_line, map_line, map_attr, call_line, call_on, verb_line, each_places, each_line, names_each, named_line, lookup_places, update_places, delete_places, take_places, next_places, batch_read_places, batch_update_places, batch_delete_places, pairs_to_end, keys_to_end, reply_bytes, reply_room}
 use Rattle.map_script.specs.Lines.{Line, lines_of, end_number}
-use Rattle.map_script.specs.Places.{Tokens, valued, number, cpu, start, start_of, flag, flag_of, bytes, bytes_in, labelled, if_labelled, number_or_end, word}
+use Rattle.map_script.specs.Places.{◌>>=◌, Tokens, valued, number, cpu, start, start_of, stop_in, stop, is_next, flag, flag_of, bytes, bytes_in, labelled, if_labelled, number_or_end, word}
 use Rattle.map_script.specs.Reading.{at_line, or_create, with_next, no_body, body_from, body_of, map_of, version_of, read_as, script_of}
 use Rattle.map_script.specs.Tokens.{number_of}
 use Rattle.map_script.specs.WellFormed.{HasPhases}
@@ -42,21 +42,22 @@ abbrev pub AreKeys : Shape → List (List ℕ) → Type 0
 AreKeys shape [] = Unit {0}
 AreKeys shape (key ∷ keys) = AreBytes shape.key_size key × AreKeys shape keys
 
-abbrev pub IsVerb : Shape → Verb → Type 0
-IsVerb shape (Lookup side key) = AreBytes shape.key_size key
-IsVerb shape (Update side flags key value) =
+abbrev pub IsVerb : ℕ → Shape → Verb → Type 0
+IsVerb version shape (Lookup side key) = AreBytes shape.key_size key
+IsVerb version shape (Update side flags key value) =
     IsNumber flags × AreBytes shape.key_size key × AreBytes (value_len_of shape side) value
-IsVerb shape (Delete key) = AreBytes shape.key_size key
-IsVerb shape (Take key) = AreBytes shape.key_size key
-IsVerb shape (Next key) = IfSome key (AreBytes shape.key_size)
-IsVerb shape (BatchRead remove count start flags) = IsNumber count × IsStart start × IsNumber flags
-IsVerb shape (BatchUpdate flags pairs) = IsNumber flags × ArePairs shape pairs
-IsVerb shape (BatchDelete flags keys) = IsNumber flags × AreKeys shape keys
+IsVerb version shape (Delete key) = AreBytes shape.key_size key
+IsVerb version shape (Take key) = AreBytes shape.key_size key
+IsVerb version shape (Next key) = IfSome key (AreBytes shape.key_size)
+IsVerb version shape (BatchRead remove count start flags) = IsNumber count × IsStart start × IsNumber flags
+IsVerb version shape (BatchUpdate flags pairs) = IsNumber flags × ArePairs shape pairs
+IsVerb version shape (BatchDelete flags keys) = IsNumber flags × AreKeys shape keys
+IsVerb version shape (Each flags stop) = (version ≡ 2) × IsNumber flags × IfSome stop (AreBytes shape.key_size)
 
-pub record IsCall (shape : Shape) (call : Call) : Type 0 where
+pub record IsCall (version : ℕ) (shape : Shape) (call : Call) : Type 0 where
   pub on : IsNumber call.cpu
   pub one_of : call.cpu < shape.cpus
-  pub does : IsVerb shape call.verb
+  pub does : IsVerb version shape call.verb
 
 pub record IsAttr (attr : CreateAttr) : Type 0 where
   pub key : IsNumber attr.key_size
@@ -67,16 +68,16 @@ pub record IsAttr (attr : CreateAttr) : Type 0 where
   pub seed : IsNumber attr.seed
 
 -- calls behind so many calls whose replies may have so many bytes
-abbrev pub AreCalls : Shape → ℕ → ℕ → List Call → Type 0
-AreCalls shape count room [] = Unit {0}
-AreCalls shape count room (call ∷ calls) =
-    IsCall shape call × (count < 200000) × (room + reply_bytes shape call.verb ≤ 67108864)
-    × AreCalls shape (count + 1) (room + reply_bytes shape call.verb) calls
+abbrev pub AreCalls : ℕ → Shape → ℕ → ℕ → List Call → Type 0
+AreCalls version shape count room [] = Unit {0}
+AreCalls version shape count room (call ∷ calls) =
+    IsCall version shape call × (count < 200000) × (room + reply_bytes shape call.verb ≤ 67108864)
+    × AreCalls version shape (count + 1) (room + reply_bytes shape call.verb) calls
 
 pub record IsCallScript (script : Script) : Type 0 where
   pub numbers : IsAttr script.attr
   pub created : creation script.attr ≡ Ok script.shape
-  pub calls : AreCalls script.shape 0 0 script.calls
+  pub calls : AreCalls script.version script.shape 0 0 script.calls
   pub phases : HasPhases script.version (length script.calls) script.cuts
   pub no_spec : script.spec ≡ None
 
@@ -123,46 +124,46 @@ number_or_end_gives (first ∷ rest) = number_gives (first ∷ rest)
 
 -- ---- the verbs
 
-lookup_gives : (shape : Shape) (side : Side) (places : Tokens) → IfOk (lookup_places shape side places) (IsVerb shape)
+lookup_gives : (version : ℕ) (shape : Shape) (side : Side) (places : Tokens) → IfOk (lookup_places shape side places) (IsVerb version shape)
 unfolding lookup_places
-lookup_gives shape side places =
-    and_then (Found (AreBytes shape.key_size)) (IsVerb shape) (bytes shape.key_size places) _ (bytes_gives shape.key_size places) (λ key key_is.
-    end_gives (IsVerb shape) (Lookup side key.0) key.1 key_is)
+lookup_gives version shape side places =
+    and_then (Found (AreBytes shape.key_size)) (IsVerb version shape) (bytes shape.key_size places) _ (bytes_gives shape.key_size places) (λ key key_is.
+    end_gives (IsVerb version shape) (Lookup side key.0) key.1 key_is)
 
-update_gives : (shape : Shape) (side : Side) (places : Tokens) → IfOk (update_places shape side places) (IsVerb shape)
+update_gives : (version : ℕ) (shape : Shape) (side : Side) (places : Tokens) → IfOk (update_places shape side places) (IsVerb version shape)
 unfolding update_places
-update_gives shape side places =
-    and_then (Found IsNumber) (IsVerb shape) (flag places) _ (flag_gives places) (λ flags flags_is.
-    and_then (Found (AreBytes shape.key_size)) (IsVerb shape) (bytes shape.key_size flags.1) _ (bytes_gives shape.key_size flags.1) (λ key key_is.
-    and_then (Found (AreBytes (value_len_of shape side))) (IsVerb shape) (bytes (value_len_of shape side) key.1) _ (bytes_gives (value_len_of shape side) key.1) (λ value value_is.
-    end_gives (IsVerb shape) (Update side flags.0 key.0 value.0) value.1 (flags_is, key_is, value_is))))
+update_gives version shape side places =
+    and_then (Found IsNumber) (IsVerb version shape) (flag places) _ (flag_gives places) (λ flags flags_is.
+    and_then (Found (AreBytes shape.key_size)) (IsVerb version shape) (bytes shape.key_size flags.1) _ (bytes_gives shape.key_size flags.1) (λ key key_is.
+    and_then (Found (AreBytes (value_len_of shape side))) (IsVerb version shape) (bytes (value_len_of shape side) key.1) _ (bytes_gives (value_len_of shape side) key.1) (λ value value_is.
+    end_gives (IsVerb version shape) (Update side flags.0 key.0 value.0) value.1 (flags_is, key_is, value_is))))
 
-delete_gives : (shape : Shape) (places : Tokens) → IfOk (delete_places shape places) (IsVerb shape)
+delete_gives : (version : ℕ) (shape : Shape) (places : Tokens) → IfOk (delete_places shape places) (IsVerb version shape)
 unfolding delete_places
-delete_gives shape places =
-    and_then (Found (AreBytes shape.key_size)) (IsVerb shape) (bytes shape.key_size places) _ (bytes_gives shape.key_size places) (λ key key_is.
-    end_gives (IsVerb shape) (Delete key.0) key.1 key_is)
+delete_gives version shape places =
+    and_then (Found (AreBytes shape.key_size)) (IsVerb version shape) (bytes shape.key_size places) _ (bytes_gives shape.key_size places) (λ key key_is.
+    end_gives (IsVerb version shape) (Delete key.0) key.1 key_is)
 
-take_gives : (shape : Shape) (places : Tokens) → IfOk (take_places shape places) (IsVerb shape)
+take_gives : (version : ℕ) (shape : Shape) (places : Tokens) → IfOk (take_places shape places) (IsVerb version shape)
 unfolding take_places
-take_gives shape places =
-    and_then (Found (AreBytes shape.key_size)) (IsVerb shape) (bytes shape.key_size places) _ (bytes_gives shape.key_size places) (λ key key_is.
-    end_gives (IsVerb shape) (Take key.0) key.1 key_is)
+take_gives version shape places =
+    and_then (Found (AreBytes shape.key_size)) (IsVerb version shape) (bytes shape.key_size places) _ (bytes_gives shape.key_size places) (λ key key_is.
+    end_gives (IsVerb version shape) (Take key.0) key.1 key_is)
 
-next_gives : (shape : Shape) (places : Tokens) → IfOk (next_places shape places) (IsVerb shape)
+next_gives : (version : ℕ) (shape : Shape) (places : Tokens) → IfOk (next_places shape places) (IsVerb version shape)
 unfolding next_places
-next_gives shape [] = tt
-next_gives shape (first ∷ rest) =
-    and_then (Found (AreBytes shape.key_size)) (IsVerb shape) (bytes shape.key_size (first ∷ rest)) _ (bytes_gives shape.key_size (first ∷ rest)) (λ key key_is.
-    end_gives (IsVerb shape) (Next (Some key.0)) key.1 key_is)
+next_gives version shape [] = tt
+next_gives version shape (first ∷ rest) =
+    and_then (Found (AreBytes shape.key_size)) (IsVerb version shape) (bytes shape.key_size (first ∷ rest)) _ (bytes_gives shape.key_size (first ∷ rest)) (λ key key_is.
+    end_gives (IsVerb version shape) (Next (Some key.0)) key.1 key_is)
 
-batch_read_gives : (shape : Shape) (remove : Bool) (places : Tokens) → IfOk (batch_read_places remove places) (IsVerb shape)
+batch_read_gives : (version : ℕ) (shape : Shape) (remove : Bool) (places : Tokens) → IfOk (batch_read_places remove places) (IsVerb version shape)
 unfolding batch_read_places
-batch_read_gives shape remove places =
-    and_then (Found IsNumber) (IsVerb shape) (number places) _ (number_gives places) (λ count count_is.
-    and_then (Found IsStart) (IsVerb shape) (start count.1) _ (start_gives count.1) (λ begin begin_is.
-    and_then (Found IsNumber) (IsVerb shape) (number_or_end begin.1) _ (number_or_end_gives begin.1) (λ flags flags_is.
-    end_gives (IsVerb shape) (BatchRead remove count.0 begin.0 flags.0) flags.1 (count_is, begin_is, flags_is))))
+batch_read_gives version shape remove places =
+    and_then (Found IsNumber) (IsVerb version shape) (number places) _ (number_gives places) (λ count count_is.
+    and_then (Found IsStart) (IsVerb version shape) (start count.1) _ (start_gives count.1) (λ begin begin_is.
+    and_then (Found IsNumber) (IsVerb version shape) (number_or_end begin.1) _ (number_or_end_gives begin.1) (λ flags flags_is.
+    end_gives (IsVerb version shape) (BatchRead remove count.0 begin.0 flags.0) flags.1 (count_is, begin_is, flags_is))))
 
 pairs_give : (shape : Shape) (tokens : Tokens) → IfOk (pairs_to_end shape tokens) (ArePairs shape)
 pairs_give shape [] = tt
@@ -181,45 +182,71 @@ keys_give shape (first ∷ rest) =
     and_then (AreBytes shape.key_size) (AreKeys shape) (bytes_in shape.key_size first) _ (bytes_in_gives shape.key_size first) (λ key key_is.
     and_then (AreKeys shape) (AreKeys shape) (keys_to_end shape rest) (λ keys. Ok (key ∷ keys)) others (λ keys keys_are. (key_is, keys_are)))
 
-batch_update_gives : (shape : Shape) (places : Tokens) → IfOk (batch_update_places shape places) (IsVerb shape)
+batch_update_gives : (version : ℕ) (shape : Shape) (places : Tokens) → IfOk (batch_update_places shape places) (IsVerb version shape)
 unfolding batch_update_places
-batch_update_gives shape places =
-    and_then (Found IsNumber) (IsVerb shape) (number places) _ (number_gives places) (λ flags flags_is.
-    and_then (ArePairs shape) (IsVerb shape) (pairs_to_end shape flags.1) (λ pairs. Ok (BatchUpdate flags.0 pairs)) (pairs_give shape flags.1) (λ pairs pairs_are. (flags_is, pairs_are)))
+batch_update_gives version shape places =
+    and_then (Found IsNumber) (IsVerb version shape) (number places) _ (number_gives places) (λ flags flags_is.
+    and_then (ArePairs shape) (IsVerb version shape) (pairs_to_end shape flags.1) (λ pairs. Ok (BatchUpdate flags.0 pairs)) (pairs_give shape flags.1) (λ pairs pairs_are. (flags_is, pairs_are)))
 
-batch_delete_gives : (shape : Shape) (places : Tokens) → IfOk (batch_delete_places shape places) (IsVerb shape)
+batch_delete_gives : (version : ℕ) (shape : Shape) (places : Tokens) → IfOk (batch_delete_places shape places) (IsVerb version shape)
 unfolding batch_delete_places
-batch_delete_gives shape places =
-    and_then (Found IsNumber) (IsVerb shape) (number places) _ (number_gives places) (λ flags flags_is.
-    and_then (AreKeys shape) (IsVerb shape) (keys_to_end shape flags.1) (λ keys. Ok (BatchDelete flags.0 keys)) (keys_give shape flags.1) (λ keys keys_are. (flags_is, keys_are)))
+batch_delete_gives version shape places =
+    and_then (Found IsNumber) (IsVerb version shape) (number places) _ (number_gives places) (λ flags flags_is.
+    and_then (AreKeys shape) (IsVerb version shape) (keys_to_end shape flags.1) (λ keys. Ok (BatchDelete flags.0 keys)) (keys_give shape flags.1) (λ keys keys_are. (flags_is, keys_are)))
 
 -- ---- the lines
 
-either : (shape : Shape) (test : Bool) (one other : Result Verb Cause) → IfOk one (IsVerb shape) → IfOk other (IsVerb shape) → IfOk (cond test one other) (IsVerb shape)
-either shape true one other is other_is = is
-either shape false one other is other_is = other_is
+either : (version : ℕ) (shape : Shape) (test : Bool) (one other : Result Verb Cause) → IfOk one (IsVerb version shape) → IfOk other (IsVerb version shape) → IfOk (cond test one other) (IsVerb version shape)
+either version shape true one other is other_is = is
+either version shape false one other is other_is = other_is
 
-verb_gives : (shape : Shape) (tokens : Tokens) → IfOk (verb_line shape tokens) (IsVerb shape)
+verb_gives : (version : ℕ) (shape : Shape) (tokens : Tokens) → IfOk (verb_line shape tokens) (IsVerb version shape)
 unfolding verb_line
-verb_gives shape [] = tt
-verb_gives shape (name ∷ places) =
-    either shape (bytes_eq name (codes "lookup")) _ _ (lookup_gives shape Prog places)
-    (either shape (bytes_eq name (codes "syslookup")) _ _ (lookup_gives shape Sys places)
-    (either shape (bytes_eq name (codes "update")) _ _ (update_gives shape Prog places)
-    (either shape (bytes_eq name (codes "sysupdate")) _ _ (update_gives shape Sys places)
-    (either shape (bytes_eq name (codes "delete")) _ _ (delete_gives shape places)
-    (either shape (bytes_eq name (codes "take")) _ _ (take_gives shape places)
-    (either shape (bytes_eq name (codes "next")) _ _ (next_gives shape places)
-    (either shape (bytes_eq name (codes "batch_lookup")) _ _ (batch_read_gives shape false places)
-    (either shape (bytes_eq name (codes "batch_take")) _ _ (batch_read_gives shape true places)
-    (either shape (bytes_eq name (codes "batch_update")) _ _ (batch_update_gives shape places)
-    (either shape (bytes_eq name (codes "batch_delete")) _ (Err causes.Verb) (batch_delete_gives shape places) tt))))))))))
+verb_gives version shape [] = tt
+verb_gives version shape (name ∷ places) =
+    either version shape (bytes_eq name (codes "lookup")) _ _ (lookup_gives version shape Prog places)
+    (either version shape (bytes_eq name (codes "syslookup")) _ _ (lookup_gives version shape Sys places)
+    (either version shape (bytes_eq name (codes "update")) _ _ (update_gives version shape Prog places)
+    (either version shape (bytes_eq name (codes "sysupdate")) _ _ (update_gives version shape Sys places)
+    (either version shape (bytes_eq name (codes "delete")) _ _ (delete_gives version shape places)
+    (either version shape (bytes_eq name (codes "take")) _ _ (take_gives version shape places)
+    (either version shape (bytes_eq name (codes "next")) _ _ (next_gives version shape places)
+    (either version shape (bytes_eq name (codes "batch_lookup")) _ _ (batch_read_gives version shape false places)
+    (either version shape (bytes_eq name (codes "batch_take")) _ _ (batch_read_gives version shape true places)
+    (either version shape (bytes_eq name (codes "batch_update")) _ _ (batch_update_gives version shape places)
+    (either version shape (bytes_eq name (codes "batch_delete")) _ (Err causes.Verb) (batch_delete_gives version shape places) tt))))))))))
 
-call_gives : (shape : Shape) (tokens : Tokens) → IfOk (call_line shape tokens) (IsCall shape)
+stop_in_gives : (size : ℕ) (word : List ℕ) → IfOk (stop_in size word) (λ key. IfSome key (AreBytes size))
+stop_in_gives size word =
+    cond_both (bytes_eq word (codes "-")) (Ok None) (bytes_in size word >>= λ key. Ok (Some key)) (λ r. IfOk r (λ key. IfSome key (AreBytes size)))
+    (λ none. tt)
+    (λ some. and_then (AreBytes size) (λ key. IfSome key (AreBytes size)) (bytes_in size word) (λ key. Ok (Some key)) (bytes_in_gives size word) (λ key key_is. key_is))
+
+stop_gives : (size : ℕ) (tokens : Tokens) → IfOk (stop size tokens) (Found (λ key. IfSome key (AreBytes size)))
+stop_gives size [] = tt
+stop_gives size (first ∷ rest) =
+    and_then (λ key. IfSome key (AreBytes size)) (Found (λ key. IfSome key (AreBytes size))) (stop_in size first) (λ found. Ok (found, rest)) (stop_in_gives size first) (λ found is. is)
+
+each_gives : (version : ℕ) (shape : Shape) (tokens : Tokens) → version ≡ 2 → IfOk (each_line shape tokens) (IsVerb version shape)
+unfolding each_line each_places
+each_gives version shape [] second = tt
+each_gives version shape (name ∷ places) second =
+    and_then (Found IsNumber) (IsVerb version shape) (number places) _ (number_gives places) (λ flags flags_is.
+    and_then (Found (λ key. IfSome key (AreBytes shape.key_size))) (IsVerb version shape) (stop shape.key_size flags.1) _ (stop_gives shape.key_size flags.1) (λ key key_is.
+    end_gives (IsVerb version shape) (Each flags.0 key.0) key.1 (second, flags_is, key_is)))
+
+named_gives : (version : ℕ) (shape : Shape) (tokens : Tokens) → IfOk (named_line version shape tokens) (IsVerb version shape)
+unfolding named_line
+named_gives version shape tokens =
+    cond_both (names_each version tokens) (each_line shape tokens) (verb_line shape tokens) (λ r. IfOk r (IsVerb version shape))
+    (λ each. each_gives version shape tokens (eqb-true version 2 (and_parts (version == 2) (is_next (codes "each") tokens) each).0))
+    (λ other. verb_gives version shape tokens)
+
+call_gives : (version : ℕ) (shape : Shape) (tokens : Tokens) → IfOk (call_line version shape tokens) (IsCall version shape)
 unfolding call_line
-call_gives shape tokens =
-    and_then (Found (IsCpu shape.cpus)) (IsCall shape) (cpu shape.cpus tokens) _ (cpu_gives shape.cpus tokens) (λ on on_is.
-    and_then (IsVerb shape) (IsCall shape) (verb_line shape on.1) (λ verb. Ok (call_on on.0 verb)) (verb_gives shape on.1) (λ verb verb_is.
+call_gives version shape tokens =
+    and_then (Found (IsCpu shape.cpus)) (IsCall version shape) (cpu shape.cpus tokens) _ (cpu_gives shape.cpus tokens) (λ on on_is.
+    and_then (IsVerb version shape) (IsCall version shape) (named_line version shape on.1) (λ verb. Ok (call_on on.0 verb)) (named_gives version shape on.1) (λ verb verb_is.
     record { on = on_is.0; one_of = on_is.1; does = verb_is }))
 
 pub map_gives : (tokens : Tokens) → IfOk (map_line tokens) IsAttr
@@ -240,36 +267,36 @@ map_gives tokens =
 -- ---- the script
 
 -- a call more
-calls_more : (shape : Shape) (count room : ℕ) (calls : List Call) (call : Call) → AreCalls shape count room calls → IsCall shape call
-    → count + length calls < 200000 → room + reply_room shape calls + reply_bytes shape call.verb ≤ 67108864 → AreCalls shape count room (calls ++ call ∷ [])
-calls_more shape count room [] call h is few fits = (is, omega arith, omega arith, tt)
-calls_more shape count room (first ∷ calls) call h is few fits =
+calls_more : (version : ℕ) (shape : Shape) (count room : ℕ) (calls : List Call) (call : Call) → AreCalls version shape count room calls → IsCall version shape call
+    → count + length calls < 200000 → room + reply_room shape calls + reply_bytes shape call.verb ≤ 67108864 → AreCalls version shape count room (calls ++ call ∷ [])
+calls_more version shape count room [] call h is few fits = (is, omega arith, omega arith, tt)
+calls_more version shape count room (first ∷ calls) call h is few fits =
     let more = sum_by-cons (λ (call : Call). reply_bytes shape call.verb) first calls in
-    (h.0, h.1, h.2, calls_more shape (count + 1) (room + reply_bytes shape first.verb) calls call h.3 is (omega arith) (omega (arith, more)))
+    (h.0, h.1, h.2, calls_more version shape (count + 1) (room + reply_bytes shape first.verb) calls call h.3 is (omega arith) (omega (arith, more)))
 
 -- a line more
-line_more : (version : ℕ) (shape : Shape) (body : Body) (tokens : Tokens) (next : BodyLine) → AreCalls shape 0 0 body.calls → Tells version shape body tokens next → AreCalls shape 0 0 (with_next body next).calls
+line_more : (version : ℕ) (shape : Shape) (body : Body) (tokens : Tokens) (next : BodyLine) → AreCalls version shape 0 0 body.calls → Tells version shape body tokens next → AreCalls version shape 0 0 (with_next body next).calls
 line_more version shape body tokens (says.Call call) h told =
-    let is = subst (λ (r : Result Call Cause). IfOk r (IsCall shape)) told.read (call_gives shape tokens) in
-    calls_more shape 0 0 body.calls call h is (omega (arith, told.counted)) (omega (arith, told.replied))
+    let is = subst (λ (r : Result Call Cause). IfOk r (IsCall version shape)) told.read (call_gives version shape tokens) in
+    calls_more version shape 0 0 body.calls call h is (omega (arith, told.counted)) (omega (arith, told.replied))
 line_more version shape body tokens says.Phase h told = h
 
-lines_give : (version : ℕ) (shape : Shape) (lines : List Line) → IfOk (body_from version shape no_body lines) (λ body. AreCalls shape 0 0 body.calls)
+lines_give : (version : ℕ) (shape : Shape) (lines : List Line) → IfOk (body_from version shape no_body lines) (λ body. AreCalls version shape 0 0 body.calls)
 lines_give version shape lines =
-    found_gives (λ (body : Body). AreCalls shape 0 0 body.calls) (body_from version shape no_body lines) (λ body read.
-    lines_hold version shape (λ (body : Body) (lines : List Line). AreCalls shape 0 0 body.calls) (λ body line lines tokens next h said told. line_more version shape body tokens next h told)
+    found_gives (λ (body : Body). AreCalls version shape 0 0 body.calls) (body_from version shape no_body lines) (λ body read.
+    lines_hold version shape (λ (body : Body) (lines : List Line). AreCalls version shape 0 0 body.calls) (λ body line lines tokens next h said told. line_more version shape body tokens next h told)
     no_body lines body tt read)
 
 -- what the lines give, limits aside
 record IsListed (script : Script) : Type 0 where
   numbers : IsAttr script.attr
-  calls : AreCalls script.shape 0 0 script.calls
+  calls : AreCalls script.version script.shape 0 0 script.calls
   no_spec : script.spec ≡ None
 
 body_gives : (version : ℕ) (attr : CreateAttr) (shape : Shape) (end : ℕ) (lines : List Line) → IsAttr attr → IfOk (body_of forms.Calls version attr shape end lines) IsListed
 unfolding body_of
 body_gives version attr shape end lines numbers =
-    and_then (λ body. AreCalls shape 0 0 body.calls) IsListed (body_from version shape no_body lines) (λ body. Ok (script_of version attr shape body.calls body.cuts None)) (lines_give version shape lines) (λ body calls_are.
+    and_then (λ body. AreCalls version shape 0 0 body.calls) IsListed (body_from version shape no_body lines) (λ body. Ok (script_of version attr shape body.calls body.cuts None)) (lines_give version shape lines) (λ body calls_are.
     record { numbers = numbers; calls = calls_are; no_spec = refl })
 
 map_of_gives : (version end : ℕ) (lines : List Line) → IfOk (map_of forms.Calls version end lines) IsListed

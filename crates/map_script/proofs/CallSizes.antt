@@ -1,5 +1,5 @@
 -- The sizes of the keys and values of a call line.
-use Rattle.std.proofs.Common.{◌≡◌, ℕ, ◌<◌, Bool, List, [], ◌∷◌, length, Some, Ok, All, refl, sym, subst, ◌∙◌, arith}
+use Rattle.std.proofs.Common.{Option, ◌≡◌, ℕ, ◌<◌, Bool, List, [], ◌∷◌, length, Some, Ok, All, refl, sym, subst, ◌∙◌, arith}
 use Rattle.std.proofs.lemmas.Bool.Decides.{nat_tests}
 use Rattle.std.proofs.lemmas.List.Elements.{All-nil, All-cons}
 use Rattle.map_types.specs.Pairs.{HaveSizes}
@@ -7,11 +7,11 @@ use Rattle.map_types.specs.ValueLen.{value_len_of}
 use Rattle.map_types.specs.declared.attr.Shape.{Shape}
 use Rattle.map_types.specs.declared.call.Call.{Call}
 use Rattle.map_types.specs.declared.call.Verb.{Verb}
-use Rattle.map_types.specs.declared.call.Verb.TheVariants.{Next, BatchUpdate, BatchDelete}
+use Rattle.map_types.specs.declared.call.Verb.TheVariants.{Next, BatchUpdate, BatchDelete, Each}
 use Rattle.map_types.specs.declared.kind.Side.{Side}
 use Rattle.map_types.specs.declared.kind.Side.TheVariants.{Sys}
-use Rattle.map_script.specs.Grammar.{lookup_places, update_places, delete_places, take_places, next_places, batch_read_places, pairs_to_end, keys_to_end, batch_update_places, batch_delete_places, verb_line, call_on, call_line}
-use Rattle.map_script.specs.Places.{◌>>=◌, Tokens, at_end, number, cpu, bytes_in, bytes}
+use Rattle.map_script.specs.Grammar.{lookup_places, update_places, delete_places, take_places, next_places, batch_read_places, pairs_to_end, keys_to_end, batch_update_places, batch_delete_places, verb_line, each_places, each_line, named_line, call_on, call_line}
+use Rattle.map_script.specs.Places.{◌>>=◌, Tokens, token, stop, at_end, number, cpu, bytes_in, bytes}
 use Rattle.map_script.specs.WellFormed.{IsKey, HasSizes, IsCallOn}
 use Rattle.map_script.proofs.PlaceLemmas.{step_found, same_ok, bytes_in_has, bytes_has}
 
@@ -93,11 +93,36 @@ verb_has shape (name ∷ places) verb read =
 cpu_has : (cpus : ℕ) (tokens : Tokens) (found : ℕ × Tokens) → cpu cpus tokens ≡ Ok found → found.0 < cpus
 cpu_has cpus tokens found read = grind (arith, nat_tests)
 
+-- a walk over all elements stops at a key of the map's size
+stop_has : (shape : Shape) (flags : ℕ) (tokens : Tokens) (found : Option (List ℕ) × Tokens) → stop shape.key_size tokens ≡ Ok found → HasSizes shape (Each flags found.0)
+stop_has shape flags tokens found read = grind (arith, bytes_in_has)
+
+ended : (found verb : Verb) (rest : Tokens) → at_end found rest ≡ Ok verb → found ≡ verb
+ended found verb [] is = cc
+ended found verb (first ∷ rest) is = absurd cc
+
+each_places_has : (shape : Shape) (places : Tokens) (verb : Verb) → each_places shape places ≡ Ok verb → HasSizes shape verb
+unfolding each_places
+each_places_has shape places verb read =
+    let flags = step_found (number places) (λ flags. stop shape.key_size flags.1 >>= λ key. at_end (Each flags.0 key.0) key.1) verb read in
+    let key = step_found (stop shape.key_size flags.0.1) (λ key. at_end (Each flags.0.0 key.0) key.1) verb flags.2 in
+    subst (HasSizes shape) (ended (Each flags.0.0 key.0.0) verb key.0.1 key.2) (stop_has shape flags.0.0 flags.0.1 key.0 key.1)
+
+each_has : (shape : Shape) (tokens : Tokens) (verb : Verb) → each_line shape tokens ≡ Ok verb → HasSizes shape verb
+unfolding each_line
+each_has shape tokens verb read =
+    let name = step_found (token tokens) (λ name. each_places shape name.1) verb read in
+    each_places_has shape name.0.1 verb name.2
+
+named_has : (version : ℕ) (shape : Shape) (tokens : Tokens) (verb : Verb) → named_line version shape tokens ≡ Ok verb → HasSizes shape verb
+unfolding named_line
+named_has version shape tokens verb read = grind (arith, each_has, verb_has)
+
 -- a call line gives a call on the map
-pub call_has : (shape : Shape) (tokens : Tokens) (call : Call) → call_line shape tokens ≡ Ok call → IsCallOn shape call
+pub call_has : (version : ℕ) (shape : Shape) (tokens : Tokens) (call : Call) → call_line version shape tokens ≡ Ok call → IsCallOn shape call
 unfolding call_line
-call_has shape tokens call read =
-    let on = step_found (cpu shape.cpus tokens) (λ on. verb_line shape on.1 >>= λ verb. Ok (call_on on.0 verb)) call read in
-    let verb = step_found (verb_line shape on.0.1) (λ verb. Ok (call_on on.0.0 verb)) call on.2 in
-    let is : IsCallOn shape (call_on on.0.0 verb.0) = record { cpu = cpu_has shape.cpus tokens on.0 on.1; sizes = verb_has shape on.0.1 verb.0 verb.1 } in
-    subst (IsCallOn shape) (same_ok (call_line shape tokens) (call_on on.0.0 verb.0) call (read ∙ sym verb.2) read) is
+call_has version shape tokens call read =
+    let on = step_found (cpu shape.cpus tokens) (λ on. named_line version shape on.1 >>= λ verb. Ok (call_on on.0 verb)) call read in
+    let verb = step_found (named_line version shape on.0.1) (λ verb. Ok (call_on on.0.0 verb)) call on.2 in
+    let is : IsCallOn shape (call_on on.0.0 verb.0) = record { cpu = cpu_has shape.cpus tokens on.0 on.1; sizes = named_has version shape on.0.1 verb.0 verb.1 } in
+    subst (IsCallOn shape) (same_ok (call_line version shape tokens) (call_on on.0.0 verb.0) call (read ∙ sym verb.2) read) is

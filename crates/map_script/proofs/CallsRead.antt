@@ -15,14 +15,14 @@ use Rattle.map_script.proofs.BodyLines.{Tells, lines_hold}
 
 -- a line more
 line_more : (version : ℕ) (shape : Shape) (P : Call → Type 0) (body : Body) (tokens : Tokens) (next : BodyLine) → All P body.calls
-    → ((call : Call) → call_line shape tokens ≡ Ok call → P call) → Tells version shape body tokens next → All P (with_next body next).calls
+    → ((call : Call) → call_line version shape tokens ≡ Ok call → P call) → Tells version shape body tokens next → All P (with_next body next).calls
 line_more version shape P body tokens (says.Call call) all here told =
     All-append P body.calls (call ∷ []) all (All-cons P call [] (here call told.read) (All-nil P))
 line_more version shape P body tokens says.Phase all here told = all
 
 -- where something is known of each line
 pub calls_hold : (version : ℕ) (shape : Shape) (P : Call → Type 0) (Q : Line → Type 0)
-    → ((line : Line) (tokens : Tokens) (call : Call) → Q line → line.says ≡ Ok tokens → call_line shape tokens ≡ Ok call → P call)
+    → ((line : Line) (tokens : Tokens) (call : Call) → Q line → line.says ≡ Ok tokens → call_line version shape tokens ≡ Ok call → P call)
     → (lines : List Line) (body : Body) → AllByRecursion Q lines → body_from version shape no_body lines ≡ Ok body → All P body.calls
 calls_hold version shape P Q here lines body known read =
     (lines_hold version shape (λ (body : Body) (lines : List Line). All P body.calls × AllByRecursion Q lines)

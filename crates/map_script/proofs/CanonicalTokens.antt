@@ -14,7 +14,7 @@ use Rattle.map_types.specs.declared.attr.CreateAttr.{CreateAttr}
 use Rattle.map_types.specs.declared.attr.Shape.{Shape}
 use Rattle.map_types.specs.declared.call.Call.{Call}
 use Rattle.map_types.specs.declared.call.Verb.{Verb}
-use Rattle.map_types.specs.declared.call.Verb.TheVariants.{Lookup, Update, Delete, Take, Next, BatchRead, BatchUpdate, BatchDelete}
+use Rattle.map_types.specs.declared.call.Verb.TheVariants.{Lookup, Update, Delete, Take, Next, BatchRead, BatchUpdate, BatchDelete, Each}
 use Rattle.map_types.specs.declared.kind.Side.{Side}
 use Rattle.map_types.specs.declared.kind.Side.TheVariants.{Prog, Sys}
 use Rattle.map_types.proofs.CreationLemmas.{bounds_of_shape}
@@ -139,31 +139,33 @@ is_token-batch_name : (remove : Bool) → is_token (batch_name remove) ≡ true
 is_token-batch_name false = refl
 is_token-batch_name true = refl
 
-verb_are_tokens : (shape : Shape) (verb : Verb) → HasSomeBytes shape → IsVerb shape verb → AreTokens (verb_tokens verb)
-verb_are_tokens shape (Lookup side key) sizes h =
+verb_are_tokens : (version : ℕ) (shape : Shape) (verb : Verb) → HasSomeBytes shape → IsVerb version shape verb → AreTokens (verb_tokens verb)
+verb_are_tokens version shape (Lookup side key) sizes h =
     (is_token-lookup_name side, (is_token-encode_lower shape.key_size key sizes.key h, tt))
-verb_are_tokens shape (Update side flags key value) sizes h = (
+verb_are_tokens version shape (Update side flags key value) sizes h = (
   is_token-update_name side,
   (is_token-flag_token flags h.0, (is_token-encode_lower shape.key_size key sizes.key h.1, (is_token-encode_lower (value_len_of shape side) value (sizes.value side) h.2, tt))),
 )
-verb_are_tokens shape (Delete key) sizes h = (refl, (is_token-encode_lower shape.key_size key sizes.key h, tt))
-verb_are_tokens shape (Take key) sizes h = (refl, (is_token-encode_lower shape.key_size key sizes.key h, tt))
-verb_are_tokens shape (Next None) sizes h = (refl, tt)
-verb_are_tokens shape (Next (Some key)) sizes h = (refl, (is_token-encode_lower shape.key_size key sizes.key h, tt))
-verb_are_tokens shape (BatchRead remove count start flags) sizes h = (
+verb_are_tokens version shape (Delete key) sizes h = (refl, (is_token-encode_lower shape.key_size key sizes.key h, tt))
+verb_are_tokens version shape (Take key) sizes h = (refl, (is_token-encode_lower shape.key_size key sizes.key h, tt))
+verb_are_tokens version shape (Next None) sizes h = (refl, tt)
+verb_are_tokens version shape (Next (Some key)) sizes h = (refl, (is_token-encode_lower shape.key_size key sizes.key h, tt))
+verb_are_tokens version shape (BatchRead remove count start flags) sizes h = (
   is_token-batch_name remove,
   (is_token-decimal count h.0, (is_token-start_token start h.1, tokens_if (flags == 0) (decimal flags ∷ []) (is_token-decimal flags h.2, tt))),
 )
-verb_are_tokens shape (BatchUpdate flags pairs) sizes h =
+verb_are_tokens version shape (BatchUpdate flags pairs) sizes h =
     (refl, (is_token-decimal flags h.0, pairs_are_tokens shape pairs sizes h.1))
-verb_are_tokens shape (BatchDelete flags keys) sizes h =
+verb_are_tokens version shape (BatchDelete flags keys) sizes h =
     (refl, (is_token-decimal flags h.0, keys_are_tokens shape keys sizes h.1))
+verb_are_tokens version shape (Each flags None) sizes h = (refl, (is_token-decimal flags h.1, (refl, tt)))
+verb_are_tokens version shape (Each flags (Some key)) sizes h = (refl, (is_token-decimal flags h.1, (is_token-encode_lower shape.key_size key sizes.key h.2, tt)))
 
-calls_are_lines : (shape : Shape) (count room : ℕ) (calls : List Call) → HasSomeBytes shape → AreCalls shape count room calls → AreLines (map call_tokens calls)
-calls_are_lines shape count room [] sizes h = tt
-calls_are_lines shape count room (call ∷ calls) sizes h = (
-  (is_token-decimal call.cpu h.0.on, verb_are_tokens shape call.verb sizes h.0.does),
-  calls_are_lines shape (count + 1) _ calls sizes h.3,
+calls_are_lines : (version : ℕ) (shape : Shape) (count room : ℕ) (calls : List Call) → HasSomeBytes shape → AreCalls version shape count room calls → AreLines (map call_tokens calls)
+calls_are_lines version shape count room [] sizes h = tt
+calls_are_lines version shape count room (call ∷ calls) sizes h = (
+  (is_token-decimal call.cpu h.0.on, verb_are_tokens version shape call.verb sizes h.0.does),
+  calls_are_lines version shape (count + 1) _ calls sizes h.3,
 )
 
 lines-append : (lines others : List (List (List ℕ))) → AreLines lines → AreLines others → AreLines (lines ++ others)
@@ -171,33 +173,33 @@ lines-append [] others h k = k
 lines-append (tokens ∷ lines) others h k = (h.0, lines-append lines others h.1 k)
 
 -- the first of some calls, and those behind them
-pub calls_front : (shape : Shape) (count room : ℕ) (calls others : List Call) → AreCalls shape count room (calls ++ others) → AreCalls shape count room calls
-calls_front shape count room [] others h = tt
-calls_front shape count room (call ∷ calls) others h =
-    (h.0, h.1, h.2, calls_front shape (count + 1) (room + reply_bytes shape call.verb) calls others h.3)
+pub calls_front : (version : ℕ) (shape : Shape) (count room : ℕ) (calls others : List Call) → AreCalls version shape count room (calls ++ others) → AreCalls version shape count room calls
+calls_front version shape count room [] others h = tt
+calls_front version shape count room (call ∷ calls) others h =
+    (h.0, h.1, h.2, calls_front version shape (count + 1) (room + reply_bytes shape call.verb) calls others h.3)
 
-pub calls_back : (shape : Shape) (count room : ℕ) (calls others : List Call) → AreCalls shape count room (calls ++ others) → AreCalls shape (count + length calls) (room + reply_room shape calls) others
-calls_back shape count room [] others h =
+pub calls_back : (version : ℕ) (shape : Shape) (count room : ℕ) (calls others : List Call) → AreCalls version shape count room (calls ++ others) → AreCalls version shape (count + length calls) (room + reply_room shape calls) others
+calls_back version shape count room [] others h =
     let counted : count ≡ count + 0 = omega arith in
     let replied : room ≡ room + 0 = omega arith in
-    subst (λ (n : ℕ). AreCalls shape n (room + 0) others) counted (subst (λ (n : ℕ). AreCalls shape count n others) replied h)
-calls_back shape count room (call ∷ calls) others h =
+    subst (λ (n : ℕ). AreCalls version shape n (room + 0) others) counted (subst (λ (n : ℕ). AreCalls version shape count n others) replied h)
+calls_back version shape count room (call ∷ calls) others h =
     let counted : count + 1 + length calls ≡ count + length (call ∷ calls) = omega arith in
     let more = sum_by-cons (λ (call : Call). reply_bytes shape call.verb) call calls in
     let replied : room + reply_bytes shape call.verb + reply_room shape calls ≡ room + reply_room shape (call ∷ calls) = omega (arith, more) in
-    subst (λ (n : ℕ). AreCalls shape n (room + reply_room shape (call ∷ calls)) others) counted
-    (subst (λ (n : ℕ). AreCalls shape (count + 1 + length calls) n others) replied
-    (calls_back shape (count + 1) (room + reply_bytes shape call.verb) calls others h.3))
+    subst (λ (n : ℕ). AreCalls version shape n (room + reply_room shape (call ∷ calls)) others) counted
+    (subst (λ (n : ℕ). AreCalls version shape (count + 1 + length calls) n others) replied
+    (calls_back version shape (count + 1) (room + reply_bytes shape call.verb) calls others h.3))
 
-phases_are_lines : (shape : Shape) (count room before : ℕ) (cuts : List ℕ) (calls : List Call) → HasSomeBytes shape → AreCalls shape count room calls → AreLines (phased_lines before cuts calls)
-phases_are_lines shape count room before [] calls sizes h = calls_are_lines shape count room calls sizes h
-phases_are_lines shape count room before (cut ∷ cuts) calls sizes h =
+phases_are_lines : (version : ℕ) (shape : Shape) (count room before : ℕ) (cuts : List ℕ) (calls : List Call) → HasSomeBytes shape → AreCalls version shape count room calls → AreLines (phased_lines before cuts calls)
+phases_are_lines version shape count room before [] calls sizes h = calls_are_lines version shape count room calls sizes h
+phases_are_lines version shape count room before (cut ∷ cuts) calls sizes h =
     let now = take (cut - before) calls in
     let behind = drop (cut - before) calls in
-    let both = subst (AreCalls shape count room) (sym (take-append-drop (cut - before) calls)) h in
+    let both = subst (AreCalls version shape count room) (sym (take-append-drop (cut - before) calls)) h in
     lines-append (map call_tokens now) (phase_tokens ∷ phased_lines cut cuts behind)
-    (calls_are_lines shape count room now sizes (calls_front shape count room now behind both))
-    ((refl, tt), phases_are_lines shape (count + length now) (room + reply_room shape now) cut cuts behind sizes (calls_back shape count room now behind both))
+    (calls_are_lines version shape count room now sizes (calls_front version shape count room now behind both))
+    ((refl, tt), phases_are_lines version shape (count + length now) (room + reply_room shape now) cut cuts behind sizes (calls_back version shape count room now behind both))
 
 version_is_number : (version count : ℕ) (cuts : List ℕ) → HasPhases version count cuts → IsNumber version
 version_is_number version count cuts h =
@@ -213,5 +215,5 @@ map_are_tokens attr h =
 pub script_are_lines : (script : Script) → IsCallScript script → AreLines (script_lines script)
 script_are_lines script h = (
   (refl, (is_token-decimal script.version (version_is_number script.version (length script.calls) script.cuts h.phases), tt)),
-  ((refl, map_are_tokens script.attr h.numbers), phases_are_lines script.shape 0 0 0 script.cuts script.calls (HasSomeBytes-created script.attr script.shape h.created) h.calls),
+  ((refl, map_are_tokens script.attr h.numbers), phases_are_lines script.version script.shape 0 0 0 script.cuts script.calls (HasSomeBytes-created script.attr script.shape h.created) h.calls),
 )

@@ -1,8 +1,8 @@
 -- Lines as most are written, read from the front of a text.
-use Rattle.std.proofs.Common.{◌≡◌, ℕ, ◌+◌, ◌*◌, ◌<◌, ◌≤◌, ◌==◌, Bool, true, false, nat_lt, nat_le, List, [], ◌∷◌, ◌++◌, length, get_or, take, drop, filter, None, Some, Result, Ok, count_by, refl, sym, ap, subst, ◌∙◌, append-nil, append_assoc, take-append-drop, arith}
+use Rattle.std.proofs.Common.{◌≡◌, ℕ, ◌+◌, ◌*◌, ◌<◌, ◌≤◌, ◌==◌, Bool, true, false, cond, true≢false, nat_lt, nat_le, List, [], ◌∷◌, ◌++◌, length, get_or, take, drop, filter, None, Some, Result, Ok, count_by, refl, sym, ap, subst, ◌∙◌, append-nil, append_assoc, take-append-drop, arith}
 use Rattle.std.specs.Prelude.{bytes_eq, codes, unwrap_or}
 use Rattle.std.specs.List.{slice_split, list_all}
-use Rattle.std.proofs.lemmas.Bool.{cond-true, eq-eqb, eqb-true, lt-ltb, le-leb}
+use Rattle.std.proofs.lemmas.Bool.{and_parts, cond-true, eq-eqb, eqb-true, lt-ltb, le-leb}
 use Rattle.std.proofs.lemmas.List.{take_all, drop_all, drop_more, nil_from_length}
 use Rattle.std.proofs.lemmas.List.Elements.{All-weaker}
 use Rattle.std.proofs.lemmas.List.Splits.{slice_split_at, length-slice_split}
@@ -21,8 +21,8 @@ use Rattle.map_types.specs.declared.kind.Side.{Side}
 use Rattle.map_types.specs.declared.kind.Side.TheVariants.{Prog, Sys}
 use Rattle.map_script.specs.declared.refusal.Cause.{Cause}
 use Rattle.map_script.specs.Lines.{is_line_feed, numbered, lines_from}
-use Rattle.map_script.specs.Places.{Tokens, flag_of, bytes_in}
-use Rattle.map_script.specs.Grammar.{call_line, call_on, verb_line, lookup_places, update_places, delete_places, take_places, next_places, reply_bytes}
+use Rattle.map_script.specs.Places.{Tokens, is_next, flag_of, bytes_in}
+use Rattle.map_script.specs.Grammar.{call_line, named_line, names_each, each_line, call_on, verb_line, lookup_places, update_places, delete_places, take_places, next_places, reply_bytes}
 use Rattle.map_script.specs.Plain.{is_token, AreTokens, joined, BeginsWith, BeginsWithCpu, BeginsWithBytes, FirstIs}
 use Rattle.map_script.specs.Reading.{call_within}
 use Rattle.map_script.specs.Tokens.{number_of}
@@ -216,28 +216,46 @@ flagged_begins shape side text name places word behind key middle value rest fla
 
 -- ---- a call
 
-called : (shape : Shape) (token : List ℕ) (places : Tokens) (cpu : ℕ) (verb : Verb) → number_of token ≡ Some cpu → cpu < shape.cpus → verb_line shape places ≡ Ok verb
-    → call_line shape (token ∷ places) ≡ Ok (call_on cpu verb)
+-- a verb that both versions have isn't `each`, and so it is read alike in both
+not_each : (shape : Shape) (places : Tokens) (verb : Verb) → verb_line shape (codes "each" ∷ places) ≡ Ok verb → ⊥
+unfolding verb_line
+not_each shape places verb is = cc
+
+pub is_named : (version : ℕ) (shape : Shape) (tokens : Tokens) (verb : Verb) → verb_line shape tokens ≡ Ok verb → named_line version shape tokens ≡ Ok verb
+unfolding named_line
+is_named version shape tokens verb reads = by (names_each version tokens) refl
+  where
+    no_each : (tokens : Tokens) → verb_line shape tokens ≡ Ok verb → is_next (codes "each") tokens ≡ true → ⊥
+    no_each [] read is = absurd (true≢false (sym is))
+    no_each (name ∷ places) read is = not_each shape places verb (subst (λ (word : List ℕ). verb_line shape (word ∷ places) ≡ Ok verb) ((bytes_eq-Decides name (codes "each")).0 is) read)
+
+    by : (each : Bool) → names_each version tokens ≡ each → cond each (each_line shape tokens) (verb_line shape tokens) ≡ Ok verb
+    by true is = absurd (no_each tokens reads (and_parts (version == 2) (is_next (codes "each") tokens) is).1)
+    by false is = reads
+
+called : (version : ℕ) (shape : Shape) (token : List ℕ) (places : Tokens) (cpu : ℕ) (verb : Verb) → number_of token ≡ Some cpu → cpu < shape.cpus → verb_line shape places ≡ Ok verb
+    → call_line version shape (token ∷ places) ≡ Ok (call_on cpu verb)
 unfolding call_line
-called shape token places cpu verb number below reads =
+called version shape token places cpu verb number below reads =
     let test : nat_lt cpu shape.cpus ≡ true = lt-ltb cpu shape.cpus below in
-    rw (number, test, reads) refl
+    let named = is_named version shape places verb reads in
+    rw (number, test, named) refl
 
 no_verb : (shape : Shape) (verb : Verb) → verb_line shape [] ≡ Ok verb → ⊥
 unfolding verb_line
 no_verb shape verb is = cc
 
-pub call_begins : (shape : Shape) (text places rest : List ℕ) (cpu : ℕ) (verb : Verb) → BeginsWithCpu shape.cpus text cpu places → BeginsWith (verb_line shape) places verb rest
-    → BeginsWith (call_line shape) text (call_on cpu verb) rest
-call_begins shape text places rest cpu verb on does = go does.tokens does.starts does.are_tokens does.reads
+pub call_begins : (version : ℕ) (shape : Shape) (text places rest : List ℕ) (cpu : ℕ) (verb : Verb) → BeginsWithCpu shape.cpus text cpu places → BeginsWith (verb_line shape) places verb rest
+    → BeginsWith (call_line version shape) text (call_on cpu verb) rest
+call_begins version shape text places rest cpu verb on does = go does.tokens does.starts does.are_tokens does.reads
   where
-    go : (tokens : Tokens) → places ≡ joined tokens ++ 10 ∷ rest → AreTokens tokens → verb_line shape tokens ≡ Ok verb → BeginsWith (call_line shape) text (call_on cpu verb) rest
+    go : (tokens : Tokens) → places ≡ joined tokens ++ 10 ∷ rest → AreTokens tokens → verb_line shape tokens ≡ Ok verb → BeginsWith (call_line version shape) text (call_on cpu verb) rest
     go [] starts are reads = absurd (no_verb shape verb reads)
     go (name ∷ others) starts are reads = record {
       tokens = on.token ∷ name ∷ others;
       starts = on.starts ∙ ap (λ (more : List ℕ). on.token ++ 32 ∷ more) starts ∙ sym (append_assoc on.token (32 ∷ joined (name ∷ others)) (10 ∷ rest));
       are_tokens = (on.is, are);
-      reads = called shape on.token (name ∷ others) cpu verb on.reads on.below reads;
+      reads = called version shape on.token (name ∷ others) cpu verb on.reads on.below reads;
     }
 
 -- ---- lines
@@ -262,29 +280,29 @@ front_feed tokens rest are =
     let cut = ap (λ (parts : List (List ℕ)). length parts) (slice_split_at is_line_feed line 10 rest free refl) in
     omega (arith, cut, length-slice_split is_line_feed (line ++ 10 ∷ rest), length-slice_split is_line_feed rest)
 
-no_call : (shape : Shape) (call : Call) → call_line shape [] ≡ Ok call → ⊥
+no_call : (version : ℕ) (shape : Shape) (call : Call) → call_line version shape [] ≡ Ok call → ⊥
 unfolding call_line
-no_call shape call is = cc
+no_call version shape call is = cc
 
 -- a call at the front of a text is the first of its lines
-pub first_call : (shape : Shape) (count room number : ℕ) (text rest : List ℕ) (call : Call) → BeginsWith (call_line shape) text call rest
+pub first_call : (version : ℕ) (shape : Shape) (count room number : ℕ) (text rest : List ℕ) (call : Call) → BeginsWith (call_line version shape) text call rest
     → count < 200000 → room + reply_bytes shape call.verb ≤ 67108864
-    → FirstIs (call_within shape count room) (lines_from number text) call (lines_from (number + 1) rest)
-first_call shape count room number text rest call begins few fits =
-    let some : begins.tokens ≡ [] → ⊥ = λ nothing. no_call shape call (subst (λ (tokens : Tokens). call_line shape tokens ≡ Ok call) nothing begins.reads) in
+    → FirstIs (call_within version shape count room) (lines_from number text) call (lines_from (number + 1) rest)
+first_call version shape count room number text rest call begins few fits =
+    let some : begins.tokens ≡ [] → ⊥ = λ nothing. no_call version shape call (subst (λ (tokens : Tokens). call_line version shape tokens ≡ Ok call) nothing begins.reads) in
     record {
       line = saying number begins.tokens;
       first = ap (lines_from number) begins.starts ∙ front_line number begins.tokens rest begins.are_tokens some;
       reads = within shape count room begins.tokens call begins.reads few fits;
     }
   where
-    within : (shape : Shape) (count room : ℕ) (tokens : Tokens) (call : Call) → call_line shape tokens ≡ Ok call → count < 200000 → room + reply_bytes shape call.verb ≤ 67108864
-        → call_within shape count room tokens ≡ Ok call
+    within : (shape : Shape) (count room : ℕ) (tokens : Tokens) (call : Call) → call_line version shape tokens ≡ Ok call → count < 200000 → room + reply_bytes shape call.verb ≤ 67108864
+        → call_within version shape count room tokens ≡ Ok call
     within shape count room tokens call reads few fits =
         let first : nat_lt count 200000 ≡ true = lt-ltb count 200000 few in
         let second : nat_le (room + reply_bytes shape call.verb) 67108864 ≡ true = le-leb (room + reply_bytes shape call.verb) 67108864 fits in
         rw (reads, first, second) refl
 
 -- and a line feed fewer is left behind it
-pub first_feed : (shape : Shape) (text rest : List ℕ) (call : Call) → BeginsWith (call_line shape) text call rest → count_by is_line_feed text ≡ count_by is_line_feed rest + 1
-first_feed shape text rest call begins = ap (count_by is_line_feed) begins.starts ∙ front_feed begins.tokens rest begins.are_tokens
+pub first_feed : (version : ℕ) (shape : Shape) (text rest : List ℕ) (call : Call) → BeginsWith (call_line version shape) text call rest → count_by is_line_feed text ≡ count_by is_line_feed rest + 1
+first_feed version shape text rest call begins = ap (count_by is_line_feed) begins.starts ∙ front_feed begins.tokens rest begins.are_tokens

@@ -1,28 +1,31 @@
 -- Each line of a canonical text is read as what it was written from.
-use Rattle.std.proofs.Common.{◌≡◌, ℕ, ◌+◌, ◌<◌, ◌≤◌, ◌==◌, Bool, true, false, nat_lt, nat_le, cond, List, [], ◌∷◌, ◌++◌, map, Option, Some, None, Result, Ok, Err, refl, sym, ap, subst, ◌∙◌, inl, inr, append-nil, arith}
+use Rattle.std.proofs.Common.{true≢false, IfSome, length, ◌≡◌, ℕ, ◌+◌, ◌<◌, ◌≤◌, ◌==◌, Bool, true, false, nat_lt, nat_le, cond, List, [], ◌∷◌, ◌++◌, map, Option, Some, None, Result, Ok, Err, refl, sym, ap, subst, ◌∙◌, inl, inr, append-nil, arith}
 use Rattle.std.specs.Prelude.{bytes_eq, codes, decimal}
 use Rattle.std.specs.List.{flat_map}
 use Rattle.std.specs.Option.{ok_or}
 use Rattle.std.proofs.lemmas.Bool.{cond-true, cond-false, cases_eq, ne_eqb, lt-ltb, le-leb}
 use Rattle.std.proofs.lemmas.Fmt.{decimal_digit}
-use Rattle.hex.specs.Hex.{encode_lower}
+use Rattle.hex.specs.Hex.{encode_lower, lower_digits}
+use Rattle.hex.proofs.HexLemmas.{length-encode_with}
+use Rattle.std.proofs.lemmas.Slice.Eq.{bytes_eq-Decides}
 use Rattle.map_types.specs.ValueLen.{value_len_of}
 use Rattle.map_types.specs.declared.attr.CreateAttr.{CreateAttr}
 use Rattle.map_types.specs.declared.attr.Shape.{Shape}
 use Rattle.map_types.specs.declared.call.Call.{Call}
 use Rattle.map_types.specs.declared.call.Verb.{Verb}
-use Rattle.map_types.specs.declared.call.Verb.TheVariants.{Lookup, Update, Delete, Take, Next, BatchRead, BatchUpdate, BatchDelete}
+use Rattle.map_types.specs.declared.call.Verb.TheVariants.{Lookup, Update, Delete, Take, Next, BatchRead, BatchUpdate, BatchDelete, Each}
 use Rattle.map_types.specs.declared.kind.Side.{Side}
 use Rattle.map_types.specs.declared.kind.Side.TheVariants.{Prog, Sys}
 use Rattle.map_script.specs.declared.refusal.Cause.{Cause}
 use Rattle.map_script.specs.declared.refusal.Cause.TheVariants as causes
 use Rattle.map_script.specs.declared.script.Form.{Form}
 use Rattle.map_script.specs.declared.script.Form.TheVariants as forms
-use Rattle.map_script.specs.Canonical.{label_and_number, unless_zero, map_tokens, verb_tokens, pair_tokens, kind_name, flag_token, start_token}
-use Rattle.map_script.specs.Grammar.{kind_of, version_line, map_line, call_line, verb_line, lookup_places, update_places, delete_places, take_places, next_places, batch_read_places, batch_update_places, batch_delete_places, pairs_to_end, keys_to_end, reply_bytes}
-use Rattle.map_script.specs.Places.{◌>>=◌, Tokens, valued, number, cpu, start, start_of, flag, flag_of, bytes, bytes_in, if_labelled, number_or_end, instead}
+use Rattle.map_script.specs.Canonical.{label_and_number, unless_zero, map_tokens, verb_tokens, pair_tokens, kind_name, flag_token, start_token, stop_token}
+use Rattle.map_script.specs.Grammar.{kind_of, version_line, map_line, call_line, verb_line, each_places, each_line, named_line, lookup_places, update_places, delete_places, take_places, next_places, batch_read_places, batch_update_places, batch_delete_places, pairs_to_end, keys_to_end, reply_bytes}
+use Rattle.map_script.specs.Places.{stop, ◌>>=◌, Tokens, valued, number, cpu, start, start_of, flag, flag_of, bytes, bytes_in, if_labelled, number_or_end, instead}
 use Rattle.map_script.specs.Reading.{call_within}
 use Rattle.map_script.specs.Tokens.{number_of}
+use Rattle.map_script.proofs.FrontLemmas.{is_named}
 use Rattle.map_script.proofs.Gives.{IsVersion}
 use Rattle.map_script.proofs.TokenValues.{IsNumber, IsStart, AreBytes, number_of-decimal, flag_of-flag_token, start_of-start_token, kind_of-kind_name, bytes_in-encode_lower}
 use Rattle.map_script.proofs.CallScripts.{ArePairs, AreKeys, IsVerb, IsCall, IsAttr}
@@ -144,26 +147,71 @@ batch_delete_read shape flags keys flags_is keys_are =
 
 -- ---- the lines
 
-verb_read : (shape : Shape) (verb : Verb) → IsVerb shape verb → verb_line shape (verb_tokens verb) ≡ Ok verb
-unfolding verb_line
-verb_read shape (Lookup Prog key) h = lookup_read shape Prog key h
-verb_read shape (Lookup Sys key) h = lookup_read shape Sys key h
-verb_read shape (Update Prog flags key value) h = update_read shape Prog flags key value h.0 h.1 h.2
-verb_read shape (Update Sys flags key value) h = update_read shape Sys flags key value h.0 h.1 h.2
-verb_read shape (Delete key) h = delete_read shape key h
-verb_read shape (Take key) h = take_read shape key h
-verb_read shape (Next None) h = first_read shape
-verb_read shape (Next (Some key)) h = next_read shape key h
-verb_read shape (BatchRead false count begin flags) h = batch_read_read false count begin flags h.0 h.1 h.2
-verb_read shape (BatchRead true count begin flags) h = batch_read_read true count begin flags h.0 h.1 h.2
-verb_read shape (BatchUpdate flags pairs) h = batch_update_read shape flags pairs h.0 h.1
-verb_read shape (BatchDelete flags keys) h = batch_delete_read shape flags keys h.0 h.1
+-- a walk over all elements
+abbrev is_each : Verb → Bool
+is_each (Lookup side key) = false
+is_each (Update side flags key value) = false
+is_each (Delete key) = false
+is_each (Take key) = false
+is_each (Next key) = false
+is_each (BatchRead remove count begin flags) = false
+is_each (BatchUpdate flags pairs) = false
+is_each (BatchDelete flags keys) = false
+is_each (Each flags stop) = true
 
-call_read : (shape : Shape) (call : Call) → IsCall shape call → call_line shape (call_tokens call) ≡ Ok call
+verb_read : (version : ℕ) (shape : Shape) (verb : Verb) → IsVerb version shape verb → (is_each verb ≡ false) → verb_line shape (verb_tokens verb) ≡ Ok verb
+unfolding verb_line
+verb_read version shape (Lookup Prog key) h other = lookup_read shape Prog key h
+verb_read version shape (Lookup Sys key) h other = lookup_read shape Sys key h
+verb_read version shape (Update Prog flags key value) h other = update_read shape Prog flags key value h.0 h.1 h.2
+verb_read version shape (Update Sys flags key value) h other = update_read shape Sys flags key value h.0 h.1 h.2
+verb_read version shape (Delete key) h other = delete_read shape key h
+verb_read version shape (Take key) h other = take_read shape key h
+verb_read version shape (Next None) h other = first_read shape
+verb_read version shape (Next (Some key)) h other = next_read shape key h
+verb_read version shape (BatchRead false count begin flags) h other = batch_read_read false count begin flags h.0 h.1 h.2
+verb_read version shape (BatchRead true count begin flags) h other = batch_read_read true count begin flags h.0 h.1 h.2
+verb_read version shape (BatchUpdate flags pairs) h other = batch_update_read shape flags pairs h.0 h.1
+verb_read version shape (BatchDelete flags keys) h other = batch_delete_read shape flags keys h.0 h.1
+verb_read version shape (Each flags stop) h other = absurd (true≢false other)
+
+-- the digits of a key are no `-`, since there are two for each byte
+no_dash : (key : List ℕ) → bytes_eq (encode_lower key) (codes "-") ≡ false
+no_dash key = by (bytes_eq (encode_lower key) (codes "-")) refl
+  where
+    by : (same : Bool) → bytes_eq (encode_lower key) (codes "-") ≡ same → same ≡ false
+    by false is = refl
+    by true is = absurd (omega (arith, length-encode_with lower_digits key, ap length ((bytes_eq-Decides (encode_lower key) (codes "-")).0 is)))
+
+stop_at : (size : ℕ) (key : Option (List ℕ)) (rest : Tokens) → IfSome key (AreBytes size) → stop size (stop_token key ∷ rest) ≡ Ok (key, rest)
+stop_at size None rest h = refl
+stop_at size (Some key) rest h =
+    then _ _ (Some key) _ (cond-false (bytes_eq (encode_lower key) (codes "-")) _ _ (no_dash key) ∙ then _ _ key _ (bytes_in-encode_lower size key h) refl) refl
+
+each_read : (shape : Shape) (flags : ℕ) (key : Option (List ℕ)) → IsNumber flags → IfSome key (AreBytes shape.key_size) → each_line shape (codes "each" ∷ decimal flags ∷ stop_token key ∷ []) ≡ Ok (Each flags key)
+unfolding each_line each_places
+each_read shape flags key flags_is key_is =
+    then _ _ (flags, stop_token key ∷ []) _ (number_at flags _ flags_is) (then _ _ (key, []) _ (stop_at shape.key_size key [] key_is) refl)
+
+-- in version 2 a walk over all elements is read as `each`, and every other verb by its name
+named_read : (version : ℕ) (shape : Shape) (verb : Verb) → IsVerb version shape verb → named_line version shape (verb_tokens verb) ≡ Ok verb
+unfolding named_line
+named_read version shape (Lookup side key) h = is_named version shape _ _ (verb_read version shape (Lookup side key) h refl)
+named_read version shape (Update side flags key value) h = is_named version shape _ _ (verb_read version shape (Update side flags key value) h refl)
+named_read version shape (Delete key) h = is_named version shape _ _ (verb_read version shape (Delete key) h refl)
+named_read version shape (Take key) h = is_named version shape _ _ (verb_read version shape (Take key) h refl)
+named_read version shape (Next key) h = is_named version shape _ _ (verb_read version shape (Next key) h refl)
+named_read version shape (BatchRead remove count begin flags) h = is_named version shape _ _ (verb_read version shape (BatchRead remove count begin flags) h refl)
+named_read version shape (BatchUpdate flags pairs) h = is_named version shape _ _ (verb_read version shape (BatchUpdate flags pairs) h refl)
+named_read version shape (BatchDelete flags keys) h = is_named version shape _ _ (verb_read version shape (BatchDelete flags keys) h refl)
+named_read version shape (Each flags key) h =
+    subst (λ (v : ℕ). named_line v shape (codes "each" ∷ decimal flags ∷ stop_token key ∷ []) ≡ Ok (Each flags key)) (sym h.0) (each_read shape flags key h.1 h.2)
+
+call_read : (version : ℕ) (shape : Shape) (call : Call) → IsCall version shape call → call_line version shape (call_tokens call) ≡ Ok call
 unfolding call_line
-call_read shape call h =
+call_read version shape call h =
     then _ _ (call.cpu, verb_tokens call.verb) _ (cpu_at shape.cpus call.cpu (verb_tokens call.verb) h.on h.one_of)
-    (then _ _ call.verb _ (verb_read shape call.verb h.does) refl)
+    (then _ _ call.verb _ (named_read version shape call.verb h.does) refl)
 
 first_read_as : (form : Form) → version_line form (version_tokens 1) ≡ Ok 1
 unfolding version_line
@@ -196,8 +244,8 @@ map_read attr h =
 
 -- ---- a call within the limits
 
-pub within_read : (shape : Shape) (count room : ℕ) (call : Call) → IsCall shape call → count < 200000 → room + reply_bytes shape call.verb ≤ 67108864 → call_within shape count room (call_tokens call) ≡ Ok call
-within_read shape count room call h few fits =
-    then _ _ call _ (call_read shape call h)
+pub within_read : (version : ℕ) (shape : Shape) (count room : ℕ) (call : Call) → IsCall version shape call → count < 200000 → room + reply_bytes shape call.verb ≤ 67108864 → call_within version shape count room (call_tokens call) ≡ Ok call
+within_read version shape count room call h few fits =
+    then _ _ call _ (call_read version shape call h)
     (cond-true (nat_lt count 200000) _ _ (lt-ltb count 200000 few)
     ∙ cond-true (nat_le (room + reply_bytes shape call.verb) 67108864) (Ok call) (Err causes.Room) (le-leb (room + reply_bytes shape call.verb) 67108864 fits))

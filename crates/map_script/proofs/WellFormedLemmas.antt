@@ -59,7 +59,7 @@ more_within : (version : ℕ) (shape : Shape) (body : Body) (tokens : Tokens) (n
 more_within version shape body tokens (says.Call call) h told =
     let long = length-append body.calls (call ∷ []) in
     record {
-      each = All-append (IsCallOn shape) body.calls (call ∷ []) h.each (All-cons (IsCallOn shape) call [] (call_has shape tokens call told.read) (All-nil (IsCallOn shape)));
+      each = All-append (IsCallOn shape) body.calls (call ∷ []) h.each (All-cons (IsCallOn shape) call [] (call_has version shape tokens call told.read) (All-nil (IsCallOn shape)));
       few = few_more version shape body tokens (says.Call call) told h.few;
       replied = room_more version shape body tokens (says.Call call) told h.replied;
       phases = record { known = h.phases.known; few = h.phases.few; rise = cuts_stay 0 (length body.calls) (length (body.calls ++ call ∷ [])) body.cuts (omega (arith, long)) h.phases.rise };

@@ -7,7 +7,7 @@ use Rattle.hex.specs.Hex.{encode_lower}
 use Rattle.map_types.specs.declared.attr.CreateAttr.{CreateAttr}
 use Rattle.map_types.specs.declared.call.Call.{Call}
 use Rattle.map_types.specs.declared.call.Verb.{Verb}
-use Rattle.map_types.specs.declared.call.Verb.TheVariants.{Lookup, Update, Delete, Take, Next, BatchRead, BatchUpdate, BatchDelete}
+use Rattle.map_types.specs.declared.call.Verb.TheVariants.{Lookup, Update, Delete, Take, Next, BatchRead, BatchUpdate, BatchDelete, Each}
 use Rattle.map_types.specs.declared.kind.MapKind.{MapKind}
 use Rattle.map_types.specs.declared.kind.MapKind.TheVariants.{Hash, PercpuHash, LruHash, LruPercpuHash}
 use Rattle.map_types.specs.declared.kind.Side.{Side}
@@ -67,6 +67,11 @@ abbrev pub start_token : Option ℕ → List ℕ
 start_token None = codes "-"
 start_token (Some start) = decimal start
 
+-- the key at which a walk over all elements stops
+abbrev pub stop_token : Option (List ℕ) → List ℕ
+stop_token None = codes "-"
+stop_token (Some key) = encode_lower key
+
 -- the names of a call of a program and of the system call
 abbrev pub lookup_name : Side → List ℕ
 lookup_name Prog = codes "lookup"
@@ -97,6 +102,7 @@ verb_tokens (BatchRead remove count start flags) =
     batch_name remove ∷ decimal count ∷ start_token start ∷ unless_zero flags (decimal flags ∷ [])
 verb_tokens (BatchUpdate flags pairs) = codes "batch_update" ∷ decimal flags ∷ flat_map pair_tokens pairs
 verb_tokens (BatchDelete flags keys) = codes "batch_delete" ∷ decimal flags ∷ map encode_lower keys
+verb_tokens (Each flags stop) = codes "each" ∷ decimal flags ∷ stop_token stop ∷ []
 
 -- the line of a call
 abbrev pub call_text : Call → List ℕ

@@ -16,7 +16,7 @@ use Rattle.map_script.specs.declared.refusal.Cause.TheVariants as causes
 use Rattle.map_script.specs.declared.script.Form.{Form}
 use Rattle.map_script.specs.declared.script.Form.TheVariants as forms
 use Rattle.map_script.specs.declared.script.GenSpec.{GenSpec}
-use Rattle.map_script.specs.Places.{◌>>=◌, Tokens, token, at_end, valued, number, cpu, start, flag, bytes_in, bytes, word, is_next, labelled, if_labelled, number_or_end, instead}
+use Rattle.map_script.specs.Places.{◌>>=◌, Tokens, token, at_end, valued, number, cpu, start, flag, bytes_in, bytes, stop, word, is_next, labelled, if_labelled, number_or_end, instead}
 
 -- the version that a word names: 1, and in form Calls 2 as well
 abbrev pub version_named : Form → List ℕ → Option ℕ
@@ -163,7 +163,7 @@ batch_delete_places shape places = do
   keys ← keys_to_end shape flags.1
   Ok (verbs.BatchDelete flags.0 keys)
 
--- the name of a verb, and its places
+-- the name of a verb that both versions have, and its places
 unfoldable pub verb_line : Shape → Tokens → Result Verb Cause
 verb_line shape [] = Err Missing
 verb_line shape (name ∷ places) =
@@ -180,14 +180,35 @@ verb_line shape (name ∷ places) =
     else if bytes_eq name (codes "batch_delete") then batch_delete_places shape places
     else Err causes.Verb
 
+-- `FLAGS STOP`, of a walk over all elements
+unfoldable pub each_places : Shape → Tokens → Result Verb Cause
+each_places shape places = do
+  flags ← number places
+  stop ← stop shape.key_size flags.1
+  at_end (verbs.Each flags.0 stop.0) stop.1
+
+-- the verb `each`, and its places
+unfoldable pub each_line : Shape → Tokens → Result Verb Cause
+each_line shape tokens = do
+  name ← token tokens
+  each_places shape name.1
+
+-- in version 2 there is the verb `each`
+abbrev pub names_each : ℕ → Tokens → Bool
+names_each version tokens = version == 2 && is_next (codes "each") tokens
+
+-- the name of any verb of a version, and its places
+unfoldable pub named_line : ℕ → Shape → Tokens → Result Verb Cause
+named_line version shape tokens = if names_each version tokens then each_line shape tokens else verb_line shape tokens
+
 abbrev pub call_on : ℕ → Verb → Call
 call_on cpu verb = record { cpu = cpu; verb = verb }
 
 -- a call: its CPU, and what it does
-unfoldable pub call_line : Shape → Tokens → Result Call Cause
-call_line shape tokens = do
+unfoldable pub call_line : ℕ → Shape → Tokens → Result Call Cause
+call_line version shape tokens = do
   on ← cpu shape.cpus tokens
-  verb ← verb_line shape on.1
+  verb ← named_line version shape on.1
   Ok (call_on on.0 verb)
 
 -- in version 2 a line whose first token is `phase` starts the next phase
@@ -210,6 +231,7 @@ reply_bytes shape (verbs.Update side flags key value) = 0
 reply_bytes shape (verbs.Delete key) = 0
 reply_bytes shape (verbs.BatchUpdate flags pairs) = 0
 reply_bytes shape (verbs.BatchDelete flags keys) = 0
+reply_bytes shape (verbs.Each flags stop) = shape.elements * (shape.key_size + shape.value_size)
 
 -- the most bytes that the replies to some calls may have
 abbrev pub reply_room : Shape → List Call → ℕ

@@ -82,6 +82,16 @@ bytes size tokens = do
   found ← bytes_in size first.0
   Ok (found, first.1)
 
+-- STOP: a KEY, or `-` for none
+abbrev pub stop_in : ℕ → List ℕ → Result (Option (List ℕ)) Cause
+stop_in size word = if bytes_eq word (codes "-") then Ok None else (bytes_in size word >>= λ key. Ok (Some key))
+
+abbrev pub stop : ℕ → Parser (Option (List ℕ))
+stop size tokens = do
+  first ← token tokens
+  found ← stop_in size first.0
+  Ok (found, first.1)
+
 -- this word, where nothing else may stand
 abbrev pub word : Cause → List ℕ → Parser (Unit {0})
 word cause text tokens = valued cause (λ first. if bytes_eq first text then Some tt else None) tokens

@@ -38,9 +38,9 @@ or_create (Ok found) = Ok found
 or_create (Err refusal) = Err (Create refusal)
 
 -- a call that is well formed, is one of the first 200,000, and with which the replies have at most 67,108,864 bytes
-abbrev pub call_within : Shape → ℕ → ℕ → Tokens → Result Call Cause
-call_within shape count room tokens = do
-  call ← call_line shape tokens
+abbrev pub call_within : ℕ → Shape → ℕ → ℕ → Tokens → Result Call Cause
+call_within version shape count room tokens = do
+  call ← call_line version shape tokens
   if nat_lt count 200000
       then (if nat_le (room + reply_bytes shape call.verb) 67108864 then Ok call else Err Room)
       else Err Calls
@@ -57,7 +57,7 @@ abbrev pub body_line : ℕ → Shape → ℕ → ℕ → ℕ → Tokens → Resu
 body_line version shape count room cuts tokens =
     if starts_phase version tokens
     then (phase_within cuts tokens >>= λ started. Ok says.Phase)
-    else (call_within shape count room tokens >>= λ call. Ok (says.Call call))
+    else (call_within version shape count room tokens >>= λ call. Ok (says.Call call))
 
 -- calls, and how many of them stand before each `phase` line
 abbrev pub body_with : List Call → List ℕ → Body

@@ -6,7 +6,7 @@ use Rattle.map_types.specs.ValueLen.{value_len_of}
 use Rattle.map_types.specs.declared.attr.Shape.{Shape}
 use Rattle.map_types.specs.declared.call.Call.{Call}
 use Rattle.map_types.specs.declared.call.Verb.{Verb}
-use Rattle.map_types.specs.declared.call.Verb.TheVariants.{Lookup, Update, Delete, Take, Next, BatchRead, BatchUpdate, BatchDelete}
+use Rattle.map_types.specs.declared.call.Verb.TheVariants.{Lookup, Update, Delete, Take, Next, BatchRead, BatchUpdate, BatchDelete, Each}
 use Rattle.map_types.specs.declared.kind.Side.TheVariants.{Sys}
 use Rattle.map_script.specs.declared.script.Script.{Script}
 use Rattle.map_script.specs.Grammar.{reply_room}
@@ -26,6 +26,8 @@ HasSizes shape (Next (Some key)) = IsKey shape key
 HasSizes shape (BatchRead remove count start flags) = Unit {0}
 HasSizes shape (BatchUpdate flags pairs) = HaveSizes shape.key_size (value_len_of shape Sys) pairs
 HasSizes shape (BatchDelete flags keys) = All (IsKey shape) keys
+HasSizes shape (Each flags None) = Unit {0}
+HasSizes shape (Each flags (Some key)) = IsKey shape key
 
 -- a call on a map: on one of its CPUs, with keys and values of its sizes
 pub record IsCallOn (shape : Shape) (call : Call) : Type 0 where

@@ -15,7 +15,7 @@ use crate::lines::{Lines, TextLine};
 use crate::refusal::{Cause, ScriptRefusal};
 use crate::stage::{CallsRead, Head};
 use crate::tokens::Tokens;
-use crate::verbs::verb_line;
+use crate::verbs::named_line;
 use map_types::{Call, Shape, Side, Verb, value_len};
 use std::alloc::{AllocError, Global};
 
@@ -165,7 +165,7 @@ fn body_line(
         phase_within(cuts, tokens)?;
         Ok(BodyLine::Phase)
     } else {
-        let call = call_within(alloc, shape, count, room, tokens)?;
+        let call = call_within(alloc, version, shape, count, room, tokens)?;
         Ok(BodyLine::Call(call))
     }
 }
@@ -194,6 +194,7 @@ fn phase_within(cuts: usize, mut tokens: Tokens) -> Result<(), Cause>
 /// Reads a call behind so many calls, whose replies may have so many bytes.
 fn call_within(
     alloc: Global,
+    version: u32,
     shape: &Shape,
     count: usize,
     room: u64,
@@ -201,9 +202,10 @@ fn call_within(
 ) -> Result<Call, LineError>
     requires shape { IsShape shape.now }
     requires room { room ≤ 67108864 }
-    ensures { IsParsedAs (λ call. call) result (call_within shape.now count room tokens.entry) }
+    ensures { IsParsedAs (λ call. call) result
+        (call_within version shape.now count room tokens.entry) }
 {
-    let call = call_line(alloc, shape, tokens)?;
+    let call = call_line(alloc, version, shape, tokens)?;
     if count >= MAX_CALLS {
         return Err(LineError::Fault(Cause::Calls));
     }
@@ -215,12 +217,17 @@ fn call_within(
 
 /// Reads a call: its CPU, and what it does.
 #[tactic(auto, unfolding(crate::specs::Grammar::call_line))]
-fn call_line(alloc: Global, shape: &Shape, mut tokens: Tokens) -> Result<Call, LineError>
+fn call_line(
+    alloc: Global,
+    version: u32,
+    shape: &Shape,
+    mut tokens: Tokens,
+) -> Result<Call, LineError>
     requires { IsShape shape.now }
-    ensures { IsParsedAs (λ call. call) result (call_line shape.now tokens.entry) }
+    ensures { IsParsedAs (λ call. call) result (call_line version shape.now tokens.entry) }
 {
     let cpu = tokens.cpu(shape.cpus)?;
-    let verb = verb_line(alloc, shape, tokens)?;
+    let verb = named_line(alloc, version, shape, tokens)?;
     Ok(Call { cpu, verb })
 }
 
@@ -236,6 +243,10 @@ pub(crate) fn reply_bytes(shape: &Shape, verb: &Verb) -> u64
         Verb::BatchRead { count, .. } => {
             let entry = u64::from(shape.key_size) + u64::from(value_len(shape, Side::Sys));
             u64::from((*count).min(shape.elements)) * entry
+        }
+        Verb::Each { .. } => {
+            let entry = u64::from(shape.key_size) + u64::from(shape.value_size);
+            u64::from(shape.elements) * entry
         }
         Verb::Update { .. }
         | Verb::Delete { .. }

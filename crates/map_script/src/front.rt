@@ -1,6 +1,6 @@
 //! Call lines as most are written, each read from the front of a text: one space between tokens, no comment, and a verb
-//! that is no batch. What is found here is what the line says. Where nothing is found the line has to be read by its
-//! tokens.
+//! that is no batch and no walk over all elements. What is found here is what the line says, in either version. Where nothing
+//! is found the line has to be read by its tokens.
 
 ghost use Rattle.std.specs.Prelude.{◌≡◌, ℕ, ◌*◌, ◌≤◌, ◌<◌, List, [], ◌∷◌, ◌++◌, length, slice_index, Ok, true, ⊤, MatchOption, IsTrue, codes};
 ghost use Rattle.hex.specs.Hex.{decode_of, hex_digit_value};
@@ -23,8 +23,8 @@ pub(crate) fn call_at_front<'a>(
     text: &'a [u8],
 ) -> Option<(Call, &'a [u8])>
     requires { IsShape shape.now }
-    ensures { MatchOption result ⊤ (λ found. BeginsWith
-        (call_line shape.now) text.now found.0 found.1.now) }
+    ensures { MatchOption result ⊤ (λ found. (version : ℕ) → BeginsWith
+        (call_line version shape.now) text.now found.0 found.1.now) }
 {
     let (cpu, places) = cpu_at_front(shape.cpus, text)?;
     let (verb, rest) = verb_at_front(alloc, shape, places)?;

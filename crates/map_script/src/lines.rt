@@ -71,7 +71,8 @@ impl<'a> Lines<'a> {
         requires shape { IsShape shape.now }
         requires room { room ≤ 67108864 }
         ensures call { MatchOption result (self.new ≡ self.old)
-            (λ call. FirstIs (call_within shape.now count room) self.old.lines call self.new.lines) }
+            (λ call. (version : ℕ) → FirstIs (call_within version shape.now count room)
+            self.old.lines call self.new.lines) }
         ensures end { self.new.end ≡ self.old.end }
     {
         if count >= MAX_CALLS {

@@ -6,7 +6,7 @@ ghost use Rattle.std.specs.List.{list_all};
 ghost use Rattle.std.specs.Str.Parse.{digits_value};
 ghost use Rattle.hex.specs.Hex.{is_hex_digit};
 ghost use Rattle.map_script.specs.Parsed.{IsParsedWithRest, IsParsedAs};
-ghost use Rattle.map_script.specs.Places.{token, at_end, number, cpu, start_of, start, flag_of, flag, bytes_in, bytes, word, labelled, if_labelled, number_or_end};
+ghost use Rattle.map_script.specs.Places.{token, at_end, number, cpu, start_of, start, flag_of, flag, bytes_in, bytes, stop_in, stop, word, labelled, if_labelled, number_or_end};
 ghost use Rattle.map_script.specs.Tokens.{number_of};
 
 use crate::front::bytes_of;
@@ -92,6 +92,14 @@ impl<'a> Tokens<'a> {
         bytes_in(alloc, size, digits)
     }
 
+    /// Reads `STOP`: a key of so many bytes, or `-`.
+    pub(crate) fn stop(&mut self, alloc: Global, size: u32) -> Result<Option<Bytes>, LineError>
+        ensures { IsParsedAs (λ found. (found, self.new)) result (stop size self.old) }
+    {
+        let word = self.token()?;
+        stop_in(alloc, size, word)
+    }
+
     /// Reads this word and `N`.
     pub(crate) fn labelled(&mut self, label: &[u8]) -> Result<u32, Cause>
         ensures { IsParsedWithRest result self.new (labelled label.now self.old) }
@@ -158,6 +166,17 @@ fn start_of(word: &[u8]) -> Option<Option<u32>>
     } else {
         Some(Some(number_of(word)?))
     }
+}
+
+/// The key that a token writes, of so many bytes, or none.
+fn stop_in(alloc: Global, size: u32, word: &[u8]) -> Result<Option<Bytes>, LineError>
+    ensures { IsParsedAs (λ found. found) result (stop_in size word.now) }
+{
+    if word == b"-".as_slice() {
+        return Ok(None);
+    }
+    let key = bytes_in(alloc, size, word)?;
+    Ok(Some(key))
 }
 
 /// The flags that a token names or writes.

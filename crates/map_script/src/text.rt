@@ -3,7 +3,7 @@
 ghost use Rattle.std.specs.Prelude.{◌≡◌, [], ◌∷◌, ◌++◌, map, take, drop, IfOk, OnOk, decimal, codes};
 ghost use Rattle.std.specs.List.{flat_map};
 ghost use Rattle.hex.specs.Hex.{encode_lower};
-ghost use Rattle.map_script.specs.Canonical.{canonical, behind_space, spaced, line_text, label_and_number, unless_zero, map_tokens, spec_tokens, body_text, phased_text, call_text, verb_tokens, pair_tokens, kind_name, lookup_name, update_name, batch_name, flag_token, start_token};
+ghost use Rattle.map_script.specs.Canonical.{canonical, behind_space, spaced, line_text, label_and_number, unless_zero, map_tokens, spec_tokens, body_text, phased_text, call_text, verb_tokens, pair_tokens, kind_name, lookup_name, update_name, batch_name, flag_token, start_token, stop_token};
 
 use crate::{GenSpec, Script};
 use map_types::{Bytes, Call, CreateAttr, List, MapKind, NoMemory, Numbers, Pairs, Side, Verb};
@@ -164,6 +164,7 @@ fn push_verb(text: &mut Vec<u8>, verb: &Verb) -> Result<(), AllocError>
         } => push_batch_read(text, *remove, *count, *start, *flags),
         Verb::BatchUpdate { flags, pairs } => push_batch_update(text, *flags, pairs),
         Verb::BatchDelete { flags, keys } => push_batch_delete(text, *flags, keys.as_slice()),
+        Verb::Each { flags, stop } => push_each(text, *flags, stop),
     }
 }
 
@@ -255,6 +256,18 @@ fn push_batch_delete(text: &mut Vec<u8>, flags: u32, keys: &[Bytes]) -> Result<(
 {
     push_labelled(text, b"batch_delete", flags)?;
     push_keys(text, keys)
+}
+
+/// Adds `each FLAGS`, and the key at which the walk stops, or `-`.
+fn push_each(text: &mut Vec<u8>, flags: u32, stop: &Option<Bytes>) -> Result<(), AllocError>
+    ensures { OnOk result (text.new.items
+        ≡ text.old.items ++ spaced (codes "each" ∷ decimal flags ∷ stop_token stop.now ∷ [])) }
+{
+    push_labelled(text, b"each", flags)?;
+    match stop {
+        None => push_token(text, b"-"),
+        Some(key) => push_bytes(text, key.as_slice()),
+    }
 }
 
 /// Adds each key.

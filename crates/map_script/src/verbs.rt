@@ -3,7 +3,7 @@
 ghost use Rattle.std.specs.Prelude.{◌≡◌};
 ghost use Rattle.map_types.specs.Creation.{IsShape};
 ghost use Rattle.map_script.specs.Parsed.{IsParsedAs};
-ghost use Rattle.map_script.specs.Grammar.{lookup_places, update_places, delete_places, take_places, next_places, batch_read_places, pairs_to_end, keys_to_end, batch_update_places, batch_delete_places, verb_line};
+ghost use Rattle.map_script.specs.Grammar.{lookup_places, update_places, delete_places, take_places, next_places, batch_read_places, pairs_to_end, keys_to_end, batch_update_places, batch_delete_places, verb_line, each_places, each_line, names_each, named_line};
 
 use crate::line_error::LineError;
 use crate::refusal::Cause;
@@ -11,9 +11,53 @@ use crate::tokens::Tokens;
 use map_types::{Bytes, List, PairBlock, Pairs, Shape, Side, Verb, value_len};
 use std::alloc::Global;
 
-/// Reads the name of a verb, and its places.
+/// Reads the name of any verb of a version, and its places.
+#[tactic(auto, unfolding(crate::specs::Grammar::named_line))]
+pub(crate) fn named_line(
+    alloc: Global,
+    version: u32,
+    shape: &Shape,
+    tokens: Tokens,
+) -> Result<Verb, LineError>
+    requires { IsShape shape.now }
+    ensures { IsParsedAs (λ verb. verb) result (named_line version shape.now tokens.entry) }
+{
+    if names_each(version, &tokens) {
+        each_line(alloc, shape, tokens)
+    } else {
+        verb_line(alloc, shape, tokens)
+    }
+}
+
+/// Whether the verb is `each`, which version 2 has.
+fn names_each(version: u32, tokens: &Tokens) -> bool
+    ensures { result ≡ names_each version tokens.now }
+{
+    version == 2 && tokens.is_next(b"each")
+}
+
+/// Reads the verb `each`, and its places.
+#[tactic(auto, unfolding(crate::specs::Grammar::each_line))]
+fn each_line(alloc: Global, shape: &Shape, mut tokens: Tokens) -> Result<Verb, LineError>
+    ensures { IsParsedAs (λ verb. verb) result (each_line shape.now tokens.entry) }
+{
+    tokens.token()?;
+    each_places(alloc, shape, tokens)
+}
+
+/// Reads `FLAGS STOP`, of a walk over all elements.
+#[tactic(auto, unfolding(crate::specs::Grammar::each_places))]
+fn each_places(alloc: Global, shape: &Shape, mut places: Tokens) -> Result<Verb, LineError>
+    ensures { IsParsedAs (λ verb. verb) result (each_places shape.now places.entry) }
+{
+    let flags = places.number()?;
+    let stop = places.stop(alloc, shape.key_size)?;
+    Ok(places.at_end(Verb::Each { flags, stop })?)
+}
+
+/// Reads the name of a verb that both versions have, and its places.
 #[tactic(auto, unfolding(crate::specs::Grammar::verb_line))]
-pub(crate) fn verb_line(alloc: Global, shape: &Shape, mut tokens: Tokens) -> Result<Verb, LineError>
+fn verb_line(alloc: Global, shape: &Shape, mut tokens: Tokens) -> Result<Verb, LineError>
     requires { IsShape shape.now }
     ensures { IsParsedAs (λ verb. verb) result (verb_line shape.now tokens.entry) }
 {

@@ -49,4 +49,10 @@ pub enum Verb {
         flags: u32,
         keys: List<Bytes>,
     },
+    /// A walk over all elements, in the order of buckets, which hands each to a callback: up to and including this key, or over
+    /// all, as also where the key isn't there.
+    Each {
+        flags: u32,
+        stop: Option<Bytes>,
+    },
 }

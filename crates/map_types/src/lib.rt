@@ -22,7 +22,7 @@ pub use check::{BPF_F_NO_COMMON_LRU, BPF_F_NO_PREALLOC, BPF_F_ZERO_SEED, check_a
 pub use gate::{Gate, NoGate, Point};
 pub use kind::{DomainId, MapKind, Side};
 pub use list::{List, Numbers};
-pub use pairs::{PairBlock, Pairs};
+pub use pairs::{PairBlock, Pairs, piece};
 pub use refusal::{Absent, CreateRefusal, Errno, Failed, Limit, NoMemory};
 pub use reply::Reply;
 pub use row::Row;

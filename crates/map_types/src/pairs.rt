@@ -133,7 +133,7 @@ impl Pairs {
 }
 
 /// The bytes at an index, of so many pieces of a size that lie end to end.
-fn piece(bytes: &[u8], count: usize, size: usize, i: usize) -> &[u8]
+pub fn piece(bytes: &[u8], count: usize, size: usize, i: usize) -> &[u8]
     requires fill { length bytes.now ≡ count * size }
     requires within { i < count }
     ensures { result.now ≡ take size (drop (i * size) bytes.now) }

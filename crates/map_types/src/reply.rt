@@ -11,7 +11,9 @@ pub enum Reply {
     Value(Bytes),
     /// It is refused.
     Refused(Errno),
-    /// What a batch read took, why it stopped, and the bucket at which the next one starts.
+    /// What a batch read took, why it stopped, and the bucket at which the next one starts. Of a walk over all elements what it
+    /// handed over, with no error, and the bucket behind the last one that it went over; where there was no room for a bucket,
+    /// that one.
     Batch {
         stop: Option<Errno>,
         taken: Pairs,

@@ -58,6 +58,17 @@ sizes-values_in (suc n) size fields long =
     let above = round8_above size in
     (length-take-le size fields (omega arith), sizes-values_in n size (drop (round8 size) fields) (omega (arith, length-drop (round8 size) fields)))
 
+-- values that are laid in fields lie in these fields
+pub values_in-fields_of : (size : ℕ) (values : List (List ℕ)) → AreOfSize size values → values_in (length values) size (fields_of values) ≡ values
+values_in-fields_of size [] sizes = refl
+values_in-fields_of size (value ∷ values) sizes =
+    let pad : List ℕ = zeros (round8 (length value) - length value) in
+    let head : take size (field_of value ++ fields_of values) ≡ value =
+    ap (take size) (append_assoc value pad (fields_of values)) ∙ take_at value (pad ++ fields_of values) size sizes.0 in
+    let tail : drop (round8 size) (field_of value ++ fields_of values) ≡ fields_of values =
+    drop_at (field_of value) (fields_of values) (round8 size) (length-field_of value ∙ ap round8 sizes.0) in
+    ap (λ (z : List ℕ × List ℕ). z.0 ∷ values_in (length values) size z.1) (λ i. (head i, tail i)) ∙ ap (λ rest. value ∷ rest) (values_in-fields_of size values sizes.1)
+
 value_more : (i size : ℕ) (fields : List ℕ) → take size (drop (i * round8 size) (drop (round8 size) fields)) ≡ take size (drop (suc i * round8 size) fields)
 value_more i size fields =
     let along : round8 size + i * round8 size ≡ suc i * round8 size = omega (arith, suc-mul i (round8 size)) in

@@ -1,5 +1,5 @@
 -- The sizes of what the two sides of a map read and write.
-use Rattle.std.proofs.Common.{◌≡◌, ℕ, ◌*◌, ◌<◌, true, false, List, length, arith, ap, ◌∙◌}
+use Rattle.std.proofs.Common.{◌≡◌, ℕ, ◌*◌, ◌<◌, true, false, List, length, arith, refl, sym, ap, ◌∙◌}
 use Rattle.std.specs.Prelude.{if◌then◌else◌}
 use Rattle.map_types.specs.declared.attr.Shape.{Shape}
 use Rattle.map_types.specs.declared.kind.Side.{Side}
@@ -8,7 +8,7 @@ use Rattle.map_types.specs.Kind.{is_percpu}
 use Rattle.map_types.specs.ValueLen.{round8, value_len_of}
 use Rattle.map_types.specs.Parts.{AreOfSize, part_at, fields_of, values_in, written_own, new_own}
 use Rattle.map_types.specs.Sides.{part_count, value_read, values_written, new_values}
-use Rattle.percpu_values.proofs.FieldLemmas.{length-fields_of, length-values_in, sizes-values_in}
+use Rattle.percpu_values.proofs.FieldLemmas.{length-fields_of, length-values_in, sizes-values_in, values_in-fields_of}
 use Rattle.percpu_values.proofs.SizeLemmas.{sizes-at, sizes-written, length-written, sizes-new, length-new}
 
 -- so many values, all of one size
@@ -72,3 +72,11 @@ HaveSizes-new shape Sys cpu bytes exact =
       | true ↦ λ long. all_fields shape.cpus shape.value_size bytes long
       | false ↦ λ long. one_new 1 shape.value_size 0 bytes long
     ] exact
+
+-- what a program reads of an element is the part of its CPU in what the system call reads of it
+pub program_reads : (shape : Shape) (cpu : ℕ) (values : List (List ℕ)) → HaveSizes (part_count shape) shape.value_size values → (if is_percpu shape.kind then part_at cpu (values_in shape.cpus shape.value_size (value_read shape Sys cpu values)) else value_read shape Sys cpu values) ≡ value_read shape Prog cpu values
+program_reads shape cpu values have =
+    elim (is_percpu shape.kind) as (λ b. HaveSizes (if b then shape.cpus else 1) shape.value_size values → (if b then part_at cpu (values_in shape.cpus shape.value_size (if b then fields_of values else part_at 0 values)) else (if b then fields_of values else part_at 0 values)) ≡ (if b then part_at cpu values else part_at 0 values)) [
+      | true ↦ λ own. ap (λ n. part_at cpu (values_in n shape.value_size (fields_of values))) (sym own.counted) ∙ ap (part_at cpu) (values_in-fields_of shape.value_size values own.sized)
+      | false ↦ λ own. refl
+    ] have

@@ -1,5 +1,5 @@
 -- An element that was flushed by the rows of local lists, before each turn and after it, was flushed by what the parts tell.
-use Rattle.std.proofs.Common.{◌≡◌, ℕ, zero, suc, ◌≤◌, drop, ◌⊎◌, inl, inr, ⊎_elim, eqb, cond, Bool, true, false, List, [], ◌∷◌, sym, refl, ◌∙◌, subst, arith, Option, Some, None}
+use Rattle.std.proofs.Common.{◌≡◌, ℕ, zero, suc, ◌≤◌, drop, ◌⊎◌, inl, inr, ⊎_elim, eqb, cond, Bool, true, false, List, [], ◌∷◌, sym, refl, ◌∙◌, subst, arith, Option, Some, None, take}
 use Rattle.std.specs.Prelude.{◌||◌}
 use Rattle.map_types.specs.declared.attr.Shape.{Shape}
 use Rattle.map_types.specs.declared.kind.DomainId.TheVariants.{Local}
@@ -14,7 +14,7 @@ use Rattle.place_words.specs.declared.list_part.LocalPart.{LocalPart}
 use Rattle.place_words.specs.declared.list_part.LocalPart.TheVariants as local
 use Rattle.place_words.specs.declared.list_part.Stolen.TheVariants.{Free, Pending, Nothing}
 use Rattle.place_words.specs.declared.visits.Visit.{Visit}
-use Rattle.place_words.specs.Histories.{Content, Allows, AllAllowed, IsLegal, content_after, in_locals}
+use Rattle.place_words.specs.Histories.{Content, replayed, Allows, AllAllowed, IsLegal, content_after, in_locals}
 use Rattle.place_words.specs.Locals.{LocalLists, new_locals, AllowsOnLocal, local_after}
 use Rattle.place_words.specs.RowMoves.{rows_of}
 use Rattle.place_words.specs.Sets.{row_with}
@@ -22,7 +22,7 @@ use Rattle.place_words.specs.Takings.{stored_hash, is_one, has_visit, flushed_by
 use Rattle.place_words.proofs.KeepLaws.{has_one, stolen_there}
 use Rattle.place_words.proofs.RowCounts.{any, rows_any}
 use Rattle.place_words.proofs.ShrinkProbes.{stored_there}
-use Rattle.place_table.specs.Flushes.{is_visited, local_flushes, flushes, flushed_then, flushed_from, flushed_behind, flushed_since}
+use Rattle.place_table.specs.Flushes.{is_visited, local_flushes, flushes, flushed_then, flushed_from, flushed_since}
 use Rattle.place_table.specs.StoredHashes.{stored_in}
 use Rattle.place_table.proofs.Worlds.{by_bool, true_false, none_some}
 
@@ -116,6 +116,9 @@ are_told shape e (entry ∷ entries) was then lists goes allowed is = turn_told 
 
 -- The turns behind the first ones alone
 
+abbrev pub flushed_behind : Shape → ℕ → ℕ → Content → List Entry → Bool
+flushed_behind shape n e before entries = flushed_from shape e false (replayed shape before (take n entries)) (drop n entries)
+
 abbrev AreToldBehind : Shape → ℕ → ℕ → List Entry → Type 0
 AreToldBehind shape n e entries =
     (lists : LocalLists) → AllAllowed shape (in_locals lists) entries → flushed_behind shape n e (in_locals lists) entries ≡ true → ends_flushed e false (drop n entries) ≡ true
@@ -129,7 +132,7 @@ turn_behind shape n e cpu (parts.Global part) entries others lists allowed legal
 turn_behind shape n e cpu (parts.Own part) entries others lists allowed legal is = absurd allowed
 
 since_told : (shape : Shape) (n e : ℕ) (entries : List Entry) → AreToldBehind shape n e entries
-unfolding flushed_behind AllAllowed
+unfolding flushed_from replayed AllAllowed
 since_told shape zero e entries lists legal is = are_told shape e entries false false lists (λ flushed. flushed) legal is
 since_told shape (suc n) e [] lists legal is = true_false (sym is)
 since_told shape (suc n) e (entry ∷ entries) lists legal is = turn_behind shape n e entry.cpu entry.part entries (since_told shape n e entries) lists legal.0 legal.1 is
@@ -149,7 +152,7 @@ from_goes shape e was now before (entry ∷ entries) goes is =
     (then_goes was now (flushes e entry.part) (stored_in before e) (stored_in after e) goes) is
 
 since_all : (shape : Shape) (n e : ℕ) (was : Bool) (before : Content) (entries : List Entry) → flushed_behind shape n e before entries ≡ true → flushed_from shape e was before entries ≡ true
-unfolding flushed_behind flushed_from
+unfolding flushed_from replayed
 since_all shape zero e was before entries is = from_goes shape e false was before entries (λ never. true_false (sym never)) is
 since_all shape (suc n) e was before [] is = true_false (sym is)
 since_all shape (suc n) e was before (entry ∷ entries) is =

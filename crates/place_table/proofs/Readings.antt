@@ -28,12 +28,13 @@ use Rattle.place_words.specs.Steps.{Holds, MayLeave, MayEnter, IsFreeOrInHand, C
 use Rattle.place_words.specs.Wholeness.{all_of}
 use Rattle.place_words.proofs.ElementLemmas.{at_put, put_here, put_else}
 use Rattle.place_words.proofs.RowLemmas.{lies_here}
+use Rattle.place_table.proofs.FlushedLast.{flushed_behind}
 use Rattle.place_table.specs.declared.content.Content.{Content}
 use Rattle.place_table.specs.declared.view.InHand.{InHand}
 use Rattle.place_table.specs.declared.view.HomeIn.{HomeIn}
 use Rattle.place_table.specs.Contents.{content_told, lists_of, FitsLock}
 use Rattle.place_table.specs.StoredHashes.{stored_in}
-use Rattle.place_table.specs.Flushes.{flushes, flushed_then, flushed_from, flushed_behind, flushed_since}
+use Rattle.place_table.specs.Flushes.{flushes, flushed_then, flushed_from, flushed_since}
 use Rattle.place_table.specs.Views.{is_in_hand_of, home_known, kept_readings, without_readings, with_reading, home_then, readings_then}
 use Rattle.place_table.specs.Rules.{Tagged, entries, HashesRight, IsFresh, WasFlushed, StillHome, is_home_of, HasRow, IsBrought}
 use Rattle.place_table.proofs.StoredHashes.{stored_listed, in_all, lies_on}
@@ -198,7 +199,7 @@ from_more shape e was before (x ∷ xs) entry =
 
 behind_more : (shape : Shape) (n e : ℕ) (before : histories.Content) (es : List Entry) (entry : Entry) → n ≤ length es
     → flushed_behind shape n e before (es ++ entry ∷ []) ≡ flushed_then (flushed_behind shape n e before es) (flushes e entry.part) (stored_in (replayed shape before es) e) (stored_in (content_after shape entry.cpu entry.part (replayed shape before es)) e)
-unfolding flushed_behind replayed
+unfolding flushed_from replayed
 behind_more shape zero e before es entry few = from_more shape e false before es entry
 behind_more shape (suc n) e before [] entry few = absurd (omega (arith, few))
 behind_more shape (suc n) e before (x ∷ xs) entry few = behind_more shape n e (content_after shape x.cpu x.part before) xs entry (omega (arith, few))

@@ -1,5 +1,5 @@
 -- Elements that a CPU's local lists lost to the global ones, as histories tell it.
-use Rattle.std.specs.Prelude.{ℕ, zero, suc, Bool, true, false, ◌==◌, List, [], ◌∷◌, Option, None, Some, if◌then◌else◌}
+use Rattle.std.specs.Prelude.{ℕ, Bool, true, false, ◌==◌, List, [], ◌∷◌, Option, None, Some, if◌then◌else◌, take, drop}
 use Rattle.map_types.specs.declared.attr.Shape.{Shape}
 use Rattle.map_types.specs.declared.kind.DomainId.{DomainId}
 use Rattle.place_words.specs.declared.history.Entry.{Entry}
@@ -8,7 +8,7 @@ use Rattle.place_words.specs.declared.history.Part.TheVariants as parts
 use Rattle.place_words.specs.declared.list_part.LocalPart.{LocalPart}
 use Rattle.place_words.specs.declared.list_part.LocalPart.TheVariants as local
 use Rattle.place_words.specs.declared.visits.Visit.{Visit}
-use Rattle.place_words.specs.Histories.{Content, content_after, opening_content}
+use Rattle.place_words.specs.Histories.{Content, content, content_after}
 use Rattle.place_table.specs.StoredHashes.{stored_in}
 
 abbrev pub is_visited : ℕ → List Visit → Bool
@@ -37,11 +37,6 @@ flushed_from shape e was before (entry ∷ entries) =
     let now = content_after shape entry.cpu entry.part before in
     flushed_from shape e (flushed_then was (flushes e entry.part) (stored_in before e) (stored_in now e)) now entries
 
--- of the turns behind the first n alone
-unfoldable pub flushed_behind : Shape → ℕ → ℕ → Content → List Entry → Bool
-flushed_behind shape zero e before entries = flushed_from shape e false before entries
-flushed_behind shape (suc n) e before [] = false
-flushed_behind shape (suc n) e before (entry ∷ entries) = flushed_behind shape n e (content_after shape entry.cpu entry.part before) entries
-
+-- of the turns behind the first n alone, which go on from what those led to
 abbrev pub flushed_since : Shape → DomainId → ℕ → ℕ → List Entry → Bool
-flushed_since shape lock n e entries = flushed_behind shape n e (opening_content shape lock) entries
+flushed_since shape lock n e entries = flushed_from shape e false (content shape lock (take n entries)) (drop n entries)

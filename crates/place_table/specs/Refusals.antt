@@ -1,5 +1,5 @@
 -- What a pass tells of its steps on words is so. The rule allows no step that is told otherwise than it is done.
-use Rattle.std.specs.Prelude.{◌≡◌, ◌≢◌, ℕ, ◌+◌, ◌<◌, true, IsTrue, List, [], ◌∷◌, ◌++◌, length, slice_index_or, slice_set}
+use Rattle.std.specs.Prelude.{◌≡◌, ◌≢◌, ℕ, ◌+◌, ◌<◌, IsTrue, List, [], ◌∷◌, ◌++◌, length, slice_index_or, slice_set}
 use mathlib.Core.Option.{some}
 use lib.ListN.{get_elem?}
 use Rattle.atomic_table.specs.Table as table
@@ -90,7 +90,7 @@ TellsTurns =
     → turns ≡ length (logs_of r.world (lock_number shape (Local cpu)))
 
 -- And so it stays told: in every state, of each look at a home that a pass keeps, the number of turns is how often the lock of the local
--- lists that it read had been given back by the steps on words before it.
+-- lists that it read had been given back by the steps on words before the number that the look has.
 abbrev pub KeepsTurns : Type 0
 KeepsTurns =
     (shape : Shape) (s : table.State Behind View) (pass : ℕ) (v : View) (r : Rule shape s)

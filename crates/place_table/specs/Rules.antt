@@ -406,7 +406,7 @@ pub record PassKnows (shape : Shape) (world : World) (pass : ℕ) (v : View) : T
   pub rowed : IsTrue (is_lru shape.kind) → AreRowed shape world.hash v.held v.notes
   -- and the homes that were read of what is in hand
   pub readings : (e c : ℕ) (read : HomeIn) → c < shape.cpus → home_known e c v.readings ≡ Some read → IsReading shape world.core.holder world.log world.core.home world.touches v.hand e c read
-  -- and of all homes that were read in its current strand how many turns local lists had had then
+  -- and of each look at a home that it keeps how many turns local lists had had then
   pub homes_read : AreReadingsCounted shape world.touches v.homes_read
   -- what only a pass with all CPUs keeps: turns of locks and bits
   pub known : (k : ℕ) (log : List Entry) → known_log k v.known ≡ Some log → entries (world.log k) ≡ log

@@ -27,9 +27,9 @@ pub fn word_laws()
 
 /// What a pass tells of a step on a word is so, in every table and every pass: what it saw was in the word, and what it left is
 /// there after it. So no table allows a mark that stores nothing, a clear that only loads, or another word's reading told as
-/// a bit's or an owner's; nor local lists told as a home with another number of turns than their lock had when it was read, which
-/// a pass keeps as it was told; nor a draw of a ticket that adds another number than 1, or from another word, nor a turn that is
-/// recorded with another ticket than the one that was drawn before its lock is given back.
+/// a bit's or an owner's; nor local lists told as a home with another number of turns than their lock had when it was read, nor a
+/// look at a home kept with another one; nor a draw of a ticket that adds another number than 1, or from another word, nor a turn
+/// that is recorded with another ticket than the one that was drawn before its lock is given back.
 pub fn told_laws()
     ensures told { TellsTrue }
     ensures mark { MarkStores }

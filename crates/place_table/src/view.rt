@@ -171,7 +171,7 @@ pub struct View {
     pub kept: LinkedList<StrandStep>,
     /// The steps of the current strand on words.
     pub touched: LinkedList<WordStep>,
-    /// Those of them that read homes, in their order, of elements in hand or not, whatever happened to these since.
+    /// The looks at homes in the current strand, in their order, of elements in hand or not, whatever happened to these since.
     pub homes_read: LinkedList<HomeRead>,
     pub ended: LinkedList<Ended>,
     /// The locks that the pass gave back without a part: the record of their turns is lost.

@@ -27,6 +27,7 @@ use Rattle.place_words.specs.Moves.{brought, taken, taken_from_bucket}
 use Rattle.place_words.specs.PlainTraces.{found_empty, pushes, LooksFor, IsUpdateTrace, element_gone, IsPlainTrace, spare_after}
 use Rattle.place_words.specs.Traces.{IsTrace}
 use Rattle.place_words.specs.Turns.{Turn, TurnAt, turns_of, ring, on_lock, bucket_of_key, on_bucket_of, on_freelist_of}
+use Rattle.place_words.specs.Handing.{Callback, AfterHanding, HandsOverBuckets, IsHandingTrace, StopsAt}
 use Rattle.place_words.specs.Walks.{buckets_from, Firsts, GoesOn, IsNextTrace, walked_out, pair_of, AfterWalk, Walks, IsReadTrace, IsKeyTrace, spare_left, refused_with, Writes, IsWriteBatch, updates_of, deletes_of}
 use Rattle.place_words.proofs.BucketLaws.{times_more}
 use Rattle.place_words.proofs.PlainLaws.{second_chosen, plain_spare, trace_plain}
@@ -132,6 +133,7 @@ module _ (shape : Shape) (cpu : ℕ) (spare : Option ℕ) where
   plain_balances (verbs.BatchRead remove count start flags) turns reply trace = absurd trace
   plain_balances (verbs.BatchUpdate flags pairs) turns reply trace = absurd trace
   plain_balances (verbs.BatchDelete flags keys) turns reply trace = absurd trace
+  plain_balances (verbs.Each flags stop) turns reply trace = absurd trace
 
   -- Next key
 
@@ -156,6 +158,32 @@ module _ (shape : Shape) (cpu : ℕ) (spare : Option ℕ) where
   next_balances (Some key) turns reply trace =
       let later = goes_balance key trace.found trace.rest reply trace.goes_on in
       subst (Balances spare) (sym trace.turns_are) (record { even = λ e. omega (arith, later.even e); none = later.none })
+
+  -- Walks over all elements
+
+  -- a turn that takes nothing out of its bucket
+  kept_first : (bucket room : ℕ) (result : Walked) (rest : List Turn) → Balances spare rest → Balances spare (on_lock (Bucket bucket) (parts.Bucket (Walk false room result)) ∷ rest)
+  kept_first bucket room (Over n) rest later = record { even = λ e. omega (arith, later.even e); none = later.none }
+  kept_first bucket room (Taken all) rest later = record { even = λ e. omega (arith, later.even e); none = later.none }
+
+  handing_rest : (Says : Callback) (bucket : ℕ) (before : List (List ℕ × List ℕ)) (rest : List Turn) (reply : Reply) (result : Walked) (More : List (List ℕ × List ℕ) → Type 0)
+      → AfterHanding shape cpu Says bucket before rest reply result More → ((now : List (List ℕ × List ℕ)) → More now → Balances spare rest) → Balances spare rest
+  handing_rest Says bucket before rest reply (Over n) More goes more = subst (Balances spare) (sym goes.0) (balances_none spare)
+  handing_rest Says bucket before rest reply (Taken all) More (over, true, (hands, ends)) more = subst (Balances spare) (sym ends.0) (balances_none spare)
+  handing_rest Says bucket before rest reply (Taken all) More (over, false, (hands, goes)) more = more (before ++ over) goes
+
+  hands_balance : (Says : Callback) (buckets : List ℕ) (before : List (List ℕ × List ℕ)) (turns : List Turn) (reply : Reply) → HandsOverBuckets shape cpu Says buckets before turns reply → Balances spare turns
+  hands_balance Says [] before turns reply trace = subst (Balances spare) (sym trace.0) (balances_none spare)
+  hands_balance Says (bucket ∷ buckets) before turns reply (result, rest, (turns_are, goes)) =
+      subst (Balances spare) (sym turns_are)
+      (kept_first bucket (shape.elements - length before) result rest (handing_rest Says bucket before rest reply result _ goes (λ now more. hands_balance Says buckets now rest reply more)))
+
+  each_balances : (Says : Callback) (flags : ℕ) (turns : List Turn) (reply : Reply) → IsHandingTrace shape cpu Says flags turns reply → Balances spare turns
+  each_balances Says flags turns reply trace = by (eqb flags 0) trace
+    where
+      by : (plainly : Bool) → MatchBool plainly (HandsOverBuckets shape cpu Says (buckets_from shape 0) [] turns reply) ((turns ≡ []) × (reply ≡ Refused Einval)) → Balances spare turns
+      by true told = hands_balance Says (buckets_from shape 0) [] turns reply told
+      by false told = subst (Balances spare) (sym told.0) (balances_none spare)
 
   -- Batch reads
 
@@ -261,3 +289,4 @@ module _ (shape : Shape) (cpu : ℕ) (plain : is_lru shape.kind ≡ false) where
   trace_balances spare (verbs.BatchRead remove count start flags) turns reply trace = read_balances spare remove count start flags turns reply trace
   trace_balances spare (verbs.BatchUpdate flags pairs) turns reply trace = write_balances spare flags (updates_of pairs) turns reply trace
   trace_balances spare (verbs.BatchDelete flags keys) turns reply trace = write_balances spare flags (deletes_of keys) turns reply trace
+  trace_balances spare (verbs.Each flags stop) turns reply trace = each_balances shape cpu spare (StopsAt stop) flags (turns_of turns) reply trace

@@ -1,6 +1,7 @@
 -- On a map that evicts next key and batches do in serial order what the rules say too, and the map is settled again after them.
 use Rattle.std.proofs.Common.{◌≡◌, ℕ, suc, ◌+◌, ◌-◌, Bool, true, false, cond, eqb, ltb, List, [], ◌∷◌, ◌++◌, length, map, reverse, refl, ap, ◌∙◌, sym, subst, arith}
 use Rattle.std.specs.Prelude.{Option, None, Some, MatchOption, MatchBool, nat_lt, min, unwrap_or}
+use Rattle.std.specs.List.{list_any}
 use Rattle.std.proofs.lemmas.Bool.{cond-true, ltb-true, ltb-false}
 use Rattle.map_types.specs.declared.attr.Shape.{Shape}
 use Rattle.map_types.specs.declared.call.Verb.{Verb}
@@ -10,7 +11,7 @@ use Rattle.map_types.specs.declared.kind.DomainId.TheVariants.{Bucket}
 use Rattle.map_types.specs.declared.refusal.Errno.{Errno}
 use Rattle.map_types.specs.declared.refusal.Errno.TheVariants.{Enoent, Einval}
 use Rattle.map_types.specs.declared.reply.Reply.{Reply}
-use Rattle.map_types.specs.declared.reply.Reply.TheVariants.{Done, Refused, Count}
+use Rattle.map_types.specs.declared.reply.Reply.TheVariants.{Done, Refused, Batch, Count}
 use Rattle.map_types.specs.ElementLists.{times}
 use Rattle.map_types.specs.Kind.{is_lru}
 use Rattle.map_types.specs.Stored.{Stored}
@@ -23,8 +24,9 @@ use Rattle.place_words.specs.declared.bucket_part.Walked.TheVariants.{Over, Take
 use Rattle.place_words.specs.declared.history.Part.TheVariants as parts
 use Rattle.place_words.specs.Bodies.{first_key}
 use Rattle.place_words.specs.Buckets.{AllowsInBucket, AllowsWalk, as_read}
+use Rattle.place_words.specs.Handing.{IsHandingTrace, StopsAt, handed, is_stop, up_to_stop}
 use Rattle.place_words.specs.Histories.{Content}
-use Rattle.place_words.specs.Logs.{State, lies_in, bucket_at, present_in, turned, all_turned, placed, all_freed, taken_out, Does, first_does, key_does, first_or, firsts, found_next, goes_on, next_does, walked, after_walk, walks, read_does, counted_or, writes, write_does, does}
+use Rattle.place_words.specs.Logs.{State, lies_in, bucket_at, present_in, turned, all_turned, placed, all_freed, taken_out, Does, first_does, key_does, first_or, firsts, found_next, goes_on, next_does, walked, after_walk, walks, read_does, counted_or, writes, write_does, after_handing, hands, each_does, does}
 use Rattle.place_words.specs.Moves.{brought_to_bucket, taken_from_bucket}
 use Rattle.place_words.specs.Traces.{IsTrace}
 use Rattle.place_words.specs.Turns.{Turn, TurnAt, on_lock, bucket_of_key, after_turns, AreAllowed}
@@ -37,7 +39,7 @@ use Rattle.place_words.proofs.PlacedLaws.{placed-append, placed_turns}
 use Rattle.place_words.proofs.PlainlyDone.{AreKeyVerbs, updates_served, deletes_served}
 use Rattle.place_words.proofs.Settled.{IsSettled, settled_anywhere}
 use Rattle.place_words.proofs.Supplies.{first_of_two, Supplies}
-use Rattle.place_words.proofs.WalksDone.{after_look, first_leaves, next_leaves, next_done}
+use Rattle.place_words.proofs.WalksDone.{after_look, first_leaves, next_leaves, walk_leaves, next_done, each_done}
 
 -- A call's turns are a trace of it with its reply, on a CPU with this spare, each may be made at its place, and then nothing is
 -- in hand.
@@ -80,6 +82,45 @@ module _ (shape : Shape) (cpu : ℕ) (state : State) where
         trace = subst (λ (turns : List Turn). IsNextTrace shape key turns (next_does shape state key).reply) (sym (placed_turns shape cpu number (next_does shape state key).turns state)) done.0;
         allowed = done.1;
         settled = subst (IsAtRest shape) (sym (next_leave key)) rest_now;
+      }
+
+-- A walk over all elements only reads buckets too
+
+module _ (shape : Shape) (cpu : ℕ) (state : State) (stop : Option (List ℕ)) where
+  handing_leaves : (bucket : ℕ) (before : List (List ℕ × List ℕ)) (result : Walked) (later : List (List ℕ × List ℕ) → Does) → ((now : List (List ℕ × List ℕ)) → after_turns shape cpu (lies_in shape state) (later now).turns ≡ lies_in shape state)
+      → after_turns shape cpu (lies_in shape state) (after_handing shape cpu stop bucket before result later).turns ≡ lies_in shape state
+  handing_leaves bucket before (Over n) later rest = refl
+  handing_leaves bucket before (Taken all) later rest = by (list_any (is_stop stop) (map (handed shape cpu) all))
+    where
+      by : (stopped : Bool) → after_turns shape cpu (lies_in shape state) (cond stopped (record { turns = []; reply = Batch None (before ++ up_to_stop stop (map (handed shape cpu) all)) (suc bucket) }) (later (before ++ up_to_stop stop (map (handed shape cpu) all)))).turns ≡ lies_in shape state
+      by true = refl
+      by false = rest (before ++ up_to_stop stop (map (handed shape cpu) all))
+
+  hands_leave : (buckets : List ℕ) (before : List (List ℕ × List ℕ)) → after_turns shape cpu (lies_in shape state) (hands shape cpu state stop buckets before).turns ≡ lies_in shape state
+  hands_leave [] before = refl
+  hands_leave (bucket ∷ buckets) before =
+      let room : ℕ = shape.elements - length before in
+      let result : Walked = walked shape cpu room (bucket_at shape state bucket) in
+      let later : List (List ℕ × List ℕ) → Does = λ now. hands shape cpu state stop buckets now in
+      ap (λ (c : DomainId → Content). after_turns shape cpu c (after_handing shape cpu stop bucket before result later).turns) (after_look shape cpu bucket (Walk false room result) (lies_in shape state) (walk_leaves shape cpu room result))
+      ∙ handing_leaves bucket before result later (λ now. hands_leave buckets now)
+
+  each_leaves : (flags : ℕ) → after_turns shape cpu (lies_in shape state) (each_does shape cpu state flags stop).turns ≡ lies_in shape state
+  unfolding each_does
+  each_leaves flags = by (eqb flags 0)
+    where
+      by : (plainly : Bool) → after_turns shape cpu (lies_in shape state) (cond plainly (hands shape cpu state stop (buckets_from shape 0) []) (record { turns = []; reply = Refused Einval })).turns ≡ lies_in shape state
+      by true = hands_leave (buckets_from shape 0) []
+      by false = refl
+
+  pub each_kept : IsAtRest shape (lies_in shape state) → (number : ℕ) (spare : Option ℕ) (flags : ℕ) → IsKept shape cpu number spare state (verbs.Each flags stop) (each_does shape cpu state flags stop)
+  each_kept rest_now number spare flags =
+      let did : Does = each_does shape cpu state flags stop in
+      let done = each_done shape cpu state stop flags in
+      record {
+        trace = subst (λ (turns : List Turn). IsHandingTrace shape cpu (StopsAt stop) flags turns did.reply) (sym (placed_turns shape cpu number did.turns state)) done.0;
+        allowed = done.1;
+        settled = subst (IsAtRest shape) (sym (each_leaves flags)) rest_now;
       }
 
 -- Batch reads
@@ -264,3 +305,4 @@ module _ (shape : Shape) (cpu number : ℕ) (supplies : Supplies shape cpu) (lru
   call_kept state rest_now spare (verbs.BatchRead remove count start flags) = read_kept state rest_now spare remove count start flags
   call_kept state rest_now spare (verbs.BatchUpdate flags pairs) = let kept = write_kept state rest_now spare flags (updates_of pairs) (updates_served pairs) in record { trace = kept.trace; allowed = kept.allowed; settled = kept.settled }
   call_kept state rest_now spare (verbs.BatchDelete flags keys) = let kept = write_kept state rest_now spare flags (deletes_of keys) (deletes_served keys) in record { trace = kept.trace; allowed = kept.allowed; settled = kept.settled }
+  call_kept state rest_now spare (verbs.Each flags stop) = each_kept shape cpu state stop rest_now number spare flags

@@ -318,6 +318,7 @@ IsKeyVerb (verbs.Next key) = ⊥
 IsKeyVerb (verbs.BatchRead remove count start flags) = ⊥
 IsKeyVerb (verbs.BatchUpdate flags pairs) = ⊥
 IsKeyVerb (verbs.BatchDelete flags keys) = ⊥
+IsKeyVerb (verbs.Each flags stop) = ⊥
 
 -- The four calls on one key. On a map whose elements have one value the CPU has its spare.
 pub key_done : (shape : Shape) (cpu number : ℕ) (state : State) → is_lru shape.kind ≡ false → (is_percpu shape.kind ≡ false → state.spares cpu ≡ Some (unwrap_or (state.spares cpu) 0))
@@ -330,3 +331,4 @@ key_done shape cpu number state plain spare (verbs.Next key) served = absurd ser
 key_done shape cpu number state plain spare (verbs.BatchRead remove count start flags) served = absurd served
 key_done shape cpu number state plain spare (verbs.BatchUpdate flags pairs) served = absurd served
 key_done shape cpu number state plain spare (verbs.BatchDelete flags keys) served = absurd served
+key_done shape cpu number state plain spare (verbs.Each flags stop) served = absurd served

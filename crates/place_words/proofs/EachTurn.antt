@@ -1,7 +1,7 @@
 -- What holds of all turns of every call in serial order, from what holds of those by which elements are taken and freed, and of
 -- the turns of buckets and freelists.
 use Rattle.std.proofs.Common.{◌≡◌, ℕ, zero, suc, ◌+◌, ◌-◌, ◌<◌, ◌≤◌, Bool, true, false, ◌&&◌, cond, eqb, ltb, List, [], ◌∷◌, ◌++◌, length, reverse, map, refl, ap, sym, ◌∙◌, arith}
-use Rattle.std.specs.List.{range_with_len}
+use Rattle.std.specs.List.{list_any, range_with_len}
 use Rattle.std.specs.Prelude.{Option, None, Some, slice_get, unwrap_or, option_map, option_to_list, min}
 use Rattle.std.proofs.lemmas.Bool.{true≢false}
 use Rattle.map_types.specs.declared.attr.Shape.{Shape}
@@ -32,7 +32,8 @@ use Rattle.place_words.specs.declared.free_part.FreePart.{FreePart}
 use Rattle.place_words.specs.declared.free_part.FreePart.TheVariants.{Pushed, Popped, FoundEmpty}
 use Rattle.place_words.specs.declared.history.Part.TheVariants as parts
 use Rattle.place_words.specs.Evicting.{left_over}
-use Rattle.place_words.specs.Logs.{State, turned, all_turned, bucket_at, freelist_at, present_in, Taking, acquired, freeing, all_freed, taken_out, popped, popped_or, Does, first_does, put_offered, put_alone, puts_in, offered, evicting_does, put_popped, put_present, plain_does, got_by, key_does, first_or, firsts, found_next, goes_on, next_does, walked, after_walk, walks, read_does, counted_or, writes, write_does, does}
+use Rattle.place_words.specs.Handing.{handed, is_stop, up_to_stop}
+use Rattle.place_words.specs.Logs.{State, turned, all_turned, bucket_at, freelist_at, present_in, Taking, acquired, freeing, all_freed, taken_out, popped, popped_or, Does, first_does, put_offered, put_alone, puts_in, offered, evicting_does, put_popped, put_present, plain_does, got_by, key_does, first_or, firsts, found_next, goes_on, next_does, walked, after_walk, walks, read_does, counted_or, writes, write_does, after_handing, hands, each_does, does}
 use Rattle.place_words.specs.PlainTraces.{element_gone, reply_of_put, reply_of_got, reply_of_gone}
 use Rattle.place_words.specs.Turns.{Turn, ring, on_lock, on_bucket_of, on_freelist_of, bucket_of_key}
 use Rattle.place_words.specs.Walks.{buckets_from, stopped_at, pair_of, walked_out, refused_with, updates_of, deletes_of}
@@ -94,6 +95,7 @@ VerbPasses Passes (verbs.Next key) = Unit {0}
 VerbPasses Passes (verbs.BatchRead remove count start flags) = Unit {0}
 VerbPasses Passes (verbs.BatchUpdate flags pairs) = PassAll Passes pairs
 VerbPasses Passes (verbs.BatchDelete flags keys) = Unit {0}
+VerbPasses Passes (verbs.Each flags stop) = Unit {0}
 
 -- where everything passes
 all_pass : (pairs : List (List ℕ × List ℕ)) → PassAll (λ side key value. Unit {0}) pairs
@@ -109,6 +111,7 @@ verb_passes (verbs.Next key) = tt
 verb_passes (verbs.BatchRead remove count start flags) = tt
 verb_passes (verbs.BatchUpdate flags pairs) = all_pass pairs
 verb_passes (verbs.BatchDelete flags keys) = tt
+verb_passes (verbs.Each flags stop) = tt
 
 abbrev ArePassing : (Side → List ℕ → List ℕ → Type 0) → List Verb → Type 0
 ArePassing Passes [] = Unit {0}
@@ -274,6 +277,7 @@ module _ {shape : Shape} {cpu number : ℕ} {Passes : Side → List ℕ → List
   key_right state kept (verbs.BatchRead remove count start flags) pass = other_reply [] (Refused Einval) law.none refl
   key_right state kept (verbs.BatchUpdate flags pairs) pass = other_reply [] (Refused Einval) law.none refl
   key_right state kept (verbs.BatchDelete flags keys) pass = other_reply [] (Refused Einval) law.none refl
+  key_right state kept (verbs.Each flags stop) pass = other_reply [] (Refused Einval) law.none refl
 
   first_step : (key : Option (List ℕ)) (later : Does) → IsRight later → IsRight (first_or key later)
   unfolding is_enomem
@@ -345,6 +349,36 @@ module _ {shape : Shape} {cpu number : ℕ} {Passes : Side → List ℕ → List
       by true = writes_right state kept entries passing 0
       by false = other_reply [] (Refused Einval) law.none refl
 
+  -- Walks over all elements
+  handing_step : (stop : Option (List ℕ)) (bucket : ℕ) (before : List (List ℕ × List ℕ)) (result : Walked) (later : List (List ℕ × List ℕ) → Does) → ((now : List (List ℕ × List ℕ)) → IsRight (later now)) → IsRight (after_handing shape cpu stop bucket before result later)
+  unfolding is_enomem
+  handing_step stop bucket before (Over n) later rest = other_reply [] (Batch None before bucket) law.none refl
+  handing_step stop bucket before (Taken all) later rest = by (list_any (is_stop stop) (map (handed shape cpu) all))
+    where
+      now : List (List ℕ × List ℕ)
+      now = before ++ up_to_stop stop (map (handed shape cpu) all)
+
+      by : (stopped : Bool) → IsRight (cond stopped (record { turns = []; reply = Batch None now (suc bucket) }) (later now))
+      by true = other_reply [] (Batch None now (suc bucket)) law.none refl
+      by false = rest now
+
+  hands_right : (state : State) (stop : Option (List ℕ)) (buckets : List ℕ) → AreWithin (λ bucket. bucket < shape.buckets) buckets → (before : List (List ℕ × List ℕ)) → IsRight (hands shape cpu state stop buckets before)
+  unfolding is_enomem
+  hands_right state stop [] within before = other_reply [] (Batch None before shape.buckets) law.none refl
+  hands_right state stop (bucket ∷ buckets) within before =
+      let room : ℕ = shape.elements - length before in
+      let result : Walked = walked shape cpu room (bucket_at shape state bucket) in
+      first_right _ _ (law.in_bucket bucket (first_within (λ b. b < shape.buckets) bucket buckets within) (Walk false room result) tt)
+      (handing_step stop bucket before result _ (λ now. hands_right state stop buckets (others_within (λ b. b < shape.buckets) bucket buckets within) now))
+
+  each_right : (state : State) (flags : ℕ) (stop : Option (List ℕ)) → IsRight (each_does shape cpu state flags stop)
+  unfolding each_does is_enomem
+  each_right state flags stop = by (eqb flags 0)
+    where
+      by : (plain : Bool) → IsRight (cond plain (hands shape cpu state stop (buckets_from shape 0) []) (record { turns = []; reply = Refused Einval }))
+      by true = hands_right state stop (buckets_from shape 0) (buckets_within shape 0) []
+      by false = other_reply [] (Refused Einval) law.none refl
+
   -- every call
   pub does_right : (state : State) → Kept state → (verb : Verb) → VerbPasses Passes verb → IsRightly Fits Lacks (does shape cpu number state verb)
   unfolding does
@@ -356,3 +390,4 @@ module _ {shape : Shape} {cpu number : ℕ} {Passes : Side → List ℕ → List
   does_right state kept (verbs.BatchRead remove count start flags) pass = read_right state kept remove count start flags
   does_right state kept (verbs.BatchUpdate flags pairs) pass = write_right state kept flags (updates_of pairs) (updates_pass Passes pairs pass)
   does_right state kept (verbs.BatchDelete flags keys) pass = write_right state kept flags (deletes_of keys) (deletes_pass Passes keys)
+  does_right state kept (verbs.Each flags stop) pass = each_right state flags stop

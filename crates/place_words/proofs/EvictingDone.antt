@@ -333,3 +333,4 @@ module _ (shape : Shape) (cpu number : ℕ) (supplies : Supplies shape cpu) wher
     key_served (verbs.BatchRead remove count start flags) is = absurd is
     key_served (verbs.BatchUpdate flags pairs) is = absurd is
     key_served (verbs.BatchDelete flags keys) is = absurd is
+    key_served (verbs.Each flags stop) is = absurd is

@@ -59,6 +59,7 @@ pub mod Giving
 pub mod OwnGets
 pub mod SharedGets
 pub mod WalksDone
+pub mod HandingAlong
 pub mod PlainlyDone
 pub mod OrderlyRuns
 pub mod OnLocks

@@ -32,6 +32,7 @@ module _ (shape : Shape) (cpu : ℕ) (spare : Option ℕ) (turns : List TurnAt) 
   plain_trace (verbs.BatchRead remove count start flags) trace = absurd trace
   plain_trace (verbs.BatchUpdate flags pairs) trace = absurd trace
   plain_trace (verbs.BatchDelete flags keys) trace = absurd trace
+  plain_trace (verbs.Each flags stop) trace = absurd trace
 
   -- and the other way round
   pub trace_plain : (verb : Verb) → IsKeyTrace shape cpu spare verb turns reply → IsPlainTrace shape cpu spare verb (turns_of turns) reply

@@ -11,7 +11,8 @@ use Rattle.map_types.specs.declared.refusal.Errno.TheVariants.{Einval}
 use Rattle.map_types.specs.declared.reply.Reply.TheVariants.{Refused, Count}
 use Rattle.map_types.specs.Kind.{is_lru, is_percpu}
 use Rattle.place_words.specs.Evicting.{IsEvictingTrace}
-use Rattle.place_words.specs.Logs.{State, all_turned, Does, key_does, next_does, counted_or, writes, write_does, does, placed, IsDone}
+use Rattle.place_words.specs.Handing.{IsHandingTrace, StopsAt}
+use Rattle.place_words.specs.Logs.{State, all_turned, Does, key_does, next_does, counted_or, writes, write_does, each_does, does, placed, IsDone}
 use Rattle.place_words.specs.PlainTraces.{IsPlainTrace, spare_after}
 use Rattle.place_words.specs.SerialOrder.{IsOrderly}
 use Rattle.place_words.specs.Traces.{IsTrace}
@@ -20,7 +21,7 @@ use Rattle.place_words.specs.Walks.{IsNextTrace, IsKeyTrace, spare_left, refused
 use Rattle.place_words.proofs.DoneLaws.{IsPlainlyDone, IsKeyVerb, key_done}
 use Rattle.place_words.proofs.PlacedLaws.{GoLegally, legally_none, legally_both, legally_allowed, placed-append, placed_turns, spares_after, spares_stay}
 use Rattle.place_words.proofs.PlainLaws.{chosen_second, plain_spare}
-use Rattle.place_words.proofs.WalksDone.{next_done, read_done}
+use Rattle.place_words.proofs.WalksDone.{next_done, read_done, each_done}
 
 -- a map that doesn't evict and has one value for each key is of kind HASH
 only_hash : (kind : MapKind) → is_lru kind ≡ false → is_percpu kind ≡ false → kind ≡ Hash
@@ -136,6 +137,12 @@ module _ (shape : Shape) (cpu number : ℕ) (plain : is_lru shape.kind ≡ false
   traced state orderly (verbs.BatchRead remove count start flags) = read_done shape cpu number plain state orderly.legal remove count start flags
   traced state orderly (verbs.BatchUpdate flags pairs) = write_done state orderly flags (updates_of pairs) (updates_served pairs)
   traced state orderly (verbs.BatchDelete flags keys) = write_done state orderly flags (deletes_of keys) (deletes_served keys)
+  traced state orderly (verbs.Each flags stop) =
+      let did : Does = each_does shape cpu state flags stop in
+      let done = each_done shape cpu state stop flags in (
+        subst (λ (turns : List Turn). IsHandingTrace shape cpu (StopsAt stop) flags turns did.reply) (sym (placed_turns shape cpu number did.turns state)) done.0,
+        legally_allowed shape cpu number did.turns state orderly.legal done.1,
+      )
 
   -- Every call does what the rules say, and leaves the map orderly.
   pub plainly_done : (state : State) → IsOrderly shape state → (verb : Verb)

@@ -1,13 +1,14 @@
 -- On a map that doesn't evict, next key and batch reads do in serial order what the rules say.
-use Rattle.std.proofs.Common.{◌≡◌, ℕ, ◌+◌, ◌-◌, Bool, true, false, cond, eqb, ltb, List, [], ◌∷◌, ◌++◌, length, map, refl, ap, sym, ◌∙◌, subst}
+use Rattle.std.proofs.Common.{◌≡◌, ℕ, suc, ◌+◌, ◌-◌, Bool, true, false, cond, eqb, ltb, List, [], ◌∷◌, ◌++◌, length, map, refl, ap, sym, ◌∙◌, subst}
 use Rattle.std.proofs.Math.Path.{fun_ext}
-use Rattle.std.specs.Prelude.{Option, None, Some, MatchBool, MatchOption, min, unwrap_or}
+use Rattle.std.specs.List.{list_any}
+use Rattle.std.specs.Prelude.{◌||◌, Option, None, Some, MatchBool, MatchOption, min, unwrap_or}
 use Rattle.std.proofs.lemmas.Bool.{ltb-true, ltb-false}
 use Rattle.map_types.specs.declared.attr.Shape.{Shape}
 use Rattle.map_types.specs.declared.kind.DomainId.{DomainId}
 use Rattle.map_types.specs.declared.kind.DomainId.TheVariants.{Bucket}
 use Rattle.map_types.specs.declared.refusal.Errno.TheVariants.{Enoent, Einval}
-use Rattle.map_types.specs.declared.reply.Reply.TheVariants.{Done, Refused}
+use Rattle.map_types.specs.declared.reply.Reply.TheVariants.{Done, Refused, Batch}
 use Rattle.map_types.specs.Kind.{is_lru}
 use Rattle.map_types.specs.Stored.{Stored}
 use Rattle.place_words.specs.declared.bucket_part.BucketPart.{BucketPart}
@@ -20,9 +21,10 @@ use Rattle.place_words.specs.declared.free_part.FreePart.TheVariants.{Pushed}
 use Rattle.place_words.specs.declared.history.Part.TheVariants as parts
 use Rattle.place_words.specs.Bodies.{present, first_key, next_key}
 use Rattle.place_words.specs.Buckets.{AllowsInBucket, AllowsNext, as_read, bucket_after}
+use Rattle.place_words.specs.Handing.{HandsOver, HandsOverBuckets, IsHandingTrace, StopsAt, handed, is_stop, up_to_stop}
 use Rattle.place_words.specs.Histories.{Content, Allows, content, content_after, in_bucket, on_freelist, in_locals, in_global, in_own}
 use Rattle.place_words.specs.Locks.{is_same_lock}
-use Rattle.place_words.specs.Logs.{State, turned, all_turned, lies_in, bucket_at, present_in, taken_out, Does, first_does, first_or, firsts, following, found_next, goes_on, next_does, walked, after_walk, walks, read_does, placed}
+use Rattle.place_words.specs.Logs.{State, turned, all_turned, lies_in, bucket_at, present_in, taken_out, Does, first_does, first_or, firsts, following, found_next, goes_on, next_does, walked, after_walk, walks, read_does, after_handing, hands, each_does, placed}
 use Rattle.place_words.specs.Turns.{Turn, on_lock, on_freelist_of, bucket_of_key, after_turn, AreAllowed}
 use Rattle.place_words.specs.Walks.{buckets_from, Firsts, GoesOn, IsNextTrace, IsFreedAfter, TakesOut, walked_out, pair_of, AfterWalk, Walks, IsReadTrace}
 use Rattle.place_words.proofs.DoneLaws.{lies_a_bucket, lies_a_freelist, second_of, either_same}
@@ -110,6 +112,83 @@ module _ (shape : Shape) (cpu : ℕ) (state : State) where
         record { found = found; rest = (goes_on shape state key found).turns; turns_are = refl; goes_on = (goes_done key found).0 },
         look_first (bucket_of_key shape key) (Next key found) (goes_on shape state key found).turns (next_leaves shape cpu key found) (may_next_in key) (goes_done key found).1,
       )
+
+-- Walks over all elements
+
+pub walk_leaves : (shape : Shape) (cpu room : ℕ) (result : Walked) → LeavesBucket shape cpu (Walk false room result)
+unfolding bucket_after
+walk_leaves shape cpu room (Over n) bodies = refl
+walk_leaves shape cpu room (Taken all) bodies = refl
+
+-- what is handed over to a script's callback
+pub hands_over : (stop : Option (List ℕ)) (pairs : List (List ℕ × List ℕ)) → HandsOver (StopsAt stop) pairs (up_to_stop stop pairs) (list_any (is_stop stop) pairs)
+hands_over stop [] = (refl, refl)
+hands_over stop (pair ∷ pairs) = by (is_stop stop pair) refl (hands_over stop pairs)
+  where
+    by : (stops : Bool) → is_stop stop pair ≡ stops → HandsOver (StopsAt stop) pairs (up_to_stop stop pairs) (list_any (is_stop stop) pairs)
+        → HandsOver (StopsAt stop) (pair ∷ pairs) (pair ∷ cond stops [] (up_to_stop stop pairs)) (stops || list_any (is_stop stop) pairs)
+    by true is later = (true, [], (refl, sym is, (refl, refl)))
+    by false is later = (false, up_to_stop stop pairs, (refl, sym is, later))
+
+module _ (shape : Shape) (cpu : ℕ) (state : State) (stop : Option (List ℕ)) where
+  abbrev walk_in : ℕ → List (List ℕ × List ℕ) → Walked → BucketPart
+  walk_in bucket before result = Walk false (shape.elements - length before) result
+
+  abbrev AreHanded : List ℕ → List (List ℕ × List ℕ) → Does → Type 0
+  AreHanded buckets before did = HandsOverBuckets shape cpu (StopsAt stop) buckets before did.turns did.reply × AreAllowed shape cpu (lies_in shape state) did.turns
+
+  may_be_walked : (room bucket : ℕ) → AllowsInBucket shape cpu (Walk false room (walked shape cpu room (bucket_at shape state bucket))) (bucket_at shape state bucket)
+  unfolding AllowsInBucket
+  may_be_walked room bucket = by (ltb room (length (bucket_at shape state bucket))) refl
+    where
+      by : (over : Bool) → ltb room (length (bucket_at shape state bucket)) ≡ over
+          → Rattle.place_words.specs.Buckets.AllowsWalk shape cpu room (cond over (Over (length (bucket_at shape state bucket))) (Taken (map (as_read shape cpu) (bucket_at shape state bucket)))) (bucket_at shape state bucket)
+      by true is = (refl, ltb-true room (length (bucket_at shape state bucket)) is)
+      by false is = (ltb-false room (length (bucket_at shape state bucket)) is, refl)
+
+  handing_step : (bucket : ℕ) (buckets : List ℕ) (before : List (List ℕ × List ℕ)) (result : Walked) (later : List (List ℕ × List ℕ) → Does) → AllowsInBucket shape cpu (walk_in bucket before result) (bucket_at shape state bucket)
+      → ((now : List (List ℕ × List ℕ)) → AreHanded buckets now (later now))
+      → AreHanded (bucket ∷ buckets) before (first_does (on_lock (Bucket bucket) (parts.Bucket (walk_in bucket before result)) ∷ []) (after_handing shape cpu stop bucket before result later))
+  handing_step bucket buckets before (Over n) later may rest = (
+    (Over n, [], (refl, (refl, refl))),
+    look_first shape cpu state bucket (walk_in bucket before (Over n)) [] (walk_leaves shape cpu (shape.elements - length before) (Over n)) may tt,
+  )
+  handing_step bucket buckets before (Taken all) later may rest = by (list_any (is_stop stop) pairs) (hands_over stop pairs)
+    where
+      pairs : List (List ℕ × List ℕ)
+      pairs = map (handed shape cpu) all
+
+      now : List (List ℕ × List ℕ)
+      now = before ++ up_to_stop stop pairs
+
+      leaves : LeavesBucket shape cpu (walk_in bucket before (Taken all))
+      leaves = walk_leaves shape cpu (shape.elements - length before) (Taken all)
+
+      by : (stopped : Bool) → HandsOver (StopsAt stop) pairs (up_to_stop stop pairs) stopped
+          → AreHanded (bucket ∷ buckets) before (first_does (on_lock (Bucket bucket) (parts.Bucket (walk_in bucket before (Taken all))) ∷ []) (cond stopped (record { turns = []; reply = Batch None now (suc bucket) }) (later now)))
+      by true over = (
+        (Taken all, [], (refl, (up_to_stop stop pairs, true, (over, (refl, refl))))),
+        look_first shape cpu state bucket (walk_in bucket before (Taken all)) [] leaves may tt,
+      )
+      by false over = (
+        (Taken all, (later now).turns, (refl, (up_to_stop stop pairs, false, (over, (rest now).0)))),
+        look_first shape cpu state bucket (walk_in bucket before (Taken all)) (later now).turns leaves may (rest now).1,
+      )
+
+  hands_done : (buckets : List ℕ) (before : List (List ℕ × List ℕ)) → AreHanded buckets before (hands shape cpu state stop buckets before)
+  hands_done [] before = ((refl, refl), tt)
+  hands_done (bucket ∷ buckets) before =
+      let room : ℕ = shape.elements - length before in
+      handing_step bucket buckets before (walked shape cpu room (bucket_at shape state bucket)) (λ now. hands shape cpu state stop buckets now) (may_be_walked room bucket) (λ now. hands_done buckets now)
+
+  pub each_done : (flags : ℕ) → IsHandingTrace shape cpu (StopsAt stop) flags (each_does shape cpu state flags stop).turns (each_does shape cpu state flags stop).reply × AreAllowed shape cpu (lies_in shape state) (each_does shape cpu state flags stop).turns
+  unfolding each_does
+  each_done flags = by (eqb flags 0)
+    where
+      by : (plainly : Bool) → let did : Does = cond plainly (hands shape cpu state stop (buckets_from shape 0) []) (record { turns = []; reply = Refused Einval }) in
+          MatchBool plainly (HandsOverBuckets shape cpu (StopsAt stop) (buckets_from shape 0) [] did.turns did.reply) ((did.turns ≡ []) × (did.reply ≡ Refused Einval)) × AreAllowed shape cpu (lies_in shape state) did.turns
+      by true = hands_done (buckets_from shape 0) []
+      by false = ((refl, refl), tt)
 
 -- Batch reads
 

@@ -52,11 +52,11 @@ AllowsNext key nexts.Absent bucket = IsAbsent key bucket
 AllowsNext key nexts.Last bucket = IsPresentWith key bucket (λ body. next_key key bucket ≡ None)
 AllowsNext key (nexts.Key next) bucket = IsPresentWith key bucket (λ body. next_key key bucket ≡ Some next)
 
--- an element as a batch read gives it, with the one value that the system call reads on this CPU
+-- an element as a batch read or a walk over all elements takes it, with the one value that the system call reads on this CPU
 abbrev pub as_read : Shape → ℕ → Stored → Stored
 as_read shape cpu body = record body { values = value_read shape Sys cpu body.values ∷ [] }
 
--- a batch read takes the whole bucket, or nothing where there is no room for that
+-- a batch read or a walk over all elements takes the whole bucket, or nothing where there is no room for that
 abbrev pub AllowsWalk : Shape → ℕ → ℕ → Walked → List Stored → Type 0
 AllowsWalk shape cpu room (Over n) bucket = (n ≡ length bucket) × (room < n)
 AllowsWalk shape cpu room (Taken all) bucket = (length bucket ≤ room) × (all ≡ map (as_read shape cpu) bucket)

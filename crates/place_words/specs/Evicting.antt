@@ -1,7 +1,7 @@
 -- The turns of one call of a map that evicts, in the order in which their locks are given back, and the reply that goes
 -- with them. The rules are those of the kernel's `htab_lru_map_update_elem`, `__htab_lru_percpu_map_update_elem`,
--- `htab_lru_map_delete_elem` and `__htab_map_lookup_and_delete_elem`. Next key and batches
--- are told elsewhere, since they differ on maps that don't evict only in how a batch frees what it takes out.
+-- `htab_lru_map_delete_elem` and `__htab_map_lookup_and_delete_elem`. Next key, batches and
+-- walks over all elements are told elsewhere, since they differ on maps that don't evict only in how a batch frees what it takes out.
 use Rattle.std.specs.Prelude.{◌≡◌, ◌⊎◌, ℕ, ◌<◌, ◌≤◌, ◌==◌, ◌&&◌, IsTrue, IsFalse, MatchBool, MatchOption, List, [], ◌∷◌, ◌++◌, Option, None, Some}
 use Rattle.map_types.specs.declared.attr.Shape.{Shape}
 use Rattle.map_types.specs.declared.call.Verb.{Verb}
@@ -116,3 +116,4 @@ IsEvictingTrace shape cpu (verbs.Next key) turns reply = ⊥
 IsEvictingTrace shape cpu (verbs.BatchRead remove count start flags) turns reply = ⊥
 IsEvictingTrace shape cpu (verbs.BatchUpdate flags pairs) turns reply = ⊥
 IsEvictingTrace shape cpu (verbs.BatchDelete flags keys) turns reply = ⊥
+IsEvictingTrace shape cpu (verbs.Each flags stop) turns reply = ⊥

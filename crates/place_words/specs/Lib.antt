@@ -8,6 +8,7 @@ pub mod Cursors
 pub mod Evicting
 pub mod Freelists
 pub mod Globals
+pub mod Handing
 pub mod Histories
 pub mod Interleaving
 pub mod Locals

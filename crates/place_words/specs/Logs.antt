@@ -1,7 +1,7 @@
 -- A run of a map of any kind in serial order: the calls of a script one after another. What is known of the map at each
 -- moment is the log of each lock, which bits are set, and each CPU's spare. What lies under a lock is what its log leads to.
 use Rattle.std.specs.Prelude.{ℕ, suc, ◌+◌, ◌-◌, ◌==◌, nat_lt, min, Bool, true, false, ◌&&◌, List, [], ◌∷◌, ◌++◌, map, length, filter, find, reverse, slice_get, option_map, option_to_list, unwrap_or, Option, None, Some, if◌then◌else◌}
-use Rattle.std.specs.List.{flat_map, range_with_len}
+use Rattle.std.specs.List.{flat_map, list_any, range_with_len}
 use Rattle.map_types.specs.declared.attr.Shape.{Shape}
 use Rattle.map_types.specs.declared.call.Call.{Call}
 use Rattle.map_types.specs.declared.call.Verb.{Verb}
@@ -43,6 +43,7 @@ use Rattle.place_words.specs.Buckets.{as_read}
 use Rattle.place_words.specs.Choices.{without_bits, with_bits, own_turn, own_got, global_turn, refill_of, refill_got, steal_of, steal_got}
 use Rattle.map_types.specs.ElementLists.{put}
 use Rattle.place_words.specs.Evicting.{left_over}
+use Rattle.place_words.specs.Handing.{handed, is_stop, up_to_stop}
 use Rattle.place_words.specs.Histories.{Content, content, marks, clears, bucket_in, freelist_in, locals_in, global_in, own_in}
 use Rattle.map_types.specs.Listed.{elements_of}
 use Rattle.place_words.specs.Locals.{LocalLists, new_locals}
@@ -266,6 +267,7 @@ key_does shape cpu number state (verbs.Next key) = record { turns = []; reply = 
 key_does shape cpu number state (verbs.BatchRead remove count start flags) = record { turns = []; reply = Refused Einval }
 key_does shape cpu number state (verbs.BatchUpdate flags pairs) = record { turns = []; reply = Refused Einval }
 key_does shape cpu number state (verbs.BatchDelete flags keys) = record { turns = []; reply = Refused Einval }
+key_does shape cpu number state (verbs.Each flags stop) = record { turns = []; reply = Refused Einval }
 
 -- Next key
 
@@ -339,6 +341,26 @@ abbrev pub write_does : Shape → ℕ → ℕ → State → ℕ → List Verb �
 write_does shape cpu number state flags entries =
     if flags == 0 then writes shape cpu number state entries 0 else record { turns = []; reply = Refused Einval }
 
+-- Walks over all elements. Each bucket is told as it lies there; what is told of it is handed over up to the key at which the walk
+-- stops, and the walk ends behind that key's bucket.
+
+abbrev pub after_handing : Shape → ℕ → Option (List ℕ) → ℕ → List (List ℕ × List ℕ) → Walked → (List (List ℕ × List ℕ) → Does) → Does
+after_handing shape cpu stop bucket before (Over n) later = record { turns = []; reply = Batch None before bucket }
+after_handing shape cpu stop bucket before (Taken all) later =
+    let now : List (List ℕ × List ℕ) = before ++ up_to_stop stop (map (handed shape cpu) all) in
+    if list_any (is_stop stop) (map (handed shape cpu) all) then record { turns = []; reply = Batch None now (suc bucket) } else later now
+
+abbrev pub hands : Shape → ℕ → State → Option (List ℕ) → List ℕ → List (List ℕ × List ℕ) → Does
+hands shape cpu state stop [] before = record { turns = []; reply = Batch None before shape.buckets }
+hands shape cpu state stop (bucket ∷ buckets) before =
+    let room : ℕ = shape.elements - length before in
+    let result : Walked = walked shape cpu room (bucket_at shape state bucket) in
+    first_does (on_lock (Bucket bucket) (parts.Bucket (Walk false room result)) ∷ []) (after_handing shape cpu stop bucket before result (λ now. hands shape cpu state stop buckets now))
+
+unfoldable pub each_does : Shape → ℕ → State → ℕ → Option (List ℕ) → Does
+each_does shape cpu state flags stop =
+    if flags == 0 then hands shape cpu state stop (buckets_from shape 0) [] else record { turns = []; reply = Refused Einval }
+
 -- Every call
 
 unfoldable pub does : Shape → ℕ → ℕ → State → Verb → Does
@@ -350,6 +372,7 @@ does shape cpu number state (verbs.Next key) = next_does shape state key
 does shape cpu number state (verbs.BatchRead remove count start flags) = read_does shape cpu number state remove count start flags
 does shape cpu number state (verbs.BatchUpdate flags pairs) = write_does shape cpu number state flags (updates_of pairs)
 does shape cpu number state (verbs.BatchDelete flags keys) = write_does shape cpu number state flags (deletes_of keys)
+does shape cpu number state (verbs.Each flags stop) = each_does shape cpu state flags stop
 
 -- Runs
 

@@ -96,8 +96,8 @@ pub record IsTakeTrace (shape : Shape) (cpu : ℕ) (key : List ℕ) (turns : Lis
   pub turns_are : turns ≡ pushes cpu (element_gone gone) ++ on_bucket_of shape key (Take key gone) ∷ []
   pub reply_is : reply ≡ reply_of_got gone
 
--- The turns of a call on one key, on a CPU with this spare, and its reply. Next key and batches are told elsewhere, since
--- they differ on maps that evict only in how a batch frees what it takes out.
+-- The turns of a call on one key, on a CPU with this spare, and its reply. Next key, batches and walks over all elements
+-- are told elsewhere, since they differ on maps that evict only in how a batch frees what it takes out.
 abbrev pub IsPlainTrace : Shape → ℕ → Option ℕ → Verb → List Turn → Reply → Type 0
 IsPlainTrace shape cpu spare (verbs.Lookup side key) turns reply = IsLookupTrace shape side key turns reply
 IsPlainTrace shape cpu spare (verbs.Update side flags key value) turns reply = IsUpdateTrace shape cpu spare side flags key value turns reply
@@ -107,6 +107,7 @@ IsPlainTrace shape cpu spare (verbs.Next key) turns reply = ⊥
 IsPlainTrace shape cpu spare (verbs.BatchRead remove count start flags) turns reply = ⊥
 IsPlainTrace shape cpu spare (verbs.BatchUpdate flags pairs) turns reply = ⊥
 IsPlainTrace shape cpu spare (verbs.BatchDelete flags keys) turns reply = ⊥
+IsPlainTrace shape cpu spare (verbs.Each flags stop) turns reply = ⊥
 
 -- The spare of a CPU after turns of its calls: the old element of the last replacement, else the one before.
 abbrev pub spare_after_put : Option ℕ → Put → Option ℕ

@@ -5,6 +5,7 @@ use Rattle.map_types.specs.declared.attr.Shape.{Shape}
 use Rattle.map_types.specs.declared.call.Verb.{Verb}
 use Rattle.map_types.specs.declared.call.Verb.TheVariants as verbs
 use Rattle.map_types.specs.declared.reply.Reply.{Reply}
+use Rattle.place_words.specs.Handing.{IsHandingTrace, StopsAt}
 use Rattle.place_words.specs.Turns.{TurnAt, turns_of}
 use Rattle.place_words.specs.Walks.{IsKeyTrace, IsNextTrace, IsReadTrace, IsWriteBatch, updates_of, deletes_of}
 pub use Rattle.place_words.specs.Turns.{Turn, bucket_of_key, ring, on_bucket_of, on_freelist_of, after_turn, after_turns, AreAllowed}
@@ -21,3 +22,4 @@ IsTrace shape cpu spare (verbs.Next key) turns reply = IsNextTrace shape key (tu
 IsTrace shape cpu spare (verbs.BatchRead remove count start flags) turns reply = IsReadTrace shape cpu remove count start flags turns reply
 IsTrace shape cpu spare (verbs.BatchUpdate flags pairs) turns reply = IsWriteBatch shape cpu spare flags (updates_of pairs) turns reply
 IsTrace shape cpu spare (verbs.BatchDelete flags keys) turns reply = IsWriteBatch shape cpu spare flags (deletes_of keys) turns reply
+IsTrace shape cpu spare (verbs.Each flags stop) turns reply = IsHandingTrace shape cpu (StopsAt stop) flags (turns_of turns) reply

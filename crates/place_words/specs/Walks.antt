@@ -82,7 +82,7 @@ abbrev pub walked_out : Bool → Walked → List ℕ
 walked_out remove (Over n) = []
 walked_out remove (Taken all) = if remove then numbers all else []
 
--- the key and the value of an element as a batch reads it
+-- the key of an element, and the value that the system call reads of it, as a bucket's turn tells them
 abbrev pub pair_of : Stored → List ℕ × List ℕ
 pair_of stored = (stored.key, unwrap_or (slice_get stored.values 0) [])
 

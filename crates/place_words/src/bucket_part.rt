@@ -43,8 +43,8 @@ pub enum BucketPart {
     First {
         key: Option<Bytes>,
     },
-    /// A batch read comes by with room for so many elements, and takes the whole bucket or nothing. `remove` says whether
-    /// it empties the bucket.
+    /// A batch read, or a walk over all elements, comes by with room for so many elements, and takes the whole bucket or
+    /// nothing. `remove` says whether it empties the bucket, as a batch may.
     Walk {
         remove: bool,
         room: u32,
@@ -85,7 +85,7 @@ pub enum NextFound {
     Key(Bytes),
 }
 
-/// What a batch read took of a bucket.
+/// What a batch read, or a walk over all elements, took of a bucket.
 #[derive(Drop)]
 pub enum Walked {
     /// The bucket has so many elements, which is more than there is room for.

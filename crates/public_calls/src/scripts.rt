@@ -7,7 +7,7 @@ use std::test::Fail;
 
 /// A script with each verb, in a text that is not canonical.
 const EACH_VERB: &str =
-    "# caf\u{e9}\n\nbpfmap\t1 # one\r\n map lru_hash key 02 value 1 max 0000000001 cpus 1 flags 0 seed 4294967295\r\n\n0 lookup aBcD\n0 syslookup 0102\n0 update exist 0102 ff\n0 sysupdate 7 0102 ff\n0 delete 0102\n0 take 0102\n0 next\n0 next 0102\n0 batch_lookup 1 -\n0 batch_take 4294967295 0000000002 5\n0 batch_update 0 0102 ff 0304 ee\n0 batch_delete 0 0102 # last";
+    "# caf\u{e9}\n\nbpfmap\t2 # two\r\n map lru_hash key 02 value 1 max 0000000001 cpus 1 flags 0 seed 4294967295\r\n\n0 lookup aBcD\n0 syslookup 0102\n0 update exist 0102 ff\n0 sysupdate 7 0102 ff\n0 delete 0102\n0 take 0102\n0 next\n0 next 0102\n0 batch_lookup 1 -\n0 batch_take 4294967295 0000000002 5\n0 batch_update 0 0102 ff 0304 ee\n0 batch_delete 0 0102\n0 each 00 -\n0 each 7 aBcD # last";
 
 /// A script of form Generator.
 const GENERATED: &str =
@@ -38,7 +38,7 @@ pub(crate) static TEXTS: [(Form, &str, &str); 6] = [
     (
         Form::Calls,
         EACH_VERB,
-        "bpfmap 1\nmap lru_hash key 2 value 1 max 1 cpus 1 seed 4294967295\n0 lookup abcd\n0 syslookup 0102\n0 update exist 0102 ff\n0 sysupdate 7 0102 ff\n0 delete 0102\n0 take 0102\n0 next\n0 next 0102\n0 batch_lookup 1 -\n0 batch_take 4294967295 2 5\n0 batch_update 0 0102 ff 0304 ee\n0 batch_delete 0 0102\n",
+        "bpfmap 2\nmap lru_hash key 2 value 1 max 1 cpus 1 seed 4294967295\n0 lookup abcd\n0 syslookup 0102\n0 update exist 0102 ff\n0 sysupdate 7 0102 ff\n0 delete 0102\n0 take 0102\n0 next\n0 next 0102\n0 batch_lookup 1 -\n0 batch_take 4294967295 2 5\n0 batch_update 0 0102 ff 0304 ee\n0 batch_delete 0 0102\n0 each 0 -\n0 each 7 abcd\n",
     ),
     (
         Form::Generator,
@@ -108,6 +108,8 @@ fn line_of(verb: &Verb) -> usize {
         Verb::BatchRead { remove: true, .. } => 9,
         Verb::BatchUpdate { .. } => 10,
         Verb::BatchDelete { .. } => 11,
+        Verb::Each { stop: None, .. } => 12,
+        Verb::Each { stop: Some(_), .. } => 13,
     }
 }
 
@@ -126,7 +128,7 @@ fn are_each(calls: &[Call]) -> bool {
             return false;
         }
     }
-    calls.len() == 12 && looks_up(&calls[0], &[0xab, 0xcd])
+    calls.len() == 14 && looks_up(&calls[0], &[0xab, 0xcd])
 }
 
 #[test]

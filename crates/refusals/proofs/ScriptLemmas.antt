@@ -12,7 +12,7 @@ use Rattle.map_script.specs.declared.refusal.ScriptRefusal.TheVariants.{Fault}
 use Rattle.map_script.specs.declared.script.Form.TheVariants as forms
 use Rattle.map_script.specs.declared.script.Script.{Script}
 use Rattle.map_script.specs.Canonical.{canonical, body_text, line_text, map_tokens}
-use Rattle.map_script.specs.Grammar.{version_line, map_line, gen_line, call_line, verb_line, update_places}
+use Rattle.map_script.specs.Grammar.{version_line, map_line, gen_line, call_line, named_line, verb_line, update_places}
 use Rattle.map_script.specs.Reading.{read_as, version_of, map_of, body_of, IsReading}
 use Rattle.map_script.specs.WellFormed.{IsWellFormed}
 use Rattle.refusals.specs.Script.{IsInThreePhases, update_any, delete}
@@ -40,7 +40,7 @@ HasTheCall (Ok script) = script.calls ≡ update_any ∷ []
 HasTheCall (Err refusal) = ⊥
 
 updating_is : HasTheCall (read_as forms.Calls updating)
-unfolding read_as version_of version_line map_of map_line body_of call_line verb_line update_places decode_pairs creation refusal_of flags_refusal contents_refusal limit_passed shape_of
+unfolding read_as version_of version_line map_of map_line body_of call_line named_line verb_line update_places decode_pairs creation refusal_of flags_refusal contents_refusal limit_passed shape_of
 updating_is = refl
 
 -- a refusal, and a script that is read

@@ -20,7 +20,7 @@ use Rattle.map_script.specs.declared.script.Form.{Form}
 use Rattle.map_script.specs.declared.script.Form.TheVariants as forms
 use Rattle.map_script.specs.declared.script.GenSpec.{GenSpec}
 use Rattle.map_script.specs.declared.script.Script.{Script}
-use Rattle.map_script.specs.Grammar.{lookup_places, update_places, delete_places, take_places, next_places, batch_read_places, pairs_to_end, keys_to_end, batch_update_places, batch_delete_places, verb_line, call_on, call_line, map_line, version_line}
+use Rattle.map_script.specs.Grammar.{lookup_places, update_places, delete_places, take_places, next_places, batch_read_places, pairs_to_end, keys_to_end, batch_update_places, batch_delete_places, verb_line, each_places, each_line, names_each, named_line, call_on, call_line, map_line, version_line}
 use Rattle.map_script.specs.Lines.{Line, is_line_feed, is_blank, is_hash, is_allowed, before_comment, tokens_of, said_by, is_nothing, numbered, lines_of, end_number}
 use Rattle.map_script.specs.Places.{◌>>=◌, Tokens, at_end, number, cpu, bytes_in, bytes}
 use Rattle.map_script.specs.Reading.{at_line, or_create, no_body, body_from, spec_of, script_of, body_of, map_of, version_of, read_as}
@@ -138,13 +138,21 @@ cpu_fewer : (cpus : ℕ) (tokens rest : Tokens) (found : ℕ) → cpu cpus token
 cpu_fewer cpus [] rest found read = grind arith
 cpu_fewer cpus (first ∷ others) rest found read = grind arith
 
-call_few : (shape : Shape) (tokens : Tokens) (call : Call) → call_line shape tokens ≡ Ok call → entry_count call.verb ≤ length tokens
+walk_few : (shape : Shape) (tokens : Tokens) (verb : Verb) → each_line shape tokens ≡ Ok verb → entry_count verb ≤ length tokens
+unfolding each_line each_places
+walk_few shape tokens verb read = grind arith
+
+named_few : (version : ℕ) (shape : Shape) (tokens : Tokens) (verb : Verb) → named_line version shape tokens ≡ Ok verb → entry_count verb ≤ length tokens
+unfolding named_line
+named_few version shape tokens verb read = either (length tokens) verb (names_each version tokens) (each_line shape tokens) (verb_line shape tokens) (walk_few shape tokens verb) (verb_few shape tokens verb) read
+
+call_few : (version : ℕ) (shape : Shape) (tokens : Tokens) (call : Call) → call_line version shape tokens ≡ Ok call → entry_count call.verb ≤ length tokens
 unfolding call_line
-call_few shape tokens call read =
-    let on = step_found (cpu shape.cpus tokens) (λ on. verb_line shape on.1 >>= λ verb. Ok (call_on on.0 verb)) call read in
-    let verb = step_found (verb_line shape on.0.1) (λ verb. Ok (call_on on.0.0 verb)) call on.2 in
-    let few : entry_count verb.0 ≤ length tokens = omega (arith, verb_few shape on.0.1 verb.0 verb.1, cpu_fewer shape.cpus tokens on.0.1 on.0.0 on.1) in
-    subst (λ (c : Call). entry_count c.verb ≤ length tokens) (same_ok (call_line shape tokens) (call_on on.0.0 verb.0) call (read ∙ sym verb.2) read) few
+call_few version shape tokens call read =
+    let on = step_found (cpu shape.cpus tokens) (λ on. named_line version shape on.1 >>= λ verb. Ok (call_on on.0 verb)) call read in
+    let verb = step_found (named_line version shape on.0.1) (λ verb. Ok (call_on on.0.0 verb)) call on.2 in
+    let few : entry_count verb.0 ≤ length tokens = omega (arith, named_few version shape on.0.1 verb.0 verb.1, cpu_fewer shape.cpus tokens on.0.1 on.0.0 on.1) in
+    subst (λ (c : Call). entry_count c.verb ≤ length tokens) (same_ok (call_line version shape tokens) (call_on on.0.0 verb.0) call (read ∙ sym verb.2) read) few
 
 -- The tokens of the lines of a text
 
@@ -223,14 +231,14 @@ module _ (n : ℕ) where
   abbrev HasFew : Script → Type 0
   HasFew script = All IsFew script.calls
 
-  call_is_few : (shape : Shape) (line : Line) (tokens : Tokens) (call : Call) → IsShort n line → line.says ≡ Ok tokens → call_line shape tokens ≡ Ok call → IsFew call
-  call_is_few shape line tokens call short said read = omega (arith, call_few shape tokens call read, short tokens said)
+  call_is_few : (version : ℕ) (shape : Shape) (line : Line) (tokens : Tokens) (call : Call) → IsShort n line → line.says ≡ Ok tokens → call_line version shape tokens ≡ Ok call → IsFew call
+  call_is_few version shape line tokens call short said read = omega (arith, call_few version shape tokens call read, short tokens said)
 
   body_few : (form : Form) (version : ℕ) (attr : CreateAttr) (shape : Shape) (end : ℕ) (lines : List Line) (script : Script) → AllByRecursion (IsShort n) lines → body_of form version attr shape end lines ≡ Ok script → HasFew script
   unfolding body_of
   body_few forms.Calls version attr shape end lines script short read =
       let body = step_found (body_from version shape no_body lines) (λ body. Ok (script_of version attr shape body.calls body.cuts None)) script read in
-      subst HasFew (same_ok (body_of forms.Calls version attr shape end lines) (script_of version attr shape body.0.calls body.0.cuts None) script (read ∙ sym body.2) read) (calls_hold version shape IsFew (IsShort n) (call_is_few shape) lines body.0 short body.1)
+      subst HasFew (same_ok (body_of forms.Calls version attr shape end lines) (script_of version attr shape body.0.calls body.0.cuts None) script (read ∙ sym body.2) read) (calls_hold version shape IsFew (IsShort n) (call_is_few version shape) lines body.0 short body.1)
   body_few forms.Generator version attr shape end lines script short read =
       let spec = step_found (spec_of shape end lines) (λ spec. Ok (script_of version attr shape [] [] (Some spec))) script read in
       subst HasFew (same_ok (body_of forms.Generator version attr shape end lines) (script_of version attr shape [] [] (Some spec.0)) script (read ∙ sym spec.2) read) (All-nil IsFew)

@@ -10,13 +10,13 @@ use Rattle.map_types.specs.Shape.{HasBounds}
 use Rattle.map_types.specs.declared.attr.Shape.{Shape}
 use Rattle.map_types.specs.declared.call.Call.{Call}
 use Rattle.map_types.specs.declared.call.Verb.{Verb}
-use Rattle.map_types.specs.declared.call.Verb.TheVariants.{Lookup, Update, Delete, Take, Next, BatchRead, BatchUpdate, BatchDelete}
+use Rattle.map_types.specs.declared.call.Verb.TheVariants.{Lookup, Update, Delete, Take, Next, BatchRead, BatchUpdate, BatchDelete, Each}
 use Rattle.map_types.specs.declared.kind.Side.{Side}
 use Rattle.map_types.specs.declared.kind.Side.TheVariants.{Sys}
 use Rattle.map_types.specs.declared.refusal.Errno.{Errno}
 use Rattle.map_types.specs.declared.refusal.Errno.TheVariants.{Enoent, E2big, Einval}
 use Rattle.map_types.specs.declared.reply.Reply.{Reply}
-use Rattle.map_types.specs.declared.reply.Reply.TheVariants.{Done, Refused}
+use Rattle.map_types.specs.declared.reply.Reply.TheVariants.{Done, Refused, Batch}
 use Rattle.map_script.specs.WellFormed.{IsCallOn}
 use Rattle.map_script.specs.declared.script.Script.{Script}
 use Rattle.place_words.specs.declared.finals.Finals.{Finals}
@@ -89,6 +89,10 @@ absent_not_big = λ is. absurd cc
 invalid_not_big : Refused Einval ≢ Refused E2big
 invalid_not_big = λ is. absurd cc
 
+-- nor what a walk over all elements answers
+handed_not_big : (over : List (List ℕ × List ℕ)) (next : ℕ) → Batch None over next ≢ Refused E2big
+handed_not_big over next = λ is. absurd cc
+
 -- E2BIG is the reply to a call exactly where it finds no room, where the call answers what it does on these entries
 call_big : (shape : Shape) (cpu : ℕ) (verb : Verb) (lists : Finals) (entries : List Entry) → (after_call shape cpu verb lists).1 ≡ (answered shape cpu verb (after_call shape cpu verb lists).1 entries).1
     → ((after_call shape cpu verb lists).1 ≡ Refused E2big) ↔ FindsNoRoom shape entries verb
@@ -117,6 +121,9 @@ call_big shape cpu (BatchUpdate flags pairs) lists entries same =
 call_big shape cpu (BatchDelete flags keys) lists entries same =
     let not_big = cond_both (flags == 0) _ _ (λ (after : Finals × Reply). after.1 ≢ Refused E2big)
     (λ known. each_not_refused E2big (after_delete shape cpu) keys 0 lists) (λ other. invalid_not_big) in
+    (λ is. absurd (not_big is), λ finds. absurd finds)
+call_big shape cpu (Each flags stop) lists entries same =
+    let not_big = cond_both (flags == 0) _ _ (λ (after : Finals × Reply). after.1 ≢ Refused E2big) (λ known. handed_not_big _ _) (λ other. invalid_not_big) in
     (λ is. absurd (not_big is), λ finds. absurd finds)
 
 -- what holds of each call holds of that of an index

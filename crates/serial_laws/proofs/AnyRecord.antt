@@ -10,7 +10,7 @@ use Rattle.map_types.specs.ValueLen.{value_len_of}
 use Rattle.map_types.specs.declared.attr.Shape.{Shape}
 use Rattle.map_types.specs.declared.call.Call.{Call}
 use Rattle.map_types.specs.declared.call.Verb.{Verb}
-use Rattle.map_types.specs.declared.call.Verb.TheVariants.{Lookup, Update, Delete, Take, Next, BatchRead, BatchUpdate, BatchDelete}
+use Rattle.map_types.specs.declared.call.Verb.TheVariants.{Lookup, Update, Delete, Take, Next, BatchRead, BatchUpdate, BatchDelete, Each}
 use Rattle.map_types.specs.declared.kind.MapKind.{MapKind}
 use Rattle.map_types.specs.declared.kind.MapKind.TheVariants.{Hash, PercpuHash, LruHash, LruPercpuHash}
 use Rattle.map_types.specs.declared.kind.Side.{Side}
@@ -54,6 +54,7 @@ module _ (shape : Shape) where
   passes (BatchRead remove count start flags) sized = tt
   passes (BatchUpdate flags pairs) sized = pairs_pass pairs sized
   passes (BatchDelete flags keys) sized = tt
+  passes (Each flags stop) sized = tt
 
   new_sized : (side : Side) (cpu e : ℕ) (key value : List ℕ) → cpu < shape.cpus → AreSized shape side key value → IsSized shape (new_stored shape side cpu e key value)
   new_sized side cpu e key value within sized = (sized.0, HaveSizes-new shape side cpu value sized.1)

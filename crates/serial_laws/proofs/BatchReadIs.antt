@@ -59,7 +59,7 @@ walked_as shape cpu room (Over n) bodies may =
     ap Over may.0 ∙ sym (cond-true (ltb room (length bodies)) _ _ (lt-ltb room (length bodies) (omega (arith, may.0, may.1))))
 walked_as shape cpu room (Taken all) bodies may = ap Taken may.1 ∙ sym (cond-false (ltb room (length bodies)) _ _ (le-ltb room (length bodies) may.0))
 
-walked_is : (shape : Shape) (cpu room : ℕ) (remove : Bool) (result : Walked) (bodies : List Stored) → AllowsInBucket shape cpu (Walk remove room result) bodies → result ≡ walked shape cpu room bodies
+pub walked_is : (shape : Shape) (cpu room : ℕ) (remove : Bool) (result : Walked) (bodies : List Stored) → AllowsInBucket shape cpu (Walk remove room result) bodies → result ≡ walked shape cpu room bodies
 unfolding AllowsInBucket
 walked_is shape cpu room remove result bodies may = walked_as shape cpu room result bodies may
 

@@ -11,7 +11,7 @@ use Rattle.map_types.specs.Stored.{Stored, HasSizes}
 use Rattle.map_types.specs.ValueLen.{value_len_of}
 use Rattle.map_types.specs.declared.attr.Shape.{Shape}
 use Rattle.map_types.specs.declared.call.Verb.{Verb}
-use Rattle.map_types.specs.declared.call.Verb.TheVariants.{Lookup, Update, Delete, Take, Next, BatchRead, BatchUpdate, BatchDelete}
+use Rattle.map_types.specs.declared.call.Verb.TheVariants.{Lookup, Update, Delete, Take, Next, BatchRead, BatchUpdate, BatchDelete, Each}
 use Rattle.map_types.specs.declared.kind.Side.{Side}
 use Rattle.map_types.specs.declared.reply.Reply.{Reply}
 use Rattle.map_types.specs.declared.reply.Reply.TheVariants.{Done}
@@ -211,6 +211,7 @@ module _ (shape : Shape) (lists : Finals) (each : AreBuckets shape lists) (evict
   key_keeps cpu (BatchRead remove count start flags) is sizes = absurd is
   key_keeps cpu (BatchUpdate flags pairs) is sizes = absurd is
   key_keeps cpu (BatchDelete flags keys) is sizes = absurd is
+  key_keeps cpu (Each flags stop) is sizes = absurd is
 
 -- A call on one key keeps each key in its bucket.
 pub buckets_key : (shape : Shape) (cpu : ℕ) (verb : Verb) (lists : Finals) → IsKeyVerb verb → calls.HasSizes shape verb → AreBuckets shape lists → HasNoLruLists lists

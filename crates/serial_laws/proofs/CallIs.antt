@@ -216,3 +216,4 @@ module _ (Fact : State → Turn → Type 0) (shape : Shape) (cpu number : ℕ) (
     key_is (verbs.BatchRead remove count start flags) is trace = absurd is
     key_is (verbs.BatchUpdate flags pairs) is trace = absurd is
     key_is (verbs.BatchDelete flags keys) is trace = absurd is
+    key_is (verbs.Each flags stop) is trace = absurd is

@@ -9,7 +9,7 @@ use Rattle.map_types.specs.Pairs.{HaveSizes}
 use Rattle.map_types.specs.ValueLen.{value_len_of}
 use Rattle.map_types.specs.declared.attr.Shape.{Shape}
 use Rattle.map_types.specs.declared.call.Verb.{Verb}
-use Rattle.map_types.specs.declared.call.Verb.TheVariants.{Lookup, Update, Delete, Take, Next, BatchRead, BatchUpdate, BatchDelete}
+use Rattle.map_types.specs.declared.call.Verb.TheVariants.{Lookup, Update, Delete, Take, Next, BatchRead, BatchUpdate, BatchDelete, Each}
 use Rattle.map_types.specs.declared.kind.Side.TheVariants.{Sys}
 use Rattle.map_types.specs.declared.refusal.Errno.{Errno}
 use Rattle.map_types.specs.declared.reply.Reply.{Reply}
@@ -74,3 +74,4 @@ module _ (shape : Shape) (cpu : ℕ) (Kept : Finals → Type 0)
       cond_both (flags == 0) _ _ (λ (after : Finals × Reply). Kept after.0)
       (λ plain. each_keeps (after_delete shape cpu) (λ (key : List ℕ). HasSizes shape (Delete key)) (λ key fits now before. by_key (Delete key) tt fits now before) keys (deletes_fit shape keys sizes) 0 lists kept)
       (λ refused. kept)
+  call_keeps (Each flags stop) sizes lists kept = cond_both (flags == 0) _ _ (λ (after : Finals × Reply). Kept after.0) (λ plain. kept) (λ refused. kept)

@@ -11,7 +11,7 @@ use Rattle.map_types.specs.Sides.{values_written}
 use Rattle.map_types.specs.Stored.{Stored}
 use Rattle.map_types.specs.declared.attr.Shape.{Shape}
 use Rattle.map_types.specs.declared.call.Verb.{Verb}
-use Rattle.map_types.specs.declared.call.Verb.TheVariants.{Lookup, Update, Delete, Take, Next, BatchRead, BatchUpdate, BatchDelete}
+use Rattle.map_types.specs.declared.call.Verb.TheVariants.{Lookup, Update, Delete, Take, Next, BatchRead, BatchUpdate, BatchDelete, Each}
 use Rattle.map_types.specs.declared.kind.MapKind.{MapKind}
 use Rattle.map_types.specs.declared.kind.MapKind.TheVariants.{Hash, PercpuHash, LruHash, LruPercpuHash}
 use Rattle.map_types.specs.declared.kind.Side.{Side}
@@ -149,6 +149,7 @@ module _ (shape : Shape) (n : ℕ) (lists : Finals) (bounds : HasBounds shape) (
   key_whole cpu (BatchRead remove count start flags) is built few = absurd is
   key_whole cpu (BatchUpdate flags pairs) is built few = absurd is
   key_whole cpu (BatchDelete flags keys) is built few = absurd is
+  key_whole cpu (Each flags stop) is built few = absurd is
 
 -- A call on one key keeps each element in one place.
 pub each_once_key : (shape : Shape) (n cpu : ℕ) (verb : Verb) (lists : Finals) → HasBounds shape → is_lru shape.kind ≡ false → cpu < shape.cpus → IsKeyVerb verb → HasLists shape lists → EachOnce n lists

@@ -17,7 +17,7 @@ use Rattle.map_types.specs.Sides.{value_read, values_written, new_values}
 use Rattle.map_types.specs.Stored.{Stored}
 use Rattle.map_types.specs.declared.attr.Shape.{Shape}
 use Rattle.map_types.specs.declared.call.Verb.{Verb}
-use Rattle.map_types.specs.declared.call.Verb.TheVariants.{Lookup, Update, Delete, Take, Next, BatchRead, BatchUpdate, BatchDelete}
+use Rattle.map_types.specs.declared.call.Verb.TheVariants.{Lookup, Update, Delete, Take, Next, BatchRead, BatchUpdate, BatchDelete, Each}
 use Rattle.map_types.specs.declared.kind.MapKind.{MapKind}
 use Rattle.map_types.specs.declared.kind.MapKind.TheVariants.{Hash, PercpuHash, LruHash, LruPercpuHash}
 use Rattle.map_types.specs.declared.kind.Side.{Side}
@@ -359,3 +359,4 @@ key_follows shape cpu (Next key) told lists entries bounds built within is has e
 key_follows shape cpu (BatchRead remove count start flags) told lists entries bounds built within is has each agree = absurd is
 key_follows shape cpu (BatchUpdate flags pairs) told lists entries bounds built within is has each agree = absurd is
 key_follows shape cpu (BatchDelete flags keys) told lists entries bounds built within is has each agree = absurd is
+key_follows shape cpu (Each flags stop) told lists entries bounds built within is has each agree = absurd is

@@ -12,7 +12,7 @@ use Rattle.map_types.specs.Stored.{Stored}
 use Rattle.map_types.specs.declared.attr.Shape.{Shape}
 use Rattle.map_types.specs.declared.call.Call.{Call}
 use Rattle.map_types.specs.declared.call.Verb.{Verb}
-use Rattle.map_types.specs.declared.call.Verb.TheVariants.{Lookup, Update, Delete, Take, Next, BatchRead, BatchUpdate, BatchDelete}
+use Rattle.map_types.specs.declared.call.Verb.TheVariants.{Lookup, Update, Delete, Take, Next, BatchRead, BatchUpdate, BatchDelete, Each}
 use Rattle.map_types.specs.declared.kind.Side.TheVariants.{Sys}
 use Rattle.map_types.specs.declared.refusal.Errno.{Errno}
 use Rattle.map_types.specs.declared.refusal.Errno.TheVariants.{Enoent, Einval}
@@ -25,7 +25,7 @@ use Rattle.place_words.specs.Walks.{buckets_from, refused_with}
 use Rattle.place_words.proofs.DoneLaws.{IsKeyVerb}
 use Rattle.place_words.proofs.EachTurn.{AreWithin, first_within, others_within, buckets_within}
 use Rattle.map_report.specs.Buckets.{bucket_of_key}
-use Rattle.map_report.specs.Serial.{in_bucket_at, in_order, key_after, key_or_absent, pair_read, emptied, read_on, unless_stopped, each_done, unless_flags, after_update, after_delete, after_call}
+use Rattle.map_report.specs.Serial.{in_bucket_at, in_order, key_after, key_or_absent, pair_read, emptied, read_on, unless_stopped, each_done, unless_flags, handing_reply, after_update, after_delete, after_call}
 use Rattle.map_report.specs.Soundness.{IsSound}
 use Rattle.serial_laws.specs.Entries.{Entry, without, put_in, took_out, without_all, without_told, told_next, answered}
 use Rattle.serial_laws.proofs.EachCall.{updates_fit, deletes_fit}
@@ -155,6 +155,12 @@ module _ (shape : Shape) (bounds : HasBounds shape) (cpu : ℕ) (few : cpu < sha
     reads_follow remove count start lists entries sound agree true false false = (refl, unchanged remove lists entries agree)
     reads_follow remove count start lists entries sound agree false none there = (refl, agree)
 
+    -- a walk over all elements under known flags or others
+    handed_follow : (reply : Reply) (lists : Finals) (entries : List Entry) → Agrees shape lists entries → (known : Bool)
+        → let after : Finals × Reply = cond known (lists, reply) (lists, Refused Einval) in Follows shape after (cond known (entries, after.1) (entries, Refused Einval))
+    handed_follow reply lists entries agree true = (refl, agree)
+    handed_follow reply lists entries agree false = (refl, agree)
+
     call_follows : (verb : Verb) → HasSizes shape verb → (lists : Finals) (entries : List Entry) → IsSound shape lists → Agrees shape lists entries → CallFollows verb lists entries
     unfolding after_call answered
     call_follows (Lookup side key) sizes lists entries sound agree = one_follows (Lookup side key) tt Done lists entries sound agree
@@ -175,6 +181,7 @@ module _ (shape : Shape) (bounds : HasBounds shape) (cpu : ℕ) (few : cpu < sha
         (λ key fits now held whole same. one_follows (Delete key) tt Done now held whole same)
         (λ key fits now whole. sound_key shape cpu (Delete key) now bounds plain few tt fits whole)
         keys (deletes_fit shape keys sizes) 0 lists entries sound agree)
+    call_follows (Each flags stop) sizes lists entries sound agree = handed_follow (handing_reply shape cpu stop (in_order shape (in_bucket_at lists))) lists entries agree (flags == 0)
 
 -- A call on the lists answers what it answers on the entries, and they agree after it.
 pub agrees_step : (shape : Shape) (call : Call) (lists : Finals) (entries : List Entry)

@@ -19,6 +19,7 @@ use Rattle.serial_laws.proofs.BatchReadIs.{DecidesWalks, read_is, plain_walks, e
 use Rattle.serial_laws.proofs.BatchWriteIs.{write_is}
 use Rattle.serial_laws.proofs.CallIs.{first_of, key_is}
 use Rattle.serial_laws.proofs.Decides.{Decides}
+use Rattle.serial_laws.proofs.EachIs.{each_is}
 use Rattle.serial_laws.proofs.KeyCalls.{IsAs, DecidesKeys}
 use Rattle.serial_laws.proofs.NextIs.{next_is}
 use Rattle.serial_laws.proofs.TurnsMade.{AreMade, EachTurn}
@@ -35,6 +36,7 @@ module _ (Fact : State → Turn → Type 0) (shape : Shape) (cpu number : ℕ) (
   call_is (verbs.BatchRead remove count start flags) trace = read_is Fact shape cpu number AtWalks walks state at_walks remove count start flags turns reply trace made each
   call_is (verbs.BatchUpdate flags pairs) trace = write_is Fact shape cpu number Good keys state good flags (updates_of pairs) (updates_served pairs) turns reply trace made each
   call_is (verbs.BatchDelete flags keys_told) trace = write_is Fact shape cpu number Good keys state good flags (deletes_of keys_told) (deletes_served keys_told) turns reply trace made each
+  call_is (verbs.Each flags stop) trace = each_is shape cpu number state flags stop turns reply trace made
 
 -- On a map that evicts a trace is one on a CPU with any spare
 
@@ -79,6 +81,7 @@ module _ (shape : Shape) (cpu : ℕ) (lru : is_lru shape.kind ≡ true) where
   any_spare spare other (verbs.BatchRead remove count start flags) turns reply trace = trace
   any_spare spare other (verbs.BatchUpdate flags pairs) turns reply trace = batch_any spare other flags (updates_of pairs) turns reply trace
   any_spare spare other (verbs.BatchDelete flags keys) turns reply trace = batch_any spare other flags (deletes_of keys) turns reply trace
+  any_spare spare other (verbs.Each flags stop) turns reply trace = trace
 
 -- A map that evicts
 

@@ -346,3 +346,4 @@ does_turns shape cpu verb lists built bounds sound within is =
     by (verbs.BatchRead remove count start flags) one = absurd one
     by (verbs.BatchUpdate flags pairs) one = absurd one
     by (verbs.BatchDelete flags keys) one = absurd one
+    by (verbs.Each flags stop) one = absurd one

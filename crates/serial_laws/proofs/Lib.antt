@@ -8,6 +8,7 @@ pub mod CallIs
 pub mod ChasedIs
 pub mod Decides
 pub mod EachCall
+mod EachIs
 pub mod EachOnceOpening
 pub mod EachOnceRun
 pub mod EachOnceSteps
@@ -42,6 +43,7 @@ pub mod RaceLists
 pub mod RingTurns
 pub mod SameBatches
 pub mod SameCalls
+pub mod SameEach
 pub mod SameRecord
 pub mod SameWalks
 pub mod SerialLaws
@@ -59,6 +61,8 @@ pub mod TurnLemmas
 pub mod TurnLocks
 pub mod TurnSteps
 pub mod TurnsMade
+pub mod HandedOnce
+pub mod UpToStop
 pub mod WalkedKeys
 pub mod WalkedPairs
 pub mod WalksGive

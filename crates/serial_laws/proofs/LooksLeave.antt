@@ -1,6 +1,7 @@
 -- On a map of any kind a call that only looks leaves in each bucket what lay there.
 use Rattle.std.proofs.Common.{◌≡◌, ℕ, zero, suc, ◌+◌, ◌-◌, Bool, true, false, cond, nat_lt, ◌==◌, List, [], ◌∷◌, ◌++◌, length, map, take, slice_get, Option, Some, None, add-one, refl, ap, sym, ◌∙◌, subst}
 use Rattle.std.specs.Prelude.{min, reverse, unwrap_or, IsFalse, ⊤}
+use Rattle.std.specs.List.{list_any}
 use Rattle.std.proofs.lemmas.Option.{none-some, same_Some}
 use Rattle.map_types.specs.Kind.{is_lru}
 use Rattle.map_types.specs.Stored.{Stored}
@@ -10,7 +11,7 @@ use Rattle.map_types.specs.declared.call.Verb.{Verb}
 use Rattle.map_types.specs.declared.call.Verb.TheVariants as verbs
 use Rattle.map_types.specs.declared.kind.DomainId.TheVariants.{Bucket}
 use Rattle.map_types.specs.declared.refusal.Errno.TheVariants.{Enoent, Einval}
-use Rattle.map_types.specs.declared.reply.Reply.TheVariants.{Done, Refused}
+use Rattle.map_types.specs.declared.reply.Reply.TheVariants.{Done, Refused, Batch}
 use Rattle.map_script.specs.declared.script.Script.{Script}
 use Rattle.place_words.specs.declared.bucket_part.BucketPart.{BucketPart}
 use Rattle.place_words.specs.declared.bucket_part.BucketPart.TheVariants.{Lookup, Update, Delete, Take, Next, First, Walk, Evict}
@@ -23,9 +24,10 @@ use Rattle.place_words.specs.declared.history.Part.{Part}
 use Rattle.place_words.specs.declared.history.Part.TheVariants as parts
 use Rattle.place_words.specs.Bodies.{first_key}
 use Rattle.place_words.specs.Buckets.{bucket_after}
+use Rattle.place_words.specs.Handing.{handed, is_stop, up_to_stop}
 use Rattle.place_words.specs.Histories.{Content, in_bucket, bucket_in, content, content_after}
 use Rattle.place_words.specs.Locks.{is_same_lock}
-use Rattle.place_words.specs.Logs.{State, new_state, bucket_at, present_in, turned, all_turned, all_freed, taken_out, Does, first_or, firsts, found_next, goes_on, key_does, next_does, walked, after_walk, walks, read_does, does, after_one, run}
+use Rattle.place_words.specs.Logs.{State, new_state, bucket_at, present_in, turned, all_turned, all_freed, taken_out, Does, first_or, firsts, found_next, goes_on, key_does, next_does, walked, after_walk, walks, read_does, after_handing, hands, each_does, does, after_one, run}
 use Rattle.place_words.specs.Turns.{Turn, on_lock, on_freelist_of, bucket_of_key}
 use Rattle.place_words.specs.Walks.{buckets_from, pair_of, walked_out}
 use Rattle.place_words.proofs.DoneLaws.{lies_a_bucket}
@@ -158,6 +160,39 @@ module _ (shape : Shape) (cpu number : ℕ) where
       by true false false = tt
       by false nothing there = tt
 
+  -- Walks over all elements
+
+  handing_looks : (stop : Option (List ℕ)) (bucket : ℕ) (before : List (List ℕ × List ℕ)) (result : Walked) (later : List (List ℕ × List ℕ) → Does) → ((now : List (List ℕ × List ℕ)) → AreLooks (later now).turns) → AreLooks (after_handing shape cpu stop bucket before result later).turns
+  handing_looks stop bucket before (Over n) later rest = tt
+  handing_looks stop bucket before (Taken all) later rest = by (list_any (is_stop stop) (map (handed shape cpu) all))
+    where
+      now : List (List ℕ × List ℕ)
+      now = before ++ up_to_stop stop (map (handed shape cpu) all)
+
+      by : (stopped : Bool) → AreLooks (cond stopped (record { turns = []; reply = Batch None now (suc bucket) }) (later now)).turns
+      by true = tt
+      by false = rest now
+
+  hands_look : (state : State) (stop : Option (List ℕ)) (buckets : List ℕ) (before : List (List ℕ × List ℕ)) → AreLooks (hands shape cpu state stop buckets before).turns
+  hands_look state stop [] before = tt
+  hands_look state stop (bucket ∷ buckets) before =
+      let room : ℕ = shape.elements - length before in
+      let result : Walked = walked shape cpu room (bucket_at shape state bucket) in
+      looks_both (on_lock (Bucket bucket) (parts.Bucket (Walk false room result)) ∷ []) _ (walk_is_look bucket room result)
+      (handing_looks stop bucket before result (λ now. hands shape cpu state stop buckets now) (λ now. hands_look state stop buckets now))
+    where
+      walk_is_look : (bucket room : ℕ) (result : Walked) → AreLooks (on_lock (Bucket bucket) (parts.Bucket (Walk false room result)) ∷ [])
+      walk_is_look bucket room (Over n) = (refl, tt)
+      walk_is_look bucket room (Taken all) = (refl, tt)
+
+  each_looks : (state : State) (flags : ℕ) (stop : Option (List ℕ)) → AreLooks (each_does shape cpu state flags stop).turns
+  unfolding each_does
+  each_looks state flags stop = by (flags == 0)
+    where
+      by : (plainly : Bool) → AreLooks (cond plainly (hands shape cpu state stop (buckets_from shape 0) []) (record { turns = []; reply = Refused Einval })).turns
+      by true = hands_look state stop (buckets_from shape 0) []
+      by false = tt
+
   -- every call that only looks
   call_looks : (state : State) (verb : Verb) → OnlyLooks verb → AreLooks (does shape cpu number state verb).turns
   unfolding does key_does
@@ -169,6 +204,7 @@ module _ (shape : Shape) (cpu number : ℕ) where
   call_looks state (verbs.BatchRead remove count start flags) look = subst (λ (b : Bool). AreLooks (read_does shape cpu number state b count start flags).turns) (sym look) (read_looks state count start flags)
   call_looks state (verbs.BatchUpdate flags pairs) look = absurd look
   call_looks state (verbs.BatchDelete flags keys) look = absurd look
+  call_looks state (verbs.Each flags stop) look = each_looks state flags stop
 
 -- the call of an index
 left_there : (shape : Shape) (calls : List Call) (n : ℕ) (call : Call) (number : ℕ) (state : State) → slice_get calls n ≡ Some call → OnlyLooks call.verb → (bucket : ℕ)

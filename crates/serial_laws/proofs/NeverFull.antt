@@ -1,6 +1,7 @@
 -- On a map that evicts no reply of a run in serial order is E2BIG.
 use Rattle.std.proofs.Common.{◌≡◌, ◌≢◌, ℕ, suc, ◌-◌, ◌+◌, Bool, true, false, ◌&&◌, cond, eqb, ltb, List, [], ◌∷◌, ◌++◌, length, All, Option, None, Some, refl, sym, ◌∙◌}
 use Rattle.std.specs.Prelude.{map, min, option_map, unwrap_or}
+use Rattle.std.specs.List.{list_any}
 use Rattle.std.proofs.lemmas.Bool.{true≢false}
 use Rattle.std.proofs.lemmas.List.Elements.{All-nil, All-cons}
 use Rattle.map_types.specs.declared.attr.Shape.{Shape}
@@ -27,7 +28,8 @@ use Rattle.place_words.specs.declared.bucket_part.Walked.{Walked}
 use Rattle.place_words.specs.declared.bucket_part.Walked.TheVariants.{Over, Taken}
 use Rattle.place_words.specs.declared.history.Part.TheVariants as parts
 use Rattle.place_words.specs.Bodies.{first_key}
-use Rattle.place_words.specs.Logs.{State, new_state, all_turned, taken_out, bucket_at, present_in, acquired, Does, first_does, put_offered, put_alone, puts_in, offered, evicting_does, plain_does, got_by, key_does, first_or, firsts, found_next, goes_on, next_does, walked, after_walk, walks, read_does, counted_or, writes, write_does, does, after_one, answers}
+use Rattle.place_words.specs.Handing.{handed, is_stop, up_to_stop}
+use Rattle.place_words.specs.Logs.{State, new_state, all_turned, taken_out, bucket_at, present_in, acquired, Does, first_does, put_offered, put_alone, puts_in, offered, evicting_does, plain_does, got_by, key_does, first_or, firsts, found_next, goes_on, next_does, walked, after_walk, walks, read_does, counted_or, writes, write_does, after_handing, hands, each_does, does, after_one, answers}
 use Rattle.place_words.specs.PlainTraces.{reply_of_put, reply_of_got, reply_of_gone}
 use Rattle.place_words.specs.Turns.{on_lock, bucket_of_key}
 use Rattle.place_words.specs.Walks.{buckets_from, stopped_at, pair_of, walked_out, refused_with, updates_of, deletes_of}
@@ -113,6 +115,7 @@ module _ (shape : Shape) (lru : is_lru shape.kind ≡ true) (cpu number : ℕ) w
   key_other state (verbs.BatchRead remove count start flags) = invalid_other
   key_other state (verbs.BatchUpdate flags pairs) = invalid_other
   key_other state (verbs.BatchDelete flags keys) = invalid_other
+  key_other state (verbs.Each flags stop) = invalid_other
 
   -- Next key
 
@@ -177,6 +180,33 @@ module _ (shape : Shape) (lru : is_lru shape.kind ≡ true) (cpu number : ℕ) w
       by true = writes_other state entries 0
       by false = invalid_other
 
+  -- Walks over all elements
+
+  handing_other : (stop : Option (List ℕ)) (bucket : ℕ) (before : List (List ℕ × List ℕ)) (result : Walked) (later : List (List ℕ × List ℕ) → Does) → ((now : List (List ℕ × List ℕ)) → IsOther (later now).reply) → IsOther (after_handing shape cpu stop bucket before result later).reply
+  handing_other stop bucket before (Over n) later rest = λ is. absurd cc
+  handing_other stop bucket before (Taken all) later rest = by (list_any (is_stop stop) (map (handed shape cpu) all))
+    where
+      now : List (List ℕ × List ℕ)
+      now = before ++ up_to_stop stop (map (handed shape cpu) all)
+
+      by : (stopped : Bool) → IsOther (cond stopped (record { turns = []; reply = Batch None now (suc bucket) }) (later now)).reply
+      by true = λ is. absurd cc
+      by false = rest now
+
+  hands_other : (state : State) (stop : Option (List ℕ)) (buckets : List ℕ) (before : List (List ℕ × List ℕ)) → IsOther (hands shape cpu state stop buckets before).reply
+  hands_other state stop [] before = λ is. absurd cc
+  hands_other state stop (bucket ∷ buckets) before =
+      let room : ℕ = shape.elements - length before in
+      handing_other stop bucket before (walked shape cpu room (bucket_at shape state bucket)) (λ now. hands shape cpu state stop buckets now) (λ now. hands_other state stop buckets now)
+
+  each_other : (state : State) (flags : ℕ) (stop : Option (List ℕ)) → IsOther (each_does shape cpu state flags stop).reply
+  unfolding each_does
+  each_other state flags stop = by (eqb flags 0)
+    where
+      by : (plainly : Bool) → IsOther (cond plainly (hands shape cpu state stop (buckets_from shape 0) []) (record { turns = []; reply = Refused Einval })).reply
+      by true = hands_other state stop (buckets_from shape 0) []
+      by false = invalid_other
+
   -- every call
   call_other : (state : State) (verb : Verb) → IsOther (does shape cpu number state verb).reply
   unfolding does
@@ -188,6 +218,7 @@ module _ (shape : Shape) (lru : is_lru shape.kind ≡ true) (cpu number : ℕ) w
   call_other state (verbs.BatchRead remove count start flags) = read_other state remove count start flags
   call_other state (verbs.BatchUpdate flags pairs) = write_other state flags (updates_of pairs)
   call_other state (verbs.BatchDelete flags keys) = write_other state flags (deletes_of keys)
+  call_other state (verbs.Each flags stop) = each_other state flags stop
 
 none_too_big : (shape : Shape) → is_lru shape.kind ≡ true → (number : ℕ) (calls : List Call) (state : State) → All (λ (reply : Reply). error_of reply ≢ Some E2big) (answers shape number calls state)
 none_too_big shape lru number [] state = All-nil (λ (reply : Reply). error_of reply ≢ Some E2big)

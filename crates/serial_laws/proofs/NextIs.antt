@@ -48,13 +48,13 @@ module _ (key : List ℕ) (bodies : List Stored) where
 
 module _ (shape : Shape) (cpu number : ℕ) (state : State) where
   -- From a state with the same content under each lock, a turn that leaves its bucket leads to another.
-  looked : (now : State) → lies_in shape now ≡ lies_in shape state → (bucket : ℕ) (part : BucketPart) (turn : Turn) → turn ≡ on_lock (Bucket bucket) (parts.Bucket part) → LeavesBucket shape cpu part
+  pub looked : (now : State) → lies_in shape now ≡ lies_in shape state → (bucket : ℕ) (part : BucketPart) (turn : Turn) → turn ≡ on_lock (Bucket bucket) (parts.Bucket part) → LeavesBucket shape cpu part
       → lies_in shape (turned shape cpu number turn now) ≡ lies_in shape state
   looked now same bucket part turn is leaves =
       lies_after shape cpu number turn now ∙ ap (after_turn shape cpu (lies_in shape now)) is
       ∙ after_look shape cpu bucket part (lies_in shape now) leaves ∙ same
 
-  lies_same : (now : State) → lies_in shape now ≡ lies_in shape state → (bucket : ℕ) → bucket_at shape now bucket ≡ bucket_at shape state bucket
+  pub lies_same : (now : State) → lies_in shape now ≡ lies_in shape state → (bucket : ℕ) → bucket_at shape now bucket ≡ bucket_at shape state bucket
   lies_same now same bucket = ap (λ (contents : DomainId → Content). unwrap_or (bucket_in (contents (Bucket bucket))) []) same
 
   -- what comes after a look at a bucket's head

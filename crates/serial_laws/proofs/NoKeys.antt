@@ -42,6 +42,10 @@ module _ (shape : Shape) (bounds : HasBounds shape) (lists : Finals) (sound : Is
   pub entry_there : (entries : List Entry) → Agrees shape lists entries → (key : List ℕ) → is_some (present key order) ≡ true → is_some (entry_of key entries) ≡ true
   entry_there entries agree key there = some_both _ _ _ (look_ups shape lists.buckets entries key agree) (ap is_some (sym (in_its_bucket key)) ∙ there)
 
+  -- and one that has an entry lies in some bucket
+  pub lies_there : (entries : List Entry) → Agrees shape lists entries → (key : List ℕ) → is_some (entry_of key entries) ≡ true → is_some (present key order) ≡ true
+  lies_there entries agree key there = ap is_some (in_its_bucket key) ∙ some_back _ _ _ (look_ups shape lists.buckets entries key agree) there
+
   pub none_lie : Agrees shape lists [] → order ≡ []
   none_lie agree = by order refl
     where

@@ -237,6 +237,7 @@ module _ (shape : Shape) (cpu number : ℕ) (state : State) where
     plain_key_is (verbs.BatchRead remove count start flags) is trace = absurd is
     plain_key_is (verbs.BatchUpdate flags pairs) is trace = absurd is
     plain_key_is (verbs.BatchDelete flags keys) is trace = absurd is
+    plain_key_is (verbs.Each flags stop) is trace = absurd is
 
 -- Calls on one key ask nothing of the state, nor of their turns but that they are made there.
 pub plain_decides : (Fact : State → Turn → Type 0) (shape : Shape) (cpu : ℕ) → is_lru shape.kind ≡ false → DecidesKeys Fact shape cpu (λ state. Unit {0})

@@ -6,7 +6,7 @@ use Rattle.map_types.specs.Kind.{is_lru}
 use Rattle.map_types.specs.Shape.{HasBounds}
 use Rattle.map_types.specs.declared.attr.Shape.{Shape}
 use Rattle.map_types.specs.declared.call.Verb.{Verb}
-use Rattle.map_types.specs.declared.call.Verb.TheVariants.{Lookup, Update, Delete, Take, Next, BatchRead, BatchUpdate, BatchDelete}
+use Rattle.map_types.specs.declared.call.Verb.TheVariants.{Lookup, Update, Delete, Take, Next, BatchRead, BatchUpdate, BatchDelete, Each}
 use Rattle.map_types.specs.declared.kind.Side.TheVariants.{Sys}
 use Rattle.map_types.specs.declared.refusal.Errno.{Errno}
 use Rattle.map_types.specs.declared.refusal.Errno.TheVariants.{Enoent, Einval}
@@ -14,7 +14,7 @@ use Rattle.map_types.specs.declared.reply.Reply.{Reply}
 use Rattle.map_types.specs.declared.reply.Reply.TheVariants.{Done, Refused}
 use Rattle.map_script.specs.WellFormed.{HasSizes}
 use Rattle.place_words.specs.declared.finals.Finals.{Finals}
-use Rattle.place_words.specs.Logs.{State, Does, all_turned, key_does, counted_or, writes, read_does, does}
+use Rattle.place_words.specs.Logs.{State, Does, all_turned, key_does, counted_or, writes, read_does, each_does, does}
 use Rattle.place_words.specs.Turns.{Turn}
 use Rattle.place_words.specs.Walks.{buckets_from, refused_with}
 use Rattle.place_words.proofs.DoneLaws.{IsKeyVerb}
@@ -25,6 +25,7 @@ use Rattle.map_report.specs.Turns.{Happened, all_happened, unless_refused, each_
 use Rattle.serial_laws.proofs.EachCall.{updates_fit, deletes_fit}
 use Rattle.serial_laws.proofs.Leads.{leads_none}
 use Rattle.serial_laws.proofs.SameCalls.{Follows, IsSame, same_first, key_same, follows_on}
+use Rattle.serial_laws.proofs.SameEach.{each_same}
 use Rattle.serial_laws.proofs.SameWalks.{next_same, walks_same}
 use Rattle.serial_laws.proofs.SoundRun.{sound_key}
 
@@ -76,7 +77,7 @@ module _ (shape : Shape) (bounds : HasBounds shape) (plain : is_lru shape.kind �
   -- Every call does by logs what it does on lists.
   pub call_same : (lists : Finals) (before : List Happened) (state : State) (verb : Verb) → HasSizes shape verb → Follows shape lists before state → IsSound shape lists
       → IsSame shape cpu lists (does shape cpu number state verb) (call_turns shape cpu verb lists) (after_call shape cpu verb lists)
-  unfolding does read_does call_turns after_call
+  unfolding does read_does each_does call_turns after_call
   call_same lists before state (Lookup side key) sizes follows sound = key_same shape bounds plain lists before state number cpu (Lookup side key) follows few tt sound
   call_same lists before state (Update side flags key value) sizes follows sound = key_same shape bounds plain lists before state number cpu (Update side flags key value) follows few tt sound
   call_same lists before state (Delete key) sizes follows sound = key_same shape bounds plain lists before state number cpu (Delete key) follows few tt sound
@@ -97,4 +98,8 @@ module _ (shape : Shape) (bounds : HasBounds shape) (plain : is_lru shape.kind �
   call_same lists before state (BatchDelete flags keys) sizes follows sound =
       either shape cpu lists (flags == 0) _ _ _ _ _ _
       (entries_same (λ (key : List ℕ). Delete key) (λ key. tt) keys (deletes_fit shape keys sizes) 0 lists before state sound follows)
+      (same_none shape cpu lists (Refused Einval))
+  call_same lists before state (Each flags stop) sizes follows sound =
+      either shape cpu lists (flags == 0) _ _ _ _ _ _
+      (each_same shape cpu lists before state follows sound stop)
       (same_none shape cpu lists (Refused Einval))

@@ -77,7 +77,7 @@ plain_laws script bounds are plain =
       refusals_stay = λ n errno is. refusals_stay script n errno (ap (λ (kept : RunRecord). slice_get kept.replies n) (sym same) ∙ is);
       plain = subst (λ (replies : List Reply). replies ≡ answers_from script.shape [] script.calls replies) (sym told) (plain_run script bounds are plain);
       told = λ n call reply at is.
-          subst (λ (replies : List Reply). TellsThere script.shape (entries_after script.shape [] (take n script.calls) replies) call.verb reply) (sym told)
+          subst (λ (replies : List Reply). TellsThere script.shape call.cpu (entries_after script.shape [] (take n script.calls) replies) call.verb reply) (sym told)
           (tells_there script bounds are plain n call reply at (ap (λ (replies : List Reply). slice_get replies n) (sym told) ∙ is));
       seen = λ n. subst (λ (replies : List Reply). Sees script.shape (lists_before script n) (entries_after script.shape [] (take n script.calls) replies)) (sym told) (seen_run script bounds are plain n);
       too_big = λ n call at.

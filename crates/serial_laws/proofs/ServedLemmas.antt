@@ -4,7 +4,7 @@ use Rattle.std.proofs.lemmas.List.Elements.{All-nil, All-cons, All-head, All-tai
 use Rattle.map_types.specs.declared.attr.Shape.{Shape}
 use Rattle.map_types.specs.declared.call.Call.{Call}
 use Rattle.map_types.specs.declared.call.Verb.{Verb}
-use Rattle.map_types.specs.declared.call.Verb.TheVariants.{Lookup, Update, Delete, Take, Next, BatchRead, BatchUpdate, BatchDelete}
+use Rattle.map_types.specs.declared.call.Verb.TheVariants.{Lookup, Update, Delete, Take, Next, BatchRead, BatchUpdate, BatchDelete, Each}
 use Rattle.map_types.proofs.CreationLemmas.{bounds_of_shape}
 use Rattle.map_script.specs.declared.script.Script.{Script}
 use Rattle.map_script.specs.WellFormed.{HasSizes, IsCallOn, IsWellFormed}
@@ -20,6 +20,8 @@ verb_served shape (Next (Some key)) has few = has
 verb_served shape (BatchRead remove count start flags) has few = tt
 verb_served shape (BatchUpdate flags pairs) has few = (has, few)
 verb_served shape (BatchDelete flags keys) has few = (has, few)
+verb_served shape (Each flags None) has few = tt
+verb_served shape (Each flags (Some key)) has few = has
 
 calls_served : (shape : Shape) (calls : List Call) → All (IsCallOn shape) calls → All HasFewEntries calls → All (IsServedCall shape) calls
 calls_served shape [] are few = All-nil (IsServedCall shape)

@@ -7,7 +7,7 @@ use Rattle.map_types.specs.Stored.{Stored}
 use Rattle.map_types.specs.declared.attr.Shape.{Shape}
 use Rattle.map_types.specs.declared.call.Call.{Call}
 use Rattle.map_types.specs.declared.call.Verb.{Verb}
-use Rattle.map_types.specs.declared.call.Verb.TheVariants.{Lookup, Update, Delete, Take, Next, BatchRead, BatchUpdate, BatchDelete}
+use Rattle.map_types.specs.declared.call.Verb.TheVariants.{Lookup, Update, Delete, Take, Next, BatchRead, BatchUpdate, BatchDelete, Each}
 use Rattle.map_types.specs.declared.kind.Side.{Side}
 use Rattle.map_types.specs.declared.kind.Side.TheVariants.{Sys}
 use Rattle.map_types.specs.declared.refusal.Errno.{Errno}
@@ -85,6 +85,7 @@ refused_stays errno shape cpu (BatchUpdate flags pairs) lists =
     unless_flags_stays errno flags lists _ (λ refused. absurd (each_not_refused errno (λ (pair : List ℕ × List ℕ). after_update shape Sys cpu 0 pair.0 pair.1) pairs 0 lists refused))
 refused_stays errno shape cpu (BatchDelete flags keys) lists =
     unless_flags_stays errno flags lists _ (λ refused. absurd (each_not_refused errno (after_delete shape cpu) keys 0 lists refused))
+refused_stays errno shape cpu (Each flags stop) lists = unless_flags_stays errno flags lists _ (λ refused. refl)
 
 -- a batch read that removes nothing
 pub read_stays : (shape : Shape) (cpu : ℕ) (remove : Bool) → remove ≡ false → (limit : ℕ) (buckets : List ℕ) (taken : List (List ℕ × List ℕ)) (lists : Finals) → (read_on shape cpu remove limit buckets taken lists).0 ≡ lists
@@ -110,6 +111,7 @@ look_stays shape cpu (BatchRead remove count start flags) lists is =
     (λ other. refl)
 look_stays shape cpu (BatchUpdate flags pairs) lists is = absurd is
 look_stays shape cpu (BatchDelete flags keys) lists is = absurd is
+look_stays shape cpu (Each flags stop) lists is = cond_both (flags == 0) _ _ (λ (after : Finals × Reply). after.0 ≡ lists) (λ plain. refl) (λ other. refl)
 
 -- the lists after the call of an index are what that call makes of those before it
 next_lists : (shape : Shape) (calls : List Call) (n : ℕ) (call : Call) (lists : Finals) → slice_get calls n ≡ Some call

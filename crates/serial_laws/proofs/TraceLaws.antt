@@ -310,6 +310,7 @@ trace_is shape cpu spare (verbs.Next key) contents turns reply trace allowed = a
 trace_is shape cpu spare (verbs.BatchRead remove count start flags) contents turns reply trace allowed = absurd trace
 trace_is shape cpu spare (verbs.BatchUpdate flags pairs) contents turns reply trace allowed = absurd trace
 trace_is shape cpu spare (verbs.BatchDelete flags keys) contents turns reply trace allowed = absurd trace
+trace_is shape cpu spare (verbs.Each flags stop) contents turns reply trace allowed = absurd trace
 
 -- so two such calls have the same turns and the same reply
 pub one_trace : (shape : Shape) (cpu : ℕ) (spare : Option ℕ) (verb : Verb) (contents : DomainId → Content) (first second : List Turn) (a b : Reply)

@@ -107,3 +107,4 @@ module _ (shape : Shape) (bounds : HasBounds shape) (built : is_lru shape.kind â
   trace_real cpu spare (verbs.BatchRead remove count start flags) turns reply within trace = absurd trace
   trace_real cpu spare (verbs.BatchUpdate flags pairs) turns reply within trace = absurd trace
   trace_real cpu spare (verbs.BatchDelete flags keys) turns reply within trace = absurd trace
+  trace_real cpu spare (verbs.Each flags stop) turns reply within trace = absurd trace

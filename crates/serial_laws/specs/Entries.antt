@@ -1,14 +1,14 @@
 -- A map that doesn't evict, as its user sees it: keys with their values, and room for so many of them. It knows no
--- elements, freelists or spares, and of buckets only how many there are, and so no order of keys: which ones next key and batch reads
--- tell is not for it to say.
-use Rattle.std.specs.Prelude.{◌≡◌, ℕ, ◌<◌, ◌≤◌, ◌==◌, nat_lt, not, Bool, List, [], ◌∷◌, length, Option, Some, None, is_some, IsSome, MatchOption, find, filter, unwrap_or, bytes_eq, if◌then◌else◌, ⊤}
+-- elements, freelists or spares, and of buckets only how many there are, and so no order of keys: which ones next key, batch reads and
+-- walks over all elements tell, where they don't tell all, is not for it to say.
+use Rattle.std.specs.Prelude.{◌≡◌, ℕ, ◌<◌, ◌≤◌, ◌==◌, nat_lt, not, Bool, List, [], ◌∷◌, ◌++◌, length, Option, Some, None, is_some, IsSome, MatchOption, find, filter, unwrap_or, bytes_eq, if◌then◌else◌, ⊤}
 use Rattle.std.specs.List.{AllByRecursion}
 use Rattle.map_types.specs.declared.attr.Shape.{Shape}
 use Rattle.map_types.specs.declared.call.Call.{Call}
 use Rattle.map_types.specs.declared.call.Verb.{Verb}
-use Rattle.map_types.specs.declared.call.Verb.TheVariants.{Lookup, Update, Delete, Take, Next, BatchRead, BatchUpdate, BatchDelete}
+use Rattle.map_types.specs.declared.call.Verb.TheVariants.{Lookup, Update, Delete, Take, Next, BatchRead, BatchUpdate, BatchDelete, Each}
 use Rattle.map_types.specs.declared.kind.Side.{Side}
-use Rattle.map_types.specs.declared.kind.Side.TheVariants.{Sys}
+use Rattle.map_types.specs.declared.kind.Side.TheVariants.{Prog, Sys}
 use Rattle.map_types.specs.declared.refusal.Errno.{Errno}
 use Rattle.map_types.specs.declared.refusal.Errno.TheVariants.{Enoent, E2big, Eexist, Einval}
 use Rattle.map_types.specs.declared.reply.Reply.{Reply}
@@ -98,7 +98,8 @@ read_out remove count told entries =
 
 -- What a call on a CPU makes of the entries, and what it answers. Batch updates and batch deletes are their single calls one
 -- after another, up to the first that is refused. In which order walks go over the keys isn't known here. So what a walk told,
--- the next key or the pairs of a batch, is handed in. A batch whose flags aren't 0 is EINVAL, whatever it told.
+-- the next key, the pairs of a batch or what was handed over, is handed in. A call whose flags aren't 0 where they are to be is
+-- EINVAL, whatever it told.
 unfoldable pub answered : Shape → ℕ → Verb → Reply → List Entry → List Entry × Reply
 answered shape cpu (Lookup side key) told entries = (entries, read shape side cpu (entry_of key entries))
 answered shape cpu (Update side flags key value) told entries = put_in shape side cpu flags key value entries
@@ -109,6 +110,7 @@ answered shape cpu (BatchRead remove count start flags) told entries = unless_fl
 answered shape cpu (BatchUpdate flags pairs) told entries =
     unless_flags flags entries (each_done (λ (pair : List ℕ × List ℕ). put_in shape Sys cpu 0 pair.0 pair.1) pairs 0 entries)
 answered shape cpu (BatchDelete flags keys) told entries = unless_flags flags entries (each_done took_out keys 0 entries)
+answered shape cpu (Each flags stop) told entries = unless_flags flags entries (entries, told)
 
 -- the answers to calls in their order, from entries on, and the entries after them, where the calls told these replies
 abbrev pub answers_from : Shape → List Entry → List Call → List Reply → List Reply
@@ -149,14 +151,42 @@ TellsPairs shape start entries (Refused errno) = (errno ≡ Enoent) × (shape.bu
 TellsPairs shape start entries (Batch stop taken next) = (start < shape.buckets) × AllByRecursion (IsThere shape entries) taken
 TellsPairs shape start entries (Count stop done) = ⊥
 
--- Of a batch read whose flags aren't 0, or whose count is 0, `answered` says all.
-abbrev pub TellsThere : Shape → List Entry → Verb → Reply → Type 0
-TellsThere shape entries (Lookup side key) reply = ⊤
-TellsThere shape entries (Update side flags key value) reply = ⊤
-TellsThere shape entries (Delete key) reply = ⊤
-TellsThere shape entries (Take key) reply = ⊤
-TellsThere shape entries (Next key) reply = TellsKey key entries reply
-TellsThere shape entries (BatchRead remove count start flags) reply =
+-- the key has an entry, and the value is the one that a program reads of it on this CPU
+abbrev pub IsThereFor : Shape → ℕ → List Entry → List ℕ × List ℕ → Type 0
+IsThereFor shape cpu entries pair = MatchOption (entry_of pair.0 entries) ⊥ (λ entry. pair.1 ≡ value_read shape Prog cpu entry.values)
+
+-- no two of the pairs have one key
+abbrev pub HasNoKeyTwice : List (List ℕ × List ℕ) → Type 0
+HasNoKeyTwice pairs = (key : List ℕ) → length (filter (λ (pair : List ℕ × List ℕ). bytes_eq pair.0 key) pairs) ≤ 1
+
+-- the last of the pairs has this key
+abbrev pub EndsAt : List ℕ → List (List ℕ × List ℕ) → Type 0
+EndsAt key pairs = (before : List (List ℕ × List ℕ)) × (value : List ℕ) × (pairs ≡ before ++ (key, value) ∷ [])
+
+-- as many pairs as there are entries; or, where a walk is to stop at a key that is there, that one's is the last
+abbrev pub HandsAll : Option (List ℕ) → List Entry → List (List ℕ × List ℕ) → Type 0
+HandsAll None entries over = length over ≡ length entries
+HandsAll (Some key) entries over = MatchOption (entry_of key entries) (length over ≡ length entries) (λ entry. EndsAt key over)
+
+-- A walk over all elements ends with no error, and tells pairs that are there, none of them twice: all, or, where the key at which it is to
+-- stop is there, some of which that one's is the last. Their order, and where the walk ends, isn't said here, but on the lists.
+abbrev pub TellsHanded : Shape → ℕ → Option (List ℕ) → List Entry → Reply → Type 0
+TellsHanded shape cpu stop entries Done = ⊥
+TellsHanded shape cpu stop entries (Value bytes) = ⊥
+TellsHanded shape cpu stop entries (Refused errno) = ⊥
+TellsHanded shape cpu stop entries (Batch error over next) =
+    (error ≡ None) × AllByRecursion (IsThereFor shape cpu entries) over × HasNoKeyTwice over × HandsAll stop entries over
+TellsHanded shape cpu stop entries (Count error done) = ⊥
+
+-- Of a batch read whose flags aren't 0, or whose count is 0, `answered` says all, and of a walk over all elements whose flags aren't 0.
+abbrev pub TellsThere : Shape → ℕ → List Entry → Verb → Reply → Type 0
+TellsThere shape cpu entries (Lookup side key) reply = ⊤
+TellsThere shape cpu entries (Update side flags key value) reply = ⊤
+TellsThere shape cpu entries (Delete key) reply = ⊤
+TellsThere shape cpu entries (Take key) reply = ⊤
+TellsThere shape cpu entries (Next key) reply = TellsKey key entries reply
+TellsThere shape cpu entries (BatchRead remove count start flags) reply =
     flags ≡ 0 → 0 < count → TellsPairs shape (unwrap_or start 0) entries reply
-TellsThere shape entries (BatchUpdate flags pairs) reply = ⊤
-TellsThere shape entries (BatchDelete flags keys) reply = ⊤
+TellsThere shape cpu entries (BatchUpdate flags pairs) reply = ⊤
+TellsThere shape cpu entries (BatchDelete flags keys) reply = ⊤
+TellsThere shape cpu entries (Each flags stop) reply = flags ≡ 0 → TellsHanded shape cpu stop entries reply

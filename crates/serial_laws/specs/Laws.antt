@@ -4,7 +4,7 @@ use Rattle.map_types.specs.Kind.{is_lru}
 use Rattle.map_types.specs.declared.attr.Shape.{Shape}
 use Rattle.map_types.specs.declared.call.Call.{Call}
 use Rattle.map_types.specs.declared.call.Verb.{Verb}
-use Rattle.map_types.specs.declared.call.Verb.TheVariants.{Lookup, Update, Delete, Take, Next, BatchRead, BatchUpdate, BatchDelete}
+use Rattle.map_types.specs.declared.call.Verb.TheVariants.{Lookup, Update, Delete, Take, Next, BatchRead, BatchUpdate, BatchDelete, Each}
 use Rattle.map_types.specs.declared.refusal.Errno.{Errno}
 use Rattle.map_types.specs.declared.refusal.Errno.TheVariants.{E2big}
 use Rattle.map_types.specs.declared.reply.Reply.{Reply}
@@ -49,8 +49,9 @@ FindsNoRoom shape entries (Next key) = ⊥
 FindsNoRoom shape entries (BatchRead remove count start flags) = ⊥
 FindsNoRoom shape entries (BatchUpdate flags pairs) = ⊥
 FindsNoRoom shape entries (BatchDelete flags keys) = ⊥
+FindsNoRoom shape entries (Each flags stop) = ⊥
 
--- a call that only looks: a lookup, next key, and a batch read that removes nothing
+-- a call that only looks: a lookup, next key, a batch read that removes nothing, and a walk over all elements
 abbrev pub OnlyLooks : Verb → Type 0
 OnlyLooks (Lookup side key) = ⊤
 OnlyLooks (Update side flags key value) = ⊥
@@ -60,6 +61,7 @@ OnlyLooks (Next key) = ⊤
 OnlyLooks (BatchRead remove count start flags) = IsFalse remove
 OnlyLooks (BatchUpdate flags pairs) = ⊥
 OnlyLooks (BatchDelete flags keys) = ⊥
+OnlyLooks (Each flags stop) = ⊤
 
 -- the call of an index is answered with E2BIG
 abbrev pub IsTooBig : Script → ℕ → Type 0
@@ -81,12 +83,14 @@ pub record PlainLaws (script : Script) : Type 0 where
   pub refusals_stay : (n : ℕ) (errno : Errno) → slice_get (serial script).replies n ≡ Some (Refused errno)
       → lists_before script (n + 1) ≡ lists_before script n
   -- The replies, one for each call, are those of a plain map from keys to values that has room for `capacity` keys, but for next
-  -- key and batch reads: in which order they go over the keys, and so which ones they tell, such a map can't know, and this doesn't
-  -- say. What a batch read took out are the keys that its reply tells.
+  -- key, batch reads and walks over all elements: in which order they go over the keys, and so which ones they tell where they don't
+  -- tell all, such a map can't know, and this doesn't say. What a batch read took out are the keys that its reply tells.
   pub plain : (serial script).replies ≡ answers_from script.shape [] script.calls (serial script).replies
-  -- what next key and batch reads tell is there at that step, and they are refused with ENOENT only where there may be nothing to tell
+  -- What next key, batch reads and walks over all elements tell is there at that step. The first two are refused with ENOENT only
+  -- where there may be nothing to tell; a walk over all elements tells no key twice, and all that are there or some of which the
+  -- last is the one at which it stops.
   pub told : (n : ℕ) (call : Call) (reply : Reply) → slice_get script.calls n ≡ Some call → slice_get (serial script).replies n ≡ Some reply
-      → TellsThere script.shape (entries_before script n) call.verb reply
+      → TellsThere script.shape call.cpu (entries_before script n) call.verb reply
   -- at each step that map holds what the lists hold
   pub seen : (n : ℕ) → Sees script.shape (lists_before script n) (entries_before script n)
   -- E2BIG comes exactly where a key that isn't there finds no room
@@ -111,6 +115,7 @@ pub record SerialLaws (script : Script) : Type 0 where
   -- the turns of all locks, in the order of their tickets, are a run of the core: each turned into its steps, every one of which may be
   -- done in its place
   pub on_core : CoreRun script.shape (serial script).histories
-  -- walks over the map as it is before any call, if nobody changes it meanwhile, give each key once, and each with its value
+  -- next key and batch lookups over the map as it is before any call, if nobody changes it meanwhile, give each key once, and each
+  -- with its value
   pub walks : WalkLaws script
   pub plain : IsFalse (is_lru script.shape.kind) → PlainLaws script

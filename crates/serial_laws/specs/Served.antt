@@ -6,7 +6,7 @@ use Rattle.map_types.specs.ValueLen.{value_len_of}
 use Rattle.map_types.specs.declared.attr.Shape.{Shape}
 use Rattle.map_types.specs.declared.call.Call.{Call}
 use Rattle.map_types.specs.declared.call.Verb.{Verb}
-use Rattle.map_types.specs.declared.call.Verb.TheVariants.{Lookup, Update, Delete, Take, Next, BatchRead, BatchUpdate, BatchDelete}
+use Rattle.map_types.specs.declared.call.Verb.TheVariants.{Lookup, Update, Delete, Take, Next, BatchRead, BatchUpdate, BatchDelete, Each}
 use Rattle.map_types.specs.declared.kind.Side.TheVariants.{Sys}
 use Rattle.map_script.specs.declared.script.Script.{Script}
 use Rattle.map_script.specs.WellFormed.{IsKey, IsWellFormed}
@@ -21,6 +21,7 @@ entry_count (Next key) = 0
 entry_count (BatchRead remove count start flags) = 0
 entry_count (BatchUpdate flags pairs) = length pairs
 entry_count (BatchDelete flags keys) = length keys
+entry_count (Each flags stop) = 0
 
 abbrev pub HasFewEntries : Call → Type 0
 HasFewEntries call = entry_count call.verb < 2 ^ 32
@@ -41,6 +42,7 @@ IsServedVerb shape (Next key) = IfSome key (IsKey shape)
 IsServedVerb shape (BatchRead remove count start flags) = ⊤
 IsServedVerb shape (BatchUpdate flags pairs) = HaveSizes shape.key_size (value_len_of shape Sys) pairs × (length pairs < 2 ^ 32)
 IsServedVerb shape (BatchDelete flags keys) = All (IsKey shape) keys × (length keys < 2 ^ 32)
+IsServedVerb shape (Each flags stop) = IfSome stop (IsKey shape)
 
 -- a call on one of the map's CPUs
 pub record IsServedCall (shape : Shape) (call : Call) : Type 0 where

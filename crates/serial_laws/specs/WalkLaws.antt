@@ -82,7 +82,7 @@ with_room shape lie at start (count ∷ counts) =
     let reply : Reply = answer_at shape (at 0) (BatchRead false count start 0) in
     (if has_room shape lie (unwrap_or start 0) count then 1 else 0) + with_room shape lie (λ n. at (suc n)) (start_behind start reply) counts
 
--- Walks over these buckets, at any moments at which the map holds them.
+-- Next key and batch lookups over these buckets, at any moments at which the map holds them.
 pub record WalksGiveAll (shape : Shape) (lie : ℕ → List Stored) (at : ℕ → Moment) : Type 0 where
   -- next key gives all keys in the order of buckets, and then ENOENT
   pub keys : GivesKeys shape at None (map (λ (stored : Stored). stored.key) (in_order shape lie))
@@ -98,6 +98,6 @@ pub record WalksGiveAll (shape : Shape) (lie : ℕ → List Stored) (at : ℕ �
 abbrev pub buckets_before : Script → ℕ → ℕ → List Stored
 buckets_before script n = bucket_at script.shape (run script.shape 1 (take n script.calls) (new_state script.shape))
 
--- Walks over the map as it is before a call of the run, if nobody changes it meanwhile.
+-- Next key and batch lookups over the map as it is before a call of the run, if nobody changes it meanwhile.
 abbrev pub WalkLaws : Script → Type 0
 WalkLaws script = (n : ℕ) (at : ℕ → Moment) → ((k : ℕ) → Holds script.shape (buckets_before script n) (at k)) → WalksGiveAll script.shape (buckets_before script n) at

@@ -27,9 +27,9 @@ little_endian_bytes size number =
 
 -- ---- verbs
 
--- a verb on a map, whose reply is at most a value
+-- a verb on a map, in a script of any version, whose reply is at most a value
 pub record Suits (shape : Shape) (verb : Verb) : Type 0 where
-  pub is : IsVerb shape verb
+  pub is : (version : ℕ) → IsVerb version shape verb
   pub reply : reply_bytes shape verb ≤ shape.value_size
 
 key_bytes : (shape : Shape) (k : ℕ) → AreBytes shape.key_size (key_of shape k)
@@ -37,13 +37,13 @@ key_bytes shape k = little_endian_bytes shape.key_size (k + 1)
 
 update_suits : (shape : Shape) (k i : ℕ) → Suits shape (update_of shape k i)
 update_suits shape k i =
-    record { is = (omega arith, key_bytes shape k, little_endian_bytes shape.value_size (i + 1)); reply = omega arith }
+    record { is = λ version. (omega arith, key_bytes shape k, little_endian_bytes shape.value_size (i + 1)); reply = omega arith }
 
 lookup_suits : (shape : Shape) (k : ℕ) → Suits shape (lookup_of shape k)
-lookup_suits shape k = record { is = key_bytes shape k; reply = omega arith }
+lookup_suits shape k = record { is = λ version. key_bytes shape k; reply = omega arith }
 
 delete_suits : (shape : Shape) (k : ℕ) → Suits shape (delete_of shape k)
-delete_suits shape k = record { is = key_bytes shape k; reply = omega arith }
+delete_suits shape k = record { is = λ version. key_bytes shape k; reply = omega arith }
 
 round_suits : (shape : Shape) (round k i : ℕ) → Suits shape (round_verb shape round k i)
 round_suits shape round k i =
@@ -56,15 +56,15 @@ drawn_suits shape choice k i =
 
 -- ---- calls
 
--- a call on a map, whose reply is at most a value
+-- a call on a map, in a script of any version, whose reply is at most a value
 pub record IsOn (shape : Shape) (call : Call) : Type 0 where
-  pub is : IsCall shape call
+  pub is : (version : ℕ) → IsCall version shape call
   pub reply : reply_bytes shape call.verb ≤ shape.value_size
 
 is_on : (shape : Shape) (cpu : ℕ) (verb : Verb) → 1 ≤ shape.cpus → shape.cpus ≤ 16 → Suits shape verb → IsOn shape record { cpu = cpu % shape.cpus; verb = verb }
 is_on shape cpu verb some few suits =
     let below : cpu % shape.cpus < shape.cpus = mod-lt cpu (omega arith) in
-    record { is = record { on = omega arith; one_of = below; does = suits.is }; reply = suits.reply }
+    record { is = λ version. record { on = omega arith; one_of = below; does = suits.is version }; reply = suits.reply }
 
 round_on : (shape : Shape) (spec : GenSpec) → 1 ≤ shape.cpus → shape.cpus ≤ 16 → (i : ℕ) → IsOn shape (round_call shape spec i)
 unfolding round_call

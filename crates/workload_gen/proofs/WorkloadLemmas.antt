@@ -52,25 +52,25 @@ within shape spec is =
 -- ---- the calls
 
 -- Calls whose replies are at most a value are calls behind so many others, as far as these leave room.
-are_calls : (shape : Shape) (call : ℕ → Call) → ((i : ℕ) → IsOn shape (call i)) → (i n count room : ℕ) → count + n ≤ 200000 → room + n * shape.value_size ≤ 67108864
-    → AreCalls shape count room (map call (range_with_len i n))
-are_calls shape call on i zero count room few fits = tt
-are_calls shape call on i (suc n) count room few fits =
+are_calls : (version : ℕ) (shape : Shape) (call : ℕ → Call) → ((i : ℕ) → IsOn shape (call i)) → (i n count room : ℕ) → count + n ≤ 200000 → room + n * shape.value_size ≤ 67108864
+    → AreCalls version shape count room (map call (range_with_len i n))
+are_calls version shape call on i zero count room few fits = tt
+are_calls version shape call on i (suc n) count room few fits =
     let here = on i in
     let more : suc n * shape.value_size ≡ n * shape.value_size + shape.value_size = suc-mul n shape.value_size in
     let reply = here.reply in
-    (here.is, omega arith, omega arith, are_calls shape call on (i + 1) n (count + 1) (room + reply_bytes shape (call i).verb) (omega arith) (omega arith))
+    (here.is version, omega arith, omega arith, are_calls version shape call on (i + 1) n (count + 1) (room + reply_bytes shape (call i).verb) (omega arith) (omega arith))
 
 bounds : (script : Script) → IsSpecScript script → HasBounds script.shape
 bounds script h = bounds_of_shape script.shape record { attr = script.attr; accepted = h.created }
 
-calls_fit : (script : Script) → IsSpecScript script → AreCalls script.shape 0 0 (calls_generated script.shape script.spec)
+calls_fit : (script : Script) → IsSpecScript script → AreCalls script.version script.shape 0 0 (calls_generated script.shape script.spec)
 calls_fit script h =
     let shape = script.shape in
     let bounds = bounds script h in
     let ranges = within shape h.spec h.is_spec.ranges in
-    let fit : AreCalls shape 0 0 (calls_of_spec shape h.spec) = are_calls shape (call_of shape h.spec) (call_on_map shape h.spec bounds.some_cpu bounds.cpus_bounded) 0 h.spec.calls 0 0 (omega (arith, ranges.few_calls)) (omega (arith, ranges.few_bytes)) in
-    subst (λ spec. AreCalls shape 0 0 (calls_generated shape spec)) (sym h.has_spec) fit
+    let fit : AreCalls script.version shape 0 0 (calls_of_spec shape h.spec) = are_calls script.version shape (call_of shape h.spec) (call_on_map shape h.spec bounds.some_cpu bounds.cpus_bounded) 0 h.spec.calls 0 0 (omega (arith, ranges.few_calls)) (omega (arith, ranges.few_bytes)) in
+    subst (λ spec. AreCalls script.version shape 0 0 (calls_generated shape spec)) (sym h.has_spec) fit
 
 -- ---- the script
 
@@ -107,7 +107,7 @@ module _ (script : Script) (read : IsReadAs forms.Generator script) where
   -- the calls of its spec are read again where they are listed
   pub calls_read : (calls : List Call) → calls ≡ calls_generated script.shape script.spec → read_as forms.Calls (canonical (listing calls)) ≡ Ok (listing calls)
   calls_read calls are =
-      let fit = subst (AreCalls script.shape 0 0) (sym are) (calls_fit script given) in
+      let fit = subst (AreCalls script.version script.shape 0 0) (sym are) (calls_fit script given) in
       call_script_read (listing calls) record { numbers = given.numbers; created = given.created; calls = fit; phases = phases calls; no_spec = refl }
 
   pub well_formed : (calls : List Call) (cuts : List ℕ) → calls ≡ calls_generated script.shape script.spec → cuts ≡ [] → IsWellFormed (script_of script.version script.attr script.shape calls cuts script.spec)

@@ -3,4 +3,4 @@ use Rattle.map_script.proofs.front.call_at_front.Goals as goal
 
 pub returns : goal.returns
 returns c =
-    call_begins c.args.shape.now c.args.text.now c.in_ok-cpu.places.now c.in_ok-verb.rest.now c.in_ok-cpu.cpu c.in_ok-verb.verb c.in_ok-cpu.ensures c.in_ok-verb.ensures
+    λ version. call_begins version c.args.shape.now c.args.text.now c.in_ok-cpu.places.now c.in_ok-verb.rest.now c.in_ok-cpu.cpu c.in_ok-verb.verb c.in_ok-cpu.ensures c.in_ok-verb.ensures

@@ -24,13 +24,29 @@ returns-clause-call c =
     let reply = c.reply_bytes.ensures in
     let within = c.if-room-reply_bytes-gt-MAX_ROOM.false in
     let fits : c.args.room + reply_bytes shape call.verb ≤ 67108864 = omega arith in
-    subst (λ (seen : Unread). FirstIs (call_within shape c.args.count c.args.room) seen.lines call (lines_from (number + 1) rest)) c.self.view_is
-    (first_call shape c.args.count c.args.room number text rest call c.in_ok-call.ensures few fits)
+    λ version. subst (λ (seen : Unread). FirstIs (call_within version shape c.args.count c.args.room) seen.lines call (lines_from (number + 1) rest)) c.self.view_is
+    (first_call version shape c.args.count c.args.room number text rest call (c.in_ok-call.ensures version) few fits)
 
 pub returns-clause-end : goal.returns-clause-end
 returns-clause-end c =
     let text = c.self.inside.rest.now in
     let rest = c.in_ok-call.rest.now in
     let number = c.self.inside.number in
-    let feed : count_by is_line_feed text ≡ count_by is_line_feed rest + 1 = first_feed c.args.shape.now text rest c.in_ok-call.call c.in_ok-call.ensures in
+    let feed : count_by is_line_feed text ≡ count_by is_line_feed rest + 1 = first_feed 1 c.args.shape.now text rest c.in_ok-call.call (c.in_ok-call.ensures 1) in
     subst (λ (seen : Unread). end_from (number + 1) rest ≡ seen.end) c.self.view_is (omega arith)
+
+pub overflow_add-self : goal.overflow_add-self
+overflow_add-self c =
+    let text = c.self.inside.rest.now in
+    let rest = c.in_ok-call.rest.now in
+    let number = c.self.inside.number in
+    let feed : count_by is_line_feed text ≡ count_by is_line_feed rest + 1 = first_feed 1 c.args.shape.now text rest c.in_ok-call.call (c.in_ok-call.ensures 1) in
+    omega (arith, c.self.invariant)
+
+pub invariant_of-self : goal.invariant_of-self
+invariant_of-self c =
+    let text = c.self.inside.rest.now in
+    let rest = c.in_ok-call.rest.now in
+    let number = c.self.inside.number in
+    let feed : count_by is_line_feed text ≡ count_by is_line_feed rest + 1 = first_feed 1 c.args.shape.now text rest c.in_ok-call.call (c.in_ok-call.ensures 1) in
+    omega (arith, c.self.invariant)

@@ -1,0 +1,3 @@
+pub mod HandedOver
+mod Copies
+mod Stops
