@@ -7,6 +7,7 @@ ghost use Rattle.map_batch.specs.Calls.{table_of};
 ghost use Rattle.place_table.specs.Passes.{IsFirstPass, PassView};
 ghost use Rattle.place_words.specs.Phases.{phase_count};
 ghost use Rattle.map_run.specs.declared.worker.Worker.{Worker};
+ghost use Rattle.record_shape.specs.WellShaped.{WellShaped};
 ghost use Rattle.run_records.specs.Copies.{IsCopyOf};
 ghost use Rattle.run_records.specs.Parts.{lone_cpu, pieces_by};
 ghost use Rattle.run_records.specs.Phased.{IsWhole};
@@ -38,6 +39,9 @@ use std::thread::Threads;
 /// of the script, what happened under each lock, the starts of the phases, in each phase a strand for each CPU, or one of all, and
 /// what the map holds at the end; beside it stands what the closed table left. It fails only where memory does.
 ///
+/// The record is well shaped. So `read_record` reads its report with `--history` and `--dump` back as the record, where that
+/// has at most 2^32 - 3 line feeds and memory is found.
+///
 /// The script is one as `read_script` and `generate` give them, whose batch writes have fewer than 2^32 entries each. A worker
 /// passes the gate at each call's beginning and end, and wherever it takes a lock or gives one back.
 pub fn run_race<R: Threads + Wait + Sync, G: Gate>(
@@ -48,6 +52,7 @@ pub fn run_race<R: Threads + Wait + Sync, G: Gate>(
 ) -> Result<(RunRecord, Closed), NoMemory>
     requires script { IsScript script.now }
     ensures record { IfOk result (λ kept. IsRaceRecord script.now kept.0) }
+    ensures shaped { IfOk result (λ kept. WellShaped script.now kept.0) }
     ensures closed { IfOk result (λ kept. IsCopyOf kept.0 kept.1) }
 {
     race_script(rt, alloc, script, gate)
@@ -64,7 +69,9 @@ fn race_script<R: Threads + Wait + Sync, G: Gate>(
     requires served { IsServed script.now }
     requires few { length script.now.calls ≤ 200000 }
     requires phases { HasPhases script.now.version (length script.now.calls) script.now.cuts }
+    requires script { IsScript script.now }
     ensures record { IfOk result (λ kept. IsRaceRecord script.now kept.0) }
+    ensures shaped { IfOk result (λ kept. WellShaped script.now kept.0) }
     ensures closed { IfOk result (λ kept. IsCopyOf kept.0 kept.1) }
 {
     let (map, mut pass) = AnyMap::create(alloc, &script.shape)?;

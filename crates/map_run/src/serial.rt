@@ -9,6 +9,7 @@ ghost use Rattle.place_table.specs.Passes.{IsFirstPass};
 ghost use Rattle.place_words.specs.AtRest.{IsStart};
 ghost use Rattle.place_words.specs.Phases.{phase_count};
 ghost use Rattle.map_report.specs.Runs.{serial};
+ghost use Rattle.record_shape.specs.WellShaped.{WellShaped};
 ghost use Rattle.run_records.specs.ByLogs.{HaveRunFrom, RunStart};
 ghost use Rattle.run_records.specs.Copies.{IsCopyOf};
 ghost use Rattle.serial_laws.specs.Laws.{SerialLaws};
@@ -39,6 +40,9 @@ use std::sync::Wait;
 /// doesn't evict it is also the one on plain lists, by the rules of the kernel functions that map_report/specs/Serial.antt
 /// names: the laws say so.
 ///
+/// The record is well shaped. So `read_record` reads its report with `--history` and `--dump` back as the record, where that
+/// has at most 2^32 - 3 line feeds and memory is found.
+///
 /// The gate is passed at each call's beginning and end, and wherever a lock is taken or given back, on the call's CPU.
 pub fn run_serial<R: Wait, G: Gate>(
     rt: &R,
@@ -49,6 +53,7 @@ pub fn run_serial<R: Wait, G: Gate>(
     requires script { IsScript script.now }
     ensures record { IfOk result (λ kept. kept.0 ≡ serial script.now) }
     ensures laws { SerialLaws script.now }
+    ensures shaped { IfOk result (λ kept. WellShaped script.now kept.0) }
     ensures closed { IfOk result (λ kept. IsCopyOf kept.0 kept.1) }
 {
     run_script(rt, alloc, script, gate)
@@ -65,7 +70,9 @@ fn run_script<R: Wait, G: Gate>(
     requires served { IsServed script.now }
     requires few { length script.now.calls ≤ 200000 }
     requires phases { HasPhases script.now.version (length script.now.calls) script.now.cuts }
+    requires script { IsScript script.now }
     ensures record { IfOk result (λ kept. kept.0 ≡ serial script.now) }
+    ensures shaped { IfOk result (λ kept. WellShaped script.now kept.0) }
     ensures closed { IfOk result (λ kept. IsCopyOf kept.0 kept.1) }
 {
     let (map, mut pass) = AnyMap::create(alloc, &script.shape)?;

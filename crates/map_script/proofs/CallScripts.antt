@@ -28,7 +28,6 @@ use Rattle.map_script.specs.Tokens.{number_of}
 use Rattle.map_script.specs.WellFormed.{HasPhases}
 use Rattle.map_script.proofs.BodyLines.{Tells, lines_hold}
 use Rattle.map_script.proofs.Gives.{found_gives, and_then, and_any, Found, valued_gives, end_gives, instead_gives, at_line_gives}
-use Rattle.map_script.proofs.WellFormedLemmas.{IsWellFormed-read_as}
 use Rattle.map_script.proofs.TokenValues.{IsNumber, IsStart, AreBytes, number_of_gives, flag_of_gives, start_of_gives, bytes_in_gives}
 
 -- ---- what is known of each part
@@ -242,7 +241,8 @@ named_gives version shape tokens =
     (λ each. each_gives version shape tokens (eqb-true version 2 (and_parts (version == 2) (is_next (codes "each") tokens) each).0))
     (λ other. verb_gives version shape tokens)
 
-call_gives : (version : ℕ) (shape : Shape) (tokens : Tokens) → IfOk (call_line version shape tokens) (IsCall version shape)
+-- what is known of each call that a line gives
+pub call_gives : (version : ℕ) (shape : Shape) (tokens : Tokens) → IfOk (call_line version shape tokens) (IsCall version shape)
 unfolding call_line
 call_gives version shape tokens =
     and_then (Found (IsCpu shape.cpus)) (IsCall version shape) (cpu shape.cpus tokens) _ (cpu_gives shape.cpus tokens) (λ on on_is.
@@ -287,11 +287,11 @@ lines_give version shape lines =
     lines_hold version shape (λ (body : Body) (lines : List Line). AreCalls version shape 0 0 body.calls) (λ body line lines tokens next h said told. line_more version shape body tokens next h told)
     no_body lines body tt read)
 
--- what the lines give, limits aside
-record IsListed (script : Script) : Type 0 where
-  numbers : IsAttr script.attr
-  calls : AreCalls script.version script.shape 0 0 script.calls
-  no_spec : script.spec ≡ None
+-- what is known of such a script, limits aside
+pub record IsListed (script : Script) : Type 0 where
+  pub numbers : IsAttr script.attr
+  pub calls : AreCalls script.version script.shape 0 0 script.calls
+  pub no_spec : script.spec ≡ None
 
 body_gives : (version : ℕ) (attr : CreateAttr) (shape : Shape) (end : ℕ) (lines : List Line) → IsAttr attr → IfOk (body_of forms.Calls version attr shape end lines) IsListed
 unfolding body_of
@@ -312,11 +312,8 @@ version_of_gives end [] = tt
 version_of_gives end (line ∷ lines) =
     and_any IsListed (at_line line (version_line forms.Calls)) _ (λ version. map_of_gives version end lines)
 
--- what is known of each script that form Calls gives
-pub script_gives : (given : List ℕ) (script : Script) → read_as forms.Calls given ≡ Ok script → IsCallScript script
+pub script_lists : (given : List ℕ) (script : Script) → read_as forms.Calls given ≡ Ok script → IsListed script
 unfolding read_as
-script_gives given script read =
+script_lists given script read =
     let P : Result Script ScriptRefusal → Type 0 = λ r. IfOk r IsListed in
-    let listed = subst P read (version_of_gives (end_number given) (lines_of given)) in
-    let formed = IsWellFormed-read_as forms.Calls given script read in
-    record { numbers = listed.numbers; created = formed.created; calls = listed.calls; phases = formed.phases; no_spec = listed.no_spec }
+    subst P read (version_of_gives (end_number given) (lines_of given))

@@ -9,10 +9,11 @@ use Rattle.map_script.specs.Reading.{or_fault, or_create, body_with, body_of, ma
 use Rattle.map_script.specs.WellFormed.{HasPhases}
 use Rattle.map_script.proofs.Gives.{IsVersion}
 use Rattle.map_script.proofs.TokenLines.{saying_from, lines_of-text_of_lines}
-use Rattle.map_script.proofs.CallScripts.{IsCallScript, script_gives}
+use Rattle.map_script.proofs.CallScripts.{IsCallScript, script_lists}
 use Rattle.map_script.proofs.CanonicalTokens.{phased_lines, script_lines, canonical-lines, script_are_lines}
 use Rattle.map_script.proofs.LinesRead.{then, version_read, map_read}
 use Rattle.map_script.proofs.PhasesRead.{lines_read}
+use Rattle.map_script.proofs.WellFormedLemmas.{IsWellFormed-read_as}
 
 known_version : (version count : ℕ) (cuts : List ℕ) → HasPhases version count cuts → IsVersion forms.Calls version
 known_version version count cuts h = elim h.known [ inl first ↦ inl first.0 | inr second ↦ inr second ]
@@ -43,6 +44,13 @@ call_script_read script h =
     let lines : lines_of (canonical script) ≡ saying_from 1 (script_lines script) = ap lines_of (canonical-lines script h.no_spec) ∙ lines_of-text_of_lines (script_lines script) (script_are_lines script h) in
     ap (version_of forms.Calls end) lines ∙ version_of_read script end 1 h
     ∙ ap (λ spec. Ok (script_of script.version script.attr script.shape script.calls script.cuts spec)) (sym h.no_spec)
+
+-- what is known of each script that form Calls gives
+script_gives : (given : List ℕ) (script : Script) → read_as forms.Calls given ≡ Ok script → IsCallScript script
+script_gives given script read =
+    let listed = script_lists given script read in
+    let formed = IsWellFormed-read_as forms.Calls given script read in
+    record { numbers = listed.numbers; created = formed.created; calls = listed.calls; phases = formed.phases; no_spec = listed.no_spec }
 
 -- and so is one that form Calls gives
 pub read_as-canonical : (script : Script) → IsReadAs forms.Calls script → read_as forms.Calls (canonical script) ≡ Ok script

@@ -1,9 +1,10 @@
 -- What is read is well formed.
 use Rattle.std.proofs.Common.{◌≡◌, ℕ, ◌≤◌, List, [], ◌∷◌, ◌++◌, length, Option, Some, None, Result, Ok, Err, IfOk, All, ◌⊎◌, inl, inr, refl, sym, subst, ◌∙◌, length-append, arith}
-use Rattle.std.proofs.lemmas.List.Elements.{All-nil, All-cons, All-append}
+use Rattle.std.proofs.lemmas.List.Elements.{All-nil, All-cons, All-append, All-weaker}
 use Rattle.map_types.specs.Creation.{creation}
 use Rattle.map_types.specs.declared.attr.CreateAttr.{CreateAttr}
 use Rattle.map_types.specs.declared.attr.Shape.{Shape}
+use Rattle.map_types.specs.declared.call.Call.{Call}
 use Rattle.map_types.specs.declared.refusal.CreateRefusal.{CreateRefusal}
 use Rattle.map_script.specs.declared.body.Body.{Body}
 use Rattle.map_script.specs.declared.body.BodyLine.{BodyLine}
@@ -18,7 +19,7 @@ use Rattle.map_script.specs.Grammar.{reply_room, version_line, map_line}
 use Rattle.map_script.specs.Lines.{Line, lines_of, end_number}
 use Rattle.map_script.specs.Places.{◌>>=◌, Tokens}
 use Rattle.map_script.specs.Reading.{at_line, or_create, no_body, with_next, body_from, spec_of, script_of, body_of, map_of, version_of, read_as, IsReading}
-use Rattle.map_script.specs.WellFormed.{IsCallOn, AreCuts, HasPhases, IsWellFormed}
+use Rattle.map_script.specs.WellFormed.{GivesBytes, IsCallOn, AreCuts, HasPhases, IsWellFormed}
 use Rattle.map_script.proofs.BodyLines.{Tells, few_more, room_more, lines_hold}
 use Rattle.map_script.proofs.CallSizes.{call_has}
 use Rattle.map_script.proofs.Gives.{at_line_gives, IsVersion, version_gives}
@@ -126,3 +127,8 @@ IsWellFormed-reading form text (Ok script) is = IsWellFormed-read_as form text s
 IsWellFormed-reading form text (Err (Fault line cause)) is = tt
 IsWellFormed-reading form text (Err (Create refusal)) is = tt
 IsWellFormed-reading form text (Err NoMemory) is = tt
+
+-- the keys and values that the calls of such a script give are bytes
+pub calls_give_bytes : (script : Script) → IsWellFormed script → All (λ (call : Call). GivesBytes call.verb) script.calls
+calls_give_bytes script well =
+    All-weaker (IsCallOn script.shape) (λ (call : Call). GivesBytes call.verb) (λ call is. is.bytes) script.calls well.calls

@@ -1,7 +1,8 @@
 -- What holds of each script that is read: its calls are calls on its map, within the limits.
 use Rattle.std.specs.Prelude.{◌≡◌, ◌⊎◌, ℕ, ◌<◌, ◌≤◌, List, [], ◌∷◌, length, All, Some, None, Ok}
+use Rattle.hex.specs.Hex.{IsBytes}
 use Rattle.map_types.specs.Creation.{creation, IsShape}
-use Rattle.map_types.specs.Pairs.{HaveSizes}
+use Rattle.map_types.specs.Pairs.{key_of, value_of, HaveSizes}
 use Rattle.map_types.specs.ValueLen.{value_len_of}
 use Rattle.map_types.specs.declared.attr.Shape.{Shape}
 use Rattle.map_types.specs.declared.call.Call.{Call}
@@ -29,10 +30,29 @@ HasSizes shape (BatchDelete flags keys) = All (IsKey shape) keys
 HasSizes shape (Each flags None) = Unit {0}
 HasSizes shape (Each flags (Some key)) = IsKey shape key
 
--- a call on a map: on one of its CPUs, with keys and values of its sizes
+-- a key and its value are bytes
+abbrev pub IsPairOfBytes : List ℕ × List ℕ → Type 0
+IsPairOfBytes pair = IsBytes (key_of pair) × IsBytes (value_of pair)
+
+-- the keys and values that a call gives are bytes
+abbrev pub GivesBytes : Verb → Type 0
+GivesBytes (Lookup side key) = IsBytes key
+GivesBytes (Update side flags key value) = IsBytes key × IsBytes value
+GivesBytes (Delete key) = IsBytes key
+GivesBytes (Take key) = IsBytes key
+GivesBytes (Next None) = Unit {0}
+GivesBytes (Next (Some key)) = IsBytes key
+GivesBytes (BatchRead remove count start flags) = Unit {0}
+GivesBytes (BatchUpdate flags pairs) = All IsPairOfBytes pairs
+GivesBytes (BatchDelete flags keys) = All IsBytes keys
+GivesBytes (Each flags None) = Unit {0}
+GivesBytes (Each flags (Some key)) = IsBytes key
+
+-- a call on a map: on one of its CPUs, with keys and values of its sizes, which are bytes
 pub record IsCallOn (shape : Shape) (call : Call) : Type 0 where
   pub cpu : call.cpu < shape.cpus
   pub sizes : HasSizes shape call.verb
+  pub bytes : GivesBytes call.verb
 
 -- numbers that don't fall, the first of which is at least this, and none of which is above this count
 abbrev pub AreCuts : ℕ → ℕ → List ℕ → Type 0

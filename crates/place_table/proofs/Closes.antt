@@ -1,5 +1,5 @@
 -- The last state of a table whose one pass has all CPUs and holds no lock.
-use Rattle.std.proofs.Common.{◌≡◌, ◌≢◌, ℕ, ◌<◌, cond, Bool, true, false, List, [], ◌∷◌, length, sym, refl, ap, ◌∙◌, subst, Option, Some, None, get_or, ◌≤◌, arith}
+use Rattle.std.proofs.Common.{◌≡◌, ◌≢◌, ℕ, ◌<◌, ◌^◌, cond, Bool, true, false, List, [], ◌∷◌, length, sym, refl, ap, ◌∙◌, subst, Option, Some, None, get_or, ◌≤◌, arith}
 use Rattle.std.specs.Prelude.{◌||◌, IsTrue, All, slice_get, unwrap_or, Result, Ok, Err, IfOk}
 use mathlib.Core.Option.{some}
 use lib.ListN.{get_elem?}
@@ -34,10 +34,11 @@ use Rattle.place_table.proofs.TicketLemmas.{each_append, each_to, exact_there, f
 use Rattle.place_table.proofs.TicketsShared.{idle_reached}
 use Rattle.place_words.proofs.Ascending.{ascend_to}
 use Rattle.place_table.proofs.TicketsClosed as tickets_closed
-use Rattle.place_table.specs.Rules.{World, Rule, PassKnows, entries, hold_of, is_hand_of, turns_on, turns_of, indexes, StandIn, ArePast, HaveNoSteps, touches_of, IsOfStrand, AreReads, logs_of}
+use Rattle.place_table.specs.Rules.{World, Rule, PassKnows, entries, hold_of, is_hand_of, turns_on, turns_of, indexes, StandIn, ArePast, HaveNoSteps, touches_of, IsOfStrand, AreReads, logs_of, marks_under, IsMarked}
 use Rattle.place_table.specs.Passes.{PassView, HasCpusOf, HandsReal, IsInNoCall, spare_of}
 use Rattle.place_table.specs.Closing.{ClosedView, AreSlots, has_lock, strands_told, state_left, AreTurnsOf, IsClosed, AreTouchesOf, AreWordsOf, HaveTickets}
 use Rattle.place_table.specs.Elements.{HoldsEachOnce}
+use Rattle.place_words.specs.Real.{IsAlwaysReal}
 use Rattle.place_table.specs.Leaving.{WasLeft}
 use Rattle.place_table.proofs.Worlds.{true_false, none_some, hold_of_mine, has_mine, own_hand, by_bool}
 use Rattle.place_table.proofs.ElementsLeft.{IsSpare, each_once}
@@ -49,6 +50,9 @@ use Rattle.place_table.proofs.SharedOut.{item_there, shared_told}
 use Rattle.place_table.proofs.StrandMoves.{done, past_done, among_done}
 use Rattle.place_table.proofs.StrandNumbers.{tag_at, tagged_at, has_turn, strand_here, are_turns_of}
 use Rattle.place_table.proofs.Touches.{are_touches_of}
+use Rattle.map_types.specs.ElementLists.{IsIn}
+use Rattle.map_types.specs.Kind.{is_lru}
+use Rattle.place_table.specs.declared.view.Hold.{Hold}
 
 -- what was true at the end, before anything is handed out
 pub record AtEnd (shape : Shape) (v : View) (words : List ℕ) (slots : List Behind) : Type 0 where
@@ -58,12 +62,14 @@ pub record AtEnd (shape : Shape) (v : View) (words : List ℕ) (slots : List Beh
   pub lost : ℕ → Bool
   pub core : cores.State
   pub legal : (k : ℕ) → IsLegal shape (lock_named shape k) (log k)
+  pub real : (k : ℕ) → k < lock_count shape → IsTrue (has_lock shape k) → IsAlwaysReal shape (lock_named shape k) (log k)
   pub nobody : (k : ℕ) → core.holder k ≡ None
   pub placed : Placed shape core
   pub lists_are : (k : ℕ) → k < lock_count shape → IsTrue (has_lock shape k) → core.lists k ≡ lists_of (content shape (lock_named shape k) (log k))
   pub hands : (e c : ℕ) → c < shape.cpus → is_hand_of c (core.owner e) ≡ is_in_hand_of e c v.hand
   pub known : (k : ℕ) (turns : List Entry) → known_log k v.known ≡ Some turns → log k ≡ turns
   pub bits : (e : ℕ) (bit : Bool) → bit_seen e v.bits ≡ Some bit → core.bit e ≡ bit
+  pub unmarked : is_lru shape.kind ≡ false → (e : ℕ) → e < shape.elements → core.bit e ≡ false
   pub turns : (k : ℕ) → AreTurnsOf k (all_strands v) (log k)
   pub stand : (n : ℕ) (strand : Ended) → slice_get (all_strands v) n ≡ Some strand → StandIn log strand.steps
   pub words_told : AreWordsOf shape core words
@@ -72,6 +78,7 @@ pub record AtEnd (shape : Shape) (v : View) (words : List ℕ) (slots : List Beh
       → (k : ℕ) → k < lock_count shape → IsTrue (has_lock shape k) → lost k ≡ false → places_on (lock_named shape k) strand.kept ≡ indexes (turns_on k strand.steps)
   pub drawn : ℕ
   pub drawn_is : drawn ≡ v.reached
+  pub counted : drawn < 2 ^ 64
   pub ticketed : NoneLost shape lost → HaveTickets shape log (all_strands v) drawn
   pub all_drawn : NoneLost shape lost → v.refused ≡ 0
   pub losses : (k : ℕ) → is_among k v.lost ≡ true → (k < lock_count shape) × IsTrue (has_lock shape k) × (lost k ≡ true)
@@ -100,6 +107,14 @@ module _ (shape : Shape) (s : State Behind View) (r : Rule shape s) (pass : ℕ)
           let w = r.world in let kn = r.knows pass v at_pass in
           let mine = has_mine shape w pass v c kn (all c (r.ranked.within c k e)) in
           absurd (none_some (sym (ap (hold_at k) no_lock) ∙ (kn.held k ∙ (ap (λ (z : Option ℕ). hold_of pass w.pass_of_cpu k z (w.log k) (w.core.lists k) (w.lost k)) e ∙ hold_of_mine w.pass_of_cpu pass k c (w.log k) (w.core.lists k) (w.lost k) mine))))
+
+  -- so no turn is under way in which a bit was set
+  not_marked : (e : ℕ) → IsMarked s.views e → ⊥
+  not_marked e m = go m.view.held refl m.noted
+    where
+      go : (held : List Hold) → m.view.held ≡ held → IsIn e (marks_under held m.view.notes) → ⊥
+      go [] is inside = let none : 0 < 0 = inside in omega arith
+      go (h ∷ hs) is inside = none_some (sym (nobody h.lock) ∙ (first_there shape s r m.pass m.view m.seat h hs is).holder_is)
 
   -- a pass that is another has no CPU, and its strands have no turn
   other_pass : (j : ℕ) (u : View) → j ≢ pass → PassKnows shape r.world j u → u.cpus ≡ []
@@ -172,6 +187,7 @@ module _ (shape : Shape) (s : State Behind View) (r : Rule shape s) (pass : ℕ)
         lost = w.lost;
         core = w.core;
         legal = r.legal;
+        real = r.real;
         nobody = nobody;
         placed = r.placed;
         lists_are = λ k below there. (free_home shape k (w.core.holder k) (entries (w.log k)) (w.core.lists k) (w.lost k) (get_elem? s.homes k) (nobody k) (r.homes k below there)).1;
@@ -180,6 +196,7 @@ module _ (shape : Shape) (s : State Behind View) (r : Rule shape s) (pass : ℕ)
         bits = kn.bits;
         words_told = subst (AreWordsOf shape w.core) words_are record { locks = r.lock_words; owners = r.owner_words; homes = r.home_words; bits = r.bit_words };
         touches = subst (AreTouchesOf shape (all_strands v)) words_are (are_touches_of shape w pass (length s.views) (done w pass) (all_strands v) s.words strands r.in_time r.of_strands r.lead only_reads);
+        unmarked = λ plain e _. by_bool (w.core.bit e) (λ b. b ≡ false) (λ is_set. absurd (not_marked e (r.unmarked plain e is_set))) (λ _. refl);
         turns = turns_now;
         stand = λ n strand at_n. (strand_here shape w pass (done w pass) (all_strands v) n strand strands at_n).is.stand;
         recorded = λ n strand at_n. (strand_here shape w pass (done w pass) (all_strands v) n strand strands at_n).is.kept_are;
@@ -187,6 +204,7 @@ module _ (shape : Shape) (s : State Behind View) (r : Rule shape s) (pass : ℕ)
         drawn_is =
             exact_there shape (get_or s.words (ticket_word shape) 0) (logs_of w) w.lost w.pass_of_cpu s.views pass v at_pass (λ c less. has_mine shape w pass v c kn (all c less)) r.tickets
             ∙ idle_reached (get_or s.words (ticket_word shape) 0) r.tickets.drawing r.tickets.stand v v.ticket no_lock (r.tickets.known pass v at_pass).ticket;
+        counted = let most = r.tickets.bounded in omega arith;
         all_drawn = λ none. (r.tickets.known pass v at_pass).all_drawn none;
         ticketed = λ none.
             let mine = r.tickets.known pass v at_pass in
@@ -272,6 +290,7 @@ module _ (shape : Shape) (p : PassView) (words : List ℕ) (slots : List Behind)
     lost = λ k. was.strands_lost || e.lost k;
     core = e.core;
     legal = e.legal;
+    real = e.real;
     nobody = e.nobody;
     placed = e.placed;
     lists_are = e.lists_are;
@@ -281,6 +300,7 @@ module _ (shape : Shape) (p : PassView) (words : List ℕ) (slots : List Behind)
     elements = each_left;
     known = e.known;
     bits = e.bits;
+    unmarked = e.unmarked;
     turns = e.turns;
     stand = e.stand;
     words = words;
@@ -291,6 +311,7 @@ module _ (shape : Shape) (p : PassView) (words : List ℕ) (slots : List Behind)
     all_lost = λ all k. ap (λ (b : Bool). b || e.lost k) all;
     drawn = e.drawn;
     drawn_is = e.drawn_is;
+    counted = e.counted;
     ticketed = λ kept. e.ticketed (none_lost_of kept);
     all_drawn = λ kept. e.all_drawn (none_lost_of kept);
     losses = λ k among. let is = e.losses k among in

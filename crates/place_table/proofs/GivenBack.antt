@@ -42,7 +42,7 @@ use Rattle.place_table.specs.Laws.{StepsAs, goes_by, LeadsOn}
 use Rattle.place_table.specs.declared.view.Turned.{Turned}
 use Rattle.place_table.specs.Views as views
 use Rattle.place_table.specs.Views.{is_among, hold_at, known_log, holding, has_all, is_in_hand_of, home_then, passed_on}
-use Rattle.place_table.specs.Rules.{World, Rule, PassKnows, givers, strands_of, AtHome, Tagged, entries, hold, hold_of, IsAboveAll, Ascends, turns_on, turns_of, indexes, logs_of, AreTagged, HashesRight, StillHome, HasRow, IsHashed, is_hand_of, LeadTo, AreNoted, IsCounted}
+use Rattle.place_table.specs.Rules.{World, Rule, PassKnows, givers, strands_of, AtHome, Tagged, entries, hold, hold_of, IsAboveAll, Ascends, turns_on, turns_of, indexes, logs_of, AreTagged, HashesRight, StillHome, HasRow, IsHashed, is_hand_of, LeadTo, AreNoted, IsCounted, marks_under}
 use Rattle.place_table.specs.Words.{lock_code, owner_word, home_word, bit_word, ticket_word, opening_words}
 use Rattle.place_table.specs.Plays.{Seated, MayPut, MayGive, HasItsTicket, IsRecorded, IsKeptOrLost, GivesBack, GivesSome, entry_by}
 use Rattle.place_table.specs.TurnNotes.{NotesFit}
@@ -69,6 +69,9 @@ use Rattle.place_table.proofs.TicketChanges.{tickets_given}
 use Rattle.place_table.proofs.Locks.{allows_of, there, elements_there}
 use Rattle.place_table.specs.declared.view.HomeIn.{HomeIn}
 use Rattle.place_table.proofs.Counted.{counted_more, counted_within, homes_more}
+use Rattle.place_words.specs.Real.{IsReal, IsAlwaysReal}
+use Rattle.place_table.proofs.RealContents.{real_there, real_more}
+use Rattle.place_table.proofs.MarksNoted.{marked_on, marks_gave}
 
 -- what lies under a lock of one kind has only the lists of that kind, and its cursor in its place
 fits_lists : (shape : Shape) (lock : DomainId) (here : Content) → FitsLock shape lock here → HasOnlyItsLists lock (lists_of (content_told lock here))
@@ -329,6 +332,14 @@ module _ (shape : Shape) (slots pass : ℕ) (v : View) (b : Behind) (cs : List (
           legal = λ m. at_put w.log k l' (λ i l. IsLegal shape (lock_named shape i) (entries l)) m
               (subst (IsLegal shape (lock_named shape k)) (sym es_is) (legal_more shape (lock_named shape k) es e (r.legal k) m0.allowed))
               (λ _. r.legal m);
+          real = λ m. at_put w.log k l' (λ i l. i < lock_count shape → IsTrue (is_lock shape (lock_named shape i)) → IsAlwaysReal shape (lock_named shape i) (entries l)) m
+              (λ below there_is. subst (IsAlwaysReal shape (lock_named shape k)) (sym es_is) (real_more shape (lock_named shape k) es e (r.real k below there_is)
+              (subst (IsReal shape) (sym content_is ∙ ap (content shape (lock_named shape k)) es_is) (real_there shape (given shape w.core lock n') (step_keeps_places shape w.core (Give h.cpu lock n') bounds can r.placed) k back (put_here w.core.lists k n')))))
+              (λ _. r.real m);
+          unmarked = λ plain x is_set. marked_on s.views pass v nv at_pass
+              (λ y inside. subst (λ (l : List Hold). IsIn y (marks_under (views.holds_below l) (passed_on e.part v.notes))) (sym is_held)
+              (marks_gave shape v h e.part below v.notes plain may.noted y (subst (λ (l : List Hold). IsIn y (marks_under l v.notes)) is_held inside)))
+              x (r.unmarked plain x is_set);
           homes = λ m within there_is. at_put4 w.core.holder w.log w.core.lists w.lost k None l' n' lo' (λ i ho l n lo. i < lock_count shape → IsTrue (is_lock shape (lock_named shape i)) → AtHome shape i ho (entries l) n lo (get_elem? (set s.homes k (some b)) i)) m
               (λ _ _. (
                 (

@@ -64,6 +64,7 @@ use Rattle.place_table.specs.declared.view.WordStep.{WordStep}
 use Rattle.place_table.proofs.StepLog.{made}
 use Rattle.place_table.proofs.CodeLemmas.{has_home_code, lies_has_code, one_home}
 use Rattle.place_table.proofs.Counted.{turns_told, counted_now, homes_with}
+use Rattle.place_table.proofs.MarksNoted.{on_same, marks_home_read, marks_with, marks_without, marks_come_home, marks_left_home}
 
 -- the home is a lock that a CPU of the pass holds, or the hand of one
 abbrev IsInReach : Shape → World → ℕ → Home → Type 0
@@ -363,6 +364,7 @@ module _ (shape : Shape) (s : State Behind View) (r : Rule shape s) (pass : ℕ)
       (λ ne below. get_or-set_other s.words i (home_word shape x) code 0 (λ y. ne (omega arith)) ∙ r.home_words x below) below)
       (let notes = notes_then v.shape from to e v in noted_with shape v.touched to owner e (held_without shape from owner e v.held) notes (noted_without shape v.touched from owner e v.held notes (noted_home_come shape v.shape v.touched from to e v.held (with_left_home v.shape from to e v.held v.notes) (noted_left_home shape v.shape v.touched from to e v.held v.notes kn.noted))))
       (inner_with shape to owner e (held_without shape from owner e v.held) ∙ inner_without shape from owner e v.held)
+      (let notes = notes_then v.shape from to e v in marks_with shape to owner e (held_without shape from owner e v.held) notes ∙ (marks_without shape from owner e v.held notes ∙ (marks_come_home v.shape from to e v.held (with_left_home v.shape from to e v.held v.notes) ∙ marks_left_home v.shape from to e v.held v.notes)))
       record {
         under = λ k. ⊎_elim
             (λ (stays : lists k ≡ away k). ⊎_elim
@@ -587,7 +589,7 @@ sees_home_step shape slots pass me e real s r wide at_pass _ =
       with_homes_read homes_now (noted (with_home_read e home me.0.held me.0.notes) me.0.bits (touching (made w) (home_word shape e) (Some (home_code home)) (home_code home) me.0) (with_reading (made w) turns e home me.0.hand me.0.readings) me.0),
       keeps,
       tt,
-      look_rule shape s r pass me.0 at_pass (with_home_read e home me.0.held me.0.notes) (λ k. came_home_read e home k me.0.held me.0.notes) (home_word shape e) (home_code home) me.1 me.0.bits homes_now
+      look_rule shape s r pass me.0 at_pass (with_home_read e home me.0.held me.0.notes) (λ k. came_home_read e home k me.0.held me.0.notes) (on_same _ _ (marks_home_read e home me.0.held me.0.notes)) (home_word shape e) (home_code home) me.1 me.0.bits homes_now
           (homes_with shape w.touches me.0.homes_read (record { element = e; home = home; at = made w; turns = turns }) kn.homes_read (counted_now shape w.touches home))
           (with_reading (made w) turns e home me.0.hand me.0.readings)
           (λ x d read within found. ⊎_elim

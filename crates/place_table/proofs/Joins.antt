@@ -27,6 +27,7 @@ use Rattle.place_table.proofs.Locks.{there}
 use Rattle.place_table.proofs.Splits.{and_false}
 use Rattle.place_table.proofs.StrandMoves.{among_append, among_later, no_turns_yet, no_touches_yet, of_strands_move, SameTurns, GoesTo, StaysListed, strand_moves, past_moves, tagged_moves, past_pass_of_strand, not_theirs, past_append, done, past_done, among_done, fresh_done, no_steps_append, not_one}
 use Rattle.place_table.proofs.Readings.{append_home, or_there}
+use Rattle.place_table.proofs.MarksNoted.{marked_on, none_marked}
 
 -- what is known, and what is in hand, in one of two lists
 known_append : (e d : ℕ) (noted : HashIn) (xs ys : List HashIn) → hash_known e d (xs ++ ys) ≡ Some noted → (hash_known e d xs ≡ Some noted) ⊎ (hash_known e d ys ≡ Some noted)
@@ -436,6 +437,9 @@ module _ (shape : Shape) (id other : ℕ) (v u : View) (apart : other ≢ id) (n
         ranked = r.ranked;
         hashes = r.hashes;
         legal = r.legal;
+        real = r.real;
+        unmarked = λ plain y is_set. marked_on (set s.views id both) other u gone at_there (none_marked u.held u.notes gone.notes nor_lock) y
+            (marked_on s.views id v both at_id (none_marked v.held v.notes both.notes no_lock) y (r.unmarked plain y is_set));
         homes = r.homes;
         seated = λ d less. subst (λ (z : ℕ). fold_in (w.pass_of_cpu d) < z) (sym long) (fold_below (w.pass_of_cpu d) (length s.views) here (r.seated d less));
         tagged = λ k. tagged_moves w w' (length s.views) (length (set (set s.views id both) other gone)) (w.log k)

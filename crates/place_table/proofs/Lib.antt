@@ -30,6 +30,7 @@ pub mod Joins
 pub mod Leaves
 pub mod Locks
 pub mod MapLeft
+pub mod MarksNoted
 pub mod NotesDone
 pub mod Opens
 pub mod OwnerSteps
@@ -40,6 +41,7 @@ pub mod PartsMade
 pub mod PlaceSteps
 pub mod Ranges
 pub mod Readings
+pub mod RealContents
 pub mod Refused
 pub mod Rehomes
 pub mod SharedOut

@@ -40,7 +40,7 @@ use Rattle.place_table.specs.Contents.{lists_of}
 use Rattle.place_table.specs.Laws.{StepsAs, goes_if, goes_by}
 use Rattle.place_table.specs.StoredHashes.{stored_in}
 use Rattle.place_table.specs.Views.{is_among, hold_at, holding, home_then, came_at, no_notes}
-use Rattle.place_table.specs.Rules.{World, Rule, PassKnows, AtHome, IsSlotAfter, entries, hold, hold_of, IsAboveAll, logs_of, AreTagged, IsFresh, AreOfStrands, StillHome, IsCounted, HasRow, IsBrought, LeadTo}
+use Rattle.place_table.specs.Rules.{World, Rule, PassKnows, AtHome, IsSlotAfter, entries, hold, hold_of, IsAboveAll, logs_of, AreTagged, IsFresh, AreOfStrands, StillHome, IsCounted, HasRow, IsBrought, LeadTo, IsMarked}
 use Rattle.place_table.specs.Words.{lock_code, owner_word, home_word, bit_word, ticket_word, opening_words}
 use Rattle.place_table.specs.Plays.{Seated, Tries, AreElements, IsApartFromHands}
 use Rattle.place_table.proofs.StoredHashes.{lies_on_one}
@@ -58,6 +58,7 @@ use Rattle.place_table.specs.Tickets.{Tickets}
 use Rattle.place_table.proofs.TicketLemmas.{tickets_stay}
 use Rattle.place_table.specs.declared.view.HomeIn.{HomeIn}
 use Rattle.place_table.proofs.Counted.{counted_more, counted_then, homes_more}
+use Rattle.place_table.proofs.MarksNoted.{marked_on}
 
 -- a step that is told as one of the core is one that the rule allows
 pub allows_of : (shape : Shape) (slots pass : ℕ) (me : Seated) (i : ℕ) (f : ℕ → ℕ) (goes : ℕ → cores.State → cores.State → Type 0) (told_then : ℕ → Seated → Type 0)
@@ -96,6 +97,8 @@ same_rule shape s r words views e f = record {
   ranked = r.ranked;
   hashes = r.hashes;
   legal = r.legal;
+  real = r.real;
+  unmarked = λ plain y is_set. subst (λ (l : List View). IsMarked l y) (sym f) (r.unmarked plain y is_set);
   homes = r.homes;
   seated = λ c less. subst (λ (l : List View). r.world.pass_of_cpu c < length l) (sym f) (r.seated c less);
   tagged = λ k. subst (λ (l : List View). AreTagged r.world (length l) (r.world.log k)) (sym f) (r.tagged k);
@@ -225,6 +228,8 @@ module _ (shape : Shape) (slots pass : ℕ) (me : Seated) (lock : DomainId) (c :
                 (right.have m x no_bucket inside);
           };
           legal = r.legal;
+          real = r.real;
+          unmarked = λ plain y is_set. marked_on s.views pass v nv at_pass (λ x inside. inside) y (r.unmarked plain y is_set);
           homes = λ m below there_is. at_put w.core.holder k (Some c) (λ i x. i < lock_count shape → IsTrue (is_lock shape (lock_named shape i)) → AtHome shape i x (entries (w.log i)) (w.core.lists i) (w.lost i) (get_elem? (set s.homes k none) i)) m
               (λ _ _. set_here s.homes k none (omega (arith, r.slots, real)))
               (λ ne below there_is. subst (λ z. AtHome shape m (w.core.holder m) (entries (w.log m)) (w.core.lists m) (w.lost m) z) (sym (set_else s.homes k m none ne)) (r.homes m below there_is)) below there_is;

@@ -21,7 +21,7 @@ use Rattle.place_words.specs.declared.history.Entry.{Entry}
 use Rattle.place_words.specs.declared.home.Home.TheVariants as homes
 use Rattle.place_words.specs.declared.owner.Owner.TheVariants as owners
 use Rattle.place_words.specs.Codes.{owner_code, home_code}
-use Rattle.place_words.specs.Histories.{opening_content, replayed, AllAllowed}
+use Rattle.place_words.specs.Histories.{opening_content, replayed, AllAllowed, content}
 use Rattle.place_words.specs.Locks.{is_lock, lock_named, lock_count}
 use Rattle.place_words.specs.Openings.{spare_owner, opening_owner, opening_spares, opening_free}
 use Rattle.place_words.specs.declared.step.Lists.{Lists}
@@ -39,6 +39,7 @@ use Rattle.place_table.specs.Words.{bit_word, ticket_word}
 use Rattle.place_table.specs.Tickets.{Tickets, KnowsTickets, count_drawing, with_cpu}
 use Rattle.place_table.specs.Opening.{IsFirstContent, IsFirstSlot, AreFirstSlots}
 use Rattle.place_table.specs.Words.{opening_words}
+use Rattle.place_table.proofs.RealContents.{real_there, real_at_first}
 use Rattle.place_table.proofs.FirstSpares.{hand_at_first}
 use Rattle.place_table.proofs.FirstWords.{length_words, first_home, first_lock_word, first_owner_word, first_home_word, first_bit_word}
 
@@ -236,6 +237,8 @@ opens_at shape slots is_one are =
       ranked = opening_ranked shape;
       hashes = λ lru. hashes_first shape (λ k. []) (λ e. 0);
       legal = λ k. tt;
+      real = λ k within there. real_at_first shape (lock_named shape k) (real_there shape (opening shape) (opening_placed shape bounds) k (content shape (lock_named shape k) []) (slot_first shape slots are k within there).1);
+      unmarked = λ plain e is_set. absurd (let none : false ≡ true = is_set in cc);
       homes = λ k within there. slot_first shape slots are k within there;
       seated = λ c few. omega arith;
       tagged = λ k. tt;

@@ -40,7 +40,7 @@ use Rattle.key_hash.specs.Bucket.{bucket_number}
 use Rattle.place_table.specs.Laws.{StepsAs, goes_by}
 use Rattle.place_table.specs.Views as views
 use Rattle.place_table.specs.Views.{is_among, hold_at, is_in_hand_of, now_at, now_under, with_now, with_came, with_in_hand, without_in_hand, moved, kept_readings, kept_hashes, hash_known, came_at}
-use Rattle.place_table.specs.Rules.{Rule, World, PassKnows, AreNoted, is_hand_of, is_home_of, IsHashOf, IsHashed, HasCome, HasRow, IsBrought}
+use Rattle.place_table.specs.Rules.{Rule, World, PassKnows, AreNoted, is_hand_of, is_home_of, IsHashOf, IsHashed, HasCome, HasRow, IsBrought, marks_under}
 use Rattle.place_table.specs.Words.{owner_word, home_word}
 use Rattle.place_table.specs.Plays.{Seated, Claims, Settles, Attaches, Detaches}
 use Rattle.place_table.proofs.Hands.{ascends_now, AreInHands, comes_to_hand, leaves_hand, was_in_hand, IsOwnerOfPass}
@@ -60,11 +60,12 @@ use Rattle.place_table.proofs.WordSteps.{in_held_bucket}
 use Rattle.place_table.proofs.Worlds.{true_false, by_bool, both_true, some_is, in_hand_is, hashed_stands}
 use Rattle.place_table.proofs.NotesDone.{noted_came, noted_now}
 use Rattle.place_table.proofs.StepLog.{made}
+use Rattle.place_table.proofs.MarksNoted.{marks_now, marks_came}
 
 module _ (shape : Shape) (s : State Behind View) (r : Rule shape s) (pass : ℕ) (v : View) (at_pass : get_elem? s.views pass ≡ some v) (lock : DomainId) (h : Hold) (found : hold_at (lock_number shape lock) v.held ≡ Some h)
     (e : ℕ) (owner : Owner) (hand : List InHand) (notes : List Notes) (hashes : List HashIn) (cs : List (ℕ × Behind)) (real : e < shape.elements) (was : IsOwnerOfPass r.world.pass_of_cpu pass (r.world.core.owner e)) (is : IsOwnerOfPass r.world.pass_of_cpu pass owner)
     (in_hands : AreInHands is_hand_of shape.cpus pass r.world.pass_of_cpu (put r.world.core.owner e owner) hand) (are_noted : AreNoted shape v.touched v.held notes)
-    (more : (m x : ℕ) → is_among x (came_at m v.held v.notes) ≡ true → is_among x (came_at m v.held notes) ≡ true) where
+    (more : (m x : ℕ) → is_among x (came_at m v.held v.notes) ≡ true → is_among x (came_at m v.held notes) ≡ true) (same_marks : marks_under v.held notes ≡ marks_under v.held v.notes) where
   -- the element has this owner from now on, and under the lock lies this
   owner_rule : (now : Lists) → (IsFalse (is_bucket (lock_named shape (lock_number shape lock))) → (x : ℕ) → IsIn x (rows now) → IsIn x (rows (r.world.core.lists (lock_number shape lock))) ⊎ (is_among x (came_at (lock_number shape lock) v.held notes) ≡ true)) → AreHashes shape r.world r.world.core.home hand hashes (with_now (lock_number shape lock) now v.held) notes → (IsTrue (is_lru shape.kind) → HashesRight shape r.world.core.holder (put r.world.core.lists (lock_number shape lock) now) (put r.world.core.owner e owner) r.world.log r.world.hash) → Placed shape (with_owner shape r.world.core e owner lock now) → Ranked shape (with_owner shape r.world.core e owner lock now)
       → (after : Rule shape (stepped s (owner_word shape e) (owner_code owner) pass cs (record (moved (made r.world) (lock_number shape lock) now hand notes (owner_word shape e) (owner_code owner) v) { hashes = hashes }) keeps)) × (after.world.core ≡ with_owner shape r.world.core e owner lock now)
@@ -79,7 +80,7 @@ module _ (shape : Shape) (s : State Behind View) (r : Rule shape s) (pass : ℕ)
       (λ _. get_or-set_same s.words i code 0 (omega (arith, r.words)))
       (λ ne below. get_or-set_other s.words i (owner_word shape x) code 0 (λ y. ne (omega arith)) ∙ r.owner_words x below) below)
       (λ x below. get_or-set_other s.words i (home_word shape x) code 0 (λ y. omega arith) ∙ r.home_words x below)
-      (noted_now shape v.touched k now v.held notes are_noted) (inner_now k now v.held)
+      (noted_now shape v.touched k now v.held notes are_noted) (inner_now k now v.held) (marks_now k now v.held notes ∙ same_marks)
       record {
         under = λ m. at_put w.core.lists k now (λ j l. (l ≡ w.core.lists j) ⊎ IsHeldByPass w pass j) m (inr by_pass) (λ _. inl refl);
         owners = λ x. at_put w.core.owner e owner (λ j o. (o ≡ w.core.owner j) ⊎ (IsOwnerOfPass w.pass_of_cpu pass (w.core.owner j) × IsOwnerOfPass w.pass_of_cpu pass o)) x (inr (was, is)) (λ _. inl refl);
@@ -143,7 +144,7 @@ claims_step shape slots pass me e lock hold real is found head s r wide at_pass 
     owner_step shape s r pass v at_pass lock hold found e (owners.Hand hold.cpu) (with_in_hand e hold.cpu v.hand) (with_came (lock_number v.shape lock) e v.held v.notes) (kept_hashes (with_in_hand e hold.cpu v.hand) v.hashes) me.1 real (subst (IsOwnerOfPass w.pass_of_cpu pass) (sym was) tt) at.mine
     (comes_to_hand is_hand_of shape.cpus pass e hold.cpu w.pass_of_cpu w.core.owner (put w.core.owner e (owners.Hand hold.cpu)) v.hand (λ x. put_else w.core.owner e (owners.Hand hold.cpu) x) kn.hands
     at.mine (λ c. ap (is_hand_of c) was) (λ c. ap (is_hand_of c) (put_here w.core.owner e (owners.Hand hold.cpu)))) (noted_came shape v.touched (lock_number v.shape lock) e v.held v.notes kn.noted)
-    (λ m x before. came_more (lock_number v.shape lock) e m x v.held v.notes before)
+    (λ m x before. came_more (lock_number v.shape lock) e m x v.held v.notes before) (marks_came (lock_number v.shape lock) e v.held v.notes)
     (Claim hold.cpu e lock) (λ l. with_row lock e (without_free e l))
     (λ now. (
       hashes_kept shape w pass v kn (with_in_hand e hold.cpu v.hand),
@@ -200,7 +201,7 @@ settles_step shape slots pass me e lock hold real is found has_free_list has in_
     } in
     owner_step shape s r pass v at_pass lock hold found e owners.Free (without_in_hand e hold.cpu v.hand) v.notes (kept_hashes (without_in_hand e hold.cpu v.hand) v.hashes) me.1 real (subst (IsOwnerOfPass w.pass_of_cpu pass) (sym was) at.mine) tt
     (leaves_hand is_hand_of shape.cpus pass e hold.cpu w.pass_of_cpu w.core.owner (put w.core.owner e owners.Free) v.hand (λ x. put_else w.core.owner e owners.Free x) kn.hands
-    (λ c. ap (is_hand_of c) was) (λ c. ap (is_hand_of c) (put_here w.core.owner e owners.Free))) kn.noted (λ m x before. before)
+    (λ c. ap (is_hand_of c) was) (λ c. ap (is_hand_of c) (put_here w.core.owner e owners.Free))) kn.noted (λ m x before. before) refl
     (Settle hold.cpu e lock) (λ l. with_free e (without_row e l)) (hashes_left shape w pass v kn (lock_number shape lock) e hold.cpu)
     (λ _ x inside. by_test x e (λ _. IsIn x (rows (w.core.lists (lock_number shape lock))) ⊎ (is_among x (came_at (lock_number shape lock) v.held v.notes) ≡ true))
     (λ same.
@@ -256,7 +257,7 @@ attaches_step shape slots pass me e bucket hold real there found has in_hand not
     record { holds = holds_there shape s r pass v at_pass lock hold found is; real = real; in_hand = was; not_carried = λ lru. lock_home shape s r pass v at_pass e hold.cpu real has was lru (not_carried lru) } in
     owner_step shape s r pass v at_pass lock hold found e (owners.Bucket bucket) (without_in_hand e hold.cpu v.hand) v.notes (kept_hashes (without_in_hand e hold.cpu v.hand) v.hashes) me.1 real (subst (IsOwnerOfPass w.pass_of_cpu pass) (sym was) at.mine) tt
     (leaves_hand is_hand_of shape.cpus pass e hold.cpu w.pass_of_cpu w.core.owner (put w.core.owner e (owners.Bucket bucket)) v.hand (λ x. put_else w.core.owner e (owners.Bucket bucket) x) kn.hands
-    (λ c. ap (is_hand_of c) was) (λ c. ap (is_hand_of c) (put_here w.core.owner e (owners.Bucket bucket)))) kn.noted (λ m x before. before)
+    (λ c. ap (is_hand_of c) was) (λ c. ap (is_hand_of c) (put_here w.core.owner e (owners.Bucket bucket)))) kn.noted (λ m x before. before) refl
     (Attach hold.cpu e bucket) (λ l. with_row lock e l) (hashes_left shape w pass v kn (lock_number shape lock) e hold.cpu)
     (λ no_bucket. true_false (sym (ap is_bucket (named_by_number shape lock is)) ∙ no_bucket))
     can refl
@@ -292,7 +293,7 @@ detaches_step shape slots pass me e bucket hold there found inside s r wide at_p
     let kept : List HashIn = kept_hashes hand v.hashes in
     owner_step shape s r pass v at_pass lock hold found e (owners.Hand hold.cpu) (with_in_hand e hold.cpu v.hand) v.notes (cond (is_lru v.shape.kind) (new ∷ kept_hashes (with_in_hand e hold.cpu v.hand) v.hashes) (kept_hashes (with_in_hand e hold.cpu v.hand) v.hashes)) me.1 can.real (subst (IsOwnerOfPass w.pass_of_cpu pass) (sym was) tt) at.mine
     (comes_to_hand is_hand_of shape.cpus pass e hold.cpu w.pass_of_cpu w.core.owner (put w.core.owner e (owners.Hand hold.cpu)) v.hand (λ x. put_else w.core.owner e (owners.Hand hold.cpu) x) kn.hands
-    at.mine (λ c. ap (is_hand_of c) was) (λ c. ap (is_hand_of c) (put_here w.core.owner e (owners.Hand hold.cpu)))) kn.noted (λ m x before. before)
+    at.mine (λ c. ap (is_hand_of c) was) (λ c. ap (is_hand_of c) (put_here w.core.owner e (owners.Hand hold.cpu)))) kn.noted (λ m x before. before) refl
     (Detach hold.cpu e bucket) (λ l. without_row e l)
     (λ now. by_bool (is_lru shape.kind) (λ t. is_lru shape.kind ≡ t → AreHashes shape w w.core.home hand (cond (is_lru v.shape.kind) (new ∷ kept) kept) (with_now (lock_number shape lock) now v.held) v.notes)
     (λ lru _. subst (λ (t : Bool). AreHashes shape w w.core.home hand (cond t (new ∷ kept) kept) (with_now (lock_number shape lock) now v.held) v.notes) (sym (ap (λ z. is_lru z.kind) kn.shape_is ∙ lru)) (

@@ -32,7 +32,7 @@ use Rattle.place_table.specs.declared.view.Notes.{Notes}
 use Rattle.place_table.specs.Views.{hold_at, now_at, with_now, with_places, home_known, hash_known, kept_hashes, kept_readings, touching, is_among, is_in_hand_of, came_at}
 use Rattle.place_table.specs.Tickets.{Tickets, innermost}
 use Rattle.place_table.proofs.TicketLemmas.{tickets_stay}
-use Rattle.place_table.specs.Rules.{World, Rule, PassKnows, HashesRight, AreRowed, AtHome, Ascends, entries, hold, hold_of, is_hand_of, is_home_of, StillHome, IsReading, IsHashOf, IsHashed, AreNoted, logs_of}
+use Rattle.place_table.specs.Rules.{World, Rule, PassKnows, HashesRight, AreRowed, AtHome, Ascends, entries, hold, hold_of, is_hand_of, is_home_of, StillHome, IsReading, IsHashOf, IsHashed, AreNoted, logs_of, marks_under}
 use Rattle.place_table.specs.Words.{owner_word, home_word, bit_word, ticket_word}
 use Rattle.map_types.specs.Kind.{is_lru}
 use Rattle.place_table.specs.StoredHashes.{stored_in}
@@ -46,6 +46,7 @@ use Rattle.place_table.specs.declared.view.WordStep.{WordStep}
 use Rattle.place_table.proofs.Locks.{there}
 use Rattle.place_table.proofs.NotesDone.{word_off, noted_more}
 use Rattle.place_table.proofs.Counted.{counted_more, reading_more, homes_more}
+use Rattle.place_table.proofs.MarksNoted.{marked_on, on_same}
 
 -- a CPU of the pass holds the lock
 pub record IsHeldByPass (w : World) (pass k : ℕ) : Type 0 where
@@ -123,11 +124,11 @@ module _ (shape : Shape) (s : State Behind View) (r : Rule shape s) (pass : ℕ)
   pub place_rule : (i n : ℕ) (c : ℕ) (mine : is_among c v.cpus ≡ true) (held : List Hold) (hand carried : List InHand) (readings : List HomeIn) (notes : List Notes) (hashes : List HashIn) (cs : List (ℕ × Behind)) → lock_count shape ≤ i → i < bit_word shape 0
       → ((e : ℕ) → e < shape.elements → get_or (set s.words i n) (owner_word shape e) 0 ≡ owner_code (owner e))
       → ((e : ℕ) → e < shape.elements → get_or (set s.words i n) (home_word shape e) 0 ≡ home_code (home e))
-      → AreNoted shape v.touched held notes → innermost held ≡ innermost v.held
+      → AreNoted shape v.touched held notes → innermost held ≡ innermost v.held → marks_under held notes ≡ marks_under v.held v.notes
       → MovesPlaces shape r.world pass lists owner home held hand carried readings notes hashes
       → (after : Rule shape (stepped s i n pass cs (record (with_places held hand carried readings notes (touching (made r.world) i None n v) v) { hashes = hashes }) keeps)) × (after.world.core ≡ core_moved r.world lists owner home)
   unfolding moved_world
-  place_rule i n c mine held hand carried readings notes hashes cs above below owner_words home_words are_noted same_inner moves =
+  place_rule i n c mine held hand carried readings notes hashes cs above below owner_words home_words are_noted same_inner same_marks moves =
       let w = r.world in
       let x : WordStep = record { at = made w; word = i; seen = None; left = n } in
       let w' : World = moved_world w x in
@@ -147,6 +148,8 @@ module _ (shape : Shape) (s : State Behind View) (r : Rule shape s) (pass : ℕ)
           ranked = moves.ranked;
           hashes = moves.hashes;
           legal = r.legal;
+          real = r.real;
+          unmarked = λ plain y is_set. marked_on s.views pass v nv at_pass (on_same (marks_under v.held v.notes) (marks_under held notes) same_marks) y (r.unmarked plain y is_set);
           homes = λ k real there. ⊎_elim
               (λ (stays : lists k ≡ w.core.lists k). subst (λ (l : Lists). AtHome shape k (w.core.holder k) (entries (w.log k)) l (w.lost k) (get_elem? s.homes k)) (sym stays) (r.homes k real there))
               (λ (by_pass : IsHeldByPass w pass k). subst (λ (z : Option ℕ). AtHome shape k z (entries (w.log k)) (w.core.lists k) (w.lost k) (get_elem? s.homes k) → AtHome shape k z (entries (w.log k)) (lists k) (w.lost k) (get_elem? s.homes k)) (sym by_pass.holder_is) (λ z. z) (r.homes k real there))

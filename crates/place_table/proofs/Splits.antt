@@ -27,6 +27,7 @@ use Rattle.place_table.proofs.Worlds.{true_false, none_some, has_mine, lock_stil
 use Rattle.place_table.proofs.Locks.{there}
 use Rattle.place_table.proofs.StrandMoves.{at_more, no_turns_yet, no_touches_yet, of_strands_move, SameTurns, GoesTo, StaysListed, strand_moves, past_moves, tagged_moves, done, past_done, among_done, fresh_done, is_one, not_one}
 use Rattle.place_table.proofs.PlaceSteps.{readings_kept, hashes_kept}
+use Rattle.place_table.proofs.MarksNoted.{marked_on, marked_longer, none_marked}
 
 -- CPUs and hands without one CPU, and of one CPU alone
 
@@ -336,6 +337,9 @@ module _ (shape : Shape) (id c : ℕ) (v : View) (cpu : is_among c v.cpus ≡ tr
         ranked = r.ranked;
         hashes = r.hashes;
         legal = r.legal;
+        real = r.real;
+        unmarked = λ plain y is_set. marked_longer (set s.views id (split_from c v)) (split_off c v ∷ []) y
+            (marked_on s.views id v (split_from c v) at_id (none_marked v.held v.notes [] no_lock) y (r.unmarked plain y is_set));
         homes = r.homes;
         seated = λ d less. at_put w.pass_of_cpu c n (λ i x. i < shape.cpus → x < length (set s.views id (split_from c v) ++ split_off c v ∷ [])) d (λ _. omega (arith, long)) (λ _ b. let q = r.seated d b in omega (arith, long)) less;
         tagged = λ k. tagged_moves w w' n (length (set s.views id (split_from c v) ++ split_off c v ∷ [])) (w.log k)

@@ -37,6 +37,7 @@ use Rattle.place_table.specs.Laws.{StepsAs, stays}
 use Rattle.place_table.proofs.TicketLemmas.{exact_there, theirs_there, first_there, inner_there}
 use Rattle.place_table.proofs.TicketChanges.{tickets_read, tickets_drawn, tickets_seen}
 use Rattle.place_table.proofs.Counted.{counted_more, reading_more, homes_more}
+use Rattle.place_table.proofs.MarksNoted.{marked_on}
 
 -- one step more
 abbrev looked : World → ℕ → WordStep → World
@@ -89,6 +90,8 @@ module _ (shape : Shape) (s : State Behind View) (r : Rule shape s) (pass : ℕ)
               (right.have k y no_bucket inside);
         };
         legal = r.legal;
+        real = r.real;
+        unmarked = λ plain y is_set. marked_on s.views pass v nv at_pass (λ x inside. inside) y (r.unmarked plain y is_set);
         homes = r.homes;
         seated = λ c h. subst (λ (z : ℕ). w.pass_of_cpu c < z) (sym (length-set s.views pass nv)) (r.seated c h);
         tagged = λ k. tagged_stays w w' (length s.views) (length (set s.views pass nv)) (w.log k) (sym (length-set s.views pass nv)) same (r.tagged k);

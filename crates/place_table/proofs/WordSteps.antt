@@ -35,7 +35,7 @@ use Rattle.place_table.specs.Views.{is_among, hold_at, bit_seen, has_all, noted,
 use Rattle.place_table.specs.StoredHashes.{stored_in}
 use Rattle.place_table.specs.Tickets.{Tickets}
 use Rattle.place_table.proofs.TicketLemmas.{tickets_stay}
-use Rattle.place_table.specs.Rules.{World, Rule, PassKnows, AreRowed, IsFresh, IsSeen, LeadTo, IsReading, HasRow, IsBrought, AreNoted, logs_of, AreReadingsCounted}
+use Rattle.place_table.specs.Rules.{World, Rule, PassKnows, AreRowed, IsFresh, IsSeen, LeadTo, IsReading, HasRow, IsBrought, AreNoted, logs_of, AreReadingsCounted, marks_under}
 use Rattle.place_table.specs.Words.{owner_word, home_word, bit_word, ticket_word, opening_words}
 use Rattle.place_table.specs.Plays.{Seated, Marks, Clears, SeesBit, SeesOwner, OwnerFits}
 use Rattle.place_table.proofs.Came.{came_marked, came_cleared, came_bit_read, came_owner_read}
@@ -47,6 +47,7 @@ use Rattle.place_table.specs.declared.view.WordStep.{WordStep}
 use Rattle.place_table.proofs.StepLog.{made, time_more, givers_other, touches_with, lead_with, of_strands_with, strand_with, past_same, other_same, reads_more}
 use Rattle.place_table.proofs.NotesDone.{word_off, noted_mark, noted_clear, noted_bit, noted_owner}
 use Rattle.place_table.proofs.Counted.{counted_more, reading_more, homes_more}
+use Rattle.place_table.proofs.MarksNoted.{marked_on, marked_now, on_same, marks_marked, marks_here, marks_cleared, marks_bit_read, marks_owner_read}
 
 -- with other notes a pass knows the same, and what it keeps of bits has to be so
 abbrev AreSo : World → List BitSeen → Type 0
@@ -115,7 +116,8 @@ rowed_still shape hash held notes notes' same are k e hold found no_bucket insid
     (λ (come : is_among e (came_at k held notes) ≡ true). inr (ap (is_among e) (same k) ∙ come))
     (are k e hold found no_bucket inside)
 
-module _ (shape : Shape) (s : State Behind View) (r : Rule shape s) (pass : ℕ) (v : View) (at_pass : get_elem? s.views pass ≡ some v) (notes : List Notes) (same_came : (k : ℕ) → came_at k v.held notes ≡ came_at k v.held v.notes) where
+module _ (shape : Shape) (s : State Behind View) (r : Rule shape s) (pass : ℕ) (v : View) (at_pass : get_elem? s.views pass ≡ some v) (notes : List Notes) (same_came : (k : ℕ) → came_at k v.held notes ≡ came_at k v.held v.notes)
+    (more_marks : (x : ℕ) → IsIn x (marks_under v.held v.notes) → IsIn x (marks_under v.held notes)) where
   -- what other passes know of bits where this one has a CPU
   no_others : (c : ℕ) → is_among c v.cpus ≡ true → (f : ℕ → Bool) (j : ℕ) (u : View) → get_elem? s.views j ≡ some u → j ≢ pass → (y : ℕ) (bit : Bool) → bit_seen y u.bits ≡ Some bit → f y ≡ bit
   no_others c cpu f j u at other y bit found =
@@ -126,9 +128,10 @@ module _ (shape : Shape) (s : State Behind View) (r : Rule shape s) (pass : ℕ)
   -- a step on the bit of e, which is b from then on
   bit_rule : (e n : ℕ) (b : Bool) (f : ℕ → Bool) (seen : Option ℕ) (cs : List (ℕ × Behind)) → e < shape.elements → n ≡ one b → f e ≡ b → ((y : ℕ) → y ≢ e → f y ≡ r.world.core.bit y) → IsSeen seen (one (r.world.core.bit e)) → (v.cpus ≡ [] → seen ≡ Some (one b)) → AreNoted shape (touching (made r.world) (bit_word shape e) seen (one b) v) v.held notes
       → ((j : ℕ) (u : View) → get_elem? s.views j ≡ some u → j ≢ pass → (y : ℕ) (bit : Bool) → bit_seen y u.bits ≡ Some bit → f y ≡ bit)
+      → ((y : ℕ) → f y ≡ true → (r.world.core.bit y ≡ true) ⊎ IsIn y (marks_under v.held notes))
       → Placed shape (core_with r.world.core f) → Ranked shape (core_with r.world.core f)
       → Rule shape (stepped s (bit_word shape e) n pass cs (noted notes (bits_with e b v) (touching (made r.world) (bit_word shape e) seen (one b) v) v.readings v) keeps)
-  bit_rule e n b f seen cs real n_is here_is else_is seen_is only_read are_noted others_know placed ranked =
+  bit_rule e n b f seen cs real n_is here_is else_is seen_is only_read are_noted others_know sets placed ranked =
       let i : ℕ = bit_word shape e in
       let w = r.world in
       let x : WordStep = record { at = made w; word = i; seen = seen; left = one b } in
@@ -159,6 +162,11 @@ module _ (shape : Shape) (s : State Behind View) (r : Rule shape s) (pass : ℕ)
               (right.have k y no_bucket inside);
         };
         legal = r.legal;
+        real = r.real;
+        unmarked = λ plain y is_set. ⊎_elim
+            (λ (was : w.core.bit y ≡ true). marked_on s.views pass v nv at_pass more_marks y (r.unmarked plain y was))
+            (λ (here : IsIn y (marks_under v.held notes)). marked_now s.views pass v nv at_pass y here)
+            (sets y is_set);
         homes = r.homes;
         seated = λ c h. subst (λ (z : ℕ). w.pass_of_cpu c < z) (sym (length-set s.views pass nv)) (r.seated c h);
         tagged = λ k. tagged_stays w w' (length s.views) (length (set s.views pass nv)) (w.log k) (sym (length-set s.views pass nv)) same (r.tagged k);
@@ -226,6 +234,8 @@ module _ (shape : Shape) (s : State Behind View) (r : Rule shape s) (pass : ℕ)
           ranked = r.ranked;
           hashes = r.hashes;
           legal = r.legal;
+          real = r.real;
+          unmarked = λ plain y is_set. marked_on s.views pass v nv at_pass more_marks y (r.unmarked plain y is_set);
           homes = r.homes;
           seated = λ y h. subst (λ (z : ℕ). w.pass_of_cpu y < z) (sym (length-set s.views pass nv)) (r.seated y h);
           tagged = λ k. tagged_stays w w' (length s.views) (length (set s.views pass nv)) (w.log k) (sym (length-set s.views pass nv)) same (r.tagged k);
@@ -305,10 +315,13 @@ marks_step shape slots pass me e bucket hold there found inside s r wide at_pass
       keeps,
       tt,
       (
-        bit_rule shape s r pass me.0 at_pass (with_mark e me.0.notes) (λ k. came_marked e k me.0.held me.0.notes) e 1 true (put w.core.bit e true) None me.1 can.0.real refl
+        bit_rule shape s r pass me.0 at_pass (with_mark e me.0.notes) (λ k. came_marked e k me.0.held me.0.notes) (marks_marked e me.0.held me.0.notes) e 1 true (put w.core.bit e true) None me.1 can.0.real refl
             (put_here w.core.bit e true) (λ y ne. put_else w.core.bit e true y ne) tt (λ empty. true_false (sym can.1 ∙ ap (is_among hold.cpu) empty))
             (noted_mark shape me.0.touched (x ∷ []) me.0.held me.0.notes e kn.noted (word_off shape me.0.touched x me.0.held me.0.notes kn.noted (omega arith)) (inl refl))
-            (no_others shape s r pass me.0 at_pass (with_mark e me.0.notes) (λ k. came_marked e k me.0.held me.0.notes) hold.cpu can.1 (put w.core.bit e true))
+            (no_others shape s r pass me.0 at_pass (with_mark e me.0.notes) (λ k. came_marked e k me.0.held me.0.notes) (marks_marked e me.0.held me.0.notes) hold.cpu can.1 (put w.core.bit e true))
+            (λ y is_set. by_test y e (λ _. (w.core.bit y ≡ true) ⊎ IsIn y (marks_under me.0.held (with_mark e me.0.notes)))
+            (λ same. inr (subst (λ (z : ℕ). IsIn z (marks_under me.0.held (with_mark e me.0.notes))) (sym same) (marks_here shape me.0.touched e (lock_number shape (Bucket bucket)) hold me.0.held me.0.notes kn.noted found)))
+            (λ ne. inl (sym (put_else w.core.bit e true y ne) ∙ is_set)))
             (step_keeps_places shape r.world.core (Mark hold.cpu e bucket) bounds can.0 r.placed)
             (step_keeps_ranks shape r.world.core (Mark hold.cpu e bucket) can.0 r.ranked),
         record { enabled = can.0; changed = refl },
@@ -339,10 +352,13 @@ clears_by shape slots pass me e c real cpu allowed s r wide at_pass _ =
       keeps,
       tt,
       (
-        bit_rule shape s r pass me.0 at_pass (with_clear e bit me.0.notes) (λ k. came_cleared e bit k me.0.held me.0.notes) e 0 false (put r.world.core.bit e false) (Some (one bit)) me.1 real refl
+        bit_rule shape s r pass me.0 at_pass (with_clear e bit me.0.notes) (λ k. came_cleared e bit k me.0.held me.0.notes) (on_same _ _ (marks_cleared e bit me.0.held me.0.notes)) e 0 false (put r.world.core.bit e false) (Some (one bit)) me.1 real refl
             (put_here r.world.core.bit e false) (λ y ne. put_else r.world.core.bit e false y ne) refl (λ empty. true_false (sym cpu ∙ ap (is_among c) empty))
             (noted_clear shape me.0.touched (x ∷ []) me.0.held me.0.notes e bit kn.noted (word_off shape me.0.touched x me.0.held me.0.notes kn.noted (omega arith)) (inl refl))
-            (no_others shape s r pass me.0 at_pass (with_clear e bit me.0.notes) (λ k. came_cleared e bit k me.0.held me.0.notes) c cpu (put r.world.core.bit e false))
+            (no_others shape s r pass me.0 at_pass (with_clear e bit me.0.notes) (λ k. came_cleared e bit k me.0.held me.0.notes) (on_same _ _ (marks_cleared e bit me.0.held me.0.notes)) c cpu (put r.world.core.bit e false))
+            (λ y is_set. by_test y e (λ _. (r.world.core.bit y ≡ true) ⊎ IsIn y (marks_under me.0.held (with_clear e bit me.0.notes)))
+            (λ same. true_false (sym is_set ∙ (ap (put r.world.core.bit e false) same ∙ put_here r.world.core.bit e false)))
+            (λ ne. inl (sym (put_else r.world.core.bit e false y ne) ∙ is_set)))
             (step_keeps_places shape r.world.core (Clear c e) bounds can r.placed)
             (step_keeps_ranks shape r.world.core (Clear c e) can r.ranked),
         record { enabled = can; changed = refl },
@@ -370,10 +386,10 @@ sees_bit_step shape slots pass me e real s r wide at_pass _ =
       keeps,
       tt,
       (
-        bit_rule shape s r pass me.0 at_pass (with_bit_read e bit me.0.notes) (λ k. came_bit_read e bit k me.0.held me.0.notes) e (get_or s.words (bit_word shape e) 0) bit w.core.bit (Some (one bit)) me.1 real (r.bit_words e real)
+        bit_rule shape s r pass me.0 at_pass (with_bit_read e bit me.0.notes) (λ k. came_bit_read e bit k me.0.held me.0.notes) (on_same _ _ (marks_bit_read e bit me.0.held me.0.notes)) e (get_or s.words (bit_word shape e) 0) bit w.core.bit (Some (one bit)) me.1 real (r.bit_words e real)
             refl (λ _ _. refl) refl (λ _. refl)
             (noted_bit shape me.0.touched (x ∷ []) me.0.held me.0.notes e bit kn.noted (word_off shape me.0.touched x me.0.held me.0.notes kn.noted (omega arith)) (inl refl))
-            (λ j u at _ y known found. (r.knows j u at).bits y known found) r.placed r.ranked,
+            (λ j u at _ y known found. (r.knows j u at).bits y known found) (λ y is_set. inl is_set) r.placed r.ranked,
         record { enabled = (bounds.some_cpu, real); changed = refl },
       ),
       record {
@@ -400,7 +416,7 @@ sees_owner_step shape slots pass me e real s r wide at_pass _ =
       noted (with_owner_read e owner me.0.notes) me.0.bits (touching (made w) (owner_word shape e) (Some (owner_code owner)) (owner_code owner) me.0) me.0.readings me.0,
       keeps,
       tt,
-      look_rule shape s r pass me.0 at_pass (with_owner_read e owner me.0.notes) (λ k. came_owner_read e owner k me.0.held me.0.notes) (owner_word shape e) (owner_code owner) me.1 me.0.bits me.0.homes_read kn.homes_read me.0.readings kn.readings (omega (arith, r.words)) (r.owner_words e real)
+      look_rule shape s r pass me.0 at_pass (with_owner_read e owner me.0.notes) (λ k. came_owner_read e owner k me.0.held me.0.notes) (on_same _ _ (marks_owner_read e owner me.0.held me.0.notes)) (owner_word shape e) (owner_code owner) me.1 me.0.bits me.0.homes_read kn.homes_read me.0.readings kn.readings (omega (arith, r.words)) (r.owner_words e real)
           (omega arith)
           (noted_owner shape me.0.touched (x ∷ []) me.0.held me.0.notes e owner kn.noted (word_off shape me.0.touched x me.0.held me.0.notes kn.noted (omega arith)) (inl refl)) kn.bits kn.only e real,
       record {

@@ -1,9 +1,10 @@
 -- What a closed table leaves: each history leads to what lay under its lock, and each turn is a step of one strand.
-use Rattle.std.specs.Prelude.{◌≡◌, ℕ, suc, ◌<◌, ◌≤◌, Bool, true, false, not, All, List, [], ◌∷◌, length, map, filter, Option, None, Some, slice_get, slice_index_or, option_map, IsTrue, nat_lt, if◌then◌else◌}
+use Rattle.std.specs.Prelude.{◌≡◌, ℕ, suc, ◌<◌, ◌≤◌, ◌^◌, Bool, true, false, not, All, List, [], ◌∷◌, length, map, filter, Option, None, Some, slice_get, slice_index_or, option_map, IsTrue, nat_lt, if◌then◌else◌}
 use Rattle.std.specs.List.{range_with_len, list_any, flat_map}
 use mathlib.Core.Option.{some}
 use lib.ListN.{get_elem?}
 use Rattle.map_types.specs.declared.attr.Shape.{Shape}
+use Rattle.map_types.specs.Kind.{is_lru}
 use Rattle.map_types.specs.Stored.{Stored, IsSized}
 use Rattle.place_words.specs.declared.finals.Finals.{Finals}
 use Rattle.place_words.specs.declared.history.Entry.{Entry}
@@ -27,6 +28,7 @@ use Rattle.place_words.specs.Codes.{owner_code, home_code}
 use Rattle.map_types.specs.ElementLists.{one, times}
 use Rattle.place_words.specs.Tickets.{tickets_of, AscendIn}
 use Rattle.place_table.specs.Tickets.{EachAscends}
+use Rattle.place_words.specs.Real.{IsAlwaysReal}
 pub use Rattle.place_table.specs.StrandTurns.{numbered, turns_by, AreTurnsOf}
 
 -- what is handed out
@@ -128,6 +130,8 @@ pub record IsClosed (shape : Shape) (pass : PassView) (closed : ClosedView) : Ty
   pub nobody : (k : ℕ) → core.holder k ≡ None
   pub placed : Placed shape core
   pub lists_are : (k : ℕ) → k < lock_count shape → IsTrue (has_lock shape k) → core.lists k ≡ lists_of (content shape (lock_named shape k) (log k))
+  -- under a lock of the map there lay, after any number of the lock's turns, only elements of the map, each once at most
+  pub real : (k : ℕ) → k < lock_count shape → IsTrue (has_lock shape k) → IsAlwaysReal shape (lock_named shape k) (log k)
   pub hands : (e c : ℕ) → c < shape.cpus → is_hand_of c (core.owner e) ≡ is_in_hand_of e c pass.view.hand
   -- and what the pass has in hand is an element of the map, in the hand of one of its CPUs
   pub in_hand : (e c : ℕ) → is_in_hand_of e c pass.view.hand ≡ true → (e < shape.elements) × (c < shape.cpus)
@@ -140,6 +144,8 @@ pub record IsClosed (shape : Shape) (pass : PassView) (closed : ClosedView) : Ty
   pub turns : (k : ℕ) → AreTurnsOf k (all_strands pass.view) (log k)
   -- and stands there right after what the strand has before it
   pub stand : (n : ℕ) (strand : Ended) → slice_get (all_strands pass.view) n ≡ Some strand → StandIn log strand.steps
+  -- on a map that doesn't evict no bit is set
+  pub unmarked : is_lru shape.kind ≡ false → (e : ℕ) → e < shape.elements → core.bit e ≡ false
   -- the words at the end, which tell holders, owners, homes and bits, are what all steps of the strands on them lead to
   pub words : List ℕ
   pub words_told : AreWordsOf shape core words
@@ -156,6 +162,8 @@ pub record IsClosed (shape : Shape) (pass : PassView) (closed : ClosedView) : Ty
   pub drawn_is : drawn ≡ pass.view.reached
   pub ticketed : closed.lost ≡ false → HaveTickets shape log (all_strands pass.view) drawn
   pub all_drawn : closed.lost ≡ false → pass.view.refused ≡ 0
+  -- tickets are numbers of 64 bits
+  pub counted : drawn < 2 ^ 64
   -- where the pass gave a lock back without a part, a record is lost
   pub losses : (k : ℕ) → is_among k pass.view.lost ≡ true → closed.lost ≡ true
   -- what is handed out is this, and the turns that are recorded are shared out among the strands

@@ -40,6 +40,7 @@ use Rattle.place_table.specs.declared.view.Ended.{Ended}
 use Rattle.place_table.specs.Flushes.{flushed_since}
 use Rattle.place_table.specs.declared.view.WordStep.{WordStep}
 use Rattle.place_table.specs.Tickets.{Tickets}
+use Rattle.place_words.specs.Real.{IsAlwaysReal}
 use Rattle.place_table.specs.Words.{word_count, owner_word, home_word, bit_word, ticket_word, lock_code, opening_words}
 use Rattle.place_table.specs.Contents.{content_told, lists_of, FitsLock}
 use Rattle.place_table.specs.Views.{is_among, hold_at, is_in_hand_of, known_log, bit_seen, place_of, hash_known, home_known, came_at}
@@ -423,6 +424,19 @@ pub record PassKnows (shape : Shape) (world : World) (pass : ℕ) (v : View) : T
   -- one that has no CPU has no turns, and has only read words
   pub idle : v.cpus ≡ [] → ((v.steps ≡ []) × AreReads v.touched) × HaveNoSteps v.ended
 
+-- the elements whose bits were set in the turns of the locks that are held
+abbrev pub marks_under : List Hold → List Notes → List ℕ
+marks_under [] notes = []
+marks_under (hold ∷ holds) [] = []
+marks_under (hold ∷ holds) (n ∷ notes) = n.marks ++ marks_under holds notes
+
+-- a pass set the bit of an element in a turn under way
+pub record IsMarked (views : List View) (e : ℕ) : Type 0 where
+  pub pass : ℕ
+  pub view : View
+  pub seat : get_elem? views pass ≡ some view
+  pub noted : IsIn e (marks_under view.held view.notes)
+
 pub record Rule (shape : Shape) (s : table.State Behind View) : Type 0 where
   pub world : World
   pub is_shape : IsShape shape
@@ -440,8 +454,12 @@ pub record Rule (shape : Shape) (s : table.State Behind View) : Type 0 where
   pub hashes : IsTrue (is_lru shape.kind) → HashesRight shape world.core.holder world.core.lists world.core.owner world.log world.hash
   -- every history replays, and leads to what lies at home
   pub legal : (k : ℕ) → IsLegal shape (lock_named shape k) (entries (world.log k))
+  -- under a lock of the map there lay, after any number of the lock's turns, only elements of the map, each once at most
+  pub real : (k : ℕ) → k < lock_count shape → IsTrue (is_lock shape (lock_named shape k)) → IsAlwaysReal shape (lock_named shape k) (entries (world.log k))
   pub homes : (k : ℕ) → k < lock_count shape → IsTrue (is_lock shape (lock_named shape k))
       → AtHome shape k (world.core.holder k) (entries (world.log k)) (world.core.lists k) (world.lost k) (get_elem? s.homes k)
+  -- on a map that doesn't evict, which has no marks to tell of a turn, a bit is set only in a turn under way
+  pub unmarked : is_lru shape.kind ≡ false → (e : ℕ) → world.core.bit e ≡ true → IsMarked s.views e
   -- each CPU is in a pass, each turn in a strand, and what each pass knows is so
   pub seated : (c : ℕ) → c < shape.cpus → world.pass_of_cpu c < length s.views
   pub tagged : (k : ℕ) → AreTagged world (length s.views) (world.log k)

@@ -23,6 +23,7 @@ pub mod Phases
 pub mod Places
 pub mod PlainTraces
 pub mod Ranks
+pub mod Real
 pub mod Rotation
 pub mod RowMoves
 pub mod SerialOrder

@@ -32,3 +32,5 @@ pub mod RaceHistories
 pub mod RaceTickets
 pub mod RaceParts
 pub mod RaceRecord
+pub mod ShapeOrder
+pub mod Shaped

@@ -1,13 +1,17 @@
-use Rattle.std.proofs.Common.{length, sym, subst, arith}
+use Rattle.std.proofs.Common.{length, ap, sym, subst, arith}
 use Rattle.std.proofs.lemmas.Result.{IfOk-weaker}
+use Rattle.map_types.specs.declared.attr.Shape.{Shape}
+use Rattle.place_table.specs.Closing.{IsClosed}
 use Rattle.map_report.specs.declared.record.RunRecord.{RunRecord}
 use Rattle.map_report.proofs.CutLemmas.{cuts_rise}
 use Rattle.map_batch.specs.Calls.{table_of}
+use Rattle.record_shape.specs.WellShaped.{WellShaped}
 use Rattle.run_records.specs.Copies.{IsCopyOf}
 use Rattle.run_records.specs.Races.{IsRaceRecord}
 use Rattle.place_words.specs.Phases.{phase_count}
 use Rattle.run_records.proofs.PhaseParts.{whole_to}
 use Rattle.run_records.proofs.RaceRecord.{race_is_record}
+use Rattle.run_records.proofs.Shaped.{race_is_shaped}
 use Rattle.map_run.proofs.race.race_script.Goals as goal
 
 pub returns-clause-record : goal.returns-clause-record
@@ -16,6 +20,17 @@ returns-clause-record g c =
     IfOk-weaker c.keep.result _ (λ kept. IsRaceRecord c.args.script.now kept.0)
     (λ kept is. subst (IsRaceRecord c.args.script.now) (sym is.0)
     (race_is_record c.args.script.now (table_of c.in_ok-map.map) c.race_phases.new.pass told.replies.items told.starts.items told.pieces.items c.in_ok-closed.closed c.in_ok-map.ensures.0 c.requires.shape c.requires.served (cuts_rise 0 c.args.script.now.cuts (length c.args.script.now.calls) (omega arith) c.requires.phases.rise) c.in_ok-told.ensures c.in_ok-closed.ensures is.2).0)
+    c.keep.ensures
+
+pub returns-clause-shaped : goal.returns-clause-shaped
+returns-clause-shaped g c =
+    let told = c.in_ok-told.told in
+    IfOk-weaker c.keep.result _ (λ kept. WellShaped c.args.script.now kept.0)
+    (λ kept is. race_is_shaped c.args.script.now c.requires.script c.race_phases.new.pass c.in_ok-closed.closed
+    (subst (λ (s : Shape). IsClosed s c.race_phases.new.pass c.in_ok-closed.closed) c.in_ok-map.ensures.0 c.in_ok-closed.ensures) is.2 kept.0
+    (subst (IsRaceRecord c.args.script.now) (sym is.0)
+    (race_is_record c.args.script.now (table_of c.in_ok-map.map) c.race_phases.new.pass told.replies.items told.starts.items told.pieces.items c.in_ok-closed.closed c.in_ok-map.ensures.0 c.requires.shape c.requires.served (cuts_rise 0 c.args.script.now.cuts (length c.args.script.now.calls) (omega arith) c.requires.phases.rise) c.in_ok-told.ensures c.in_ok-closed.ensures is.2).0)
+    (ap (λ (r : RunRecord). r.histories) is.0) (ap (λ (r : RunRecord). r.finals) is.0))
     c.keep.ensures
 
 pub returns-clause-closed : goal.returns-clause-closed

@@ -12,3 +12,6 @@ race_script-requires-clause-few g c κs within = (well_formed c.args.script.now 
 
 pub race_script-requires-clause-phases : goal.race_script-requires-clause-phases
 race_script-requires-clause-phases g c κs within = (well_formed c.args.script.now c.requires.script).phases
+
+pub race_script-requires-clause-script : goal.race_script-requires-clause-script
+race_script-requires-clause-script g c κs within = c.requires.script

@@ -16,3 +16,6 @@ run_script-requires-clause-phases g c κs within = (well_formed c.args.script.no
 
 pub returns-clause-laws : goal.returns-clause-laws
 returns-clause-laws g c = serial_laws c.args.script.now c.requires.script
+
+pub run_script-requires-clause-script : goal.run_script-requires-clause-script
+run_script-requires-clause-script g c κs within = c.requires.script
