@@ -1,0 +1,10 @@
+pub mod Answers
+pub mod Bounds
+pub mod Buckets
+pub mod Copied
+pub mod CopyScripts
+pub mod Ends
+pub mod Neighbours
+pub mod Plans
+pub mod Rows
+pub mod ScriptLaws
