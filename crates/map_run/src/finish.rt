@@ -33,7 +33,7 @@ fn run_in<R: Threads + Wait + Sync, G: Gate>(
     ensures closed { IfOk result (λ kept. IsCopyOf kept.0 kept.1) }
 {
     match mode {
-        Mode::Serial | Mode::Gen => run_serial(rt, alloc, script, gate),
+        Mode::Serial | Mode::Gen | Mode::Compare => run_serial(rt, alloc, script, gate),
         Mode::Race => run_race(rt, alloc, script, gate),
     }
 }
@@ -41,14 +41,17 @@ fn run_in<R: Threads + Wait + Sync, G: Gate>(
 /// Runs the program: reads a script to its end, runs it in the mode that the words name, and writes its report. At most
 /// 16,777,217 bytes are read, whatever comes of it.
 ///
-/// The words are the program's name, which is not looked at, then the mode once, `serial`, `race` or `gen`, and each of
-/// `--history`, `--dump` and `--json` at most once, in any order. One `--` may stand among them, after which no option
-/// follows. Each script is run: in mode `serial` its calls one after another, in mode `race` the calls of each CPU in a thread
-/// of their own. In mode `gen` the script has a generator line, whose calls are run one after another, and the report has a
-/// summary in place of the replies. In all modes the gate is passed at each call's beginning and end, and wherever a lock is
-/// taken or given back, on the call's CPU. With `--history` the report says what happened under each lock, with `--dump` what
-/// the map holds at the end, and with `--json` it is a JSON object. The status says how it ended, and what was written is the
-/// report or one line:
+/// The words are the program's name, which is not looked at, then the mode once, `serial`, `race`, `gen` or `compare`, and each
+/// of `--history`, `--dump` and `--json` at most once, in any order, but none of them with `compare`. One `--` may stand among
+/// them, after which no option follows. Each script is run, but one that can't be compared: in mode `serial` its calls one after another, in mode `race` the
+/// calls of each CPU in a thread of their own. In mode `gen` the script has a generator line, whose calls are run one after
+/// another, and the report has a summary in place of the replies. In mode `compare` the calls are made one after another on a
+/// map of strict recency, which evicts what was used least recently, and then as in mode `serial`; the report says of both how
+/// many lookups found their key and how many keys were evicted, and how many calls were answered alike. A script is only
+/// compared where its map is of kind `lru_hash` and its calls are lookups, updates, deletes and takes. In all modes the gate is
+/// passed at each call's beginning and end on the map, and wherever a lock is taken or given back, on the call's CPU. With
+/// `--history` the report says what happened under each lock, with `--dump` what the map holds at the end, and with `--json` it
+/// is a JSON object. The status says how it ended, and what was written is the report or one line:
 ///
 /// | status | comes | written |
 /// |---|---|---|
@@ -60,10 +63,11 @@ fn run_in<R: Threads + Wait + Sync, G: Gate>(
 /// | 5 | memory was not found | `bpfmap: memory` |
 /// | 6 | exactly where the script's map can't be created | `bpfmap: map refused: WHY` |
 /// | 7 | exactly where 16,777,217 bytes were read | `bpfmap: too long` |
+/// | 11 | exactly where the script is to be compared and can't be: by its map's kind, or else by its first other call | `bpfmap: compare: kind`, `bpfmap: compare: call N` |
 ///
 /// Status 4 replaces the one whose report or line could not be written, and status 5 may come in the place of any other. The
 /// record of the run is kept, with what its table left, exactly where its report was due: with status 0, and with 4 in the
-/// place of it.
+/// place of it. In mode `compare` it isn't kept.
 pub fn bpfmap<R: Threads + Wait + Sync, S: Source, K: Sink, G: Gate>(
     rt: &R,
     alloc: Global,
@@ -80,7 +84,8 @@ pub fn bpfmap<R: Threads + Wait + Sync, S: Source, K: Sink, G: Gate>(
         (Rose (K.faults sink.old) (K.faults sink.new)) result }
 
     // Where the source tells its bytes, the status is the one that they have, unless a read or a write failed or
-    // memory was not found. So each script is run: with good words its status is 0, or 5, or a fault's.
+    // memory was not found. So each script is run that can be compared or isn't to be: with good words its status is 0, or
+    // 5, or a fault's.
     ensures status { IfSome (S.left source.old) (λ input. IsStatus
         (status_due (map string_bytes words.now) input)
         result.status (Rose (S.faults source.old) (S.faults source.new))

@@ -1,5 +1,5 @@
 -- How a run begins, or ends before its script runs: from what is read to the source, and from the source to the words.
-use Rattle.std.proofs.Common.{◌≡◌, ℕ, List, Option, Result, Ok, Err, subst, arith}
+use Rattle.std.proofs.Common.{◌≡◌, ℕ, List, Option, Result, Ok, Err, refl, subst, arith}
 use Rattle.std.specs.Prelude.{IfErr, IfOk, IsTrue}
 use Rattle.map_script.specs.declared.refusal.ScriptRefusal.{ScriptRefusal}
 use Rattle.map_script.specs.declared.script.Script.{Script}
@@ -8,10 +8,12 @@ use Rattle.run_ends.specs.SourceReads.{TakesUpTo}
 use Rattle.run_ends.specs.Writes.{Written}
 use Rattle.run_ends.proofs.Io.{TakesFront-all}
 use Rattle.run_words.specs.declared.words.Asked.{Asked}
+use Rattle.run_words.specs.declared.words.Mode.{Mode}
+use Rattle.run_words.specs.declared.words.Mode.TheVariants.{Serial, Race, Gen, Compare}
 use Rattle.run_words.specs.Words.{are_words, asked_of, mode_of, options_of}
 use Rattle.run_endings.specs.declared.finish.Due.{Due}
-use Rattle.run_endings.specs.Finish.{Ending, BadWords, ReadFault, TooLong, Faulty, Refused, OutOfMemory, Ran, HasCause, HasInput, HasSource, IsInput}
-use Rattle.run_endings.specs.Runs.{NeverRan, EndsEarly, IsDue, IsDueOf}
+use Rattle.run_endings.specs.Finish.{Ending, BadWords, ReadFault, TooLong, Faulty, Refused, Unfit, OutOfMemory, Ran, HasCause, HasInput, HasSource, IsInput, script_run}
+use Rattle.run_endings.specs.Runs.{strictly_run, NeverRan, EndsEarly, IsDue, IsDueOf}
 
 -- What was read, by what was returned of it
 
@@ -21,6 +23,15 @@ module _ (text : Result Script ScriptRefusal) where
 
   pub refused_so : (refusal found : ScriptRefusal) → refusal ≡ found → IsReading (Err refusal) text → IsReading (Err found) text
   refused_so refusal found is reading = subst (λ (r : ScriptRefusal). IsReading (Err r) text) is reading
+
+-- The run with strict recency
+
+-- that of the script which is run is that of the script which was read
+pub strict_of_run : (mode : Mode) (script : Script) → strictly_run mode (script_run mode script) ≡ strictly_run mode script
+strict_of_run Serial script = refl
+strict_of_run Race script = refl
+strict_of_run Gen script = refl
+strict_of_run Compare script = refl
 
 -- From an input to its source
 
@@ -35,6 +46,7 @@ module _ (asked : Asked) (before after : Option (List ℕ)) (rose : Type 0) (inp
   of_input TooLong cause = absurd cause
   of_input (Faulty line why) cause = (input, is, cause)
   of_input (Refused why) cause = (input, is, cause)
+  of_input (Unfit why) cause = (input, is, cause)
   of_input OutOfMemory cause = up_to_input before after input is
   of_input (Ran was_asked script kept) cause = (input, is, cause)
 
@@ -63,6 +75,7 @@ module _ (words : List (List ℕ)) (good : IsTrue (are_words words)) (asked : As
   of_source rose TooLong cause = (good, cause)
   of_source rose (Faulty line why) cause = (good, cause)
   of_source rose (Refused why) cause = (good, cause)
+  of_source rose (Unfit why) cause = (good, cause)
   of_source rose OutOfMemory cause = cause
   of_source rose (Ran was_asked script kept) cause = (good, cause)
 

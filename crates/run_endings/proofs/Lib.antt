@@ -2,3 +2,4 @@ pub mod FewEntries
 pub mod Statuses
 pub mod Endings
 pub mod Beginnings
+pub mod Comparisons

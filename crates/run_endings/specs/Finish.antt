@@ -5,7 +5,7 @@ use Rattle.run_endings.specs.declared.record.Finish.{Finish}
 use Rattle.map_report.specs.declared.record.Options.{Options}
 use Rattle.run_words.specs.declared.words.Asked.{Asked}
 use Rattle.run_words.specs.declared.words.Mode.{Mode}
-use Rattle.run_words.specs.declared.words.Mode.TheVariants.{Serial, Race, Gen}
+use Rattle.run_words.specs.declared.words.Mode.TheVariants.{Serial, Race, Gen, Compare}
 use Rattle.map_script.specs.declared.script.Script.{Script}
 use Rattle.map_report.specs.declared.record.RunRecord.{RunRecord}
 use Rattle.map_types.specs.declared.refusal.CreateRefusal.{CreateRefusal}
@@ -23,6 +23,11 @@ use Rattle.run_ends.specs.SourceReads.{TakesFront, TakesAll, TakesUpTo}
 use Rattle.map_report.specs.Json.{json}
 use Rattle.map_report.specs.Summary.{summary}
 use Rattle.map_report.specs.Text.{report}
+use Rattle.lru_compare.specs.declared.run.StrictRefusal.{StrictRefusal}
+use Rattle.lru_compare.specs.declared.run.StrictRefusal.TheVariants.{Kind, Verb}
+use Rattle.lru_compare.specs.declared.run.StrictRefusal.TheVariants as strictly
+use Rattle.lru_compare.specs.Comparison.{comparison}
+use Rattle.lru_compare.specs.Run.{refused, strict}
 use Rattle.run_words.specs.Words.{are_words, asked_of, mode_of}
 use Rattle.run_ends.specs.Writes.{Written, AddsWhole, AddsPrefix}
 use Rattle.workload_gen.specs.Generated.{generated_script}
@@ -32,12 +37,21 @@ abbrev pub form_of : Mode → Form
 form_of Serial = Calls
 form_of Race = Calls
 form_of Gen = Generator
+form_of Compare = Calls
 
 -- the script that is run of one that was read: itself, or the one with the calls that its generator line stands for
 abbrev pub script_run : Mode → Script → Script
 script_run Serial script = script
 script_run Race script = script
 script_run Gen script = generated_script script
+script_run Compare script = script
+
+-- Why a script that was read isn't run in a mode, if it isn't: one whose map or calls can't be compared with strict recency.
+abbrev pub unfit : Mode → Script → Option StrictRefusal
+unfit Serial script = None
+unfit Race script = None
+unfit Gen script = None
+unfit Compare script = refused script
 
 -- how a run ends, before anything is written
 pub data Ending : Type 0 where
@@ -46,6 +60,7 @@ pub data Ending : Type 0 where
   TooLong : Ending
   Faulty : ℕ → Cause → Ending
   Refused : CreateRefusal → Ending
+  Unfit : StrictRefusal → Ending
   OutOfMemory : Ending
   Ran : Asked → Script → RunRecord → Ending
 
@@ -58,6 +73,7 @@ status_of ReadFault = 3
 status_of OutOfMemory = 5
 status_of (Refused why) = 6
 status_of TooLong = 7
+status_of (Unfit why) = 11
 
 -- why a map can't be created
 abbrev pub limit_name : Bound → List ℕ
@@ -72,11 +88,19 @@ refusal_name Einval = codes "einval"
 refusal_name Enotsupp = codes "enotsupp"
 refusal_name (Limit limit) = codes "limit " ++ limit_name limit
 
--- what is written of a run in lines: its report, or where the calls were generated a summary
+-- why a script isn't compared: its map's kind, or the number of its first call that can't be (want of memory is no such reason)
+abbrev pub unfit_name : StrictRefusal → List ℕ
+unfit_name Kind = codes "kind"
+unfit_name (Verb call) = codes "call " ++ decimal call
+unfit_name strictly.NoMemory = codes "memory"
+
+-- What is written of a run in lines: its report, or where the calls were generated a summary, or where it was asked for the
+-- comparison with the script's run with strict recency.
 abbrev pub lines_of : Mode → Script → RunRecord → Options → List ℕ
 lines_of Serial script kept options = report script kept options
 lines_of Race script kept options = report script kept options
 lines_of Gen script kept options = summary script kept options
+lines_of Compare script kept options = comparison script kept (strict script)
 
 -- what is written of a run: its lines, or a JSON object where that is asked for
 abbrev pub out : Asked → Script → RunRecord → List ℕ
@@ -92,10 +116,17 @@ text_due ReadFault = codes "bpfmap: read\n"
 text_due OutOfMemory = codes "bpfmap: memory\n"
 text_due (Refused why) = codes "bpfmap: map refused: " ++ refusal_name why ++ codes "\n"
 text_due TooLong = codes "bpfmap: too long\n"
+text_due (Unfit why) = codes "bpfmap: compare: " ++ unfit_name why ++ codes "\n"
 
--- what is kept of the run
+-- what is kept of what a run in a mode came to: of a comparison nothing
+abbrev pub kept_in : {A : Type 0} → Mode → A → Option A
+kept_in Serial kept = Some kept
+kept_in Race kept = Some kept
+kept_in Gen kept = Some kept
+kept_in Compare kept = None
+
 abbrev pub kept_of : Ending → Option RunRecord
-kept_of (Ran asked script kept) = Some kept
+kept_of (Ran asked script kept) = kept_in asked.mode kept
 kept_of _ = None
 
 -- what a map left of which the record was made, exactly where a record is kept
@@ -117,9 +148,11 @@ WasRead form read = (input : List ℕ) × (length input ≤ 16777216) × IsReadi
 -- Which endings an input has that was read to its end, where this is asked for.
 abbrev pub HasInput : (Mode → Script → RunRecord → Type 0) → Asked → List ℕ → Ending → Type 0
 HasInput RanAs asked input (Ran was_asked script kept) =
-    (was_asked ≡ asked) × (read_as (form_of asked.mode) input ≡ Ok script) × RanAs asked.mode (script_run asked.mode script) kept
+    (was_asked ≡ asked) × (read_as (form_of asked.mode) input ≡ Ok script) × (unfit asked.mode script ≡ None)
+    × RanAs asked.mode (script_run asked.mode script) kept
 HasInput RanAs asked input (Faulty line cause) = read_as (form_of asked.mode) input ≡ Err (Fault line cause)
 HasInput RanAs asked input (Refused why) = read_as (form_of asked.mode) input ≡ Err (Create why)
+HasInput RanAs asked input (Unfit why) = (script : Script) × (read_as (form_of asked.mode) input ≡ Ok script) × (unfit asked.mode script ≡ Some why)
 HasInput RanAs asked input OutOfMemory = ⊤
 HasInput RanAs asked input _ = ⊥
 
@@ -155,18 +188,23 @@ pub record Finishes {C : Type 0} (IsCopyOf : RunRecord → C → Type 0) (MayEnd
   pub cause : MayEnd ending
   pub ends : Ends IsCopyOf ending before after rose finish
 
--- The status of what an input is read as. Each script is run, so it ends with 0.
-abbrev pub status_read : Result Script ScriptRefusal → ℕ
-status_read (Ok script) = 0
-status_read (Err (Fault line cause)) = 1
-status_read (Err (Create why)) = 6
-status_read (Err NoMemory) = 5
+-- The status of a script that was read, by why it isn't run. Each other one is run, so it ends with 0.
+abbrev pub status_run : Option StrictRefusal → ℕ
+status_run None = 0
+status_run (Some why) = 11
+
+-- the status of what an input is read as
+abbrev pub status_read : Mode → Result Script ScriptRefusal → ℕ
+status_read mode (Ok script) = status_run (unfit mode script)
+status_read mode (Err (Fault line cause)) = 1
+status_read mode (Err (Create why)) = 6
+status_read mode (Err NoMemory) = 5
 
 -- the status of words and an input, where memory is found and no count of faults rises
 abbrev pub status_due : List (List ℕ) → List ℕ → ℕ
 status_due words input =
     if are_words words
-    then (if nat_le (length input) 16777216 then status_read (read_as (form_of (mode_of words)) input) else 7)
+    then (if nat_le (length input) 16777216 then status_read (mode_of words) (read_as (form_of (mode_of words)) input) else 7)
     else 2
 
 -- Each status has its cause: it is the one due, or a read failed, a write failed, or memory was not found.

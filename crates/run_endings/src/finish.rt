@@ -1,10 +1,12 @@
 //! How a run of the program begins and ends: from the words and the input to the script that is to be run, and from what is
 //! kept of its run to what is written.
 
-ghost use Rattle.std.specs.Prelude.{◌≡◌, ◌≤◌, ◌++◌, ℕ, List, None, false, length, map, codes, decimal, IfOk, IfErr, IsOk, OnOk, string_bytes};
+ghost use Rattle.std.specs.Prelude.{◌≡◌, ◌≤◌, ◌++◌, ℕ, List, None, Some, false, length, map, codes, decimal, IfOk, IfErr, IsOk, OnOk, string_bytes};
 ghost use Rattle.run_words.specs.declared.words.Asked.{Asked};
-ghost use Rattle.run_endings.specs.Finish.{form_of, lines_of, out, refusal_name, script_run, HasCause, HasInput, HasSource, IsDelivered, IsInput, WasRead};
-ghost use Rattle.run_endings.specs.Runs.{EndsEarly, EndsRun, EndsOutOfMemory, IsDue, IsDueOf, NeverRan};
+ghost use Rattle.run_endings.specs.Finish.{form_of, kept_in, lines_of, out, refusal_name, script_run, unfit, unfit_name, HasCause, HasInput, HasSource, IsDelivered, IsInput, WasRead};
+ghost use Rattle.run_endings.specs.Runs.{strictly_run, EndsEarly, EndsRun, EndsOutOfMemory, IsDue, IsDueOf, IsStrictlyRun, IsUnfit, NeverRan};
+ghost use Rattle.lru_compare.specs.Comparison.{comparison};
+ghost use Rattle.lru_compare.specs.Run.{strict};
 ghost use Rattle.map_script.specs.CauseName.{cause_name};
 ghost use Rattle.map_script.specs.Reading.{IsReadAs, IsReading, read_as};
 ghost use Rattle.run_ends.specs.SourceReads.{Rose};
@@ -12,6 +14,7 @@ ghost use Rattle.serial_laws.specs.Served.{IsScript};
 ghost use Rattle.run_words.specs.Words.{are_words};
 
 use crate::Finish;
+use lru_compare::{StrictOut, StrictRefusal, comparison_of, strict_run};
 use map_report::{RunRecord, json_of, summary_of, text_of};
 use map_script::{Cause, Form, Script, ScriptRefusal};
 use map_types::{CreateRefusal, Limit, NoMemory};
@@ -29,6 +32,8 @@ pub struct Due {
     pub asked: Asked,
     /// The script: the one that was read, or in mode `gen` the one with the calls that its generator line stands for.
     pub script: Script,
+    /// Its run with strict recency, in mode `compare`.
+    pub strict: Option<StrictOut>,
 }
 
 /// Looks at the words of the program and reads a script to its end. Where no script is to be run, it writes the line that is due
@@ -43,6 +48,7 @@ pub fn begin<S: Source, K: Sink>(
     // A script is to be run exactly as the words and the input have it.
     ensures due { IfOk result (IsDue (map string_bytes words.now) (S.left source.old) (S.left source.new)) }
     ensures script { IfOk result (λ due. IsScript due.script) }
+    ensures strict { IfOk result (λ due. due.strict ≡ strictly_run due.asked.mode due.script) }
     ensures unwritten { IsOk result → sink.new ≡ sink.old }
 
     // Else the run has ended with a cause, and its line was delivered.
@@ -63,32 +69,45 @@ pub fn begin<S: Source, K: Sink>(
 }
 
 impl Due {
-    /// Ends the run of the script: writes what is due of its record, and keeps the record and what its map left; the status is
-    /// 0. Where memory was not found a line is written, nothing is kept, and the status is 5. Where a write fails it is 4.
+    /// Ends the run of the script: writes what is due of its record, and keeps the record and what its map left, but in mode
+    /// `compare` nothing; the status is 0. Where memory was not found a line is written, nothing is kept, and the status is 5. Where a write fails it is 4.
     pub fn end<C: Drop, K: Sink>(
         self,
         alloc: Global,
         ran: Result<(RunRecord, C), NoMemory>,
         sink: &mut K,
     ) -> Finish<C>
+        requires { self.strict ≡ strictly_run self.asked.mode self.script }
         ensures { EndsRun self ran (K.written sink.old) (K.written sink.new)
             (Rose (K.faults sink.old) (K.faults sink.new)) result }
     {
         let Ok((kept, closed)) = ran else {
             return out_of_memory(sink);
         };
-        let Ok(text) = text_in(alloc, self.asked, &self.script, &kept) else {
+        let Ok(text) = text_in(alloc, self.asked, &self.script, &kept, &self.strict) else {
             return out_of_memory(sink);
         };
         let status = match deliver(sink, text.as_slice()) {
             Ok(()) => 0,
             Err(_) => 4,
         };
+        let (kept, closed) = kept_in(self.asked.mode, kept, closed);
         Finish {
             status,
-            kept: Some(kept),
-            closed: Some(closed),
+            kept,
+            closed,
         }
+    }
+}
+
+/// What is kept of a run in a mode: its record and what its map left, but nothing of a comparison.
+fn kept_in<C: Drop>(mode: Mode, kept: RunRecord, closed: C) -> (Option<RunRecord>, Option<C>)
+    ensures kept { result.0 ≡ kept_in mode kept }
+    ensures closed { result.1 ≡ kept_in mode closed }
+{
+    match mode {
+        Mode::Serial | Mode::Race | Mode::Gen => (Some(kept), Some(closed)),
+        Mode::Compare => (None, None),
     }
 }
 
@@ -121,13 +140,15 @@ fn text_in(
     asked: Asked,
     script: &Script,
     kept: &RunRecord,
+    strictly: &Option<StrictOut>,
 ) -> Result<Vec<u8>, NoMemory>
+    requires { strictly.now ≡ strictly_run asked.mode script.now }
     ensures { IfOk result (λ text. text.items ≡ out asked script.now kept.now) }
 {
     if asked.options.json {
         json_of(alloc, script, kept, asked.options)
     } else {
-        lines_in(alloc, asked, script, kept)
+        lines_in(alloc, asked, script, kept, strictly)
     }
 }
 
@@ -137,14 +158,33 @@ fn lines_in(
     asked: Asked,
     script: &Script,
     kept: &RunRecord,
+    strictly: &Option<StrictOut>,
 ) -> Result<Vec<u8>, NoMemory>
+    requires { strictly.now ≡ strictly_run asked.mode script.now }
     ensures { IfOk result (λ text. text.items
         ≡ lines_of asked.mode script.now kept.now asked.options) }
 {
     match asked.mode {
         Mode::Serial | Mode::Race => text_of(alloc, script, kept, asked.options),
         Mode::Gen => summary_of(alloc, script, kept, asked.options),
+        Mode::Compare => comparison_in(alloc, script, kept, strictly),
     }
+}
+
+/// What is written of a run beside the script's run with strict recency.
+fn comparison_in(
+    alloc: Global,
+    script: &Script,
+    kept: &RunRecord,
+    strictly: &Option<StrictOut>,
+) -> Result<Vec<u8>, NoMemory>
+    requires { strictly.now ≡ Some (strict script.now) }
+    ensures { IfOk result (λ text. text.items ≡ comparison script.now kept.now (strict script.now)) }
+{
+    let Some(out) = strictly else {
+        unreachable!();
+    };
+    comparison_of(alloc, script, kept, out)
 }
 
 /// The script that is run of one that was read: itself, or the one with the calls that its generator line stands for.
@@ -155,7 +195,7 @@ fn script_due(alloc: Global, mode: Mode, script: Script) -> Result<Script, NoMem
     ensures script { IfOk result (λ due. IsScript due) }
 {
     match mode {
-        Mode::Serial | Mode::Race => Ok(script),
+        Mode::Serial | Mode::Race | Mode::Compare => Ok(script),
         Mode::Gen => {
             let generated = generate(alloc, &script)?;
             Ok(generated)
@@ -163,7 +203,66 @@ fn script_due(alloc: Global, mode: Mode, script: Script) -> Result<Script, NoMem
     }
 }
 
-/// Where a script was read, it is to be run.
+/// The run of a script with strict recency, in the mode in which it is asked for.
+fn run_strictly(
+    alloc: Global,
+    mode: Mode,
+    script: &Script,
+) -> Result<Option<StrictOut>, StrictRefusal>
+    requires { IsScript script.now }
+    ensures { IsStrictlyRun mode script.now result }
+{
+    match mode {
+        Mode::Serial | Mode::Race | Mode::Gen => Ok(None),
+        Mode::Compare => match strict_run(alloc, script) {
+            Ok(out) => Ok(Some(out)),
+            Err(why) => Err(why),
+        },
+    }
+}
+
+/// The line of a script whose call of this number can't be compared with strict recency.
+fn call_line(alloc: Global, call: u32) -> Result<Vec<u8>, AllocError>
+    ensures { IfOk result (λ text. text.items
+        ≡ codes "bpfmap: compare: " ++ unfit_name (StrictRefusal.Verb call) ++ codes "\n") }
+{
+    let mut text = Vec::new(alloc);
+    text.extend_from_slice(b"bpfmap: compare: call ")?;
+    push_number(&mut text, call)?;
+    text.extend_from_slice(b"\n")?;
+    Ok(text)
+}
+
+/// Ends a run whose script has a call, of this number, that can't be compared with strict recency.
+fn end_with_call<K: Sink>(alloc: Global, sink: &mut K, call: u32) -> u8
+    ensures { (asked : Asked) (input : List ℕ) (script : Script)
+        → read_as (form_of asked.mode) input ≡ Ok script
+        → IsUnfit asked.mode script (StrictRefusal.Verb call)
+        → EndsEarly (HasInput NeverRan asked input) (K.written sink.old) (K.written sink.new)
+        (Rose (K.faults sink.old) (K.faults sink.new)) result }
+{
+    let Ok(text) = call_line(alloc, call) else {
+        return end_with_line(sink, 5, b"bpfmap: memory\n");
+    };
+    end_with_line(sink, 11, text.as_slice())
+}
+
+/// Ends a run whose script can't be compared with strict recency, or for which memory was not found.
+fn end_unfit<K: Sink>(alloc: Global, sink: &mut K, why: StrictRefusal) -> u8
+    ensures { (asked : Asked) (input : List ℕ) (script : Script)
+        → read_as (form_of asked.mode) input ≡ Ok script
+        → IsUnfit asked.mode script why
+        → EndsEarly (HasInput NeverRan asked input) (K.written sink.old) (K.written sink.new)
+        (Rose (K.faults sink.old) (K.faults sink.new)) result }
+{
+    match why {
+        StrictRefusal::Kind => end_with_line(sink, 11, b"bpfmap: compare: kind\n"),
+        StrictRefusal::Verb { call } => end_with_call(alloc, sink, call),
+        StrictRefusal::NoMemory => end_with_line(sink, 5, b"bpfmap: memory\n"),
+    }
+}
+
+/// Where a script was read, it is to be run, if it fits its mode.
 fn begin_with_script<K: Sink>(
     alloc: Global,
     asked: Asked,
@@ -175,12 +274,44 @@ fn begin_with_script<K: Sink>(
     ensures due { (input : List ℕ) → read_as (form_of asked.mode) input ≡ Ok script
         → IfOk result (IsDueOf asked input) }
     ensures script { IfOk result (λ due. IsScript due.script) }
+    ensures strict { IfOk result (λ due. due.strict ≡ strictly_run due.asked.mode due.script) }
+    ensures unwritten { IsOk result → sink.new ≡ sink.old }
+    ensures early { (input : List ℕ) → read_as (form_of asked.mode) input ≡ Ok script
+        → IfErr result (EndsEarly (HasInput NeverRan asked input) (K.written sink.old) (K.written sink.new)
+        (Rose (K.faults sink.old) (K.faults sink.new))) }
+{
+    match run_strictly(alloc, asked.mode, &script) {
+        Ok(strict) => begin_fitting(alloc, asked, script, strict, sink),
+        Err(why) => Err(end_unfit(alloc, sink, why)),
+    }
+}
+
+/// Where a script fits its mode, it is to be run.
+fn begin_fitting<K: Sink>(
+    alloc: Global,
+    asked: Asked,
+    script: Script,
+    strict: Option<StrictOut>,
+    sink: &mut K,
+) -> Result<Due, u8>
+    requires read { IsReadAs (form_of asked.mode) script }
+    requires script { IsScript script }
+    requires fits { unfit asked.mode script ≡ None }
+    requires strict { strict ≡ strictly_run asked.mode script }
+    ensures due { (input : List ℕ) → read_as (form_of asked.mode) input ≡ Ok script
+        → IfOk result (IsDueOf asked input) }
+    ensures script { IfOk result (λ due. IsScript due.script) }
+    ensures strict { IfOk result (λ due. due.strict ≡ strictly_run due.asked.mode due.script) }
     ensures unwritten { IsOk result → sink.new ≡ sink.old }
     ensures early { (input : List ℕ) → IfErr result (EndsEarly (HasInput NeverRan asked input) (K.written sink.old) (K.written sink.new)
         (Rose (K.faults sink.old) (K.faults sink.new))) }
 {
     match script_due(alloc, asked.mode, script) {
-        Ok(script) => Ok(Due { asked, script }),
+        Ok(script) => Ok(Due {
+            asked,
+            script,
+            strict,
+        }),
         Err(NoMemory { .. }) => Err(end_with_line(sink, 5, b"bpfmap: memory\n")),
     }
 }
@@ -266,7 +397,7 @@ fn form_of(mode: Mode) -> Form
     ensures { result ≡ form_of mode }
 {
     match mode {
-        Mode::Serial | Mode::Race => Form::Calls,
+        Mode::Serial | Mode::Race | Mode::Compare => Form::Calls,
         Mode::Gen => Form::Generator,
     }
 }
@@ -282,6 +413,7 @@ fn begin_with_reading<K: Sink>(
     ensures due { (input : List ℕ) → IsReading read (read_as (form_of asked.mode) input)
         → IfOk result (IsDueOf asked input) }
     ensures script { IfOk result (λ due. IsScript due.script) }
+    ensures strict { IfOk result (λ due. due.strict ≡ strictly_run due.asked.mode due.script) }
     ensures unwritten { IsOk result → sink.new ≡ sink.old }
     ensures early { (input : List ℕ) → IsReading read (read_as (form_of asked.mode) input)
         → IfErr result (EndsEarly (HasInput NeverRan asked input) (K.written sink.old) (K.written sink.new)
@@ -302,6 +434,7 @@ fn begin_with_source<S: Source, K: Sink>(
 ) -> Result<Due, u8>
     ensures due { IfOk result (λ due. (input : List ℕ) × IsInput (S.left source.old) (S.left source.new) input × IsDueOf asked input due) }
     ensures script { IfOk result (λ due. IsScript due.script) }
+    ensures strict { IfOk result (λ due. due.strict ≡ strictly_run due.asked.mode due.script) }
     ensures unwritten { IsOk result → sink.new ≡ sink.old }
     ensures early { IfErr result (EndsEarly (HasSource NeverRan asked (S.left source.old) (S.left source.new)
         (Rose (S.faults source.old) (S.faults source.new))) (K.written sink.old)

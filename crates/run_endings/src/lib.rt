@@ -2,7 +2,9 @@
 #![tactic(auto)]
 
 mod finish;
+mod laws;
 mod record;
 
 pub use finish::{Due, begin};
+pub use laws::comparison_law;
 pub use record::Finish;

@@ -19,7 +19,7 @@ use Rattle.clap.specs.declared.error.kind.ErrorKind.{ErrorKind}
 use Rattle.clap.specs.declared.error.kind.ErrorKind.TheVariants.{OutOfMemory}
 use Rattle.clap.specs.declared.parser.matches.ArgMatches.{ArgMatches}
 use Rattle.clap.proofs.WalkLemmas.{first_value-rows, list_any-map, one_text-rows}
-use Rattle.run_words.specs.Words.{are_words, is_mode, mode_of, mode_word, options_of, stands}
+use Rattle.run_words.specs.Words.{are_read, is_mode, mode_of, mode_word, options_of, stands}
 use Rattle.run_words.proofs.WordLemmasCommand.{Flag, flag_name, flag_word, history, dump, json, command_is_simple, command_of, none, rules, shape, unread, walk_by}
 use Rattle.run_words.proofs.WordLemmasRows.{AreRows}
 use Rattle.run_words.proofs.WordLemmasCounts.{no_flags, passes_arguments}
@@ -66,12 +66,12 @@ module _ (p : ValueParser) (accepted : (text : Text) → accepts false p text �
   meets_words : (words : List Text) → Meets p [] unread no_flags false words
   meets_words words = meets p accepted words [] unread no_flags false (no_rows p)
 
-  fault_is : (texts : List Text) → none (fault_of (command_of p) texts) ≡ are_words texts
+  fault_is : (texts : List Text) → none (fault_of (command_of p) texts) ≡ are_read texts
   unfolding walk_fault defaults_fault
   fault_is [] = refl
   fault_is (name ∷ words) = ap none (fault_by_walk p words) ∙ (meets_words words).0 ∙ passes_arguments words
 
-  words_are_read : (texts : List Text) → are_words texts ≡ true → ReadsWords (matches_of (command_of p) texts) texts
+  words_are_read : (texts : List Text) → are_read texts ≡ true → ReadsWords (matches_of (command_of p) texts) texts
   unfolding rows_left
   words_are_read [] e = absurd (true≢false (sym e))
   words_are_read (name ∷ words) e =
@@ -101,19 +101,20 @@ bytes_symmetric a b = go (bytes_eq a b) (bytes_eq b a) refl refl
     go false false e f = refl
 
 -- the parser of the mode takes the words of the modes alone
-one_of_three : (a b c : Bool) → (a || (b || (c || false))) ≡ (a || b || c)
-one_of_three true b c = refl
-one_of_three false true c = refl
-one_of_three false false true = refl
-one_of_three false false false = refl
+one_of_four : (a b c d : Bool) → (a || (b || (c || (d || false)))) ≡ (a || b || c || d)
+one_of_four true b c d = refl
+one_of_four false true c d = refl
+one_of_four false false true d = refl
+one_of_four false false false true = refl
+one_of_four false false false false = refl
 
-pub accepts_modes : (p : ValueParser) (names : Bor (List (Bor Text))) → p ≡ Names names → map (λ s. s.now) names.now ≡ codes "serial" ∷ codes "race" ∷ codes "gen" ∷ []
+pub accepts_modes : (p : ValueParser) (names : Bor (List (Bor Text))) → p ≡ Names names → map (λ s. s.now) names.now ≡ codes "serial" ∷ codes "race" ∷ codes "gen" ∷ codes "compare" ∷ []
     → (text : Text) → accepts false p text ≡ is_mode text
 accepts_modes p names is listed text =
     ap (λ q. accepts false q text) is ∙ list_any-map (λ n. bytes_eq n text) (λ s. s.now) names.now ∙ ap (list_any (λ n. bytes_eq n text)) listed
-    ∙ one_of_three (bytes_eq (codes "serial") text) (bytes_eq (codes "race") text) (bytes_eq (codes "gen") text)
-    ∙ ap₂ (λ (a b : Bool). a || b || bytes_eq (codes "gen") text) (bytes_symmetric (codes "serial") text) (bytes_symmetric (codes "race") text)
-    ∙ ap (λ b. bytes_eq text (codes "serial") || bytes_eq text (codes "race") || b) (bytes_symmetric (codes "gen") text)
+    ∙ one_of_four (bytes_eq (codes "serial") text) (bytes_eq (codes "race") text) (bytes_eq (codes "gen") text) (bytes_eq (codes "compare") text)
+    ∙ ap₂ (λ (a b : Bool). a || b || bytes_eq (codes "gen") text || bytes_eq (codes "compare") text) (bytes_symmetric (codes "serial") text) (bytes_symmetric (codes "race") text)
+    ∙ ap₂ (λ (a b : Bool). bytes_eq text (codes "serial") || bytes_eq text (codes "race") || a || b) (bytes_symmetric (codes "gen") text) (bytes_symmetric (codes "compare") text)
 
 none_of : (kinds : Kinds) → kinds ≡ [] → none kinds ≡ true
 none_of kinds e = ap none e
@@ -126,21 +127,21 @@ module _ (p : ValueParser) (accepted : (text : Text) → accepts false p text �
   free : is_simple_and_free a ≡ true
   free = ap is_simple_and_free is ∙ command_is_simple p
 
-  fault_at : none (fault_of a texts) ≡ are_words texts
+  fault_at : none (fault_of a texts) ≡ are_read texts
   fault_at = ap (λ b. none (fault_of b texts)) is ∙ fault_is p accepted texts
 
   module _ (r : Result ArgMatches Error) (fails : is_simple_and_free a ≡ true → FailsBy (fault_of a texts) r) where
-    pub parse_taken : IfOk r (λ m. IsTrue (are_words texts))
+    pub parse_taken : IfOk r (λ m. IsTrue (are_read texts))
     parse_taken = go r (fails free)
       where
-        go : (r : Result ArgMatches Error) → FailsBy (fault_of a texts) r → IfOk r (λ m. IsTrue (are_words texts))
+        go : (r : Result ArgMatches Error) → FailsBy (fault_of a texts) r → IfOk r (λ m. IsTrue (are_read texts))
         go (Err e) fault = tt
         go (Ok m) fault = sym fault_at ∙ none_of (fault_of a texts) fault
 
-    pub parse_other : IfErr r (λ e. (kind_of e ≡ OutOfMemory) ⊎ (are_words texts ≡ false))
+    pub parse_other : IfErr r (λ e. (kind_of e ≡ OutOfMemory) ⊎ (are_read texts ≡ false))
     parse_other = go r (fails free)
       where
-        go : (r : Result ArgMatches Error) → FailsBy (fault_of a texts) r → IfErr r (λ e. (kind_of e ≡ OutOfMemory) ⊎ (are_words texts ≡ false))
+        go : (r : Result ArgMatches Error) → FailsBy (fault_of a texts) r → IfErr r (λ e. (kind_of e ≡ OutOfMemory) ⊎ (are_read texts ≡ false))
         go (Ok m) fault = tt
         go (Err e) fault = ⊎_elim (λ memory. inl memory) (λ among. inr (sym fault_at ∙ some_kind (fault_of a texts) (kind_of e) among)) fault
 
@@ -148,7 +149,7 @@ module _ (p : ValueParser) (accepted : (text : Text) → accepts false p text �
       read_words : IfOk r (λ m. ReadsWords (rows_of (found_of m)) texts)
       read_words = go r has parse_taken
         where
-          go : (r : Result ArgMatches Error) → IfOk r (HasMatchesOf a texts) → IfOk r (λ m. IsTrue (are_words texts)) → IfOk r (λ m. ReadsWords (rows_of (found_of m)) texts)
+          go : (r : Result ArgMatches Error) → IfOk r (HasMatchesOf a texts) → IfOk r (λ m. IsTrue (are_read texts)) → IfOk r (λ m. ReadsWords (rows_of (found_of m)) texts)
           go (Err e) has taken = tt
           go (Ok m) has taken =
               subst (λ rows. ReadsWords rows texts) (sym ((has (ap is_simple is)).0 ∙ ap (λ b. matches_of b texts) is)) (words_are_read p accepted texts taken)

@@ -14,7 +14,7 @@ use Rattle.clap.specs.declared.builder.value_parser.Reading.TheVariants as readi
 use Rattle.clap.specs.declared.parser.matches.ValueSource.TheVariants.{CommandLine, DefaultValue}
 use Rattle.run_words.specs.Words.{is_mode, is_option, is_end_of_options, mode_word}
 use Rattle.run_words.specs.declared.words.Mode.{Mode}
-use Rattle.run_words.specs.declared.words.Mode.TheVariants.{Serial, Race, Gen}
+use Rattle.run_words.specs.declared.words.Mode.TheVariants.{Serial, Race, Gen, Compare}
 
 -- ---- the words
 
@@ -80,9 +80,13 @@ kind_of_word word = by_serial (bytes_eq word (codes "serial")) refl
     by_history true e no_mode = an_option history (same_text word (codes "--history") e)
     by_history false e no_mode = by_dump (is_flag dump word) refl no_mode e
 
+    by_compare : (b : Bool) → bytes_eq word (codes "compare") ≡ b → bytes_eq word (codes "serial") ≡ false → bytes_eq word (codes "race") ≡ false → bytes_eq word (codes "gen") ≡ false → Kind word
+    by_compare true e no_serial no_race no_gen = a_mode Compare (same_text word (codes "compare") e)
+    by_compare false e no_serial no_race no_gen = by_history (is_flag history word) refl (rw (no_serial, no_race, no_gen, e) refl)
+
     by_gen : (b : Bool) → bytes_eq word (codes "gen") ≡ b → bytes_eq word (codes "serial") ≡ false → bytes_eq word (codes "race") ≡ false → Kind word
     by_gen true e no_serial no_race = a_mode Gen (same_text word (codes "gen") e)
-    by_gen false e no_serial no_race = by_history (is_flag history word) refl (rw (no_serial, no_race, e) refl)
+    by_gen false e no_serial no_race = by_compare (bytes_eq word (codes "compare")) refl no_serial no_race e
 
     by_race : (b : Bool) → bytes_eq word (codes "race") ≡ b → bytes_eq word (codes "serial") ≡ false → Kind word
     by_race true e no_serial = a_mode Race (same_text word (codes "race") e)

@@ -1,19 +1,21 @@
 -- The words of a command line: the program's name, which isn't looked at, and behind it the mode and the options.
-use Rattle.std.specs.Prelude.{ℕ, Bool, false, ◌&&◌, ◌||◌, ◌==◌, if◌then◌else◌, nat_le, List, [], ◌∷◌, codes, bytes_eq, count_by}
+use Rattle.std.specs.Prelude.{ℕ, Bool, true, false, not, ◌&&◌, ◌||◌, ◌==◌, if◌then◌else◌, nat_le, List, [], ◌∷◌, codes, bytes_eq, count_by}
 use Rattle.std.specs.List.{list_all, list_any, before_first, after_first}
 use Rattle.map_report.specs.declared.record.Options.{Options}
 use Rattle.run_words.specs.declared.words.Asked.{Asked}
 use Rattle.run_words.specs.declared.words.Mode.{Mode}
-use Rattle.run_words.specs.declared.words.Mode.TheVariants.{Serial, Race, Gen}
+use Rattle.run_words.specs.declared.words.Mode.TheVariants.{Serial, Race, Gen, Compare}
 
 -- the word of a mode
 abbrev pub mode_word : Mode → List ℕ
 mode_word Serial = codes "serial"
 mode_word Race = codes "race"
 mode_word Gen = codes "gen"
+mode_word Compare = codes "compare"
 
 abbrev pub is_mode : List ℕ → Bool
-is_mode word = bytes_eq word (mode_word Serial) || bytes_eq word (mode_word Race) || bytes_eq word (mode_word Gen)
+is_mode word =
+    bytes_eq word (mode_word Serial) || bytes_eq word (mode_word Race) || bytes_eq word (mode_word Gen) || bytes_eq word (mode_word Compare)
 
 -- the words of the options
 abbrev pub option_words : List (List ℕ)
@@ -35,9 +37,9 @@ are_arguments words =
     && count_by is_mode words == 1
     && list_all (λ option. nat_le (count_by (λ word. bytes_eq word option) words) 1) option_words
 
-abbrev pub are_words : List (List ℕ) → Bool
-are_words [] = false
-are_words (name ∷ words) = are_arguments words
+abbrev pub are_read : List (List ℕ) → Bool
+are_read [] = false
+are_read (name ∷ words) = are_arguments words
 
 -- whether the word stands among the words
 abbrev pub stands : List ℕ → List (List ℕ) → Bool
@@ -54,7 +56,22 @@ options_of (name ∷ words) = record {
 
 abbrev pub mode_of : List (List ℕ) → Mode
 mode_of [] = Serial
-mode_of (name ∷ words) = if stands (mode_word Race) words then Race else if stands (mode_word Gen) words then Gen else Serial
+mode_of (name ∷ words) =
+    if stands (mode_word Race) words then Race
+    else if stands (mode_word Gen) words then Gen
+    else if stands (mode_word Compare) words then Compare
+    else Serial
+
+-- no option may stand in mode `compare`, and any in the others
+abbrev pub may_stand : Mode → Options → Bool
+may_stand Compare options = not (options.history || options.dump || options.json)
+may_stand Serial options = true
+may_stand Race options = true
+may_stand Gen options = true
+
+-- The words are a mode and options that may stand in it.
+abbrev pub are_words : List (List ℕ) → Bool
+are_words words = are_read words && may_stand (mode_of words) (options_of words)
 
 abbrev pub asked_of : List (List ℕ) → Asked
 asked_of words = record { mode = mode_of words; options = options_of words }

@@ -3,7 +3,7 @@
 ghost use Rattle.std.specs.Prelude.{◌≡◌, ◌⊎◌, Some, false, codes, map, IfErr, IfOk, IsErrOf, IsTrue, string_bytes};
 ghost use Rattle.clap.specs.Words.{first_value, found_of, kind_of, new_rule, one_text, rule_of};
 ghost use Rattle.clap.specs.Values.{bool_text};
-ghost use Rattle.run_words.specs.Words.{are_words, mode_of, mode_word, options_of};
+ghost use Rattle.run_words.specs.Words.{are_read, are_words, may_stand, mode_of, mode_word, options_of};
 
 use clap::error::ErrorKind;
 use clap::{Arg, ArgAction, ArgMatches, Command, Error};
@@ -19,6 +19,8 @@ pub enum Mode {
     Race,
     /// Generated calls one after another, of which a summary is printed.
     Gen,
+    /// The calls of a script one after another, beside those of a map of strict recency: how often they answer alike is printed.
+    Compare,
 }
 
 /// What the command words ask for.
@@ -37,7 +39,7 @@ pub enum WordsStop {
     NoMemory,
 }
 
-static MODES: [&str; 3] = ["serial", "race", "gen"];
+static MODES: [&str; 4] = ["serial", "race", "gen", "compare"];
 
 /// An option that is given or not.
 fn flag<'a>(alloc: Global, name: &'a str) -> Arg<'a>
@@ -50,7 +52,7 @@ fn flag<'a>(alloc: Global, name: &'a str) -> Arg<'a>
 
 /// What clap makes of the words. The command has one positional and three flags, and neither `--help` nor `--version`.
 fn matches_of<'a>(alloc: Global, words: &'a [String]) -> Result<ArgMatches<'a>, Error>
-    ensures taken { IfOk result (λ m. IsTrue (are_words (map string_bytes words.now))) }
+    ensures taken { IfOk result (λ m. IsTrue (are_read (map string_bytes words.now))) }
     ensures options { IfOk result (λ m. let options = options_of (map string_bytes words.now) in
         (one_text (found_of m) (codes "history") ≡ Some (bool_text options.history))
         × (one_text (found_of m) (codes "dump") ≡ Some (bool_text options.dump))
@@ -58,7 +60,7 @@ fn matches_of<'a>(alloc: Global, words: &'a [String]) -> Result<ArgMatches<'a>, 
     ensures mode { IfOk result (λ m. first_value (found_of m) (codes "mode")
         ≡ Some (mode_word (mode_of (map string_bytes words.now)))) }
     ensures other { IfErr result (λ e. (kind_of e ≡ ErrorKind.OutOfMemory)
-        ⊎ (are_words (map string_bytes words.now) ≡ false)) }
+        ⊎ (are_read (map string_bytes words.now) ≡ false)) }
 {
     let mode = Arg::new(alloc, "mode")
         .required(true)
@@ -73,8 +75,9 @@ fn matches_of<'a>(alloc: Global, words: &'a [String]) -> Result<ArgMatches<'a>, 
     command.try_get_matches_from(words)
 }
 
-/// What the command words ask for: the program's name, which is not looked at, then `serial`, `race` or `gen` once and each
-/// of `--history`, `--dump` and `--json` at most once, in any order. One `--` may stand, after which no option follows.
+/// What the command words ask for: the program's name, which is not looked at, then `serial`, `race`, `gen` or `compare` once
+/// and each of `--history`, `--dump` and `--json` at most once, in any order. One `--` may stand, after which no option follows.
+/// With `compare` no option may stand.
 pub fn asked_of(alloc: Global, words: &[String]) -> Result<Asked, WordsStop>
     ensures taken { IfOk result (λ asked. IsTrue (are_words (map string_bytes words.now))
         × (asked.options ≡ options_of (map string_bytes words.now))
@@ -82,11 +85,26 @@ pub fn asked_of(alloc: Global, words: &[String]) -> Result<Asked, WordsStop>
     ensures other { IsErrOf result WordsStop.Other
         → are_words (map string_bytes words.now) ≡ false }
 {
+    match read_of(alloc, words) {
+        Ok(asked) => taken(asked),
+        Err(stop) => Err(stop),
+    }
+}
+
+/// The mode and the options that stand among the words.
+fn read_of(alloc: Global, words: &[String]) -> Result<Asked, WordsStop>
+    ensures taken { IfOk result (λ asked. IsTrue (are_read (map string_bytes words.now))
+        × (asked.options ≡ options_of (map string_bytes words.now))
+        × (asked.mode ≡ mode_of (map string_bytes words.now))) }
+    ensures other { IsErrOf result WordsStop.Other
+        → are_read (map string_bytes words.now) ≡ false }
+{
     match matches_of(alloc, words) {
         Ok(matches) => Ok(Asked {
             mode: match matches.get_str("mode") {
                 Some("race") => Mode::Race,
                 Some("gen") => Mode::Gen,
+                Some("compare") => Mode::Compare,
                 _ => Mode::Serial,
             },
             options: Options {
@@ -99,5 +117,27 @@ pub fn asked_of(alloc: Global, words: &[String]) -> Result<Asked, WordsStop>
             ErrorKind::OutOfMemory => Err(WordsStop::NoMemory),
             _ => Err(WordsStop::Other),
         },
+    }
+}
+
+/// What was asked for, where its options may stand in its mode.
+fn taken(asked: Asked) -> Result<Asked, WordsStop>
+    ensures taken { IfOk result (λ taken. (taken ≡ asked) × IsTrue (may_stand asked.mode asked.options)) }
+    ensures other { IfErr result (λ stop. may_stand asked.mode asked.options ≡ false) }
+{
+    if may_stand(asked.mode, asked.options) {
+        Ok(asked)
+    } else {
+        Err(WordsStop::Other)
+    }
+}
+
+/// Whether the options may stand in the mode.
+fn may_stand(mode: Mode, options: Options) -> bool
+    ensures { result ≡ may_stand mode options }
+{
+    match mode {
+        Mode::Compare => !(options.history || options.dump || options.json),
+        Mode::Serial | Mode::Race | Mode::Gen => true,
     }
 }

@@ -35,7 +35,7 @@ use Rattle.map_report.specs.Freelists.{stack_at, ring, first_not_empty, popped_a
 use Rattle.map_report.specs.Serial.{has_spares, spare_count, opening, bucket_at, value_or_absent, new_stored, replaced, written, added, updated, deleted, after_call}
 use Rattle.place_words.proofs.DoneLaws.{IsKeyVerb}
 use Rattle.map_report.specs.Soundness.{HasLists}
-use Rattle.serial_laws.proofs.EntryLemmas.{hits, both, Turned, taken_first, taken_all, taken_none, put_in, Finds, finds}
+use Rattle.key_lists.proofs.EntryLemmas.{hits, both, Turned, taken_first, taken_all, taken_none, put_in, Finds, finds}
 
 -- the values that a key has in a bucket, and those that it has in entries
 abbrev pub stored_hits : List ℕ → List Stored → List (List (List ℕ))

@@ -30,7 +30,7 @@ use Rattle.map_report.specs.Soundness.{IsSound}
 use Rattle.serial_laws.specs.Entries.{Entry, without, put_in, took_out, without_all, without_told, told_next, answered}
 use Rattle.serial_laws.proofs.EachCall.{updates_fit, deletes_fit}
 use Rattle.serial_laws.proofs.Emptied.{sound_emptied}
-use Rattle.serial_laws.proofs.EntryLemmas.{both, Turned, taken_first, taken_all}
+use Rattle.key_lists.proofs.EntryLemmas.{both, Turned, taken_first, taken_all}
 use Rattle.serial_laws.proofs.EntrySteps.{stored_hits, Agree, Agrees, changed, Follows, key_follows}
 use Rattle.serial_laws.proofs.NextKey.{AreOwn}
 use Rattle.serial_laws.proofs.NoKeys.{none_lie}

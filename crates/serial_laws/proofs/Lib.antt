@@ -13,7 +13,6 @@ pub mod EachOnceOpening
 pub mod EachOnceRun
 pub mod EachOnceSteps
 pub mod Emptied
-pub mod EntryLemmas
 pub mod EntryRun
 pub mod EntrySteps
 pub mod EntryWalks

@@ -30,7 +30,7 @@ use Rattle.serial_laws.specs.Entries.{Entry, entry_of, entries_after, IsThere, I
 use Rattle.serial_laws.specs.Laws.{lists_before}
 use Rattle.serial_laws.proofs.AnswerLaws.{reply_here}
 use Rattle.serial_laws.proofs.BucketLaws.{each_set}
-use Rattle.serial_laws.proofs.EntryLemmas.{hit, hits-append, Finds, finds}
+use Rattle.key_lists.proofs.EntryLemmas.{hit, hits-append, Finds, finds}
 use Rattle.serial_laws.proofs.EntryRun.{list_replies, agrees_run}
 use Rattle.serial_laws.proofs.EntrySteps.{stored_hits, entry_hits, Agrees}
 use Rattle.serial_laws.proofs.NextKey.{AreOwn}

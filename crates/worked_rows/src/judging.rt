@@ -60,7 +60,7 @@ fn faults_due(status: u8) -> u64 {
 
 /// What else isn't as a row says.
 fn flaw_of(row: &Row, left: &Left) -> Option<&'static str> {
-    match (left.kept, is_report(row.report.as_slice())) {
+    match (left.kept, keeps_record(row.report.as_slice())) {
         (true, false) => return Some("a record is kept"),
         (false, true) => return Some("no record is kept"),
         _ => {}
@@ -72,10 +72,10 @@ fn flaw_of(row: &Row, left: &Left) -> Option<&'static str> {
     }
 }
 
-/// Whether a text is a report, and not a line that says why there is none. Of the run of a report a record is kept, also where
-/// writing it fails.
-fn is_report(text: &[u8]) -> bool {
-    !text.starts_with(b"bpfmap: ")
+/// Whether a record is kept of a run that writes this: where it is a report, also where writing it fails, and neither a
+/// comparison nor a line that says why there is none.
+fn keeps_record(text: &[u8]) -> bool {
+    !text.starts_with(b"bpfmap: ") && !text.starts_with(b"compare ")
 }
 
 /// What has to be written: the report, or as much of it as the sink takes.

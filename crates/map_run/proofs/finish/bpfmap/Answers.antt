@@ -8,6 +8,9 @@ use Rattle.run_endings.proofs.Endings.{ends_run}
 use Rattle.run_endings.proofs.Statuses.{status_of_cause}
 use Rattle.map_run.proofs.finish.bpfmap.Goals as goal
 
+pub end-requires : goal.end-requires
+end-requires g c = c.in-Ok.ensures.strict
+
 pub returns-in-Ok-clause-finish : goal.returns-in-Ok-clause-finish
 returns-in-Ok-clause-finish g c =
     subst (λ sink. Finishes IsCopyOf (HasCause RanAs (map string_bytes c.args.words.now) (g.S.Source.left c.args.source.now) (g.S.Source.left c.begin.new.source) (Rose (g.S.Source.faults c.args.source.now) (g.S.Source.faults c.begin.new.source))) (g.K.Sink.written sink) (g.K.Sink.written c.end.new.sink) (Rose (g.K.Sink.faults sink) (g.K.Sink.faults c.end.new.sink)) c.end.result)

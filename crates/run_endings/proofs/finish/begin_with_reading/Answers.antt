@@ -19,7 +19,8 @@ returns-in-Ok-clause-due g c = λ input reading.
     c.begin_with_script.ensures.due input (read_so (read_as (form_of c.args.asked.mode) input) c.args.read (Ok c.in-Ok.script) c.in-Ok.is reading)
 
 pub returns-in-Ok-clause-early : goal.returns-in-Ok-clause-early
-returns-in-Ok-clause-early g c = λ input reading. c.begin_with_script.ensures.early input
+returns-in-Ok-clause-early g c = λ input reading.
+    c.begin_with_script.ensures.early input (read_so (read_as (form_of c.args.asked.mode) input) c.args.read (Ok c.in-Ok.script) c.in-Ok.is reading)
 
 pub returns-in-Err-clause-early : goal.returns-in-Err-clause-early
 returns-in-Err-clause-early g c = λ input reading.

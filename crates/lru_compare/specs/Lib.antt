@@ -1,0 +1,4 @@
+pub mod Strict
+pub mod Run
+pub mod Law
+pub mod Comparison
