@@ -1,0 +1,88 @@
+//! The test for equality of values that keep memory of their own, and of lists of any values that have one.
+
+ghost use Rattle.std.specs.Prelude.{◌≡◌, ◌≢◌, MatchBool};
+
+use map_types::{Bytes, List, Reply};
+use place_words::Part;
+
+/// What can be tested for equality, by reference, with no memory.
+pub trait Same {
+    /// Whether the two are equal. It ends at the first difference.
+    fn same(&self, other: &Self) -> bool
+        ensures { MatchBool result (self.now ≡ other.now) (self.now ≢ other.now) };
+}
+
+impl Same for u32 {
+    fn same(&self, other: &u32) -> bool {
+        *self == *other
+    }
+}
+
+impl Same for u64 {
+    fn same(&self, other: &u64) -> bool {
+        *self == *other
+    }
+}
+
+impl Same for bool {
+    fn same(&self, other: &bool) -> bool {
+        *self == *other
+    }
+}
+
+impl Same for Bytes {
+    fn same(&self, other: &Bytes) -> bool {
+        self.as_slice() == other.as_slice()
+    }
+}
+
+impl<T: Same> Same for Option<T> {
+    fn same(&self, other: &Option<T>) -> bool {
+        match (self, other) {
+            (Some(one), Some(another)) => one.same(another),
+            (None, None) => true,
+            _ => false,
+        }
+    }
+}
+
+impl<A: Same, B: Same> Same for (A, B) {
+    fn same(&self, other: &(A, B)) -> bool {
+        self.0.same(&other.0) && self.1.same(&other.1)
+    }
+}
+
+impl<T: Same> Same for List<T> {
+    fn same(&self, other: &List<T>) -> bool {
+        are_same(self.as_slice(), other.as_slice())
+    }
+}
+
+/// Whether two slices have the same items in the same order.
+fn are_same<T: Same>(items: &[T], others: &[T]) -> bool
+    ensures { MatchBool result (items.now ≡ others.now) (items.now ≢ others.now) }
+{
+    if items.len() != others.len() {
+        return false;
+    }
+    for i in 0..items.len() {
+        if !items[i].same(&others[i]) {
+            return false;
+        }
+    }
+    true
+}
+
+/// Whether two parts tell the same.
+pub fn same_part(one: &Part, another: &Part) -> bool
+    ensures { MatchBool result (one.now ≡ another.now) (one.now ≢ another.now) }
+{
+    one.same(another)
+}
+
+/// Whether two replies are the same.
+pub fn same_reply(one: &Reply, another: &Reply) -> bool
+    ensures { MatchBool result (one.now ≡ another.now) (one.now ≢ another.now) }
+{
+    one.same(another)
+}

@@ -1,0 +1,3 @@
+pub mod BucketSteps
+pub mod ReplayLaws
+pub mod Replays
