@@ -61,7 +61,7 @@ bases contents b = (lists_in (contents (Bucket b))).first
 
 module _ {shape : Shape} (bounds : HasBounds shape) where
   -- One turn: its lock may be any that fits its part.
-  turn_follows : (contents : DomainId → Content) (owed : ℕ → List ℕ) (x : Drawn) (around : List Drawn) (s : State) (more : List Event) → PaysAt shape owed (bucket_around around) x.lock x.entry.part → Allows shape x.entry.cpu x.entry.part (contents x.lock)
+  pub turn_follows : (contents : DomainId → Content) (owed : ℕ → List ℕ) (x : Drawn) (around : List Drawn) (s : State) (more : List Event) → PaysAt shape owed (bucket_around around) x.lock x.entry.part → Allows shape x.entry.cpu x.entry.part (contents x.lock)
       → Fits shape (bases contents) owed none (core_lists contents) s
       → ((t : State) → Fits shape (bases (after_turn shape x.entry.cpu contents (turn_of x))) (owed_after (bucket_around around) x.lock x.entry.part owed) none (core_lists (after_turn shape x.entry.cpu contents (turn_of x))) t → Follows shape t more)
       → Follows shape s (goes_on shape contents around x more)

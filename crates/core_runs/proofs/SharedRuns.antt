@@ -110,7 +110,7 @@ local_apart c d apart same = apart (sym (ap number same))
     number _ = 0
 
 module _ {shape : Shape} (bounds : HasBounds shape) (lru : is_lru shape.kind ≡ true) (common : IsTrue shape.common) where
-  shared_turn : (contents : DomainId → Content) (m : Midst) (begun : List ℕ) (x : Drawn) (later : List Drawn) (lists : DomainId → Lists) (s : State) (more : List Event)
+  pub shared_turn : (contents : DomainId → Content) (m : Midst) (begun : List ℕ) (x : Drawn) (later : List Drawn) (lists : DomainId → Lists) (s : State) (more : List Event)
       → SharedAt shape contents m (among begun x.entry.ticket) x.entry.cpu x.lock x.entry.part → Allows shape x.entry.cpu x.entry.part (contents x.lock) → Midway contents m lists → Fits shape (bases contents) none none lists s
       → ((t : State) (lists' : DomainId → Lists) → Midway (after_turn shape x.entry.cpu contents (turn_of x)) (midst_after m x.entry.cpu x.lock x.entry.part) lists' → Fits shape (bases (after_turn shape x.entry.cpu contents (turn_of x))) none none lists' t → Follows shape t more)
       → Follows shape s (map takes (not_begun begun (enclosing x later ++ x ∷ [])) ++ goes_on shape contents (enclosing x later) x more)

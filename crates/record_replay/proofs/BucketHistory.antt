@@ -15,8 +15,8 @@ use Rattle.place_words.specs.Histories.{Allows, bucket_in, in_bucket}
 use Rattle.place_words.specs.Sizes.{AreSized}
 use Rattle.bucket_chain.proofs.SizeLaws.{sizes_stay}
 use Rattle.record_replay.specs.BucketSteps.{IsSizedEntry, PartIsSized}
-use Rattle.record_replay.specs.Replays.{IsFirstFlaw, IsStep, Leads}
-use Rattle.record_replay.proofs.Steps.{LeadsFirst, all_lead, flaw_at, more_lead, none_lead}
+use Rattle.replay_words.specs.Replays.{IsFirstFlaw, IsStep, Leads}
+use Rattle.replay_words.proofs.Steps.{LeadsFirst, all_lead, flaw_at, more_lead, none_lead}
 
 -- the first turns lead to these elements, whichever bucket it is, and they have the map's sizes
 pub record IsSoFar (shape : Shape) (entries : List Entry) (index : ℕ) (bodies : List Stored) : Type 0 where

@@ -15,8 +15,8 @@ use Rattle.record_replay.specs.ReplayLaws.{FittingAreSized}
 gives : (shape : Shape) (part : BucketPart) → BucketFits shape part → GivesSized shape part
 gives shape (Lookup side key got) fits = tt
 gives shape (Update side flags key value offer put) fits = (fits.1.sized, fits.2.sized)
-gives shape (Delete key gone) fits = tt
-gives shape (Take key gone) fits = tt
+gives shape (Delete key _) fits = tt
+gives shape (Take key _) fits = tt
 gives shape (Next key found) fits = tt
 gives shape (First key) fits = tt
 gives shape (Walk remove room result) fits = tt

@@ -1,4 +1,4 @@
 pub mod BucketHistory
 pub mod BucketLemmas
 pub mod Fitting
-pub mod Steps
+pub mod PutBack

@@ -1,3 +1,3 @@
 pub mod BucketSteps
 pub mod ReplayLaws
-pub mod Replays
+pub mod Popping

@@ -7,9 +7,8 @@ ghost use Rattle.map_types.specs.declared.kind.DomainId.TheVariants as locks;
 ghost use Rattle.place_words.specs.Histories.{in_bucket};
 ghost use Rattle.place_words.specs.Sizes.{AreSized, GivesSized};
 ghost use Rattle.record_replay.specs.BucketSteps.{IsBucketStep, IsSizedEntry, PartIsSized};
-ghost use Rattle.record_replay.specs.Replays.{IsStep, Leads, StopsAt};
+ghost use Rattle.replay_words.specs.Replays.{IsStep, Leads, StopsAt};
 
-use crate::ReplayStop;
 use crate::changes::{delete, evict, take};
 use crate::reads::{allows_first, allows_next, allows_read};
 use crate::updates::update;
@@ -17,16 +16,18 @@ use crate::walks::walk;
 use bucket_chain::{Chain, Write};
 use map_types::{NoMemory, Shape};
 use place_words::{BucketPart, Entry, Part};
+use replay_words::ReplayStop;
 use std::alloc::Global;
 
 /// Replays the turns of a bucket from its opening, at which it is empty: the elements that lie there at the end, or the first turn
-/// that the rules don't allow. An element may stand there twice, under two keys. A turn on a key looks for it from the head of the
-/// bucket, as the kernel does, so it takes time by the number of elements that lie there; a walk that tells all elements goes to the
-/// place of each from the head.
+/// that the rules don't allow. An element may stand there twice, under two keys. A turn on a key or an element looks for it from
+/// the head of the bucket, as the kernel does, so it takes time by the number of elements that lie there. A walk that tells all
+/// elements takes time and memory by them. What lies there has keys and values of the map's sizes.
 pub fn replay_bucket(alloc: Global, shape: &Shape, entries: &[Entry]) -> Result<Chain, ReplayStop>
     requires shape { IsShape shape.now }
     requires sized { All (IsSizedEntry shape.now) entries.now }
-    ensures { (bucket : ℕ) → MatchResult result
+    ensures sized { IfOk result (λ chain. AreSized shape.now chain.bodies) }
+    ensures replayed { (bucket : ℕ) → MatchResult result
         (λ chain. Leads shape.now (locks.Bucket bucket) entries.now (in_bucket chain.bodies))
         (StopsAt shape.now (locks.Bucket bucket) entries.now) }
 {

@@ -6,11 +6,12 @@ ghost use Rattle.map_types.specs.declared.attr.Shape as shapes;
 ghost use Rattle.map_types.specs.declared.kind.DomainId.TheVariants as locks;
 ghost use Rattle.place_words.specs.Histories.{on_freelist};
 ghost use Rattle.place_words.specs.Openings.{opening_free};
-ghost use Rattle.record_replay.specs.Replays.{IsStep, Leads, PopsTop, StopsAt};
+ghost use Rattle.record_replay.specs.Popping.{PopsTop};
+ghost use Rattle.replay_words.specs.Replays.{IsStep, Leads, StopsAt};
 
-use crate::ReplayStop;
 use map_types::{DomainId, NoMemory, Numbers, Shape};
 use place_words::{Entry, FreePart, Part, free_at_first, owners_at_first};
+use replay_words::ReplayStop;
 use std::alloc::Global;
 
 /// Replays the turns of the freelist of a CPU from its opening: the free elements that lie there at the end, top first, or the

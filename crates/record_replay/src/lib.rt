@@ -6,12 +6,11 @@ mod bucket;
 mod changes;
 mod claims;
 mod freelist;
+mod listed;
 mod reads;
-mod stop;
 mod updates;
 mod walks;
 
 pub use bucket::replay_bucket;
 pub use claims::replay_laws;
 pub use freelist::replay_freelist;
-pub use stop::ReplayStop;

@@ -12,10 +12,11 @@ ghost use Rattle.place_words.specs.Buckets.{as_read};
 ghost use Rattle.place_words.specs.Sizes.{AreSized};
 ghost use Rattle.record_replay.specs.BucketSteps.{IsBucketStep, IsTold};
 
+use crate::listed::{put_back, take_all};
 use crate::reads::reads;
-use bucket_chain::{Chain, body_at};
+use bucket_chain::Chain;
 use map_types::{Bytes, NoMemory, Shape, Side};
-use percpu_values::Body;
+use percpu_values::{Body, BoxedBody};
 use place_words::{Kept, Walked};
 use std::alloc::Global;
 
@@ -59,36 +60,38 @@ fn walk_whole(
     requires sized { AreSized shape.now chain.old.bodies }
     ensures { IfOk result (IsBucketStep shape.now cpu (turns.Walk remove room (walks.Taken all.now)) chain.old.bodies chain.new.bodies) }
 {
-    if room < chain.len() || !are_read(alloc, shape, cpu, all, chain)? {
+    if room < chain.len() {
         return Ok(false);
     }
-    if remove {
-        *chain = Chain::empty(alloc);
+    let bodies = take_all(alloc, chain)?;
+    if !are_read(alloc, shape, cpu, all, bodies.as_slice())? {
+        return Ok(false);
+    }
+    if !remove {
+        put_back(chain, bodies);
     }
     Ok(true)
 }
 
-/// Whether these are the elements of a bucket in order, as the system call reads them on a CPU.
+/// Whether these are the elements of bodies in order, as the system call reads them on a CPU.
 fn are_read(
     alloc: Global,
     shape: &Shape,
     cpu: u32,
     all: &[Kept],
-    chain: &Chain,
+    bodies: &[BoxedBody],
 ) -> Result<bool, NoMemory>
     requires shape { IsShape shape.now }
     requires bounds { HasBounds shape.now }
     requires cpu { cpu < shape.now.cpus }
-    requires sized { AreSized shape.now chain.now.bodies }
-    ensures { IfOk result (IsTold (all.now ≡ map (as_read shape.now cpu) chain.now.bodies)) }
+    requires sized { AreSized shape.now bodies.now }
+    ensures { IfOk result (IsTold (all.now ≡ map (as_read shape.now cpu) bodies.now)) }
 {
-    let count = chain.len();
-    if all.len() != count as usize {
+    if all.len() != bodies.len() {
         return Ok(false);
     }
-    for place in 0..count {
-        let body = body_at(chain, place);
-        if !is_read(alloc, shape, cpu, &all[place as usize], body)? {
+    for place in 0..all.len() {
+        if !is_read(alloc, shape, cpu, &all[place], bodies[place].body())? {
             return Ok(false);
         }
     }

@@ -2,8 +2,8 @@ use Rattle.std.proofs.Common.{subst, sym, ap, refl, get_or, reverse}
 use Rattle.place_words.specs.declared.history.Entry.{Entry}
 use Rattle.map_types.specs.declared.kind.DomainId.TheVariants as locks
 use Rattle.place_words.specs.Histories.{on_freelist}
-use Rattle.record_replay.specs.Replays.{IsStep}
-use Rattle.record_replay.proofs.Steps.{none_lead, more_lead, flaw_at}
+use Rattle.replay_words.specs.Replays.{IsStep}
+use Rattle.replay_words.proofs.Steps.{none_lead, more_lead, flaw_at}
 use Rattle.record_replay.proofs.freelist.replay_freelist.Goals as goal
 
 pub loop-i-init : goal.loop-i-init

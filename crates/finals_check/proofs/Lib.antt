@@ -1,0 +1,4 @@
+pub mod Held
+pub mod MetLists
+pub mod Tables
+pub mod Telling

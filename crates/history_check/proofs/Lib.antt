@@ -1,0 +1,4 @@
+mod Laws
+mod Loops
+mod TakenOut
+mod Flushing

@@ -1,0 +1,4 @@
+pub mod FlawText
+pub mod First
+pub mod PhaseFlaws
+pub mod StrandFlaws

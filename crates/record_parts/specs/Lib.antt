@@ -1,0 +1,3 @@
+pub mod StrandTables
+pub mod PartLaws
+pub mod PhaseTables

@@ -1,0 +1,9 @@
+pub mod FedLemmas
+pub mod GlobalLemmas
+pub mod MarkLemmas
+pub mod OwnLemmas
+pub mod PushLemmas
+pub mod Replaying
+pub mod SetRoom
+pub mod ShrinkLemmas
+pub mod Unique

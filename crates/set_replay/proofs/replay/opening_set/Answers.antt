@@ -1,0 +1,10 @@
+use Rattle.std.proofs.Common.{ℕ, ◌≤◌, List, ◌∙◌, sym, subst}
+use Rattle.map_types.specs.ElementLists.{times, IsIn}
+use Rattle.set_replay.proofs.Replaying.{free_once, free_real}
+use Rattle.set_replay.proofs.replay.opening_set.Goals as goal
+
+pub set_with-requires-clause-once : goal.set_with-requires-clause-once
+set_with-requires-clause-once c = λ e. subst (λ (l : List ℕ). times e l ≤ 1) (sym (c.as_slice.ensures ∙ c.in_ok-free.ensures)) (free_once c.args.shape.now c.args.lock c.requires e)
+
+pub set_with-requires-clause-below : goal.set_with-requires-clause-below
+set_with-requires-clause-below c = λ e some. free_real c.args.shape.now c.args.lock c.requires e (subst (λ (l : List ℕ). IsIn e l) (c.as_slice.ensures ∙ c.in_ok-free.ensures) some)

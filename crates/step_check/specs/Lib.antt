@@ -1,0 +1,9 @@
+pub mod Ran
+pub mod WordsView
+pub mod Answers
+pub mod Places
+pub mod Outer
+pub mod Begun
+pub mod Judged
+pub mod Refused
+pub mod StepLaws
