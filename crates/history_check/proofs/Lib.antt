@@ -1,4 +1,4 @@
-mod Laws
+pub mod Laws
 mod Loops
 mod TakenOut
 mod Flushing

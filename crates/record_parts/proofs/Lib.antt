@@ -7,4 +7,4 @@ pub mod NamedEntries
 pub mod NamedSteps
 pub mod Sums
 pub mod StrandJudged
-mod OwnCalls
+pub mod OwnCalls

@@ -18,23 +18,23 @@ use place_words::Walked;
 
 /// The reply of a batch read.
 #[derive(Drop)]
-pub(crate) struct BatchReply<'a> {
-    pub(crate) stop: Option<Errno>,
-    pub(crate) taken: &'a Pairs,
-    pub(crate) next: u32,
+pub struct BatchReply<'a> {
+    pub stop: Option<Errno>,
+    pub taken: &'a Pairs,
+    pub next: u32,
 }
 
 /// What a batch read asks for.
 #[derive(Clone, Copy)]
-pub(crate) struct BatchAsk {
-    pub(crate) remove: bool,
-    pub(crate) count: u32,
-    pub(crate) start: Option<u32>,
-    pub(crate) flags: u32,
+pub struct BatchAsk {
+    pub remove: bool,
+    pub count: u32,
+    pub start: Option<u32>,
+    pub flags: u32,
 }
 
 /// Whether the batch ends here, behind so many pairs.
-pub(crate) fn ends_at(reply: &BatchReply<'_>, stop: Option<Errno>, count: usize, next: u32) -> bool
+pub fn ends_at(reply: &BatchReply<'_>, stop: Option<Errno>, count: usize, next: u32) -> bool
     requires { count ≤ length reply.now.taken.now }
     ensures { MatchBool result
         (replies.Batch reply.now.stop reply.now.taken.now reply.now.next ≡ replies.Batch stop (take count reply.now.taken.now) next)
@@ -44,7 +44,7 @@ pub(crate) fn ends_at(reply: &BatchReply<'_>, stop: Option<Errno>, count: usize,
 }
 
 /// Why a batch stops at a bucket for which there is no room, behind so many pairs.
-fn stopped_behind(reply: &BatchReply<'_>, count: usize) -> Option<Errno>
+pub fn stopped_behind(reply: &BatchReply<'_>, count: usize) -> Option<Errno>
     requires { count ≤ length reply.now.taken.now }
     ensures { result ≡ stopped_at (take count reply.now.taken.now) }
 {
@@ -56,7 +56,7 @@ fn stopped_behind(reply: &BatchReply<'_>, count: usize) -> Option<Errno>
 }
 
 /// What is left of the room.
-pub(crate) fn room_left(limit: u32, count: usize) -> u32
+pub fn room_left(limit: u32, count: usize) -> u32
     ensures { result ≡ limit - count }
 {
     (limit as usize).saturating_sub(count) as u32

@@ -17,7 +17,7 @@ use crate::strand::{Turns, rest_if, spare_before};
 use map_types::{Bytes, Errno, Pairs, Reply, Shape, Side};
 
 /// Whether a batch write did so many entries, and stopped for this.
-fn is_count(reply: &Reply, stop: Option<Errno>, count: usize) -> bool
+pub fn is_count(reply: &Reply, stop: Option<Errno>, count: usize) -> bool
     ensures { MatchBool result (reply.now ≡ replies.Count stop count) (reply.now ≢ replies.Count stop count) }
 {
     match reply {

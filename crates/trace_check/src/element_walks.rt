@@ -60,7 +60,7 @@ fn stop_place(stop: &Option<Bytes>, all: &[Kept]) -> Option<usize>
 }
 
 /// Those of the elements that are handed over, and whether the callback is stopped there.
-fn handed_over<'a>(stop: &Option<Bytes>, all: &'a [Kept]) -> (&'a [Kept], bool)
+pub fn handed_over<'a>(stop: &Option<Bytes>, all: &'a [Kept]) -> (&'a [Kept], bool)
     ensures over { (shape : Shape) (cpu : ℕ) → map (handed shape cpu) result.0.now ≡ up_to_stop stop.now (map (handed shape cpu) all.now) }
     ensures stopped { (shape : Shape) (cpu : ℕ) → result.1 ≡ told.stops_in stop.now (map (handed shape cpu) all.now) }
 {

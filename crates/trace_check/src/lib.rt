@@ -16,6 +16,13 @@ mod parts;
 mod replies;
 mod strand;
 
+pub use batch_reads::{BatchAsk, BatchReply, ends_at, room_left, stopped_behind};
+pub use batch_writes::is_count;
 pub use call_reader::read_call;
+pub use element_walks::handed_over;
+pub use key_bucket::bucket_number;
 pub use laws::read_laws;
+pub use pair_tests::place_behind;
+pub use parts::{first_in, found_in, gone_in, got_in, same_bool, same_side, taken_in, walked_in};
+pub use replies::{is_done, is_got, is_refused, is_same_error, is_value};
 pub use strand::{Turn, Turns};

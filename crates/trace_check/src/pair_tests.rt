@@ -82,7 +82,7 @@ fn is_kept(shape: &Shape, reader: Option<u32>, given: &Pairs, i: usize, kept: &K
 }
 
 /// The place behind these elements' pairs in a reply, if they stand there from a place on.
-pub(crate) fn place_behind(
+pub fn place_behind(
     shape: &Shape,
     reader: Option<u32>,
     given: &Pairs,

@@ -16,7 +16,7 @@ pub(crate) fn is_free(part: &Part) -> bool
 }
 
 /// Whether two sides are one.
-pub(crate) fn same_side(side: Side, other: Side) -> bool
+pub fn same_side(side: Side, other: Side) -> bool
     ensures { result ≡ reading.same_side side other }
 {
     match side {
@@ -37,11 +37,7 @@ pub(crate) fn same_free(part: FreePart, other: FreePart) -> bool
 }
 
 /// What a lookup of this key got.
-pub(crate) fn got_in<'a>(
-    part: &'a BucketPart,
-    side: Side,
-    key: &[u8],
-) -> Option<&'a Option<(u32, Bytes)>>
+pub fn got_in<'a>(part: &'a BucketPart, side: Side, key: &[u8]) -> Option<&'a Option<(u32, Bytes)>>
     ensures { MatchOption result (told.got_in side key.now part.now ≡ None) (λ got. told.got_in side key.now part.now ≡ Some got.now) }
 {
     match part {
@@ -61,7 +57,7 @@ pub(crate) fn got_in<'a>(
 }
 
 /// Which element a delete of this key took out.
-pub(crate) fn gone_in(part: &BucketPart, key: &[u8]) -> Option<Option<u32>>
+pub fn gone_in(part: &BucketPart, key: &[u8]) -> Option<Option<u32>>
     ensures { result ≡ told.gone_in key.now part.now }
 {
     match part {
@@ -77,7 +73,7 @@ pub(crate) fn gone_in(part: &BucketPart, key: &[u8]) -> Option<Option<u32>>
 }
 
 /// What a take of this key took out.
-pub(crate) fn taken_in<'a>(part: &'a BucketPart, key: &[u8]) -> Option<&'a Option<(u32, Bytes)>>
+pub fn taken_in<'a>(part: &'a BucketPart, key: &[u8]) -> Option<&'a Option<(u32, Bytes)>>
     ensures { MatchOption result (told.taken_in key.now part.now ≡ None) (λ gone. told.taken_in key.now part.now ≡ Some gone.now) }
 {
     match part {
@@ -126,7 +122,7 @@ pub(crate) fn put_in(
 }
 
 /// The key at the head of a bucket, as a turn that looks there tells it.
-pub(crate) fn first_in(part: &BucketPart) -> Option<&Option<Bytes>>
+pub fn first_in(part: &BucketPart) -> Option<&Option<Bytes>>
     ensures { MatchOption result (told.first_in part.now ≡ None) (λ key. told.first_in part.now ≡ Some key.now) }
 {
     match part {
@@ -136,7 +132,7 @@ pub(crate) fn first_in(part: &BucketPart) -> Option<&Option<Bytes>>
 }
 
 /// What follows this key.
-pub(crate) fn found_in<'a>(part: &'a BucketPart, key: &[u8]) -> Option<&'a NextFound>
+pub fn found_in<'a>(part: &'a BucketPart, key: &[u8]) -> Option<&'a NextFound>
     ensures { MatchOption result (told.found_in key.now part.now ≡ None) (λ found. told.found_in key.now part.now ≡ Some found.now) }
 {
     match part {
@@ -152,14 +148,14 @@ pub(crate) fn found_in<'a>(part: &'a BucketPart, key: &[u8]) -> Option<&'a NextF
 }
 
 /// Whether two tests have one answer.
-pub(crate) fn same_bool(one: bool, other: bool) -> bool
+pub fn same_bool(one: bool, other: bool) -> bool
     ensures { result ≡ told.same_bool one other }
 {
     if one { other } else { !other }
 }
 
 /// What a batch, or a walk over all elements, took of a bucket with this room.
-pub(crate) fn walked_in(part: &BucketPart, remove: bool, room: u32) -> Option<&Walked>
+pub fn walked_in(part: &BucketPart, remove: bool, room: u32) -> Option<&Walked>
     ensures { MatchOption result (told.walked_in remove room part.now ≡ None) (λ walked. told.walked_in remove room part.now ≡ Some walked.now) }
 {
     match part {

@@ -9,14 +9,14 @@ use map_types::{Bytes, Errno, Reply};
 use place_words::Put;
 
 /// Whether it is done, with nothing to give.
-pub(crate) fn is_done(reply: &Reply) -> bool
+pub fn is_done(reply: &Reply) -> bool
     ensures { MatchBool result (reply.now ≡ replies.Done) (reply.now ≢ replies.Done) }
 {
     matches!(reply, Reply::Done)
 }
 
 /// Whether it gives these bytes.
-pub(crate) fn is_value(reply: &Reply, bytes: &[u8]) -> bool
+pub fn is_value(reply: &Reply, bytes: &[u8]) -> bool
     ensures { MatchBool result (reply.now ≡ replies.Value bytes.now) (reply.now ≢ replies.Value bytes.now) }
 {
     match reply {
@@ -26,7 +26,7 @@ pub(crate) fn is_value(reply: &Reply, bytes: &[u8]) -> bool
 }
 
 /// Whether it is refused with this error.
-pub(crate) fn is_refused(reply: &Reply, errno: Errno) -> bool
+pub fn is_refused(reply: &Reply, errno: Errno) -> bool
     ensures { MatchBool result (reply.now ≡ replies.Refused errno) (reply.now ≢ replies.Refused errno) }
 {
     match reply {
@@ -36,7 +36,7 @@ pub(crate) fn is_refused(reply: &Reply, errno: Errno) -> bool
 }
 
 /// Whether it goes with what a lookup got.
-pub(crate) fn is_got(reply: &Reply, got: &Option<(u32, Bytes)>) -> bool
+pub fn is_got(reply: &Reply, got: &Option<(u32, Bytes)>) -> bool
     ensures { MatchBool result (reply.now ≡ reply_of_got got.now) (reply.now ≢ reply_of_got got.now) }
 {
     match got {
@@ -80,7 +80,7 @@ pub(crate) fn is_put(reply: &Reply, put: Put) -> bool
 }
 
 /// Whether two calls ended alike: with one error, or both with none.
-pub(crate) fn is_same_error(told: Option<Errno>, read: Option<Errno>) -> bool
+pub fn is_same_error(told: Option<Errno>, read: Option<Errno>) -> bool
     ensures { MatchBool result (told ≡ read) (told ≢ read) }
 {
     match (told, read) {

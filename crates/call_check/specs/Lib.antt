@@ -1,0 +1,11 @@
+pub mod By
+pub mod RightCalls
+pub mod CallLaws
+pub mod Spares
+pub mod StrandPlaces
+pub mod Steps
+pub mod Judged
+pub mod Moved
+pub mod PlainRows
+pub mod GoneTables
+pub mod SeenRows

@@ -1,0 +1,3 @@
+mod OfCalls
+mod Told
+mod Verdicts
