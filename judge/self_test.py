@@ -196,6 +196,8 @@ REFUSED = [
     ("phases", "a start one too high", "the ticket 3 of phase 1 is below its start", start(1, 4, [])),
     ("phases", "a start one too low", "the ticket 2 of phase 0 isn't below the start of phase 1", start(1, 2, [])),
     ("joined", "the start of an empty phase one too high", "the ticket of the start of phase 1", start(1, 5, [0])),
+    ("joined", "a start above the number of entries", "the ticket of the start of phase 1", start(1, 13, [0])),
+    ("parted", "a start that falls behind an empty phase", "the ticket of the start of phase 2", start(2, 0, [])),
     ("phases", "a first phase that doesn't start with ticket 0", "the start of phase 0", start(0, 1, [])),
     ("phases", "an element that is marked before the first phase", "the start of phase 0", start(0, 0, [0])),
     (

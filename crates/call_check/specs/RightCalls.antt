@@ -31,8 +31,8 @@ abbrev pub entries_below : ℕ → List Entry → List Entry
 entries_below ticket entries = flat_map (λ t. filter (λ (entry : Entry). entry.ticket == t) entries) (range_with_len 0 ticket)
 
 -- Which of two turns of a CPU is earlier goes by the phases of their calls, and in one phase by their tickets, which are numbers of 64
--- bits: a record's phases may start in another order than their tickets have, where nothing was drawn in one of them. Turns at one
--- moment stand in the order of the locks, and on one lock as its history has them.
+-- bits. Where the phases are right that is the order of the tickets. Turns at one moment stand in the order of the locks, and on one
+-- lock as its history has them.
 unfoldable pub ticket_bound : ℕ
 ticket_bound = 2 ^ 64
 
@@ -52,7 +52,8 @@ abbrev pub spare_last : List ℕ → Shape → List LockHistory → ℕ → Opti
 spare_last cuts shape histories cpu =
     if is_lru shape.kind then spare_at (opening shape) cpu else spare_before cuts shape histories cpu (ticket_bound * ticket_bound)
 
--- the spare of a CPU before the first of some turns
+-- The spare of a CPU before the first of some turns. Where that is a push that found its element gone it may be another one: no trace
+-- that begins with a push has a spare.
 abbrev pub spare_of_entry : List ℕ → Shape → List LockHistory → ℕ → Option Entry → Option ℕ
 spare_of_entry cuts shape histories cpu None = None
 spare_of_entry cuts shape histories cpu (Some entry) = spare_before cuts shape histories cpu (moment_of cuts entry)

@@ -11,12 +11,13 @@ use Rattle.map_types.specs.Creation.{IsShape}
 use Rattle.map_types.specs.declared.attr.Shape.{Shape}
 use Rattle.map_types.specs.declared.call.Call.{Call}
 use Rattle.map_types.specs.declared.kind.DomainId.{DomainId}
+use Rattle.map_types.specs.declared.kind.DomainId.TheVariants.{Global}
 use Rattle.map_types.specs.declared.reply.Reply.{Reply}
 use Rattle.map_types.proofs.RowLemmas.{by_test}
 use Rattle.place_words.specs.declared.history.Entry.{Entry}
 use Rattle.place_words.specs.declared.history.LockHistory.{LockHistory}
 use Rattle.map_script.specs.declared.script.Script.{Script}
-use Rattle.map_script.specs.WellFormed.{HasPhases}
+use Rattle.map_script.specs.WellFormed.{AreCuts, HasPhases}
 use Rattle.place_words.specs.declared.history.Strand.{Strand}
 use Rattle.place_words.specs.declared.history.StrandStep.{StrandStep}
 use Rattle.place_words.specs.AtRest.{IsStart}
@@ -339,6 +340,29 @@ module _ (script : Script) (are : Rise 0 script.cuts (length script.calls)) (cre
   abbrev told : List LockHistory
   told = histories shape end ours
 
+  -- The tickets of the starts: none is below the one before it, nor above those of the run
+  start_next : (p : ℕ) → (before p).next_ticket ≤ (before (suc p)).next_ticket
+  start_next p =
+      let adds : List Entry = added shape (suc (at p)) (phase p) (before p) Global in
+      ascend_within (before p).next_ticket (tickets_of adds) (before (suc p)).next_ticket
+      (subst (λ (state : State). AscendIn (before p).next_ticket (tickets_of adds) state.next_ticket) (next_state script are p) (added_ascends shape (suc (at p)) (phase p) (before p) Global))
+
+  start_within : (p : ℕ) → (before p).next_ticket ≤ end.next_ticket
+  start_within p =
+      let adds : List Entry = added shape (suc (at p)) (drop (at p) calls) (before p) Global in
+      ascend_within (before p).next_ticket (tickets_of adds) end.next_ticket
+      (subst (λ (state : State). AscendIn (before p).next_ticket (tickets_of adds) state.next_ticket) (sym (end_state script are p)) (added_ascends shape (suc (at p)) (drop (at p) calls) (before p) Global))
+
+  starts_from : (p n least : ℕ) → least ≤ (before p).next_ticket
+      → AreCuts least (length (all_entries told)) (map (λ (start : PhaseStart). start.ticket) (map (λ q. start_of shape (before q)) (range_with_len p n)))
+  starts_from p zero least low = tt
+  starts_from p (suc n) least low =
+      let next : suc p ≡ p + 1 = omega arith in (
+        low,
+        omega (arith, start_within p, entries_counted shape calls ours),
+        starts_from (p + 1) n (before p).next_ticket (subst (λ (q : ℕ). (before p).next_ticket ≤ (before q).next_ticket) next (start_next p)),
+      )
+
   -- Spares: at first those of the opening, at the end those that are told, and between them those of the run
   spares : ℕ → ℕ → Option ℕ
   spares zero cpu = spare_at (opening shape) cpu
@@ -391,6 +415,7 @@ module _ (script : Script) (are : Rise 0 script.cuts (length script.calls)) (cre
               (all_of (locks_of shape) (λ lock. All (λ (entry : Entry). entry.cpu < shape.cpus) (end.logs lock)) on);
           one_each = length-map-range_with_len (λ p. start_of shape (before p)) 0 (phase_count cuts);
           first = ap (λ (l : List ℕ). Some (record { ticket = 0; marked = l })) (none_kept (range_with_len 0 shape.elements));
+          starts_rise = starts_from 0 (phase_count cuts) 0 (omega arith);
           in_phases = All-map (λ (history : LockHistory). All (IsInItsPhase cuts phases) history.entries) (λ lock. record { lock = lock; entries = end.logs lock }) (locks_of shape)
               (all_of (locks_of shape) (λ lock. All (IsInItsPhase cuts phases) (end.logs lock)) all_in_phases);
           strand_of = λ p cpu. p;

@@ -9,6 +9,7 @@ use Rattle.map_types.specs.declared.kind.DomainId.TheVariants.{Local, Global, Bu
 use Rattle.map_types.specs.declared.kind.MapKind.TheVariants.{LruHash}
 use Rattle.map_types.specs.declared.kind.Side.TheVariants.{Prog}
 use Rattle.map_script.specs.declared.script.Script.{Script}
+use Rattle.map_script.specs.WellFormed.{AreCuts}
 use Rattle.key_hash.specs.Jhash.{hash, absorb, start, add_block, mix, finish, finish_a, finish_b, finish_c, mix_a, mix_b, mix_c}
 use Rattle.key_hash.specs.Bucket.{bucket_number}
 use Rattle.place_words.specs.declared.history.StrandStep.{StrandStep}
@@ -116,3 +117,11 @@ unfolding cuts
 too_early in_phase =
     let start : in_phase.start.ticket ≡ 3 = sym (ap (λ (found : Option PhaseStart). unwrap_or (option_map (λ (s : PhaseStart). s.ticket) found) 3) in_phase.start_is) in
     omega (arith, start, in_phase.from)
+
+-- Nor does a start fall: where the second phase starts at ticket 3, a third one can't start at 0, not even if the second has no entries.
+start_falls : (entries : ℕ) → AreCuts 0 entries (0 ∷ 3 ∷ 0 ∷ []) → ⊥
+start_falls entries rise = omega (arith, rise.2.2.0)
+
+-- And none is above the number of entries.
+start_is_past : AreCuts 0 12 (0 ∷ 13 ∷ []) → ⊥
+start_is_past rise = omega (arith, rise.2.1)

@@ -16,6 +16,7 @@ use Rattle.map_types.specs.declared.reply.Reply.TheVariants.{Done, Value, Refuse
 use Rattle.map_types.specs.declared.kind.DomainId.{DomainId}
 use Rattle.map_types.specs.declared.kind.DomainId.TheVariants.{Local, Global, CpuLru, Bucket, Freelist}
 use Rattle.map_script.specs.declared.script.Script.{Script}
+use Rattle.map_script.specs.WellFormed.{AreCuts}
 use Rattle.place_words.specs.declared.finals.Finals.{Finals}
 use Rattle.place_words.specs.declared.finals.LocalFinal.{LocalFinal}
 use Rattle.place_words.specs.declared.finals.SetFinal.{SetFinal}
@@ -32,7 +33,7 @@ use Rattle.place_words.specs.Named.{NameAll}
 pub use Rattle.place_words.specs.Named.{entries_of}
 use Rattle.place_words.specs.Traces.{IsTrace}
 use Rattle.place_words.specs.Phases.{phase_of, phase_count, calls_before, of_phase}
-use Rattle.place_words.specs.Tickets.{AreTicketed}
+use Rattle.place_words.specs.Tickets.{all_entries, AreTicketed}
 use Rattle.place_words.specs.Turns.{TurnAt}
 use Rattle.place_words.specs.Walks.{spare_left}
 use Rattle.map_report.specs.declared.record.PhaseStart.{PhaseStart}
@@ -222,9 +223,11 @@ pub record IsRecord (script : Script) (kept : RunRecord) : Type 0 where
   pub locks : map (λ (history : LockHistory). history.lock) kept.histories ≡ locks_of script.shape
   pub legal : All (λ (history : LockHistory). IsLegal script.shape history.lock history.entries) kept.histories
   pub on_cpus : All (λ (history : LockHistory). All (λ (entry : Entry). entry.cpu < script.shape.cpus) history.entries) kept.histories
-  -- each phase has one start, and the first starts with nothing drawn and nothing marked; each entry is in the phase of its call
+  -- each phase has one start, and the first starts with nothing drawn and nothing marked; the tickets of the starts never fall, as
+  -- cuts don't, and none is above the number of entries; each entry is in the phase of its call
   pub one_each : length kept.phases ≡ phase_count script.cuts
   pub first : slice_get kept.phases 0 ≡ Some (record { ticket = 0; marked = [] })
+  pub starts_rise : AreCuts 0 (length (all_entries kept.histories)) (map (λ (start : PhaseStart). start.ticket) kept.phases)
   pub in_phases : All (λ (history : LockHistory). All (IsInItsPhase script.cuts kept.phases) history.entries) kept.histories
   -- in each phase each CPU is in one strand, which is of that phase
   pub strand_of : ℕ → ℕ → ℕ

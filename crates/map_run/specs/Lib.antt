@@ -1,3 +1,4 @@
 pub mod Finish
+pub mod Judged
 pub mod Refusals
 pub mod Workers

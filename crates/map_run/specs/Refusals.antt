@@ -15,6 +15,7 @@ use Rattle.run_endings.specs.Finish.{Finishes, HasCause}
 use Rattle.place_table.specs.Closing.{ClosedView}
 use Rattle.run_records.specs.Copies.{IsCopyOf}
 use Rattle.map_run.specs.Finish.{RanAs}
+use Rattle.record_check.specs.Said.{IsSaid}
 use Rattle.run_records.specs.Parts.{lone_cpu}
 use Rattle.run_records.specs.Races.{IsRaceRecord, RanByMany, RanCalls, calls_of}
 
@@ -23,7 +24,7 @@ use Rattle.run_records.specs.Races.{IsRaceRecord, RanByMany, RanCalls, calls_of}
 abbrev pub KeptFromATable : Type 0
 KeptFromATable =
     (words : List (List ℕ)) (left rest : Option (List ℕ)) (read_faults read_then : ℕ) (before after : Option Written) (write_faults written_then : ℕ) (finish : Finish ClosedView) → finish.kept ≢ None → finish.closed ≡ None
-    → ¬ Finishes IsCopyOf (HasCause RanAs words left rest (Rose read_faults read_then)) before after (Rose write_faults written_then) finish
+    → ¬ Finishes IsCopyOf (HasCause RanAs IsSaid words left rest (Rose read_faults read_then)) before after (Rose write_faults written_then) finish
 
 -- what workers tell of calls isn't what is told of calls that are all of one CPU
 abbrev pub LoneCallsByOne : Type 0

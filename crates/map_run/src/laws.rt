@@ -1,5 +1,6 @@
-//! What the contracts of runs refuse, as clauses of a function that does nothing.
+//! What the contracts of runs refuse, and what they tell of judged reports, as clauses of functions that do nothing.
 
+ghost use Rattle.map_run.specs.Judged.{EndsWithYes};
 ghost use Rattle.map_run.specs.Refusals.{KeptFromATable, LoneCallsByOne, LonePhaseIsWhole};
 
 /// No run may end with a record that no closed table stands behind, as one that is computed. No phase whose calls are all of one
@@ -9,4 +10,10 @@ pub fn refused_laws()
     ensures kept { KeptFromATable }
     ensures calls { LoneCallsByOne }
     ensures phases { LonePhaseIsWhole }
+{}
+
+/// In mode `check` the program ends with status 0 only where `yes` was written, and the report is that of a run of the script that
+/// stands before it. Nothing is kept.
+pub fn check_law()
+    ensures { EndsWithYes }
 {}

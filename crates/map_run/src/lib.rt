@@ -1,4 +1,4 @@
-//! Runs scripts of calls on maps, and prints what they answered.
+//! Runs scripts of calls on maps, and prints what they answered; and judges what is printed of such runs.
 #![tactic(auto)]
 
 mod batch_calls;
@@ -15,7 +15,7 @@ mod worker;
 
 pub use finish::bpfmap;
 pub use hold_gate::{Hold, HoldGate};
-pub use laws::refused_laws;
+pub use laws::{check_law, refused_laws};
 pub use map_report::{Finals, Kept, LocalFinal, Options, RunRecord, SetFinal};
 pub use race::run_race;
 pub use record::Finish;

@@ -1,44 +1,9 @@
-pub mod AnswerLaws
-pub mod AnyLaws
-pub mod AnyLemmas
-pub mod AscendLemmas
-pub mod BucketLaws
-pub mod CommaLemmas
-pub mod DecodeLemmas
-pub mod DumpLaws
-pub mod DumpSections
-pub mod ExampleReports
-pub mod FinalsLaws
-pub mod HexLemmas
-pub mod HistoryLaws
-pub mod HistoryLemmas
 pub mod Laws
-pub mod LeafLemmas
-pub mod LineLaws
-pub mod LineLemmas
-pub mod ListLaws
-pub mod LocksLaws
-pub mod LoopLemmas
-pub mod MadeLaws
-pub mod NameLemmas
-pub mod NextLine
-pub mod PaddedLemmas
-pub mod PairsLemmas
-pub mod PrintedLines
-pub mod ReadLaws
-pub mod RecordCases
-pub mod RecordLaws
-pub mod ReplyLaws
-pub mod ReplyLemmas
-pub mod SectionLaws
-pub mod StoredLemmas
-pub mod StrandLaws
-pub mod StrandLemmas
-pub mod StrandsLaws
-pub mod Suits
-pub mod TextLinesLaws
-pub mod TimesLemmas
-pub mod ToEndLaws
-pub mod ToEndLemmas
-pub mod WholeLaws
-pub mod WorkedCases
+mod Flushing
+mod Loops
+mod OfCalls
+mod OneVerdict
+mod TakenOut
+mod Told
+mod VerdictLaws
+mod Verdicts

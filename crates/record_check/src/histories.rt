@@ -1,135 +1,72 @@
-//! What happened under each lock.
+//! All histories of a record, replayed.
 
-ghost use Rattle.std.specs.Prelude.{◌≡◌, ◌≤◌, IfOk, length};
+ghost use Rattle.std.specs.Prelude.{◌≡◌, ℕ, IfOk, MatchResult};
 ghost use Rattle.map_types.specs.Creation.{IsShape};
-ghost use Rattle.place_words.specs.Locks.{lock_count};
-ghost use Rattle.record_check.specs.LineReaders.{entry};
-ghost use Rattle.record_check.specs.Outcomes.{Reads, entries_due, head_of};
-ghost use Rattle.record_check.specs.Readers.{whole};
-ghost use Rattle.record_check.specs.RecordReaders.{histories_section};
-ghost use Rattle.record_check.specs.Sections.{one_line, so_many};
+ghost use Rattle.place_words.specs.declared.history.LockHistory.{LockHistory};
+ghost use Rattle.record_shape.specs.Fits.{AllFit};
+ghost use Rattle.record_shape.specs.WellShaped.{HistoryFits};
+ghost use Rattle.replay_words.specs.Replays.{IsFirstFlaw};
+ghost use Rattle.record_check.specs.Replayed.{LockReplays, Replays, StopsIn, StopsAtLock};
 
-use crate::history::{entry_line, is_same_lock, lock_head};
-use crate::lines::Lines;
-use map_script::Script;
-use map_types::{DomainId, List, NoMemory, Shape};
-use place_words::{Entry, LockHistory, is_lock, lock_named};
+use crate::lock::{ReplayedLock, replay_lock};
+use crate::stop::HistoryStop;
+use map_report::RunRecord;
+use map_types::{List, Shape};
+use place_words::{Finals, LockHistory};
+use replay_words::{Note, ReplayStop};
 use std::alloc::Global;
 
-/// An entry of a lock.
-#[tactic(auto, using(crate::proofs::LineLemmas::line_found, crate::proofs::LineLemmas::line_other, crate::proofs::LineLemmas::line_missing))]
-fn read_entry(
+/// What the histories of a record lead to.
+#[derive(Drop)]
+pub struct Replayed {
+    /// Whether the finals tell what they lead to.
+    pub told: bool,
+    /// What is noted of their turns, history by history.
+    pub notes: List<List<Note>>,
+}
+
+/// Replays the histories of a record that is well shaped, in the order of the locks: whether its finals tell what they lead to, and
+/// what is noted of their turns, or the first turn that isn't allowed. What lies under a lock is dropped before the next one is replayed.
+pub fn replay_histories(
     alloc: Global,
     shape: &Shape,
-    calls: u32,
-    lock: DomainId,
-    lines: &mut Lines,
-) -> Result<Option<Entry>, NoMemory>
+    kept: &RunRecord,
+) -> Result<Replayed, HistoryStop>
     requires shape { IsShape shape.now }
-    requires calls { calls ≤ 200000 }
-    ensures lines { IfOk result (Reads (one_line (whole (entry shape.now calls lock)))
-        lines.old.0 lines.new.0) }
-    ensures rest { lines.new.1 ≡ lines.old.1 }
+    requires shaped { (calls : ℕ) × AllFit (HistoryFits shape.now calls) kept.now.histories }
+    ensures { MatchResult result (Replays shape.now kept.now) (StopsIn shape.now kept.now.histories) }
 {
-    let Some(line) = lines.first() else {
-        return Ok(None);
-    };
-    let Some(entry) = entry_line(alloc, shape, calls, lock, line)? else {
-        return Ok(None);
-    };
-    lines.pass();
-    Ok(Some(entry))
+    let histories = kept.histories.as_slice();
+    let mut told = true;
+    let mut notes = List::of(Vec::new(alloc));
+    for i in 0..histories.len() {
+        let replayed = replay_at(alloc, shape, &kept.finals, i, &histories[i])?;
+        told = told && replayed.told;
+        notes.push(replayed.notes)?;
+    }
+    Ok(Replayed { told, notes })
 }
 
-/// So many entries of a lock. The text says how many there are to be, so no room is made for them before they are read.
-#[tactic(auto, using(crate::proofs::LoopLemmas::many_more, crate::proofs::LoopLemmas::many_none, crate::proofs::LoopLemmas::many_done))]
-fn read_entries(
+/// Replays the history of a number.
+fn replay_at(
     alloc: Global,
     shape: &Shape,
-    calls: u32,
-    lock: DomainId,
-    count: u64,
-    lines: &mut Lines,
-) -> Result<Option<List<Entry>>, NoMemory>
+    finals: &Finals,
+    number: usize,
+    history: &LockHistory,
+) -> Result<ReplayedLock, HistoryStop>
     requires shape { IsShape shape.now }
-    requires calls { calls ≤ 200000 }
-    ensures lines { IfOk result (Reads (so_many count (one_line (whole (entry shape.now calls lock))))
-        lines.old.0 lines.new.0) }
-    ensures rest { lines.new.1 ≡ lines.old.1 }
+    requires fits { (calls : ℕ) × HistoryFits shape.now calls history.now }
+    ensures { MatchResult result
+        (LockReplays shape.now finals.now history.now.lock history.now.entries)
+        (StopsAtLock shape.now history.now number) }
 {
-    let mut entries = List::of(Vec::new(alloc));
-    for place in 0..count {
-        let Some(entry) = read_entry(alloc, shape, calls, lock, lines)? else {
-            return Ok(None);
-        };
-        entries.push(entry)?;
+    match replay_lock(alloc, shape, finals, history) {
+        Ok(replayed) => Ok(replayed),
+        Err(ReplayStop::NotAllowed { index }) => Err(HistoryStop::NotAllowed {
+            history: number,
+            index,
+        }),
+        Err(ReplayStop::NoMemory) => Err(HistoryStop::NoMemory),
     }
-    Ok(Some(entries))
-}
-
-/// The head of the next history, if the first line is one.
-fn next_head(shape: &Shape, lines: &Lines) -> Option<(DomainId, u64)>
-    ensures { result ≡ head_of shape.now lines.now.0 }
-{
-    match lines.first() {
-        Some(line) => lock_head(shape, line),
-        None => None,
-    }
-}
-
-/// How many entries of a lock follow on a head.
-fn entries_due(calls: u32, lock: DomainId, head: Option<(DomainId, u64)>) -> Option<u64>
-    ensures { result ≡ entries_due calls lock head }
-{
-    let (found, count) = head?;
-    if is_same_lock(found, lock) && count >= 1 && calls >= 1 {
-        Some(count)
-    } else {
-        None
-    }
-}
-
-/// How many locks are numbered.
-fn count_locks(shape: &Shape) -> u32
-    requires { IsShape shape.now }
-    ensures { result ≡ lock_count shape.now }
-{
-    3 * shape.cpus + 1 + shape.buckets
-}
-
-/// The history of each lock of the map, in the order of the locks. One without an entry has no line.
-pub(crate) fn read_histories(
-    alloc: Global,
-    script: &Script,
-    lines: &mut Lines,
-) -> Result<Option<List<LockHistory>>, NoMemory>
-    requires shape { IsShape script.now.shape }
-    requires few { length script.now.calls ≤ 200000 }
-    ensures lines { IfOk result (Reads (histories_section script.now) lines.old.0 lines.new.0) }
-    ensures rest { lines.new.1 ≡ lines.old.1 }
-{
-    let shape = &script.shape;
-    let calls = script.calls.len() as u32;
-    let mut histories = List::of(Vec::new(alloc));
-    let mut head = next_head(shape, lines);
-    for number in 0..count_locks(shape) {
-        let lock = lock_named(shape, number);
-        if !is_lock(shape, lock) {
-            continue;
-        }
-        let Some(count) = entries_due(calls, lock, head) else {
-            histories.push(LockHistory {
-                lock,
-                entries: List::of(Vec::new(alloc)),
-            })?;
-            continue;
-        };
-        lines.pass();
-        let Some(entries) = read_entries(alloc, shape, calls, lock, count, lines)? else {
-            return Ok(None);
-        };
-        histories.push(LockHistory { lock, entries })?;
-        head = next_head(shape, lines);
-    }
-    Ok(Some(histories))
 }

@@ -1,35 +1,17 @@
-//! A report is read back into the record that it tells.
+//! Reports are judged: whether the record that a report tells is one of a run, and where it isn't, what is wrong with it first.
 #![tactic(auto)]
 
-mod bucket_part;
+mod chains;
+mod check;
 mod claims;
-mod dump_lines;
-mod finals;
-mod free_part;
-mod head_lines;
-mod hexadecimal;
 mod histories;
-mod history;
-mod lines;
-mod list_part;
-mod lock_names;
-mod many;
-mod numbers;
-mod pairs;
-mod record;
-mod refusal;
-mod replies;
-mod reply;
-mod sections;
-mod starts;
-mod strand_lines;
-mod strands;
-mod text_lines;
-mod to_end;
-mod values;
-mod visits;
-mod words;
+mod lock;
+mod reports;
+mod stop;
 
-pub use claims::reading_laws;
-pub use record::read_record;
-pub use refusal::RecordRefusal;
+pub use check::check_record;
+pub use claims::{history_laws, verdict_laws};
+pub use histories::{Replayed, replay_histories};
+pub use record_reading::{RecordRefusal, read_record};
+pub use reports::judge;
+pub use stop::HistoryStop;

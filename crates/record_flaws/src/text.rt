@@ -1,13 +1,36 @@
-//! What is written of a verdict.
+//! What is written of a verdict, and of a report.
 
 ghost use Rattle.std.specs.Prelude.{◌≡◌, ◌++◌, ℕ, IfOk, OnOk, codes, string_bytes};
 ghost use Rattle.map_report.specs.Words.{lock_name, number_text};
-ghost use Rattle.record_flaws.specs.FlawText.{flaw_text, verdict_text};
+ghost use Rattle.record_flaws.specs.FlawText.{flaw_text, said_text, verdict_text};
 
-use crate::{Flaw, Verdict};
+use crate::{Flaw, Said, Verdict};
 use map_types::{DomainId, NoMemory};
 use std::alloc::{AllocError, Global};
 use std::fmt::Write;
+
+/// The line of what is said of a report: that of its record's verdict, or `bpfmap: record line N` where no record has it. Only
+/// want of memory is refused.
+pub fn said_text(alloc: Global, said: Said) -> Result<String, NoMemory>
+    ensures { IfOk result (λ text. string_bytes text ≡ said_text said) }
+{
+    match said {
+        Said::Unread { line } => unread_text(alloc, line),
+        Said::Judged(verdict) => verdict_text(alloc, verdict),
+    }
+}
+
+/// The line of a report that no record has, by its line at fault.
+fn unread_text(alloc: Global, line: u32) -> Result<String, NoMemory>
+    ensures { IfOk result (λ text. string_bytes text
+        ≡ codes "bpfmap: record line" ++ number_text line ++ codes "\n") }
+{
+    let mut text = String::new(alloc);
+    text.push_str("bpfmap: record line")?;
+    push_number(&mut text, line as u64)?;
+    text.push_str("\n")?;
+    Ok(text)
+}
 
 /// The line of a verdict: `yes`, or `bpfmap: no FLAW` with the flaw's name and its place. Only want of memory is refused.
 pub fn verdict_text(alloc: Global, verdict: Verdict) -> Result<String, NoMemory>

@@ -1,4 +1,5 @@
 pub mod Least
+pub mod Starts
 pub mod PhaseLaws
 pub mod CpuLists
 pub mod StrandLaws

@@ -10,7 +10,6 @@ use Rattle.place_words.specs.Named.{entries_of}
 use Rattle.place_words.specs.Real.{IsAlwaysReal}
 use Rattle.place_words.specs.Tickets.{all_entries}
 use Rattle.map_script.specs.declared.script.Script.{Script}
-use Rattle.map_report.specs.declared.record.PhaseStart.{PhaseStart}
 use Rattle.map_report.specs.declared.record.RunRecord.{RunRecord}
 use Rattle.map_types.specs.declared.call.Verb.TheVariants as verbs
 
@@ -39,6 +38,5 @@ pub record IsOfTable (script : Script) (kept : RunRecord) : Type 0 where
   pub unmarked : is_lru script.shape.kind ≡ false → kept.finals.marked ≡ []
   -- there are fewer than 2^64 entries in all; so tickets, places and lengths are numbers of 64 bits
   pub counted : length (all_entries kept.histories) < 2 ^ 64
-  -- no phase starts above the number of entries, and strands stand in the order of their phases
-  pub starts : All (λ (start : PhaseStart). start.ticket ≤ length (all_entries kept.histories)) kept.phases
+  -- strands stand in the order of their phases
   pub in_order : NeverFall 0 kept.strands

@@ -1,6 +1,6 @@
 -- How a run begins, or ends before its script runs: from what is read to the source, and from the source to the words.
-use Rattle.std.proofs.Common.{◌≡◌, ℕ, List, Option, Result, Ok, Err, refl, subst, arith}
-use Rattle.std.specs.Prelude.{IfErr, IfOk, IsTrue}
+use Rattle.std.proofs.Common.{◌≡◌, ℕ, Bool, false, List, Option, Result, Ok, Err, refl, sym, subst, arith}
+use Rattle.std.specs.Prelude.{IfErr, IfOk, IsTrue, MatchBool}
 use Rattle.map_script.specs.declared.refusal.ScriptRefusal.{ScriptRefusal}
 use Rattle.map_script.specs.declared.script.Script.{Script}
 use Rattle.map_script.specs.Reading.{IsReading}
@@ -9,11 +9,12 @@ use Rattle.run_ends.specs.Writes.{Written}
 use Rattle.run_ends.proofs.Io.{TakesFront-all}
 use Rattle.run_words.specs.declared.words.Asked.{Asked}
 use Rattle.run_words.specs.declared.words.Mode.{Mode}
-use Rattle.run_words.specs.declared.words.Mode.TheVariants.{Serial, Race, Gen, Compare}
+use Rattle.run_words.specs.declared.words.Mode.TheVariants.{Serial, Race, Gen, Compare, Check}
 use Rattle.run_words.specs.Words.{are_words, asked_of, mode_of, options_of}
 use Rattle.run_endings.specs.declared.finish.Due.{Due}
-use Rattle.run_endings.specs.Finish.{Ending, BadWords, ReadFault, TooLong, Faulty, Refused, Unfit, OutOfMemory, Ran, HasCause, HasInput, HasSource, IsInput, script_run}
-use Rattle.run_endings.specs.Runs.{strictly_run, NeverRan, EndsEarly, IsDue, IsDueOf}
+use Rattle.run_endings.specs.declared.finish.Task.{Task}
+use Rattle.run_endings.specs.Finish.{Ending, BadWords, ReadFault, TooLong, Faulty, Refused, Unfit, OutOfMemory, Ran, Undivided, Told, HasCause, HasReport, HasScript, HasSource, IsInput, judges, script_run}
+use Rattle.run_endings.specs.Runs.{strictly_run, NeverRan, NeverSaid, EndsEarly, IsDueOf, IsTask, IsTaskOf}
 
 -- What was read, by what was returned of it
 
@@ -32,6 +33,7 @@ strict_of_run Serial script = refl
 strict_of_run Race script = refl
 strict_of_run Gen script = refl
 strict_of_run Compare script = refl
+strict_of_run Check script = refl
 
 -- From an input to its source
 
@@ -39,18 +41,23 @@ strict_of_run Compare script = refl
 pub up_to_input : (before after : Option (List ℕ)) (input : List ℕ) → IsInput before after input → TakesUpTo 16777217 before after
 up_to_input before after input is = (input, TakesFront-all before after input is.all, omega (arith, is.short))
 
-module _ (asked : Asked) (before after : Option (List ℕ)) (rose : Type 0) (input : List ℕ) (is : IsInput before after input) where
-  of_input : (ending : Ending) → HasInput NeverRan asked input ending → HasSource NeverRan asked before after rose ending
+module _ (asked : Asked) (runs : judges asked.mode ≡ false) (before after : Option (List ℕ)) (rose : Type 0) (input : List ℕ) (is : IsInput before after input) where
+  whole : (ending : Ending) → HasScript NeverRan asked input ending → MatchBool (judges asked.mode) (HasReport NeverSaid input ending) (HasScript NeverRan asked input ending)
+  whole ending cause = subst (λ (b : Bool). MatchBool b (HasReport NeverSaid input ending) (HasScript NeverRan asked input ending)) (sym runs) cause
+
+  of_input : (ending : Ending) → HasScript NeverRan asked input ending → HasSource NeverRan NeverSaid asked before after rose ending
   of_input BadWords cause = absurd cause
   of_input ReadFault cause = absurd cause
   of_input TooLong cause = absurd cause
-  of_input (Faulty line why) cause = (input, is, cause)
-  of_input (Refused why) cause = (input, is, cause)
-  of_input (Unfit why) cause = (input, is, cause)
+  of_input (Faulty line why) cause = (input, is, whole (Faulty line why) cause)
+  of_input (Refused why) cause = (input, is, whole (Refused why) cause)
+  of_input (Unfit why) cause = (input, is, whole (Unfit why) cause)
   of_input OutOfMemory cause = up_to_input before after input is
-  of_input (Ran was_asked script kept) cause = (input, is, cause)
+  of_input (Ran was_asked script kept) cause = (input, is, whole (Ran was_asked script kept) cause)
+  of_input Undivided cause = absurd cause
+  of_input (Told said) cause = absurd cause
 
-  pub err_by_input : (result : Result Due ℕ) (written now : Option Written) (wrote : Type 0) → IfErr result (EndsEarly (HasInput NeverRan asked input) written now wrote) → IfErr result (EndsEarly (HasSource NeverRan asked before after rose) written now wrote)
+  pub err_by_input : (result : Result Due ℕ) (written now : Option Written) (wrote : Type 0) → IfErr result (EndsEarly (HasScript NeverRan asked input) written now wrote) → IfErr result (EndsEarly (HasSource NeverRan NeverSaid asked before after rose) written now wrote)
   err_by_input (Ok due) written now wrote early = tt
   err_by_input (Err status) written now wrote early = record {
     ending = early.ending;
@@ -69,7 +76,7 @@ pub same_asked : (words : List (List ℕ)) (asked : Asked) → asked.options ≡
 same_asked words asked options mode = λ i. record { mode = mode i; options = options i }
 
 module _ (words : List (List ℕ)) (good : IsTrue (are_words words)) (asked : Asked) (is : asked ≡ asked_of words) (before after : Option (List ℕ)) where
-  of_source : (rose : Type 0) (ending : Ending) → HasSource NeverRan (asked_of words) before after rose ending → HasCause NeverRan words before after rose ending
+  of_source : (rose : Type 0) (ending : Ending) → HasSource NeverRan NeverSaid (asked_of words) before after rose ending → HasCause NeverRan NeverSaid words before after rose ending
   of_source rose BadWords cause = absurd cause
   of_source rose ReadFault cause = (good, cause)
   of_source rose TooLong cause = (good, cause)
@@ -78,14 +85,17 @@ module _ (words : List (List ℕ)) (good : IsTrue (are_words words)) (asked : As
   of_source rose (Unfit why) cause = (good, cause)
   of_source rose OutOfMemory cause = cause
   of_source rose (Ran was_asked script kept) cause = (good, cause)
+  of_source rose Undivided cause = (good, cause)
+  of_source rose (Told said) cause = (good, cause)
 
-  pub err_by_source : (rose : Type 0) (result : Result Due ℕ) (written now : Option Written) (wrote : Type 0) → IfErr result (EndsEarly (HasSource NeverRan asked before after rose) written now wrote) → IfErr result (EndsEarly (HasCause NeverRan words before after rose) written now wrote)
-  err_by_source rose (Ok due) written now wrote early = tt
+  pub err_by_source : (rose : Type 0) (result : Result Task ℕ) (written now : Option Written) (wrote : Type 0) → IfErr result (EndsEarly (HasSource NeverRan NeverSaid asked before after rose) written now wrote)
+      → IfErr result (EndsEarly (HasCause NeverRan NeverSaid words before after rose) written now wrote)
+  err_by_source rose (Ok task) written now wrote early = tt
   err_by_source rose (Err status) written now wrote early =
-      let so : EndsEarly (HasSource NeverRan (asked_of words) before after rose) written now wrote status =
-      subst (λ (a : Asked). EndsEarly (HasSource NeverRan a before after rose) written now wrote status) is early in
+      let so : EndsEarly (HasSource NeverRan NeverSaid (asked_of words) before after rose) written now wrote status =
+      subst (λ (a : Asked). EndsEarly (HasSource NeverRan NeverSaid a before after rose) written now wrote status) is early in
       record { ending = so.ending; cause = of_source rose so.ending so.cause; none = so.none; delivered = so.delivered }
 
-  pub ok_by_source : (result : Result Due ℕ) → IfOk result (λ due. (input : List ℕ) × IsInput before after input × IsDueOf asked input due) → IfOk result (IsDue words before after)
-  ok_by_source (Ok due) of = (good, (of.0, of.1, subst (λ (a : Asked). IsDueOf a of.0 due) is of.2))
+  pub ok_by_source : (result : Result Task ℕ) → IfOk result (IsTaskOf asked before after) → IfOk result (IsTask words before after)
+  ok_by_source (Ok task) of = (good, subst (λ (a : Asked). IsTaskOf a before after task) is of)
   ok_by_source (Err status) of = tt

@@ -1,5 +1,5 @@
 -- What is written of a run in mode `compare`.
-use Rattle.std.proofs.Common.{◌≡◌, ◌∙◌, ◌&&◌, ◌||◌, not, sym, refl, ap, ap₂, ℕ, Bool, true, false, List}
+use Rattle.std.proofs.Common.{◌≡◌, ◌∙◌, ◌&&◌, ◌||◌, not, sym, refl, ap, ap₂, Bool, true, false}
 use Rattle.std.specs.Prelude.{if◌then◌else◌}
 use Rattle.map_report.specs.Json.{json}
 use Rattle.run_words.specs.declared.words.Mode.{Mode}

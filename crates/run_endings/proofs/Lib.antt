@@ -1,4 +1,6 @@
+pub mod Dividing
 pub mod FewEntries
+pub mod Reports
 pub mod Statuses
 pub mod Endings
 pub mod Beginnings

@@ -1,3 +1,4 @@
+pub mod Divided
 pub mod Finish
 pub mod Runs
 pub mod Comparisons

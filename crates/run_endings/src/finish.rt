@@ -1,10 +1,10 @@
-//! How a run of the program begins and ends: from the words and the input to the script that is to be run, and from what is
-//! kept of its run to what is written.
+//! How a run of the program begins and ends: from the words and the input to the script that is to be run or the report that is
+//! to be judged, and from what is kept of a run to what is written.
 
 ghost use Rattle.std.specs.Prelude.{◌≡◌, ◌≤◌, ◌++◌, ℕ, List, None, Some, false, length, map, codes, decimal, IfOk, IfErr, IsOk, OnOk, string_bytes};
 ghost use Rattle.run_words.specs.declared.words.Asked.{Asked};
-ghost use Rattle.run_endings.specs.Finish.{form_of, kept_in, lines_of, out, refusal_name, script_run, unfit, unfit_name, HasCause, HasInput, HasSource, IsDelivered, IsInput, WasRead};
-ghost use Rattle.run_endings.specs.Runs.{strictly_run, EndsEarly, EndsRun, EndsOutOfMemory, IsDue, IsDueOf, IsStrictlyRun, IsUnfit, NeverRan};
+ghost use Rattle.run_endings.specs.Finish.{form_of, judges, kept_in, lines_of, out, refusal_name, script_run, unfit, unfit_name, HasCause, HasScript, HasSource, IsDelivered, IsInput, WasRead};
+ghost use Rattle.run_endings.specs.Runs.{strictly_run, EndsEarly, EndsRun, EndsOutOfMemory, IsDueOf, IsReady, IsStrictlyRun, IsTask, IsTaskOf, IsUnfit, NeverRan, NeverSaid};
 ghost use Rattle.lru_compare.specs.Comparison.{comparison};
 ghost use Rattle.lru_compare.specs.Run.{strict};
 ghost use Rattle.map_script.specs.CauseName.{cause_name};
@@ -14,6 +14,7 @@ ghost use Rattle.serial_laws.specs.Served.{IsScript};
 ghost use Rattle.run_words.specs.Words.{are_words};
 
 use crate::Finish;
+use crate::judging::{Claim, begin_with_report};
 use lru_compare::{StrictOut, StrictRefusal, comparison_of, strict_run};
 use map_report::{RunRecord, json_of, summary_of, text_of};
 use map_script::{Cause, Form, Script, ScriptRefusal};
@@ -36,23 +37,31 @@ pub struct Due {
     pub strict: Option<StrictOut>,
 }
 
-/// Looks at the words of the program and reads a script to its end. Where no script is to be run, it writes the line that is due
-/// and answers the status with which the program ends: that of the line, or 4 where a write failed. At most 16,777,217 bytes are
-/// read, whatever comes of it.
+/// What words and an input ask for.
+#[derive(Drop)]
+pub enum Task {
+    /// A script is to be run.
+    Run(Due),
+    /// A report is to be judged.
+    Judge(Claim),
+}
+
+/// Looks at the words of the program and reads a script, and in mode `check` a report, to its end. Where no script is to be run
+/// and no report to be judged, it writes the line that is due and answers the status with which the program ends: that of the line,
+/// or 4 where a write failed. At most 16,777,217 bytes are read, whatever comes of it.
 pub fn begin<S: Source, K: Sink>(
     alloc: Global,
     words: &[String],
     source: &mut S,
     sink: &mut K,
-) -> Result<Due, u8>
-    // A script is to be run exactly as the words and the input have it.
-    ensures due { IfOk result (IsDue (map string_bytes words.now) (S.left source.old) (S.left source.new)) }
-    ensures script { IfOk result (λ due. IsScript due.script) }
-    ensures strict { IfOk result (λ due. due.strict ≡ strictly_run due.asked.mode due.script) }
+) -> Result<Task, u8>
+    // A script is to be run, or a report to be judged, exactly as the words and the input have it.
+    ensures task { IfOk result (IsTask (map string_bytes words.now) (S.left source.old) (S.left source.new)) }
+    ensures ready { IfOk result IsReady }
     ensures unwritten { IsOk result → sink.new ≡ sink.old }
 
     // Else the run has ended with a cause, and its line was delivered.
-    ensures early { IfErr result (EndsEarly (HasCause NeverRan (map string_bytes words.now)
+    ensures early { IfErr result (EndsEarly (HasCause NeverRan NeverSaid (map string_bytes words.now)
         (S.left source.old) (S.left source.new)
         (Rose (S.faults source.old) (S.faults source.new))) (K.written sink.old)
         (K.written sink.new)
@@ -62,7 +71,7 @@ pub fn begin<S: Source, K: Sink>(
     ensures unread { are_words (map string_bytes words.now) ≡ false → source.new ≡ source.old }
 {
     match asked_of(alloc, words) {
-        Ok(asked) => begin_with_source(alloc, asked, source, sink),
+        Ok(asked) => begin_asked(alloc, asked, source, sink),
         Err(WordsStop::Other) => Err(end_with_line(sink, 2, b"bpfmap: words\n")),
         Err(WordsStop::NoMemory) => Err(end_with_line(sink, 5, b"bpfmap: memory\n")),
     }
@@ -100,19 +109,19 @@ impl Due {
     }
 }
 
-/// What is kept of a run in a mode: its record and what its map left, but nothing of a comparison.
+/// What is kept of a run in a mode: its record and what its map left, but nothing of a comparison, and nothing where none is run.
 fn kept_in<C: Drop>(mode: Mode, kept: RunRecord, closed: C) -> (Option<RunRecord>, Option<C>)
     ensures kept { result.0 ≡ kept_in mode kept }
     ensures closed { result.1 ≡ kept_in mode closed }
 {
     match mode {
         Mode::Serial | Mode::Race | Mode::Gen => (Some(kept), Some(closed)),
-        Mode::Compare => (None, None),
+        Mode::Compare | Mode::Check => (None, None),
     }
 }
 
 /// Ends a run for which memory was not found.
-fn out_of_memory<C, K: Sink>(sink: &mut K) -> Finish<C>
+pub(crate) fn out_of_memory<C, K: Sink>(sink: &mut K) -> Finish<C>
     ensures { EndsOutOfMemory (K.written sink.old) (K.written sink.new)
         (Rose (K.faults sink.old) (K.faults sink.new)) result }
 {
@@ -124,7 +133,7 @@ fn out_of_memory<C, K: Sink>(sink: &mut K) -> Finish<C>
 }
 
 /// Ends a run with a line, and answers its status.
-fn end_with_line<K: Sink>(sink: &mut K, status: u8, line: &[u8]) -> u8
+pub(crate) fn end_with_line<K: Sink>(sink: &mut K, status: u8, line: &[u8]) -> u8
     ensures { IsDelivered status line.now result (K.written sink.old) (K.written sink.new)
         (Rose (K.faults sink.old) (K.faults sink.new)) }
 {
@@ -168,6 +177,7 @@ fn lines_in(
         Mode::Serial | Mode::Race => text_of(alloc, script, kept, asked.options),
         Mode::Gen => summary_of(alloc, script, kept, asked.options),
         Mode::Compare => comparison_in(alloc, script, kept, strictly),
+        Mode::Check => Ok(Vec::new(alloc)),
     }
 }
 
@@ -195,7 +205,7 @@ fn script_due(alloc: Global, mode: Mode, script: Script) -> Result<Script, NoMem
     ensures script { IfOk result (λ due. IsScript due) }
 {
     match mode {
-        Mode::Serial | Mode::Race | Mode::Compare => Ok(script),
+        Mode::Serial | Mode::Race | Mode::Compare | Mode::Check => Ok(script),
         Mode::Gen => {
             let generated = generate(alloc, &script)?;
             Ok(generated)
@@ -213,7 +223,7 @@ fn run_strictly(
     ensures { IsStrictlyRun mode script.now result }
 {
     match mode {
-        Mode::Serial | Mode::Race | Mode::Gen => Ok(None),
+        Mode::Serial | Mode::Race | Mode::Gen | Mode::Check => Ok(None),
         Mode::Compare => match strict_run(alloc, script) {
             Ok(out) => Ok(Some(out)),
             Err(why) => Err(why),
@@ -238,7 +248,7 @@ fn end_with_call<K: Sink>(alloc: Global, sink: &mut K, call: u32) -> u8
     ensures { (asked : Asked) (input : List ℕ) (script : Script)
         → read_as (form_of asked.mode) input ≡ Ok script
         → IsUnfit asked.mode script (StrictRefusal.Verb call)
-        → EndsEarly (HasInput NeverRan asked input) (K.written sink.old) (K.written sink.new)
+        → EndsEarly (HasScript NeverRan asked input) (K.written sink.old) (K.written sink.new)
         (Rose (K.faults sink.old) (K.faults sink.new)) result }
 {
     let Ok(text) = call_line(alloc, call) else {
@@ -252,7 +262,7 @@ fn end_unfit<K: Sink>(alloc: Global, sink: &mut K, why: StrictRefusal) -> u8
     ensures { (asked : Asked) (input : List ℕ) (script : Script)
         → read_as (form_of asked.mode) input ≡ Ok script
         → IsUnfit asked.mode script why
-        → EndsEarly (HasInput NeverRan asked input) (K.written sink.old) (K.written sink.new)
+        → EndsEarly (HasScript NeverRan asked input) (K.written sink.old) (K.written sink.new)
         (Rose (K.faults sink.old) (K.faults sink.new)) result }
 {
     match why {
@@ -277,7 +287,7 @@ fn begin_with_script<K: Sink>(
     ensures strict { IfOk result (λ due. due.strict ≡ strictly_run due.asked.mode due.script) }
     ensures unwritten { IsOk result → sink.new ≡ sink.old }
     ensures early { (input : List ℕ) → read_as (form_of asked.mode) input ≡ Ok script
-        → IfErr result (EndsEarly (HasInput NeverRan asked input) (K.written sink.old) (K.written sink.new)
+        → IfErr result (EndsEarly (HasScript NeverRan asked input) (K.written sink.old) (K.written sink.new)
         (Rose (K.faults sink.old) (K.faults sink.new))) }
 {
     match run_strictly(alloc, asked.mode, &script) {
@@ -303,7 +313,7 @@ fn begin_fitting<K: Sink>(
     ensures script { IfOk result (λ due. IsScript due.script) }
     ensures strict { IfOk result (λ due. due.strict ≡ strictly_run due.asked.mode due.script) }
     ensures unwritten { IsOk result → sink.new ≡ sink.old }
-    ensures early { (input : List ℕ) → IfErr result (EndsEarly (HasInput NeverRan asked input) (K.written sink.old) (K.written sink.new)
+    ensures early { (input : List ℕ) → IfErr result (EndsEarly (HasScript NeverRan asked input) (K.written sink.old) (K.written sink.new)
         (Rose (K.faults sink.old) (K.faults sink.new))) }
 {
     match script_due(alloc, asked.mode, script) {
@@ -359,7 +369,7 @@ fn push_number(text: &mut Vec<u8>, number: u32) -> Result<(), AllocError>
 fn end_with_fault<K: Sink>(alloc: Global, sink: &mut K, line: u32, cause: Cause) -> u8
     ensures { (asked : Asked) (input : List ℕ)
         → read_as (form_of asked.mode) input ≡ Err (ScriptRefusal.Fault line cause)
-        → EndsEarly (HasInput NeverRan asked input) (K.written sink.old) (K.written sink.new)
+        → EndsEarly (HasScript NeverRan asked input) (K.written sink.old) (K.written sink.new)
         (Rose (K.faults sink.old) (K.faults sink.new)) result }
 {
     let Ok(text) = fault_line(alloc, line, cause) else {
@@ -372,17 +382,17 @@ fn end_with_fault<K: Sink>(alloc: Global, sink: &mut K, line: u32, cause: Cause)
 fn end_with_refusal<K: Sink>(sink: &mut K, why: CreateRefusal) -> u8
     ensures { (asked : Asked) (input : List ℕ)
         → read_as (form_of asked.mode) input ≡ Err (ScriptRefusal.Create why)
-        → EndsEarly (HasInput NeverRan asked input) (K.written sink.old) (K.written sink.new)
+        → EndsEarly (HasScript NeverRan asked input) (K.written sink.old) (K.written sink.new)
         (Rose (K.faults sink.old) (K.faults sink.new)) result }
 {
     end_with_line(sink, 6, refusal_line(why).as_bytes())
 }
 
 /// Ends a run whose input is no script that can be run, or for which memory was not found.
-fn end_without_script<K: Sink>(alloc: Global, sink: &mut K, refusal: ScriptRefusal) -> u8
+pub(crate) fn end_without_script<K: Sink>(alloc: Global, sink: &mut K, refusal: ScriptRefusal) -> u8
     ensures { (asked : Asked) (input : List ℕ)
         → IsReading (Err refusal) (read_as (form_of asked.mode) input)
-        → EndsEarly (HasInput NeverRan asked input) (K.written sink.old) (K.written sink.new)
+        → EndsEarly (HasScript NeverRan asked input) (K.written sink.old) (K.written sink.new)
         (Rose (K.faults sink.old) (K.faults sink.new)) result }
 {
     match refusal {
@@ -392,12 +402,12 @@ fn end_without_script<K: Sink>(alloc: Global, sink: &mut K, refusal: ScriptRefus
     }
 }
 
-/// The form that the input of a mode has.
+/// The form that the script of a mode has.
 fn form_of(mode: Mode) -> Form
     ensures { result ≡ form_of mode }
 {
     match mode {
-        Mode::Serial | Mode::Race | Mode::Compare => Form::Calls,
+        Mode::Serial | Mode::Race | Mode::Compare | Mode::Check => Form::Calls,
         Mode::Gen => Form::Generator,
     }
 }
@@ -416,7 +426,7 @@ fn begin_with_reading<K: Sink>(
     ensures strict { IfOk result (λ due. due.strict ≡ strictly_run due.asked.mode due.script) }
     ensures unwritten { IsOk result → sink.new ≡ sink.old }
     ensures early { (input : List ℕ) → IsReading read (read_as (form_of asked.mode) input)
-        → IfErr result (EndsEarly (HasInput NeverRan asked input) (K.written sink.old) (K.written sink.new)
+        → IfErr result (EndsEarly (HasScript NeverRan asked input) (K.written sink.old) (K.written sink.new)
         (Rose (K.faults sink.old) (K.faults sink.new))) }
 {
     match read {
@@ -425,18 +435,57 @@ fn begin_with_reading<K: Sink>(
     }
 }
 
-/// Begins a run whose words are good.
+/// Whether a mode judges a report, and runs nothing.
+fn judges(mode: Mode) -> bool
+    ensures { result ≡ judges mode }
+{
+    match mode {
+        Mode::Serial | Mode::Race | Mode::Gen | Mode::Compare => false,
+        Mode::Check => true,
+    }
+}
+
+/// Begins what good words ask for.
+fn begin_asked<S: Source, K: Sink>(
+    alloc: Global,
+    asked: Asked,
+    source: &mut S,
+    sink: &mut K,
+) -> Result<Task, u8>
+    ensures task { IfOk result (IsTaskOf asked (S.left source.old) (S.left source.new)) }
+    ensures ready { IfOk result IsReady }
+    ensures unwritten { IsOk result → sink.new ≡ sink.old }
+    ensures early { IfErr result (EndsEarly (HasSource NeverRan NeverSaid asked (S.left source.old) (S.left source.new)
+        (Rose (S.faults source.old) (S.faults source.new))) (K.written sink.old)
+        (K.written sink.new)
+        (Rose (K.faults sink.old) (K.faults sink.new))) }
+{
+    if judges(asked.mode) {
+        match begin_with_report(alloc, source, sink) {
+            Ok(claim) => Ok(Task::Judge(claim)),
+            Err(status) => Err(status),
+        }
+    } else {
+        match begin_with_source(alloc, asked, source, sink) {
+            Ok(due) => Ok(Task::Run(due)),
+            Err(status) => Err(status),
+        }
+    }
+}
+
+/// Begins a run that good words ask for.
 fn begin_with_source<S: Source, K: Sink>(
     alloc: Global,
     asked: Asked,
     source: &mut S,
     sink: &mut K,
 ) -> Result<Due, u8>
+    requires { judges asked.mode ≡ false }
     ensures due { IfOk result (λ due. (input : List ℕ) × IsInput (S.left source.old) (S.left source.new) input × IsDueOf asked input due) }
     ensures script { IfOk result (λ due. IsScript due.script) }
     ensures strict { IfOk result (λ due. due.strict ≡ strictly_run due.asked.mode due.script) }
     ensures unwritten { IsOk result → sink.new ≡ sink.old }
-    ensures early { IfErr result (EndsEarly (HasSource NeverRan asked (S.left source.old) (S.left source.new)
+    ensures early { IfErr result (EndsEarly (HasSource NeverRan NeverSaid asked (S.left source.old) (S.left source.new)
         (Rose (S.faults source.old) (S.faults source.new))) (K.written sink.old)
         (K.written sink.new)
         (Rose (K.faults sink.old) (K.faults sink.new))) }

@@ -9,8 +9,8 @@ use map_report::RunRecord;
 pub struct Finish<C> {
     /// The status of the process, as `status_of` says (specs/Finish.antt), or 4 where a write failed.
     pub status: u8,
-    /// The record of the run, exactly where its report was due: with status 0, and with 4 in the place of it. Of a run in mode
-    /// `compare` none is kept.
+    /// The record of the run, exactly where its report was due: with status 0, and with 4 in the place of it. In the modes
+    /// `compare` and `check` none is kept.
     pub kept: Option<RunRecord>,
     /// What the run's map left when it was closed, exactly where the record is there.
     pub closed: Option<C>,

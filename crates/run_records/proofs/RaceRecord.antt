@@ -387,6 +387,28 @@ module _ (script : Script) (table : TableView) (created : IsShape script.shape) 
         filter_ascends is.bits 0 shape.elements,
       ))))
 
+  -- The tickets of the starts
+
+  starts_rise : AreCuts 0 (length (all_entries closed.histories)) (map (λ (start : PhaseStart). start.ticket) starts)
+  starts_rise =
+      subst (λ (l : List PhaseStart). AreCuts 0 (length (all_entries closed.histories)) (map (λ (start : PhaseStart). start.ticket) l)) (sym (starts_are t script p now replies starts pieces come))
+      (go 0 p 0 (omega arith) (omega arith))
+    where
+      go : (a n least : ℕ) → a + n ≡ p → least ≤ bound a → AreCuts least (length (all_entries closed.histories)) (map (λ (start : PhaseStart). start.ticket) (map (λ q. (did q).start) (range_with_len a n)))
+      go a zero least is low = tt
+      go a (suc n) least is low =
+          let less : a < p = omega (arith, is) in
+          let here = exact.ticket_is script table created is_served p now replies starts pieces come closed ends whole a less in
+          let up = moments.rise t script (exact.some script table created is_served p now replies starts pieces come closed ends whole) (exact.served script table created is_served p now replies starts pieces come closed ends whole) p now replies starts pieces come a less in
+          let end = bound_end in
+          let most : bound a ≤ bound p = never_falls shape.cpus (λ r cpu. (did r).turns cpu) bound p (moments.rise t script (exact.some script table created is_served p now replies starts pieces come closed ends whole) (exact.served script table created is_served p now replies starts pieces come closed ends whole) p now replies starts pieces come) (λ r cpu low real. moments.windows t script (exact.some script table created is_served p now replies starts pieces come closed ends whole) (exact.served script table created is_served p now replies starts pieces come closed ends whole) p now replies starts pieces come r cpu low real) ends.log (moments.moment_end t script (exact.some script table created is_served p now replies starts pieces come closed ends whole) (exact.served script table created is_served p now replies starts pieces come closed ends whole) p now replies starts pieces come closed ends) a p (omega (arith, less)) (omega arith) in
+          let long = counted shape now closed ends whole in
+          let next_is : suc a ≡ a + 1 = omega arith in (
+            subst (λ (k : ℕ). least ≤ k) (sym here) low,
+            subst (λ (z : ℕ × ℕ). z.0 ≤ z.1) (λ i. (sym here i, (end ∙ sym long) i)) most,
+            go (a + 1) n (did a).start.ticket (omega (arith, is)) (subst (λ (z : ℕ × ℕ). z.0 ≤ bound z.1) (λ i. (sym here i, next_is i)) up),
+          )
+
   -- Replies
 
   answered : EachAnswered shape script.calls replies
@@ -427,6 +449,7 @@ module _ (script : Script) (table : TableView) (created : IsShape script.shape) 
     on_cpus = on_cpus shape now closed ends whole (λ k place entry is. (in_phase shape.cpus (λ r cpu. (did r).turns cpu) bound p (moments.rise t script (exact.some script table created is_served p now replies starts pieces come closed ends whole) (exact.served script table created is_served p now replies starts pieces come closed ends whole) p now replies starts pieces come) (λ r cpu low real. moments.windows t script (exact.some script table created is_served p now replies starts pieces come closed ends whole) (exact.served script table created is_served p now replies starts pieces come closed ends whole) p now replies starts pieces come r cpu low real) ends.log (moments.moment_end t script (exact.some script table created is_served p now replies starts pieces come closed ends whole) (exact.served script table created is_served p now replies starts pieces come closed ends whole) p now replies starts pieces come closed ends) script.cuts made k place entry is).1);
     one_each = starts_long;
     first = first_start;
+    starts_rise = starts_rise;
     in_phases = all_in_phases;
     strand_of = place_of_strand t script did;
     in_strand = in_strand;
@@ -453,34 +476,11 @@ module _ (script : Script) (table : TableView) (created : IsShape script.shape) 
         exact_gets script created (All-weaker (IsServedCall shape) (λ (call : Call). call.cpu < shape.cpus) (λ call one. one.cpu) script.calls is_served.calls) left spares q is (exact.start_is script table created is_served p now replies starts pieces come closed ends whole q less),
       )
 
-  -- The tickets of the starts
-
-  starts_rise : AreCuts 0 (length (all_entries closed.histories)) (map (λ (start : PhaseStart). start.ticket) starts)
-  starts_rise =
-      subst (λ (l : List PhaseStart). AreCuts 0 (length (all_entries closed.histories)) (map (λ (start : PhaseStart). start.ticket) l)) (sym (starts_are t script p now replies starts pieces come))
-      (go 0 p 0 (omega arith) (omega arith))
-    where
-      go : (a n least : ℕ) → a + n ≡ p → least ≤ bound a → AreCuts least (length (all_entries closed.histories)) (map (λ (start : PhaseStart). start.ticket) (map (λ q. (did q).start) (range_with_len a n)))
-      go a zero least is low = tt
-      go a (suc n) least is low =
-          let less : a < p = omega (arith, is) in
-          let here = exact.ticket_is script table created is_served p now replies starts pieces come closed ends whole a less in
-          let up = moments.rise t script (exact.some script table created is_served p now replies starts pieces come closed ends whole) (exact.served script table created is_served p now replies starts pieces come closed ends whole) p now replies starts pieces come a less in
-          let end = bound_end in
-          let most : bound a ≤ bound p = never_falls shape.cpus (λ r cpu. (did r).turns cpu) bound p (moments.rise t script (exact.some script table created is_served p now replies starts pieces come closed ends whole) (exact.served script table created is_served p now replies starts pieces come closed ends whole) p now replies starts pieces come) (λ r cpu low real. moments.windows t script (exact.some script table created is_served p now replies starts pieces come closed ends whole) (exact.served script table created is_served p now replies starts pieces come closed ends whole) p now replies starts pieces come r cpu low real) ends.log (moments.moment_end t script (exact.some script table created is_served p now replies starts pieces come closed ends whole) (exact.served script table created is_served p now replies starts pieces come closed ends whole) p now replies starts pieces come closed ends) a p (omega (arith, less)) (omega arith) in
-          let long = counted shape now closed ends whole in
-          let next_is : suc a ≡ a + 1 = omega arith in (
-            subst (λ (k : ℕ). least ≤ k) (sym here) low,
-            subst (λ (z : ℕ × ℕ). z.0 ≤ z.1) (λ i. (sym here i, (end ∙ sym long) i)) most,
-            go (a + 1) n (did a).start.ticket (omega (arith, is)) (subst (λ (z : ℕ × ℕ). z.0 ≤ bound z.1) (λ i. (sym here i, next_is i)) up),
-          )
-
   is_race_record : IsRaceRecord script left
   unfolding is_record
   is_race_record = record {
     is_record = is_record;
     strand_each = ap (map named_by) left_strands ∙ strands_told_to t script did p;
-    starts_rise = starts_rise;
     exact = exact_phases;
   }
 

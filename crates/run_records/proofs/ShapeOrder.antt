@@ -1,43 +1,16 @@
--- The phases of the strands of a run never fall, and no phase of it starts above the number of its entries.
-use Rattle.std.proofs.Common.{◌≡◌, ℕ, zero, suc, ◌+◌, ◌<◌, ◌≤◌, List, [], ◌∷◌, ◌++◌, length, map, drop, ap, sym, subst, arith}
-use Rattle.std.specs.Prelude.{All, None, Some, Option, false}
+-- The phases of the strands of a run never fall.
+use Rattle.std.proofs.Common.{ℕ, zero, suc, ◌+◌, ◌≤◌, List, [], ◌∷◌, ◌++◌, map, sym, subst, arith}
+use Rattle.std.specs.Prelude.{None, Some, Option}
 use Rattle.std.specs.List.{flat_map, range_with_len}
 use Rattle.std.proofs.lemmas.List.Concat.{flat_map-cons}
-use Rattle.std.proofs.lemmas.List.Elements.{All-nil, All-cons, All-map, All-weaker}
-use Rattle.map_types.specs.declared.attr.Shape.{Shape}
-use Rattle.map_types.specs.declared.call.Call.{Call}
-use Rattle.map_types.specs.declared.kind.DomainId.{DomainId}
 use Rattle.map_script.specs.declared.script.Script.{Script}
-use Rattle.map_script.specs.WellFormed.{AreCuts, IsCallOn, IsWellFormed}
 use Rattle.place_words.specs.declared.history.Strand.{Strand}
-use Rattle.place_words.specs.Locks.{is_lock}
-use Rattle.place_words.specs.Logs.{State, new_state, run}
-use Rattle.place_words.specs.Phases.{calls_before, phase_count}
-use Rattle.place_words.specs.Tickets.{all_entries}
-use Rattle.place_words.proofs.AnyStart.{new_start, done_from}
-use Rattle.place_words.proofs.OnLocks.{no_others}
-use Rattle.map_report.specs.declared.record.PhaseStart.{PhaseStart}
+use Rattle.place_words.specs.Phases.{phase_count}
 use Rattle.map_report.specs.declared.record.RunRecord.{RunRecord}
-use Rattle.map_report.specs.Runs.{serial, start_of, state_before, strand_of_phase}
-use Rattle.map_report.proofs.CutLemmas.{cuts_rise}
-use Rattle.map_report.proofs.LogTickets.{entries_counted}
-use Rattle.map_report.proofs.RunCuts.{end_state}
-use Rattle.core_runs.proofs.CallTurns.{tickets_grow}
+use Rattle.map_report.specs.Runs.{serial, strand_of_phase}
 use Rattle.record_shape.specs.OfTable.{NeverFall}
 use Rattle.run_records.specs.Parts.{lone_cpu}
 use Rattle.run_records.specs.Races.{IsRaceRecord, calls_of, strands_by, strands_in}
-
--- Tickets of starts in a race
-
-abbrev starts_at : List PhaseStart → List ℕ
-starts_at starts = map (λ (start : PhaseStart). start.ticket) starts
-
-none_above : (least count : ℕ) (starts : List PhaseStart) → AreCuts least count (starts_at starts) → All (λ (start : PhaseStart). start.ticket ≤ count) starts
-none_above least count [] are = All-nil (λ (start : PhaseStart). start.ticket ≤ count)
-none_above least count (start ∷ starts) are = All-cons (λ (one : PhaseStart). one.ticket ≤ count) start starts are.1 (none_above start.ticket count starts are.2)
-
-pub race_starts : (script : Script) (kept : RunRecord) → IsRaceRecord script kept → All (λ (start : PhaseStart). start.ticket ≤ length (all_entries kept.histories)) kept.phases
-race_starts script kept is = none_above 0 (length (all_entries kept.histories)) kept.phases is.starts_rise
 
 -- The phases of a race's strands
 
@@ -89,37 +62,3 @@ serial_rise script least p (suc n) less = (less, serial_rise script p (p + 1) n 
 pub serial_in_order : (script : Script) → NeverFall 0 (serial script).strands
 unfolding serial
 serial_in_order script = serial_rise script 0 0 (phase_count script.cuts) (omega arith)
-
--- Tickets of starts in serial order
-
-pub serial_starts : (script : Script) → IsWellFormed script → All (λ (start : PhaseStart). start.ticket ≤ length (all_entries (serial script).histories)) (serial script).phases
-unfolding serial
-serial_starts script like = All-map below (λ p. start_of shape (state_before script p)) (range_with_len 0 (phase_count script.cuts)) (each 0 (phase_count script.cuts))
-  where
-    shape : Shape
-    shape = script.shape
-
-    end : State
-    end = run shape 1 script.calls (new_state shape)
-
-    below : PhaseStart → Type 0
-    below start = start.ticket ≤ length (all_entries (serial script).histories)
-
-    served : All (λ (call : Call). call.cpu < shape.cpus) script.calls
-    served = All-weaker (IsCallOn shape) (λ (call : Call). call.cpu < shape.cpus) (λ call is. is.cpu) script.calls like.calls
-
-    ours : (lock : DomainId) → is_lock shape lock ≡ false → end.logs lock ≡ []
-    ours = no_others shape like.shape script.calls served (done_from shape 1 script.calls (new_state shape) served (new_start shape like.shape)).0
-
-    here : (p : ℕ) → below (start_of shape (state_before script p))
-    here p =
-        let first : ℕ = calls_before script.cuts (length script.calls) p in
-        let rises = cuts_rise 0 script.cuts (length script.calls) (omega arith) like.phases.rise in
-        let grows = tickets_grow shape (suc first) (drop first script.calls) (state_before script p) in
-        let ends : end.next_ticket ≡ (run shape (suc first) (drop first script.calls) (state_before script p)).next_ticket = ap (λ (state : State). state.next_ticket) (end_state script rises p) in
-        let counted = entries_counted shape script.calls ours in
-        omega (arith, grows, ends, counted)
-
-    each : (p n : ℕ) → All (λ (q : ℕ). below (start_of shape (state_before script q))) (range_with_len p n)
-    each p zero = All-nil (λ (q : ℕ). below (start_of shape (state_before script q)))
-    each p (suc n) = All-cons (λ (q : ℕ). below (start_of shape (state_before script q))) p (range_with_len (p + 1) n) (here p) (each (p + 1) n)

@@ -1,6 +1,6 @@
 -- The record of a run is well shaped, by what its closed table tells beside that it is a record.
-use Rattle.std.proofs.Common.{◌≡◌, ℕ, zero, suc, ◌+◌, ◌<◌, ◌≤◌, Bool, false, cond, List, [], ◌∷◌, length, refl, ap, sym, ◌∙◌, subst, arith}
-use Rattle.std.specs.Prelude.{All, IsTrue, filter, ◌^◌}
+use Rattle.std.proofs.Common.{◌≡◌, ℕ, zero, suc, ◌+◌, ◌<◌, Bool, false, cond, List, [], ◌∷◌, length, refl, ap, sym, ◌∙◌, subst, arith}
+use Rattle.std.specs.Prelude.{IsTrue, filter, ◌^◌}
 use Rattle.std.specs.List.{range_with_len}
 use Rattle.std.proofs.lemmas.List.Elements.{All-weaker}
 use Rattle.map_types.specs.declared.attr.Shape.{Shape}
@@ -20,7 +20,6 @@ use Rattle.place_table.specs.Closing.{ClosedView, IsClosed}
 use Rattle.place_table.specs.Passes.{PassView}
 use Rattle.place_table.proofs.MapLeft as map_left
 use Rattle.map_script.specs.declared.script.Script.{Script}
-use Rattle.map_report.specs.declared.record.PhaseStart.{PhaseStart}
 use Rattle.map_report.specs.declared.record.RunRecord.{RunRecord}
 use Rattle.map_report.specs.Runs.{serial}
 use Rattle.record_shape.specs.OfTable.{HasFew, IsOfTable, NeverFall}
@@ -31,7 +30,7 @@ use Rattle.serial_laws.proofs.AnyRecord.{any_is_record}
 use Rattle.run_records.specs.Races.{IsRaceRecord}
 use Rattle.run_records.proofs.RaceHistories.{entries_told}
 use Rattle.run_records.proofs.RaceTickets.{counted}
-use Rattle.run_records.proofs.ShapeOrder.{race_in_order, race_starts, serial_in_order, serial_starts}
+use Rattle.run_records.proofs.ShapeOrder.{race_in_order, serial_in_order}
 
 few_of : (verb : Verb) → entry_count verb < 2 ^ 32 → HasFew verb
 few_of (Lookup side key) few = tt
@@ -67,24 +66,23 @@ module _ (script : Script) (some : IsScript script) (p : PassView) (closed : Clo
 
   -- what is kept of a run is what its table left
   of_table : (kept : RunRecord) → kept.histories ≡ closed.histories → kept.finals ≡ closed.finals
-      → All (λ (start : PhaseStart). start.ticket ≤ length (all_entries kept.histories)) kept.phases → NeverFall 0 kept.strands → IsOfTable script kept
-  of_table kept histories finals starts in_order = record {
+      → NeverFall 0 kept.strands → IsOfTable script kept
+  of_table kept histories finals in_order = record {
     few = All-weaker HasFewEntries (λ (call : Call). HasFew call.verb) (λ call few. few_of call.verb few) script.calls some.few_entries;
     real = λ lock is. subst (λ (l : List LockHistory). IsAlwaysReal shape lock (entries_of l lock)) (sym histories) (under lock is);
     unmarked = λ plain. ap (λ (f : Finals). f.marked) finals ∙ none_marked plain;
     counted =
         subst (λ (l : List LockHistory). length (all_entries l) < 2 ^ 64) (sym histories)
         (subst (λ (n : ℕ). n < 2 ^ 64) (sym (counted shape p closed ends whole)) ends.counted);
-    starts = starts;
     in_order = in_order;
   }
 
   pub race_is_shaped : (kept : RunRecord) → IsRaceRecord script kept → kept.histories ≡ closed.histories → kept.finals ≡ closed.finals → WellShaped script kept
   race_is_shaped kept is histories finals =
-      shaped script kept some.well_formed is.is_record (of_table kept histories finals (race_starts script kept is) (race_in_order script kept is))
+      shaped script kept some.well_formed is.is_record (of_table kept histories finals (race_in_order script kept is))
 
   pub serial_is_shaped : (kept : RunRecord) → kept ≡ serial script → kept.histories ≡ closed.histories → kept.finals ≡ closed.finals → WellShaped script kept
   serial_is_shaped kept is histories finals =
       subst (WellShaped script) (sym is)
       (shaped script (serial script) some.well_formed (any_is_record script some.well_formed)
-      (of_table (serial script) (ap (λ (r : RunRecord). r.histories) (sym is) ∙ histories) (ap (λ (r : RunRecord). r.finals) (sym is) ∙ finals) (serial_starts script some.well_formed) (serial_in_order script)))
+      (of_table (serial script) (ap (λ (r : RunRecord). r.histories) (sym is) ∙ histories) (ap (λ (r : RunRecord). r.finals) (sym is) ∙ finals) (serial_in_order script)))

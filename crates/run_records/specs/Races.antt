@@ -5,11 +5,9 @@ use Rattle.std.specs.List.{flat_map, range_with_len}
 use Rattle.map_types.specs.declared.call.Call.{Call}
 use Rattle.map_types.specs.declared.reply.Reply.{Reply}
 use Rattle.map_script.specs.declared.script.Script.{Script}
-use Rattle.map_script.specs.WellFormed.{AreCuts}
 use Rattle.place_words.specs.declared.history.Strand.{Strand}
 use Rattle.place_words.specs.AtRest.{IsStart}
 use Rattle.place_words.specs.Phases.{phase_count, calls_before, of_phase}
-use Rattle.place_words.specs.Tickets.{all_entries}
 use Rattle.place_table.specs.Passes.{PassView, TableView, IsFirstPass}
 use Rattle.map_report.specs.declared.record.PhaseStart.{PhaseStart}
 use Rattle.map_report.specs.declared.record.RunRecord.{RunRecord}
@@ -73,11 +71,9 @@ abbrev pub strands_in : Script → ℕ → List (ℕ × List ℕ)
 strands_in script p = strands_by script.shape.cpus p (lone_cpu (calls_of script p))
 
 -- What is kept of a race is a record of the script. In each phase whose calls are all of one CPU, or that has none, all CPUs are in one
--- strand; in each other each CPU has its own, in the order of the CPUs. The tickets of the starts never fall, and none is above the
--- number of entries: so as many tickets were drawn before a phase as the phases before it have entries. And in each phase whose calls
--- are all of one CPU, or that has none, what happens is determined by the state at its start, and no reply is ENOMEM.
+-- strand; in each other each CPU has its own, in the order of the CPUs. And in each phase whose calls are all of one CPU, or that has
+-- none, what happens is determined by the state at its start, and no reply is ENOMEM.
 pub record IsRaceRecord (script : Script) (kept : RunRecord) : Type 0 where
   pub is_record : IsRecord script kept
   pub strand_each : map (λ (strand : Strand). (strand.phase, strand.cpus)) kept.strands ≡ flat_map (strands_in script) (range_with_len 0 (phase_count script.cuts))
-  pub starts_rise : AreCuts 0 (length (all_entries kept.histories)) (map (λ (start : PhaseStart). start.ticket) kept.phases)
   pub exact : HasExactPhases script kept is_record.spares

@@ -14,7 +14,7 @@ use Rattle.clap.specs.declared.builder.value_parser.Reading.TheVariants as readi
 use Rattle.clap.specs.declared.parser.matches.ValueSource.TheVariants.{CommandLine, DefaultValue}
 use Rattle.run_words.specs.Words.{is_mode, is_option, is_end_of_options, mode_word}
 use Rattle.run_words.specs.declared.words.Mode.{Mode}
-use Rattle.run_words.specs.declared.words.Mode.TheVariants.{Serial, Race, Gen, Compare}
+use Rattle.run_words.specs.declared.words.Mode.TheVariants.{Serial, Race, Gen, Compare, Check}
 
 -- ---- the words
 
@@ -80,9 +80,14 @@ kind_of_word word = by_serial (bytes_eq word (codes "serial")) refl
     by_history true e no_mode = an_option history (same_text word (codes "--history") e)
     by_history false e no_mode = by_dump (is_flag dump word) refl no_mode e
 
+    by_check : (b : Bool) → bytes_eq word (codes "check") ≡ b → bytes_eq word (codes "serial") ≡ false → bytes_eq word (codes "race") ≡ false → bytes_eq word (codes "gen") ≡ false
+        → bytes_eq word (codes "compare") ≡ false → Kind word
+    by_check true e no_serial no_race no_gen no_compare = a_mode Check (same_text word (codes "check") e)
+    by_check false e no_serial no_race no_gen no_compare = by_history (is_flag history word) refl (rw (no_serial, no_race, no_gen, no_compare, e) refl)
+
     by_compare : (b : Bool) → bytes_eq word (codes "compare") ≡ b → bytes_eq word (codes "serial") ≡ false → bytes_eq word (codes "race") ≡ false → bytes_eq word (codes "gen") ≡ false → Kind word
     by_compare true e no_serial no_race no_gen = a_mode Compare (same_text word (codes "compare") e)
-    by_compare false e no_serial no_race no_gen = by_history (is_flag history word) refl (rw (no_serial, no_race, no_gen, e) refl)
+    by_compare false e no_serial no_race no_gen = by_check (bytes_eq word (codes "check")) refl no_serial no_race no_gen e
 
     by_gen : (b : Bool) → bytes_eq word (codes "gen") ≡ b → bytes_eq word (codes "serial") ≡ false → bytes_eq word (codes "race") ≡ false → Kind word
     by_gen true e no_serial no_race = a_mode Gen (same_text word (codes "gen") e)

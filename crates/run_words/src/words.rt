@@ -21,6 +21,8 @@ pub enum Mode {
     Gen,
     /// The calls of a script one after another, beside those of a map of strict recency: how often they answer alike is printed.
     Compare,
+    /// None: a script and a report are read, and it is printed whether the report is that of a run of the script.
+    Check,
 }
 
 /// What the command words ask for.
@@ -39,7 +41,7 @@ pub enum WordsStop {
     NoMemory,
 }
 
-static MODES: [&str; 4] = ["serial", "race", "gen", "compare"];
+static MODES: [&str; 5] = ["serial", "race", "gen", "compare", "check"];
 
 /// An option that is given or not.
 fn flag<'a>(alloc: Global, name: &'a str) -> Arg<'a>
@@ -75,9 +77,9 @@ fn matches_of<'a>(alloc: Global, words: &'a [String]) -> Result<ArgMatches<'a>, 
     command.try_get_matches_from(words)
 }
 
-/// What the command words ask for: the program's name, which is not looked at, then `serial`, `race`, `gen` or `compare` once
-/// and each of `--history`, `--dump` and `--json` at most once, in any order. One `--` may stand, after which no option follows.
-/// With `compare` no option may stand.
+/// What the command words ask for: the program's name, which is not looked at, then `serial`, `race`, `gen`, `compare` or
+/// `check` once and each of `--history`, `--dump` and `--json` at most once, in any order. One `--` may stand, after which no
+/// option follows. With `compare` and with `check` no option may stand.
 pub fn asked_of(alloc: Global, words: &[String]) -> Result<Asked, WordsStop>
     ensures taken { IfOk result (λ asked. IsTrue (are_words (map string_bytes words.now))
         × (asked.options ≡ options_of (map string_bytes words.now))
@@ -105,6 +107,7 @@ fn read_of(alloc: Global, words: &[String]) -> Result<Asked, WordsStop>
                 Some("race") => Mode::Race,
                 Some("gen") => Mode::Gen,
                 Some("compare") => Mode::Compare,
+                Some("check") => Mode::Check,
                 _ => Mode::Serial,
             },
             options: Options {
@@ -137,7 +140,7 @@ fn may_stand(mode: Mode, options: Options) -> bool
     ensures { result ≡ may_stand mode options }
 {
     match mode {
-        Mode::Compare => !(options.history || options.dump || options.json),
+        Mode::Compare | Mode::Check => !(options.history || options.dump || options.json),
         Mode::Serial | Mode::Race | Mode::Gen => true,
     }
 }

@@ -73,9 +73,9 @@ fn flaw_of(row: &Row, left: &Left) -> Option<&'static str> {
 }
 
 /// Whether a record is kept of a run that writes this: where it is a report, also where writing it fails, and neither a
-/// comparison nor a line that says why there is none.
+/// comparison, nor what is said of a report, nor a line that says why there is none.
 fn keeps_record(text: &[u8]) -> bool {
-    !text.starts_with(b"bpfmap: ") && !text.starts_with(b"compare ")
+    !text.starts_with(b"bpfmap: ") && !text.starts_with(b"compare ") && text != b"yes\n".as_slice()
 }
 
 /// What has to be written: the report, or as much of it as the sink takes.

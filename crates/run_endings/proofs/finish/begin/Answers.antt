@@ -21,11 +21,11 @@ pub returns-in-Ok-clause-early : goal.returns-in-Ok-clause-early
 returns-in-Ok-clause-early g c =
     let words = map string_bytes c.args.words.now in
     let taken = c.in-Ok.ensures.taken in
-    err_by_source words taken.0 c.in-Ok.asked (same_asked words c.in-Ok.asked taken.1 taken.2) (g.S.Source.left c.args.source.now) (g.S.Source.left c.begin_with_source.new.source) (Rose (g.S.Source.faults c.args.source.now) (g.S.Source.faults c.begin_with_source.new.source))
-    c.begin_with_source.result (g.K.Sink.written c.args.sink.now) (g.K.Sink.written c.begin_with_source.new.sink) (Rose (g.K.Sink.faults c.args.sink.now) (g.K.Sink.faults c.begin_with_source.new.sink)) c.begin_with_source.ensures.early
+    err_by_source words taken.0 c.in-Ok.asked (same_asked words c.in-Ok.asked taken.1 taken.2) (g.S.Source.left c.args.source.now) (g.S.Source.left c.begin_asked.new.source) (Rose (g.S.Source.faults c.args.source.now) (g.S.Source.faults c.begin_asked.new.source))
+    c.begin_asked.result (g.K.Sink.written c.args.sink.now) (g.K.Sink.written c.begin_asked.new.sink) (Rose (g.K.Sink.faults c.args.sink.now) (g.K.Sink.faults c.begin_asked.new.sink)) c.begin_asked.ensures.early
 
-pub returns-in-Ok-clause-due : goal.returns-in-Ok-clause-due
-returns-in-Ok-clause-due g c =
+pub returns-in-Ok-clause-task : goal.returns-in-Ok-clause-task
+returns-in-Ok-clause-task g c =
     let words = map string_bytes c.args.words.now in
     let taken = c.in-Ok.ensures.taken in
-    ok_by_source words taken.0 c.in-Ok.asked (same_asked words c.in-Ok.asked taken.1 taken.2) (g.S.Source.left c.args.source.now) (g.S.Source.left c.begin_with_source.new.source) c.begin_with_source.result c.begin_with_source.ensures.due
+    ok_by_source words taken.0 c.in-Ok.asked (same_asked words c.in-Ok.asked taken.1 taken.2) (g.S.Source.left c.args.source.now) (g.S.Source.left c.begin_asked.new.source) c.begin_asked.result c.begin_asked.ensures.task

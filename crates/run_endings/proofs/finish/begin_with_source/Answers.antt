@@ -15,14 +15,14 @@ pub returns-in-Ok-clause-early : goal.returns-in-Ok-clause-early
 returns-in-Ok-clause-early g c =
     let whole = c.in-Ok.ensures.whole in
     let read : IsReading c.in-Ok.read (read_as (form_of c.args.asked.mode) whole.0) = subst (λ (f : Form). IsReading c.in-Ok.read (read_as f whole.0)) c.form_of.ensures whole.3 in
-    err_by_input c.args.asked (g.S.Source.left c.args.source.now) (g.S.Source.left c.script_from.new.source) (Rose (g.S.Source.faults c.args.source.now) (g.S.Source.faults c.script_from.new.source)) whole.0 (record { all = whole.1; short = whole.2 })
+    err_by_input c.args.asked c.requires (g.S.Source.left c.args.source.now) (g.S.Source.left c.script_from.new.source) (Rose (g.S.Source.faults c.args.source.now) (g.S.Source.faults c.script_from.new.source)) whole.0 (record { all = whole.1; short = whole.2 })
     c.begin_with_reading.result (g.K.Sink.written c.args.sink.now) (g.K.Sink.written c.begin_with_reading.new.sink) (Rose (g.K.Sink.faults c.args.sink.now) (g.K.Sink.faults c.begin_with_reading.new.sink)) (c.begin_with_reading.ensures.early whole.0 read)
 
 pub returns-in-Ok-clause-due : goal.returns-in-Ok-clause-due
 returns-in-Ok-clause-due g c =
     let whole = c.in-Ok.ensures.whole in
     let read : IsReading c.in-Ok.read (read_as (form_of c.args.asked.mode) whole.0) = subst (λ (f : Form). IsReading c.in-Ok.read (read_as f whole.0)) c.form_of.ensures whole.3 in
-    ok_by_input c.args.asked (g.S.Source.left c.args.source.now) (g.S.Source.left c.script_from.new.source) (Rose (g.S.Source.faults c.args.source.now) (g.S.Source.faults c.script_from.new.source)) whole.0 (record { all = whole.1; short = whole.2 })
+    ok_by_input c.args.asked c.requires (g.S.Source.left c.args.source.now) (g.S.Source.left c.script_from.new.source) (Rose (g.S.Source.faults c.args.source.now) (g.S.Source.faults c.script_from.new.source)) whole.0 (record { all = whole.1; short = whole.2 })
     c.begin_with_reading.result (c.begin_with_reading.ensures.due whole.0 read)
 
 pub returns-in-Err-Failed-clause-early : goal.returns-in-Err-Failed-clause-early

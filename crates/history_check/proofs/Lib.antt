@@ -1,4 +1,0 @@
-pub mod Laws
-mod Loops
-mod TakenOut
-mod Flushing

@@ -1,5 +1,0 @@
-use Rattle.record_check.proofs.DecodeLemmas.{DecodedSoFar}
-use Rattle.record_check.proofs.hexadecimal.decode.Given as goal
-
-abbrev pub invariant-loop-i : goal.invariant-loop-i
-invariant-loop-i l = DecodedSoFar l.worst l.i l.digits l.bytes

@@ -1,6 +1,0 @@
-use Rattle.std.proofs.Common.{◌-◌}
-use Rattle.record_check.proofs.PairsLemmas.{PairsSoFar}
-use Rattle.record_check.proofs.pairs.pairs.Given as goal
-
-abbrev pub invariant-loop-i : goal.invariant-loop-i
-invariant-loop-i l = PairsSoFar l.shape l.side l.count (l.count - l.i) l.text l.rest l.keys.items l.values.items

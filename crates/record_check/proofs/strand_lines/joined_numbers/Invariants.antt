@@ -1,6 +1,0 @@
-use Rattle.std.proofs.Common.{◌-◌}
-use Rattle.record_check.proofs.CommaLemmas.{AreJoined}
-use Rattle.record_check.proofs.strand_lines.joined_numbers.Given as goal
-
-abbrev pub invariant-loop-i : goal.invariant-loop-i
-invariant-loop-i l = AreJoined l.below (l.below - l.i) l.text l.rest l.found

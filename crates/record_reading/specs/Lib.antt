@@ -1,0 +1,14 @@
+pub mod Answers
+pub mod BucketReaders
+pub mod DumpReaders
+pub mod LineReaders
+pub mod ListReaders
+pub mod Outcomes
+pub mod ReadRecord
+pub mod Readers
+pub mod ReadingLaws
+pub mod RecordAnswers
+pub mod RecordReaders
+pub mod ReplyReaders
+pub mod Sections
+pub mod TextLines

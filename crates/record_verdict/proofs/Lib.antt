@@ -1,3 +1,0 @@
-mod OfCalls
-mod Told
-mod Verdicts
