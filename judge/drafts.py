@@ -178,6 +178,21 @@ def split(strand):
     return edit
 
 
+def apart():
+    """A strand of several CPUs becomes one for each, with its steps."""
+
+    def edit(draft):
+        cut = []
+        for name, named in draft.strands:
+            phase, blank, cpus = name.rpartition(" ")
+            for cpu in cpus.split(","):
+                own = [step for step in named if draft.entry(*step)[1].split(" ")[0] == cpu]
+                cut.append((phase + blank + cpu, own))
+        draft.strands = cut
+
+    return edit
+
+
 def in_serial_form():
     """The strands of each phase become one of both CPUs, by the tickets."""
 

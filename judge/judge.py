@@ -1,40 +1,91 @@
 """Judges a report of a script, with history and dump, by the rules alone."""
 import collections
+import contextlib
 
 from calls import Caller, Strand, Trace
+from core import check_steps
 from exact import check_bits
 from locks import opening
 from reports import Unlawful, need, number, read_report
 from scripts import read_script
 
+# What may be wrong with a record, in the order in which it is asked.
+FLAWS = ("record", "history", "phase", "strand", "call", "finals", "ticket", "step")
 # What races are made for, each with the name under which it is counted.
 EVENTS = {"a theft": "steals", "an ENOMEM": "enomem", "a push that found its element moved": "pushes moved"}
 
 
 def judge(text, report_text, is_race=False):
     """Raises Unlawful where the rules don't allow the report. The answer counts what happened."""
-    script = read_script(text)
-    made, report = script.made, read_report(report_text, len(script.calls), script.version)
-    head = f"map {made.kind} capacity {made.capacity} elements {made.elements} buckets {made.buckets}"
-    need(report.head == head, "the map")
-    locks, spares = opening(made)
-    replay(locks, report)
-    check_strands(script, report, is_race)
-    check_tickets(report)
-    check_phases(script, report)
-    counts = collections.Counter(calls=len(script.calls))
-    exact = {phase for phase, cpus, _ in report.strands if len(cpus) == made.cpus}
+    script, report = read(text, report_text)
+    check_forms(script, report, is_race)
+    counts = check_record(script, report)
+    exact = {phase for phase, cpus, _ in report.strands if len(cpus) == script.made.cpus}
     if script.version > 1:
         counts |= {"phases": len(script.phases), "phases in serial order": len(exact)}
-    callers = {cpu: Caller(cpu, spares.get(cpu)) for cpu in range(made.cpus)}
-    for phase, calls in enumerate(script.phases):
-        counts += check_calls(made, callers, report, phase, calls, phase in exact)
-    check_lists(made, locks, {cpu: caller.spare for cpu, caller in callers.items()}, report.dump)
-    turns = sorted((entry for entries in report.histories.values() for entry in entries), key=lambda entry: entry.ticket)
+    for phase in exact:
+        for index, _ in script.phases[phase]:
+            need(report.replies[index - 1] != "enomem", f"call {index}: ENOMEM in a phase that runs in serial order")
+    turns = [entry for _, entry in in_order(report)]
     ends = [start.marked for start in report.phases[1:]]
-    ends.append(list(map(number, report.dump[-1].split(" ")[1:])) if made.evicts else [])
-    check_bits(made, report.phases, turns, ends, exact)
+    ends.append(list(map(number, report.dump[-1].split(" ")[1:])) if script.made.evicts else [])
+    check_bits(script.made, report.phases, turns, ends, exact)
     return counts
+
+
+def judge_record(text, report_text):
+    """Raises Unlawful where the report isn't a record whose turns, as their tickets order them, may have been made: it tells
+    under which of FLAWS. What runs do besides isn't asked: which CPUs share a strand, and what the bits are."""
+    return check_record(*read(text, report_text))
+
+
+def read(text, report_text):
+    script = read_script(text)
+    made = script.made
+    with asking("record"):
+        report = read_report(report_text, len(script.calls), script.version)
+        head = f"map {made.kind} capacity {made.capacity} elements {made.elements} buckets {made.buckets}"
+        need(report.head == head, "the map")
+    return script, report
+
+
+def check_record(script, report):
+    """Asks for what a record has to be, flaw after flaw. The answer counts what happened."""
+    made, (locks, spares) = script.made, opening(script.made)
+    with asking("history"):
+        replay(locks, report)
+    with asking("phase"):
+        check_phases(script, report)
+    with asking("strand"):
+        check_strands(script, report)
+    callers = {cpu: Caller(cpu, spares.get(cpu)) for cpu in range(made.cpus)}
+    counts = collections.Counter(calls=len(script.calls))
+    with asking("call"):
+        for phase, calls in enumerate(script.phases):
+            counts += check_calls(made, callers, report, phase, calls)
+    with asking("finals"):
+        check_lists(made, locks, {cpu: caller.spare for cpu, caller in callers.items()}, report.dump)
+    with asking("ticket"):
+        check_tickets(report)
+    with asking("step"):
+        check_steps(made, opening(made), in_order(report))
+    return counts
+
+
+@contextlib.contextmanager
+def asking(flaw):
+    """What is refused within is this flaw."""
+    try:
+        yield
+    except Unlawful as why:
+        why.flaw = flaw
+        raise
+
+
+def in_order(report):
+    """The turns of all locks in the order of their tickets, each a lock and an entry."""
+    turns = [(lock, entry) for lock, entries in report.histories.items() for entry in entries]
+    return sorted(turns, key=lambda turn: turn[1].ticket)
 
 
 def unseen(runs):
@@ -42,7 +93,7 @@ def unseen(runs):
     return [event for event, name in EVENTS.items() if not any(counts[name] for counts in runs)]
 
 
-def check_calls(made, callers, report, phase, calls, is_exact):
+def check_calls(made, callers, report, phase, calls):
     """The calls of a phase are traces, one behind another in the strand of each. The answer counts what happened."""
     counts, strands = collections.Counter(), []
     for of, cpus, steps in report.strands:
@@ -57,10 +108,8 @@ def check_calls(made, callers, report, phase, calls, is_exact):
         except Unlawful as why:
             raise Unlawful(f"call {index}: {why}") from None
         need(reply == wanted, f"call {index}: the reply is {reply!r} and not {wanted!r}")
-        name = reply.split(" ")[0]
-        need(not is_exact or name != "enomem", f"call {index}: ENOMEM in a phase that runs in serial order")
         counts += trace.counts
-        counts[name] += 1
+        counts[reply.split(" ")[0]] += 1
     need(all(strand.next() == (None, None) for strand in strands), "a step of no call")
     return counts
 
@@ -74,6 +123,7 @@ def replay(locks, report):
                 locks[lock].turn(entry)
             except Unlawful as why:
                 raise Unlawful(f"entry {index} of {' '.join(map(str, lock))}: {why}") from None
+            entry.left = locks[lock].lies()
 
 
 def shapes(script):
@@ -85,14 +135,23 @@ def shapes(script):
     return [(phase, one) for phase, rows in enumerate(apart) for one in rows], [(phase, every) for phase in range(len(cpus))]
 
 
-def check_strands(script, report, is_race):
-    """The strands are those of a race, or where that may be those of a serial run. Each names the entries that its CPUs
-    have for calls of its phase, each once and in order."""
+def check_forms(script, report, is_race):
+    """The strands are those of a race, or where that may be those of a serial run; a map that doesn't evict marks nothing."""
     raced, serial = shapes(script)
     found = [(phase, cpus) for phase, cpus, _ in report.strands]
     need(found == raced or not is_race and found == serial, "the strands of the phases and CPUs")
-    of = {(phase, cpu): at for at, (phase, cpus) in enumerate(found) for cpu in cpus}
-    own = [collections.defaultdict(list) for _ in found]
+    for phase, start in enumerate(report.phases):
+        need(script.made.evicts or not start.marked, f"the elements that are marked at the start of phase {phase}")
+
+
+def check_strands(script, report):
+    """In each phase each CPU is in one strand. Each strand names the entries that its CPUs have for calls of its phase, each
+    once and in order."""
+    found = [(phase, cpu, at) for at, (phase, cpus, _) in enumerate(report.strands) for cpu in cpus]
+    every = [(phase, cpu) for phase in range(len(script.phases)) for cpu in range(script.made.cpus)]
+    need(sorted(of[:2] for of in found) == every, "in which strands the CPUs stand in each phase")
+    of = {(phase, cpu): at for phase, cpu, at in found}
+    own = [collections.defaultdict(list) for _ in report.strands]
     for lock, entries in report.histories.items():
         for index, entry in enumerate(entries):
             need(1 <= entry.call <= len(script.calls) and entry.cpu < script.made.cpus, "an entry of no call, or no CPU")
@@ -127,8 +186,7 @@ def check_phases(script, report):
 
 def is_marked(made, marked):
     """Whether these may be the elements whose bit is set."""
-    is_ascending = marked == sorted(set(marked)) and all(element < made.elements for element in marked)
-    return is_ascending and (made.evicts or not marked)
+    return marked == sorted(set(marked)) and all(element < made.elements for element in marked)
 
 
 def check_tickets(report):

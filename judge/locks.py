@@ -76,6 +76,10 @@ class Bucket:
         else:
             need(part.holder != cpu and part.holder < self.made.cpus, "the CPU that holds an element")
 
+    def lies(self):
+        """The free elements under the lock, and those that are listed, head first."""
+        return [], [row[0] for row in self.rows]
+
     def lines(self, number):
         return [f"bucket {number} {element} {key} {' '.join(values)}" for element, key, values in self.rows]
 
@@ -94,6 +98,9 @@ class Freelist:
             need(self.stack and self.stack.pop() == part.element, "what is popped")
         else:
             need(not self.stack, "an empty freelist")
+
+    def lies(self):
+        return self.stack[::-1], []
 
 
 class Local:
@@ -168,6 +175,9 @@ class Local:
         entry.probes = [(look.element, self.hashes[look.element], look.holder) for look in probed]
         if taken is not None:
             self.leave(taken, part)
+
+    def lies(self):
+        return self.free[:], self.pending[:]
 
 
 class ListSet:
@@ -266,6 +276,9 @@ class ListSet:
         if look.is_removed:
             self.leave(look.element)
             freed.append(look.element)
+
+    def lies(self):
+        return self.free[:], self.active + self.inactive
 
 
 def opening(made):

@@ -9,6 +9,9 @@ RECORDS = {1: "record 2", 2: "record 3"}
 class Unlawful(Exception):
     """A report that the rules don't allow, with what they refuse."""
 
+    # Under which flaw of a record.
+    flaw = None
+
 
 def need(holds, what):
     if not holds:
@@ -164,11 +167,13 @@ class Entry:
     call: int
     part: object
     # What the replay adds: the probes of a turn of lists, each an element, its stored hash then and the holder or none;
-    # what a refill flushed, each an element, its stored hash and its bit; and, of a push that found its element moved,
-    # whether the last change of the element's row was a refill that flushed it.
+    # what a refill flushed, each an element, its stored hash and its bit; of a push that found its element moved, whether
+    # the last change of the element's row was a refill that flushed it; and what lies under the lock after the turn, the
+    # free elements and those that are listed.
     probes: list = dataclasses.field(default_factory=list)
     flushed: list = dataclasses.field(default_factory=list)
     was_flushed: bool = False
+    left: tuple = ()
 
 
 class Words:
@@ -434,8 +439,10 @@ def read_report(text, calls, version=1):
     while at < len(lines) and lines[at].startswith("strand "):
         words = Words(lines[at].removeprefix("strand "))
         phase = words.number() if version > 1 else 0
-        cpus, count = [number(cpu) for cpu in words.word().split(",")], words.number()
+        named, count = words.word(), words.number()
         words.end()
+        # (of a strand without CPUs, which no run leaves, the word is empty)
+        cpus = [number(cpu) for cpu in named.split(",")] if named else []
         need(at + count < len(lines), "a strand ends early")
         strands.append((phase, cpus, [read_step(line) for line in lines[at + 1 : at + 1 + count]]))
         at += 1 + count

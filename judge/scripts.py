@@ -209,10 +209,10 @@ def read_call(words):
     return Call(cpu, verb, side, *rest)
 
 
-def random_script(draw, kind, flags, cpus, count, walks=False, phases=False):
+def random_script(draw, kind, flags, cpus, count, walks=False, phases=False, entries=None):
     """A script of calls on few keys: sometimes more than the map has room for, with few or many deletions; with phases
     some of these are of one CPU, and some empty."""
-    entries = draw.choice((1, 1, 2, 3, 5, 8, 20, 150, 700))
+    entries = entries or draw.choice((1, 1, 2, 3, 5, 8, 20, 150, 700))
     keys = draw.randrange(entries, 2 * entries + 3)
     made = Map(kind, 2, draw.choice((1, 2, 9)), entries, cpus, flags, draw.choice((0, 12345)))
     verbs = ["update"] * 8 + ["lookup"] * 4 + ["sysupdate", "syslookup"]

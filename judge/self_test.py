@@ -1,9 +1,9 @@
 """Shows that the judge refuses wrong reports: lawful ones with mistakes, and with each word and each line changed."""
 import pathlib
 
-from drafts import Draft, drop, entry, exchange, in_serial_form, line, line_changes, move, split, start, steps, strand_goes
+from drafts import Draft, apart, drop, entry, exchange, in_serial_form, line, line_changes, move, split, start, steps, strand_goes
 from drafts import swap, ticket, word_changes
-from judge import judge, unseen
+from judge import judge, judge_record, unseen
 from reports import Unlawful
 from scripts import read_script
 
@@ -250,6 +250,23 @@ REFUSED = [
         entry("bucket 0", 3, "replaced 2 0", "replaced 1 0"),
         entry("bucket 0", 4, "got 2 a3", "got 1 a3"),
     ),
+    (
+        "held",
+        "another CPU that holds an element",
+        "ticket 6: element 0 isn't in the hand of CPU 2",
+        entry("local 0", 1, "first 1 0:0:h0 second 1 0:h0", "first 1 0:0:h2 second 1 0:h2"),
+        entry("bucket 0", 0, "held 0", "held 2"),
+        entry("bucket 0", 1, "held 0", "held 2"),
+    ),
+    ("inside", "a turn of a bucket that another CPU holds", "ticket 1: bucket 1 is held", exchange("bucket 1", 0, "freelist 1", 0)),
+]
+# The same with edits that leave what no run leaves, and yet a record: of it neither bits nor the form of strands are asked.
+RECORDS = [
+    ("alone", "a strand for each CPU where all calls are of one", apart()),
+    ("joined", "a strand for each CPU in an empty phase", apart()),
+    ("parted", "a bit that no turn set", start(3, 13, [0])),
+    ("spares", "an element that is marked on a map that doesn't evict", start(2, 5, [0])),
+    ("phases", "a bit that the turns before don't leave", entry("local 0", 1, "first 1 0:0:r second 0", "first 1 0:1 second 1 0:r")),
 ]
 # Reports that runs left, and what races are made for that none of these saw.
 UNSEEN = [
@@ -290,14 +307,6 @@ LAWFUL_EDITS = [
         exchange("bucket 1", 1, "local 0", 1),
     ),
     (
-        "held",
-        "another CPU that holds an element",
-        "no entry tells in whose hand an element is, but that it is another's",
-        entry("local 0", 1, "first 1 0:0:h0 second 1 0:h0", "first 1 0:0:h2 second 1 0:h2"),
-        entry("bucket 0", 0, "held 0", "held 2"),
-        entry("bucket 0", 1, "held 0", "held 2"),
-    ),
-    (
         "joined",
         "the bit of an element that was pushed free",
         "where CPUs run beside each other no entry tells when a lookup's bit came",
@@ -316,10 +325,10 @@ def edited(text, edits):
     return draft.text()
 
 
-def refusal(script, report):
+def refusal(script, report, judges=judge):
     """Why a report is refused; none where it isn't."""
     try:
-        judge(script, report)
+        judges(script, report)
     except Unlawful as why:
         return why
     return None
@@ -343,6 +352,12 @@ def self_test():
         why = refusal(script, edited(report, edits))
         print(f"{name}, {what}:", f"refused: {why}" if str(why) == wanted else f"IS NOT REFUSED BY {wanted!r}: {why}")
         failed += str(why) != wanted
+    for name, what, *edits in RECORDS:
+        script, report = texts[name]
+        changed = edited(report, edits)
+        asked = refusal(script, changed, judge_record), refusal(script, changed)
+        print(f"{name}, {what}:", "a record of no run" if asked[0] is None and asked[1] is not None else f"NOT ONE: {asked}")
+        failed += asked[0] is not None or asked[1] is None
     for name, what, reason, *edits in LAWFUL_EDITS:
         script, report = texts[name]
         why = refusal(script, edited(report, edits))

@@ -32,32 +32,32 @@ line_and_rest text i inside here =
 
 -- A line that doesn't divide, and one that does
 
-abbrev ended : List ℕ → List ℕ
+abbrev pub ended : List ℕ → List ℕ
 ended line = line ++ codes "\n"
 
-abbrev script_in : List (List ℕ) → List ℕ
+abbrev pub script_in : List (List ℕ) → List ℕ
 script_in lines = flat_map ended (before_first divides lines)
 
-abbrev report_in : List (List ℕ) → List ℕ
+abbrev pub report_in : List (List ℕ) → List ℕ
 report_in lines = join_with_byte 10 (after_first divides lines)
 
 module _ (line : List ℕ) (lines : List (List ℕ)) where
-  any_no : divides line ≡ false → list_any divides (line ∷ lines) ≡ list_any divides lines
+  pub any_no : divides line ≡ false → list_any divides (line ∷ lines) ≡ list_any divides lines
   any_no is = ap (λ b. b || list_any divides lines) is
 
-  any_yes : divides line ≡ true → list_any divides (line ∷ lines) ≡ true
+  pub any_yes : divides line ≡ true → list_any divides (line ∷ lines) ≡ true
   any_yes is = ap (λ b. b || list_any divides lines) is
 
-  script_no : divides line ≡ false → script_in (line ∷ lines) ≡ ended line ++ script_in lines
+  pub script_no : divides line ≡ false → script_in (line ∷ lines) ≡ ended line ++ script_in lines
   script_no is = ap (flat_map ended) (before-cons_no divides line lines is) ∙ flat_map-cons ended line (before_first divides lines)
 
-  script_yes : divides line ≡ true → script_in (line ∷ lines) ≡ []
+  pub script_yes : divides line ≡ true → script_in (line ∷ lines) ≡ []
   script_yes is = ap (flat_map ended) (before-cons_yes divides line lines is)
 
-  report_no : divides line ≡ false → report_in (line ∷ lines) ≡ report_in lines
+  pub report_no : divides line ≡ false → report_in (line ∷ lines) ≡ report_in lines
   report_no is = ap (join_with_byte 10) (after-cons_no divides line lines is)
 
-  report_yes : divides line ≡ true → report_in (line ∷ lines) ≡ join_with_byte 10 lines
+  pub report_yes : divides line ≡ true → report_in (line ∷ lines) ≡ join_with_byte 10 lines
   report_yes is = ap (join_with_byte 10) (after-cons_yes divides line lines is)
 
 -- How far the lines of an input were looked at: none of those before the rest divides it.

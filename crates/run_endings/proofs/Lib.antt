@@ -1,4 +1,5 @@
 pub mod Dividing
+pub mod Divisions
 pub mod FewEntries
 pub mod Reports
 pub mod Statuses

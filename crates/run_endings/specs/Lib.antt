@@ -1,4 +1,5 @@
 pub mod Divided
+pub mod Divisions
 pub mod Finish
 pub mod Runs
 pub mod Comparisons

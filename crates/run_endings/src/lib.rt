@@ -9,5 +9,5 @@ mod record;
 
 pub use finish::{Due, Task, begin};
 pub use judging::{Claim, end_judged};
-pub use laws::comparison_law;
+pub use laws::{comparison_law, division_law};
 pub use record::Finish;
