@@ -3,11 +3,14 @@ import pathlib
 
 from drafts import Draft, apart, drop, entry, exchange, in_serial_form, line, line_changes, move, split, start, steps, strand_goes
 from drafts import swap, ticket, word_changes
+from copies import judge_copy
 from judge import judge, judge_record, unseen
 from reports import Unlawful
 from scripts import read_script
 
 LAWFUL = pathlib.Path(__file__).resolve().parent / "lawful"
+# Reports of copies.
+COPIES = LAWFUL.parent / "copied"
 
 # A report, what is done to it, and the edits that do it.
 WRONG = [
@@ -334,14 +337,41 @@ def refusal(script, report, judges=judge):
     return None
 
 
-def self_test():
-    reports = sorted(LAWFUL.glob("*.report"))
-    texts = {file.stem: (file.with_suffix(".bpfmap").read_text(), file.read_text()) for file in reports}
+def texts_in(folder):
+    return {file.stem: (file.with_suffix(".bpfmap").read_text(), file.read_text()) for file in sorted(folder.glob("*.report"))}
+
+
+def lawful_test(texts, judges):
+    """Asks for lawful reports. The answer is how many aren't."""
     failed = 0
     for name, (script, report) in texts.items():
-        why = refusal(script, report)
+        why = refusal(script, report, judges)
         print(f"{name}:", "lawful" if why is None else f"REFUSED: {why}")
         failed += why is not None
+    return failed
+
+
+def change_test(texts, judges):
+    """Asks that each change of a word or a line is refused. The answer is how many aren't."""
+    failed = 0
+    for name, (script, report) in texts.items():
+        for kind, changes in (("word", word_changes), ("line", line_changes)):
+            refused = 0
+            for number, changed in changes(report):
+                if refusal(script, changed, judges) is not None:
+                    refused += 1
+                    continue
+                old, new = report.splitlines()[number], changed.splitlines()[number]
+                reasons = [why for start, why in LAWFUL_CHANGES.items() if kind == "word" and old.startswith(start)]
+                print(f"{name}, {old!r} changed to {new!r}:", f"passes: {reasons[0]}" if reasons else "PASSES")
+                failed += not reasons
+            print(f"{name}: refused {refused} changes of a {kind}")
+    return failed
+
+
+def self_test():
+    texts, copied = texts_in(LAWFUL), texts_in(COPIES)
+    failed = lawful_test(texts, judge) + lawful_test(copied, judge_copy)
     for name, what, *edits in WRONG:
         script, report = texts[name]
         why = refusal(script, edited(report, edits))
@@ -375,17 +405,6 @@ def self_test():
             is_read = False
         print(f"a script with {what}:", "IS READ" if is_read else "refused")
         failed += is_read
-    for name, (script, report) in texts.items():
-        for kind, changes in (("word", word_changes), ("line", line_changes)):
-            refused = 0
-            for number, changed in changes(report):
-                if refusal(script, changed) is not None:
-                    refused += 1
-                    continue
-                old, new = report.splitlines()[number], changed.splitlines()[number]
-                reasons = [why for start, why in LAWFUL_CHANGES.items() if kind == "word" and old.startswith(start)]
-                print(f"{name}, {old!r} changed to {new!r}:", f"passes: {reasons[0]}" if reasons else "PASSES")
-                failed += not reasons
-            print(f"{name}: refused {refused} changes of a {kind}")
+    failed += change_test(texts, judge) + change_test(copied, judge_copy)
     if failed:
         raise SystemExit(f"{failed} failed")

@@ -8,6 +8,7 @@ use Rattle.map_types.specs.declared.kind.Side.TheVariants.{Sys}
 use Rattle.map_types.specs.declared.refusal.Errno.{Errno}
 use Rattle.map_types.specs.declared.refusal.Errno.TheVariants.{Enoent, Einval}
 use Rattle.map_types.specs.declared.reply.Reply.TheVariants.{Done, Refused, Batch}
+use Rattle.map_types.specs.Pairs.{HaveSizes}
 use Rattle.map_types.specs.Stored.{Stored}
 use Rattle.map_types.specs.ValueLen.{value_len_of}
 use Rattle.place_words.specs.declared.bucket_part.BucketPart.TheVariants.{Walk}
@@ -24,6 +25,7 @@ use Rattle.bucket_walks.specs.declared.read.BatchOut.TheVariants.{Idle, Read}
 use Rattle.bucket_walks.specs.declared.read.BatchRefusal.{BatchRefusal}
 use Rattle.bucket_walks.specs.declared.read.BatchRefusal.TheVariants as refusals
 use Rattle.bucket_walks.specs.Looks.{Looked, LooksInto}
+use Rattle.bucket_walks.specs.Pages.{IsPageFrom}
 
 -- the pairs that were read, of keys and values of these sizes in bytes, and how many may be read in all
 pub record PairsSoFar : Type 0 where
@@ -62,23 +64,31 @@ abbrev pub IsGathered : Walked → Bool → PairsSoFar → PairsSoFar → Type 0
 IsGathered (Over n) whole out now = (whole ≡ false) × (now ≡ out)
 IsGathered (Taken all) whole out now = (whole ≡ true) × (now ≡ with_pairs out (map pair_of all))
 
+-- A bucket that was left has more elements than there was room for, and no more than the map. What was read of one that was taken fits
+-- the room, and has the sizes of the map.
+abbrev pub FitsRoom : Shape → ℕ → Walked → Type 0
+FitsRoom shape room (Over n) = (room < n) × (n ≤ shape.elements)
+FitsRoom shape room (Taken all) = (length all ≤ room) × HaveSizes shape.key_size (value_len_of shape Sys) (map pair_of all)
+
 -- one turn of this bucket was made, which is told as one that read it whole, or left it where there was no room
 pub record ReadsInto (t : TableView) (bucket : ℕ) (before after : PassView) (whole : Bool) (out now : PairsSoFar) : Type 0 where
   pub walked : Walked
   pub into : LooksInto t bucket before after (Walk false (out.limit - length out.pairs) walked)
   pub gathered : IsGathered walked whole out now
+  pub fits : FitsRoom t.shape (out.limit - length out.pairs) walked
 
 -- why a batch ends at this bucket, or after the last one, with these pairs
 abbrev pub stop_of : Shape → ℕ → List (List ℕ × List ℕ) → Option Errno
 stop_of shape next pairs = if nat_lt next shape.buckets then stopped_at pairs else Some Enoent
 
--- the buckets from one on were read whole, up to the first for which there was no room
+-- the buckets from one on were read whole, up to the first for which there was no room, and give a page
 pub record ReadsOn (t : TableView) (from : ℕ) (before after : PassView) (limit : ℕ) (pairs : List (List ℕ × List ℕ)) (next : ℕ) : Type 0 where
   pub steps : List Turned
   pub told : List Turned
   pub lost : List ℕ
   pub looked : Looked t before after steps told lost
   pub trace : Walks t.shape before.cpu false limit (buckets_from t.shape from) [] (map (turn_at t.shape) told) (Batch (stop_of t.shape next pairs) pairs next)
+  pub page : IsPageFrom t.shape limit from (stop_of t.shape next pairs) pairs next
 
 -- A batch read made a trace of it, with the reply that goes with its answer. One that makes no walk changed nothing and gave no lock
 -- back, and where memory wasn't found nothing was done.

@@ -1,3 +1,4 @@
 pub mod Looks
+pub mod Pages
 pub mod Plans
 pub mod BatchReads

@@ -7,6 +7,7 @@ ghost use Rattle.map_types.specs.Shape.{HasBounds};
 ghost use Rattle.place_table.specs.Calls.{CanCall};
 ghost use Rattle.bucket_walks.specs.Looks.{CanWalk};
 ghost use Rattle.bucket_walks.specs.declared.read.BatchOut.TheVariants as outs;
+ghost use Rattle.bucket_walks.specs.Pages.{GivesPage};
 ghost use Rattle.bucket_walks.specs.Plans.{Plans};
 ghost use Rattle.bucket_walks.specs.BatchReads.{Answers, BeginsAt, Comes, ReadsOn, stop_of};
 
@@ -82,6 +83,8 @@ pub fn look_up_batch<R: Wait, G: Gate>(
     ensures answers { Answers table.now pass.old pass.new
         (verbs.BatchRead false request.count request.start request.flags) result }
     ensures comes { Comes table.now.shape request.count request.start request.flags result }
+    // What it takes is a page of the map.
+    ensures page { GivesPage table.now.shape request.count request.start result }
 {
     let shape = table.shape();
     match plan(alloc, shape, request) {

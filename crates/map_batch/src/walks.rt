@@ -1,9 +1,10 @@
 //! Next key and batch read.
 
-ghost use Rattle.std.specs.Prelude.{◌≡◌, IfErr, IfSome, length, option_map};
+ghost use Rattle.std.specs.Prelude.{◌≡◌, false, IfErr, IfSome, length, option_map};
 ghost use Rattle.map_types.specs.declared.call.Verb.TheVariants as verbs;
 ghost use Rattle.place_table.specs.Calls.{CanCall, Called, reply_of_value};
 ghost use Rattle.bucket_walks.specs.BatchReads.{Answers, Comes};
+ghost use Rattle.bucket_walks.specs.Pages.{GivesPage};
 ghost use Rattle.map_batch.specs.Calls.{table_of};
 
 use crate::any_map::AnyMap;
@@ -66,6 +67,8 @@ pub fn read_batch<R: Wait, G: Gate>(
     ensures answers { Answers (table_of map.now) pass.old pass.new
         (verbs.BatchRead remove count start flags) result }
     ensures comes { Comes (table_of map.now).shape count start flags result }
+    // What a batch lookup takes is a page of the map.
+    ensures page { remove ≡ false → GivesPage (table_of map.now).shape count start result }
 {
     let request = BatchRequest {
         count,

@@ -111,6 +111,7 @@ has_target_script attr source target count steps next created is some copies ans
       few = omega arith;
       room = rw (no_room target steps) (omega arith);
       phases = record { known = inl (refl, refl); few = omega arith; rise = tt };
+      target = tt;
     }
 
 -- a read is a call on the source's map, behind which each phase still starts where it did

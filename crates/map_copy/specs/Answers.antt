@@ -7,8 +7,8 @@ use Rattle.map_types.specs.declared.reply.Reply.{Reply}
 use Rattle.map_types.specs.declared.reply.Reply.TheVariants.{Batch}
 use Rattle.map_copy.specs.Copied.{Read, Step}
 
--- With no stop some bucket was taken, and there was no room for `next`. With ENOSPC the buckets before `next` were empty, and `next`
--- has more pairs than were asked for. With ENOENT all buckets from the start on were taken.
+-- With no stop `next` is a bucket behind the start: one at least was taken. With ENOSPC `next` is a bucket, and fewer pairs were
+-- asked for than the map has elements: a bucket had more. With ENOENT `next` is behind the last bucket.
 abbrev pub IsAnswer : Shape → Read → Reply → Type 0
 IsAnswer shape read (Batch None taken next) = (read.start < next) × (next < shape.buckets)
 IsAnswer shape read (Batch (Some Enospc) taken next) = (read.start ≤ next) × (next < shape.buckets) × (read.count < shape.elements)

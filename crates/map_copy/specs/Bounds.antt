@@ -19,8 +19,8 @@ AsksWithin = (shape : Shape) (count : ℕ) (steps : List Step) (next : Read) →
     → Copies shape.elements (Some (first_read count)) steps (Some next) → AreAnswered shape steps
     → MayAsk shape count next
 
--- The bound: at most as many reads as the source has buckets and 17 more, and fewer while a read is next. Each read but 17 takes a
--- bucket, and 17 doublings lead from one pair to more than any map has elements.
+-- The bound: at most as many reads as the source has buckets and 17 more, and fewer while a read is next. All reads but 17 at most
+-- take a bucket each, and 17 doublings lead from one pair to more than any map has elements.
 abbrev pub GoesOnBelow : Type 0
 GoesOnBelow = (shape : Shape) (count : ℕ) (steps : List Step) (next : Read) → IsShape shape → 1 ≤ count
     → Copies shape.elements (Some (first_read count)) steps (Some next) → AreAnswered shape steps

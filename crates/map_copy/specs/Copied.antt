@@ -1,4 +1,4 @@
--- How a map, the source, is copied into another one, the target, while calls on the source go on. Pages are read of the source
+-- How a map, the source, is copied into another one, the target, while calls on the source go on. Pages are read from the source
 -- by batch lookups, and the pairs of each page are put into the target by one batch update. (own)
 use Rattle.std.specs.Prelude.{◌≡◌, ℕ, ◌*◌, min, Bool, true, false, List, [], ◌∷◌, Option, None, Some, if◌then◌else◌}
 use Rattle.map_types.specs.declared.refusal.Errno.TheVariants.{Enoent, Enospc}

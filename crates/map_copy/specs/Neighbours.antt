@@ -11,8 +11,8 @@ abbrev pub has_no_room : Reply → Bool
 has_no_room (Batch (Some Enospc) taken next) = true
 has_no_room reply = false
 
--- The second of two reads starts where the first one's reply says, so that no bucket is put twice. Its count is the same, or after
--- ENOSPC twice that, and never doubled past the source's elements. The first step ended nothing: its put didn't stop.
+-- The second of two reads starts where the first one's reply says. Its count is the same, or after ENOSPC twice that, and never
+-- doubled past the source's elements. The first step didn't end the copy: its put didn't stop, and its page isn't one with ENOENT.
 pub record IsFollowedBy (elements : ℕ) (first second : Step) : Type 0 where
   pub start : second.read.start ≡ next_in first.page
   pub count : second.read.count ≡ (if has_no_room first.page then min (2 * first.read.count) elements else first.read.count)

@@ -65,6 +65,7 @@ script = record {
   calls = calls;
   cuts = cuts;
   spec = None;
+  target = None;
 }
 
 -- call 1 is in phase 0, call 2 in phase 1, and calls 3 and 4 in phase 2; with an empty phase between, call 2 is in phase 2

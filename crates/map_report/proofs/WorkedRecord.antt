@@ -51,6 +51,7 @@ script = record {
       ∷ (record { cpu = 0; verb = verbs.Lookup Prog (1 ∷ []) }) ∷ (record { cpu = 0; verb = verbs.Lookup Prog (2 ∷ []) }) ∷ [];
   cuts = [];
   spec = None;
+  target = None;
 }
 
 at : DomainId → ℕ → StrandStep

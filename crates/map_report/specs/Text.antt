@@ -14,11 +14,15 @@ use Rattle.map_report.specs.Dump.{dump_lines}
 use Rattle.map_report.specs.History.{history_lines}
 use Rattle.map_report.specs.Words.{errno_name, number_text, numbered}
 
+-- a word, and then `KIND capacity N elements N buckets N`
+abbrev pub shape_line : List ℕ → Shape → List ℕ
+shape_line word shape =
+    word ++ kind_name shape.kind ++ (codes " capacity" ++ number_text shape.capacity)
+    ++ (codes " elements" ++ number_text shape.elements) ++ (codes " buckets" ++ number_text shape.buckets)
+
 -- `map KIND capacity N elements N buckets N`
 abbrev pub map_line : Shape → List ℕ
-map_line shape =
-    codes "map " ++ kind_name shape.kind ++ (codes " capacity" ++ number_text shape.capacity)
-    ++ (codes " elements" ++ number_text shape.elements) ++ (codes " buckets" ++ number_text shape.buckets)
+map_line shape = shape_line (codes "map ") shape
 
 -- `ok`, or the error at which a batch stopped
 abbrev pub stop_name : Option Errno → List ℕ
@@ -41,13 +45,15 @@ abbrev pub reply_line : ℕ → Reply → List ℕ
 reply_line number reply = decimal number ++ codes " " ++ reply_text reply
 
 -- What is printed of a run: a line for the map, one for each reply, numbered from 1, what happened and what the map holds
--- where that is asked for, and `end`.
-abbrev pub report_lines : Script → RunRecord → Options → List (List ℕ)
-report_lines script kept options =
+-- where that is asked for, and `end`. All but the last line:
+abbrev pub told_lines : Script → RunRecord → Options → List (List ℕ)
+told_lines script kept options =
     map_line script.shape ∷ numbered (λ number reply. reply_line number reply ∷ []) 1 kept.replies
     ++ (if options.history then history_lines script.version kept else [])
     ++ (if options.dump then dump_lines script.shape kept.finals else [])
-    ++ codes "end" ∷ []
+
+abbrev pub report_lines : Script → RunRecord → Options → List (List ℕ)
+report_lines script kept options = told_lines script kept options ++ codes "end" ∷ []
 
 -- each line is ended by a line feed
 abbrev pub ended : List ℕ → List ℕ

@@ -18,4 +18,5 @@ pub use json::json_of;
 pub use place_words::{Finals, Kept, LocalFinal, SetFinal};
 pub use record::{Options, PhaseStart, RunRecord};
 pub use summary::summary_of;
-pub use text::text_of;
+pub use text::{add_dump_if, add_history_if, add_told, push_shape, text_of};
+pub use words::errno_name;

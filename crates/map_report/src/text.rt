@@ -4,7 +4,7 @@ ghost use Rattle.std.specs.Prelude.{◌≡◌, [], ◌++◌, IfOk, OnOk, string_
 ghost use Rattle.std.specs.List.{flat_map};
 ghost use Rattle.map_report.specs.Dump.{dump_lines};
 ghost use Rattle.map_report.specs.History.{history_lines};
-ghost use Rattle.map_report.specs.Text.{ended, map_line, report};
+ghost use Rattle.map_report.specs.Text.{ended, map_line, report, shape_line, told_lines};
 ghost use Rattle.map_report.specs.Words.{number_text};
 
 use crate::dump::add_dump;
@@ -30,16 +30,29 @@ pub fn text_of(
     ensures { IfOk result (λ text. text.items ≡ report script.now kept.now options) }
 {
     let mut text = String::new(alloc);
-    text.add(&script.shape)?;
-    add_numbered(&mut text, 1, kept.replies.as_slice())?;
-    add_history_if(&mut text, script.version, kept, options.history)?;
-    add_dump_if(&mut text, &script.shape, &kept.finals, options.dump)?;
+    add_told(&mut text, script, kept, options)?;
     text.push_str("end\n")?;
     Ok(text.into_bytes())
 }
 
-/// Adds what happened, if that is asked for.
-pub(crate) fn add_history_if(
+/// Adds the lines of a report but the last one, `end`. `options.json` is not looked at.
+pub fn add_told(
+    text: &mut String,
+    script: &Script,
+    kept: &RunRecord,
+    options: Options,
+) -> Result<(), AllocError>
+    ensures { OnOk result (string_bytes text.new
+        ≡ string_bytes text.old ++ flat_map ended (told_lines script.now kept.now options)) }
+{
+    text.add(&script.shape)?;
+    add_numbered(text, 1, kept.replies.as_slice())?;
+    add_history_if(text, script.version, kept, options.history)?;
+    add_dump_if(text, &script.shape, &kept.finals, options.dump)
+}
+
+/// Adds what happened, if that is asked for, of a script of this version.
+pub fn add_history_if(
     text: &mut String,
     version: u32,
     kept: &RunRecord,
@@ -56,7 +69,7 @@ pub(crate) fn add_history_if(
 }
 
 /// Adds what the map holds, if that is asked for.
-pub(crate) fn add_dump_if(
+pub fn add_dump_if(
     text: &mut String,
     shape: &Shape,
     finals: &Finals,
@@ -78,12 +91,20 @@ impl Piece for Shape {
     ghost shown = { map_line };
 
     fn push_to(&self, text: &mut String) -> Result<(), AllocError> {
-        text.push_str("map ")?;
-        text.push_str(kind_name(self.kind))?;
-        push_labelled(text, " capacity", self.capacity)?;
-        push_labelled(text, " elements", self.elements)?;
-        push_labelled(text, " buckets", self.buckets)
+        push_shape(text, "map ", self)
     }
+}
+
+/// Adds a word, and the kind and the sizes of a map: `KIND capacity N elements N buckets N`.
+pub fn push_shape(text: &mut String, word: &str, shape: &Shape) -> Result<(), AllocError>
+    ensures { OnOk result (string_bytes text.new
+        ≡ string_bytes text.old ++ shape_line word.now shape.now) }
+{
+    text.push_str(word)?;
+    text.push_str(kind_name(shape.kind))?;
+    push_labelled(text, " capacity", shape.capacity)?;
+    push_labelled(text, " elements", shape.elements)?;
+    push_labelled(text, " buckets", shape.buckets)
 }
 
 /// Adds a label and a number.

@@ -8,7 +8,7 @@ use map_types::{DomainId, Errno, Side};
 use std::alloc::AllocError;
 
 /// The name of an error.
-pub(crate) fn errno_name(errno: Errno) -> &'static str
+pub fn errno_name(errno: Errno) -> &'static str
     ensures { result.now ≡ errno_name errno }
 {
     match errno {

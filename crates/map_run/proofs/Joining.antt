@@ -23,47 +23,17 @@ use Rattle.place_table.specs.declared.view.Turned.{Turned}
 use Rattle.place_table.specs.declared.view.WordStep.{WordStep}
 use Rattle.place_table.specs.declared.view.Ended.{Ended}
 use Rattle.place_table.specs.declared.view.View.{View}
-use Rattle.place_table.specs.Passes.{PassView, TableView, spare_of, either_spare, IsInNoCall, IsPassOf, IsKeptOf, CanJoin, Joined}
+use Rattle.place_table.specs.Passes.{PassView, TableView, spare_of, either_spare, CanJoin, Joined}
 use Rattle.place_table.specs.Tickets.{turn_tickets}
 use Rattle.place_table.specs.Views.{is_among, all_strands, current_strand, joined, next}
 use Rattle.hash_ops.specs.Calls.{element_of}
 use Rattle.map_run.specs.declared.worker.Worker.{Worker}
-use Rattle.file_order.specs.Replies.{count_of, replies_by, replies_of}
+use Rattle.file_order.specs.Replies.{replies_by, replies_of}
 use Rattle.run_records.specs.Work.{AreCallsBy, HasWorked, HaveRaced, has_turn}
+use Rattle.map_run.specs.Joined.{HaveJoined, WorkIs, strand_did, strands_before}
 use Rattle.map_run.specs.Workers.{AreSplitOff, HaveDone, HaveEnded, HasSplit, IsSplitOff}
 use Rattle.map_run.proofs.Workers.{among_one, not_among_one, among_append, below_more, kept_off}
 use Rattle.serial_laws.proofs.ListPlaces.{made_same}
-
--- What the pass that has a CPU tells of its worker: the turns and those recorded, and the replies.
-abbrev pub WorkIs : TableView → ℕ → List Call → PassView → PassView → ℕ → List Turned × List StrandStep × List WordStep → List Reply → Type 0
-WorkIs t number calls start p cpu did own =
-    IsKeptOf t.shape did.0 [] did.1 × (length own ≡ count_of cpu calls) × AscendIn (next start.view) (turn_tickets did.0) (next p.view)
-    × (p.view.lost ≡ [] → AreCallsBy t.shape cpu number calls (element_of (spare_of cpu start.spares)) (element_of (spare_of cpu p.spares)) own did.0)
-
-abbrev pub strand_did : (ℕ → List Turned × List StrandStep × List WordStep) → ℕ → Ended
-strand_did did cpu = record { cpus = cpu ∷ []; steps = (did cpu).0; kept = (did cpu).1; touched = (did cpu).2 }
-
--- the strands with a turn that were there at the start come with the pass of CPU 0
-abbrev pub strands_before : ℕ → PassView → List Ended
-strands_before n start = cond (eqb n 0) [] (filter has_turn (all_strands start.view))
-
--- The pass into which those of the workers of the CPUs below n were joined, in their order, with the replies of each.
-pub record HaveJoined (t : TableView) (number : ℕ) (calls : List Call) (start : PassView) (n : ℕ) (p : PassView) (replies : List (List Reply)) (counts : List ℕ) : Type 0 where
-  pub of_table : IsPassOf t p
-  pub in_no_call : IsInNoCall p
-  pub here : (cpu : ℕ) → cpu < n → is_among cpu p.view.cpus ≡ true
-  pub gone : (cpu : ℕ) → n ≤ cpu → cpu < t.shape.cpus → is_among cpu p.view.cpus ≡ false
-  pub spares_gone : (cpu : ℕ) → n ≤ cpu → cpu < t.shape.cpus → spare_of cpu p.spares ≡ None
-  pub did : ℕ → List Turned × List StrandStep × List WordStep
-  pub strands : filter has_turn (all_strands p.view) ≡ strands_before n start ++ filter has_turn (map (strand_did did) (range_with_len 0 n))
-  pub no_steps : 0 < n → (p.view.steps ≡ []) × (p.view.kept ≡ [])
-  pub next_is : next start.view ≤ next p.view
-  pub refused : start.view.refused ≤ p.view.refused
-  pub lost : p.view.lost ≡ [] → start.view.lost ≡ []
-  pub beyond : (cpu : ℕ) → t.shape.cpus ≤ cpu → spare_of cpu p.spares ≡ spare_of cpu start.spares
-  pub workers : length replies ≡ n
-  pub counts_are : counts ≡ map (λ cpu. length (did cpu).1) (range_with_len 0 n)
-  pub each : (cpu : ℕ) → cpu < n → WorkIs t number calls start p cpu (did cpu) (replies_by cpu replies)
 
 some_cpus : (shape : Shape) → IsShape shape → 0 < shape.cpus
 some_cpus shape is = let some : 1 ≤ shape.cpus = (bounds_of_shape shape is).some_cpu in omega arith

@@ -33,7 +33,7 @@ module _ (words : List (List ℕ)) (check : mode_of words ≡ Check) (input : Li
   yes_by (Refused why) cause told = absurd (another before after 6 (text_due (Refused why)) (λ is. cc) told)
   yes_by (Unfit why) cause told = absurd (another before after 11 (text_due (Unfit why)) (λ is. cc) told)
   yes_by OutOfMemory cause told = absurd (another before after 5 (text_due OutOfMemory) (λ is. cc) told)
-  yes_by (Ran asked script kept) cause told = absurd (report (cause.1.0) (Ran asked script kept) (cause.1.2))
+  yes_by (Ran asked script kept copy) cause told = absurd (report (cause.1.0) (Ran asked script kept copy) (cause.1.2))
   yes_by Undivided cause told = absurd (another before after 10 (text_due Undivided) (λ is. cc) told)
   yes_by (Told (Unread line)) cause told = absurd (another before after 10 (text_due (Told (Unread line))) (λ is. cc) told)
   yes_by (Told (Judged (No flaw))) cause told = absurd (another before after 9 (text_due (Told (Judged (No flaw)))) (λ is. cc) told)

@@ -7,3 +7,14 @@ pub mod Judged
 pub mod Working
 pub mod Workers
 pub mod Refused
+mod BesideCalls
+mod BesideRaced
+mod CopiedPages
+mod ExtendedPhases
+mod MapPages
+mod CopyLoop
+mod CopiesKept
+mod CopyScripts
+mod CopyRecords
+mod LastPhase
+mod BesideWorked

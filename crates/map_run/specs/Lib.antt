@@ -1,4 +1,7 @@
+pub mod CopiesKept
+pub mod Copying
 pub mod Finish
+pub mod Joined
 pub mod Judged
 pub mod Refusals
 pub mod Workers

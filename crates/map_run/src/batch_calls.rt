@@ -1,13 +1,16 @@
 //! One batch of a run.
 
-ghost use Rattle.std.specs.Prelude.{◌≡◌, ◌<◌, ◌^◌, All, IfOk, length};
+ghost use Rattle.std.specs.Prelude.{◌≡◌, ◌<◌, ◌^◌, false, unwrap_or, All, IfOk, length};
 ghost use Rattle.map_types.specs.declared.call.Verb.TheVariants as verbs;
 ghost use Rattle.map_types.specs.declared.kind.Side.TheVariants.{Sys};
 ghost use Rattle.map_types.specs.Pairs.{HaveSizes};
 ghost use Rattle.map_types.specs.ValueLen.{value_len_of};
 ghost use Rattle.place_table.specs.Calls.{CanCall, Called};
+ghost use Rattle.bucket_walks.specs.BatchReads.{IsToRead};
 ghost use Rattle.map_batch.specs.Calls.{table_of};
+ghost use Rattle.map_copy.specs.Copied.{read_of};
 ghost use Rattle.map_report.specs.Record.{MayAnswer};
+ghost use Rattle.map_run.specs.Copying.{IsMapPage};
 
 use bucket_walks::BatchRequest;
 use map_batch::{
@@ -34,6 +37,11 @@ pub(crate) fn batch_read<R: Wait, G: Gate>(
         (verbs.BatchRead remove request.count request.start request.flags) reply) }
     ensures called { IfOk result (λ reply. Called (table_of map.now) pass.old pass.new
         (verbs.BatchRead remove request.count request.start request.flags) reply) }
+    // A lookup that goes over buckets answers a page of the map.
+    ensures page { IfOk result (λ reply. remove ≡ false
+        → IsToRead (table_of map.now).shape request.count request.start request.flags
+        → IsMapPage (table_of map.now).shape
+        (read_of request.count (unwrap_or request.start 0)) reply) }
 {
     let BatchRequest {
         count,

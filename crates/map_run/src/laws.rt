@@ -1,5 +1,6 @@
-//! What the contracts of runs refuse, and what they tell of judged reports, as clauses of functions that do nothing.
+//! What the contracts of runs refuse, and what they tell of judged reports and of copies, as clauses of functions that do nothing.
 
+ghost use Rattle.map_run.specs.CopiesKept.{KeepsCopies};
 ghost use Rattle.map_run.specs.Judged.{EndsWithYes};
 ghost use Rattle.map_run.specs.Refusals.{KeptFromATable, LoneCallsByOne, LonePhaseIsWhole};
 
@@ -16,4 +17,9 @@ pub fn refused_laws()
 /// stands before it. Nothing is kept.
 pub fn check_law()
     ensures { EndsWithYes }
+{}
+
+/// What is kept of a copy is there exactly in mode `copy`, where a record is kept.
+pub fn copy_law()
+    ensures { KeepsCopies }
 {}

@@ -2,6 +2,8 @@
 #![tactic(auto)]
 
 mod batch_calls;
+mod copy;
+mod copy_race;
 mod each_call;
 mod finish;
 mod hold_gate;
@@ -13,12 +15,13 @@ mod record;
 mod serial;
 mod worker;
 
+pub use copy_race::run_copy;
 pub use finish::bpfmap;
 pub use hold_gate::{Hold, HoldGate};
-pub use laws::{check_law, refused_laws};
+pub use laws::{check_law, copy_law, refused_laws};
 pub use map_report::{Finals, Kept, LocalFinal, Options, RunRecord, SetFinal};
 pub use race::run_race;
-pub use record::Finish;
+pub use record::{CopyRecord, Finish};
 pub use run_ends::{MemSink, MemSource, Sink, Source};
 pub use serial::run_serial;
 pub use serial_laws::record_laws;

@@ -1,7 +1,8 @@
 //! A race: a worker for each CPU, all at once.
 
-ghost use Rattle.std.specs.Prelude.{◌≡◌, ◌≤◌, ◌<◌, ◌+◌, ◌++◌, ℕ, suc, false, Some, [], ◌∷◌, All, IfOk, OnOk, length, slice_index_or, vec_capacity};
+ghost use Rattle.std.specs.Prelude.{◌≡◌, ◌≤◌, ◌<◌, ◌+◌, ◌++◌, ℕ, suc, false, Some, [], ◌∷◌, All, IfOk, List, OnOk, length, slice_index_or, vec_capacity};
 ghost use Rattle.map_types.specs.Creation.{IsShape};
+ghost use Rattle.map_types.specs.declared.call.Call.{Call};
 ghost use Rattle.map_script.specs.WellFormed.{HasPhases};
 ghost use Rattle.map_batch.specs.Calls.{table_of};
 ghost use Rattle.place_table.specs.Passes.{IsFirstPass, PassView};
@@ -14,6 +15,7 @@ ghost use Rattle.run_records.specs.Phased.{IsWhole};
 ghost use Rattle.run_records.specs.Races.{HaveComeTo, IsRaceRecord, RanByMany, RanByOne, RanCalls};
 ghost use Rattle.serial_laws.specs.Served.{IsScript, IsServed, IsServedCall};
 ghost use Rattle.run_records.specs.Work.{HaveRaced};
+ghost use Rattle.map_run.specs.Joined.{HaveJoined, told_by};
 ghost use Rattle.map_run.specs.Workers.{AreSplitOff, HasDone, HasSplit, HaveDone, HaveEnded, IsReady};
 
 use crate::RunRecord;
@@ -75,18 +77,20 @@ fn race_script<R: Threads + Wait + Sync, G: Gate>(
     ensures closed { IfOk result (λ kept. IsCopyOf kept.0 kept.1) }
 {
     let (map, mut pass) = AnyMap::create(alloc, &script.shape)?;
-    let told = race_phases(rt, alloc, &map, &mut pass, script, gate)?;
+    let phases = script.cuts.len() + 1;
+    let told = race_phases(rt, alloc, &map, &mut pass, script, phases, gate)?;
     let closed = map.close(pass)?;
     keep(alloc, script.shape.cpus, told, closed)
 }
 
-/// Runs the phases of a script one after another.
-fn race_phases<R: Threads + Wait + Sync, G: Gate>(
+/// Runs so many phases of a script, from the first on, one after another.
+pub(crate) fn race_phases<R: Threads + Wait + Sync, G: Gate>(
     rt: &R,
     alloc: Global,
     map: &AnyMap,
     pass: &mut Pass,
     script: &Script,
+    phases: usize,
     gate: &G,
 ) -> Result<Told, NoMemory>
     requires same { (table_of map.now).shape ≡ script.now.shape }
@@ -94,17 +98,17 @@ fn race_phases<R: Threads + Wait + Sync, G: Gate>(
     requires served { IsServed script.now }
     requires few { length script.now.calls ≤ 200000 }
     requires phases { HasPhases script.now.version (length script.now.calls) script.now.cuts }
+    requires within { phases ≤ phase_count script.now.cuts }
     requires first { IsFirstPass (table_of map.now) pass.old }
-    ensures { IfOk result (λ told. HaveComeTo (table_of map.now) script.now
-        (phase_count script.now.cuts) pass.new told.replies.items told.starts.items
-        told.pieces.items) }
+    ensures { IfOk result (λ told. HaveComeTo (table_of map.now) script.now phases pass.new
+        told.replies.items told.starts.items told.pieces.items) }
 {
     let mut told = Told {
         replies: Vec::with_capacity(alloc, script.calls.len())?,
         starts: Vec::with_capacity(alloc, script.cuts.len() + 1)?,
         pieces: Vec::new(alloc),
     };
-    for phase in 0..script.cuts.len() + 1 {
+    for phase in 0..phases {
         race_phase(rt, alloc, map, pass, script, phase, gate, &mut told)?;
     }
     Ok(told)
@@ -156,7 +160,7 @@ pub(crate) struct ToldPhase {
 }
 
 /// Adds what is told of a phase to what is told of the phases before it.
-fn add_phase(told: &mut Told, start: PhaseStart, more: ToldPhase) -> Result<(), NoMemory>
+pub(crate) fn add_phase(told: &mut Told, start: PhaseStart, more: ToldPhase) -> Result<(), NoMemory>
     ensures replies { OnOk result (told.new.replies.items
         ≡ told.old.replies.items ++ more.replies.items) }
     ensures starts { OnOk result (told.new.starts.items ≡ told.old.starts.items ++ start ∷ []) }
@@ -251,7 +255,7 @@ fn run_at_once<R: Threads + Wait + Sync, G: Gate>(
 }
 
 /// A piece of a phase for each CPU, of so many steps each.
-fn pieces_of(alloc: Global, phase: u32, counts: &[usize]) -> Result<Vec<Piece>, NoMemory>
+pub(crate) fn pieces_of(alloc: Global, phase: u32, counts: &[usize]) -> Result<Vec<Piece>, NoMemory>
     requires few { length counts.now ≤ 16 }
     ensures { IfOk result (λ pieces. pieces.items ≡ pieces_by phase 0 counts.now) }
 {
@@ -301,7 +305,13 @@ fn race_calls<R: Threads + Wait + Sync, G: Gate>(
 }
 
 /// A worker for each CPU, in ascending order, with a pass split off this one.
-fn split_all(alloc: Global, map: &AnyMap, pass: &mut Pass, cpus: u32, workers: &mut Vec<Worker>)
+pub(crate) fn split_all(
+    alloc: Global,
+    map: &AnyMap,
+    pass: &mut Pass,
+    cpus: u32,
+    workers: &mut Vec<Worker>,
+)
     requires cpus { cpus ≡ (table_of map.now).shape.cpus }
     requires whole { IsWhole (table_of map.now) pass.old }
     requires room { (workers.old.items ≡ []) × (cpus ≤ vec_capacity workers.old) }
@@ -346,7 +356,7 @@ fn work_all<R: Threads + Wait + Sync, G: Gate>(
 }
 
 /// Each worker in a thread of its own, where there are as many.
-fn work_at_once<R: Threads + Wait + Sync, G: Gate>(
+pub(crate) fn work_at_once<R: Threads + Wait + Sync, G: Gate>(
     rt: &R,
     alloc: Global,
     map: &AnyMap,
@@ -377,7 +387,7 @@ fn work_at_once<R: Threads + Wait + Sync, G: Gate>(
 }
 
 /// Whether a worker found no memory.
-fn has_failed(workers: &[Worker]) -> bool
+pub(crate) fn has_failed(workers: &[Worker]) -> bool
     ensures { result ≡ false → All (λ (worker : Worker). worker.failed ≡ false) workers.now }
 {
     workers.iter().any(|worker| worker.failed)
@@ -401,6 +411,36 @@ fn join_all(
         → IfOk result (λ raced. HaveRaced (table_of map.now) number calls.now start pass.new
         raced.replies.items raced.counts.items) }
 {
+    let Joined { replies, counts } = join_workers(alloc, map, pass, workers)?;
+    let replies = in_file_order(alloc, calls, replies)?;
+    Ok(Raced { replies, counts })
+}
+
+/// What workers answered, each its own calls, and how many steps each CPU's strand has.
+#[derive(Drop)]
+pub(crate) struct Joined {
+    pub(crate) replies: Vec<ReplyQueue>,
+    pub(crate) counts: Vec<usize>,
+}
+
+/// Joins the workers' passes to the one that they were split off, in ascending order of their CPUs. It gives the replies of each, and
+/// how many steps its strand has.
+pub(crate) fn join_workers(
+    alloc: Global,
+    map: &AnyMap,
+    pass: &mut Pass,
+    workers: Vec<Worker>,
+) -> Result<Joined, NoMemory>
+    requires shape { IsShape (table_of map.now).shape }
+    requires ended { (number : ℕ) × (calls : List Call) × (start : PassView)
+        × HaveEnded (table_of map.now) number calls start pass.old workers.items }
+    // whichever calls they made
+    ensures joined { (number : ℕ) (calls : List Call) (start : PassView)
+        → HaveEnded (table_of map.now) number calls start pass.old workers.items
+        → IfOk result (λ joined. HaveJoined (table_of map.now) number calls start
+        (table_of map.now).shape.cpus pass.new joined.replies.items joined.counts.items) }
+    ensures replies { IfOk result (λ joined. joined.replies.items ≡ told_by workers.items) }
+{
     let mut replies = Vec::with_capacity(alloc, workers.len())?;
     let mut counts = Vec::with_capacity(alloc, workers.len())?;
     for worker in workers {
@@ -408,6 +448,5 @@ fn join_all(
         map.table().join(pass, worker.pass);
         replies.push(worker.replies)?;
     }
-    let replies = in_file_order(alloc, calls, replies)?;
-    Ok(Raced { replies, counts })
+    Ok(Joined { replies, counts })
 }

@@ -1,12 +1,10 @@
 -- What a line says changes neither with its comment nor with its blanks.
-use Rattle.std.proofs.Common.{◌≡◌, ℕ, suc, ◌+◌, ◌==◌, ◌&&◌, ◌||◌, nat_le, Bool, true, false, not, cond, List, [], ◌∷◌, ◌++◌, length, take, filter, count_by, Result, Ok, Err, refl, sym, ap, ◌∙◌, append-nil, arith}
+use Rattle.std.proofs.Common.{◌≡◌, ℕ, suc, ◌+◌, ◌==◌, ◌&&◌, ◌||◌, nat_le, Bool, true, false, not, cond, List, [], ◌∷◌, ◌++◌, length, take, filter, count_by, refl, sym, ap, ◌∙◌, append-nil, arith}
 use Rattle.std.specs.List.{slice_split, onto_first, list_all, prefix_len}
 use Rattle.std.proofs.lemmas.Bool.{cond-true, cond-false, ne_eqb}
 use Rattle.std.proofs.lemmas.List.Folds.{list_all-append}
 use Rattle.std.proofs.lemmas.List.Splits.{slice_split-cons_no}
-use Rattle.map_script.specs.declared.refusal.Cause.{Cause}
-use Rattle.map_script.specs.declared.refusal.Cause.TheVariants.{Byte}
-use Rattle.map_script.specs.Lines.{is_blank, is_hash, is_allowed, before_comment, tokens_of, said_by}
+use Rattle.map_script.specs.Lines.{Said, is_blank, is_hash, is_allowed, before_comment, tokens_of, said_in, said_by}
 use Rattle.map_script.proofs.Splitting.{some_part, split_at}
 use Rattle.map_script.proofs.TokenLines.{is_some_token, some_length}
 
@@ -26,30 +24,28 @@ cut_is (byte ∷ line) =
     take_step (is_hash byte) (prefix_len (λ x. not (is_hash x)) line) byte line
     ∙ ap (λ (rest : List ℕ). cond (is_hash byte) [] (byte ∷ rest)) (cut_is line)
 
--- what a line says that has no comment
-abbrev says : List ℕ → Result (List (List ℕ)) Cause
-says line = cond (list_all is_allowed line) (Ok (tokens_of line)) (Err Byte)
+said_is : (line : List ℕ) → said_by line ≡ said_in (cut line)
+said_is line = ap said_in (cut_is line)
 
-said_is : (line : List ℕ) → said_by line ≡ says (cut line)
-said_is line = ap says (cut_is line)
-
-one_step : (stop : Bool) (byte : ℕ) (a b : List ℕ) (f : List ℕ → Result (List (List ℕ)) Cause) → f (byte ∷ a) ≡ f (byte ∷ b) → f (cond stop [] (byte ∷ a)) ≡ f (cond stop [] (byte ∷ b))
+one_step : (stop : Bool) (byte : ℕ) (a b : List ℕ) (f : List ℕ → Said) → f (byte ∷ a) ≡ f (byte ∷ b) → f (cond stop [] (byte ∷ a)) ≡ f (cond stop [] (byte ∷ b))
 one_step true byte a b f h = refl
 one_step false byte a b f h = h
 
 -- two lines that begin alike are cut alike, in their common part or behind it
-cut_same : (pre x y : List ℕ) (f : List ℕ → Result (List (List ℕ)) Cause) → ((q : List ℕ) → f (q ++ cut x) ≡ f (q ++ cut y)) → f (cut (pre ++ x)) ≡ f (cut (pre ++ y))
+cut_same : (pre x y : List ℕ) (f : List ℕ → Said) → ((q : List ℕ) → f (q ++ cut x) ≡ f (q ++ cut y)) → f (cut (pre ++ x)) ≡ f (cut (pre ++ y))
 cut_same [] x y f h = h []
 cut_same (byte ∷ pre) x y f h =
     one_step (is_hash byte) byte (cut (pre ++ x)) (cut (pre ++ y)) f (cut_same pre x y (λ line. f (byte ∷ line)) (λ q. h (byte ∷ q)))
 
-said_same : (pre x y : List ℕ) → ((q : List ℕ) → says (q ++ cut x) ≡ says (q ++ cut y)) → said_by (pre ++ x) ≡ said_by (pre ++ y)
-said_same pre x y h = said_is (pre ++ x) ∙ cut_same pre x y says h ∙ sym (said_is (pre ++ y))
+said_same : (pre x y : List ℕ) → ((q : List ℕ) → said_in (q ++ cut x) ≡ said_in (q ++ cut y)) → said_by (pre ++ x) ≡ said_by (pre ++ y)
+said_same pre x y h = said_is (pre ++ x) ∙ cut_same pre x y said_in h ∙ sym (said_is (pre ++ y))
 
-says_same : (a b : List ℕ) → list_all is_allowed a ≡ list_all is_allowed b → tokens_of a ≡ tokens_of b → says a ≡ says b
+abbrev said : List (List ℕ) → Bool → Said
+said tokens allowed = record { tokens = tokens; allowed = allowed }
+
+says_same : (a b : List ℕ) → list_all is_allowed a ≡ list_all is_allowed b → tokens_of a ≡ tokens_of b → said_in a ≡ said_in b
 says_same a b allowed tokens =
-    ap (λ (all : Bool). cond all (Ok (tokens_of a)) (Err Byte)) allowed
-    ∙ ap (λ (found : List (List ℕ)). cond (list_all is_allowed b) (Ok found) (Err Byte)) tokens
+    ap (λ (all : Bool). said (tokens_of a) all) allowed ∙ ap (λ (found : List (List ℕ)). said found (list_all is_allowed b)) tokens
 
 -- ---- what a blank is
 
@@ -117,11 +113,11 @@ pub said_blank : (pre l : List ℕ) (b c : ℕ) → is_blank b ≡ true → is_b
 said_blank pre l b c hb hc =
     said_same pre (b ∷ l) (c ∷ l) (λ q.
     let line = cut l in
-    ap (λ (x : List ℕ). says (q ++ x)) (cut_blank b l hb)
+    ap (λ (x : List ℕ). said_in (q ++ x)) (cut_blank b l hb)
     ∙ says_same (q ++ b ∷ line) (q ++ c ∷ line)
     (allowed_behind q (b ∷ line) (c ∷ line) (allowed_blank b line hb ∙ sym (allowed_blank c line hc)))
     (tokens_blank q b line hb ∙ sym (tokens_blank q c line hc))
-    ∙ sym (ap (λ (x : List ℕ). says (q ++ x)) (cut_blank c l hc)))
+    ∙ sym (ap (λ (x : List ℕ). said_in (q ++ x)) (cut_blank c l hc)))
 
 -- a blank in front of a blank
 pub said_blanks : (pre l : List ℕ) (b c : ℕ) → is_blank b ≡ true → is_blank c ≡ true → said_by (pre ++ b ∷ c ∷ l) ≡ said_by (pre ++ c ∷ l)
@@ -130,17 +126,17 @@ said_blanks pre l b c hb hc =
     let line = cut (c ∷ l) in
     let rest = cut l in
     let after : line ≡ c ∷ rest = cut_blank c l hc in
-    ap (λ (x : List ℕ). says (q ++ x)) (cut_blank b (c ∷ l) hb ∙ ap (λ (x : List ℕ). b ∷ x) after)
+    ap (λ (x : List ℕ). said_in (q ++ x)) (cut_blank b (c ∷ l) hb ∙ ap (λ (x : List ℕ). b ∷ x) after)
     ∙ says_same (q ++ b ∷ c ∷ rest) (q ++ c ∷ rest)
     (allowed_behind q (b ∷ c ∷ rest) (c ∷ rest) (allowed_blank b (c ∷ rest) hb))
     (tokens_blank q b (c ∷ rest) hb ∙ ap (λ (x : List (List ℕ)). tokens_of q ++ x) (tokens_blank [] c rest hc) ∙ sym (tokens_blank q c rest hc))
-    ∙ sym (ap (λ (x : List ℕ). says (q ++ x)) after))
+    ∙ sym (ap (λ (x : List ℕ). said_in (q ++ x)) after))
 
 -- a blank at the end
 pub said_end : (pre : List ℕ) (b : ℕ) → is_blank b ≡ true → said_by (pre ++ b ∷ []) ≡ said_by (pre ++ [])
 said_end pre b h =
     said_same pre (b ∷ []) [] (λ q.
-    ap (λ (x : List ℕ). says (q ++ x)) (cut_blank b [] h)
+    ap (λ (x : List ℕ). said_in (q ++ x)) (cut_blank b [] h)
     ∙ says_same (q ++ b ∷ []) (q ++ [])
     (allowed_behind q (b ∷ []) [] (allowed_blank b [] h))
     (tokens_blank q b [] h ∙ append-nil (tokens_of q) ∙ sym (ap tokens_of (append-nil q))))
@@ -149,6 +145,6 @@ said_end pre b h =
 pub said_begin : (l : List ℕ) (b : ℕ) → is_blank b ≡ true → said_by (b ∷ l) ≡ said_by l
 said_begin l b h =
     said_is (b ∷ l)
-    ∙ ap says (cut_blank b l h)
+    ∙ ap said_in (cut_blank b l h)
     ∙ says_same (b ∷ cut l) (cut l) (allowed_blank b (cut l) h) (tokens_blank [] b (cut l) h)
     ∙ sym (said_is l)

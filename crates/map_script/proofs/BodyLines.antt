@@ -14,9 +14,9 @@ use Rattle.map_script.specs.declared.refusal.Cause.{Cause}
 use Rattle.map_script.specs.declared.refusal.Cause.TheVariants.{Phases}
 use Rattle.map_script.specs.declared.refusal.ScriptRefusal.{ScriptRefusal}
 use Rattle.map_script.specs.Grammar.{call_line, starts_phase, phase_line, reply_bytes, reply_room}
-use Rattle.map_script.specs.Lines.{Line}
+use Rattle.map_script.specs.Lines.{Line, tokens_said}
 use Rattle.map_script.specs.Places.{◌>>=◌, Tokens, is_next}
-use Rattle.map_script.specs.Plain.{FirstIs, IsNext}
+use Rattle.map_script.specs.Plain.{saying, FirstIs, FirstAt, IsNext}
 use Rattle.map_script.specs.Reading.{of_line, at_line, or_fault, call_within, phase_within, body_line, line_behind, with_next, body_from}
 use Rattle.map_script.proofs.CallLines.{IsWithin, within_has}
 use Rattle.map_script.proofs.PlaceLemmas.{step_found, chosen, same_ok, at_found}
@@ -28,7 +28,7 @@ unfolding call_line
 no_number version shape rest call read = cc
 
 -- a call line starts no phase
-no_phase : (version : ℕ) (shape : Shape) (tokens : Tokens) (call : Call) → call_line version shape tokens ≡ Ok call → is_next (codes "phase") tokens ≡ false
+pub no_phase : (version : ℕ) (shape : Shape) (tokens : Tokens) (call : Call) → call_line version shape tokens ≡ Ok call → is_next (codes "phase") tokens ≡ false
 no_phase version shape [] call read = refl
 no_phase version shape (first ∷ rest) call read = go (bytes_eq first (codes "phase")) refl
   where
@@ -45,15 +45,13 @@ call_said version shape count room cuts tokens call found =
     rw (none, found) refl
 
 -- the same, of the first of some lines
-pub first_said : (version : ℕ) (shape : Shape) (count room cuts : ℕ) (lines rest : List Line) (call : Call) → FirstIs (call_within version shape count room) lines call rest
+pub first_said : (version : ℕ) (shape : Shape) (count room cuts number : ℕ) (lines rest : List Line) (call : Call) → FirstAt number (call_within version shape count room) lines call rest
     → FirstIs (body_line version shape count room cuts) lines (says.Call call) rest
-first_said version shape count room cuts lines rest call found =
-    let made = step_found found.line.says (call_within version shape count room) call found.reads in
-    record {
-      line = found.line;
-      first = found.first;
-      reads = ap (λ (said : Result Tokens Cause). said >>= body_line version shape count room cuts) made.1 ∙ call_said version shape count room cuts made.0 call made.2;
-    }
+first_said version shape count room cuts number lines rest call found = record {
+  line = saying number found.tokens;
+  first = found.first;
+  reads = call_said version shape count room cuts found.tokens call found.reads;
+}
 
 -- ---- what a line that is read tells
 
@@ -86,9 +84,9 @@ tokens_tell version shape body tokens next read = go (starts_phase version token
 
 -- the same, of a line with its number
 pub line_tells : (version : ℕ) (shape : Shape) (body : Body) (line : Line) (next : BodyLine) → of_line line (line_behind version shape body) ≡ Ok next
-    → (tokens : Tokens) × (line.says ≡ Ok tokens) × Tells version shape body tokens next
+    → (tokens : Tokens) × (tokens_said line.says ≡ Ok tokens) × Tells version shape body tokens next
 line_tells version shape body line next read =
-    let made = step_found line.says (line_behind version shape body) next read in
+    let made = step_found (tokens_said line.says) (line_behind version shape body) next read in
     (made.0, made.1, tokens_tell version shape body made.0 next made.2)
 
 -- ---- a line more
@@ -162,7 +160,7 @@ one_more version shape whole body after count room cuts more lines rest next so_
 
 -- What holds of what was read and of the lines that are left, and behind one line more holds still, holds at the end.
 pub lines_hold : (version : ℕ) (shape : Shape) (P : Body → List Line → Type 0)
-    → ((body : Body) (line : Line) (lines : List Line) (tokens : Tokens) (next : BodyLine) → P body (line ∷ lines) → line.says ≡ Ok tokens → Tells version shape body tokens next → P (with_next body next) lines)
+    → ((body : Body) (line : Line) (lines : List Line) (tokens : Tokens) (next : BodyLine) → P body (line ∷ lines) → tokens_said line.says ≡ Ok tokens → Tells version shape body tokens next → P (with_next body next) lines)
     → (body : Body) (lines : List Line) (found : Body) → P body lines → body_from version shape body lines ≡ Ok found → P found []
 lines_hold version shape P more body [] found holds read =
     subst (λ (body : Body). P body []) (same_ok (body_from version shape body []) body found refl read) holds

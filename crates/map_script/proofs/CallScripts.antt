@@ -1,5 +1,5 @@
 -- What a script that form Calls gives is like: its numbers, its keys and values, and its limits.
-use Rattle.std.proofs.Common.{◌≡◌, ℕ, ◌+◌, ◌<◌, ◌≤◌, ◌==◌, Bool, true, false, nat_lt, cond, List, [], ◌∷◌, ◌++◌, length, Some, None, Result, Ok, Err, refl, subst, arith}
+use Rattle.std.proofs.Common.{◌≡◌, ℕ, ◌+◌, ◌<◌, ◌≤◌, ◌==◌, Bool, true, false, nat_lt, cond, List, [], ◌∷◌, ◌++◌, length, Option, Some, None, Result, Ok, Err, refl, subst, arith}
 use Rattle.std.specs.Prelude.{IfSome, IfOk, bytes_eq, codes}
 use Rattle.std.proofs.lemmas.Bool.{and_parts, cond_both, eqb-true, ltb-true}
 use Rattle.std.proofs.lemmas.List.Sums.{sum_by-cons}
@@ -19,7 +19,9 @@ use Rattle.map_script.specs.declared.refusal.Cause.{Cause}
 use Rattle.map_script.specs.declared.refusal.Cause.TheVariants as causes
 use Rattle.map_script.specs.declared.refusal.ScriptRefusal.{ScriptRefusal}
 use Rattle.map_script.specs.declared.script.Form.TheVariants as forms
+use Rattle.map_script.specs.declared.script.GenSpec.{GenSpec}
 use Rattle.map_script.specs.declared.script.Script.{Script}
+use Rattle.map_script.specs.declared.script.Target.{Target}
 use Rattle.map_script.specs.Grammar.{kind_of, version_line, map_line, map_attr, call_line, call_on, verb_line, each_places, each_line, names_each, named_line, lookup_places, update_places, delete_places, take_places, next_places, batch_read_places, batch_update_places, batch_delete_places, pairs_to_end, keys_to_end, reply_bytes, reply_room}
 use Rattle.map_script.specs.Lines.{Line, lines_of, end_number}
 use Rattle.map_script.specs.Places.{◌>>=◌, Tokens, valued, number, cpu, start, start_of, stop_in, stop, is_next, flag, flag_of, bytes, bytes_in, labelled, if_labelled, number_or_end, word}
@@ -73,12 +75,22 @@ AreCalls version shape count room (call ∷ calls) =
     IsCall version shape call × (count < 200000) × (room + reply_bytes shape call.verb ≤ 67108864)
     × AreCalls version shape (count + 1) (room + reply_bytes shape call.verb) calls
 
+abbrev pub script_with : ℕ → CreateAttr → Shape → List Call → List ℕ → Option GenSpec → Option Target → Script
+script_with version attr shape calls cuts spec target =
+    record { version = version; attr = attr; shape = shape; calls = calls; cuts = cuts; spec = spec; target = target }
+
 pub record IsCallScript (script : Script) : Type 0 where
   pub numbers : IsAttr script.attr
   pub created : creation script.attr ≡ Ok script.shape
   pub calls : AreCalls script.version script.shape 0 0 script.calls
   pub phases : HasPhases script.version (length script.calls) script.cuts
   pub no_spec : script.spec ≡ None
+  pub no_target : script.target ≡ None
+
+-- the numbers of a target line
+pub record AreAsked (target : Target) : Type 0 where
+  pub attr : IsAttr target.attr
+  pub count : IsNumber target.count
 
 -- ---- the places
 
@@ -112,7 +124,7 @@ labelled_gives label tokens =
 zero_number : IsNumber 0
 zero_number = omega arith
 
-if_labelled_gives : (label : List ℕ) (tokens : Tokens) → IfOk (if_labelled label tokens) (Found IsNumber)
+pub if_labelled_gives : (label : List ℕ) (tokens : Tokens) → IfOk (if_labelled label tokens) (Found IsNumber)
 if_labelled_gives label [] = zero_number
 if_labelled_gives label (first ∷ rest) =
     cond_both (bytes_eq first label) (number rest) (Ok (0, first ∷ rest)) (λ r. IfOk r (Found IsNumber)) (λ same. number_gives rest) (λ other. zero_number)
@@ -281,23 +293,24 @@ line_more version shape body tokens (says.Call call) h told =
     calls_more version shape 0 0 body.calls call h is (omega (arith, told.counted)) (omega (arith, told.replied))
 line_more version shape body tokens says.Phase h told = h
 
-lines_give : (version : ℕ) (shape : Shape) (lines : List Line) → IfOk (body_from version shape no_body lines) (λ body. AreCalls version shape 0 0 body.calls)
+pub lines_give : (version : ℕ) (shape : Shape) (lines : List Line) → IfOk (body_from version shape no_body lines) (λ body. AreCalls version shape 0 0 body.calls)
 lines_give version shape lines =
     found_gives (λ (body : Body). AreCalls version shape 0 0 body.calls) (body_from version shape no_body lines) (λ body read.
     lines_hold version shape (λ (body : Body) (lines : List Line). AreCalls version shape 0 0 body.calls) (λ body line lines tokens next h said told. line_more version shape body tokens next h told)
     no_body lines body tt read)
 
--- what is known of such a script, limits aside
+-- what is known of a script that lists its calls, limits aside
 pub record IsListed (script : Script) : Type 0 where
   pub numbers : IsAttr script.attr
   pub calls : AreCalls script.version script.shape 0 0 script.calls
   pub no_spec : script.spec ≡ None
+  pub target : IfSome script.target AreAsked
 
 body_gives : (version : ℕ) (attr : CreateAttr) (shape : Shape) (end : ℕ) (lines : List Line) → IsAttr attr → IfOk (body_of forms.Calls version attr shape end lines) IsListed
 unfolding body_of
 body_gives version attr shape end lines numbers =
     and_then (λ body. AreCalls version shape 0 0 body.calls) IsListed (body_from version shape no_body lines) (λ body. Ok (script_of version attr shape body.calls body.cuts None)) (lines_give version shape lines) (λ body calls_are.
-    record { numbers = numbers; calls = calls_are; no_spec = refl })
+    record { numbers = numbers; calls = calls_are; no_spec = refl; target = tt })
 
 map_of_gives : (version end : ℕ) (lines : List Line) → IfOk (map_of forms.Calls version end lines) IsListed
 unfolding map_of

@@ -8,7 +8,7 @@ use Rattle.map_script.specs.declared.body.Body.{Body}
 use Rattle.map_script.specs.declared.body.BodyLine.{BodyLine}
 use Rattle.map_script.specs.declared.body.BodyLine.TheVariants as says
 use Rattle.map_script.specs.Grammar.{call_line}
-use Rattle.map_script.specs.Lines.{Line}
+use Rattle.map_script.specs.Lines.{Line, tokens_said}
 use Rattle.map_script.specs.Places.{Tokens}
 use Rattle.map_script.specs.Reading.{no_body, with_next, body_from}
 use Rattle.map_script.proofs.BodyLines.{Tells, lines_hold}
@@ -22,7 +22,7 @@ line_more version shape P body tokens says.Phase all here told = all
 
 -- where something is known of each line
 pub calls_hold : (version : ℕ) (shape : Shape) (P : Call → Type 0) (Q : Line → Type 0)
-    → ((line : Line) (tokens : Tokens) (call : Call) → Q line → line.says ≡ Ok tokens → call_line version shape tokens ≡ Ok call → P call)
+    → ((line : Line) (tokens : Tokens) (call : Call) → Q line → tokens_said line.says ≡ Ok tokens → call_line version shape tokens ≡ Ok call → P call)
     → (lines : List Line) (body : Body) → AllByRecursion Q lines → body_from version shape no_body lines ≡ Ok body → All P body.calls
 calls_hold version shape P Q here lines body known read =
     (lines_hold version shape (λ (body : Body) (lines : List Line). All P body.calls × AllByRecursion Q lines)

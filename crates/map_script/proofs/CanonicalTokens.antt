@@ -1,6 +1,6 @@
 -- The tokens of a canonical text's lines: that they are tokens, and that the text is these lines.
-use Rattle.std.proofs.Common.{◌≡◌, ℕ, ◌+◌, ◌-◌, ◌*◌, ◌≤◌, ◌==◌, Bool, true, false, cond, List, [], ◌∷◌, ◌++◌, map, length, take, drop, Some, None, Ok, inl, inr, refl, sym, ap, subst, ◌∙◌, append_assoc, take-append-drop, arith}
-use Rattle.std.specs.Prelude.{codes, decimal}
+use Rattle.std.proofs.Common.{◌≡◌, ℕ, ◌+◌, ◌-◌, ◌*◌, ◌≤◌, ◌==◌, Bool, true, false, cond, List, [], ◌∷◌, ◌++◌, map, length, take, drop, Option, Some, None, Ok, inl, inr, refl, sym, ap, subst, ◌∙◌, append_assoc, take-append-drop, arith}
+use Rattle.std.specs.Prelude.{IfSome, codes, decimal}
 use Rattle.std.specs.List.{flat_map}
 use Rattle.std.proofs.Math.Nat.{le-mul_of_pos_right}
 use Rattle.std.proofs.lemmas.Bool.{cond_both}
@@ -20,13 +20,14 @@ use Rattle.map_types.specs.declared.kind.Side.TheVariants.{Prog, Sys}
 use Rattle.map_types.proofs.CreationLemmas.{bounds_of_shape}
 use Rattle.map_types.proofs.RoundLemmas.{rounded_up}
 use Rattle.map_script.specs.declared.script.Script.{Script}
-use Rattle.map_script.specs.Canonical.{canonical, spaced, line_text, label_and_number, unless_zero, map_tokens, verb_tokens, pair_tokens, call_text, phased_text, body_text, lookup_name, update_name, batch_name}
+use Rattle.map_script.specs.declared.script.Target.{Target}
+use Rattle.map_script.specs.Canonical.{canonical, spaced, line_text, label_and_number, unless_zero, map_tokens, target_tokens, target_text, verb_tokens, pair_tokens, call_text, phased_text, body_text, lookup_name, update_name, batch_name}
 use Rattle.map_script.specs.Grammar.{reply_bytes, reply_room}
 use Rattle.map_script.specs.Plain.{is_token, AreTokens, joined}
 use Rattle.map_script.specs.WellFormed.{HasPhases}
 use Rattle.map_script.proofs.TokenLines.{AreLines, text_of_lines}
 use Rattle.map_script.proofs.TokenValues.{IsNumber, is_token-decimal, is_token-flag_token, is_token-start_token, is_token-kind_name, is_token-encode_lower}
-use Rattle.map_script.proofs.CallScripts.{ArePairs, AreKeys, IsVerb, IsAttr, AreCalls, IsCallScript}
+use Rattle.map_script.proofs.CallScripts.{ArePairs, AreKeys, IsVerb, IsAttr, AreAsked, AreCalls, IsListed}
 
 abbrev pub version_tokens : ℕ → List (List ℕ)
 version_tokens version = codes "bpfmap" ∷ decimal version ∷ []
@@ -43,10 +44,15 @@ phased_lines before [] calls = map call_tokens calls
 phased_lines before (cut ∷ cuts) calls =
     map call_tokens (take (cut - before) calls) ++ phase_tokens ∷ phased_lines cut cuts (drop (cut - before) calls)
 
--- the lines of a script of form Calls
+-- the target line of a script that has a target
+abbrev pub target_lines : Option Target → List (List (List ℕ))
+target_lines None = []
+target_lines (Some target) = (codes "target" ∷ target_tokens target) ∷ []
+
+-- the lines of a script that has no spec
 abbrev pub script_lines : Script → List (List (List ℕ))
 script_lines script =
-    version_tokens script.version ∷ (codes "map" ∷ map_tokens script.attr) ∷ phased_lines 0 script.cuts script.calls
+    version_tokens script.version ∷ (codes "map" ∷ map_tokens script.attr) ∷ (target_lines script.target ++ phased_lines 0 script.cuts script.calls)
 
 -- ---- the text is these lines
 
@@ -76,15 +82,23 @@ phases_lines before (cut ∷ cuts) calls =
     ∙ ap (λ (text : List ℕ). text ++ (codes "phase\n" ++ text_of_lines lines)) (call_lines now)
     ∙ sym (text-append (map call_tokens now) (phase_tokens ∷ lines))
 
+targets_lines : (target : Option Target) (lines : List (List (List ℕ))) → target_text target ++ text_of_lines lines ≡ text_of_lines (target_lines target ++ lines)
+targets_lines None lines = refl
+targets_lines (Some target) lines = line_text-append (codes "target") (target_tokens target) (text_of_lines lines)
+
 pub canonical-lines : (script : Script) → script.spec ≡ None → canonical script ≡ text_of_lines (script_lines script)
 unfolding canonical
 canonical-lines script no_spec =
     let version_line = line_text (codes "bpfmap") (decimal script.version ∷ []) in
     let map_line = line_text (codes "map") (map_tokens script.attr) in
-    let lines = phased_lines 0 script.cuts script.calls in
-    append_assoc version_line map_line (body_text script.spec script.cuts script.calls)
-    ∙ ap (λ spec. version_line ++ (map_line ++ body_text spec script.cuts script.calls)) no_spec
-    ∙ ap (λ (text : List ℕ). version_line ++ (map_line ++ text)) (phases_lines 0 script.cuts script.calls)
+    let target = target_text script.target in
+    let phases = phased_lines 0 script.cuts script.calls in
+    let lines = target_lines script.target ++ phases in
+    append_assoc (version_line ++ map_line) target (body_text script.spec script.cuts script.calls)
+    ∙ append_assoc version_line map_line (target ++ body_text script.spec script.cuts script.calls)
+    ∙ ap (λ spec. version_line ++ (map_line ++ (target ++ body_text spec script.cuts script.calls))) no_spec
+    ∙ ap (λ (text : List ℕ). version_line ++ (map_line ++ (target ++ text))) (phases_lines 0 script.cuts script.calls)
+    ∙ ap (λ (text : List ℕ). version_line ++ (map_line ++ text)) (targets_lines script.target phases)
     ∙ ap (λ (text : List ℕ). version_line ++ text) (line_text-append (codes "map") (map_tokens script.attr) (text_of_lines lines))
     ∙ line_text-append (codes "bpfmap") (decimal script.version ∷ []) (text_of_lines ((codes "map" ∷ map_tokens script.attr) ∷ lines))
 
@@ -212,8 +226,23 @@ map_are_tokens attr h =
     let options = tokens-append (unless_zero attr.flags (label_and_number (codes "flags") attr.flags)) (unless_zero attr.seed (label_and_number (codes "seed") attr.seed)) flags seed in
     (is_token-kind_name attr.kind, (refl, (is_token-decimal attr.key_size h.key, (refl, (is_token-decimal attr.value_size h.value, (refl, (is_token-decimal attr.max_entries h.max, (refl, (is_token-decimal attr.cpus h.cpus, options)))))))))
 
-pub script_are_lines : (script : Script) → IsCallScript script → AreLines (script_lines script)
-script_are_lines script h = (
-  (refl, (is_token-decimal script.version (version_is_number script.version (length script.calls) script.cuts h.phases), tt)),
-  ((refl, map_are_tokens script.attr h.numbers), phases_are_lines script.version script.shape 0 0 0 script.cuts script.calls (HasSomeBytes-created script.attr script.shape h.created) h.calls),
+target_are_tokens : (target : Target) → AreAsked target → AreTokens (target_tokens target)
+target_are_tokens target h =
+    let attr = target.attr in
+    let flags = tokens_if (attr.flags == 0) (label_and_number (codes "flags") attr.flags) (refl, (is_token-decimal attr.flags h.attr.flags, tt)) in
+    let seed = tokens_if (attr.seed == 0) (label_and_number (codes "seed") attr.seed) (refl, (is_token-decimal attr.seed h.attr.seed, tt)) in
+    let options = tokens-append (unless_zero attr.flags (label_and_number (codes "flags") attr.flags)) (unless_zero attr.seed (label_and_number (codes "seed") attr.seed)) flags seed in
+    (is_token-kind_name attr.kind, (refl, (is_token-decimal attr.max_entries h.attr.max, (refl, (is_token-decimal target.count h.count, options)))))
+
+target_are_lines : (target : Option Target) (lines : List (List (List ℕ))) → IfSome target AreAsked → AreLines lines → AreLines (target_lines target ++ lines)
+target_are_lines None lines h are = are
+target_are_lines (Some target) lines h are = ((refl, target_are_tokens target h), are)
+
+pub script_are_lines : (script : Script) → IsListed script → creation script.attr ≡ Ok script.shape → HasPhases script.version (length script.calls) script.cuts → AreLines (script_lines script)
+script_are_lines script h created phases = (
+  (refl, (is_token-decimal script.version (version_is_number script.version (length script.calls) script.cuts phases), tt)),
+  (
+    (refl, map_are_tokens script.attr h.numbers),
+    target_are_lines script.target (phased_lines 0 script.cuts script.calls) h.target (phases_are_lines script.version script.shape 0 0 0 script.cuts script.calls (HasSomeBytes-created script.attr script.shape created) h.calls),
+  ),
 )

@@ -19,14 +19,13 @@ use Rattle.map_types.specs.declared.call.Verb.{Verb}
 use Rattle.map_types.specs.declared.call.Verb.TheVariants as verbs
 use Rattle.map_types.specs.declared.kind.Side.{Side}
 use Rattle.map_types.specs.declared.kind.Side.TheVariants.{Prog, Sys}
-use Rattle.map_script.specs.declared.refusal.Cause.{Cause}
-use Rattle.map_script.specs.Lines.{is_line_feed, numbered, lines_from}
+use Rattle.map_script.specs.Lines.{Said, is_line_feed, numbered, lines_from}
 use Rattle.map_script.specs.Places.{Tokens, is_next, flag_of, bytes_in}
 use Rattle.map_script.specs.Grammar.{call_line, named_line, names_each, each_line, call_on, verb_line, lookup_places, update_places, delete_places, take_places, next_places, reply_bytes}
-use Rattle.map_script.specs.Plain.{is_token, AreTokens, joined, BeginsWith, BeginsWithCpu, BeginsWithBytes, FirstIs}
+use Rattle.map_script.specs.Plain.{is_token, AreTokens, joined, saying, BeginsWith, BeginsWithCpu, BeginsWithBytes, FirstAt}
 use Rattle.map_script.specs.Reading.{call_within}
 use Rattle.map_script.specs.Tokens.{number_of}
-use Rattle.map_script.proofs.TokenLines.{IsPiece, piece_is_no_line_feed, joined_pieces, said_by-joined, some_length, saying, says_something, line_saying}
+use Rattle.map_script.proofs.TokenLines.{IsPiece, piece_is_no_line_feed, joined_pieces, said_by-joined, some_length, says_something, line_saying}
 use Rattle.map_script.proofs.TokenValues.{is_token_from, hex_digit_is_mark, number_is_token, flag_is_token}
 
 -- ---- bytes
@@ -269,7 +268,7 @@ front_line number (token ∷ tokens) rest are some =
     let kept = lines_from (number + 1) rest in
     let free = All-weaker IsPiece (λ byte. is_line_feed byte ≡ false) piece_is_no_line_feed line (joined_pieces (token ∷ tokens) are) in
     ap (λ (parts : List (List ℕ)). filter says_something (numbered number parts)) (slice_split_at is_line_feed line 10 rest free refl)
-    ∙ ap (λ (says : Result (List (List ℕ)) Cause). filter says_something (line_saying number says ∷ numbered (number + 1) (slice_split is_line_feed rest))) (said_by-joined token tokens are)
+    ∙ ap (λ (says : Said). filter says_something (line_saying number says ∷ numbered (number + 1) (slice_split is_line_feed rest))) (said_by-joined token tokens are)
     ∙ cond-true (says_something (saying number (token ∷ tokens))) (saying number (token ∷ tokens) ∷ kept) kept (some_length (length tokens))
 
 -- a line feed fewer is left
@@ -284,14 +283,14 @@ no_call : (version : ℕ) (shape : Shape) (call : Call) → call_line version sh
 unfolding call_line
 no_call version shape call is = cc
 
--- a call at the front of a text is the first of its lines
+-- a call at the front of a text is its first line
 pub first_call : (version : ℕ) (shape : Shape) (count room number : ℕ) (text rest : List ℕ) (call : Call) → BeginsWith (call_line version shape) text call rest
     → count < 200000 → room + reply_bytes shape call.verb ≤ 67108864
-    → FirstIs (call_within version shape count room) (lines_from number text) call (lines_from (number + 1) rest)
+    → FirstAt number (call_within version shape count room) (lines_from number text) call (lines_from (number + 1) rest)
 first_call version shape count room number text rest call begins few fits =
     let some : begins.tokens ≡ [] → ⊥ = λ nothing. no_call version shape call (subst (λ (tokens : Tokens). call_line version shape tokens ≡ Ok call) nothing begins.reads) in
     record {
-      line = saying number begins.tokens;
+      tokens = begins.tokens;
       first = ap (lines_from number) begins.starts ∙ front_line number begins.tokens rest begins.are_tokens some;
       reads = within shape count room begins.tokens call begins.reads few fits;
     }

@@ -10,7 +10,7 @@ use Rattle.map_script.specs.declared.refusal.Cause.TheVariants.{Version}
 use Rattle.map_script.specs.declared.script.Form.{Form}
 use Rattle.map_script.specs.declared.script.Form.TheVariants as forms
 use Rattle.map_script.specs.Grammar.{version_named, version_line}
-use Rattle.map_script.specs.Lines.{Line}
+use Rattle.map_script.specs.Lines.{Line, tokens_said}
 use Rattle.map_script.specs.Places.{◌>>=◌, Tokens, valued, at_end, word, instead}
 use Rattle.map_script.specs.Reading.{at_line, or_fault, or_create}
 
@@ -55,7 +55,7 @@ fault_gives P at (Ok a) h = h
 fault_gives P at (Err e) h = tt
 
 pub at_line_gives : {A : Type 0} (P : A → Type 0) (line : Line) (reading : Tokens → Result A Cause) → ((tokens : Tokens) → IfOk (reading tokens) P) → IfOk (at_line line reading) P
-at_line_gives P line reading gives = fault_gives P line.number _ (and_any P line.says reading gives)
+at_line_gives P line reading gives = fault_gives P line.number _ (and_any P (tokens_said line.says) reading gives)
 
 pub create_gives : (r : Result Shape CreateRefusal) → IfOk (or_create r) (λ shape. r ≡ Ok shape)
 create_gives (Ok shape) = refl
@@ -66,6 +66,7 @@ create_gives (Err refusal) = tt
 abbrev pub IsVersion : Form → ℕ → Type 0
 IsVersion forms.Calls version = (version ≡ 1) ⊎ (version ≡ 2)
 IsVersion forms.Generator version = version ≡ 1
+IsVersion forms.Copy version = version ≡ 2
 
 named_gives : (form : Form) (name : List ℕ) → IfSome (version_named form name) (IsVersion form)
 named_gives forms.Calls name =
@@ -73,6 +74,8 @@ named_gives forms.Calls name =
     (λ other. cond_both (bytes_eq name (codes "2")) (Some 2) None (λ o. IfSome o (IsVersion forms.Calls)) (λ second. inr refl) (λ none. tt))
 named_gives forms.Generator name =
     cond_both (bytes_eq name (codes "1")) (Some 1) None (λ o. IfSome o (IsVersion forms.Generator)) (λ first. refl) (λ none. tt)
+named_gives forms.Copy name =
+    cond_both (bytes_eq name (codes "2")) (Some 2) None (λ o. IfSome o (IsVersion forms.Copy)) (λ second. refl) (λ none. tt)
 
 pub version_gives : (form : Form) (tokens : Tokens) → IfOk (version_line form tokens) (IsVersion form)
 unfolding version_line

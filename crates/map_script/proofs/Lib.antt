@@ -25,3 +25,8 @@ pub mod BlankLemmas
 pub mod LineLaws
 pub mod DigitLemmas
 pub mod FrontLemmas
+pub mod CopyLemmas
+pub mod CopyReads
+pub mod TargetTold
+pub mod TargetLines
+pub mod CopyRoundTrip

@@ -1,14 +1,13 @@
 -- What changes nothing of what a text is read as: texts whose lines say the same, line by line, are read the same.
-use Rattle.std.proofs.Common.{◌≡◌, ℕ, ◌+◌, Bool, true, false, cond, not, List, [], ◌∷◌, ◌++◌, map, length, filter, count_by, All, Result, refl, sym, ap, ◌∙◌, append-nil, arith}
+use Rattle.std.proofs.Common.{◌≡◌, ℕ, ◌+◌, Bool, true, false, cond, not, List, [], ◌∷◌, ◌++◌, map, length, filter, count_by, All, refl, sym, ap, ◌∙◌, append-nil, arith}
 use Rattle.std.specs.List.{slice_split, onto_first}
 use Rattle.std.proofs.lemmas.Bool.{not-true}
 use Rattle.std.proofs.lemmas.List.{append_assoc}
 use Rattle.std.proofs.lemmas.List.Elements.{All-cons, All-weaker}
 use Rattle.std.proofs.lemmas.List.Splits.{length-slice_split, slice_split_at, slice_split_none, slice_split-cons_yes, slice_split-cons_no}
 use Rattle.std.proofs.lemmas.List.Sums.{sum_by-append, AllPass-from_list_all}
-use Rattle.map_script.specs.declared.refusal.Cause.{Cause}
 use Rattle.map_script.specs.declared.script.Form.{Form}
-use Rattle.map_script.specs.Lines.{Line, is_line_feed, is_blank, is_nothing, said_by, numbered, lines_of, end_number}
+use Rattle.map_script.specs.Lines.{Said, Line, is_line_feed, is_blank, is_nothing, said_by, numbered, lines_of, end_number}
 use Rattle.map_script.specs.Reading.{version_of, read_as}
 use Rattle.map_script.specs.SameLines.{in_one_line, ends_line}
 use Rattle.map_script.proofs.BlankLemmas.{said_comment, said_blank, said_blanks, said_end, said_begin}
@@ -19,7 +18,7 @@ parts_of text = slice_split is_line_feed text
 -- ---- lines that say the same have the same numbers
 
 -- what lines say, numbered from here on
-abbrev numbered_said : ℕ → List (Result (List (List ℕ)) Cause) → List Line
+abbrev numbered_said : ℕ → List Said → List Line
 numbered_said number [] = []
 numbered_said number (says ∷ others) = record { number = number; says = says } ∷ numbered_said (number + 1) others
 
@@ -54,8 +53,8 @@ pub alike_said : (lines others : List (List ℕ)) → Alike lines others → map
 alike_said [] others h = absurd h
 alike_said (line ∷ lines) [] h = absurd h
 alike_said (line ∷ lines) (other ∷ others) h =
-    ap (λ (says : Result (List (List ℕ)) Cause). says ∷ map said_by lines) (h.0 [])
-    ∙ ap (λ (says : List (Result (List (List ℕ)) Cause)). said_by other ∷ says) h.1
+    ap (λ (says : Said). says ∷ map said_by lines) (h.0 [])
+    ∙ ap (λ (says : List Said). said_by other ∷ says) h.1
 
 -- a byte before both, be it a line feed or not
 alike_cons : (feed : Bool) (byte : ℕ) (lines others : List (List ℕ)) → Alike lines others
@@ -163,7 +162,7 @@ some_parts (byte ∷ text) = some_cons (is_line_feed byte) byte (parts_of text)
 
 begin_said : (b : ℕ) (lines : List (List ℕ)) → is_blank b ≡ true → IsSome lines → map said_by (onto_first b lines) ≡ map said_by lines
 begin_said b [] hb some = absurd some
-begin_said b (line ∷ lines) hb some = ap (λ (says : Result (List (List ℕ)) Cause). says ∷ map said_by lines) (said_begin line b hb)
+begin_said b (line ∷ lines) hb some = ap (λ (says : Said). says ∷ map said_by lines) (said_begin line b hb)
 
 -- a blank at the beginning changes nothing of what the lines say
 blank_said : (b : ℕ) (rest : List ℕ) → is_blank b ≡ true → map said_by (parts_of (b ∷ rest)) ≡ map said_by (parts_of rest)

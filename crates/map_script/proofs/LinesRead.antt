@@ -21,8 +21,8 @@ use Rattle.map_script.specs.declared.refusal.Cause.TheVariants as causes
 use Rattle.map_script.specs.declared.script.Form.{Form}
 use Rattle.map_script.specs.declared.script.Form.TheVariants as forms
 use Rattle.map_script.specs.Canonical.{label_and_number, unless_zero, map_tokens, verb_tokens, pair_tokens, kind_name, flag_token, start_token, stop_token}
-use Rattle.map_script.specs.Grammar.{kind_of, version_line, map_line, call_line, verb_line, each_places, each_line, named_line, lookup_places, update_places, delete_places, take_places, next_places, batch_read_places, batch_update_places, batch_delete_places, pairs_to_end, keys_to_end, reply_bytes}
-use Rattle.map_script.specs.Places.{stop, ◌>>=◌, Tokens, valued, number, cpu, start, start_of, flag, flag_of, bytes, bytes_in, if_labelled, number_or_end, instead}
+use Rattle.map_script.specs.Grammar.{kind_of, version_named, version_line, map_line, call_line, verb_line, each_places, each_line, named_line, lookup_places, update_places, delete_places, take_places, next_places, batch_read_places, batch_update_places, batch_delete_places, pairs_to_end, keys_to_end, reply_bytes}
+use Rattle.map_script.specs.Places.{stop, ◌>>=◌, Tokens, valued, at_end, number, cpu, start, start_of, flag, flag_of, bytes, bytes_in, if_labelled, number_or_end, instead}
 use Rattle.map_script.specs.Reading.{call_within}
 use Rattle.map_script.specs.Tokens.{number_of}
 use Rattle.map_script.proofs.FrontLemmas.{is_named}
@@ -37,7 +37,7 @@ then r next a s first second = ap (λ q. q >>= next) first ∙ second
 
 -- ---- the places
 
-valued_at : {A : Type 0} (cause : Cause) (value : List ℕ → Option A) (token : List ℕ) (a : A) (rest : Tokens) → value token ≡ Some a → valued cause value (token ∷ rest) ≡ Ok (a, rest)
+pub valued_at : {A : Type 0} (cause : Cause) (value : List ℕ → Option A) (token : List ℕ) (a : A) (rest : Tokens) → value token ≡ Some a → valued cause value (token ∷ rest) ≡ Ok (a, rest)
 valued_at cause value token a rest is = ap (λ o. ok_or o cause >>= (λ found. Ok (found, rest))) is
 
 pub number_at : (n : ℕ) (rest : Tokens) → IsNumber n → number (decimal n ∷ rest) ≡ Ok (n, rest)
@@ -66,7 +66,7 @@ number_or_end_at n h =
           ap number_or_end (cond-false (n == 0) [] (decimal n ∷ []) (ne_eqb n 0 some)) ∙ number_at n [] h
     ]
 
-if_labelled_at : (label : List ℕ) (n : ℕ) (rest : Tokens) → bytes_eq label label ≡ true → IsNumber n → if_labelled label rest ≡ Ok (0, rest) → if_labelled label (unless_zero n (label_and_number label n) ++ rest) ≡ Ok (n, rest)
+pub if_labelled_at : (label : List ℕ) (n : ℕ) (rest : Tokens) → bytes_eq label label ≡ true → IsNumber n → if_labelled label rest ≡ Ok (0, rest) → if_labelled label (unless_zero n (label_and_number label n) ++ rest) ≡ Ok (n, rest)
 if_labelled_at label n rest same h other =
     elim (cases_eq n 0) [
       | inl none ↦ rw none other
@@ -76,12 +76,12 @@ if_labelled_at label n rest same h other =
     ]
 
 -- where the line has no flags
-no_flags : (test : Bool) (tokens : Tokens) → if_labelled (codes "flags") (cond test [] (codes "seed" ∷ tokens)) ≡ Ok (0, cond test [] (codes "seed" ∷ tokens))
+pub no_flags : (test : Bool) (tokens : Tokens) → if_labelled (codes "flags") (cond test [] (codes "seed" ∷ tokens)) ≡ Ok (0, cond test [] (codes "seed" ∷ tokens))
 no_flags true tokens = refl
 no_flags false tokens = refl
 
 -- where nothing follows
-last_labelled_at : (label : List ℕ) (n : ℕ) → bytes_eq label label ≡ true → IsNumber n → if_labelled label (unless_zero n (label_and_number label n)) ≡ Ok (n, [])
+pub last_labelled_at : (label : List ℕ) (n : ℕ) → bytes_eq label label ≡ true → IsNumber n → if_labelled label (unless_zero n (label_and_number label n)) ≡ Ok (n, [])
 last_labelled_at label n same h =
     ap (if_labelled label) (sym (append-nil (unless_zero n (label_and_number label n)))) ∙ if_labelled_at label n [] same h refl
 
@@ -213,19 +213,30 @@ call_read version shape call h =
     then _ _ (call.cpu, verb_tokens call.verb) _ (cpu_at shape.cpus call.cpu (verb_tokens call.verb) h.on h.one_of)
     (then _ _ call.verb _ (named_read version shape call.verb h.does) refl)
 
-first_read_as : (form : Form) → version_line form (version_tokens 1) ≡ Ok 1
-unfolding version_line
-first_read_as forms.Calls = ap (λ (token : List ℕ). version_line forms.Calls (codes "bpfmap" ∷ token ∷ [])) (decimal_digit 1 (omega arith))
-first_read_as forms.Generator = ap (λ (token : List ℕ). version_line forms.Generator (codes "bpfmap" ∷ token ∷ [])) (decimal_digit 1 (omega arith))
+-- the version line, by the version that its last token names
+abbrev version_found : Option ℕ → Result (ℕ × Tokens) Cause
+version_found version = ok_or version causes.Version >>= λ found. Ok (found, [])
 
-second_read_as : version_line forms.Calls (version_tokens 2) ≡ Ok 2
+abbrev version_of : Option ℕ → Result ℕ Cause
+version_of version = instead causes.Version (version_found version >>= λ found. at_end found.0 found.1)
+
+first_read_as : (form : Form) → version_named form (codes "1") ≡ Some 1 → version_line form (version_tokens 1) ≡ Ok 1
 unfolding version_line
-second_read_as = ap (λ (token : List ℕ). version_line forms.Calls (codes "bpfmap" ∷ token ∷ [])) (decimal_digit 2 (omega arith))
+first_read_as form named =
+    ap (λ (token : List ℕ). version_line form (codes "bpfmap" ∷ token ∷ [])) (decimal_digit 1 (omega arith))
+    ∙ ap version_of named
+
+second_read_as : (form : Form) → version_named form (codes "2") ≡ Some 2 → version_line form (version_tokens 2) ≡ Ok 2
+unfolding version_line
+second_read_as form named =
+    ap (λ (token : List ℕ). version_line form (codes "bpfmap" ∷ token ∷ [])) (decimal_digit 2 (omega arith))
+    ∙ ap version_of named
 
 pub version_read : (form : Form) (version : ℕ) → IsVersion form version → version_line form (version_tokens version) ≡ Ok version
-version_read forms.Calls version (inl first) = subst (λ (v : ℕ). version_line forms.Calls (version_tokens v) ≡ Ok v) (sym first) (first_read_as forms.Calls)
-version_read forms.Calls version (inr second) = subst (λ (v : ℕ). version_line forms.Calls (version_tokens v) ≡ Ok v) (sym second) second_read_as
-version_read forms.Generator version first = subst (λ (v : ℕ). version_line forms.Generator (version_tokens v) ≡ Ok v) (sym first) (first_read_as forms.Generator)
+version_read forms.Calls version (inl first) = subst (λ (v : ℕ). version_line forms.Calls (version_tokens v) ≡ Ok v) (sym first) (first_read_as forms.Calls refl)
+version_read forms.Calls version (inr second) = subst (λ (v : ℕ). version_line forms.Calls (version_tokens v) ≡ Ok v) (sym second) (second_read_as forms.Calls refl)
+version_read forms.Generator version first = subst (λ (v : ℕ). version_line forms.Generator (version_tokens v) ≡ Ok v) (sym first) (first_read_as forms.Generator refl)
+version_read forms.Copy version second = subst (λ (v : ℕ). version_line forms.Copy (version_tokens v) ≡ Ok v) (sym second) (second_read_as forms.Copy refl)
 
 pub map_read : (attr : CreateAttr) → IsAttr attr → map_line (codes "map" ∷ map_tokens attr) ≡ Ok attr
 unfolding map_line

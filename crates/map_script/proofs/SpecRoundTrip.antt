@@ -17,6 +17,7 @@ use Rattle.map_script.specs.Reading.{or_fault, or_create, body_of, map_of, versi
 use Rattle.map_script.specs.Plain.{AreTokens}
 use Rattle.map_script.proofs.TokenLines.{AreLines, text_of_lines, saying_from, lines_of-text_of_lines}
 use Rattle.map_script.proofs.TokenValues.{is_token-decimal}
+use Rattle.map_script.proofs.CallScripts.{script_with}
 use Rattle.map_script.proofs.SpecScripts.{IsSpec, IsSpecScript}
 use Rattle.map_script.proofs.CanonicalTokens.{version_tokens, line_text-append, map_are_tokens}
 use Rattle.map_script.proofs.LinesRead.{then, number_at, version_read, map_read}
@@ -43,7 +44,8 @@ canonical-spec_lines version attr shape calls cuts spec =
     let version_line = line_text (codes "bpfmap") (decimal version ∷ []) in
     let map_line = line_text (codes "map") (map_tokens attr) in
     let gen_line = line_text (codes "gen") (spec_tokens spec) in
-    append_assoc version_line map_line gen_line
+    ap (λ (text : List ℕ). text ++ gen_line) (append-nil (version_line ++ map_line))
+    ∙ append_assoc version_line map_line gen_line
     ∙ ap (λ (text : List ℕ). version_line ++ (map_line ++ text)) (sym (append-nil gen_line) ∙ line_text-append (codes "gen") (spec_tokens spec) [])
     ∙ ap (λ (text : List ℕ). version_line ++ text) (line_text-append (codes "map") (map_tokens attr) (text_of_lines (gen_tokens spec ∷ [])))
     ∙ line_text-append (codes "bpfmap") (decimal version ∷ []) (text_of_lines ((codes "map" ∷ map_tokens attr) ∷ gen_tokens spec ∷ []))
@@ -84,4 +86,4 @@ spec_script_read script calls h =
     let end = end_number (canonical listed) in
     ap (version_of forms.Generator end) (ap lines_of text ∙ lines_of-text_of_lines lines (spec_are_lines script h))
     ∙ version_of_read script end 1 h
-    ∙ (λ n. Ok (script_of script.version script.attr script.shape (sym h.no_calls n) (sym h.no_cuts n) (sym h.has_spec n)))
+    ∙ (λ n. Ok (script_with script.version script.attr script.shape (sym h.no_calls n) (sym h.no_cuts n) (sym h.has_spec n) (sym h.no_target n)))

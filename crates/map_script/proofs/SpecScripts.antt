@@ -1,5 +1,5 @@
 -- What a script that form Generator gives is like: its numbers, and the ranges of its spec.
-use Rattle.std.proofs.Common.{◌≡◌, ℕ, true, List, [], ◌∷◌, Some, Result, Ok, Err, inl, refl, sym, subst, arith}
+use Rattle.std.proofs.Common.{◌≡◌, ℕ, true, List, [], ◌∷◌, Some, None, Result, Ok, Err, inl, refl, sym, subst, arith}
 use Rattle.std.specs.Prelude.{IfOk, codes}
 use Rattle.std.proofs.lemmas.Bool.{cond_both}
 use Rattle.map_types.specs.Creation.{creation}
@@ -35,6 +35,7 @@ pub record IsSpecScript (script : Script) : Type 0 where
   pub no_calls : script.calls ≡ []
   pub spec : GenSpec
   pub has_spec : script.spec ≡ Some spec
+  pub no_target : script.target ≡ None
   pub is_spec : IsSpec script.shape spec
 
 -- ---- the line
@@ -68,7 +69,7 @@ body_gives : (version : ℕ) (attr : CreateAttr) (shape : Shape) (end : ℕ) (li
 unfolding body_of
 body_gives version attr shape end lines first numbers created =
     and_then (IsSpec shape) IsSpecScript (spec_of shape end lines) (λ spec. Ok (script_of version attr shape [] [] (Some spec))) (spec_of_gives shape end lines) (λ spec spec_is.
-    record { numbers = numbers; created = created; first = first; no_cuts = refl; no_calls = refl; spec = spec; has_spec = refl; is_spec = spec_is })
+    record { numbers = numbers; created = created; first = first; no_cuts = refl; no_calls = refl; spec = spec; has_spec = refl; no_target = refl; is_spec = spec_is })
 
 map_of_gives : (version end : ℕ) (lines : List Line) → version ≡ 1 → IfOk (map_of forms.Generator version end lines) IsSpecScript
 unfolding map_of

@@ -1,5 +1,6 @@
 -- What lines lead to, whatever lines follow.
-use Rattle.std.proofs.Common.{◌≡◌, ℕ, List, [], ◌∷◌, ◌++◌, None, Result, Ok, Err, refl, sym, ap, ◌∙◌}
+use Rattle.std.proofs.Common.{◌≡◌, ℕ, ◌||◌, Bool, true, false, cond, List, [], ◌∷◌, ◌++◌, Option, None, Some, Result, Ok, Err, refl, sym, ap, ◌∙◌}
+use Rattle.std.proofs.lemmas.List.Folds.{list_any-append}
 use Rattle.map_types.specs.Creation.{creation}
 use Rattle.map_types.specs.declared.attr.CreateAttr.{CreateAttr}
 use Rattle.map_types.specs.declared.attr.Shape.{Shape}
@@ -7,22 +8,28 @@ use Rattle.map_types.specs.declared.refusal.CreateRefusal.{CreateRefusal}
 use Rattle.map_script.specs.declared.body.Body.{Body}
 use Rattle.map_script.specs.declared.body.BodyLine.{BodyLine}
 use Rattle.map_script.specs.declared.refusal.Cause.{Cause}
-use Rattle.map_script.specs.declared.refusal.Cause.TheVariants.{Gen}
+use Rattle.map_script.specs.declared.refusal.Cause.TheVariants.{Gen, Copier}
 use Rattle.map_script.specs.declared.refusal.ScriptRefusal.{ScriptRefusal}
 use Rattle.map_script.specs.declared.refusal.ScriptRefusal.TheVariants.{Fault, Create, NoMemory}
 use Rattle.map_script.specs.declared.script.Form.{Form}
 use Rattle.map_script.specs.declared.script.Form.TheVariants as forms
 use Rattle.map_script.specs.declared.script.GenSpec.{GenSpec}
 use Rattle.map_script.specs.declared.script.Script.{Script}
+use Rattle.map_script.specs.declared.script.Target.{Target}
+use Rattle.map_script.specs.declared.copied.Stop.TheVariants.{Refused, Either}
+use Rattle.map_script.specs.declared.stage.Copying.{Copying}
+use Rattle.map_script.specs.declared.stage.EitherFault.{EitherFault}
 use Rattle.map_script.specs.declared.stage.Head.{Head}
 use Rattle.map_script.specs.declared.stage.Stage.{Stage}
 use Rattle.map_script.specs.declared.stage.Stage.TheVariants as stages
 use Rattle.map_script.specs.CallsSoFar.{calls_of}
-use Rattle.map_script.specs.Grammar.{version_line, map_line, gen_line}
-use Rattle.map_script.specs.Lines.{Line}
+use Rattle.map_script.specs.CopySoFar.{copied_of, target_on, unless_held}
+use Rattle.map_script.specs.CopyLines.{copied_behind, ReadsCopied}
+use Rattle.map_script.specs.Grammar.{version_line, map_line, gen_line, target_line}
+use Rattle.map_script.specs.Lines.{Line, tokens_said}
 use Rattle.map_script.specs.Pieces.{ReadsOn, read_on, read_behind, spec_script}
 use Rattle.map_script.specs.Places.{◌>>=◌, Tokens}
-use Rattle.map_script.specs.Reading.{at_line, or_fault, or_create, body_with, with_next, body_from, line_behind, script_of, body_of, map_of, version_of, IsReading}
+use Rattle.map_script.specs.Reading.{at_line, or_fault, or_create, body_with, with_next, body_from, line_behind, begins_phase, phase_begins, copied_from, script_of, target_with, copy_of, target_of, body_of, map_of, version_of, IsReading}
 
 -- what lines are read as, by the number of a fault at the end
 abbrev pub Reads : Type 0
@@ -165,7 +172,7 @@ spec_read : (head : Head) (line : Line) (spec : GenSpec) (rest : List Line) → 
 spec_read head line spec [] is end = ap (λ (r : Result GenSpec ScriptRefusal). r >>= λ spec. Ok (spec_script head spec)) is
 spec_read head line spec (next ∷ rest) is end =
     ap (λ (r : Result GenSpec ScriptRefusal). (r >>= λ spec. at_line next (λ tokens. Err Gen)) >>= λ spec. Ok (spec_script head spec)) is
-    ∙ no_spec next.number next.says head
+    ∙ no_spec next.number (tokens_said next.says) head
 
 pub spec_next : (head : Head) (lines rest : List Line) (line : Line) (spec : GenSpec) (returned : Result Stage ScriptRefusal) → lines ≡ line ∷ rest → at_line line (gen_line head.shape) ≡ Ok spec
     → ReadsOn (λ end more. read_on (stages.Whole (spec_script head spec)) end (rest ++ more)) returned → ReadsOn (λ end more. read_on (stages.Map head) end (lines ++ more)) returned
@@ -191,3 +198,111 @@ pub nothing_more : (script : Script) (lines rest : List Line) (line : Line) (ref
 nothing_more script lines rest line refusal first is =
     refused (λ end more. read_on (stages.Whole script) end (lines ++ more)) refusal (λ end more.
     ap (λ (l : List Line). read_on (stages.Whole script) end (l ++ more)) first ∙ is)
+
+-- ---- the target line
+
+target_is : (version : ℕ) (attr : CreateAttr) (shape : Shape) (end : ℕ) (lines : List Line) → target_of version attr shape end lines ≡ target_on (script_of version attr shape [] [] None) end lines
+unfolding target_of
+target_is version attr shape end [] = refl
+target_is version attr shape end (line ∷ lines) = refl
+
+pub body_target : (head : Head) (lines : List Line) (returned : Result Stage ScriptRefusal)
+    → ReadsOn (λ end more. read_on (stages.Target (script_of head.version head.attr head.shape [] [] None)) end (lines ++ more)) returned
+    → ReadsOn (λ end more. body_of forms.Copy head.version head.attr head.shape end (lines ++ more)) returned
+unfolding body_of
+body_target head lines returned on =
+    reads_as (λ end more. body_of forms.Copy head.version head.attr head.shape end (lines ++ more)) (λ end more. read_on (stages.Target (script_of head.version head.attr head.shape [] [] None)) end (lines ++ more)) returned
+    (λ end more. target_is head.version head.attr head.shape end (lines ++ more)) on
+
+pub target_fault : (script : Script) (lines rest : List Line) (line : Line) (refusal : ScriptRefusal) → lines ≡ line ∷ rest → at_line line (target_line script.attr) ≡ Err refusal
+    → ReadsOn (λ end more. read_on (stages.Target script) end (lines ++ more)) (Err refusal)
+target_fault script lines rest line refusal first is =
+    refused (λ end more. read_on (stages.Target script) end (lines ++ more)) refusal (λ end more.
+    ap (λ (l : List Line). target_on script end (l ++ more)) first
+    ∙ ap (λ (r : Result (CreateAttr × ℕ) ScriptRefusal). r >>= λ asked. or_create (creation asked.0) >>= λ made. copied_of script (target_with asked.0 made asked.1) (rest ++ more)) is)
+
+-- what stands behind a target line that is read
+target_reads : (script : Script) (lines rest : List Line) (line : Line) (asked : CreateAttr × ℕ) (made : Result Shape CreateRefusal) → lines ≡ line ∷ rest → at_line line (target_line script.attr) ≡ Ok asked → creation asked.0 ≡ made
+    → (end : ℕ) (more : List Line) → read_on (stages.Target script) end (lines ++ more) ≡ (or_create made >>= λ made. copied_of script (target_with asked.0 made asked.1) (rest ++ more))
+target_reads script lines rest line asked made first is creates end more =
+    ap (λ (l : List Line). target_on script end (l ++ more)) first
+    ∙ ap (λ (r : Result (CreateAttr × ℕ) ScriptRefusal). r >>= λ asked. or_create (creation asked.0) >>= λ made. copied_of script (target_with asked.0 made asked.1) (rest ++ more)) is
+    ∙ ap (λ (r : Result Shape CreateRefusal). or_create r >>= λ made. copied_of script (target_with asked.0 made asked.1) (rest ++ more)) creates
+
+pub target_refused : (script : Script) (lines rest : List Line) (line : Line) (asked : CreateAttr × ℕ) (why : CreateRefusal) (refusal : ScriptRefusal) → lines ≡ line ∷ rest → at_line line (target_line script.attr) ≡ Ok asked
+    → creation asked.0 ≡ Err why → refusal ≡ Create why → ReadsOn (λ end more. read_on (stages.Target script) end (lines ++ more)) (Err refusal)
+target_refused script lines rest line asked why refusal first is creates gives =
+    refused (λ end more. read_on (stages.Target script) end (lines ++ more)) refusal (λ end more.
+    target_reads script lines rest line asked (Err why) first is creates end more ∙ ap Err (sym gives))
+
+abbrev pub copying : Script → Target → Option ℕ → Copying
+copying script target held = record { read = script; target = target; held = held }
+
+pub target_next : (script : Script) (lines rest : List Line) (line : Line) (asked : CreateAttr × ℕ) (shape : Shape) (returned : Result Stage ScriptRefusal) → lines ≡ line ∷ rest → at_line line (target_line script.attr) ≡ Ok asked
+    → creation asked.0 ≡ Ok shape → ReadsOn (λ end more. read_on (stages.Copy (copying script (target_with asked.0 shape asked.1) None)) end (rest ++ more)) returned
+    → ReadsOn (λ end more. read_on (stages.Target script) end (lines ++ more)) returned
+target_next script lines rest line asked shape returned first is creates on =
+    reads_as (λ end more. read_on (stages.Target script) end (lines ++ more)) (λ end more. read_on (stages.Copy (copying script (target_with asked.0 shape asked.1) None)) end (rest ++ more)) returned
+    (target_reads script lines rest line asked (Ok shape) first is creates) on
+
+-- ---- calls of a map that is copied
+
+-- one step behind lines before which a call may be held back
+held_then : {A B : Type 0} (held : Option ℕ) (lines : List Line) (read : Result A ScriptRefusal) (next : A → Result B ScriptRefusal) → unless_held held lines (read >>= next) ≡ (unless_held held lines read >>= next)
+held_then None lines read next = refl
+held_then {A} {B} (Some number) lines read next = go (phase_begins lines)
+  where
+    go : (begins : Bool) → cond begins (read >>= next) (Err (Fault number Copier)) ≡ (cond begins read (Err (Fault number Copier)) >>= next)
+    go true = refl
+    go false = refl
+
+-- the script of what was read
+abbrev copied_script : Script → Target → Body → Result Script ScriptRefusal
+copied_script script target body = Ok (copy_of script.version script.attr script.shape body.calls body.cuts target)
+
+copy_reads : (script : Script) (target : Target) (held : Option ℕ) (end : ℕ) (lines : List Line)
+    → read_on (stages.Copy (copying script target held)) end lines ≡ (copied_behind script.version script.shape held (body_with script.calls script.cuts) lines >>= copied_script script target)
+copy_reads script target held end lines = held_then held lines (copied_from script.version script.shape (body_with script.calls script.cuts) lines) (copied_script script target)
+
+pub copy_next : (head : Head) (before after : Body) (target : Target) (held now : Option ℕ) (lines : List Line)
+    → ((more : List Line) → copied_behind head.version head.shape held before (lines ++ more) ≡ copied_behind head.version head.shape now after more)
+    → ReadsOn (λ end more. read_on (stages.Copy (copying (script_of head.version head.attr head.shape before.calls before.cuts None) target held)) end (lines ++ more))
+    (Ok (stages.Copy (copying (script_of head.version head.attr head.shape after.calls after.cuts None) target now)))
+copy_next head before after target held now lines same = λ end more.
+    let first = script_of head.version head.attr head.shape before.calls before.cuts None in
+    let second = script_of head.version head.attr head.shape after.calls after.cuts None in
+    copy_reads first target held end (lines ++ more)
+    ∙ ap (λ (r : Result Body ScriptRefusal). r >>= copied_script first target) (same more)
+    ∙ sym (copy_reads second target now end more)
+
+pub copy_stops : (head : Head) (before found : Body) (target : Target) (held : Option ℕ) (lines rest : List Line) (refusal : ScriptRefusal)
+    → ReadsCopied head.version head.shape (λ more. copied_behind head.version head.shape held before (lines ++ more)) found rest (Err (Refused refusal))
+    → ReadsOn (λ end more. read_on (stages.Copy (copying (script_of head.version head.attr head.shape before.calls before.cuts None) target held)) end (lines ++ more)) (Err refusal)
+copy_stops head before found target held lines rest (Fault line cause) is = λ end more.
+    copy_reads (script_of head.version head.attr head.shape before.calls before.cuts None) target held end (lines ++ more)
+    ∙ ap (λ (r : Result Body ScriptRefusal). r >>= copied_script (script_of head.version head.attr head.shape before.calls before.cuts None) target) (is more)
+copy_stops head before found target held lines rest (Create why) is = λ end more.
+    copy_reads (script_of head.version head.attr head.shape before.calls before.cuts None) target held end (lines ++ more)
+    ∙ ap (λ (r : Result Body ScriptRefusal). r >>= copied_script (script_of head.version head.attr head.shape before.calls before.cuts None) target) (is more)
+copy_stops head before found target held lines rest NoMemory is = tt
+
+pub copy_either : (head : Head) (before found : Body) (target : Target) (held : Option ℕ) (lines rest : List Line) (fault : EitherFault) (returned : Result Stage ScriptRefusal)
+    → ReadsCopied head.version head.shape (λ more. copied_behind head.version head.shape held before (lines ++ more)) found rest (Err (Either fault))
+    → ReadsOn (λ end more. read_on (stages.Either fault) end (rest ++ more)) returned
+    → ReadsOn (λ end more. read_on (stages.Copy (copying (script_of head.version head.attr head.shape before.calls before.cuts None) target held)) end (lines ++ more)) returned
+copy_either head before found target held lines rest fault returned is on =
+    let script = script_of head.version head.attr head.shape before.calls before.cuts None in
+    reads_as (λ end more. read_on (stages.Copy (copying script target held)) end (lines ++ more)) (λ end more. read_on (stages.Either fault) end (rest ++ more)) returned (λ end more.
+    copy_reads script target held end (lines ++ more)
+    ∙ ap (λ (r : Result Body ScriptRefusal). r >>= copied_script script target) (is more)
+    ∙ sym (held_then {A = Body} (Some fault.copier) (rest ++ more) (Err (Fault fault.line fault.cause)) (copied_script script target))) on
+
+-- ---- either of two faults
+
+pub either_begins : (fault : EitherFault) (lines : List Line) → phase_begins lines ≡ true → ReadsOn (λ end more. read_on (stages.Either fault) end (lines ++ more)) (Err (Fault fault.line fault.cause))
+either_begins fault lines begins = λ end more.
+    ap (λ (b : Bool). cond b (Err (Fault fault.line fault.cause)) (Err (Fault fault.copier Copier))) (list_any-append begins_phase lines more ∙ ap (λ (b : Bool). b || phase_begins more) begins)
+
+pub either_stays : (fault : EitherFault) (lines : List Line) → phase_begins lines ≡ false → ReadsOn (λ end more. read_on (stages.Either fault) end (lines ++ more)) (Ok (stages.Either fault))
+either_stays fault lines none = λ end more.
+    ap (λ (b : Bool). cond b (Err (Fault fault.line fault.cause)) (Err (Fault fault.copier Copier))) (list_any-append begins_phase lines more ∙ ap (λ (b : Bool). b || phase_begins more) none)

@@ -1,16 +1,14 @@
 -- Lines of tokens: their text, and that it falls into the same lines of the same tokens again.
-use Rattle.std.proofs.Common.{◌≡◌, ℕ, suc, ◌+◌, ◌≤◌, ◌==◌, ◌&&◌, Bool, true, false, not, nat_le, cond, List, [], ◌∷◌, ◌++◌, length, take, filter, Result, Ok, Err, All, refl, ap, ◌∙◌, ◌⊎◌, inl, inr, append-nil, arith}
+use Rattle.std.proofs.Common.{◌≡◌, ℕ, suc, ◌+◌, ◌≤◌, ◌==◌, ◌&&◌, Bool, true, false, not, nat_le, List, [], ◌∷◌, ◌++◌, length, take, filter, All, refl, ap, ◌∙◌, ◌⊎◌, inl, inr, append-nil, arith}
 use Rattle.std.specs.List.{slice_split, list_all}
 use Rattle.std.proofs.lemmas.Bool.{and_parts, cond-true, leb-true, ne_eqb, le-leb, not-true, and_from, not_from_false, or_right, eqb-false}
 use Rattle.std.proofs.lemmas.List.{take_all}
 use Rattle.std.proofs.lemmas.List.Elements.{All-nil, All-cons, All-append, All-weaker, All-get_or}
 use Rattle.std.proofs.lemmas.List.Splits.{slice_split_at, slice_split_none}
 use Rattle.std.proofs.lemmas.List.Sums.{AllPass-from_list_all, list_all-from_AllPass, position_or_len_is}
-use Rattle.map_script.specs.declared.refusal.Cause.{Cause}
-use Rattle.map_script.specs.declared.refusal.Cause.TheVariants.{Byte}
 use Rattle.map_script.specs.Canonical.{spaced}
-use Rattle.map_script.specs.Plain.{is_mark, is_token, AreTokens, joined}
-use Rattle.map_script.specs.Lines.{Line, is_blank, is_hash, is_line_feed, is_allowed, before_comment, tokens_of, said_by, numbered, is_nothing, lines_of}
+use Rattle.map_script.specs.Plain.{is_mark, is_token, AreTokens, joined, saying}
+use Rattle.map_script.specs.Lines.{Said, Line, is_blank, is_hash, is_line_feed, is_allowed, before_comment, tokens_of, said_in, said_by, numbered, is_nothing, lines_of}
 
 -- ---- what a byte of a token is
 
@@ -98,15 +96,17 @@ whole_line line free =
     ap (λ (n : ℕ). take n line) (position_or_len_is is_hash line (length line) 0 (omega arith) (λ k below. All-get_or (λ byte. is_hash byte ≡ false) line k 0 below free) (λ below. absurd (omega arith)))
     ∙ take_all (length line) line (omega arith)
 
-pub said_by-joined : (token : List ℕ) (tokens : List (List ℕ)) → AreTokens (token ∷ tokens) → said_by (joined (token ∷ tokens)) ≡ Ok (token ∷ tokens)
+abbrev said : List (List ℕ) → Bool → Said
+said tokens allowed = record { tokens = tokens; allowed = allowed }
+
+pub said_by-joined : (token : List ℕ) (tokens : List (List ℕ)) → AreTokens (token ∷ tokens) → said_by (joined (token ∷ tokens)) ≡ said (token ∷ tokens) true
 said_by-joined token tokens h =
     let line = joined (token ∷ tokens) in
     let pieces : All IsPiece line = joined_pieces (token ∷ tokens) h in
     let whole : before_comment line ≡ line = whole_line line (All-weaker IsPiece (λ byte. is_hash byte ≡ false) piece_is_no_hash line pieces) in
     let allowed : list_all is_allowed line ≡ true = list_all-from_AllPass is_allowed line (All-weaker IsPiece (λ byte. is_allowed byte ≡ true) piece_is_allowed line pieces) in
-    ap (λ (said : List ℕ). cond (list_all is_allowed said) (Ok (tokens_of said)) (Err Byte)) whole
-    ∙ cond-true (list_all is_allowed line) (Ok (tokens_of line)) (Err Byte) allowed
-    ∙ ap (λ (found : List (List ℕ)). Ok found) (tokens_of-joined token tokens h)
+    ap said_in whole ∙ ap (said (tokens_of line)) allowed
+    ∙ ap (λ (found : List (List ℕ)). said found true) (tokens_of-joined token tokens h)
 
 -- ---- a text falls into its lines
 
@@ -124,9 +124,6 @@ abbrev pub text_of_lines : List (List (List ℕ)) → List ℕ
 text_of_lines [] = []
 text_of_lines (tokens ∷ lines) = joined tokens ++ 10 ∷ text_of_lines lines
 
-abbrev pub saying : ℕ → List (List ℕ) → Line
-saying number tokens = record { number = number; says = Ok tokens }
-
 -- lines that say these tokens, numbered from here on
 abbrev pub saying_from : ℕ → List (List (List ℕ)) → List Line
 saying_from number [] = []
@@ -135,7 +132,7 @@ saying_from number (tokens ∷ lines) = saying number tokens ∷ saying_from (nu
 abbrev pub says_something : Line → Bool
 says_something line = not (is_nothing line.says)
 
-abbrev pub line_saying : ℕ → Result (List (List ℕ)) Cause → Line
+abbrev pub line_saying : ℕ → Said → Line
 line_saying number says = record { number = number; says = says }
 
 lines_from : (number : ℕ) (lines : List (List (List ℕ))) → AreLines lines → filter says_something (numbered number (slice_split is_line_feed (text_of_lines lines))) ≡ saying_from number lines
@@ -147,7 +144,7 @@ lines_from number ((token ∷ tokens) ∷ lines) h =
     let kept = filter says_something (numbered (number + 1) rest) in
     let free = All-weaker IsPiece (λ byte. is_line_feed byte ≡ false) piece_is_no_line_feed line (joined_pieces (token ∷ tokens) h.0) in
     ap (λ (parts : List (List ℕ)). filter says_something (numbered number parts)) (slice_split_at is_line_feed line 10 (text_of_lines lines) free refl)
-    ∙ ap (λ (says : Result (List (List ℕ)) Cause). filter says_something (line_saying number says ∷ numbered (number + 1) rest)) (said_by-joined token tokens h.0)
+    ∙ ap (λ (says : Said). filter says_something (line_saying number says ∷ numbered (number + 1) rest)) (said_by-joined token tokens h.0)
     ∙ cond-true (says_something (saying number (token ∷ tokens))) (saying number (token ∷ tokens) ∷ kept) kept (some_length (length tokens))
     ∙ ap (λ (found : List Line). saying number (token ∷ tokens) ∷ found) (lines_from (number + 1) lines h.1)
 

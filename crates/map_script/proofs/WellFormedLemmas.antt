@@ -15,15 +15,19 @@ use Rattle.map_script.specs.declared.script.Form.{Form}
 use Rattle.map_script.specs.declared.script.Form.TheVariants as forms
 use Rattle.map_script.specs.declared.script.GenSpec.{GenSpec}
 use Rattle.map_script.specs.declared.script.Script.{Script}
-use Rattle.map_script.specs.Grammar.{reply_room, version_line, map_line}
+use Rattle.map_script.specs.declared.script.Target.{Target}
+use Rattle.map_script.specs.Grammar.{reply_room, version_line, map_line, target_line}
 use Rattle.map_script.specs.Lines.{Line, lines_of, end_number}
 use Rattle.map_script.specs.Places.{◌>>=◌, Tokens}
-use Rattle.map_script.specs.Reading.{at_line, or_create, no_body, with_next, body_from, spec_of, script_of, body_of, map_of, version_of, read_as, IsReading}
-use Rattle.map_script.specs.WellFormed.{GivesBytes, IsCallOn, AreCuts, HasPhases, IsWellFormed}
+use Rattle.map_script.specs.Reading.{at_line, or_create, no_body, with_next, body_from, copied_from, spec_of, script_of, target_with, copy_of, target_of, body_of, map_of, version_of, read_as, IsReading}
+use Rattle.map_script.specs.WellFormed.{GivesBytes, IsCallOn, AreCuts, HasPhases, last_calls, AreOfOthers, IsTarget, IsWellFormed}
 use Rattle.map_script.proofs.BodyLines.{Tells, few_more, room_more, lines_hold}
+use Rattle.map_script.proofs.CallScripts.{IsAttr, map_gives}
 use Rattle.map_script.proofs.CallSizes.{call_has}
+use Rattle.map_script.proofs.CopyReads.{plain_read, copied_free}
 use Rattle.map_script.proofs.Gives.{at_line_gives, IsVersion, version_gives}
 use Rattle.map_script.proofs.PlaceLemmas.{step_found, same_ok}
+use Rattle.map_script.proofs.TargetLines.{IsAsked, target_gives}
 
 -- ---- cuts
 
@@ -49,6 +53,7 @@ no_cuts : (form : Form) (version : ℕ) → IsVersion form version → ((version
 no_cuts forms.Calls version (inl first) = inl (first, refl)
 no_cuts forms.Calls version (inr second) = inr second
 no_cuts forms.Generator version first = inl (first, refl)
+no_cuts forms.Copy version second = inr second
 
 -- nothing yet
 none_within : (form : Form) (version : ℕ) (shape : Shape) → IsVersion form version → IsWithin version shape no_body
@@ -88,17 +93,70 @@ whole version attr shape body spec accepted within = record {
   few = within.few;
   room = within.replied;
   phases = within.phases;
+  target = tt;
 }
 
-body_has : (form : Form) (version : ℕ) (attr : CreateAttr) (shape : Shape) (end : ℕ) (lines : List Line) (script : Script) → IsVersion form version → creation attr ≡ Ok shape → body_of form version attr shape end lines ≡ Ok script → IsWellFormed script
+-- what the lines of form Calls say
+lines_within : (form : Form) (version : ℕ) (shape : Shape) (lines : List Line) (body : Body) → IsVersion form version → body_from version shape no_body lines ≡ Ok body → IsWithin version shape body
+lines_within form version shape lines body is read =
+    lines_hold version shape (λ (body : Body) (lines : List Line). IsWithin version shape body) (λ body line lines tokens next h said told. more_within version shape body tokens next h told) no_body lines body (none_within form version shape is) read
+
+is_target : (source : CreateAttr) (asked : CreateAttr × ℕ) (made : Shape) → IsAsked source asked → creation asked.0 ≡ Ok made → IsTarget source (target_with asked.0 made asked.1)
+is_target source asked made h accepted = record {
+  created = accepted;
+  shape = record { attr = asked.0; accepted = accepted };
+  key_size = h.key_size;
+  value_size = h.value_size;
+  cpus = h.cpus;
+  values = h.values;
+  some = h.some;
+  few = h.few;
+}
+
+-- the script that was found
+found_ok : (found script : Script) → ◌≡◌ {A = Result Script ScriptRefusal} (Ok found) (Ok script) → found ≡ script
+found_ok found script is = cc
+
+whole_copy : (version : ℕ) (attr : CreateAttr) (shape : Shape) (body : Body) (target : Target) (script : Script) → version ≡ 2 → creation attr ≡ Ok shape → IsWithin version shape body → IsTarget attr target
+    → AreOfOthers (last_calls body.cuts body.calls) → ◌≡◌ {A = Result Script ScriptRefusal} (Ok (copy_of version attr shape body.calls body.cuts target)) (Ok script) → IsWellFormed script
+whole_copy version attr shape body target script second accepted within is others found =
+    let formed : IsWellFormed (copy_of version attr shape body.calls body.cuts target) = record {
+      created = accepted;
+      shape = record { attr = attr; accepted = accepted };
+      calls = within.each;
+      few = within.few;
+      room = within.replied;
+      phases = within.phases;
+      target = record { version = second; no_spec = refl; into = is; last = others };
+    } in
+    subst IsWellFormed (found_ok (copy_of version attr shape body.calls body.cuts target) script found) formed
+
+target_has : (version : ℕ) (attr : CreateAttr) (shape : Shape) (end : ℕ) (lines : List Line) (script : Script) → version ≡ 2 → IsAttr attr → creation attr ≡ Ok shape → target_of version attr shape end lines ≡ Ok script → IsWellFormed script
+unfolding target_of
+target_has version attr shape end [] script is numbers accepted read = absurd cc
+target_has version attr shape end (line ∷ lines) script is numbers accepted read =
+    let asked = step_found (at_line line (target_line attr)) (λ asked. or_create (creation asked.0) >>= λ made. copied_from version shape no_body lines >>= λ body. Ok (copy_of version attr shape body.calls body.cuts (target_with asked.0 made asked.1))) script read in
+    let made = step_found (or_create (creation asked.0.0)) (λ made. copied_from version shape no_body lines >>= λ body. Ok (copy_of version attr shape body.calls body.cuts (target_with asked.0.0 made asked.0.1))) script asked.2 in
+    let target = target_with asked.0.0 made.0 asked.0.1 in
+    let body = step_found (copied_from version shape no_body lines) (λ body. Ok (copy_of version attr shape body.calls body.cuts target)) script made.2 in
+    let P : Result (CreateAttr × ℕ) ScriptRefusal → Type 0 = λ r. IfOk r (IsAsked attr) in
+    let known = subst P asked.1 (at_line_gives (IsAsked attr) line (target_line attr) (λ tokens. target_gives attr tokens numbers)) in
+    whole_copy version attr shape body.0 target script is accepted
+    (lines_within forms.Copy version shape lines body.0 is (plain_read version shape no_body lines body.0 body.1))
+    (is_target attr asked.0 made.0 known (created (creation asked.0.0) made.0 made.1))
+    (copied_free version shape lines body.0 body.1) body.2
+
+body_has : (form : Form) (version : ℕ) (attr : CreateAttr) (shape : Shape) (end : ℕ) (lines : List Line) (script : Script) → IsVersion form version → IsAttr attr → creation attr ≡ Ok shape → body_of form version attr shape end lines ≡ Ok script → IsWellFormed script
 unfolding body_of
-body_has forms.Calls version attr shape end lines script is accepted read =
+body_has forms.Calls version attr shape end lines script is numbers accepted read =
     let body = step_found (body_from version shape no_body lines) (λ body. Ok (script_of version attr shape body.calls body.cuts None)) script read in
-    let within = lines_hold version shape (λ (body : Body) (lines : List Line). IsWithin version shape body) (λ body line lines tokens next h said told. more_within version shape body tokens next h told) no_body lines body.0 (none_within forms.Calls version shape is) body.1 in
+    let within = lines_within forms.Calls version shape lines body.0 is body.1 in
     subst IsWellFormed (same_ok (body_of forms.Calls version attr shape end lines) (script_of version attr shape body.0.calls body.0.cuts None) script (read ∙ sym body.2) read) (whole version attr shape body.0 None accepted within)
-body_has forms.Generator version attr shape end lines script is accepted read =
+body_has forms.Generator version attr shape end lines script is numbers accepted read =
     let spec = step_found (spec_of shape end lines) (λ spec. Ok (script_of version attr shape [] [] (Some spec))) script read in
     subst IsWellFormed (same_ok (body_of forms.Generator version attr shape end lines) (script_of version attr shape [] [] (Some spec.0)) script (read ∙ sym spec.2) read) (whole version attr shape no_body (Some spec.0) accepted (none_within forms.Generator version shape is))
+body_has forms.Copy version attr shape end lines script is numbers accepted read =
+    target_has version attr shape end lines script is numbers accepted read
 
 map_has : (form : Form) (version end : ℕ) (lines : List Line) (script : Script) → IsVersion form version → map_of form version end lines ≡ Ok script → IsWellFormed script
 unfolding map_of
@@ -106,7 +164,9 @@ map_has form version end [] script is read = absurd cc
 map_has form version end (line ∷ lines) script is read =
     let attr = step_found (at_line line map_line) (λ attr. or_create (creation attr) >>= λ shape. body_of form version attr shape end lines) script read in
     let shape = step_found (or_create (creation attr.0)) (λ shape. body_of form version attr.0 shape end lines) script attr.2 in
-    body_has form version attr.0 shape.0 end lines script is (created (creation attr.0) shape.0 shape.1) shape.2
+    let P : Result CreateAttr ScriptRefusal → Type 0 = λ r. IfOk r IsAttr in
+    let numbers = subst P attr.1 (at_line_gives IsAttr line map_line map_gives) in
+    body_has form version attr.0 shape.0 end lines script is numbers (created (creation attr.0) shape.0 shape.1) shape.2
 
 version_has : (form : Form) (end : ℕ) (lines : List Line) (script : Script) → version_of form end lines ≡ Ok script → IsWellFormed script
 unfolding version_of

@@ -1,4 +1,4 @@
--- A script of form Calls, with the calls that were read so far.
+-- A script without its target, with the calls that were read so far.
 use Rattle.std.specs.Prelude.{◌≡◌, ℕ, ◌≤◌, List, length, None, Result, Ok}
 use Rattle.map_types.specs.Creation.{IsShape}
 use Rattle.map_types.specs.declared.attr.Shape.{Shape}

@@ -1,6 +1,6 @@
 -- The canonical text of a script: one space between tokens, no comments, numbers without leading zeros, lower case
--- digits, the flags 0, 1 and 2 of an update by name, and only where they aren't 0 the flags and the seed of the map and
--- the flags of a batch read.
+-- digits, the flags 0, 1 and 2 of an update by name, and only where they aren't 0 the flags and the seed of a map and the
+-- flags of a batch read.
 use Rattle.std.specs.Prelude.{ℕ, ◌-◌, ◌==◌, Bool, true, false, List, [], ◌∷◌, ◌++◌, map, take, drop, Option, Some, None, if◌then◌else◌, codes, decimal}
 use Rattle.std.specs.List.{flat_map}
 use Rattle.hex.specs.Hex.{encode_lower}
@@ -14,6 +14,7 @@ use Rattle.map_types.specs.declared.kind.Side.{Side}
 use Rattle.map_types.specs.declared.kind.Side.TheVariants.{Prog, Sys}
 use Rattle.map_script.specs.declared.script.GenSpec.{GenSpec}
 use Rattle.map_script.specs.declared.script.Script.{Script}
+use Rattle.map_script.specs.declared.script.Target.{Target}
 use Rattle.map_script.specs.Places.{Tokens}
 
 -- a token behind a space
@@ -116,6 +117,20 @@ spec_tokens spec =
     ++ label_and_number (codes "keys") spec.keys
     ++ label_and_number (codes "mix") spec.mix
 
+-- what stands behind `target`
+abbrev pub target_tokens : Target → Tokens
+target_tokens target =
+    kind_name target.attr.kind ∷ []
+    ++ label_and_number (codes "max") target.attr.max_entries
+    ++ label_and_number (codes "count") target.count
+    ++ unless_zero target.attr.flags (label_and_number (codes "flags") target.attr.flags)
+    ++ unless_zero target.attr.seed (label_and_number (codes "seed") target.attr.seed)
+
+-- the target line of a script that has a target
+abbrev pub target_text : Option Target → List ℕ
+target_text None = []
+target_text (Some target) = line_text (codes "target") (target_tokens target)
+
 -- the lines of calls, behind so many others, and a `phase` line where each cut is
 abbrev pub phased_text : ℕ → List ℕ → List Call → List ℕ
 phased_text before [] calls = flat_map call_text calls
@@ -124,14 +139,15 @@ phased_text before (cut ∷ cuts) calls =
     ++ line_text (codes "phase") []
     ++ phased_text cut cuts (drop (cut - before) calls)
 
--- what stands behind the map line: a script that has a spec has no call lines
+-- the generator line, or the lines of calls and phases: a script that has a spec has no call lines
 abbrev pub body_text : Option GenSpec → List ℕ → List Call → List ℕ
 body_text None cuts calls = phased_text 0 cuts calls
 body_text (Some spec) cuts calls = line_text (codes "gen") (spec_tokens spec)
 
--- the version line, the map line, and what stands behind it
+-- the version line, the map line, the target line where there is one, and what stands behind them
 unfoldable pub canonical : Script → List ℕ
 canonical script =
     line_text (codes "bpfmap") (decimal script.version ∷ [])
     ++ line_text (codes "map") (map_tokens script.attr)
+    ++ target_text script.target
     ++ body_text script.spec script.cuts script.calls

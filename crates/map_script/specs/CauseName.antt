@@ -1,7 +1,7 @@
 -- How causes are written.
 use Rattle.std.specs.Prelude.{ℕ, List, codes}
 use Rattle.map_script.specs.declared.refusal.Cause.{Cause}
-use Rattle.map_script.specs.declared.refusal.Cause.TheVariants.{Byte, Version, Map, Gen, Number, Cpu, Verb, Flag, Digits, Length, Missing, Extra, Calls, Room, Phases}
+use Rattle.map_script.specs.declared.refusal.Cause.TheVariants.{Byte, Version, Map, Gen, Number, Cpu, Verb, Flag, Digits, Length, Missing, Extra, Calls, Room, Phases, Target, Copier}
 
 abbrev pub cause_name : Cause → List ℕ
 cause_name Byte = codes "byte"
@@ -19,3 +19,5 @@ cause_name Extra = codes "extra"
 cause_name Calls = codes "calls"
 cause_name Room = codes "room"
 cause_name Phases = codes "phases"
+cause_name Target = codes "target"
+cause_name Copier = codes "copier"

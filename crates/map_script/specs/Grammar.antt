@@ -1,5 +1,6 @@
 -- What each line of a script says.
-use Rattle.std.specs.Prelude.{ℕ, ◌+◌, ◌*◌, ◌^◌, ◌==◌, ◌&&◌, nat_lt, nat_le, Bool, true, false, List, [], ◌∷◌, min, sum_by, Option, Some, None, Result, Ok, Err, if◌then◌else◌, codes, bytes_eq}
+use Rattle.std.specs.Prelude.{ℕ, ◌+◌, ◌*◌, ◌^◌, ◌==◌, ◌&&◌, not, nat_lt, nat_le, Bool, true, false, List, [], ◌∷◌, min, sum_by, Option, Some, None, Result, Ok, Err, if◌then◌else◌, codes, bytes_eq}
+use Rattle.map_types.specs.Kind.{is_percpu}
 use Rattle.map_types.specs.ValueLen.{value_len_of}
 use Rattle.map_types.specs.declared.attr.CreateAttr.{CreateAttr}
 use Rattle.map_types.specs.declared.attr.Shape.{Shape}
@@ -11,22 +12,23 @@ use Rattle.map_types.specs.declared.kind.MapKind.TheVariants.{Hash, PercpuHash, 
 use Rattle.map_types.specs.declared.kind.Side.{Side}
 use Rattle.map_types.specs.declared.kind.Side.TheVariants.{Prog, Sys}
 use Rattle.map_script.specs.declared.refusal.Cause.{Cause}
-use Rattle.map_script.specs.declared.refusal.Cause.TheVariants.{Version, Map, Gen, Missing}
+use Rattle.map_script.specs.declared.refusal.Cause.TheVariants.{Version, Map, Gen, Target, Missing}
 use Rattle.map_script.specs.declared.refusal.Cause.TheVariants as causes
 use Rattle.map_script.specs.declared.script.Form.{Form}
 use Rattle.map_script.specs.declared.script.Form.TheVariants as forms
 use Rattle.map_script.specs.declared.script.GenSpec.{GenSpec}
 use Rattle.map_script.specs.Places.{◌>>=◌, Tokens, token, at_end, valued, number, cpu, start, flag, bytes_in, bytes, stop, word, is_next, labelled, if_labelled, number_or_end, instead}
 
--- the version that a word names: 1, and in form Calls 2 as well
+-- the version that a word names: 1 in form Generator, 2 in form Copy, and either in form Calls
 abbrev pub version_named : Form → List ℕ → Option ℕ
 version_named forms.Calls name =
     if bytes_eq name (codes "1") then Some 1
     else if bytes_eq name (codes "2") then Some 2
     else None
 version_named forms.Generator name = if bytes_eq name (codes "1") then Some 1 else None
+version_named forms.Copy name = if bytes_eq name (codes "2") then Some 2 else None
 
--- `bpfmap 1`, and in form Calls `bpfmap 2` as well
+-- `bpfmap` and the version
 abbrev pub version_places : Form → Tokens → Result ℕ Cause
 version_places form tokens = do
   name ← word Version (codes "bpfmap") tokens
@@ -63,6 +65,34 @@ map_places tokens = do
 
 unfoldable pub map_line : Tokens → Result CreateAttr Cause
 map_line tokens = instead Map (map_places tokens)
+
+-- A target has a kind, a number of entries, flags and a seed of its own. Its keys, its values and its CPUs are the source's.
+abbrev pub target_attr : CreateAttr → MapKind → ℕ → ℕ → ℕ → CreateAttr
+target_attr source kind max flags seed = map_attr kind source.key_size source.value_size max source.cpus flags seed
+
+-- both kinds have a value for each CPU, or neither
+abbrev pub are_alike : MapKind → MapKind → Bool
+are_alike kind other = if is_percpu kind then is_percpu other else not (is_percpu other)
+
+-- A copy from the source goes into a map of these attributes, with this count: both have a value for each CPU, or neither, and the
+-- count is from 1 to 65,536.
+abbrev pub is_target : CreateAttr → CreateAttr × ℕ → Bool
+is_target source asked = are_alike source.kind asked.0.kind && nat_le 1 asked.1 && nat_le asked.1 65536
+
+-- `target KIND max N count N`, then `flags N` or not, and then `seed N` or not
+abbrev pub target_places : CreateAttr → Tokens → Result (CreateAttr × ℕ) Cause
+target_places source tokens = do
+  name ← word Target (codes "target") tokens
+  kind ← valued Target kind_of name.1
+  max ← labelled (codes "max") kind.1
+  count ← labelled (codes "count") max.1
+  flags ← if_labelled (codes "flags") count.1
+  seed ← if_labelled (codes "seed") flags.1
+  asked ← at_end (target_attr source kind.0 max.0 flags.0 seed.0, count.0) seed.1
+  if is_target source asked then Ok asked else Err Target
+
+unfoldable pub target_line : CreateAttr → Tokens → Result (CreateAttr × ℕ) Cause
+target_line source tokens = instead Target (target_places source tokens)
 
 -- 1 to 200,000 calls; 1 to 1,000,000 keys, and fewer than there are keys of the map's size; mix 0 or 1; and at most
 -- 67,108,864 bytes of values in all calls

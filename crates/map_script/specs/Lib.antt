@@ -11,4 +11,6 @@ pub mod CauseName
 pub mod SameLines
 pub mod Plain
 pub mod CallsSoFar
+pub mod CopySoFar
+pub mod CopyLines
 pub mod Pieces

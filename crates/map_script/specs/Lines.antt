@@ -1,5 +1,5 @@
 -- How the bytes of a text fall into lines, and what a line says.
-use Rattle.std.specs.Prelude.{ℕ, ◌+◌, ◌==◌, ◌&&◌, ◌||◌, not, nat_le, Bool, false, List, [], ◌∷◌, length, filter, count_by, Result, Ok, Err, if◌then◌else◌}
+use Rattle.std.specs.Prelude.{ℕ, ◌+◌, ◌==◌, ◌&&◌, ◌||◌, not, nat_le, Bool, List, [], ◌∷◌, length, filter, count_by, Result, Ok, Err, if◌then◌else◌}
 use Rattle.std.specs.List.{slice_split, before_first, list_all}
 use Rattle.map_script.specs.declared.refusal.Cause.{Cause}
 use Rattle.map_script.specs.declared.refusal.Cause.TheVariants.{Byte}
@@ -27,14 +27,27 @@ before_comment line = before_first is_hash line
 abbrev pub tokens_of : List ℕ → List (List ℕ)
 tokens_of line = filter (λ token. not (length token == 0)) (slice_split is_blank line)
 
--- what a line says: its tokens, or that a byte may not stand there
-abbrev pub said_by : List ℕ → Result (List (List ℕ)) Cause
-said_by line = if list_all is_allowed (before_comment line) then Ok (tokens_of (before_comment line)) else Err Byte
+-- what a line says outside its comment: its tokens, and whether each byte may stand there
+pub record Said : Type 0 where
+  pub tokens : List (List ℕ)
+  pub allowed : Bool
+
+-- a line without its comment
+abbrev pub said_in : List ℕ → Said
+said_in line = record { tokens = tokens_of line; allowed = list_all is_allowed line }
+
+-- a line with its comment
+abbrev pub said_by : List ℕ → Said
+said_by line = said_in (before_comment line)
+
+-- its tokens, or that a byte may not stand there
+abbrev pub tokens_said : Said → Result (List (List ℕ)) Cause
+tokens_said said = if said.allowed then Ok said.tokens else Err Byte
 
 -- a line with its number
 pub record Line : Type 0 where
   pub number : ℕ
-  pub says : Result (List (List ℕ)) Cause
+  pub says : Said
 
 -- lines, numbered from here on
 abbrev pub numbered : ℕ → List (List ℕ) → List Line
@@ -42,9 +55,8 @@ numbered number [] = []
 numbered number (line ∷ lines) = record { number = number; says = said_by line } ∷ numbered (number + 1) lines
 
 -- no token and no byte that may not stand there
-abbrev pub is_nothing : Result (List (List ℕ)) Cause → Bool
-is_nothing (Ok tokens) = length tokens == 0
-is_nothing (Err cause) = false
+abbrev pub is_nothing : Said → Bool
+is_nothing said = said.allowed && length said.tokens == 0
 
 -- the lines of a text that say something, in order, where its first line has this number
 abbrev pub lines_from : ℕ → List ℕ → List Line

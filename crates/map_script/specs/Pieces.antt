@@ -14,12 +14,14 @@ use Rattle.map_script.specs.Lines.{Line, is_line_feed, lines_from, end_from}
 use Rattle.map_script.specs.Places.{◌>>=◌}
 use Rattle.map_script.specs.Reading.{at_line, spec_of, script_of, map_of, version_of, read_as}
 use Rattle.map_script.specs.CallsSoFar.{calls_of}
+use Rattle.map_script.specs.CopySoFar.{copied_of, target_on, unless_held}
 
 -- a script of form Generator
 abbrev pub spec_script : Head → GenSpec → Script
 spec_script head spec = script_of head.version head.attr head.shape [] [] (Some spec)
 
--- what lines are read as behind those that led to a stage; end is the line of a fault that only the end of the text shows
+-- what lines are read as behind those that led to a stage; end is the line of what
+-- is missing at the end of the text
 abbrev pub read_on : Stage → ℕ → List Line → Result Script ScriptRefusal
 read_on (stages.Start form) end lines = version_of form end lines
 read_on (stages.Version form version) end lines = map_of form version end lines
@@ -29,6 +31,9 @@ read_on (stages.Map head) end lines = do
   Ok (spec_script head spec)
 read_on (stages.Whole script) end [] = Ok script
 read_on (stages.Whole script) end (line ∷ lines) = at_line line (λ tokens. Err Gen)
+read_on (stages.Target script) end lines = target_on script end lines
+read_on (stages.Copy copying) end lines = unless_held copying.held lines (copied_of copying.read copying.target lines)
+read_on (stages.Either fault) end lines = unless_held (Some fault.copier) lines (Err (Fault fault.line fault.cause))
 
 -- the same, where those lines may be refused
 abbrev pub read_behind : Result Stage ScriptRefusal → ℕ → List Line → Result Script ScriptRefusal

@@ -47,11 +47,21 @@ pub record BeginsWithBytes (size : ℕ) (text found rest : List ℕ) : Type 0 wh
   pub is : is_token token ≡ true
   pub reads : bytes_in size token ≡ Ok found
 
+-- a line that says these tokens
+abbrev pub saying : ℕ → Tokens → Line
+saying number tokens = record { number = number; says = record { tokens = tokens; allowed = true } }
+
 -- the first of some lines is read as this, and the rest stands behind it
 pub record FirstIs {A : Type 0} (read : Tokens → Result A Cause) (lines : List Line) (found : A) (rest : List Line) : Type 0 where
   pub line : Line
   pub first : lines ≡ line ∷ rest
   pub reads : of_line line read ≡ Ok found
+
+-- the same, and the line has this number
+pub record FirstAt {A : Type 0} (number : ℕ) (read : Tokens → Result A Cause) (lines : List Line) (found : A) (rest : List Line) : Type 0 where
+  pub tokens : Tokens
+  pub first : lines ≡ saying number tokens ∷ rest
+  pub reads : read tokens ≡ Ok found
 
 -- what the first of some lines is read as, where there is one
 abbrev pub first_read : {A : Type 0} → (Tokens → Result A Cause) → List Line → Result (Option A) ScriptRefusal

@@ -1,5 +1,6 @@
 -- What a text is read as: a script, or the first fault, or a map that can't be created.
-use Rattle.std.specs.Prelude.{◌≡◌, ℕ, ◌+◌, nat_lt, nat_le, List, [], ◌∷◌, ◌++◌, length, Option, Some, None, Result, Ok, Err, if◌then◌else◌}
+use Rattle.std.specs.Prelude.{◌≡◌, ℕ, ◌+◌, ◌==◌, ◌&&◌, not, nat_lt, nat_le, Bool, true, false, List, [], ◌∷◌, ◌++◌, length, Option, Some, None, Result, Ok, Err, if◌then◌else◌, codes}
+use Rattle.std.specs.List.{list_any}
 use Rattle.map_types.specs.Creation.{creation}
 use Rattle.map_types.specs.declared.attr.CreateAttr.{CreateAttr}
 use Rattle.map_types.specs.declared.attr.Shape.{Shape}
@@ -9,16 +10,18 @@ use Rattle.map_script.specs.declared.body.Body.{Body}
 use Rattle.map_script.specs.declared.body.BodyLine.{BodyLine}
 use Rattle.map_script.specs.declared.body.BodyLine.TheVariants as says
 use Rattle.map_script.specs.declared.refusal.Cause.{Cause}
-use Rattle.map_script.specs.declared.refusal.Cause.TheVariants.{Version, Map, Gen, Calls, Room, Phases}
+use Rattle.map_script.specs.declared.refusal.Cause.TheVariants.{Version, Map, Gen, Calls, Room, Phases, Copier}
+use Rattle.map_script.specs.declared.refusal.Cause.TheVariants as causes
 use Rattle.map_script.specs.declared.refusal.ScriptRefusal.{ScriptRefusal}
 use Rattle.map_script.specs.declared.refusal.ScriptRefusal.TheVariants.{Fault, Create, NoMemory}
 use Rattle.map_script.specs.declared.script.Form.{Form}
 use Rattle.map_script.specs.declared.script.Form.TheVariants as forms
 use Rattle.map_script.specs.declared.script.GenSpec.{GenSpec}
 use Rattle.map_script.specs.declared.script.Script.{Script}
-use Rattle.map_script.specs.Grammar.{version_line, map_line, gen_line, call_line, starts_phase, phase_line, reply_bytes, reply_room}
-use Rattle.map_script.specs.Lines.{Line, lines_of, end_number}
-use Rattle.map_script.specs.Places.{◌>>=◌, Tokens}
+use Rattle.map_script.specs.declared.script.Target.{Target}
+use Rattle.map_script.specs.Grammar.{version_line, map_line, gen_line, target_line, call_line, starts_phase, phase_line, reply_bytes, reply_room}
+use Rattle.map_script.specs.Lines.{Line, tokens_said, lines_of, end_number}
+use Rattle.map_script.specs.Places.{◌>>=◌, Tokens, is_next}
 
 -- a cause, at a line
 abbrev pub or_fault : {A : Type 0} → ℕ → Result A Cause → Result A ScriptRefusal
@@ -27,7 +30,7 @@ or_fault number (Err cause) = Err (Fault number cause)
 
 -- what a line is read as
 abbrev pub of_line : {A : Type 0} → Line → (Tokens → Result A Cause) → Result A Cause
-of_line line reading = line.says >>= reading
+of_line line reading = tokens_said line.says >>= reading
 
 -- the same, where a cause is a fault of the line
 abbrev pub at_line : {A : Type 0} → Line → (Tokens → Result A Cause) → Result A ScriptRefusal
@@ -83,6 +86,27 @@ body_from version shape body (line ∷ lines) = do
   next ← at_line line (line_behind version shape body)
   body_from version shape (with_next body next) lines
 
+-- In a script of version 2 a line whose first token is `phase` begins a phase, also where something is wrong with the line.
+abbrev pub begins_phase : Line → Bool
+begins_phase line = is_next (codes "phase") line.says.tokens
+
+-- one of these lines begins a phase
+abbrev pub phase_begins : List Line → Bool
+phase_begins lines = list_any begins_phase lines
+
+-- In the last phase of a script of form Copy, CPU 0 copies. So it has no call there. A phase is the last where no line behind
+-- begins one.
+abbrev pub unless_copier : List Line → BodyLine → Result BodyLine Cause
+unless_copier behind (says.Call call) = if call.cpu == 0 && not (phase_begins behind) then Err Copier else Ok (says.Call call)
+unless_copier behind says.Phase = Ok says.Phase
+
+-- what lines of such a script say, behind what those before them say
+abbrev pub copied_from : ℕ → Shape → Body → List Line → Result Body ScriptRefusal
+copied_from version shape body [] = Ok body
+copied_from version shape body (line ∷ lines) = do
+  next ← at_line line (λ tokens. line_behind version shape body tokens >>= unless_copier lines)
+  copied_from version shape (with_next body next) lines
+
 -- the one generator line, behind which no line stands
 abbrev pub spec_of : Shape → ℕ → List Line → Result GenSpec ScriptRefusal
 spec_of shape end [] = Err (Fault end Gen)
@@ -93,7 +117,24 @@ spec_of shape end (line ∷ next ∷ lines) = do
 
 abbrev pub script_of : ℕ → CreateAttr → Shape → List Call → List ℕ → Option GenSpec → Script
 script_of version attr shape calls cuts spec =
-    record { version = version; attr = attr; shape = shape; calls = calls; cuts = cuts; spec = spec }
+    record { version = version; attr = attr; shape = shape; calls = calls; cuts = cuts; spec = spec; target = None }
+
+abbrev pub target_with : CreateAttr → Shape → ℕ → Target
+target_with attr shape count = record { attr = attr; shape = shape; count = count }
+
+-- a script of form Copy
+abbrev pub copy_of : ℕ → CreateAttr → Shape → List Call → List ℕ → Target → Script
+copy_of version attr shape calls cuts target =
+    record { version = version; attr = attr; shape = shape; calls = calls; cuts = cuts; spec = None; target = Some target }
+
+-- The target line, and what stands behind it. Where the target can't be created no later line is judged.
+unfoldable pub target_of : ℕ → CreateAttr → Shape → ℕ → List Line → Result Script ScriptRefusal
+target_of version attr shape end [] = Err (Fault end causes.Target)
+target_of version attr shape end (line ∷ lines) = do
+  asked ← at_line line (target_line attr)
+  made ← or_create (creation asked.0)
+  body ← copied_from version shape no_body lines
+  Ok (copy_of version attr shape body.calls body.cuts (target_with asked.0 made asked.1))
 
 -- what stands behind the map line
 unfoldable pub body_of : Form → ℕ → CreateAttr → Shape → ℕ → List Line → Result Script ScriptRefusal
@@ -103,6 +144,7 @@ body_of forms.Calls version attr shape end lines = do
 body_of forms.Generator version attr shape end lines = do
   spec ← spec_of shape end lines
   Ok (script_of version attr shape [] [] (Some spec))
+body_of forms.Copy version attr shape end lines = target_of version attr shape end lines
 
 -- the map line, and what stands behind it. Where the map can't be created no later line is judged.
 unfoldable pub map_of : Form → ℕ → ℕ → List Line → Result Script ScriptRefusal
@@ -122,6 +164,12 @@ version_of form end (line ∷ lines) = do
 -- what a text is read as, which is never NoMemory
 unfoldable pub read_as : Form → List ℕ → Result Script ScriptRefusal
 read_as form text = version_of form (end_number text) (lines_of text)
+
+-- the form that gives scripts with a target
+abbrev pub is_copy : Form → Bool
+is_copy forms.Calls = false
+is_copy forms.Generator = false
+is_copy forms.Copy = true
 
 -- some text is read as this script in this form
 abbrev pub IsReadAs : Form → Script → Type 0

@@ -89,7 +89,7 @@ fn read_each(
 
 /// Adds what a line says to what the lines before it say, and tells how many bytes the replies may have then.
 #[inline(always)]
-fn add_line(
+pub(crate) fn add_line(
     shape: &Shape,
     calls: &mut Vec<Call>,
     cuts: &mut Vec<u32>,
@@ -146,7 +146,7 @@ fn next_line(
 }
 
 /// Reads a line behind so many calls, whose replies may have so many bytes, and so many `phase` lines.
-fn body_line(
+pub(crate) fn body_line(
     alloc: Global,
     version: u32,
     shape: &Shape,

@@ -1,7 +1,7 @@
-//! The lines of a script that are no calls: the version line, the map line and the generator line.
+//! The lines of a script that are no calls: the version line, the map line, the target line and the generator line.
 
 ghost use Rattle.std.specs.Prelude.{◌≡◌, ◌≤◌, ◌^◌, nat_lt, Err};
-ghost use Rattle.map_script.specs.Grammar.{version_named, version_places, version_line, kind_of, map_places, map_line, is_spec, gen_places, gen_line};
+ghost use Rattle.map_script.specs.Grammar.{version_named, version_places, version_line, kind_of, map_places, map_line, is_target, are_alike, target_places, target_line, is_spec, gen_places, gen_line};
 ghost use Rattle.map_script.specs.Places.{instead};
 ghost use Rattle.map_script.specs.declared.script.Script.{Script};
 ghost use Rattle.map_script.specs.Reading.{of_line, at_line};
@@ -18,10 +18,13 @@ const MAX_CALLS: u32 = 200_000;
 /// How many keys they may have.
 const MAX_KEYS: u32 = 1_000_000;
 
+/// How many pairs the first read of a copy may ask for.
+const MAX_COUNT: u32 = 65_536;
+
 /// How many bytes of values they may have.
 const MAX_VALUES: u64 = 67_108_864;
 
-/// Reads `bpfmap 1`, and in form Calls `bpfmap 2` as well.
+/// Reads `bpfmap 1` in form Generator, `bpfmap 2` in form Copy, and either in form Calls.
 #[tactic(auto, unfolding(crate::specs::Grammar::version_line))]
 pub(crate) fn version_line(form: Form, line: &TextLine) -> Result<u32, Cause>
     ensures { result ≡ of_line line.now (version_line form) }
@@ -55,6 +58,13 @@ fn version_named(form: Form, name: &[u8]) -> Option<u32>
         Form::Generator => {
             if name == b"1".as_slice() {
                 Some(1)
+            } else {
+                None
+            }
+        }
+        Form::Copy => {
+            if name == b"2".as_slice() {
+                Some(2)
             } else {
                 None
             }
@@ -107,6 +117,61 @@ fn kind_of(name: &[u8]) -> Option<MapKind>
         Some(MapKind::LruPercpuHash)
     } else {
         None
+    }
+}
+
+/// Reads `target KIND max N count N`, and then `flags N` or not, and then `seed N` or not. It gives the target's attributes, of
+/// which the others are the source's, and how many pairs the first read asks for.
+#[tactic(auto, unfolding(crate::specs::Grammar::target_line))]
+pub(crate) fn target_line(source: &CreateAttr, line: &TextLine) -> Result<(CreateAttr, u32), Cause>
+    ensures { result ≡ of_line line.now (target_line source.now) }
+{
+    let tokens = line.tokens()?;
+    instead(Cause::Target, target_places(source, tokens))
+}
+
+fn target_places(source: &CreateAttr, mut tokens: Tokens) -> Result<(CreateAttr, u32), Cause>
+    ensures { result ≡ target_places source.now tokens.entry }
+{
+    tokens.word(Cause::Target, b"target")?;
+    let kind = kind_of(tokens.token()?).ok_or(Cause::Target)?;
+    let max_entries = tokens.labelled(b"max")?;
+    let count = tokens.labelled(b"count")?;
+    let flags = tokens.if_labelled(b"flags")?;
+    let seed = tokens.if_labelled(b"seed")?;
+    let attr = CreateAttr {
+        kind,
+        key_size: source.key_size,
+        value_size: source.value_size,
+        max_entries,
+        flags,
+        seed,
+        cpus: source.cpus,
+    };
+    let asked = tokens.at_end((attr, count))?;
+    if is_target(source, &asked) {
+        Ok(asked)
+    } else {
+        Err(Cause::Target)
+    }
+}
+
+/// Whether a map may be copied into one of these attributes, and the first read may ask for so many pairs.
+fn is_target(source: &CreateAttr, asked: &(CreateAttr, u32)) -> bool
+    ensures { result ≡ is_target source.now asked.now }
+{
+    let (attr, count) = asked;
+    are_alike(source.kind, attr.kind) && 1 <= *count && *count <= MAX_COUNT
+}
+
+/// Whether both kinds have a value for each CPU, or neither.
+fn are_alike(kind: MapKind, other: MapKind) -> bool
+    ensures { result ≡ are_alike kind other }
+{
+    if kind.is_percpu() {
+        other.is_percpu()
+    } else {
+        !other.is_percpu()
     }
 }
 

@@ -3,6 +3,7 @@
 
 mod body;
 mod calls;
+mod copied;
 mod fault;
 mod front;
 mod head;
@@ -22,5 +23,5 @@ mod verbs;
 pub use laws::reading_laws;
 pub use pieces::{ScriptReader, read_script};
 pub use refusal::{Cause, ScriptRefusal};
-pub use script::{Form, GenSpec, Script};
+pub use script::{Form, GenSpec, Script, Target};
 pub use text::kind_name;

@@ -2,11 +2,11 @@
 
 ghost use Rattle.std.specs.Prelude.{◌≡◌, ℕ, ◌+◌, ◌-◌, ◌<◌, ◌≤◌, ◌^◌, [], ◌∷◌, length, count_by, ⊤, MatchOption, if◌then◌else◌};
 ghost use Rattle.std.specs.List.{list_all};
-ghost use Rattle.map_script.specs.Lines.{is_line_feed, is_blank, is_allowed, before_comment, said_by, is_nothing};
+ghost use Rattle.map_script.specs.Lines.{is_line_feed, is_blank, is_allowed, before_comment, said_by, tokens_said, is_nothing};
 ghost use Rattle.map_script.specs.Lines.{lines_from, end_from};
 ghost use Rattle.map_types.specs.Creation.{IsShape};
-ghost use Rattle.map_script.specs.Plain.{FirstIs};
-ghost use Rattle.map_script.specs.Reading.{call_within};
+ghost use Rattle.map_script.specs.Plain.{FirstAt};
+ghost use Rattle.map_script.specs.Reading.{begins_phase, call_within};
 ghost use Rattle.map_script.specs.Unread.{unread_from};
 
 use crate::calls::{MAX_CALLS, MAX_ROOM, reply_bytes};
@@ -71,8 +71,8 @@ impl<'a> Lines<'a> {
         requires shape { IsShape shape.now }
         requires room { room ≤ 67108864 }
         ensures call { MatchOption result (self.new ≡ self.old)
-            (λ call. (version : ℕ) → FirstIs (call_within version shape.now count room)
-            self.old.lines call self.new.lines) }
+            (λ call. (version : ℕ) → FirstAt self.old.number
+            (call_within version shape.now count room) self.old.lines call self.new.lines) }
         ensures end { self.new.end ≡ self.old.end }
     {
         if count >= MAX_CALLS {
@@ -85,6 +85,13 @@ impl<'a> Lines<'a> {
         self.rest = rest;
         self.number += 1;
         Some(call)
+    }
+
+    /// The number of the first line of the text that is left.
+    pub(crate) fn number(&self) -> u32
+        ensures { result ≡ self.now.number }
+    {
+        self.number
     }
 
     /// The number of a fault at the end.
@@ -106,15 +113,13 @@ pub(crate) struct TextLine<'a> {
 }
 
 impl<'a> Model for TextLine<'a> {
-    ghost use Rattle.std.specs.Prelude.{Ok, Err, if◌then◌else◌};
-    ghost use Rattle.map_script.specs.declared.refusal.Cause.TheVariants.{Byte};
     ghost use Rattle.map_script.specs.Lines.{Line, tokens_of};
 
     ghost Value = { Line };
 
     ghost view = { λ line. record {
       number = line.number;
-      says = if line.allowed then Ok (tokens_of line.text.now) else Err Byte;
+      says = record { tokens = tokens_of line.text.now; allowed = line.allowed };
     } };
 }
 
@@ -128,13 +133,20 @@ impl<'a> TextLine<'a> {
 
     /// What it says.
     pub(crate) fn tokens(&self) -> Result<Tokens<'a>, Cause>
-        ensures { result ≡ self.now.says }
+        ensures { result ≡ tokens_said self.now.says }
     {
         if self.allowed {
             Ok(Tokens::of(self.text))
         } else {
             Err(Cause::Byte)
         }
+    }
+
+    /// Whether it begins a phase, whatever else may be wrong with it.
+    pub(crate) fn begins_phase(&self) -> bool
+        ensures { result ≡ begins_phase self.now }
+    {
+        Tokens::of(self.text).is_next(b"phase")
     }
 
     /// Whether it has no token and no byte that may not stand there.

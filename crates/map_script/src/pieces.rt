@@ -1,10 +1,10 @@
 //! Reads scripts, whole or in any pieces.
 
-ghost use Rattle.std.specs.Prelude.{◌≡◌, ℕ, ◌+◌, ◌-◌, ◌≤◌, ◌<◌, ◌^◌, List, [], ◌++◌, None, Err, IsErr, IfOk, OnOk, OnErr, MatchOption, ⊤, count_by};
+ghost use Rattle.std.specs.Prelude.{◌≡◌, ℕ, ◌+◌, ◌-◌, ◌≤◌, ◌<◌, ◌^◌, List, [], ◌++◌, is_some, None, Err, IsErr, IfOk, OnOk, OnErr, MatchOption, ⊤, count_by};
 ghost use Rattle.map_script.specs.declared.refusal.ScriptRefusal.TheVariants as refusals;
 ghost use Rattle.map_script.specs.Lines.{is_line_feed, lines_from};
 ghost use Rattle.map_script.specs.Pieces.{read_behind, ReadsOn, EndsWithLineFeed, StandsFor, IsFed};
-ghost use Rattle.map_script.specs.Reading.{read_as, IsReading};
+ghost use Rattle.map_script.specs.Reading.{read_as, is_copy, IsReading};
 ghost use Rattle.map_script.specs.WellFormed.{IsWellFormed};
 
 use crate::lines::Lines;
@@ -21,19 +21,24 @@ use std::mem;
 /// Reads a script in a form, in time and memory that are linear in the text, which may have 2^32 - 3 line feeds.
 ///
 /// A line's tokens stand between spaces, tabs and carriage returns, and from the first `#` on it is a comment. Lines
-/// without tokens are passed over, and counted. The first line with tokens is `bpfmap 1`, or in form Calls `bpfmap 2`,
-/// and the second `map KIND key N value N max N cpus N`, then `flags N` or not, then `seed N` or not. The others are
-/// calls, each with its CPU first, and in version 2 at most 63 lines `phase`, each of which starts the next phase; or the
-/// one generator line `gen seed N calls N keys N mix N`.
+/// without tokens are passed over, and counted. The first line with tokens is `bpfmap 1` in form Generator, `bpfmap 2` in
+/// form Copy, and either in form Calls. The second is `map KIND key N value N max N cpus N`, then `flags N` or not, then `seed N`
+/// or not. In form Copy the third is `target KIND max N count N`, then `flags N` or not, then `seed N` or not: the count is from 1 to
+/// 65,536, and both kinds have a value for each CPU, or neither. The others are calls, each with its CPU first, and in version 2
+/// at most 63 lines `phase`, each of which begins the next phase; or the one generator line `gen seed N calls N keys N mix N`.
+/// In form Copy no call of the last phase is of CPU 0, which copies there. A line begins a phase by its first token, also where
+/// something is wrong with the line.
 ///
 /// - `Fault`: the first line that is not in the grammar, and the first cause there, from left to right, but for bytes
 ///   that may stand nowhere, which come first.
-/// - `Create`: the refusal of `check_attr`, where it refuses the map. No later line is judged then.
+/// - `Create`: the refusal of `check_attr`, where it refuses the map or the target. No later line is judged then.
 /// - `NoMemory`: memory for the script, or for a last line without its line feed, was not found.
 pub fn read_script(alloc: Global, text: &[u8], form: Form) -> Result<Script, ScriptRefusal>
     requires { count_by is_line_feed text.now ≤ 2 ^ 32 - 3 }
     ensures exact { IsReading result (read_as form text.now) }
     ensures well_formed { IfOk result IsWellFormed }
+    // There is a target exactly where the form is Copy.
+    ensures target { IfOk result (λ script. is_some script.target ≡ is_copy form) }
 {
     let mut reader = ScriptReader::open(alloc, form)?;
     reader.feed(text)?;
@@ -41,8 +46,10 @@ pub fn read_script(alloc: Global, text: &[u8], form: Form) -> Result<Script, Scr
 }
 
 /// Reads a script from pieces of its text, which may end anywhere. It keeps the script so far and the line that isn't whole
-/// yet, and no bytes of lines that are. Behind a line that is refused it counts line feeds alone. After `NoMemory` it has
-/// failed for good.
+/// yet, and no bytes of lines that are. Behind a line that is refused it counts line feeds alone; but where in form Copy a
+/// call of CPU 0 stands before that line in its phase, only once another phase begins, since that tells which of the two is the
+/// first line that is refused. After `NoMemory` it has failed
+/// for good.
 #[derive(Drop)]
 pub struct ScriptReader {
     alloc: Global,
@@ -85,8 +92,8 @@ impl ScriptReader {
         })
     }
 
-    /// Reads the next piece of the text. All pieces may have 2^32 - 3 line feeds together. A fault of the script, or that its
-    /// map is refused, isn't told before the end, and line feeds behind it are counted as well. `NoMemory`: memory for the
+    /// Reads the next piece of the text. All pieces may have 2^32 - 3 line feeds together. A fault of the script, or that a map
+    /// of it is refused, isn't told before the end, and line feeds behind it are counted as well. `NoMemory`: memory for the
     /// script or the line was not found, now or before, and the reader has failed.
     pub fn feed(&mut self, piece: &[u8]) -> Result<(), NoMemory>
         requires { self.old.line_feeds + count_by is_line_feed piece.now ≤ 2 ^ 32 - 3 }
@@ -106,13 +113,15 @@ impl ScriptReader {
         }
     }
 
-    /// The script whose text was fed, or why it is none: the first fault, or the refusal of its map, as `read_script` has
+    /// The script whose text was fed, or why it is none: the first fault, or the refusal of a map of it, as `read_script` has
     /// them, or `NoMemory` where memory was not found, now or before.
     pub fn finish(self) -> Result<Script, ScriptRefusal>
         ensures exact { (form : Form) (bytes : List ℕ) → StandsFor form self bytes
             → IsReading result (read_as form bytes) }
         ensures well_formed { (form : Form) (bytes : List ℕ) → StandsFor form self bytes
             → IfOk result IsWellFormed }
+        ensures target { (form : Form) (bytes : List ℕ) → StandsFor form self bytes
+            → IfOk result (λ script. is_some script.target ≡ is_copy form) }
         ensures failed { self.read ≡ Err refusals.NoMemory → result ≡ Err refusals.NoMemory }
     {
         let ScriptReader {

@@ -6,12 +6,13 @@ ghost use Rattle.map_script.specs.Pieces.{ReadsOn, read_on, spec_script};
 ghost use Rattle.map_script.specs.Reading.{spec_of, body_of, map_of, version_of};
 
 use crate::calls::read_calls;
+use crate::copied::{read_copied, read_either};
 use crate::fault::or_fault;
-use crate::head::{gen_line, map_line, no_line, version_line};
+use crate::head::{gen_line, map_line, no_line, target_line, version_line};
 use crate::lines::Lines;
 use crate::refusal::ScriptRefusal;
-use crate::script::{Form, Script};
-use crate::stage::{CallsRead, Head, Stage};
+use crate::script::{Form, Script, Target};
+use crate::stage::{CallsRead, Copying, Head, Stage};
 use map_types::check_attr;
 use std::alloc::Global;
 
@@ -30,6 +31,9 @@ pub(crate) fn read_lines(
         Stage::Calls(read) => read_calls_on(alloc, read, lines),
         Stage::Map(head) => read_spec(alloc, head, lines),
         Stage::Whole(script) => read_nothing(script, lines),
+        Stage::Target(read) => read_target(alloc, read, lines),
+        Stage::Copy(copying) => read_copied(alloc, copying, lines),
+        Stage::Either(fault) => read_either(fault, lines),
     }
 }
 
@@ -83,7 +87,28 @@ fn read_body(
     match form {
         Form::Calls => read_calls_on(alloc, CallsRead::none(alloc, head), lines),
         Form::Generator => read_spec(alloc, head, lines),
+        Form::Copy => read_target(alloc, CallsRead::none(alloc, head), lines),
     }
+}
+
+/// Reads the target line, and what stands behind it.
+fn read_target(alloc: Global, read: CallsRead, lines: &mut Lines) -> Result<Stage, ScriptRefusal>
+    ensures reads { ReadsOn (λ end more. read_on (Stage.Target read) end
+        (lines.old.lines ++ more)) result }
+    ensures end { lines.new.end ≡ lines.old.end }
+{
+    let Some(line) = lines.next_line() else {
+        return Ok(Stage::Target(read));
+    };
+    let (attr, count) = or_fault(line.number(), target_line(&read.head.attr, &line))?;
+    let shape = check_attr(&attr)?;
+    let target = Target { attr, shape, count };
+    let copying = Copying {
+        read,
+        target,
+        held: None,
+    };
+    read_copied(alloc, copying, lines)
 }
 
 /// Reads calls, behind those that were read.

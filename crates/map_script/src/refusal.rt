@@ -12,7 +12,8 @@ use thiserror::Error;
 pub enum Cause {
     /// A byte outside a comment that is neither a blank nor a visible ASCII character.
     Byte,
-    /// The first line with tokens isn't `bpfmap 1`, nor `bpfmap 2` in form `Calls`, or no line has tokens.
+    /// The first line with tokens isn't `bpfmap 1` in form `Generator`, `bpfmap 2` in form `Copy`, or one of them in form
+    /// `Calls`, or no line has tokens.
     Version,
     /// The second line with tokens is no map line, or the text ends before it.
     Map,
@@ -42,6 +43,11 @@ pub enum Cause {
     Room,
     /// It is a well formed `phase` line, and would start the 65th phase.
     Phases,
+    /// The third line with tokens of form `Copy` is no target line, its count isn't from 1 to 65,536, one of the two kinds has a
+    /// value for each CPU and the other hasn't, or the text ends before it.
+    Target,
+    /// In form `Copy` it is a well formed call of CPU 0 within the limits, and no line behind it begins a phase.
+    Copier,
 }
 
 impl Cause {
@@ -65,6 +71,8 @@ impl Cause {
             Cause::Calls => "calls",
             Cause::Room => "room",
             Cause::Phases => "phases",
+            Cause::Target => "target",
+            Cause::Copier => "copier",
         }
     }
 }
@@ -85,7 +93,7 @@ pub enum ScriptRefusal {
     /// the end of the text has the number of line feeds plus 1.
     #[error("Fault")]
     Fault { line: u32, cause: Cause },
-    /// The map can't be created. No later line is judged then.
+    /// The map, or the target of a copy, can't be created. No later line is judged then.
     #[error("Create")]
     Create(CreateRefusal),
     /// Memory for the script was not found.

@@ -15,6 +15,8 @@ pub enum Form {
     Calls,
     /// One line, from which the calls are generated.
     Generator,
+    /// In version 2 alone: the line of a target, into which the map is copied, and behind it the lines of form `Calls`.
+    Copy,
 }
 
 /// A map, and calls on it in order.
@@ -31,18 +33,34 @@ pub struct Script {
     pub cuts: Numbers,
     /// What its calls are generated from, in a script of form Generator.
     pub spec: Option<GenSpec>,
+    /// Into what the map is copied, in a script of form Copy.
+    pub target: Option<Target>,
+}
+
+/// A map into which the script's map, the source, is copied beside the calls of the script's last phase.
+#[derive(Clone, Copy, Debug, PartialEq, Eq)]
+pub struct Target {
+    /// Its keys, its values and its CPUs are the source's.
+    pub attr: CreateAttr,
+    /// What `check_attr` makes of the attributes.
+    pub shape: Shape,
+    /// How many pairs the first read asks for, 1 to 65,536.
+    pub count: u32,
 }
 
 impl Script {
     /// The script's canonical text: one space between tokens, no comments, numbers without leading zeros, lower case
-    /// digits, the flags 0, 1 and 2 of an update by name, and only where they aren't 0 the flags and the seed of the
-    /// map and the flags of a batch read. A script without a spec has a line for each call, and a line `phase` where each
-    /// cut is. It fails only where memory does.
+    /// digits, the flags 0, 1 and 2 of an update by name, and only where they aren't 0 the flags and the seed of a map and
+    /// the flags of a batch read. A script that has a target has its line behind the map line. A script without a spec has a
+    /// line for each call, and a line `phase` where each cut is. It fails only where memory does.
     pub fn text(&self, alloc: Global) -> Result<Vec<u8>, NoMemory>
         ensures canonical { IfOk result (λ text. text.items ≡ canonical self.now) }
         // A script that form Calls gives is what form Calls reads from its canonical text.
         ensures round_trip { IfOk result (λ text. IsReadAs Form.Calls self.now
             → read_as Form.Calls text.items ≡ Ok self.now) }
+        // A script that form Copy gives is what form Copy reads from its canonical text.
+        ensures copy_round_trip { IfOk result (λ text. IsReadAs Form.Copy self.now
+            → read_as Form.Copy text.items ≡ Ok self.now) }
     {
         text_of(alloc, self)
     }

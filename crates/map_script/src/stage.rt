@@ -3,11 +3,12 @@
 ghost use Rattle.std.specs.Prelude.{◌≡◌, [], None, Ok, Err};
 ghost use Rattle.map_types.specs.Creation.{IsShape};
 ghost use Rattle.map_script.specs.CallsSoFar.{calls_of};
+ghost use Rattle.map_script.specs.CopySoFar.{copied_of, unless_held};
 ghost use Rattle.map_script.specs.Pieces.{spec_script, read_on};
 ghost use Rattle.map_script.specs.Reading.{script_of};
 
 use crate::refusal::{Cause, ScriptRefusal};
-use crate::script::{Form, GenSpec, Script};
+use crate::script::{Form, GenSpec, Script, Target};
 use map_types::{Call, CreateAttr, List, Shape};
 use std::alloc::Global;
 use std::marker::Model;
@@ -25,6 +26,12 @@ pub(crate) enum Stage {
     Map(Head),
     /// No line is due: the generator line was read.
     Whole(Script),
+    /// The target line is due.
+    Target(CallsRead),
+    /// Calls are due, behind those that were read, of a map that is copied.
+    Copy(Copying),
+    /// A line that begins a phase, or the end of the text, tells which of two faults it is.
+    Either(EitherFault),
 }
 
 /// What the version line and the map line say.
@@ -35,7 +42,7 @@ pub(crate) struct Head {
     pub(crate) shape: Shape,
 }
 
-/// A script of form Calls, with the calls that were read so far.
+/// A script without its target, with the calls that were read so far.
 #[derive(Drop)]
 pub(crate) struct CallsRead {
     pub(crate) head: Head,
@@ -44,6 +51,25 @@ pub(crate) struct CallsRead {
     pub(crate) cuts: Vec<u32>,
     /// How many bytes the replies to the calls may have.
     pub(crate) room: u64,
+}
+
+/// A script of form Copy, with the calls that were read so far.
+#[derive(Drop)]
+pub(crate) struct Copying {
+    pub(crate) read: CallsRead,
+    pub(crate) target: Target,
+    /// The line of the first call of CPU 0 in the phase that was begun last so far. It is a fault unless another phase begins.
+    pub(crate) held: Option<u32>,
+}
+
+/// A call of CPU 0, and a fault behind it in the same phase. The first fault is the second of them where a line behind the call
+/// begins a phase, and else it is the call.
+#[derive(Clone, Copy)]
+pub(crate) struct EitherFault {
+    /// The line of the call of CPU 0.
+    pub(crate) copier: u32,
+    pub(crate) line: u32,
+    pub(crate) cause: Cause,
 }
 
 impl Model for CallsRead {
@@ -97,6 +123,48 @@ impl CallsRead {
             calls: List::of(calls),
             cuts: List::of(cuts),
             spec: None,
+            target: None,
+        }
+    }
+}
+
+impl CallsRead {
+    /// The script with a target, where no line is left.
+    fn with_target(self, target: Target) -> Script
+        ensures { copied_of self target [] ≡ Ok result }
+    {
+        let CallsRead {
+            head,
+            calls,
+            cuts,
+            ..
+        } = self;
+        let Head {
+            version,
+            attr,
+            shape,
+        } = head;
+        Script {
+            version,
+            attr,
+            shape,
+            calls: List::of(calls),
+            cuts: List::of(cuts),
+            spec: None,
+            target: Some(target),
+        }
+    }
+}
+
+impl Copying {
+    /// The script, where no line is left, or the fault of a call of CPU 0.
+    fn script(self) -> Result<Script, ScriptRefusal>
+        ensures { result ≡ unless_held self.held [] (copied_of self.read self.target []) }
+    {
+        let Copying { read, target, held } = self;
+        match held {
+            Some(line) => end_fault(line, Cause::Copier),
+            None => Ok(read.with_target(target)),
         }
     }
 }
@@ -118,6 +186,7 @@ impl Head {
             calls: List::of(Vec::new(alloc)),
             cuts: List::of(Vec::new(alloc)),
             spec: Some(spec),
+            target: None,
         }
     }
 }
@@ -133,12 +202,15 @@ pub(crate) fn ended(stage: Stage, end: u32) -> Result<Script, ScriptRefusal>
         Stage::Map(_) => end_fault(end, Cause::Gen),
         Stage::Calls(calls) => Ok(calls.script()),
         Stage::Whole(script) => Ok(script),
+        Stage::Target(_) => end_fault(end, Cause::Target),
+        Stage::Copy(copying) => copying.script(),
+        Stage::Either(fault) => end_fault(fault.copier, Cause::Copier),
     }
 }
 
-/// A fault at the end of the text.
-fn end_fault(end: u32, cause: Cause) -> Result<Script, ScriptRefusal>
-    ensures { result ≡ Err (ScriptRefusal.Fault end cause) }
+/// A fault that is told at the end of the text.
+fn end_fault(line: u32, cause: Cause) -> Result<Script, ScriptRefusal>
+    ensures { result ≡ Err (ScriptRefusal.Fault line cause) }
 {
-    Err(ScriptRefusal::Fault { line: end, cause })
+    Err(ScriptRefusal::Fault { line, cause })
 }

@@ -3,9 +3,9 @@
 ghost use Rattle.std.specs.Prelude.{◌≡◌, [], ◌∷◌, ◌++◌, map, take, drop, IfOk, OnOk, decimal, codes};
 ghost use Rattle.std.specs.List.{flat_map};
 ghost use Rattle.hex.specs.Hex.{encode_lower};
-ghost use Rattle.map_script.specs.Canonical.{canonical, behind_space, spaced, line_text, label_and_number, unless_zero, map_tokens, spec_tokens, body_text, phased_text, call_text, verb_tokens, pair_tokens, kind_name, lookup_name, update_name, batch_name, flag_token, start_token, stop_token};
+ghost use Rattle.map_script.specs.Canonical.{canonical, behind_space, spaced, line_text, label_and_number, unless_zero, map_tokens, target_tokens, target_text, spec_tokens, body_text, phased_text, call_text, verb_tokens, pair_tokens, kind_name, lookup_name, update_name, batch_name, flag_token, start_token, stop_token};
 
-use crate::{GenSpec, Script};
+use crate::{GenSpec, Script, Target};
 use map_types::{Bytes, Call, CreateAttr, List, MapKind, NoMemory, Numbers, Pairs, Side, Verb};
 use std::alloc::{AllocError, Global};
 use std::io::Write;
@@ -18,6 +18,7 @@ pub(crate) fn text_of(alloc: Global, script: &Script) -> Result<Vec<u8>, NoMemor
     let mut text = Vec::new(alloc);
     push_version(&mut text, script.version)?;
     push_map(&mut text, &script.attr)?;
+    push_target(&mut text, script.target)?;
     push_body(&mut text, script.spec, &script.cuts, &script.calls)?;
     Ok(text)
 }
@@ -67,6 +68,29 @@ fn push_options(text: &mut Vec<u8>, attr: &CreateAttr) -> Result<(), AllocError>
 {
     push_unless_zero(text, b"flags", attr.flags)?;
     push_unless_zero(text, b"seed", attr.seed)
+}
+
+/// Adds the target line of a script that has one.
+fn push_target(text: &mut Vec<u8>, target: Option<Target>) -> Result<(), AllocError>
+    ensures { OnOk result (text.new.items ≡ text.old.items ++ target_text target) }
+{
+    match target {
+        None => Ok(()),
+        Some(target) => push_target_line(text, &target),
+    }
+}
+
+/// Adds `target KIND max N count N`, and `flags N` and `seed N` where they aren't 0.
+fn push_target_line(text: &mut Vec<u8>, target: &Target) -> Result<(), AllocError>
+    ensures { OnOk result (text.new.items
+        ≡ text.old.items ++ line_text (codes "target") (target_tokens target.now)) }
+{
+    text.extend_from_slice(b"target")?;
+    push_token(text, kind_name(target.attr.kind).as_bytes())?;
+    push_labelled(text, b"max", target.attr.max_entries)?;
+    push_labelled(text, b"count", target.count)?;
+    push_options(text, &target.attr)?;
+    text.extend_from_slice(b"\n")
 }
 
 /// Adds the generator line of a script that has one, and else a line for each call and each further phase.

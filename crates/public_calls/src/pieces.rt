@@ -72,13 +72,13 @@ fn canonical_texts_in_pieces(rt: HostRuntime) {
     assert_eq!(rt; wrong_text(rt.alloc(), &TEXTS, 64), None);
 }
 
-/// The first row whose text, fed in pieces of this size in form Generator, is refused otherwise, or not.
-fn wrong_refusal(alloc: Global, rows: &[(&str, ScriptRefusal)], size: usize) -> Option<usize>
+/// The first row whose text, fed in pieces of this size, is refused otherwise, or not.
+fn wrong_refusal(alloc: Global, rows: &[(Form, &str, ScriptRefusal)], size: usize) -> Option<usize>
     requires { 0 < size }
 {
     for row in 0..rows.len() {
-        let (text, refusal) = rows[row];
-        match read(alloc, text, size, Form::Generator) {
+        let (form, text, refusal) = rows[row];
+        match read(alloc, text, size, form) {
             Err(found) if found == refusal => {}
             _ => return Some(row),
         }

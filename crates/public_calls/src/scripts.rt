@@ -1,7 +1,7 @@
 //! Scripts against texts that are written out.
 
 use map_script::{Cause, Form, GenSpec, Script, ScriptRefusal, read_script};
-use map_types::{Call, CreateRefusal, MapKind, Side, Verb};
+use map_types::{Call, CreateRefusal, Limit, MapKind, Side, Verb};
 use std::alloc::Global;
 use std::test::Fail;
 
@@ -14,7 +14,7 @@ const GENERATED: &str =
     "bpfmap 1\nmap hash key 1 value 1 max 1 cpus 1\ngen seed 7 calls 16 keys 255 mix 1\n";
 
 /// A form, a text that is read in it, and the text that is then written.
-pub(crate) static TEXTS: [(Form, &str, &str); 6] = [
+pub(crate) static TEXTS: [(Form, &str, &str); 8] = [
     (
         Form::Calls,
         "bpfmap 1\nmap hash key 1 value 2 max 2 cpus 1\n0 update 0 01 1122\n0 lookup 01\n0 delete 01\n0 lookup 01\n",
@@ -44,6 +44,16 @@ pub(crate) static TEXTS: [(Form, &str, &str); 6] = [
         Form::Generator,
         "bpfmap 1\nmap lru_percpu_hash key 1 value 2 max 2 cpus 1\ngen seed 0 calls 3 keys 3 mix 1\n",
         "bpfmap 1\nmap lru_percpu_hash key 1 value 2 max 2 cpus 1\ngen seed 0 calls 3 keys 3 mix 1\n",
+    ),
+    (
+        Form::Copy,
+        "bpfmap 2\nmap hash key 1 value 1 max 4 cpus 1\n\ntarget\tlru_hash max 04 count 65536 flags 0 seed 007 # into\n0 next\nphase",
+        "bpfmap 2\nmap hash key 1 value 1 max 4 cpus 1\ntarget lru_hash max 4 count 65536 seed 7\n0 next\nphase\n",
+    ),
+    (
+        Form::Copy,
+        "bpfmap 2\nmap lru_percpu_hash key 1 value 1 max 4 cpus 2 flags 2\ntarget lru_percpu_hash max 2 count 1 flags 2\nphase\n0 next\n1 next\nphase\n1 next\n1 delete Ab\n",
+        "bpfmap 2\nmap lru_percpu_hash key 1 value 1 max 4 cpus 2 flags 2\ntarget lru_percpu_hash max 2 count 1 flags 2\nphase\n0 next\n1 next\nphase\n1 next\n1 delete ab\n",
     ),
 ];
 
@@ -180,9 +190,10 @@ fn a_spec_stands_for_its_calls(rt: HostRuntime) -> Result<(), Fail> {
     Ok(())
 }
 
-/// Texts that are refused in form Generator, and why.
-pub(crate) static REFUSED: [(&str, ScriptRefusal); 4] = [
+/// Texts that are refused in a form, and why.
+pub(crate) static REFUSED: [(Form, &str, ScriptRefusal); 18] = [
     (
+        Form::Generator,
         "bpfmap 1\nmap hash key 1 value 1 max 1 cpus 1\ngen seed 7 calls 16 keys 255 mix 1\ngen seed 7 calls 16 keys 255 mix 1\n",
         ScriptRefusal::Fault {
             line: 4,
@@ -190,6 +201,7 @@ pub(crate) static REFUSED: [(&str, ScriptRefusal); 4] = [
         },
     ),
     (
+        Form::Generator,
         "bpfmap 1\nmap hash key 1 value 1 max 1 cpus 1\n",
         ScriptRefusal::Fault {
             line: 3,
@@ -197,6 +209,7 @@ pub(crate) static REFUSED: [(&str, ScriptRefusal); 4] = [
         },
     ),
     (
+        Form::Generator,
         "bpfmap 1\nmap hash key 1 value 1 max 1 cpus 1\ngen seed 7 calls 16 keys 256 mix 1\n",
         ScriptRefusal::Fault {
             line: 3,
@@ -204,16 +217,123 @@ pub(crate) static REFUSED: [(&str, ScriptRefusal); 4] = [
         },
     ),
     (
+        Form::Generator,
         "bpfmap 1\nmap hash key 0 value 1 max 1 cpus 1\nfrob\n",
         ScriptRefusal::Create(CreateRefusal::Einval),
     ),
+    (
+        Form::Copy,
+        "bpfmap 2\nmap hash key 1 value 1 max 4 cpus 1\ntarget hash max 4 count 1\n0 update any 01 a1\n0 update any 02 a2\n",
+        ScriptRefusal::Fault {
+            line: 4,
+            cause: Cause::Copier,
+        },
+    ),
+    (
+        Form::Copy,
+        "bpfmap 2\nmap hash key 1 value 1 max 4 cpus 1\ntarget hash max 4 count 1\n0 next\nphase\n0 next\nfrob\n",
+        ScriptRefusal::Fault {
+            line: 6,
+            cause: Cause::Copier,
+        },
+    ),
+    (
+        Form::Copy,
+        "bpfmap 2\nmap hash key 1 value 1 max 4 cpus 1\ntarget hash max 4 count 1\n0 next\nphase\n0 next\nfrob\n\nphase x\n",
+        ScriptRefusal::Fault {
+            line: 7,
+            cause: Cause::Number,
+        },
+    ),
+    (
+        Form::Copy,
+        "bpfmap 2\nmap hash key 1 value 1 max 4 cpus 1\ntarget hash max 4 count 1\n0 next\nphase \u{1}\n0 next\n",
+        ScriptRefusal::Fault {
+            line: 5,
+            cause: Cause::Byte,
+        },
+    ),
+    (
+        Form::Copy,
+        "bpfmap 2\nmap hash key 1 value 1 max 4 cpus 1\ntarget hash max 4 count 1\n0 next\nphase\u{1}\n",
+        ScriptRefusal::Fault {
+            line: 4,
+            cause: Cause::Copier,
+        },
+    ),
+    (
+        Form::Copy,
+        "bpfmap 2\nmap hash key 1 value 1 max 4 cpus 1\ntarget hash max 4 count 1\n0 next 0102\n0 next",
+        ScriptRefusal::Fault {
+            line: 4,
+            cause: Cause::Length,
+        },
+    ),
+    (
+        Form::Copy,
+        "bpfmap 1\nmap hash key 1 value 1 max 4 cpus 1\ntarget hash max 4 count 1\n",
+        ScriptRefusal::Fault {
+            line: 1,
+            cause: Cause::Version,
+        },
+    ),
+    (
+        Form::Copy,
+        "bpfmap 2\nmap hash key 1 value 1 max 4 cpus 1\n\n",
+        ScriptRefusal::Fault {
+            line: 4,
+            cause: Cause::Target,
+        },
+    ),
+    (
+        Form::Copy,
+        "bpfmap 2\nmap hash key 1 value 1 max 4 cpus 1\ntarget percpu_hash max 4 count 1\n",
+        ScriptRefusal::Fault {
+            line: 3,
+            cause: Cause::Target,
+        },
+    ),
+    (
+        Form::Copy,
+        "bpfmap 2\nmap hash key 1 value 1 max 4 cpus 1\ntarget hash max 4 count 0\n",
+        ScriptRefusal::Fault {
+            line: 3,
+            cause: Cause::Target,
+        },
+    ),
+    (
+        Form::Copy,
+        "bpfmap 2\nmap hash key 1 value 1 max 4 cpus 1\ntarget hash max 0 count 65537\n",
+        ScriptRefusal::Fault {
+            line: 3,
+            cause: Cause::Target,
+        },
+    ),
+    (
+        Form::Copy,
+        "bpfmap 2\nmap hash key 1 value 1 max 4 cpus 1\ntarget hash max 4 count 1 \u{7f}\n",
+        ScriptRefusal::Fault {
+            line: 3,
+            cause: Cause::Byte,
+        },
+    ),
+    (
+        Form::Copy,
+        "bpfmap 2\nmap hash key 1 value 1 max 4 cpus 1\ntarget hash max 0 count 1\nfrob\n",
+        ScriptRefusal::Create(CreateRefusal::Einval),
+    ),
+    (
+        Form::Copy,
+        "bpfmap 2\nmap hash key 1 value 1 max 4 cpus 0\nfrob\n",
+        ScriptRefusal::Create(CreateRefusal::Limit(Limit::Cpus)),
+    ),
 ];
 
-/// The first row whose text, read in form Generator, is refused otherwise, or not.
-fn wrong_refusal(alloc: Global, rows: &[(&str, ScriptRefusal)]) -> Option<usize> {
+/// The first row whose text is refused otherwise, or not.
+fn wrong_refusal(alloc: Global, rows: &[(Form, &str, ScriptRefusal)]) -> Option<usize> {
     for row in 0..rows.len() {
-        let (text, refusal) = rows[row];
-        match read(alloc, text, Form::Generator) {
+        let (form, text, refusal) = rows[row];
+        match read(alloc, text, form) {
             Err(found) if found == refusal => {}
             _ => return Some(row),
         }
@@ -222,7 +342,7 @@ fn wrong_refusal(alloc: Global, rows: &[(&str, ScriptRefusal)]) -> Option<usize>
 }
 
 #[test]
-fn faults_of_generators(rt: HostRuntime) {
+fn faults(rt: HostRuntime) {
     assert_eq!(rt; wrong_refusal(rt.alloc(), &REFUSED), None);
 }
 

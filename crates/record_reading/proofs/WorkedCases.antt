@@ -38,6 +38,7 @@ with_calls calls = record {
   calls = calls;
   cuts = [];
   spec = None;
+  target = None;
 }
 
 -- no call, and `0 lookup 01`
@@ -56,6 +57,7 @@ phased = record {
   calls = [];
   cuts = 0 ∷ [];
   spec = None;
+  target = None;
 }
 
 abbrev Answers : Script → List ℕ → Result RunRecord ℕ → Type 0
@@ -178,6 +180,7 @@ padded = record {
   calls = (record { cpu = 0; verb = Lookup Sys (1 ∷ []) }) ∷ [];
   cuts = [];
   spec = None;
+  target = None;
 }
 
 abbrev updated : Script
@@ -212,6 +215,7 @@ walked = record {
   calls = (record { cpu = 0; verb = Each 0 None }) ∷ [];
   cuts = [];
   spec = None;
+  target = None;
 }
 
 abbrev in_batch : Script
@@ -222,6 +226,7 @@ in_batch = record {
   calls = (record { cpu = 0; verb = BatchRead false 1 None 0 }) ∷ [];
   cuts = [];
   spec = None;
+  target = None;
 }
 
 pub walk_hands_over : Answers walked (codes "map percpu_hash capacity 1 elements 1 buckets 1\n1 ok taken 1 next 1 01=aa\n") (Err 3)

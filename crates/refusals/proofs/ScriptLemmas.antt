@@ -6,14 +6,14 @@ use Rattle.std.proofs.lemmas.List.{reverse-append}
 use Rattle.hex.specs.Hex.{encode_with, decode_pairs}
 use Rattle.map_types.specs.Creation.{creation, refusal_of, flags_refusal, contents_refusal, limit_passed, shape_of}
 use Rattle.map_script.specs.declared.refusal.Cause.{Cause}
-use Rattle.map_script.specs.declared.refusal.Cause.TheVariants.{Gen}
+use Rattle.map_script.specs.declared.refusal.Cause.TheVariants.{Gen, Number, Copier}
 use Rattle.map_script.specs.declared.refusal.ScriptRefusal.{ScriptRefusal}
 use Rattle.map_script.specs.declared.refusal.ScriptRefusal.TheVariants.{Fault}
 use Rattle.map_script.specs.declared.script.Form.TheVariants as forms
 use Rattle.map_script.specs.declared.script.Script.{Script}
-use Rattle.map_script.specs.Canonical.{canonical, body_text, line_text, map_tokens}
-use Rattle.map_script.specs.Grammar.{version_line, map_line, gen_line, call_line, named_line, verb_line, update_places}
-use Rattle.map_script.specs.Reading.{read_as, version_of, map_of, body_of, IsReading}
+use Rattle.map_script.specs.Canonical.{canonical, body_text, line_text, map_tokens, target_text}
+use Rattle.map_script.specs.Grammar.{version_line, map_line, gen_line, target_line, call_line, named_line, verb_line, next_places, update_places}
+use Rattle.map_script.specs.Reading.{read_as, version_of, map_of, body_of, target_of, IsReading}
 use Rattle.map_script.specs.WellFormed.{IsWellFormed}
 use Rattle.refusals.specs.Script.{IsInThreePhases, update_any, delete}
 
@@ -30,6 +30,20 @@ twice = codes "bpfmap 1\nmap hash key 1 value 1 max 1 cpus 1\ngen seed 0 calls 1
 twice_is : read_as forms.Generator twice ≡ Err (Fault 4 Gen)
 unfolding read_as version_of version_line map_of map_line body_of gen_line creation refusal_of flags_refusal contents_refusal limit_passed shape_of
 twice_is = refl
+
+abbrev pub copied : List ℕ
+copied = codes "bpfmap 2\nmap hash key 1 value 1 max 1 cpus 1\ntarget hash max 1 count 1\n0 next\nfrob\n"
+
+copied_is : read_as forms.Copy copied ≡ Err (Fault 4 Copier)
+unfolding read_as version_of version_line map_of map_line body_of target_of target_line call_line named_line verb_line next_places creation refusal_of flags_refusal contents_refusal limit_passed shape_of
+copied_is = refl
+
+abbrev pub taken_back : List ℕ
+taken_back = codes "bpfmap 2\nmap hash key 1 value 1 max 1 cpus 1\ntarget hash max 1 count 1\n0 next\nfrob\nphase x\n"
+
+taken_back_is : read_as forms.Copy taken_back ≡ Err (Fault 5 Number)
+unfolding read_as version_of version_line map_of map_line body_of target_of target_line call_line named_line verb_line next_places creation refusal_of flags_refusal contents_refusal limit_passed shape_of
+taken_back_is = refl
 
 abbrev pub updating : List ℕ
 updating = codes "bpfmap 1\nmap hash key 1 value 1 max 1 cpus 1\n0 update any 01 02\n"
@@ -55,6 +69,20 @@ fault_there result reading line cause is = same (sym faulty_is ∙ subst (λ (r 
   where
     same : refused (Fault 3 Gen) ≡ refused (Fault line cause) → line ≡ 3
     same e = cc
+
+-- a fault that is told is the one that is there
+fault_of : (text : List ℕ) (at : ℕ) (why : Cause) → read_as forms.Copy text ≡ Err (Fault at why) → (result : Result Script ScriptRefusal) → IsReading result (read_as forms.Copy text)
+    → (line : ℕ) (cause : Cause) → result ≡ Err (Fault line cause) → (line ≡ at) × (cause ≡ why)
+fault_of text at why read result reading line cause is = same (sym read ∙ subst (λ (r : Result Script ScriptRefusal). IsReading r (read_as forms.Copy text)) is reading)
+  where
+    same : refused (Fault at why) ≡ refused (Fault line cause) → (line ≡ at) × (cause ≡ why)
+    same e = (cc, cc)
+
+pub copier_there : (result : Result Script ScriptRefusal) → IsReading result (read_as forms.Copy copied) → (line : ℕ) (cause : Cause) → result ≡ Err (Fault line cause) → (line ≡ 4) × (cause ≡ Copier)
+copier_there = fault_of copied 4 Copier copied_is
+
+pub number_there : (result : Result Script ScriptRefusal) → IsReading result (read_as forms.Copy taken_back) → (line : ℕ) (cause : Cause) → result ≡ Err (Fault line cause) → (line ≡ 5) × (cause ≡ Number)
+number_there = fault_of taken_back 5 Number taken_back_is
 
 pub none_read : (result : Result Script ScriptRefusal) → IsReading result (read_as forms.Generator twice) → IfOk result (λ script. ⊥)
 none_read (Ok script) reading = apart (sym twice_is ∙ reading)
@@ -102,7 +130,7 @@ body_is script all = same all.no_spec all.cuts all.calls
 pub phases_apart : (script : Script) (before : List ℕ) → IsInThreePhases script → canonical script ≡ before ++ codes "phase\n" → ⊥
 unfolding canonical
 phases_apart script before is same =
-    let top : List ℕ = line_text (codes "bpfmap") (decimal script.version ∷ []) ++ line_text (codes "map") (map_tokens script.attr) in
+    let top : List ℕ = line_text (codes "bpfmap") (decimal script.version ∷ []) ++ line_text (codes "map") (map_tokens script.attr) ++ target_text script.target in
     ends_in_call top before (ap (λ (l : List ℕ). top ++ l) (sym (body_is script is)) ∙ same)
 
 pub written_apart : {A E : Type 0} (items : A → List ℕ) (result : Result A E) (script : Script) → IsInThreePhases script → IfOk result (λ text. items text ≡ canonical script) → IfOk result (λ text. (before : List ℕ) → items text ≡ before ++ codes "phase\n" → ⊥)

@@ -16,8 +16,8 @@ pub use evicting::evicting_refusals;
 pub use keys::key_refusals;
 pub use plain::plain_refusals;
 pub use script::{
-    fault_of_third_line, name_of_lru_percpu, script_of_few_phases, second_generator_line,
-    text_in_three_phases, update_under_any,
+    call_where_cpu_0_copies, fault_before_a_phase, fault_of_third_line, name_of_lru_percpu,
+    script_of_few_phases, second_generator_line, text_in_three_phases, update_under_any,
 };
 pub use steps::{enabled_step, refused_step, settled_element, step_refusals};
 pub use table::table_refusals;

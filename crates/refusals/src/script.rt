@@ -3,6 +3,7 @@
 ghost use Rattle.std.specs.Prelude.{◌≡◌, ◌≢◌, ℕ, ◌-◌, ◌≤◌, ◌^◌, List, [], ◌∷◌, ◌++◌, length, count_by, codes, IfOk, Err};
 ghost use Rattle.map_script.specs.Lines.{is_line_feed};
 ghost use Rattle.map_script.specs.declared.refusal.Cause as causes;
+ghost use Rattle.map_script.specs.declared.refusal.Cause.TheVariants.{Number, Copier};
 ghost use Rattle.map_script.specs.declared.refusal.ScriptRefusal.TheVariants as refusals;
 ghost use Rattle.refusals.specs.Script.{IsInThreePhases, update_any};
 
@@ -41,6 +42,30 @@ pub fn update_under_any(alloc: Global) -> Result<Script, ScriptRefusal>
         alloc,
         b"bpfmap 1\nmap hash key 1 value 1 max 1 cpus 1\n0 update any 01 02\n",
         Form::Calls,
+    )
+}
+
+/// A call of CPU 0 behind which no phase begins is the first fault, and not the line behind it.
+pub fn call_where_cpu_0_copies(alloc: Global) -> Result<Script, ScriptRefusal>
+    ensures { (line : ℕ) (cause : causes.Cause) → result ≡ Err (refusals.Fault line cause)
+        → (line ≡ 4) × (cause ≡ Copier) }
+{
+    read_script(
+        alloc,
+        b"bpfmap 2\nmap hash key 1 value 1 max 1 cpus 1\ntarget hash max 1 count 1\n0 next\nfrob\n",
+        Form::Copy,
+    )
+}
+
+/// Where a phase begins behind it, that call is none, though there is a fault between them.
+pub fn fault_before_a_phase(alloc: Global) -> Result<Script, ScriptRefusal>
+    ensures { (line : ℕ) (cause : causes.Cause) → result ≡ Err (refusals.Fault line cause)
+        → (line ≡ 5) × (cause ≡ Number) }
+{
+    read_script(
+        alloc,
+        b"bpfmap 2\nmap hash key 1 value 1 max 1 cpus 1\ntarget hash max 1 count 1\n0 next\nfrob\nphase x\n",
+        Form::Copy,
     )
 }
 

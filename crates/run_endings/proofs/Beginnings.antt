@@ -1,19 +1,21 @@
 -- How a run begins, or ends before its script runs: from what is read to the source, and from the source to the words.
 use Rattle.std.proofs.Common.{◌≡◌, ℕ, Bool, false, List, Option, Result, Ok, Err, refl, sym, subst, arith}
-use Rattle.std.specs.Prelude.{IfErr, IfOk, IsTrue, MatchBool}
+use Rattle.std.specs.Prelude.{IfErr, IfOk, IsTrue, MatchBool, is_some}
 use Rattle.map_script.specs.declared.refusal.ScriptRefusal.{ScriptRefusal}
 use Rattle.map_script.specs.declared.script.Script.{Script}
-use Rattle.map_script.specs.Reading.{IsReading}
+use Rattle.map_script.specs.Reading.{IsReadAs, IsReading, is_copy}
+use Rattle.map_script.proofs.TargetTold.{target_told}
 use Rattle.run_ends.specs.SourceReads.{TakesUpTo}
 use Rattle.run_ends.specs.Writes.{Written}
 use Rattle.run_ends.proofs.Io.{TakesFront-all}
 use Rattle.run_words.specs.declared.words.Asked.{Asked}
 use Rattle.run_words.specs.declared.words.Mode.{Mode}
-use Rattle.run_words.specs.declared.words.Mode.TheVariants.{Serial, Race, Gen, Compare, Check}
+use Rattle.run_words.specs.declared.words.Mode.TheVariants.{Serial, Race, Gen, Compare, Check, Copy}
+use Rattle.workload_gen.specs.Generated.{generated_script}
 use Rattle.run_words.specs.Words.{are_words, asked_of, mode_of, options_of}
 use Rattle.run_endings.specs.declared.finish.Due.{Due}
 use Rattle.run_endings.specs.declared.finish.Task.{Task}
-use Rattle.run_endings.specs.Finish.{Ending, BadWords, ReadFault, TooLong, Faulty, Refused, Unfit, OutOfMemory, Ran, Undivided, Told, HasCause, HasReport, HasScript, HasSource, IsInput, judges, script_run}
+use Rattle.run_endings.specs.Finish.{Ending, BadWords, ReadFault, TooLong, Faulty, Refused, Unfit, OutOfMemory, Ran, Undivided, Told, HasCause, HasReport, HasScript, HasSource, IsInput, form_of, judges, script_run}
 use Rattle.run_endings.specs.Runs.{strictly_run, NeverRan, NeverSaid, EndsEarly, IsDueOf, IsTask, IsTaskOf}
 
 -- What was read, by what was returned of it
@@ -34,6 +36,27 @@ strict_of_run Race script = refl
 strict_of_run Gen script = refl
 strict_of_run Compare script = refl
 strict_of_run Check script = refl
+strict_of_run Copy script = refl
+
+-- The target
+
+generated_has_none : (script : Script) → is_some (generated_script script).target ≡ false
+unfolding generated_script
+generated_has_none script = refl
+
+-- the script that is run has a target where the one that was read has it
+target_stays : (mode : Mode) (script : Script) → is_some script.target ≡ is_copy (form_of mode) → is_some (script_run mode script).target ≡ is_copy (form_of mode)
+target_stays Serial script is = is
+target_stays Race script is = is
+target_stays Gen script is = generated_has_none script
+target_stays Compare script is = is
+target_stays Check script is = is
+target_stays Copy script is = is
+
+-- so it has one exactly where the mode is that of a copy
+pub target_of_run : (mode : Mode) (read due : Script) → IsReadAs (form_of mode) read → due ≡ script_run mode read → is_some due.target ≡ is_copy (form_of mode)
+target_of_run mode read due is_read due_is =
+    subst (λ (script : Script). is_some script.target ≡ is_copy (form_of mode)) (sym due_is) (target_stays mode read (target_told (form_of mode) is_read.0 read is_read.1))
 
 -- From an input to its source
 
@@ -53,7 +76,7 @@ module _ (asked : Asked) (runs : judges asked.mode ≡ false) (before after : Op
   of_input (Refused why) cause = (input, is, whole (Refused why) cause)
   of_input (Unfit why) cause = (input, is, whole (Unfit why) cause)
   of_input OutOfMemory cause = up_to_input before after input is
-  of_input (Ran was_asked script kept) cause = (input, is, whole (Ran was_asked script kept) cause)
+  of_input (Ran was_asked script kept copy) cause = (input, is, whole (Ran was_asked script kept copy) cause)
   of_input Undivided cause = absurd cause
   of_input (Told said) cause = absurd cause
 
@@ -84,7 +107,7 @@ module _ (words : List (List ℕ)) (good : IsTrue (are_words words)) (asked : As
   of_source rose (Refused why) cause = (good, cause)
   of_source rose (Unfit why) cause = (good, cause)
   of_source rose OutOfMemory cause = cause
-  of_source rose (Ran was_asked script kept) cause = (good, cause)
+  of_source rose (Ran was_asked script kept copy) cause = (good, cause)
   of_source rose Undivided cause = (good, cause)
   of_source rose (Told said) cause = (good, cause)
 

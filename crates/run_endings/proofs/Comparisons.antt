@@ -18,8 +18,8 @@ no_last false true true is = absurd cc
 no_last false false true is = absurd cc
 
 pub writes_comparison : WritesComparison
-writes_comparison words script kept good compare =
+writes_comparison words script kept copy good compare =
     let options = options_of words in
     let stands : may_stand (mode_of words) options ≡ true = second (are_read words) (may_stand (mode_of words) options) good in
     let no_json : options.json ≡ false = no_last options.history options.dump options.json (ap (λ (m : Mode). may_stand m options) (sym compare) ∙ stands) in
-    ap₂ (λ (b : Bool) (m : Mode). if b then json script kept options else lines_of m script kept options) no_json compare
+    ap₂ (λ (b : Bool) (m : Mode). if b then json script kept options else lines_of m script kept copy options) no_json compare

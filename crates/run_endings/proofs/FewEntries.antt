@@ -20,11 +20,12 @@ use Rattle.map_script.specs.declared.script.Form.{Form}
 use Rattle.map_script.specs.declared.script.Form.TheVariants as forms
 use Rattle.map_script.specs.declared.script.GenSpec.{GenSpec}
 use Rattle.map_script.specs.declared.script.Script.{Script}
-use Rattle.map_script.specs.Grammar.{lookup_places, update_places, delete_places, take_places, next_places, batch_read_places, pairs_to_end, keys_to_end, batch_update_places, batch_delete_places, verb_line, each_places, each_line, names_each, named_line, call_on, call_line, map_line, version_line}
-use Rattle.map_script.specs.Lines.{Line, is_line_feed, is_blank, is_hash, is_allowed, before_comment, tokens_of, said_by, is_nothing, numbered, lines_of, end_number}
+use Rattle.map_script.specs.Grammar.{lookup_places, update_places, delete_places, take_places, next_places, batch_read_places, pairs_to_end, keys_to_end, batch_update_places, batch_delete_places, verb_line, each_places, each_line, names_each, named_line, call_on, call_line, map_line, version_line, target_line}
+use Rattle.map_script.specs.Lines.{Line, is_line_feed, is_blank, is_hash, is_allowed, before_comment, tokens_of, said_by, tokens_said, is_nothing, numbered, lines_of, end_number}
 use Rattle.map_script.specs.Places.{◌>>=◌, Tokens, at_end, number, cpu, bytes_in, bytes}
-use Rattle.map_script.specs.Reading.{at_line, or_create, no_body, body_from, spec_of, script_of, body_of, map_of, version_of, read_as}
+use Rattle.map_script.specs.Reading.{at_line, or_create, no_body, body_from, copied_from, spec_of, script_of, target_with, copy_of, target_of, body_of, map_of, version_of, read_as}
 use Rattle.map_script.proofs.CallsRead.{calls_hold}
+use Rattle.map_script.proofs.CopyReads.{plain_read}
 use Rattle.map_script.proofs.PlaceLemmas.{step_found, chosen, same_ok}
 use Rattle.map_script.proofs.WellFormedLemmas.{IsWellFormed-read_as}
 use Rattle.workload_gen.specs.Draws.{draw}
@@ -194,7 +195,7 @@ kept_few p (x ∷ xs) = cond_both (p x) (x ∷ filter p xs) (filter p xs) (λ ke
 
 -- what a line of so many bytes says has at most one token more
 abbrev IsShort : ℕ → Line → Type 0
-IsShort n line = (tokens : Tokens) → line.says ≡ Ok tokens → length tokens ≤ n + 1
+IsShort n line = (tokens : Tokens) → tokens_said line.says ≡ Ok tokens → length tokens ≤ n + 1
 
 front_short : (p : ℕ → Bool) (line : List ℕ) → length (before_first p line) ≤ length line
 front_short p line = omega (arith, length-take (position_or_len p line) line)
@@ -202,7 +203,7 @@ front_short p line = omega (arith, length-take (position_or_len p line) line)
 tokens_few : (line : List ℕ) → length (tokens_of line) ≤ length line + 1
 tokens_few line = omega (arith, kept_few (λ token. not (length token == 0)) (slice_split is_blank line), parts_few is_blank line)
 
-said_few : (n : ℕ) (line : List ℕ) → length line ≤ n → (tokens : Tokens) → said_by line ≡ Ok tokens → length tokens ≤ n + 1
+said_few : (n : ℕ) (line : List ℕ) → length line ≤ n → (tokens : Tokens) → tokens_said (said_by line) ≡ Ok tokens → length tokens ≤ n + 1
 said_few n line short tokens said =
     let front = before_comment line in
     let same = chosen (list_all is_allowed front) (Ok (tokens_of front)) Byte tokens said in
@@ -231,8 +232,19 @@ module _ (n : ℕ) where
   abbrev HasFew : Script → Type 0
   HasFew script = All IsFew script.calls
 
-  call_is_few : (version : ℕ) (shape : Shape) (line : Line) (tokens : Tokens) (call : Call) → IsShort n line → line.says ≡ Ok tokens → call_line version shape tokens ≡ Ok call → IsFew call
+  call_is_few : (version : ℕ) (shape : Shape) (line : Line) (tokens : Tokens) (call : Call) → IsShort n line → tokens_said line.says ≡ Ok tokens → call_line version shape tokens ≡ Ok call → IsFew call
   call_is_few version shape line tokens call short said read = omega (arith, call_few version shape tokens call read, short tokens said)
+
+  target_few : (version : ℕ) (attr : CreateAttr) (shape : Shape) (end : ℕ) (lines : List Line) (script : Script) → AllByRecursion (IsShort n) lines → target_of version attr shape end lines ≡ Ok script → HasFew script
+  unfolding target_of
+  target_few version attr shape end [] script short read = absurd cc
+  target_few version attr shape end (line ∷ lines) script short read =
+      let asked = step_found (at_line line (target_line attr)) (λ asked. or_create (creation asked.0) >>= λ made. copied_from version shape no_body lines >>= λ body. Ok (copy_of version attr shape body.calls body.cuts (target_with asked.0 made asked.1))) script read in
+      let made = step_found (or_create (creation asked.0.0)) (λ made. copied_from version shape no_body lines >>= λ body. Ok (copy_of version attr shape body.calls body.cuts (target_with asked.0.0 made asked.0.1))) script asked.2 in
+      let target = target_with asked.0.0 made.0 asked.0.1 in
+      let body = step_found (copied_from version shape no_body lines) (λ body. Ok (copy_of version attr shape body.calls body.cuts target)) script made.2 in
+      subst HasFew (same_ok (Ok (copy_of version attr shape body.0.calls body.0.cuts target)) (copy_of version attr shape body.0.calls body.0.cuts target) script refl body.2)
+      (calls_hold version shape IsFew (IsShort n) (call_is_few version shape) lines body.0 short.1 (plain_read version shape no_body lines body.0 body.1))
 
   body_few : (form : Form) (version : ℕ) (attr : CreateAttr) (shape : Shape) (end : ℕ) (lines : List Line) (script : Script) → AllByRecursion (IsShort n) lines → body_of form version attr shape end lines ≡ Ok script → HasFew script
   unfolding body_of
@@ -242,6 +254,8 @@ module _ (n : ℕ) where
   body_few forms.Generator version attr shape end lines script short read =
       let spec = step_found (spec_of shape end lines) (λ spec. Ok (script_of version attr shape [] [] (Some spec))) script read in
       subst HasFew (same_ok (body_of forms.Generator version attr shape end lines) (script_of version attr shape [] [] (Some spec.0)) script (read ∙ sym spec.2) read) (All-nil IsFew)
+  body_few forms.Copy version attr shape end lines script short read =
+      target_few version attr shape end lines script short read
 
   map_few : (form : Form) (version end : ℕ) (lines : List Line) (script : Script) → AllByRecursion (IsShort n) lines → map_of form version end lines ≡ Ok script → HasFew script
   unfolding map_of

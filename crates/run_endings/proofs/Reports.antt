@@ -40,7 +40,7 @@ module _ (input : List ℕ) (divided : IsTrue (is_divided input)) where
   of_script (Refused why) cause = (divided, cause)
   of_script (Unfit why) cause = absurd (none≢some why (cause.2))
   of_script OutOfMemory cause = tt
-  of_script (Ran asked script kept) cause = absurd (cause.3)
+  of_script (Ran asked script kept copy) cause = absurd (cause.3)
   of_script Undivided cause = absurd cause
   of_script (Told said) cause = absurd cause
 
@@ -60,7 +60,7 @@ module _ (asked : Asked) (is : judges asked.mode ≡ true) (before after : Optio
   of_report (Refused why) cause = (input, input_is, whole (Refused why) cause)
   of_report (Unfit why) cause = absurd cause
   of_report OutOfMemory cause = up_to_input before after input input_is
-  of_report (Ran was_asked script kept) cause = absurd cause
+  of_report (Ran was_asked script kept copy) cause = absurd cause
   of_report Undivided cause = (input, input_is, whole Undivided cause)
   of_report (Told said) cause = (input, input_is, whole (Told said) cause)
 

@@ -16,7 +16,7 @@ use Rattle.run_words.specs.declared.words.Mode.{Mode}
 use Rattle.run_words.specs.Words.{are_words, asked_of, mode_of}
 use Rattle.run_endings.specs.declared.record.Finish.{Finish}
 use Rattle.run_endings.specs.Divided.{is_divided, report_part, script_part}
-use Rattle.run_endings.specs.Finish.{Ending, BadWords, ReadFault, TooLong, Faulty, Refused, Unfit, OutOfMemory, Ran, Undivided, Told, Finishes, HasCause, HasInput, HasReport, HasScript, IsDelivered, IsInput, IsStatus, IsStatusDue, IsStatusIn, IsStatusRead, form_of, judges, status_of, status_read, status_run, text_due}
+use Rattle.run_endings.specs.Finish.{Ending, BadWords, ReadFault, TooLong, Faulty, Refused, Unfit, OutOfMemory, Ran, Undivided, Told, CopyKept, Finishes, HasCause, HasInput, HasReport, HasScript, IsDelivered, IsInput, IsStatus, IsStatusDue, IsStatusIn, IsStatusRead, form_of, judges, status_of, status_read, status_run, text_due}
 
 then_is : {b : Bool} (P Q : Type 0) → b ≡ true → P → MatchBool b P Q
 then_is {b} P Q is has = subst (λ (c : Bool). MatchBool c P Q) (sym is) has
@@ -31,7 +31,7 @@ is_due IsDue {status} {read} {wrote} before now due text is =
     (λ (told : (status ≡ due) × AddsWhole before now text). ⊎_elim (λ (due_is : IsDue due). inl (subst IsDue (sym told.0) due_is)) (λ (memory : due ≡ 5). inr (inr (inr (told.0 ∙ memory)))) is)
     (λ (told : (status ≡ 4) × AddsPrefix before now text × wrote). inr (inr (inl (told.0, told.2))))
 
-module _ (RanAs : Mode → Script → RunRecord → Type 0) (IsSaid : Script → List ℕ → Said → Type 0) (words : List (List ℕ)) (input : List ℕ) where
+module _ (RanAs : Mode → Script → RunRecord → Option CopyKept → Type 0) (IsSaid : Script → List ℕ → Said → Type 0) (words : List (List ℕ)) (input : List ℕ) where
   -- with other words it is 2
   words_status : are_words words ≡ false → IsStatusDue IsSaid words input 2
   words_status bad = else_is _ _ bad refl
@@ -63,7 +63,7 @@ module _ (RanAs : Mode → Script → RunRecord → Type 0) (IsSaid : Script →
   of_script runs (Refused why) cause = inl (run_status (Err (Create why)) runs cause)
   of_script runs (Unfit why) cause = inl (subst (IsStatusIn IsSaid (mode_of words) input) (ap status_run (cause.2)) (run_status (Ok cause.0) runs (cause.1)))
   of_script runs OutOfMemory cause = inr refl
-  of_script runs (Ran asked script kept) cause = inl (subst (IsStatusIn IsSaid (mode_of words) input) (ap status_run (cause.2)) (run_status (Ok script) runs (cause.1)))
+  of_script runs (Ran asked script kept copy) cause = inl (subst (IsStatusIn IsSaid (mode_of words) input) (ap status_run (cause.2)) (run_status (Ok script) runs (cause.1)))
   of_script runs Undivided cause = absurd cause
   of_script runs (Told said) cause = absurd cause
 
@@ -75,7 +75,7 @@ module _ (RanAs : Mode → Script → RunRecord → Type 0) (IsSaid : Script →
   of_report is_judged (Refused why) cause = inl (judged_status 6 (Err (Create why)) is_judged (cause.0) (cause.1) refl)
   of_report is_judged (Unfit why) cause = absurd cause
   of_report is_judged OutOfMemory cause = inr refl
-  of_report is_judged (Ran asked script kept) cause = absurd cause
+  of_report is_judged (Ran asked script kept copy) cause = absurd cause
   of_report is_judged Undivided cause = inl (then_is _ _ is_judged (else_is _ _ cause refl))
   of_report is_judged (Told said) cause = inl (judged_status (status_of (Told said)) (Ok (cause.1.0)) is_judged (cause.0) (cause.1.1) (said, cause.1.2, refl))
 
@@ -108,12 +108,12 @@ module _ (RanAs : Mode → Script → RunRecord → Type 0) (IsSaid : Script →
     ending_status (Faulty line why) cause = is_due (IsStatusDue IsSaid words input) before now 1 (text_due (Faulty line why)) (whole_status (cause.1.0) after (Faulty line why) (cause.0) (cause.1.1) (cause.1.2))
     ending_status (Refused why) cause = is_due (IsStatusDue IsSaid words input) before now 6 (text_due (Refused why)) (whole_status (cause.1.0) after (Refused why) (cause.0) (cause.1.1) (cause.1.2))
     ending_status (Unfit why) cause = is_due (IsStatusDue IsSaid words input) before now 11 (text_due (Unfit why)) (whole_status (cause.1.0) after (Unfit why) (cause.0) (cause.1.1) (cause.1.2))
-    ending_status (Ran asked script kept) cause = is_due (IsStatusDue IsSaid words input) before now 0 (text_due (Ran asked script kept)) (whole_status (cause.1.0) after (Ran asked script kept) (cause.0) (cause.1.1) (cause.1.2))
+    ending_status (Ran asked script kept copy) cause = is_due (IsStatusDue IsSaid words input) before now 0 (text_due (Ran asked script kept copy)) (whole_status (cause.1.0) after (Ran asked script kept copy) (cause.0) (cause.1.1) (cause.1.2))
     ending_status Undivided cause = is_due (IsStatusDue IsSaid words input) before now 10 (text_due Undivided) (whole_status (cause.1.0) after Undivided (cause.0) (cause.1.1) (cause.1.2))
     ending_status (Told said) cause = is_due (IsStatusDue IsSaid words input) before now (status_of (Told said)) (text_due (Told said)) (whole_status (cause.1.0) after (Told said) (cause.0) (cause.1.1) (cause.1.2))
 
 -- The status of a run that ended with a cause.
-pub status_of_cause : {C : Type 0} {IsCopyOf : RunRecord → C → Type 0} (RanAs : Mode → Script → RunRecord → Type 0) (IsSaid : Script → List ℕ → Said → Type 0) (words : List (List ℕ)) (left : Option (List ℕ)) {after : Option (List ℕ)} {read : Type 0}
+pub status_of_cause : {C : Type 0} {IsCopyOf : RunRecord → C → Type 0} (RanAs : Mode → Script → RunRecord → Option CopyKept → Type 0) (IsSaid : Script → List ℕ → Said → Type 0) (words : List (List ℕ)) (left : Option (List ℕ)) {after : Option (List ℕ)} {read : Type 0}
     {before now : Option Written} {wrote : Type 0} {finish : Finish C} → Finishes IsCopyOf (HasCause RanAs IsSaid words left after read) before now wrote finish → IfSome left (λ input. IsStatus (IsStatusDue IsSaid words input) finish.status read wrote)
 status_of_cause RanAs IsSaid words None is = tt
 status_of_cause RanAs IsSaid words (Some input) {after} {read} {before} {now} {wrote} {finish} is = ending_status RanAs IsSaid words input after read before now wrote finish.status is.ending is.cause is.ends.delivered

@@ -1,19 +1,20 @@
 -- A run of the program before and after its script runs or its report is judged.
-use Rattle.std.specs.Prelude.{◌≡◌, ◌⊎◌, ℕ, ◌≤◌, ◌-◌, ◌^◌, true, false, List, Option, Some, None, Result, Ok, Err, IsTrue, count_by, ⊤}
+use Rattle.std.specs.Prelude.{◌≡◌, ◌⊎◌, ℕ, ◌≤◌, ◌-◌, ◌^◌, true, false, is_some, List, Option, Some, None, Result, Ok, Err, IsTrue, count_by, ⊤}
 use Rattle.run_endings.specs.declared.judging.Claim.{Claim}
 use Rattle.run_endings.specs.declared.finish.Due.{Due}
 use Rattle.run_endings.specs.declared.finish.Task.{Task}
 use Rattle.run_endings.specs.declared.finish.Task.TheVariants.{Run, Judge}
+use Rattle.run_endings.specs.declared.record.CopyRecord.{CopyRecord}
 use Rattle.run_endings.specs.declared.record.Finish.{Finish}
 use Rattle.run_words.specs.declared.words.Asked.{Asked}
 use Rattle.run_words.specs.declared.words.Mode.{Mode}
-use Rattle.run_words.specs.declared.words.Mode.TheVariants.{Serial, Race, Gen, Compare, Check}
+use Rattle.run_words.specs.declared.words.Mode.TheVariants.{Serial, Race, Gen, Compare, Check, Copy}
 use Rattle.map_script.specs.declared.script.Script.{Script}
 use Rattle.map_report.specs.declared.record.RunRecord.{RunRecord}
 use Rattle.map_types.specs.declared.refusal.NoMemory.{NoMemory}
 use Rattle.map_script.specs.declared.script.Form.TheVariants.{Calls}
 use Rattle.map_script.specs.Lines.{is_line_feed}
-use Rattle.map_script.specs.Reading.{read_as}
+use Rattle.map_script.specs.Reading.{read_as, is_copy}
 use Rattle.map_script.specs.WellFormed.{IsWellFormed}
 use Rattle.record_flaws.specs.declared.verdict.Said.{Said}
 use Rattle.record_flaws.specs.FlawText.{said_text}
@@ -25,11 +26,11 @@ use Rattle.lru_compare.specs.declared.run.StrictRefusal.TheVariants as strictly
 use Rattle.lru_compare.specs.Run.{strict}
 use Rattle.serial_laws.specs.Served.{IsScript}
 use Rattle.run_endings.specs.Divided.{is_divided, script_part, report_part}
-use Rattle.run_endings.specs.Finish.{Ending, OutOfMemory, form_of, judges, script_run, status_said, unfit, status_of, text_due, kept_in, kept_of, out, IsInput, IsDelivered}
+use Rattle.run_endings.specs.Finish.{Ending, OutOfMemory, CopyKept, copy_kept, form_of, judges, script_run, status_said, unfit, status_of, text_due, kept_in, kept_of, out, IsInput, IsDelivered}
 
 -- no script was run
-abbrev pub NeverRan : Mode → Script → RunRecord → Type 0
-NeverRan mode script kept = ⊥
+abbrev pub NeverRan : Mode → Script → RunRecord → Option CopyKept → Type 0
+NeverRan mode script kept copy = ⊥
 
 -- nothing was said of a report
 abbrev pub NeverSaid : Script → List ℕ → Said → Type 0
@@ -42,6 +43,7 @@ strictly_run Race script = None
 strictly_run Gen script = None
 strictly_run Compare script = Some (strict script)
 strictly_run Check script = None
+strictly_run Copy script = None
 
 -- a script isn't run in a mode for this reason, or memory was not found
 abbrev pub IsUnfit : Mode → Script → StrictRefusal → Type 0
@@ -84,9 +86,14 @@ pub record IsJudgeable (claim : Claim) : Type 0 where
   pub script : IsWellFormed claim.script
   pub lines : count_by is_line_feed claim.report.items ≤ 2 ^ 32 - 3
 
+-- the script that is due has a target exactly where its mode is that of a copy
+abbrev pub HasTarget : Due → Type 0
+HasTarget due = is_some due.script.target ≡ is_copy (form_of due.asked.mode)
+
 -- what is due can be done: a script can be run in its mode, a report can be judged
 abbrev pub IsReady : Task → Type 0
-IsReady (Run due) = IsScript due.script × (due.strict ≡ strictly_run due.asked.mode due.script) × (judges due.asked.mode ≡ false)
+IsReady (Run due) =
+    IsScript due.script × (due.strict ≡ strictly_run due.asked.mode due.script) × (judges due.asked.mode ≡ false) × HasTarget due
 IsReady (Judge claim) = IsJudgeable claim
 
 -- A run ended with this status, and with no record: an ending that it may have, whose line was delivered.
@@ -96,23 +103,26 @@ pub record EndsEarly (MayEnd : Ending → Type 0) (before after : Option Written
   pub none : kept_of ending ≡ None
   pub delivered : IsDelivered (status_of ending) (text_due ending) status before after rose
 
--- A run ended with what came of it: the text of that was delivered, and what is kept in the mode was kept.
-pub record EndsKept {C : Type 0} (due : Due) (ran : Result (RunRecord × C) NoMemory) (before after : Option Written) (rose : Type 0) (finish : Finish C) : Type 0 where
+-- A run ended with what came of it: the text of that was delivered, and what is kept in the mode was kept, with the copy.
+pub record EndsKept {C : Type 0} (due : Due) (ran : Result (RunRecord × C × Option (CopyRecord C)) NoMemory) (before after : Option Written) (rose : Type 0) (finish : Finish C) : Type 0 where
   pub kept : RunRecord
   pub closed : C
-  pub ran_is : ran ≡ Ok (kept, closed)
+  pub copy : Option (CopyRecord C)
+  pub ran_is : ran ≡ Ok (kept, closed, copy)
   pub kept_is : finish.kept ≡ kept_in due.asked.mode kept
   pub closed_is : finish.closed ≡ kept_in due.asked.mode closed
-  pub delivered : IsDelivered 0 (out due.asked due.script kept) finish.status before after rose
+  pub copy_is : finish.copy ≡ copy
+  pub delivered : IsDelivered 0 (out due.asked due.script kept (copy_kept copy)) finish.status before after rose
 
 -- A run ended for which memory was not found: nothing is kept.
 pub record EndsOutOfMemory {C : Type 0} (before after : Option Written) (rose : Type 0) (finish : Finish C) : Type 0 where
   pub kept : finish.kept ≡ None
   pub closed : finish.closed ≡ None
+  pub copy : finish.copy ≡ None
   pub delivered : IsDelivered 5 (text_due OutOfMemory) finish.status before after rose
 
 -- how a run ends that was due, by what came of it
-abbrev pub EndsRun : {C : Type 0} → Due → Result (RunRecord × C) NoMemory → Option Written → Option Written → Type 0 → Finish C → Type 0
+abbrev pub EndsRun : {C : Type 0} → Due → Result (RunRecord × C × Option (CopyRecord C)) NoMemory → Option Written → Option Written → Type 0 → Finish C → Type 0
 EndsRun due ran before after rose finish = EndsKept due ran before after rose finish ⊎ EndsOutOfMemory before after rose finish
 
 -- A run ended with what was said of its report: the line of that was delivered, and nothing is kept.
@@ -121,6 +131,7 @@ pub record EndsSaid {C : Type 0} (judged : Result Said NoMemory) (before after :
   pub said_is : judged ≡ Ok said
   pub kept : finish.kept ≡ None
   pub closed : finish.closed ≡ None
+  pub copy : finish.copy ≡ None
   pub delivered : IsDelivered (status_said said) (said_text said) finish.status before after rose
 
 -- how a run ends whose report was to be judged, by what came of it

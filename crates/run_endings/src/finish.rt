@@ -3,8 +3,8 @@
 
 ghost use Rattle.std.specs.Prelude.{◌≡◌, ◌≤◌, ◌++◌, ℕ, List, None, Some, false, length, map, codes, decimal, IfOk, IfErr, IsOk, OnOk, string_bytes};
 ghost use Rattle.run_words.specs.declared.words.Asked.{Asked};
-ghost use Rattle.run_endings.specs.Finish.{form_of, judges, kept_in, lines_of, out, refusal_name, script_run, unfit, unfit_name, HasCause, HasScript, HasSource, IsDelivered, IsInput, WasRead};
-ghost use Rattle.run_endings.specs.Runs.{strictly_run, EndsEarly, EndsRun, EndsOutOfMemory, IsDueOf, IsReady, IsStrictlyRun, IsTask, IsTaskOf, IsUnfit, NeverRan, NeverSaid};
+ghost use Rattle.run_endings.specs.Finish.{copy_kept, form_of, judges, kept_in, lines_of, out, refusal_name, script_run, text_of_copy, unfit, unfit_name, HasCause, HasScript, HasSource, IsDelivered, IsInput, WasRead};
+ghost use Rattle.run_endings.specs.Runs.{strictly_run, EndsEarly, EndsRun, EndsOutOfMemory, HasTarget, IsDueOf, IsReady, IsStrictlyRun, IsTask, IsTaskOf, IsUnfit, NeverRan, NeverSaid};
 ghost use Rattle.lru_compare.specs.Comparison.{comparison};
 ghost use Rattle.lru_compare.specs.Run.{strict};
 ghost use Rattle.map_script.specs.CauseName.{cause_name};
@@ -13,10 +13,11 @@ ghost use Rattle.run_ends.specs.SourceReads.{Rose};
 ghost use Rattle.serial_laws.specs.Served.{IsScript};
 ghost use Rattle.run_words.specs.Words.{are_words};
 
-use crate::Finish;
 use crate::judging::{Claim, begin_with_report};
+use crate::{CopyRecord, Finish};
+use copy_report::copy_text_of;
 use lru_compare::{StrictOut, StrictRefusal, comparison_of, strict_run};
-use map_report::{RunRecord, json_of, summary_of, text_of};
+use map_report::{Options, RunRecord, json_of, summary_of, text_of};
 use map_script::{Cause, Form, Script, ScriptRefusal};
 use map_types::{CreateRefusal, Limit, NoMemory};
 use run_ends::{ReadStop, Sink, Source, deliver};
@@ -78,22 +79,23 @@ pub fn begin<S: Source, K: Sink>(
 }
 
 impl Due {
-    /// Ends the run of the script: writes what is due of its record, and keeps the record and what its map left, but in mode
-    /// `compare` nothing; the status is 0. Where memory was not found a line is written, nothing is kept, and the status is 5. Where a write fails it is 4.
+    /// Ends the run of the script: writes what is due of its record, or in mode `copy` of the copy, and keeps the record and what
+    /// its map left, but in mode `compare` neither. The copy that is handed in is kept. The status is 0. Where memory was not found
+    /// a line is written, nothing is kept, and the status is 5. Where a write fails it is 4.
     pub fn end<C: Drop, K: Sink>(
         self,
         alloc: Global,
-        ran: Result<(RunRecord, C), NoMemory>,
+        ran: Result<(RunRecord, C, Option<CopyRecord<C>>), NoMemory>,
         sink: &mut K,
     ) -> Finish<C>
         requires { self.strict ≡ strictly_run self.asked.mode self.script }
         ensures { EndsRun self ran (K.written sink.old) (K.written sink.new)
             (Rose (K.faults sink.old) (K.faults sink.new)) result }
     {
-        let Ok((kept, closed)) = ran else {
+        let Ok((kept, closed, copy)) = ran else {
             return out_of_memory(sink);
         };
-        let Ok(text) = text_in(alloc, self.asked, &self.script, &kept, &self.strict) else {
+        let Ok(text) = text_in(alloc, self.asked, &self.script, &kept, &copy, &self.strict) else {
             return out_of_memory(sink);
         };
         let status = match deliver(sink, text.as_slice()) {
@@ -105,6 +107,7 @@ impl Due {
             status,
             kept,
             closed,
+            copy,
         }
     }
 }
@@ -115,7 +118,7 @@ fn kept_in<C: Drop>(mode: Mode, kept: RunRecord, closed: C) -> (Option<RunRecord
     ensures closed { result.1 ≡ kept_in mode closed }
 {
     match mode {
-        Mode::Serial | Mode::Race | Mode::Gen => (Some(kept), Some(closed)),
+        Mode::Serial | Mode::Race | Mode::Gen | Mode::Copy => (Some(kept), Some(closed)),
         Mode::Compare | Mode::Check => (None, None),
     }
 }
@@ -129,6 +132,7 @@ pub(crate) fn out_of_memory<C, K: Sink>(sink: &mut K) -> Finish<C>
         status: end_with_line(sink, 5, b"bpfmap: memory\n"),
         kept: None,
         closed: None,
+        copy: None,
     }
 }
 
@@ -144,41 +148,72 @@ pub(crate) fn end_with_line<K: Sink>(sink: &mut K, status: u8, line: &[u8]) -> u
 }
 
 /// What is written of a run.
-fn text_in(
+fn text_in<C>(
     alloc: Global,
     asked: Asked,
     script: &Script,
     kept: &RunRecord,
+    copy: &Option<CopyRecord<C>>,
     strictly: &Option<StrictOut>,
 ) -> Result<Vec<u8>, NoMemory>
     requires { strictly.now ≡ strictly_run asked.mode script.now }
-    ensures { IfOk result (λ text. text.items ≡ out asked script.now kept.now) }
+    ensures { IfOk result (λ text. text.items ≡ out asked script.now kept.now (copy_kept copy.now)) }
 {
     if asked.options.json {
         json_of(alloc, script, kept, asked.options)
     } else {
-        lines_in(alloc, asked, script, kept, strictly)
+        lines_in(alloc, asked, script, kept, copy, strictly)
     }
 }
 
 /// What is written of a run in lines.
-fn lines_in(
+fn lines_in<C>(
     alloc: Global,
     asked: Asked,
     script: &Script,
     kept: &RunRecord,
+    copy: &Option<CopyRecord<C>>,
     strictly: &Option<StrictOut>,
 ) -> Result<Vec<u8>, NoMemory>
     requires { strictly.now ≡ strictly_run asked.mode script.now }
     ensures { IfOk result (λ text. text.items
-        ≡ lines_of asked.mode script.now kept.now asked.options) }
+        ≡ lines_of asked.mode script.now kept.now (copy_kept copy.now) asked.options) }
 {
     match asked.mode {
         Mode::Serial | Mode::Race => text_of(alloc, script, kept, asked.options),
         Mode::Gen => summary_of(alloc, script, kept, asked.options),
         Mode::Compare => comparison_in(alloc, script, kept, strictly),
         Mode::Check => Ok(Vec::new(alloc)),
+        Mode::Copy => copy_in(alloc, script, kept, copy, asked.options),
     }
+}
+
+/// What is written of a copy: nothing, where the script has no target or no copy was made.
+fn copy_in<C>(
+    alloc: Global,
+    script: &Script,
+    kept: &RunRecord,
+    copy: &Option<CopyRecord<C>>,
+    options: Options,
+) -> Result<Vec<u8>, NoMemory>
+    ensures { IfOk result (λ text. text.items
+        ≡ text_of_copy script.now.target script.now kept.now (copy_kept copy.now) options) }
+{
+    let Some(target) = &script.target else {
+        return Ok(Vec::new(alloc));
+    };
+    let Some(copy) = copy else {
+        return Ok(Vec::new(alloc));
+    };
+    copy_text_of(
+        alloc,
+        script,
+        kept,
+        &target.shape,
+        &copy.target,
+        copy.reads.as_slice(),
+        options,
+    )
 }
 
 /// What is written of a run beside the script's run with strict recency.
@@ -205,7 +240,7 @@ fn script_due(alloc: Global, mode: Mode, script: Script) -> Result<Script, NoMem
     ensures script { IfOk result (λ due. IsScript due) }
 {
     match mode {
-        Mode::Serial | Mode::Race | Mode::Compare | Mode::Check => Ok(script),
+        Mode::Serial | Mode::Race | Mode::Compare | Mode::Check | Mode::Copy => Ok(script),
         Mode::Gen => {
             let generated = generate(alloc, &script)?;
             Ok(generated)
@@ -223,7 +258,7 @@ fn run_strictly(
     ensures { IsStrictlyRun mode script.now result }
 {
     match mode {
-        Mode::Serial | Mode::Race | Mode::Gen | Mode::Check => Ok(None),
+        Mode::Serial | Mode::Race | Mode::Gen | Mode::Check | Mode::Copy => Ok(None),
         Mode::Compare => match strict_run(alloc, script) {
             Ok(out) => Ok(Some(out)),
             Err(why) => Err(why),
@@ -285,6 +320,7 @@ fn begin_with_script<K: Sink>(
         → IfOk result (IsDueOf asked input) }
     ensures script { IfOk result (λ due. IsScript due.script) }
     ensures strict { IfOk result (λ due. due.strict ≡ strictly_run due.asked.mode due.script) }
+    ensures target { IfOk result HasTarget }
     ensures unwritten { IsOk result → sink.new ≡ sink.old }
     ensures early { (input : List ℕ) → read_as (form_of asked.mode) input ≡ Ok script
         → IfErr result (EndsEarly (HasScript NeverRan asked input) (K.written sink.old) (K.written sink.new)
@@ -312,6 +348,7 @@ fn begin_fitting<K: Sink>(
         → IfOk result (IsDueOf asked input) }
     ensures script { IfOk result (λ due. IsScript due.script) }
     ensures strict { IfOk result (λ due. due.strict ≡ strictly_run due.asked.mode due.script) }
+    ensures target { IfOk result HasTarget }
     ensures unwritten { IsOk result → sink.new ≡ sink.old }
     ensures early { (input : List ℕ) → IfErr result (EndsEarly (HasScript NeverRan asked input) (K.written sink.old) (K.written sink.new)
         (Rose (K.faults sink.old) (K.faults sink.new))) }
@@ -409,6 +446,7 @@ fn form_of(mode: Mode) -> Form
     match mode {
         Mode::Serial | Mode::Race | Mode::Compare | Mode::Check => Form::Calls,
         Mode::Gen => Form::Generator,
+        Mode::Copy => Form::Copy,
     }
 }
 
@@ -424,6 +462,7 @@ fn begin_with_reading<K: Sink>(
         → IfOk result (IsDueOf asked input) }
     ensures script { IfOk result (λ due. IsScript due.script) }
     ensures strict { IfOk result (λ due. due.strict ≡ strictly_run due.asked.mode due.script) }
+    ensures target { IfOk result HasTarget }
     ensures unwritten { IsOk result → sink.new ≡ sink.old }
     ensures early { (input : List ℕ) → IsReading read (read_as (form_of asked.mode) input)
         → IfErr result (EndsEarly (HasScript NeverRan asked input) (K.written sink.old) (K.written sink.new)
@@ -440,7 +479,7 @@ fn judges(mode: Mode) -> bool
     ensures { result ≡ judges mode }
 {
     match mode {
-        Mode::Serial | Mode::Race | Mode::Gen | Mode::Compare => false,
+        Mode::Serial | Mode::Race | Mode::Gen | Mode::Compare | Mode::Copy => false,
         Mode::Check => true,
     }
 }
@@ -484,6 +523,7 @@ fn begin_with_source<S: Source, K: Sink>(
     ensures due { IfOk result (λ due. (input : List ℕ) × IsInput (S.left source.old) (S.left source.new) input × IsDueOf asked input due) }
     ensures script { IfOk result (λ due. IsScript due.script) }
     ensures strict { IfOk result (λ due. due.strict ≡ strictly_run due.asked.mode due.script) }
+    ensures target { IfOk result HasTarget }
     ensures unwritten { IsOk result → sink.new ≡ sink.old }
     ensures early { IfErr result (EndsEarly (HasSource NeverRan NeverSaid asked (S.left source.old) (S.left source.new)
         (Rose (S.faults source.old) (S.faults source.new))) (K.written sink.old)

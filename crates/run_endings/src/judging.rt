@@ -114,6 +114,7 @@ pub fn end_judged<C, K: Sink>(
         status: end_with_line(sink, status_said(said), text.as_bytes()),
         kept: None,
         closed: None,
+        copy: None,
     }
 }
 

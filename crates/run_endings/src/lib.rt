@@ -10,4 +10,4 @@ mod record;
 pub use finish::{Due, Task, begin};
 pub use judging::{Claim, end_judged};
 pub use laws::{comparison_law, division_law};
-pub use record::Finish;
+pub use record::{CopyRecord, Finish};

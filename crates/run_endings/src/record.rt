@@ -3,6 +3,7 @@
 ghost use Rattle.std.specs.Prelude.{◌≡◌};
 
 use map_report::RunRecord;
+use map_types::{List, Reply};
 
 /// How a run of the program ended.
 #[derive(Drop)]
@@ -14,6 +15,19 @@ pub struct Finish<C> {
     pub kept: Option<RunRecord>,
     /// What the run's map left when it was closed, exactly where the record is there.
     pub closed: Option<C>,
+    /// What is kept of a copy, exactly where the record is there in mode `copy`.
+    pub copy: Option<CopyRecord<C>>,
+}
+
+/// What is kept of a copy beside the record of the run, which is that of the source.
+#[derive(Drop)]
+pub struct CopyRecord<C> {
+    /// The replies to the reads of the source, in their order.
+    pub reads: List<Reply>,
+    /// The record of the run on the target, whose calls are the puts.
+    pub target: RunRecord,
+    /// What the target left when it was closed.
+    pub closed: C,
 }
 
 impl<C: Drop> Finish<C> {

@@ -101,22 +101,23 @@ bytes_symmetric a b = go (bytes_eq a b) (bytes_eq b a) refl refl
     go false false e f = refl
 
 -- the parser of the mode takes the words of the modes alone
-one_of_five : (a b c d e : Bool) → (a || (b || (c || (d || (e || false))))) ≡ (a || b || c || d || e)
-one_of_five true b c d e = refl
-one_of_five false true c d e = refl
-one_of_five false false true d e = refl
-one_of_five false false false true e = refl
-one_of_five false false false false true = refl
-one_of_five false false false false false = refl
+one_of_six : (a b c d e f : Bool) → (a || (b || (c || (d || (e || (f || false)))))) ≡ (a || b || c || d || e || f)
+one_of_six true b c d e f = refl
+one_of_six false true c d e f = refl
+one_of_six false false true d e f = refl
+one_of_six false false false true e f = refl
+one_of_six false false false false true f = refl
+one_of_six false false false false false true = refl
+one_of_six false false false false false false = refl
 
-pub accepts_modes : (p : ValueParser) (names : Bor (List (Bor Text))) → p ≡ Names names → map (λ s. s.now) names.now ≡ codes "serial" ∷ codes "race" ∷ codes "gen" ∷ codes "compare" ∷ codes "check" ∷ []
+pub accepts_modes : (p : ValueParser) (names : Bor (List (Bor Text))) → p ≡ Names names → map (λ s. s.now) names.now ≡ codes "serial" ∷ codes "race" ∷ codes "gen" ∷ codes "compare" ∷ codes "check" ∷ codes "copy" ∷ []
     → (text : Text) → accepts false p text ≡ is_mode text
 accepts_modes p names is listed text =
     ap (λ q. accepts false q text) is ∙ list_any-map (λ n. bytes_eq n text) (λ s. s.now) names.now ∙ ap (list_any (λ n. bytes_eq n text)) listed
-    ∙ one_of_five (bytes_eq (codes "serial") text) (bytes_eq (codes "race") text) (bytes_eq (codes "gen") text) (bytes_eq (codes "compare") text) (bytes_eq (codes "check") text)
-    ∙ ap₂ (λ (a b : Bool). a || b || bytes_eq (codes "gen") text || bytes_eq (codes "compare") text || bytes_eq (codes "check") text) (bytes_symmetric (codes "serial") text) (bytes_symmetric (codes "race") text)
-    ∙ ap₂ (λ (a b : Bool). bytes_eq text (codes "serial") || bytes_eq text (codes "race") || a || b || bytes_eq (codes "check") text) (bytes_symmetric (codes "gen") text) (bytes_symmetric (codes "compare") text)
-    ∙ ap (λ (b : Bool). bytes_eq text (codes "serial") || bytes_eq text (codes "race") || bytes_eq text (codes "gen") || bytes_eq text (codes "compare") || b) (bytes_symmetric (codes "check") text)
+    ∙ one_of_six (bytes_eq (codes "serial") text) (bytes_eq (codes "race") text) (bytes_eq (codes "gen") text) (bytes_eq (codes "compare") text) (bytes_eq (codes "check") text) (bytes_eq (codes "copy") text)
+    ∙ ap₂ (λ (a b : Bool). a || b || bytes_eq (codes "gen") text || bytes_eq (codes "compare") text || bytes_eq (codes "check") text || bytes_eq (codes "copy") text) (bytes_symmetric (codes "serial") text) (bytes_symmetric (codes "race") text)
+    ∙ ap₂ (λ (a b : Bool). bytes_eq text (codes "serial") || bytes_eq text (codes "race") || a || b || bytes_eq (codes "check") text || bytes_eq (codes "copy") text) (bytes_symmetric (codes "gen") text) (bytes_symmetric (codes "compare") text)
+    ∙ ap₂ (λ (a b : Bool). bytes_eq text (codes "serial") || bytes_eq text (codes "race") || bytes_eq text (codes "gen") || bytes_eq text (codes "compare") || a || b) (bytes_symmetric (codes "check") text) (bytes_symmetric (codes "copy") text)
 
 none_of : (kinds : Kinds) → kinds ≡ [] → none kinds ≡ true
 none_of kinds e = ap none e

@@ -14,7 +14,7 @@ use Rattle.clap.specs.declared.builder.value_parser.Reading.TheVariants as readi
 use Rattle.clap.specs.declared.parser.matches.ValueSource.TheVariants.{CommandLine, DefaultValue}
 use Rattle.run_words.specs.Words.{is_mode, is_option, is_end_of_options, mode_word}
 use Rattle.run_words.specs.declared.words.Mode.{Mode}
-use Rattle.run_words.specs.declared.words.Mode.TheVariants.{Serial, Race, Gen, Compare, Check}
+use Rattle.run_words.specs.declared.words.Mode.TheVariants.{Serial, Race, Gen, Compare, Check, Copy}
 
 -- ---- the words
 
@@ -80,10 +80,15 @@ kind_of_word word = by_serial (bytes_eq word (codes "serial")) refl
     by_history true e no_mode = an_option history (same_text word (codes "--history") e)
     by_history false e no_mode = by_dump (is_flag dump word) refl no_mode e
 
+    by_copy : (b : Bool) → bytes_eq word (codes "copy") ≡ b → bytes_eq word (codes "serial") ≡ false → bytes_eq word (codes "race") ≡ false → bytes_eq word (codes "gen") ≡ false
+        → bytes_eq word (codes "compare") ≡ false → bytes_eq word (codes "check") ≡ false → Kind word
+    by_copy true e no_serial no_race no_gen no_compare no_check = a_mode Copy (same_text word (codes "copy") e)
+    by_copy false e no_serial no_race no_gen no_compare no_check = by_history (is_flag history word) refl (rw (no_serial, no_race, no_gen, no_compare, no_check, e) refl)
+
     by_check : (b : Bool) → bytes_eq word (codes "check") ≡ b → bytes_eq word (codes "serial") ≡ false → bytes_eq word (codes "race") ≡ false → bytes_eq word (codes "gen") ≡ false
         → bytes_eq word (codes "compare") ≡ false → Kind word
     by_check true e no_serial no_race no_gen no_compare = a_mode Check (same_text word (codes "check") e)
-    by_check false e no_serial no_race no_gen no_compare = by_history (is_flag history word) refl (rw (no_serial, no_race, no_gen, no_compare, e) refl)
+    by_check false e no_serial no_race no_gen no_compare = by_copy (bytes_eq word (codes "copy")) refl no_serial no_race no_gen no_compare e
 
     by_compare : (b : Bool) → bytes_eq word (codes "compare") ≡ b → bytes_eq word (codes "serial") ≡ false → bytes_eq word (codes "race") ≡ false → bytes_eq word (codes "gen") ≡ false → Kind word
     by_compare true e no_serial no_race no_gen = a_mode Compare (same_text word (codes "compare") e)

@@ -7,7 +7,7 @@ use Rattle.std.proofs.lemmas.List.Sums.{sum_by-cons}
 use Rattle.clap.specs.Walk.{Text}
 use Rattle.run_words.specs.Words.{are_arguments, is_end_of_options, is_mode, is_option, mode_word}
 use Rattle.run_words.specs.declared.words.Mode.{Mode}
-use Rattle.run_words.specs.declared.words.Mode.TheVariants.{Serial, Race, Gen, Compare, Check}
+use Rattle.run_words.specs.declared.words.Mode.TheVariants.{Serial, Race, Gen, Compare, Check, Copy}
 use Rattle.run_words.proofs.WordLemmasCommand.{Flag, history, dump, json, flag_is, flag_word, flags_apart, is_flag}
 use Rattle.run_words.proofs.WordLemmasRows.{with_flag}
 use Rattle.run_words.proofs.WordLemmasShapes.{after-cons_no, after-cons_yes, before-cons_no, before-cons_yes}
@@ -80,6 +80,7 @@ mode_is Race = refl
 mode_is Gen = refl
 mode_is Compare = refl
 mode_is Check = refl
+mode_is Copy = refl
 
 pub mode_is_no_flag : (m : Mode) (f : Flag) → is_flag f (mode_word m) ≡ false
 mode_is_no_flag Serial history = refl
@@ -97,6 +98,9 @@ mode_is_no_flag Compare json = refl
 mode_is_no_flag Check history = refl
 mode_is_no_flag Check dump = refl
 mode_is_no_flag Check json = refl
+mode_is_no_flag Copy history = refl
+mode_is_no_flag Copy dump = refl
+mode_is_no_flag Copy json = refl
 
 pub flag_is_no_mode : (f : Flag) → is_mode (flag_word f) ≡ false
 flag_is_no_mode history = refl
@@ -171,6 +175,7 @@ in_place_mode true Race words = refl
 in_place_mode true Gen words = refl
 in_place_mode true Compare words = refl
 in_place_mode true Check words = refl
+in_place_mode true Copy words = refl
 in_place_mode false Serial words =
     ap₂ (λ (before after : List Text). list_all is_argument before && list_all is_mode after)
     (before-cons_no is_end_of_options (codes "serial") words refl) (after-cons_no is_end_of_options (codes "serial") words refl)
@@ -186,6 +191,9 @@ in_place_mode false Compare words =
 in_place_mode false Check words =
     ap₂ (λ (before after : List Text). list_all is_argument before && list_all is_mode after)
     (before-cons_no is_end_of_options (codes "check") words refl) (after-cons_no is_end_of_options (codes "check") words refl)
+in_place_mode false Copy words =
+    ap₂ (λ (before after : List Text). list_all is_argument before && list_all is_mode after)
+    (before-cons_no is_end_of_options (codes "copy") words refl) (after-cons_no is_end_of_options (codes "copy") words refl)
 
 in_place_open : (word : Text) (words : List Text) → is_end_of_options word ≡ false → are_in_place false (word ∷ words) ≡ (is_argument word && are_in_place false words)
 in_place_open word words e =

@@ -12,7 +12,7 @@ use Rattle.clap.specs.Lexer.{has_byte, long_of, long_of_rest, name_and_value, sh
 use Rattle.clap.specs.declared.builder.value_parser.ValueParser.{ValueParser}
 use Rattle.run_words.specs.Words.{is_end_of_options, is_option, mode_word}
 use Rattle.run_words.specs.declared.words.Mode.{Mode}
-use Rattle.run_words.specs.declared.words.Mode.TheVariants.{Serial, Race, Gen, Compare, Check}
+use Rattle.run_words.specs.declared.words.Mode.TheVariants.{Serial, Race, Gen, Compare, Check, Copy}
 use Rattle.run_words.proofs.WordLemmasCommand.{Flag, history, dump, json, Waits, built_flag, flag_name, flag_word, held_by, none, rules, shape}
 use Rattle.run_words.proofs.WordLemmasTurns.{IsValue, IsRefused}
 
@@ -196,3 +196,4 @@ mode_is_value p Race rows waits = (λ position. refl, refl)
 mode_is_value p Gen rows waits = (λ position. refl, refl)
 mode_is_value p Compare rows waits = (λ position. refl, refl)
 mode_is_value p Check rows waits = (λ position. refl, refl)
+mode_is_value p Copy rows waits = (λ position. refl, refl)

@@ -11,7 +11,7 @@ use Rattle.clap.specs.declared.builder.value_parser.ValueParser.{ValueParser}
 use Rattle.std.specs.Str.{bytes_eq}
 use Rattle.run_words.specs.Words.{is_mode, is_option, is_end_of_options, mode_word, stands}
 use Rattle.run_words.specs.declared.words.Mode.{Mode}
-use Rattle.run_words.specs.declared.words.Mode.TheVariants.{Serial, Race, Gen, Compare, Check}
+use Rattle.run_words.specs.declared.words.Mode.TheVariants.{Serial, Race, Gen, Compare, Check, Copy}
 use Rattle.run_words.proofs.WordLemmasCommand.{Flag, history, dump, json, Kind, a_mode, an_option, another, dashes, kind_of_word, Stage, unread, met, past, built_flag, built_mode, checked, default_row, flag_name, flag_row, flag_word, for_mode, has_mode, held_by, is_flag, is_word_of, mode_row, none, rules, shape, walk_at, walk_by, was_met}
 use Rattle.run_words.proofs.WordLemmasRows.{AreRows, defaulted, flag_added, flag_has_row, found, has_none, mode_added, mode_has_no_default, no_flag_row, not_found, or_row, with_flag}
 use Rattle.run_words.proofs.WordLemmasTurns.{IsRefused, IsValue, end_fault, end_walk, first_value_fault, first_value_walk, flag_passes, flag_repeats, flag_walk, refused_turn, second_value, settled_is, settling_flag_passes, settling_flag_refuses, settling_flag_repeats, settling_flag_walk, value_behind}
@@ -141,13 +141,13 @@ module _ (p : ValueParser) (word : Text) (rows : List Row) (absent : found (code
 
 -- ---- the words pass, and what was read
 
-abbrev mode_chosen : Bool → Bool → Bool → Bool → Mode
-mode_chosen race gen compare check =
-    if race then Race else if gen then Gen else if compare then Compare else if check then Check else Serial
+abbrev mode_chosen : Bool → Bool → Bool → Bool → Bool → Mode
+mode_chosen race gen compare check copy =
+    if race then Race else if gen then Gen else if compare then Compare else if check then Check else if copy then Copy else Serial
 
 -- the mode whose word is among those that stood
 abbrev mode_by : (Mode → Bool) → Mode
-mode_by stood = mode_chosen (stood Race) (stood Gen) (stood Compare) (stood Check)
+mode_by stood = mode_chosen (stood Race) (stood Gen) (stood Compare) (stood Check) (stood Copy)
 
 -- what the rows at the end say of these flags and of the modes whose words stood
 pub record ReadsWords (p : ValueParser) (rows : List Row) (flags : Flag → Bool) (stood : Mode → Bool) : Type 0 where
@@ -174,8 +174,9 @@ same_reads : {p : ValueParser} {rows now : List Row} {flags read : Flag → Bool
     → ((k : Mode) → stood k ≡ stands_now k) → ReadsWords p now flags stood → ReadsWords p rows read stands_now
 same_reads {stood = stood} {stands_now = stands_now} same flags_same modes_same h = record {
   flag_is = λ f. ap (one_of (flag_name f)) same ∙ h.flag_is f ∙ ap (λ b. Some (bool_text b)) (flags_same f);
-  mode_is = ap (first_of (codes "mode")) same ∙ h.mode_is ∙ ap₂ (λ (race gen : Bool). Some (mode_word (mode_chosen race gen (stood Compare) (stood Check)))) (modes_same Race) (modes_same Gen)
-      ∙ ap₂ (λ (compare check : Bool). Some (mode_word (mode_chosen (stands_now Race) (stands_now Gen) compare check))) (modes_same Compare) (modes_same Check);
+  mode_is = ap (first_of (codes "mode")) same ∙ h.mode_is ∙ ap₂ (λ (race gen : Bool). Some (mode_word (mode_chosen race gen (stood Compare) (stood Check) (stood Copy)))) (modes_same Race) (modes_same Gen)
+      ∙ ap₂ (λ (compare check : Bool). Some (mode_word (mode_chosen (stands_now Race) (stands_now Gen) compare check (stood Copy)))) (modes_same Compare) (modes_same Check)
+      ∙ ap (λ (copy : Bool). Some (mode_word (mode_chosen (stands_now Race) (stands_now Gen) (stands_now Compare) (stands_now Check) copy))) (modes_same Copy);
 }
 
 module _ (p : ValueParser) (rows now : List Row) (stage after : Stage) (seen next : Flag → Bool) (behind later : Bool) (word : Text) (words : List Text) where
@@ -243,16 +244,19 @@ flag_is_no_word history Race = refl
 flag_is_no_word history Gen = refl
 flag_is_no_word history Compare = refl
 flag_is_no_word history Check = refl
+flag_is_no_word history Copy = refl
 flag_is_no_word dump Serial = refl
 flag_is_no_word dump Race = refl
 flag_is_no_word dump Gen = refl
 flag_is_no_word dump Compare = refl
 flag_is_no_word dump Check = refl
+flag_is_no_word dump Copy = refl
 flag_is_no_word json Serial = refl
 flag_is_no_word json Race = refl
 flag_is_no_word json Gen = refl
 flag_is_no_word json Compare = refl
 flag_is_no_word json Check = refl
+flag_is_no_word json Copy = refl
 
 dashes_are_no_word : (k : Mode) → bytes_eq (codes "--") (mode_word k) ≡ false
 dashes_are_no_word Serial = refl
@@ -260,6 +264,7 @@ dashes_are_no_word Race = refl
 dashes_are_no_word Gen = refl
 dashes_are_no_word Compare = refl
 dashes_are_no_word Check = refl
+dashes_are_no_word Copy = refl
 
 -- a word that is none of the option's, before these
 passed_over : (f : Flag) (word : Text) (words : List Text) → is_flag f word ≡ false → stands (flag_word f) words ≡ stands (flag_word f) (word ∷ words)
@@ -276,6 +281,7 @@ module _ (p : ValueParser) (accepted : (text : Text) → accepts false p text �
   good Gen = accepted (codes "gen")
   good Compare = accepted (codes "compare")
   good Check = accepted (codes "check")
+  good Copy = accepted (codes "copy")
 
   read_last : {rows : List Row} {seen : Flag → Bool} {m : Mode} → AreRows p rows seen (Some m) → ReadsWords p (fold with_default rows (rules p)) (flags_by seen []) (modes_by (is_word_of m) [])
   read_last {rows} {seen} {m} are = record {
@@ -289,6 +295,7 @@ module _ (p : ValueParser) (accepted : (text : Text) → accepts false p text �
       named Gen = refl
       named Compare = refl
       named Check = refl
+      named Copy = refl
 
   no_words : MeetsAll p []
   unfolding rest_fault walk_fault rows_left

@@ -4,7 +4,7 @@ use Rattle.std.specs.List.{list_all, list_any, before_first, after_first}
 use Rattle.map_report.specs.declared.record.Options.{Options}
 use Rattle.run_words.specs.declared.words.Asked.{Asked}
 use Rattle.run_words.specs.declared.words.Mode.{Mode}
-use Rattle.run_words.specs.declared.words.Mode.TheVariants.{Serial, Race, Gen, Compare, Check}
+use Rattle.run_words.specs.declared.words.Mode.TheVariants.{Serial, Race, Gen, Compare, Check, Copy}
 
 -- the word of a mode
 abbrev pub mode_word : Mode → List ℕ
@@ -13,11 +13,12 @@ mode_word Race = codes "race"
 mode_word Gen = codes "gen"
 mode_word Compare = codes "compare"
 mode_word Check = codes "check"
+mode_word Copy = codes "copy"
 
 abbrev pub is_mode : List ℕ → Bool
 is_mode word =
     bytes_eq word (mode_word Serial) || bytes_eq word (mode_word Race) || bytes_eq word (mode_word Gen) || bytes_eq word (mode_word Compare)
-    || bytes_eq word (mode_word Check)
+    || bytes_eq word (mode_word Check) || bytes_eq word (mode_word Copy)
 
 -- the words of the options
 abbrev pub option_words : List (List ℕ)
@@ -63,12 +64,14 @@ mode_of (name ∷ words) =
     else if stands (mode_word Gen) words then Gen
     else if stands (mode_word Compare) words then Compare
     else if stands (mode_word Check) words then Check
+    else if stands (mode_word Copy) words then Copy
     else Serial
 
--- no option may stand in the modes `compare` and `check`, and any in the others
+-- In the modes `compare` and `check` no option may stand, in mode `copy` any but `--json`, and in the others any.
 abbrev pub may_stand : Mode → Options → Bool
 may_stand Compare options = not (options.history || options.dump || options.json)
 may_stand Check options = not (options.history || options.dump || options.json)
+may_stand Copy options = not options.json
 may_stand Serial options = true
 may_stand Race options = true
 may_stand Gen options = true

@@ -23,6 +23,8 @@ pub enum Mode {
     Compare,
     /// None: a script and a report are read, and it is printed whether the report is that of a run of the script.
     Check,
+    /// One map is copied into another while calls go on: those of a race, beside whose last phase CPU 0 copies.
+    Copy,
 }
 
 /// What the command words ask for.
@@ -41,7 +43,7 @@ pub enum WordsStop {
     NoMemory,
 }
 
-static MODES: [&str; 5] = ["serial", "race", "gen", "compare", "check"];
+static MODES: [&str; 6] = ["serial", "race", "gen", "compare", "check", "copy"];
 
 /// An option that is given or not.
 fn flag<'a>(alloc: Global, name: &'a str) -> Arg<'a>
@@ -77,9 +79,9 @@ fn matches_of<'a>(alloc: Global, words: &'a [String]) -> Result<ArgMatches<'a>, 
     command.try_get_matches_from(words)
 }
 
-/// What the command words ask for: the program's name, which is not looked at, then `serial`, `race`, `gen`, `compare` or
-/// `check` once and each of `--history`, `--dump` and `--json` at most once, in any order. One `--` may stand, after which no
-/// option follows. With `compare` and with `check` no option may stand.
+/// What the command words ask for: the program's name, which is not looked at, then `serial`, `race`, `gen`, `compare`,
+/// `check` or `copy` once and each of `--history`, `--dump` and `--json` at most once, in any order. One `--` may stand, after
+/// which no option follows. With `compare` and with `check` no option may stand, and with `copy` not `--json`.
 pub fn asked_of(alloc: Global, words: &[String]) -> Result<Asked, WordsStop>
     ensures taken { IfOk result (λ asked. IsTrue (are_words (map string_bytes words.now))
         × (asked.options ≡ options_of (map string_bytes words.now))
@@ -108,6 +110,7 @@ fn read_of(alloc: Global, words: &[String]) -> Result<Asked, WordsStop>
                 Some("gen") => Mode::Gen,
                 Some("compare") => Mode::Compare,
                 Some("check") => Mode::Check,
+                Some("copy") => Mode::Copy,
                 _ => Mode::Serial,
             },
             options: Options {
@@ -141,6 +144,7 @@ fn may_stand(mode: Mode, options: Options) -> bool
 {
     match mode {
         Mode::Compare | Mode::Check => !(options.history || options.dump || options.json),
+        Mode::Copy => !options.json,
         Mode::Serial | Mode::Race | Mode::Gen => true,
     }
 }

@@ -108,9 +108,9 @@ module _ (script : Script) (read : IsReadAs forms.Generator script) where
   pub calls_read : (calls : List Call) → calls ≡ calls_generated script.shape script.spec → read_as forms.Calls (canonical (listing calls)) ≡ Ok (listing calls)
   calls_read calls are =
       let fit = subst (AreCalls script.version script.shape 0 0) (sym are) (calls_fit script given) in
-      call_script_read (listing calls) record { numbers = given.numbers; created = given.created; calls = fit; phases = phases calls; no_spec = refl }
+      call_script_read (listing calls) record { numbers = given.numbers; created = given.created; calls = fit; phases = phases calls; no_spec = refl; no_target = refl }
 
   pub well_formed : (calls : List Call) (cuts : List ℕ) → calls ≡ calls_generated script.shape script.spec → cuts ≡ [] → IsWellFormed (script_of script.version script.attr script.shape calls cuts script.spec)
   well_formed calls cuts are none =
       let is = IsWellFormed-read_as forms.Calls (canonical (listing calls)) (listing calls) (calls_read calls are) in
-      record { created = is.created; shape = is.shape; calls = is.calls; few = is.few; room = is.room; phases = subst (HasPhases script.version (length calls)) (sym none) is.phases }
+      record { created = is.created; shape = is.shape; calls = is.calls; few = is.few; room = is.room; phases = subst (HasPhases script.version (length calls)) (sym none) is.phases; target = tt }

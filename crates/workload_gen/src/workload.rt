@@ -41,6 +41,7 @@ pub fn generate(alloc: Global, script: &Script) -> Result<Script, NoMemory>
         calls: List::of(calls),
         cuts: List::of(Vec::new(alloc)),
         spec: script.spec,
+        target: None,
     })
 }
 

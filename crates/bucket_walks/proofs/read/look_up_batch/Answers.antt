@@ -2,6 +2,7 @@ use Rattle.std.proofs.Common.{false, refl, subst, Option, Ok}
 use Rattle.map_types.proofs.CreationLemmas.{bounds_of_shape}
 use Rattle.bucket_walks.specs.declared.read.Planned.{Planned}
 use Rattle.bucket_walks.specs.Plans.{Plans}
+use Rattle.bucket_walks.proofs.Paged.{page_read}
 use Rattle.bucket_walks.proofs.Ends.{refused_read, none_to_read, called_read}
 use Rattle.bucket_walks.proofs.read.look_up_batch.Goals as goal
 
@@ -20,3 +21,8 @@ pub returns-in-Ok-Some-clause-answers : goal.returns-in-Ok-Some-clause-answers
 returns-in-Ok-Some-clause-answers g c =
     let plans = subst (λ (p : Option Planned). Plans c.shape-shape.result.now c.args.request.count c.args.request.start c.args.request.flags (Ok p)) c.in-Ok-Some.field-0-is c.in-Ok-Some.ensures in
     called_read c.args.request.count c.args.request.start c.args.request.flags c.requires.can c.shape-shape.result.now c.in-Ok-Some.planned c.read_out.result c.shape-shape.ensures plans refl c.read_from-next.ensures c.read_out.ensures
+
+pub returns-in-Ok-Some-clause-page : goal.returns-in-Ok-Some-clause-page
+returns-in-Ok-Some-clause-page g c =
+    let plans = subst (λ (p : Option Planned). Plans c.shape-shape.result.now c.args.request.count c.args.request.start c.args.request.flags (Ok p)) c.in-Ok-Some.field-0-is c.in-Ok-Some.ensures in
+    page_read c.args.request.count c.args.request.start c.args.request.flags c.shape-shape.result.now c.in-Ok-Some.planned c.read_out.result c.shape-shape.ensures plans refl c.read_from-next.ensures c.read_out.ensures

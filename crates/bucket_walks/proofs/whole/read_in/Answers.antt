@@ -1,7 +1,8 @@
-use Rattle.std.proofs.Common.{false, inr, refl}
+use Rattle.std.proofs.Common.{◌-◌, false, inr, length, refl}
 use Rattle.place_words.specs.declared.bucket_part.BucketPart.TheVariants.{Walk}
 use Rattle.place_table.proofs.PartsMade.{made_part}
 use Rattle.bucket_walks.specs.BatchReads.{walked_by}
+use Rattle.bucket_walks.proofs.Paged.{fits_there}
 use Rattle.bucket_walks.proofs.Turn.{may_give, looks}
 use Rattle.bucket_walks.proofs.Wholes.{walk_turn_told, reads_into}
 use Rattle.bucket_walks.proofs.whole.read_in.Goals as goal
@@ -25,3 +26,4 @@ returns g c =
     reads_into shape c.cpu_of-cpu.result room chain.bodies c.read_whole-whole.result c.left-room.ensures.value
     (looks chain c.enter_bucket-chain.ensures.inside (Walk false room walked) (inr (inr (room, walked, refl))) turn c.enter_bucket-chain.ensures.no_lock c.enter_bucket-chain.ensures.took c.ok.result (made_part _ c.walk_part-part.result c.ok.ensures.value c.walk_part-part.ensures) c.give.ensures)
     c.read_whole-whole.ensures
+    (fits_there c.enter_bucket-chain.ensures.inside shape c.cpu_of-cpu.result (c.args.out.now.limit - length c.args.out.now.pairs) c.shape-shape.ensures c.cpu_of-cpu.ensures.value)

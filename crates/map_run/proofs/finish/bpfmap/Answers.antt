@@ -15,7 +15,7 @@ returns-in-Ok-Run-clause-finish g c =
     let words = map string_bytes c.args.words.now in
     subst (λ sink. Finishes IsCopyOf (HasCause RanAs IsSaid (map string_bytes c.args.words.now) (g.S.Source.left c.args.source.now) (g.S.Source.left c.begin.new.source) (Rose (g.S.Source.faults c.args.source.now) (g.S.Source.faults c.begin.new.source))) (g.K.Sink.written sink) (g.K.Sink.written c.end.new.sink) (Rose (g.K.Sink.faults sink) (g.K.Sink.faults c.end.new.sink)) c.end.result)
     (c.in-Ok-Run.ensures.unwritten refl)
-    (ends_run IsCopyOf RanAs IsSaid words (subst (IsTask words (g.S.Source.left c.args.source.now) (g.S.Source.left c.begin.new.source)) c.in-Ok-Run.field-0-is c.in-Ok-Run.ensures.task) c.run_in-ran.ensures.ran c.run_in-ran.ensures.closed c.end.ensures)
+    (ends_run IsCopyOf RanAs IsSaid words (subst (IsTask words (g.S.Source.left c.args.source.now) (g.S.Source.left c.begin.new.source)) c.in-Ok-Run.field-0-is c.in-Ok-Run.ensures.task) c.run_in-ran.ensures.ran c.run_in-ran.ensures.closed c.run_in-ran.ensures.copied c.end.ensures)
 
 pub returns-in-Ok-Run-clause-status : goal.returns-in-Ok-Run-clause-status
 returns-in-Ok-Run-clause-status g c =
@@ -32,6 +32,9 @@ returns-in-Ok-Judge-clause-finish g c =
 pub returns-in-Ok-Judge-clause-status : goal.returns-in-Ok-Judge-clause-status
 returns-in-Ok-Judge-clause-status g c =
     status_of_cause RanAs IsSaid (map string_bytes c.args.words.now) (g.S.Source.left c.args.source.now) (returns-in-Ok-Judge-clause-finish g c)
+
+pub returns-in-Err-clause-finish : goal.returns-in-Err-clause-finish
+returns-in-Err-clause-finish g c = ends_early IsCopyOf RanAs IsSaid (map string_bytes c.args.words.now) c.in-Err.ensures.early
 
 pub returns-in-Err-clause-status : goal.returns-in-Err-clause-status
 returns-in-Err-clause-status g c =

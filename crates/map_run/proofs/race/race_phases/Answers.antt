@@ -1,4 +1,4 @@
-use Rattle.std.proofs.Common.{◌≡◌, ◌+◌, suc, length, subst, arith}
+use Rattle.std.proofs.Common.{◌≡◌, ◌+◌, suc, subst, arith}
 use Rattle.map_batch.specs.Calls.{table_of}
 use Rattle.run_records.specs.Races.{HaveComeTo}
 use Rattle.map_run.proofs.race.race_phases.Goals as goal
@@ -11,4 +11,4 @@ loop-phase-preserved g c =
 pub returns : goal.returns
 returns g c =
     subst (λ k. HaveComeTo (table_of c.args.map.now) c.args.script.now k c.loop-phase.pass c.loop-phase.told.replies.items c.loop-phase.told.starts.items c.loop-phase.told.pieces.items)
-    (let end : c.loop-phase.phase ≡ suc (length c.args.script.now.cuts) = omega arith in end) c.loop-phase.invariant
+    (let end : c.loop-phase.phase ≡ c.args.phases = omega arith in end) c.loop-phase.invariant

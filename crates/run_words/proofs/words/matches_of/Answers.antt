@@ -9,7 +9,7 @@ use Rattle.run_words.proofs.words.matches_of.Goals as goal
 pub returns : goal.returns
 returns c =
     let given = c.value_parser-mode.ensures.given in
-    let listed : map (λ s. s.now) c.as_slice.result.now ≡ codes "serial" ∷ codes "race" ∷ codes "gen" ∷ codes "compare" ∷ codes "check" ∷ [] = search rules in
+    let listed : map (λ s. s.now) c.as_slice.result.now ≡ codes "serial" ∷ codes "race" ∷ codes "gen" ∷ codes "compare" ∷ codes "check" ∷ codes "copy" ∷ [] = search rules in
     let accepted : (text : Text) → accepts false given.0 text ≡ is_mode text = accepts_modes given.0 c.as_slice.result given.2 listed in
     let mode_is : rule_of c.value_parser-mode.result ≡ mode_rule given.0 = search rules in
     let bare_is : app_of c.disable_version_flag.result ≡ record { top = bare_shape; subs = [] } = search rules in

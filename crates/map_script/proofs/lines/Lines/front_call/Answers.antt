@@ -1,7 +1,7 @@
 use Rattle.std.proofs.Common.{◌≡◌, ◌+◌, ◌≤◌, ◌<◌, count_by, subst, arith}
 use Rattle.map_script.specs.Grammar.{reply_bytes}
 use Rattle.map_script.specs.Lines.{is_line_feed, lines_from, end_from}
-use Rattle.map_script.specs.Plain.{FirstIs}
+use Rattle.map_script.specs.Plain.{FirstAt}
 use Rattle.map_script.specs.Reading.{call_within}
 use Rattle.map_script.specs.Unread.{Unread}
 use Rattle.map_script.proofs.FrontLemmas.{first_call, first_feed}
@@ -24,7 +24,7 @@ returns-clause-call c =
     let reply = c.reply_bytes.ensures in
     let within = c.if-room-reply_bytes-gt-MAX_ROOM.false in
     let fits : c.args.room + reply_bytes shape call.verb ≤ 67108864 = omega arith in
-    λ version. subst (λ (seen : Unread). FirstIs (call_within version shape c.args.count c.args.room) seen.lines call (lines_from (number + 1) rest)) c.self.view_is
+    λ version. subst (λ (seen : Unread). FirstAt seen.number (call_within version shape c.args.count c.args.room) seen.lines call (lines_from (number + 1) rest)) c.self.view_is
     (first_call version shape c.args.count c.args.room number text rest call (c.in_ok-call.ensures version) few fits)
 
 pub returns-clause-end : goal.returns-clause-end

@@ -6,6 +6,7 @@ use Rattle.map_script.specs.Lines.{is_line_feed, lines_from}
 use Rattle.map_script.specs.Pieces.{Reader, ReadsOn, read_behind, StandsFor}
 use Rattle.map_script.specs.Reading.{read_as, IsReading}
 use Rattle.map_script.proofs.PieceLemmas.{finished, finished_refused, fails_on}
+use Rattle.map_script.proofs.TargetTold.{target-reading}
 use Rattle.map_script.proofs.WellFormedLemmas.{IsWellFormed-reading}
 use Rattle.map_script.proofs.pieces.ScriptReader.finish.Goals as goal
 
@@ -57,3 +58,9 @@ returns-clause-well_formed c = λ form bytes stands. IsWellFormed-reading form b
 
 pub returns-in_err-last-clause-well_formed : goal.returns-in_err-last-clause-well_formed
 returns-in_err-last-clause-well_formed c = λ form bytes stands. IsWellFormed-reading form bytes c.from_residual.result (returns-in_err-last-clause-exact c form bytes stands)
+
+pub returns-clause-target : goal.returns-clause-target
+returns-clause-target c = λ form bytes stands. target-reading form bytes c.ended.result (returns-clause-exact c form bytes stands)
+
+pub returns-in_err-last-clause-target : goal.returns-in_err-last-clause-target
+returns-in_err-last-clause-target c = λ form bytes stands. target-reading form bytes c.from_residual.result (returns-in_err-last-clause-exact c form bytes stands)

@@ -1,0 +1,2 @@
+pub mod CopyText
+pub mod Rows
