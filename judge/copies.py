@@ -147,28 +147,41 @@ def judge_copy(text, report_text):
     counts = judge(*source, is_race=True)
     puts = judge(*target)
     need(len(read_report(target[1], int(puts["calls"]), 1).strands) == 1, "the strands of the target")
-    counts["reads"] = len(source[0].splitlines()) - len(read_copy(text).text.splitlines())
+    calls = len(read_copy(text).source.calls)
+    counts["reads"], counts["calls"] = counts["calls"] - calls, calls
+    counts["turns among the reads"] = turns_among(read_report(source[1], calls + counts["reads"], 2), calls)
     counts["puts"], counts["evictions of the target"] = puts["calls"], puts["evictions"]
     counts["stopped"] = "\nstop -\n" not in report_text
     return counts
 
 
+def turns_among(report, calls):
+    """How many turns of other CPUs came between the first turn of the reads and the last."""
+    entries = [entry for entries in report.histories.values() for entry in entries]
+    own = [entry.ticket for entry in entries if entry.call > calls]
+    return sum(min(own) < entry.ticket < max(own) for entry in entries if entry.call <= calls)
+
+
 def random_copy(seed, calls):
-    """A script of a copy of a small map into another one, beside calls of other CPUs."""
+    """A script of a copy of a small map into another one, beside calls of other CPUs: none, or some of these calls, or all."""
     draw = random.Random(seed)
     variants = [(kind, flags) for kind in KINDS for flags in ((0, NO_COMMON_LRU) if kind.startswith("lru_") else (0,))]
     kind, flags = variants[seed % len(variants)]
     cpus = (1, 2, 4, 16)[seed // len(variants) % 4]
-    version, head, *lines = random_script(draw, kind, flags, cpus, calls, walks=True, phases=True).splitlines()
-    last = max((at for at, line in enumerate(lines) if line == "phase"), default=-1) + 1
-    if cpus == 1:
-        lines[last:] = []
-    else:
-        lines[last:] = [f"{draw.randrange(1, cpus)} {line.partition(' ')[2]}" for line in lines[last:]]
-    alike = [(kind, flags) for kind, flags in variants if ("percpu" in kind) == ("percpu" in head)]
-    kind, flags = draw.choice(alike)
+    entries = draw.choice((1, 2, 5, 20, 150, 700))
+    version, head, *lines = random_script(draw, kind, flags, cpus, calls, True, True, entries).splitlines()
+    lines = [line for line in lines if line != "phase"]
+    cut = len(lines) if cpus == 1 else draw.choice((0, calls // 4, calls // 2, len(lines)))
+    lines[cut:] = [f"{draw.randrange(1, cpus)} {line.partition(' ')[2]}" for line in lines[cut:]]
+    for at in sorted((draw.randrange(cut + 1) for _ in range(draw.choice((0, 1, 3)))), reverse=True):
+        lines.insert(at, "phase")
+        cut += 1
+    # (where the cut is at the beginning all calls are in the only phase)
+    if cut:
+        lines.insert(cut, "phase")
     made = read_script(f"{version}\n{head}\n").made
-    entries = draw.choice((1, max(1, made.entries // 2), made.entries, 2 * made.entries))
+    kind, flags = draw.choice([(kind, flags) for kind, flags in variants if ("percpu" in kind) == made.is_per_cpu])
+    room = draw.choice((1, max(1, entries // 4), max(1, entries // 2), entries, 2 * entries))
     count = draw.choice((1, 1, 2, 5, made.elements, 65536))
-    target = f"target {kind} max {entries} count {count} flags {flags} seed {draw.choice((0, made.seed, 7))}"
+    target = f"target {kind} max {room} count {count} flags {flags} seed {draw.choice((0, made.seed, 7))}"
     return "\n".join([version, head, target, *lines]) + "\n"

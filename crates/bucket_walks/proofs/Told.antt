@@ -1,17 +1,21 @@
 -- Turns one after another: what they are told as, what looks at buckets leave of bits and spares, and the looks of two parts of a
 -- walk.
-use Rattle.std.proofs.Common.{◌≡◌, ℕ, cond, true, false, List, [], ◌∷◌, ◌++◌, map, ⊎_elim, sym, refl, ap, ◌∙◌, subst, Option}
-use Rattle.std.specs.Prelude.{Bool, IsFalse, All, flat_map}
+use Rattle.std.proofs.Common.{◌≡◌, ℕ, cond, true, false, List, [], ◌∷◌, ◌++◌, map, ⊎_elim, sym, refl, ap, ◌∙◌, subst, Option, None}
+use Rattle.std.specs.Prelude.{Bool, IsFalse, All, flat_map, unwrap_or}
 use Rattle.std.proofs.lemmas.List.Elements.{All-nil, All-cons, All-append}
 use Rattle.map_types.specs.declared.attr.Shape.{Shape}
+use Rattle.map_types.specs.declared.kind.DomainId.{DomainId}
 use Rattle.map_types.specs.Kind.{is_lru}
 use Rattle.place_words.specs.declared.bucket_part.BucketPart.TheVariants.{Next, First, Walk}
 use Rattle.place_words.specs.declared.bucket_part.NextFound.{NextFound}
 use Rattle.place_words.specs.declared.bucket_part.Walked.{Walked}
+use Rattle.place_words.specs.declared.bucket_part.Walked.TheVariants.{Over, Taken}
 use Rattle.place_words.specs.declared.history.Part.{Part}
 use Rattle.place_words.specs.declared.history.Part.TheVariants as parts
 use Rattle.place_words.specs.PlainTraces.{spare_after, spare_after_part}
 use Rattle.place_words.specs.Histories.{marks}
+use Rattle.place_words.specs.Interleaving.{bucket_of_lock, leave_steps, part_steps}
+use Rattle.place_words.specs.Moves.{taken_from_bucket}
 use Rattle.place_words.specs.SerialOrder.{probes_in}
 use Rattle.place_words.specs.Turns.{Turn, turns_of}
 use Rattle.place_table.specs.declared.view.Turned.{Turned}
@@ -60,6 +64,20 @@ marks_none shape part is = by_look (λ (p : Part). marks shape p ≡ []) (λ _. 
 
 pub probes_none : (part : Part) → IsLook part → probes_in part ≡ []
 probes_none part is = by_look (λ (p : Part). probes_in p ≡ []) (λ _. refl) (λ _ _. refl) (λ _ _. refl) part is
+
+-- and changes no owner
+none_leaves : (lru : Bool) (cpu bucket : ℕ) → leave_steps lru cpu bucket [] ≡ []
+none_leaves true cpu bucket = refl
+none_leaves false cpu bucket = refl
+
+taken_by_none : (room : ℕ) (walked : Walked) → taken_from_bucket (Walk false room walked) ≡ []
+taken_by_none room (Over n) = refl
+taken_by_none room (Taken all) = refl
+
+pub steps_none : (shape : Shape) (lock : DomainId) (cpu : ℕ) (part : Part) → IsLook part → part_steps shape cpu lock None part ≡ []
+steps_none shape lock cpu part is =
+    by_look (λ (p : Part). part_steps shape cpu lock None p ≡ []) (λ _. refl) (λ _ _. refl)
+    (λ room walked. ap (leave_steps (is_lru shape.kind) cpu (unwrap_or (bucket_of_lock lock) 0)) (taken_by_none room walked) ∙ none_leaves (is_lru shape.kind) cpu (unwrap_or (bucket_of_lock lock) 0)) part is
 
 bits_of_look : (shape : Shape) (part : Part) → IsLook part → bits_of_part shape part ≡ []
 bits_of_look shape part is =

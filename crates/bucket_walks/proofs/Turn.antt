@@ -8,6 +8,7 @@ use Rattle.map_types.specs.declared.kind.DomainId.TheVariants.{Bucket, Local, Gl
 use Rattle.map_types.specs.ElementLists.{times}
 use Rattle.percpu_values.specs.BodyList.{BodyList}
 use Rattle.bucket_chain.specs.Turns.{IsTurn}
+use Rattle.owner_words.specs.Owners.{owner_by}
 use Rattle.place_words.specs.declared.bucket_part.BucketPart.{BucketPart}
 use Rattle.place_words.specs.declared.history.Part.{Part}
 use Rattle.place_words.specs.declared.history.Part.TheVariants as parts
@@ -23,6 +24,9 @@ use Rattle.place_table.specs.declared.view.Hold.{Hold}
 use Rattle.place_table.specs.declared.view.Notes.{Notes}
 use Rattle.place_table.specs.declared.view.Turned.{Turned}
 use Rattle.place_words.specs.declared.step.Lists.{Lists}
+use Rattle.place_words.specs.declared.step.Step.{Step}
+use Rattle.place_words.specs.declared.visits.Try.{Try}
+use Rattle.place_words.specs.SerialOrder.{probes_in}
 use Rattle.place_table.specs.Calls.{CouldBe, IsTold, TellsTurn}
 use Rattle.place_table.specs.Contents.{content_told, FitsLock}
 use Rattle.place_table.specs.Flushes.{flushes}
@@ -37,11 +41,12 @@ use Rattle.place_table.proofs.Ranges.{bucket_there}
 use Rattle.place_table.proofs.TakeToGive.{none_passed}
 use Rattle.place_table.proofs.Telling.{tells_turn}
 use Rattle.place_table.proofs.Going.{goes_on, goes_took, goes_gave, goes_gave_some, given_turn, same_head, learns_after, learns_took, learns_gave}
+use Rattle.place_table.proofs.Nesting.{probes_nothing}
 use Rattle.place_table.proofs.StoredHashes.{none_stored}
 use Rattle.place_table.proofs.TurnClears.{same_clears}
 use Rattle.place_table.proofs.Worlds.{among_first}
 use Rattle.bucket_walks.specs.Looks.{IsLook, LooksInto}
-use Rattle.bucket_walks.proofs.Told.{marks_none, probes_none}
+use Rattle.bucket_walks.proofs.Told.{marks_none, probes_none, steps_none}
 
 -- Giving back
 
@@ -56,6 +61,9 @@ none_noted shape v hold part is = record {
   held = subst (All (ProbeFits [])) (sym (probes_none (parts.Bucket part) is)) (All-nil (ProbeFits []));
   came = All-nil (CameToHand v hold no_notes);
 }
+
+none_probed : {probe : Try} → [] ≡ probe ∷ [] → ⊥
+none_probed {probe} is = cc
 
 not_local : (bucket c : ℕ) → Bucket bucket ≡ Local c → ⊥
 not_local bucket c e = cc
@@ -92,7 +100,12 @@ module _ {t : TableView} {bucket : ℕ} {q : PassView} (chain : BodyList) (b : I
           rows_kept = λ _ j e h n other _ _ _ _ is_row. absurd (none_stored t.shape (Bucket bucket) (contents.Bucket chain) e n tt b.sized is_row);
           gone = λ _ c e h is_local _ _. absurd (not_local bucket c (sym named ∙ is_local));
         };
+        inside = probes_nothing t.shape part [] (probes_none (parts.Bucket part) is);
         notes_fit = none_noted t.shape q.view b.hold part is;
+        owners_fit = λ _. record {
+          changes = λ e owner. ap (λ (steps : List Step). owner_by steps e owner) (sym (steps_none t.shape (lock_named t.shape b.hold.lock) q.cpu (parts.Bucket part) is));
+          probed = λ e holder same. absurd (none_probed (sym (probes_none (parts.Bucket part) is) ∙ ap probes_in same));
+        };
       }
 
   pub may_give : (found : Option Part) → IfSome found (λ x. x ≡ parts.Bucket part) → MayGiveBack t (Bucket bucket) q (contents.Bucket chain) found

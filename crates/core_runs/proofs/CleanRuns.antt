@@ -138,7 +138,7 @@ known shape bounds PercpuHash c e is = absurd (true≢false (sym (ap is_some is)
 known shape bounds LruHash c e is = absurd (true≢false (sym (ap is_some is)))
 known shape bounds LruPercpuHash c e is = absurd (true≢false (sym (ap is_some is)))
 
-first_known : (shape : Shape) → HasBounds shape → (c e : ℕ) → slice_get (first_spares shape shape.kind) c ≡ Some e → (e < shape.elements) × ((opening shape).owner e ≡ owners.Hand c)
+pub first_known : (shape : Shape) → HasBounds shape → (c e : ℕ) → slice_get (first_spares shape shape.kind) c ≡ Some e → (e < shape.elements) × ((opening shape).owner e ≡ owners.Hand c)
 unfolding opening
 first_known shape bounds c e is =
     let one = known shape bounds shape.kind c e is in

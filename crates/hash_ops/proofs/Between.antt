@@ -1,7 +1,7 @@
 -- A call from where it holds the bucket of its key to where it has given it back: the turns of other locks between, and what all of
 -- them leave.
 use Rattle.std.proofs.Common.{◌≡◌, ℕ, ◌<◌, cond, true, false, List, [], ◌∷◌, ◌++◌, map, inr, sym, refl, ap, ◌∙◌, subst, arith, ◌≤◌, Option, None, Some}
-use Rattle.std.specs.Prelude.{All}
+use Rattle.std.specs.Prelude.{All, IsTrue}
 use Rattle.std.proofs.lemmas.List.{map-append}
 use Rattle.std.proofs.lemmas.List.Elements.{All-nil, All-cons, All-append}
 use Rattle.map_types.specs.declared.call.Verb.{Verb}
@@ -16,12 +16,14 @@ use Rattle.place_words.specs.declared.bucket_part.BucketPart.TheVariants.{Update
 use Rattle.place_words.specs.declared.bucket_part.Put.{Put}
 use Rattle.place_words.specs.declared.history.Part.{Part}
 use Rattle.place_words.specs.Locks.{lock_named, lock_number, rank_of}
+use Rattle.place_words.specs.State.{is_bucket}
 use Rattle.place_words.specs.Traces.{Turn, IsPlainTrace, LooksFor, reply_of_put, spare_after}
 use Rattle.place_words.specs.PlainTraces.{spare_after_put}
 use Rattle.place_words.specs.Turns.{on_lock}
 use Rattle.place_words.proofs.LockLemmas.{named_by_number}
 use Rattle.place_words.specs.declared.step.Lists.{Lists}
 use Rattle.place_table.specs.declared.view.InHand.{InHand}
+use Rattle.place_table.specs.declared.view.OwnerSeen.{OwnerSeen}
 use Rattle.place_table.specs.declared.view.Turned.{Turned}
 use Rattle.place_table.specs.declared.view.View.{View}
 use Rattle.place_table.specs.Calls.{bits_of_turns}
@@ -45,7 +47,7 @@ use Rattle.hash_ops.proofs.Under.{idle_same, told_more, no_bits, on_bucket}
 
 -- The bucket stays held
 
-module _ {t : TableView} {bucket : ℕ} {r : PassView} {bodies : List Stored} {now : Lists} {marked : List ℕ} (h : Holds t bucket r bodies now marked) where
+module _ {t : TableView} {bucket : ℕ} {r : PassView} {bodies : List Stored} {now : Lists} {marked : List ℕ} {changed : List OwnerSeen} (h : Holds t bucket r bodies now marked changed) where
   -- freelists may be taken there
   pub may_reach : CanReach t r
   may_reach = record {
@@ -53,10 +55,16 @@ module _ {t : TableView} {bucket : ℕ} {r : PassView} {bodies : List Stored} {n
     begun = h.begun;
     above = subst (IsAboveAll t.shape (rank_of (Freelist 0))) (sym h.held)
         (subst (λ (d : DomainId). rank_of d < rank_of (Freelist 0)) (sym (ap (lock_named t.shape) h.lock_is ∙ named_by_number t.shape (Bucket bucket) (bucket_there t.shape bucket h.there))) (let low : 3 < 4 = omega arith in low), tt);
+    inside = λ part. record {
+      outer = h.hold;
+      others = [];
+      held_are = h.held;
+      may_be = subst (λ (d : DomainId). IsTrue (is_bucket d)) (sym (ap (lock_named t.shape) h.lock_is ∙ named_by_number t.shape (Bucket bucket) (bucket_there t.shape bucket h.there))) refl;
+    };
   }
 
   -- where they were
-  pub holds_reached : (s : PassView) (steps : List Turned) → Reached t r s steps → Holds t bucket s bodies now marked
+  pub holds_reached : (s : PassView) (steps : List Turned) → Reached t r s steps → Holds t bucket s bodies now marked changed
   holds_reached s steps reached =
       let k : ℕ = lock_number t.shape (Bucket bucket) in
       let goes = reached.goes in
@@ -83,8 +91,8 @@ module _ {t : TableView} {bucket : ℕ} {r : PassView} {bodies : List Stored} {n
       }
 
   -- where a spare was handed out or kept
-  pub holds_spared : (s : PassView) → s ≡ with_spares r s.spares → Holds t bucket s bodies now marked
-  holds_spared s is = subst (λ (z : PassView). Holds t bucket z bodies now marked) (sym is) record {
+  pub holds_spared : (s : PassView) → s ≡ with_spares r s.spares → Holds t bucket s bodies now marked changed
+  holds_spared s is = subst (λ (z : PassView). Holds t bucket z bodies now marked changed) (sym is) record {
     of_table = h.of_table;
     begun = h.begun;
     there = h.there;

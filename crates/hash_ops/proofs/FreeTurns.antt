@@ -27,6 +27,7 @@ use Rattle.place_table.specs.declared.view.Notes.{Notes}
 use Rattle.place_table.specs.declared.view.Turned.{Turned}
 use Rattle.place_table.specs.Flushes.{flushes}
 use Rattle.place_table.specs.Known.{Learns}
+use Rattle.place_table.specs.Nested.{IsInside}
 use Rattle.place_table.specs.Passes.{PassView, TableView, IsPassOf, CanTake, TookLock, CanGive, Gave, Goes}
 use Rattle.place_table.specs.Rules.{IsAboveAll}
 use Rattle.place_table.specs.TurnNotes.{NotesFit, WasRead, ProbeFits, CameToHand, clears_among, clears_noted}
@@ -160,6 +161,7 @@ reach_on t p q steps can reached = record {
   of_table = goes_of_table t p q steps [] reached.goes can.of_table;
   begun = goes_begun p q steps [] reached.goes can.begun;
   above = subst (IsAboveAll t.shape (rank_of (Freelist 0))) (sym reached.held) can.above;
+  inside = λ part. subst (IsInside t.shape (parts.Free part)) (sym reached.held) (can.inside part);
 }
 
 -- Turns of freelists under a bucket's lock leave what lies there, and are turns of other locks.

@@ -1,5 +1,5 @@
 -- An element that leaves its bucket for the freelist of the CPU, from where it is taken out to the call's answer.
-use Rattle.std.proofs.Common.{◌≡◌, ℕ, false, List, [], ◌∷◌, ap, ◌∙◌}
+use Rattle.std.proofs.Common.{◌≡◌, ℕ, false, List, [], ◌∷◌, sym, ap, ◌∙◌, subst}
 use Rattle.map_types.specs.declared.call.Verb.{Verb}
 use Rattle.map_types.specs.declared.kind.DomainId.TheVariants.{Bucket}
 use Rattle.map_types.specs.declared.reply.Reply.{Reply}
@@ -7,13 +7,17 @@ use Rattle.map_types.specs.Kind.{is_lru}
 use Rattle.map_types.specs.Stored.{Stored}
 use Rattle.place_words.specs.declared.free_part.FreePart.TheVariants as free_parts
 use Rattle.place_words.specs.declared.history.Part.{Part}
+use Rattle.place_words.specs.declared.owner.Owner.TheVariants as owners
+use Rattle.place_words.specs.Histories.{in_bucket}
+use Rattle.place_words.specs.Steps.{without_row}
 use Rattle.place_words.specs.Traces.{IsPlainTrace, on_freelist_of, spare_after}
 use Rattle.place_words.specs.Turns.{on_lock}
+use Rattle.place_table.specs.Contents.{lists_of}
 use Rattle.place_table.specs.InBucket.{InBucket}
 use Rattle.place_table.specs.Passes.{PassView, TableView}
 use Rattle.place_table.specs.Views.{is_in_hand_of, without_in_hand}
 use Rattle.place_table.proofs.Hands.{in_hand_more, hand_back}
-use Rattle.place_table.specs.BucketHeld.{HoldsWithout}
+use Rattle.place_table.specs.BucketHeld.{Holds, HoldsWithout}
 use Rattle.place_table.specs.declared.bucket_takes.TakenOut.{TakenOut}
 use Rattle.place_table.specs.BucketTurns.{GivenBack, HasOut}
 use Rattle.hash_ops.specs.Calls.{spare_element}
@@ -41,7 +45,7 @@ module _ {t : TableView} {bucket : ℕ} {q r : PassView} {bodies : List Stored} 
       at = w.at;
       present_is = w.present_is;
       left_is = w.left_is;
-      holds = holds_reached w.holds m (pushed.step ∷ []) pushed.reached;
+      holds = subst (λ (c : ℕ). Holds t bucket m w.bodies (without_row found.body.element (lists_of (in_bucket w.bodies))) [] (record { element = found.body.element; owner = owners.Hand c } ∷ [])) (sym pushed.reached.goes.cpu) (holds_reached w.holds m (pushed.step ∷ []) pushed.reached);
     }
 
     -- Once that is given back these two turns are those of the call.

@@ -1,8 +1,9 @@
 -- A turn with calls inside it: from its take and what lies under the lock to its give, and what is left of the pass then.
-use Rattle.std.proofs.Common.{◌≡◌, ℕ, cond, List, [], ◌∷◌, ◌++◌, sym, refl, ap, ◌∙◌, subst}
+use Rattle.std.proofs.Common.{◌≡◌, ℕ, cond, false, List, [], ◌∷◌, ◌++◌, sym, refl, ap, ◌∙◌, subst}
 use Rattle.std.specs.Prelude.{IsTrue}
 use Rattle.map_types.specs.declared.kind.DomainId.{DomainId}
 use Rattle.place_words.specs.declared.history.Part.{Part}
+use Rattle.map_types.specs.Kind.{is_lru}
 use Rattle.map_types.specs.ElementLists.{times}
 use Rattle.map_types.proofs.RowLemmas.{by_test}
 use Rattle.place_words.specs.Histories.{content, content_after, Allows, IsLegal}
@@ -17,12 +18,14 @@ use Rattle.place_table.specs.declared.view.Notes.{Notes}
 use Rattle.place_table.specs.declared.view.Turned.{Turned}
 use Rattle.place_table.specs.Contents.{content_told, lists_of, FitsLock}
 use Rattle.place_table.specs.Known.{Learns}
+use Rattle.place_table.specs.Nested.{IsInside}
 use Rattle.place_table.specs.Passes.{PassView, TableView, IsPassOf, HasBegun, TookLock, CanGive, Gave, Goes, Made, with_view, entry_of}
 use Rattle.place_table.specs.TurnNotes.{NotesFit}
 use Rattle.place_table.specs.Views.{no_notes, now_at, with_now, moved, learned, holds_below, notes_below, passed_on}
 use Rattle.place_table.proofs.Entries.{append_nil}
 use Rattle.place_table.proofs.Going.{AreElsewhere, given_turn, goes_on, goes_took, goes_gave, learns_turn, same_head}
 use Rattle.place_table.proofs.Hands.{with_lists}
+use Rattle.place_table.proofs.Worlds.{true_false}
 use Rattle.place_table.specs.StoredHashes.{stored_in}
 use Rattle.place_table.proofs.StoredHashes.{HasNoHashes, none_stored}
 
@@ -50,12 +53,13 @@ under_moved p q r hold now later notes then at k hand noted word left under is n
   notes_are = ap (λ (z : PassView). z.view.notes) after_is ∙ noted_is;
 }
 
--- A bucket or a freelist that was taken may be given back as something else: by a part that leads there, with the elements that
--- lie there now.
+-- On a map that doesn't evict, a bucket or a freelist that was taken may be given back as something else: by a part that leads there,
+-- with the elements that lie there now.
 pub can_give : (t : TableView) (lock : DomainId) (p q r : PassView) (here back : Content) (part : Part) (now : Lists) (notes : Notes) (took : TookLock t lock p q here) → HasNoHashes lock → IsUnder p r took.hold now notes
     → IsPassOf t r → HasBegun r → IsTrue (is_lock t.shape lock) → FitsLock t.shape lock back → Allows t.shape r.cpu part (content_told lock here) → content_told lock back ≡ content_after t.shape r.cpu part (content_told lock here)
-    → ((e : ℕ) → times e (lists_of (content_told lock back)).free ≡ times e now.free) → ((e : ℕ) → times e (rows (lists_of (content_told lock back))) ≡ times e (rows now)) → NotesFit t.shape r.view (with_lists now took.hold) part notes → CanGive t lock r back part
-can_give t lock p q r here back part now notes took no_hashes under of_table begun there fits allowed leads same_free same_rows notes_fit =
+    → ((e : ℕ) → times e (lists_of (content_told lock back)).free ≡ times e now.free) → ((e : ℕ) → times e (rows (lists_of (content_told lock back))) ≡ times e (rows now)) → NotesFit t.shape r.view (with_lists now took.hold) part notes → IsInside t.shape part p.view.held
+    → is_lru t.shape.kind ≡ false → CanGive t lock r back part
+can_give t lock p q r here back part now notes took no_hashes under of_table begun there fits allowed leads same_free same_rows notes_fit inside plain =
     let named : lock_named t.shape took.hold.lock ≡ lock = ap (lock_named t.shape) took.lock_is ∙ named_by_number t.shape lock there in
     let told_there : content_told lock here ≡ content t.shape (lock_named t.shape took.hold.lock) took.hold.log = took.told_is ∙ ap (λ (d : DomainId). content t.shape d took.hold.log) (sym named) in record {
       of_table = of_table;
@@ -78,7 +82,9 @@ can_give t lock p q r here back part now notes took no_hashes under of_table beg
         rows_kept = λ _ j e h n other _ _ _ _ is. absurd (none_stored t.shape lock back e n no_hashes fits (ap (λ (d : DomainId). stored_in (content_told d back) e) (sym named) ∙ is));
         gone = λ _ c e h _ was _. absurd (none_stored t.shape lock here e h no_hashes took.fits (ap (λ z. stored_in z e) told_there ∙ was));
       };
+      inside = inside;
       notes_fit = notes_fit;
+      owners_fit = λ lru. absurd (true_false (sym lru ∙ plain));
     }
 
 -- the hold that was given back is that of the take

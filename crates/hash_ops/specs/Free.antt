@@ -3,21 +3,25 @@ use Rattle.std.specs.Prelude.{◌≡◌, ◌<◌, ⊤, ℕ, true, false, List, [
 use Rattle.map_types.specs.declared.attr.Shape.{Shape}
 use Rattle.map_types.specs.declared.kind.DomainId.TheVariants.{Freelist}
 use Rattle.map_types.specs.Stored.{Stored, IsSized}
+use Rattle.place_words.specs.declared.free_part.FreePart.{FreePart}
 use Rattle.place_words.specs.declared.free_part.FreePart.TheVariants as turns
+use Rattle.place_words.specs.declared.history.Part.TheVariants as parts
 use Rattle.place_words.specs.Locks.{lock_number, rank_of}
 use Rattle.place_words.specs.Traces.{Turn, ring, found_empty, on_freelist_of, Pops}
 use Rattle.place_table.specs.declared.view.Turned.{Turned}
 use Rattle.place_table.specs.Known.{Learns}
+use Rattle.place_table.specs.Nested.{IsInside}
 use Rattle.place_table.specs.Passes.{PassView, TableView, IsPassOf, HasBegun, Goes}
 use Rattle.place_table.specs.Rules.{IsAboveAll}
 use Rattle.place_table.specs.Views.{is_among, is_in_hand_of, with_in_hand, without_in_hand}
 use Rattle.hash_ops.specs.Calls.{AreTold, turn_of, IsBy}
 
--- freelists may be taken: nothing that is held has their rank
+-- freelists may be taken: nothing that is held has their rank, and a bucket is held, inside whose turn those of freelists are made
 pub record CanReach (t : TableView) (p : PassView) : Type 0 where
   pub of_table : IsPassOf t p
   pub begun : HasBegun p
   pub above : IsAboveAll t.shape (rank_of (Freelist 0)) p.view.held
+  pub inside : (part : FreePart) → IsInside t.shape (parts.Free part) p.view.held
 
 -- turns of freelists of the map
 abbrev pub AreOnFreelists : Shape → List Turned → Type 0

@@ -32,12 +32,14 @@ use Rattle.place_table.specs.declared.view.OwnerSeen.{OwnerSeen}
 use Rattle.place_table.specs.declared.view.Turned.{Turned}
 use Rattle.place_table.specs.declared.view.View.{View}
 use Rattle.place_table.specs.Known.{BitTouch, Learns}
+use Rattle.place_table.specs.Nested.{IsLocalLast}
+use Rattle.place_table.specs.Owners.{change_in}
 use Rattle.place_table.specs.Passes.{PassView, TableView, IsPassOf, Cleared, SawBit, Goes, with_view}
 use Rattle.place_table.specs.Plays.{MayClear, HoldsLock, IsKnownHome}
 use Rattle.place_table.specs.TurnNotes.{HasOnlyHash}
 use Rattle.place_table.specs.Rules.{IsAboveAll}
 use Rattle.place_table.specs.StoredHashes.{stored_in}
-use Rattle.place_table.specs.Views.{is_among, is_in_hand_of, hold_at, cleared, bit_read, with_clear, with_bit_read, hold_with}
+use Rattle.place_table.specs.Views.{is_among, is_in_hand_of, hold_at, is_local, cleared, bit_read, with_clear, with_bit_read, hold_with}
 use Rattle.place_table.proofs.Entries.{append_nil}
 use Rattle.place_table.proofs.Going.{goes_on, goes_noted, goes_of_table, goes_begun, same_head, learns_on, learns_cleared, learns_bit_read}
 use Rattle.place_table.proofs.Hands.{in_hand_more, in_hand_more_else}
@@ -50,9 +52,9 @@ use Rattle.lru_lists.specs.declared.bits.Probed.TheVariants as answers
 use Rattle.lru_lists.specs.Probes.{seen_of, IsHeld}
 use Rattle.lru_ops.specs.declared.probing.Destination.{Destination}
 use Rattle.lru_ops.specs.declared.probing.Destination.TheVariants.{OwnFree, LocalFree, OwnHand}
-use Rattle.lru_ops.specs.Askings.{call_of, calls_noted, probe_of, probes_made, asked_by, asked_after, owners_with, owners_after, notes_after, came_with, came_after, held_after, taken_after, touch_by, AreEvicts, hash_in, Since, MayAsk, MayChase}
-use Rattle.lru_ops.specs.Evictions.{HoldsLists, HoldsFor, MayProbe, IsEvict, SawHolders, lists_with, freed_outside, held_with, taken_with, noted_with, CanChase, Chased}
-use Rattle.lru_ops.proofs.DoesOn.{does_nothing}
+use Rattle.lru_ops.specs.Askings.{call_of, calls_noted, probe_of, probes_made, asked_by, asked_after, owners_with, owners_after, notes_after, changed_with, changed_after, came_with, came_after, held_after, taken_after, touch_by, AreEvicts, hash_in, Since, MayAsk, MayChase}
+use Rattle.lru_ops.specs.Evictions.{AreFreed, HoldsLists, HoldsFor, MayProbe, IsEvict, SawHolders, lists_with, freed_outside, held_with, taken_with, noted_with, CanChase, Chased}
+use Rattle.lru_ops.proofs.DoesOn.{does_nothing, same_rest}
 use Rattle.lru_ops.proofs.Holders.{saw_on, saw_on_none, saw_none}
 
 -- Where a probe's element goes, lock by lock: on the lists of the lock of the walk, and under those around it
@@ -422,6 +424,10 @@ owners_more : (probes : List ProbeCall) (probe : ProbeCall) (owners : List Owner
 owners_more [] probe owners = refl
 owners_more (first ∷ probes) probe owners = owners_more probes probe (owners_with first.element first.probed owners)
 
+changed_more : (to : Destination) (probes : List ProbeCall) (probe : ProbeCall) (changed : List OwnerSeen) → changed_after to (probes ++ probe ∷ []) changed ≡ changed_with to probe.element probe.probed (changed_after to probes changed)
+changed_more to [] probe changed = refl
+changed_more to (first ∷ probes) probe changed = changed_more to probes probe (changed_with to first.element first.probed changed)
+
 held_more : (to : Destination) (probes : List ProbeCall) (probe : ProbeCall) (held : List Hold) → held_after to (probes ++ probe ∷ []) held ≡ held_with to probe.element probe.probed (held_after to probes held)
 held_more to [] probe held = refl
 held_more to (first ∷ probes) probe held = held_more to probes probe (held_with to first.element first.probed held)
@@ -456,7 +462,7 @@ one_more call asked =
     ∙ (map-append call_of (reverse asked) (asked_by call ∷ []) ∙ ap (λ (c : BitCall). map call_of (reverse asked) ++ c ∷ []) (call_is call))
 
 -- what a probe read is noted of the turn around it, and what came to the local lists of the turn around that
-noted_first : (to : Destination) (e : ℕ) (seen : Seen) (n : Notes) (below : List Notes) → noted_with to e seen (n ∷ below) ≡ record n { owners = owners_with e seen n.owners } ∷ came_with to e seen below
+noted_first : (to : Destination) (e : ℕ) (seen : Seen) (n : Notes) (below : List Notes) → noted_with to e seen (n ∷ below) ≡ record n { owners = owners_with e seen n.owners; changed = changed_with to e seen n.changed } ∷ came_with to e seen below
 noted_first OwnFree e Removed n below = refl
 noted_first LocalFree e Removed n below = refl
 noted_first OwnHand e Removed n below = refl
@@ -473,10 +479,39 @@ probed_more {t} {to} {p} hash bucket e h q seen named done =
     ∙ (ap (λ (entry : Entry). probes_made hash p.view.steps ++ filter_map (probe_of hash) (entry.part ∷ [])) done.is_evict.entry
     ∙ ap (λ (n : ℕ). probes_made hash p.view.steps ++ record { element = e; hash = n; probed = seen } ∷ []) named))
 
+-- where the walk's lock is that of the global lists, local ones are held around it
+own_not_global : {cpu : ℕ} → CpuLru cpu ≡ Global → ⊥
+own_not_global e = cc
+
+second_of : {lists first second : Hold} {outer rest : List Hold} → lists ∷ outer ≡ first ∷ second ∷ rest → outer ≡ second ∷ rest
+second_of e = cc
+
+local_last : (t : TableView) (to : Destination) (lock : DomainId) (p : PassView) (h : HoldsLists t lock p) → HoldsFor t to lock p → lock ≡ Global → IsLocalLast t.shape h.outer
+local_last t OwnFree lock p h for is = absurd (own_not_global (sym for.0 ∙ is))
+local_last t LocalFree lock p h for is =
+    let named : lock_named t.shape for.2.1.lock ≡ Local p.cpu = ap (lock_named t.shape) for.2.3 ∙ named_by_number t.shape (Local p.cpu) for.1 in
+    subst (IsLocalLast t.shape) (sym (second_of (sym h.held ∙ for.2.2))) (subst (λ (d : DomainId). IsTrue (is_local d)) (sym named) refl)
+local_last t OwnHand lock p h for is = absurd (local_no_global for.0 (sym for.1 ∙ is))
+
+-- what a probe removed is freed, and in the turn around the walk nothing is changed
+freed_on : (to : Destination) (e : ℕ) (seen : Seen) (changed : List OwnerSeen) → AreFreed changed → AreFreed (changed_with to e seen changed)
+freed_on OwnFree e Removed changed freed = (refl, freed)
+freed_on LocalFree e Removed changed freed = (refl, freed)
+freed_on OwnHand e Removed changed freed = freed
+freed_on to e (Held holder) changed freed = freed
+
+around_still : (to : Destination) (x e : ℕ) (seen : Seen) (outer : List Hold) (below : List Notes) → change_in x (outer_with to e seen outer) (came_with to e seen below) ≡ change_in x outer below
+around_still OwnFree x e seen outer below = refl
+around_still LocalFree x e Removed [] below = refl
+around_still LocalFree x e Removed (local ∷ outer) [] = refl
+around_still LocalFree x e Removed (local ∷ outer) (n ∷ below) = refl
+around_still LocalFree x e (Held holder) outer below = refl
+around_still OwnHand x e seen outer below = refl
+
 -- the lock of the walk is still held
 pub holds_after : {t : TableView} {lock : DomainId} {p : PassView} (h : HoldsLists t lock p) (q : PassView) (more : List Turned) (now : Lists) (outer : List Hold) (n : Notes) (below : List Notes)
-    → Goes p q more [] → q.view.held ≡ hold_with h.hold now ∷ outer → IsAboveAll t.shape (rank_of lock) outer → q.view.notes ≡ n ∷ below → HoldsLists t lock q
-holds_after {t} {lock} {p} h q more now outer n below goes held above notes = record {
+    → Goes p q more [] → q.view.held ≡ hold_with h.hold now ∷ outer → IsAboveAll t.shape (rank_of lock) outer → q.view.notes ≡ n ∷ below → AreFreed n.changed → ((e : ℕ) → change_in e outer below ≡ None) → HoldsLists t lock q
+holds_after {t} {lock} {p} h q more now outer n below goes held above notes freed unchanged = record {
   of_table = goes_of_table t p q more [] goes h.of_table;
   begun = goes_begun p q more [] goes h.begun;
   is_shape = h.is_shape;
@@ -492,6 +527,8 @@ holds_after {t} {lock} {p} h q more now outer n below goes held above notes = re
   notes = n;
   below = below;
   notes_are = notes;
+  freed = freed;
+  unchanged = unchanged;
 }
 
 -- what is named for an element is the hash that it has among the rows
@@ -500,10 +537,16 @@ hash_named rows e h stored = ap (λ (found : Option ℕ). unwrap_or found 0) sto
 
 module _ {t : TableView} {to : Destination} {lock : DomainId} {rows : List Row} {start p : PassView} (s : Since t to lock rows start p) where
   abbrev now_notes : Notes
-  now_notes = notes_after s.calls s.probes s.does.notes
+  now_notes = notes_after to s.calls s.probes s.does.notes
 
   abbrev now_below : List Notes
   now_below = came_after to s.probes s.does.below
+
+  now_freed : AreFreed now_notes.changed
+  now_freed = subst (λ (n : Notes). AreFreed n.changed) (same_head (sym s.holds.notes_are ∙ s.does.noted)) s.holds.freed
+
+  now_unchanged : (e : ℕ) → change_in e s.holds.outer now_below ≡ None
+  now_unchanged e = ap (change_in e s.holds.outer) (same_rest (sym s.does.noted ∙ s.holds.notes_are)) ∙ s.holds.unchanged e
 
   -- a step that only notes a call for a bit
   noted_more : (call : BitCall) (q : PassView) → Goes p q [] [] → q.view.held ≡ p.view.held → q.view.notes ≡ record now_notes { asked = asked_by call ∷ now_notes.asked } ∷ now_below → q.view.carried ≡ p.view.carried → q.view.hand ≡ p.view.hand
@@ -512,7 +555,7 @@ module _ {t : TableView} {to : Destination} {lock : DomainId} {rows : List Row} 
       let d = s.does in
       let then : Notes = record now_notes { asked = asked_by call ∷ now_notes.asked } in
       record {
-        holds = holds_after s.holds q [] s.holds.hold.now s.holds.outer then now_below goes (held ∙ s.holds.held) s.holds.above notes;
+        holds = holds_after s.holds q [] s.holds.hold.now s.holds.outer then now_below goes (held ∙ s.holds.held) s.holds.above notes now_freed now_unchanged;
         holds_for = holds_for_still t to lock p q goes.cpu held s.holds_for;
         calls = s.calls ++ call ∷ [];
         calls_are =
@@ -555,7 +598,7 @@ module _ {t : TableView} {to : Destination} {lock : DomainId} {rows : List Row} 
   -- what a probe asks of the pass
   pub can_chase : (bucket e h : ℕ) → bucket ≡ bucket_number h t.shape.buckets → bucket < t.shape.buckets → MayProbe t p (record { element = e; hash = h }) → CanChase t to bucket e p
   can_chase bucket e h here there may = record {
-    can = record { lock = lock; holds = s.holds; hash = h; may = may; bucket_is = here; there = there };
+    can = record { lock = lock; holds = s.holds; under = local_last t to lock p s.holds s.holds_for; hash = h; may = may; bucket_is = here; there = there };
     holds_for = s.holds_for;
   }
 
@@ -564,13 +607,14 @@ module _ {t : TableView} {to : Destination} {lock : DomainId} {rows : List Row} 
       let d = s.does in
       let probe : ProbeCall = record { element = e; hash = h; probed = seen } in
       let turns : List Turned = d.turns ++ done.turn ∷ [] in
-      let then : Notes = record now_notes { owners = owners_with e seen now_notes.owners } in
+      let then : Notes = record now_notes { owners = owners_with e seen now_notes.owners; changed = changed_with to e seen now_notes.changed } in
       let notes : q.view.notes ≡ then ∷ came_with to e seen now_below = done.notes ∙ (ap (noted_with to e seen) d.noted ∙ noted_first to e seen now_notes now_below) in
       record {
         holds =
             holds_after s.holds q (done.turn ∷ []) (now_with to e seen s.holds.hold.now) (outer_with to e seen s.holds.outer) then (came_with to e seen now_below) done.goes
             (done.held ∙ (ap (held_with to e seen) s.holds.held ∙ held_first to e seen s.holds.hold s.holds.outer))
-            (outer_above to e seen t.shape (rank_of lock) s.holds.outer s.holds.above) notes;
+            (outer_above to e seen t.shape (rank_of lock) s.holds.outer s.holds.above) notes
+            (freed_on to e seen now_notes.changed now_freed) (λ x. around_still to x e seen s.holds.outer now_below ∙ now_unchanged x);
         holds_for = holds_for_on t to lock e seen p q done.goes.cpu done.held s.holds_for;
         calls = s.calls;
         calls_are = ap calls_noted notes ∙ (ap calls_noted (sym d.noted) ∙ s.calls_are);
@@ -584,7 +628,7 @@ module _ {t : TableView} {to : Destination} {lock : DomainId} {rows : List Row} 
           notes = d.notes;
           below = d.below;
           was_noted = d.was_noted;
-          noted = notes ∙ (λ i. record now_notes { owners = sym (owners_more s.probes probe d.notes.owners) i } ∷ sym (came_more to s.probes probe d.below) i);
+          noted = notes ∙ (λ i. record now_notes { owners = sym (owners_more s.probes probe d.notes.owners) i; changed = sym (changed_more to s.probes probe d.notes.changed) i } ∷ sym (came_more to s.probes probe d.below) i);
           carried = done.carried ∙ ((λ i. taken_with to (d.goes.cpu i) e seen (d.carried i)) ∙ sym (taken_more to start.cpu s.probes probe start.view.carried));
           hand = done.hand ∙ ((λ i. taken_with to (d.goes.cpu i) e seen (d.hand i)) ∙ sym (taken_more to start.cpu s.probes probe start.view.hand));
           spares = done.spares ∙ d.spares;

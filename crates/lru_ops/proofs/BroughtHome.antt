@@ -55,6 +55,7 @@ use Rattle.lru_ops.proofs.Holders.{saw_on_none, saw_none}
 use Rattle.lru_ops.proofs.LocalTurns.{OnLocal, ReadyLocal, local_there, to_q, taken_held, taken_noted, can_give_local, changed_local, saw_local, hashes_local, named_there, stored_pending}
 use Rattle.lru_ops.proofs.OwnTurns.{GaveAs, gave_as, first_hash}
 use Rattle.lru_ops.proofs.Removed.{changed_first, goes_placed, learns_placed}
+use Rattle.lru_ops.proofs.OwnersAround.{unchanged_alone}
 
 -- The hash that was given to what is in the CPU's hand and came in the turn
 
@@ -124,6 +125,7 @@ module _ {t : TableView} {e : ℕ} {lists : LocalView} {p q : PassView} (can : C
         from = homes.Hand p.cpu;
         home = carried_q;
         goes = (holds_here, inr in_hand_q);
+        around = λ _. unchanged_alone q.view hold e (taken_held b);
       }
 
   -- it came there
@@ -259,6 +261,7 @@ module _ {t : TableView} {e : ℕ} {lists : LocalView} {p q : PassView} (can : C
             held = All-nil (ProbeFits []);
             came = All-cons (CameToHand s.view (hold_with hold now) noted_here) e [] ((let more = times_cons_same e [] in omega (arith, more)), in_hand_s) (All-nil (CameToHand s.view (hold_with hold now) noted_here));
           };
+          owners_told = λ lock x owner. refl;
           stays = refl;
           probes = [];
           are_evicts = tt;

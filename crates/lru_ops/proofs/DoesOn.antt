@@ -15,7 +15,7 @@ use Rattle.place_table.proofs.Going.{goes_on, goes_nowhere, same_head, learns_on
 use Rattle.lru_lists.specs.declared.bits.BitCall.{BitCall}
 use Rattle.lru_lists.specs.declared.bits.ProbeCall.{ProbeCall}
 use Rattle.lru_ops.specs.declared.probing.Destination.{Destination}
-use Rattle.lru_ops.specs.Askings.{asked_by, asked_after, owners_with, owners_after, notes_after, came_with, came_after, held_after, taken_after, touch_by, AreEvicts, Does}
+use Rattle.lru_ops.specs.Askings.{asked_by, asked_after, owners_with, owners_after, notes_after, changed_with, changed_after, came_with, came_after, held_after, taken_after, touch_by, AreEvicts, Does}
 use Rattle.lru_ops.specs.Evictions.{held_with, taken_with}
 use Rattle.lru_ops.proofs.Holders.{saw_on, saw_nothing}
 
@@ -41,6 +41,10 @@ pub asked_append : (first second : List BitCall) (asked : List BitAsked) → ask
 asked_append [] second asked = refl
 asked_append (call ∷ first) second asked = asked_append first second (asked_by call ∷ asked)
 
+changed_append : (to : Destination) (first second : List ProbeCall) (changed : List OwnerSeen) → changed_after to (first ++ second) changed ≡ changed_after to second (changed_after to first changed)
+changed_append to [] second changed = refl
+changed_append to (probe ∷ first) second changed = changed_append to first second (changed_with to probe.element probe.probed changed)
+
 owners_append : (first second : List ProbeCall) (owners : List OwnerSeen) → owners_after (first ++ second) owners ≡ owners_after second (owners_after first owners)
 owners_append [] second owners = refl
 owners_append (probe ∷ first) second owners = owners_append first second (owners_with probe.element probe.probed owners)
@@ -63,13 +67,13 @@ evicts_append shape cpu call rows [] second (turn ∷ turns) more are others = a
 evicts_append shape cpu call rows (probe ∷ first) second [] more are others = absurd are
 evicts_append shape cpu call rows (probe ∷ first) second (turn ∷ turns) more are others = (are.0, are.1, evicts_append shape cpu call rows first second turns more are.2 others)
 
-same_rest : {A : Type 0} {x y : A} {xs ys : List A} → x ∷ xs ≡ y ∷ ys → xs ≡ ys
+pub same_rest : {A : Type 0} {x y : A} {xs ys : List A} → x ∷ xs ≡ y ∷ ys → xs ≡ ys
 same_rest e = cc
 
 pub does_on : {t : TableView} {to : Destination} {rows : List Row} {calls more_calls : List BitCall} {probes more_probes : List ProbeCall} {p q r : PassView} → Does t to rows calls probes p q → Does t to rows more_calls more_probes q r → Does t to rows (calls ++ more_calls) (probes ++ more_probes) p r
 does_on {t} {to} {rows} {calls} {more_calls} {probes} {more_probes} {p} {q} {r} a b =
-    let between : b.notes ∷ b.below ≡ notes_after calls probes a.notes ∷ came_after to probes a.below = sym b.was_noted ∙ a.noted in
-    let notes : b.notes ≡ notes_after calls probes a.notes = same_head between in
+    let between : b.notes ∷ b.below ≡ notes_after to calls probes a.notes ∷ came_after to probes a.below = sym b.was_noted ∙ a.noted in
+    let notes : b.notes ≡ notes_after to calls probes a.notes = same_head between in
     let below : b.below ≡ came_after to probes a.below = same_rest between in
     record {
       turns = a.turns ++ b.turns;
@@ -79,8 +83,8 @@ does_on {t} {to} {rows} {calls} {more_calls} {probes} {more_probes} {p} {q} {r} 
       below = a.below;
       was_noted = a.was_noted;
       noted = b.noted
-          ∙ ((λ i. notes_after more_calls more_probes (notes i) ∷ came_after to more_probes (below i))
-          ∙ (λ i. record a.notes { asked = sym (asked_append calls more_calls a.notes.asked) i; owners = sym (owners_append probes more_probes a.notes.owners) i } ∷ sym (came_append to probes more_probes a.below) i));
+          ∙ ((λ i. notes_after to more_calls more_probes (notes i) ∷ came_after to more_probes (below i))
+          ∙ (λ i. record a.notes { asked = sym (asked_append calls more_calls a.notes.asked) i; owners = sym (owners_append probes more_probes a.notes.owners) i; changed = sym (changed_append to probes more_probes a.notes.changed) i } ∷ sym (came_append to probes more_probes a.below) i));
       carried = b.carried ∙ ((λ i. taken_after to (a.goes.cpu i) more_probes (a.carried i)) ∙ sym (taken_append to p.cpu probes more_probes p.view.carried));
       hand = b.hand ∙ ((λ i. taken_after to (a.goes.cpu i) more_probes (a.hand i)) ∙ sym (taken_append to p.cpu probes more_probes p.view.hand));
       spares = b.spares ∙ a.spares;

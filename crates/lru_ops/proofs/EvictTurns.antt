@@ -16,6 +16,7 @@ use Rattle.percpu_values.specs.BodyList.{BodyList}
 use Rattle.bucket_chain.specs.Turns.{IsTurn}
 use Rattle.bucket_chain.proofs.SizeLaws.{sizes_stay}
 use Rattle.bucket_chain.proofs.Turns.{evict_finds_held, evict_takes}
+use Rattle.owner_words.specs.Owners.{owner_told}
 use Rattle.place_words.specs.declared.bucket_part.BucketPart.TheVariants.{Evict}
 use Rattle.place_words.specs.declared.bucket_part.Seen.{Seen}
 use Rattle.place_words.specs.declared.bucket_part.Seen.TheVariants.{Removed, Held}
@@ -45,13 +46,15 @@ use Rattle.place_table.specs.declared.view.Turned.{Turned}
 use Rattle.place_table.specs.declared.view.WordStep.{WordStep}
 use Rattle.place_table.specs.Contents.{lists_of, FitsLock}
 use Rattle.place_table.specs.Known.{Learns}
-use Rattle.place_table.specs.Passes.{PassView, TableView, CanTake, CanMark, TookLock, CanGive, Gave, Goes, with_view, entry_of, ready}
+use Rattle.place_table.specs.Nested.{IsLocalLast}
+use Rattle.place_table.specs.Passes.{PassView, TableView, CanTake, CanDetach, CanMark, TookLock, CanGive, Gave, Goes, with_view, entry_of, ready}
+use Rattle.place_table.specs.Owners.{IsFreeAround, IsProbed, owner_left, change_in}
 use Rattle.place_table.specs.Plays.{OwnerFits, IsListedHere}
 use Rattle.place_table.specs.Rules.{IsAboveAll, is_hand_of}
 use Rattle.place_table.specs.Flushes.{flushes}
 use Rattle.place_table.specs.StoredHashes.{stored_in}
 use Rattle.place_table.specs.TurnNotes.{HasOnlyHash, WasRead, ProbeFits, CameToHand, clears_among, clears_noted}
-use Rattle.place_table.specs.Views.{is_among, is_in_hand_of, hold_at, now_under, with_now, with_in_hand, detached, owner_read, with_owner_read, holding, known_log, no_notes, given, holds_below, notes_below, with_owners_read, passed_on, hold_with}
+use Rattle.place_table.specs.Views.{is_among, is_in_hand_of, with_changed, hold_at, now_under, with_now, with_in_hand, detached, owner_read, with_owner_read, holding, known_log, no_notes, given, holds_below, notes_below, with_owners_read, passed_on, hold_with}
 use Rattle.place_table.specs.Words.{owner_word}
 use Rattle.place_table.proofs.Entries.{append_nil}
 use Rattle.place_table.proofs.Going.{goes_on, goes_took, goes_moved, goes_noted, goes_gave, goes_of_table, goes_begun, given_turn, same_head, learns_on, learns_nothing, learns_took, learns_given}
@@ -61,6 +64,7 @@ use Rattle.place_table.proofs.BucketTurns.{left_is}
 use Rattle.place_table.proofs.Telling.{tells_turn}
 use Rattle.lru_ops.specs.Evictions.{HoldsLists, CanProbe, Inside, IsEvict, hand_with, EndedWith, EvictedWith, owners_probed}
 use Rattle.lru_ops.proofs.Holders.{SawSeen, saw_on, saw_none, saw_probe}
+use Rattle.lru_ops.proofs.OwnersAround.{free_here}
 
 -- The body of an element that was found
 
@@ -83,6 +87,16 @@ none_cons false body rest n later none = later none
 none_of : (e : ℕ) (bodies : List Stored) → body_of e bodies ≡ None → times e (numbers bodies) ≡ 0
 none_of e [] none = refl
 none_of e (body ∷ bodies) none = none_cons (has_number e body) body (body_of e bodies) (times e (numbers bodies)) (none_of e bodies) none
+
+-- a probe is of one element, with one answer
+probes_one : (e x : ℕ) (seen : Seen) (holder : ℕ) → parts.Bucket (Evict e seen) ≡ parts.Bucket (Evict x (Held holder)) → e ≡ x
+probes_one e x seen holder is = cc
+
+probes_seen : (e x : ℕ) (seen : Seen) (holder : ℕ) → parts.Bucket (Evict e seen) ≡ parts.Bucket (Evict x (Held holder)) → seen ≡ Held holder
+probes_seen e x seen holder is = cc
+
+held_none : (holder : ℕ) → Removed ≡ Held holder → ⊥
+held_none holder is = cc
 
 one_number : (n : ℕ) → (n == n) ≡ true
 one_number n = by_test n n (λ b. b ≡ true) (λ _. refl) (λ other. absurd (other refl))
@@ -186,11 +200,13 @@ inside t bucket e p q chain can took =
       lists_there = h.there;
       lists_are = h.lists;
       lists_lock = h.lock_is;
+      under = can.under;
       in_no_hand = λ cpu among. ap (λ (v : View). is_in_hand_of e cpu v.hand) view ∙ m.in_no_hand cpu (ap (λ (v : View). is_among cpu v.cpus) (sym view) ∙ among);
       listed = subst (λ (z : Hold). IsIn e (rows z.now)) one m.listed;
       hash = can.hash;
       hashed = hashed_inside t bucket e can.hash p q chain can.there m.hashed took;
       bucket_is = can.bucket_is;
+      around = λ owner is. free_here h e owner is;
     }
 
 -- Under the bucket
@@ -269,8 +285,12 @@ module _ {t : TableView} {bucket e : ℕ} {q : PassView} {bodies : List Stored} 
   is_in_hand (owners.Bucket x) fits none other = not_in_bucket (owners.Bucket x) x fits none refl
   is_in_hand (owners.Hand holder) fits none other = other holder refl
 
-  pub can_detach : (body : Stored) → Some body ≡ body_of e bodies → CanMark t e bucket q
-  can_detach body taken =
+  -- where the element was changed in the turns around the bucket's, it was set free
+  free_around : (r : PassView) (hold : Hold) (n : Notes) → r.view.held ≡ hold ∷ b.lists ∷ b.outer → r.view.notes ≡ n ∷ b.below → IsFreeAround r.view e
+  free_around r hold n held notes owner is = b.around owner (sym (λ i. change_in e (holds_below (held i)) (notes_below (notes i))) ∙ is)
+
+  is_there_inside : (body : Stored) → Some body ≡ body_of e bodies → CanMark t e bucket q
+  is_there_inside body taken =
       let more : times e (e ∷ numbers (without_element e bodies)) ≡ times e (numbers bodies) = element_taken e bodies (ap is_some (sym taken)) e in
       let some : IsIn e (numbers bodies) = omega (arith, more, times_cons_same e (numbers (without_element e bodies))) in
       record {
@@ -284,7 +304,14 @@ module _ {t : TableView} {bucket e : ℕ} {q : PassView} {bodies : List Stored} 
         inside = subst (λ (l : Lists). IsIn e l.first) (sym b.now) some;
       }
 
-  pub worked_detached : (at : ℕ) → Worked t bucket e q (with_view q (detached at bucket e q.cpu q.view)) bodies b (without_row e (lists_of (in_bucket bodies))) no_notes (with_in_hand e q.cpu q.view.hand)
+  pub can_detach : (body : Stored) → Some body ≡ body_of e bodies → CanDetach t e bucket q
+  can_detach body taken = record { there = is_there_inside body taken; around = λ _. free_around q b.hold no_notes b.held b.notes }
+
+  -- what is noted once the element was taken out
+  abbrev pub taken_notes : Notes
+  taken_notes = record no_notes { changed = record { element = e; owner = owners.Hand q.cpu } ∷ [] }
+
+  pub worked_detached : (at : ℕ) → Worked t bucket e q (with_view q (detached at bucket e q.cpu q.view)) bodies b (without_row e (lists_of (in_bucket bodies))) taken_notes (with_in_hand e q.cpu q.view.hand)
   worked_detached at =
       let k : ℕ = lock_number q.view.shape (Bucket bucket) in
       let k_is : k ≡ b.hold.lock = ap (λ (s : Shape). lock_number s (Bucket bucket)) b.of_table.1 ∙ sym b.lock_is in
@@ -295,7 +322,7 @@ module _ {t : TableView} {bucket e : ℕ} {q : PassView} {bodies : List Stored} 
         held = ap (λ (l : Lists). with_now k (without_row e l) q.view.held) now
             ∙ (ap (with_now k then) b.held
             ∙ by_test b.hold.lock k (λ z. cond z (hold_with b.hold then ∷ b.lists ∷ b.outer) (b.hold ∷ with_now k then (b.lists ∷ b.outer)) ≡ hold_with b.hold then ∷ b.lists ∷ b.outer) (λ _. refl) (λ other. absurd (other (sym k_is))));
-        notes_are = b.notes;
+        notes_are = ap (with_changed e (owners.Hand q.cpu)) b.notes;
         marks = refl;
         asked = refl;
         off = refl;
@@ -333,11 +360,29 @@ module _ {t : TableView} {bucket e : ℕ} {q : PassView} {bodies : List Stored} 
   read_holder : (at holder : ℕ) (owner : Owner) → owner ≡ owners.Hand holder → SawSeen t.shape (read_step at owner ∷ []) e (Held holder)
   read_holder at holder owner hand = inl (λ i. record { at = at; word = owner_word (b.of_table.1 i) e; seen = Some (owner_code (hand i)); left = owner_code (hand i) })
 
+  -- the probed bucket is that of the stored hash
+  is_probed : (at : ℕ) (owner : Owner) → IsProbed t.shape (owner_read at e owner q.view) (lock_named t.shape b.hold.lock) e
+  is_probed at owner = record {
+    listed = record {
+      lock = lock_number t.shape b.lock;
+      hold = b.lists;
+      held = lists_held;
+      no_bucket = ap is_bucket (named_by_number t.shape b.lock b.lists_there) ∙ no_bucket b.lock b.lists_are;
+      listed = b.listed;
+    };
+    hash = b.hash;
+    only = b.hashed;
+    lock_is = ap (lock_named t.shape) b.lock_is ∙ (named_bucket ∙ ap Bucket b.bucket_is);
+    around = free_around (with_view q (owner_read at e owner q.view)) b.hold (seen_notes owner) b.held (ap (with_owner_read e owner) b.notes);
+  }
+
   can_give : (r : PassView) (now : Lists) (notes : Notes) (hand : List InHand) (back : BodyList) (seen : Seen) → Worked t bucket e q r bodies b now notes hand
       → IsTurn t.shape q.cpu (Evict e seen) bodies back.bodies → All (IsSized t.shape) back.bodies → ((x : ℕ) → times x (numbers back.bodies) ≡ times x (rows now)) → now.free ≡ []
       → ProbeFits notes.owners (record { element = e; probed = seen })
+      → ((x : ℕ) (owner : Owner) → owner_left notes.changed x owner ≡ owner_told t.shape (lock_named t.shape b.hold.lock) r.cpu (parts.Bucket (Evict e seen)) x owner)
+      → ((holder : ℕ) → seen ≡ Held holder → IsProbed t.shape r.view (lock_named t.shape b.hold.lock) e)
       → CanGive t (Bucket bucket) r (contents.Bucket back) (parts.Bucket (Evict e seen))
-  can_give r now notes hand back seen w turn sized counted no_free fits =
+  can_give r now notes hand back seen w turn sized counted no_free fits changes probed =
       let named : lock_named t.shape b.hold.lock ≡ Bucket bucket = ap (lock_named t.shape) b.lock_is ∙ named_bucket in
       let begun = goes_begun q r [] [] w.goes b.begun in
       let part : Part = parts.Bucket (Evict e seen) in
@@ -363,6 +408,12 @@ module _ {t : TableView} {bucket e : ℕ} {q : PassView} {bodies : List Stored} 
           rows_kept = λ _ j x h n other held _ not_mine before after. absurd (none_some (sym (none_stored_in back.bodies x) ∙ after));
           gone = λ _ c x h is. absurd (bucket_no_local bucket c (sym named ∙ is));
         };
+        inside = record {
+          outer = b.lists;
+          others = b.outer;
+          held_are = refl;
+          may_be = subst (λ (d : DomainId). (rank_of d < 3) × (d ≡ Global → IsLocalLast t.shape b.outer)) (sym (ap (lock_named t.shape) b.lists_lock ∙ named_by_number t.shape b.lock b.lists_there)) (b.lists_are, b.under);
+        };
         notes_fit = record {
           marks_are = w.marks ∙ no_marks (is_lru t.shape.kind) [];
           clears_are = (λ i. clears_among (reverse (w.asked i)));
@@ -372,6 +423,7 @@ module _ {t : TableView} {bucket e : ℕ} {q : PassView} {bodies : List Stored} 
           held = All-cons (ProbeFits notes.owners) (record { element = e; probed = seen }) [] fits (All-nil (ProbeFits notes.owners));
           came = All-nil (CameToHand r.view (hold_with b.hold now) notes);
         };
+        owners_fit = λ _. record { changes = changes; probed = λ x holder is. subst (IsProbed t.shape r.view (lock_named t.shape b.hold.lock)) (probes_one e x seen holder is) (probed holder (probes_seen e x seen holder is)) };
       }
 
   ended : (r s : PassView) (now : Lists) (notes : Notes) (hand : List InHand) (back : BodyList) (seen : Seen) → (w : Worked t bucket e q r bodies b now notes hand) → hand ≡ hand_with q.cpu e seen q.view.hand → SawSeen t.shape w.touched e seen → with_owners_read notes.owners b.below ≡ owners_probed e seen b.below
@@ -413,16 +465,17 @@ module _ {t : TableView} {bucket e : ℕ} {q : PassView} {bodies : List Stored} 
   pub can_give_removed : (at : ℕ) (body : Stored) (back : BodyList) → Some body ≡ body_of e bodies → back.bodies ≡ without_element e bodies
       → CanGive t (Bucket bucket) (with_view q (detached at bucket e q.cpu q.view)) (contents.Bucket back) (parts.Bucket (Evict e Removed))
   can_give_removed at body back taken left =
-      can_give (with_view q (detached at bucket e q.cpu q.view)) (without_row e (lists_of (in_bucket bodies))) no_notes (with_in_hand e q.cpu q.view.hand) back Removed (worked_detached at)
+      can_give (with_view q (detached at bucket e q.cpu q.view)) (without_row e (lists_of (in_bucket bodies))) taken_notes (with_in_hand e q.cpu q.view.hand) back Removed (worked_detached at)
       (evict_takes t.shape q.cpu bodies back.bodies e body taken left)
       (subst (All (IsSized t.shape)) (sym left) sized_without)
       (λ x. ap (λ (l : List Stored). times x (numbers l)) left ∙ (left_is e (numbers (without_element e bodies)) (numbers bodies) (element_taken e bodies (ap is_some (sym taken))) x ∙ ap (times x) (sym (append_nil (without e (numbers bodies))))))
       refl tt
+      (λ x owner. refl) (λ holder is. absurd (held_none holder is))
 
   pub ended_removed : (at : ℕ) (body : Stored) (back : BodyList) (s : PassView) → Some body ≡ body_of e bodies → back.bodies ≡ without_element e bodies
       → Gave (with_view q (detached at bucket e q.cpu q.view)) s (parts.Bucket (Evict e Removed)) → EndedWith t bucket e q s Removed
   ended_removed at body back s taken left gave =
-      ended (with_view q (detached at bucket e q.cpu q.view)) s (without_row e (lists_of (in_bucket bodies))) no_notes (with_in_hand e q.cpu q.view.hand) back Removed (worked_detached at) refl tt refl
+      ended (with_view q (detached at bucket e q.cpu q.view)) s (without_row e (lists_of (in_bucket bodies))) taken_notes (with_in_hand e q.cpu q.view.hand) back Removed (worked_detached at) refl tt refl
       (can_give_removed at body back taken left) gave
 
   pub can_give_held : (at holder : ℕ) (owner : Owner) (back : BodyList) → body_of e bodies ≡ None → back.bodies ≡ bodies → owner ≡ owners.Hand holder → holder < t.shape.cpus → holder ≢ q.cpu
@@ -433,6 +486,7 @@ module _ {t : TableView} {bucket e : ℕ} {q : PassView} {bodies : List Stored} 
       (subst (All (IsSized t.shape)) (sym same) b.sized)
       (λ x. ap (λ (l : List Stored). times x (numbers l)) same ∙ sym (ap (λ (l : Lists). times x (rows l)) b.now ∙ ap (times x) (append_nil (numbers bodies))))
       (ap (λ (l : Lists). l.free) b.now) (inl (refl, hand))
+      (λ x owner. refl) (λ _ _. is_probed at owner)
 
   pub ended_held : (at holder : ℕ) (owner : Owner) (back : BodyList) (s : PassView) → body_of e bodies ≡ None → back.bodies ≡ bodies → owner ≡ owners.Hand holder → holder < t.shape.cpus → holder ≢ q.cpu
       → Gave (with_view q (owner_read at e owner q.view)) s (parts.Bucket (Evict e (Held holder))) → EndedWith t bucket e q s (Held holder)

@@ -21,6 +21,7 @@ use Rattle.place_table.specs.declared.view.Hold.{Hold}
 use Rattle.place_table.specs.declared.view.Notes.{Notes}
 use Rattle.place_table.specs.declared.view.View.{View}
 use Rattle.place_table.specs.Contents.{set_told}
+use Rattle.place_table.specs.Nested.{AreOutsideAll}
 use Rattle.place_table.specs.Passes.{PassView, TableView, CanTake, Goes, TookLock}
 use Rattle.place_table.specs.Rules.{IsAboveAll}
 use Rattle.place_table.specs.StoredHashes.{stored_in}
@@ -52,7 +53,7 @@ can_take_global {t} {lists} {p} can = record {
   of_table = can.of_table;
   begun = can.begun;
   there = can.common;
-  above = subst (λ (l : List Hold). IsAboveAll t.shape 2 l) (sym can.held) (above_local can);
+  above = subst (λ (l : List Hold). IsAboveAll t.shape 2 l × AreOutsideAll l p.view.steps) (sym can.held) (above_local can, (can.outside, tt));
 }
 
 -- which of two locks it is that is found
@@ -174,6 +175,8 @@ module _ {t : TableView} {lists : LocalView} {p q : PassView} {set : SetView} (c
       notes = no_notes;
       below = no_notes ∷ can.below;
       notes_are = noted_q;
+      freed = tt;
+      unchanged = λ x. refl;
     };
     local_there = subst (λ (c : ℕ). IsTrue (is_lock t.shape (Local c))) (sym to_q.cpu) can.there;
     local = can.hold;

@@ -13,6 +13,7 @@ use Rattle.lru_lists.specs.Sets.{SetView}
 use Rattle.lru_ops.specs.Askings.{notes_after}
 use Rattle.lru_ops.specs.GlobalWork.{Rotated}
 use Rattle.lru_ops.specs.Filling.{CanFill}
+use Rattle.lru_ops.specs.declared.probing.Destination.TheVariants.{LocalFree}
 use Rattle.lru_ops.proofs.Asked.{only_hash_still}
 use Rattle.lru_ops.proofs.Flushes.{both_held, global_hold, local_hold, same_second}
 
@@ -51,9 +52,9 @@ module _ {t : TableView} {set after : SetView} {lists : LocalView} {turning turn
         let same : times x (rows r.leaves.holds.lists.hold.now) ≡ times x (rows (global_hold can).now) = ap (λ (h : Hold). times x (rows h.now)) global_same in
         omega (arith, once, free, was, is, same);
     hashed = λ x h stored. only_hash_still t.shape p.view q.view x h r.does.held (can.hashed x h stored);
-    notes = notes_after r.calls [] can.notes;
+    notes = notes_after LocalFree r.calls [] can.notes;
     around = can.around;
     below = can.below;
-    noted = r.does.noted ∙ (λ i. notes_after r.calls [] (notes_same i) ∷ below_same i);
+    noted = r.does.noted ∙ (λ i. notes_after LocalFree r.calls [] (notes_same i) ∷ below_same i);
     hands_empty = λ x cpu among. ap (is_in_hand_of x cpu) r.does.hand ∙ can.hands_empty x cpu (ap (is_among cpu) (sym r.does.goes.cpus) ∙ among);
   }

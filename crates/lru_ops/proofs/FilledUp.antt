@@ -157,10 +157,10 @@ noted_flushed {t} {flushed} f n m below was =
     f.noted ∙ (λ i. flushed_notes flushed f.came (same_head same i) ∷ off_notes flushed (same_second same i) ∷ same_tail (same_tail same) i)
 
 noted_walked : {t : TableView} {walked : List Row} {cleared : List BitCall} {probes : List ProbeCall} {p q : PassView} → Does t LocalFree walked cleared probes p q → (n m : Notes) (below : List Notes) → p.view.notes ≡ n ∷ m ∷ below
-    → q.view.notes ≡ notes_after cleared probes n ∷ record m { came = reverse (taken_by probes) ++ m.came } ∷ below
+    → q.view.notes ≡ notes_after LocalFree cleared probes n ∷ record m { came = reverse (taken_by probes) ++ m.came } ∷ below
 noted_walked {cleared = cleared} {probes = probes} d n m below was =
     let same = sym d.was_noted ∙ was in
-    d.noted ∙ ((λ i. notes_after cleared probes (same_head same i) ∷ came_after LocalFree probes (same_tail same i)) ∙ ap (λ (l : List Notes). notes_after cleared probes n ∷ l) (local_came probes m below))
+    d.noted ∙ ((λ i. notes_after LocalFree cleared probes (same_head same i) ∷ came_after LocalFree probes (same_tail same i)) ∙ ap (λ (l : List Notes). notes_after LocalFree cleared probes n ∷ l) (local_came probes m below))
 
 noted_moved : {t : TableView} {moved : List ℕ} {p q : PassView} → MovesFree t moved p q → (n m : Notes) (below : List Notes) → p.view.notes ≡ n ∷ m ∷ below → q.view.notes ≡ n ∷ record m { came = reverse moved ++ m.came } ∷ below
 noted_moved {moved = moved} f n m below was =
@@ -265,12 +265,12 @@ module _ {t : TableView} {set flushed_set rotated moved_set out : SetView} {list
   first_around = off_notes f.flushed no_notes
 
   abbrev turned_notes : Notes
-  turned_notes = notes_after (map calls.Cleared (active ++ inactive)) [] first_notes
+  turned_notes = notes_after LocalFree (map calls.Cleared (active ++ inactive)) [] first_notes
 
   abbrev moved_around : Notes
   moved_around = record first_around { came = reverse m.moved ++ first_around.came }
 
-  noted_end : s.view.notes ≡ notes_after (map calls.Cleared looked) l.probes turned_notes ∷ record moved_around { came = reverse (taken_by l.probes) ++ moved_around.came } ∷ fresh.0
+  noted_end : s.view.notes ≡ notes_after LocalFree (map calls.Cleared looked) l.probes turned_notes ∷ record moved_around { came = reverse (taken_by l.probes) ++ moved_around.came } ∷ fresh.0
   noted_end =
       noted_walked l.does turned_notes moved_around fresh.0
       (noted_moved m.moves turned_notes first_around fresh.0
@@ -322,7 +322,7 @@ module _ {t : TableView} {set flushed_set rotated moved_set out : SetView} {list
         All-weaker (λ (flush : Flush). stored_hash flush.element lists.pending ≡ Some flush.hash) (λ (flush : Flush). HasOnlyHash t.shape s.view flush.element flush.hash)
         (λ flush stored. only_hash_on t.shape q.view s.view flush.element flush.hash (logs_both to_end) (can.hashed flush.element flush.hash stored))
         f.flushed (flushed_stored f.flushed lists.pending f.with_hashes pending_once);
-    notes = notes_after (map calls.Cleared looked) l.probes turned_notes;
+    notes = notes_after LocalFree (map calls.Cleared looked) l.probes turned_notes;
     around = record moved_around { came = reverse (taken_by l.probes) ++ moved_around.came };
     below = fresh.0;
     was_noted = fresh.1;
@@ -330,9 +330,11 @@ module _ {t : TableView} {set flushed_set rotated moved_set out : SetView} {list
     no_marks = refl;
     asked_is = asked_in_a_row (map flush_visit f.flushed) active inactive looked [];
     owners_are = refl;
+    changed_is = refl;
     none_off = refl;
     around_marks = refl;
     around_asked = refl;
+    around_changed = refl;
     around_flushed = refl;
     around_off = append_nil (reverse (flushed_elements f.flushed));
     hand = to_end.hand;

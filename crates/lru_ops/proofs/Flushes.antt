@@ -35,7 +35,8 @@ use Rattle.map_types.proofs.RowLemmas.{times_append, by_test}
 use Rattle.place_table.specs.Known.{Learns}
 use Rattle.place_table.specs.Passes.{PassView, TableView, CanClear, CanRehome, Cleared, Goes, Rehomed, with_view}
 use Rattle.place_table.specs.Plays.{HoldsLock, IsKnownHome}
-use Rattle.place_table.specs.Views.{is_among, is_in_hand_of, hold_at, now_at, with_came, with_clear, with_now, with_off, cleared as cleared_view, rehomed as rehomed_view, hold_with}
+use Rattle.place_table.specs.Views.{is_among, is_in_hand_of, hold_at, now_at, with_came, with_clear, with_now, with_off, cleared as cleared_view, rehomed as rehomed_view, hold_with, holds_below, notes_below}
+use Rattle.place_table.specs.Owners.{IsUnchangedAround, change_in}
 use Rattle.place_table.proofs.Came.{come_from_other}
 use Rattle.place_table.proofs.Entries.{append_nil}
 use Rattle.place_table.proofs.Going.{goes_on, goes_nowhere, goes_noted, goes_of_table, goes_begun, learns_on, learns_none, learns_cleared, same_head}
@@ -58,6 +59,7 @@ use Rattle.lru_ops.proofs.Holders.{saw_on, saw_on_none, saw_none, saw_nothing}
 use Rattle.lru_ops.proofs.Removed.{changed_first, changed_second, goes_placed, learns_placed}
 use Rattle.lru_ops.proofs.SetWork.{row_gone}
 use Rattle.lru_ops.proofs.DoesOn.{asked_append}
+use Rattle.lru_ops.proofs.OwnersAround.{freed_named, unchanged_named}
 
 -- The set with a row more
 
@@ -202,6 +204,12 @@ module _ {t : TableView} {set : SetView} {lists : LocalView} {p : PassView} (can
       unfolding local_m
       at_local_m = (local_m, refl, lies_there)
 
+      none_around_m : IsUnchangedAround m.view e
+      none_around_m =
+          let noted_m : m.view.notes ≡ with_clear e bit (can.notes ∷ can.around ∷ can.below) = ap (λ (z : PassView). z.view.notes) clear.after_is ∙ ap (with_clear e bit) can.noted in
+          (λ i. change_in e (holds_below (held_m i)) (notes_below (noted_m i)))
+          ∙ unchanged_named can.walk.holds.lists global_hold local_hold can.notes can.around can.below both_held can.noted e
+
       pub can_go_global : CanRehome t e (homes.In Global) m
       can_go_global = record {
         of_table = goes_of_table t p m [] [] to_m can.walk.holds.lists.of_table;
@@ -211,6 +219,7 @@ module _ {t : TableView} {set : SetView} {lists : LocalView} {p : PassView} (can
         from = homes.In (Local p.cpu);
         home = at_local_m;
         goes = global_m;
+        around = λ _. none_around_m;
       }
 
       -- and it went to the global lists
@@ -342,6 +351,8 @@ module _ {t : TableView} {set : SetView} {lists : LocalView} {p : PassView} (can
             notes = flushed_notes (flush ∷ []) (e ∷ can.notes.came) can.notes;
             below = off_notes (flush ∷ []) can.around ∷ can.below;
             notes_are = noted_r;
+            freed = freed_named can.walk.holds.lists can.notes (can.around ∷ can.below) can.noted;
+            unchanged = λ x. unchanged_named can.walk.holds.lists global_hold local_hold can.notes can.around can.below both_held can.noted x;
           };
           local_there = subst (λ (c : ℕ). IsTrue (is_lock t.shape (Local c))) (sym to_r_all.cpu) can.walk.holds.local_there;
           local = hold_with local_hold local_then;

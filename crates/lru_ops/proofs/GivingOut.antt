@@ -13,6 +13,7 @@ use Rattle.map_types.specs.ElementLists.{times, without}
 use Rattle.map_types.specs.Listed.{elements_of}
 use Rattle.map_types.specs.Stored.{Stored, IsSized}
 use Rattle.map_types.proofs.RowLemmas.{times_append, by_test}
+use Rattle.owner_words.specs.Owners.{owner_by}
 use Rattle.place_words.specs.declared.bucket_part.Seen.{Seen}
 use Rattle.place_words.specs.declared.bucket_part.Seen.TheVariants.{Removed, Held}
 use Rattle.place_words.specs.declared.list_part.OwnPart.TheVariants as own
@@ -28,6 +29,9 @@ use Rattle.place_words.specs.Takings.{shrink_probes, stored_hash}
 use Rattle.place_words.specs.declared.step.Lists.{Lists}
 use Rattle.place_words.specs.State.{rows}
 use Rattle.place_words.specs.Steps.{with_row, without_free}
+use Rattle.place_words.specs.Interleaving.{own_steps}
+use Rattle.place_words.specs.declared.owner.Owner.{Owner}
+use Rattle.place_words.specs.declared.owner.Owner.TheVariants as owners
 use Rattle.place_words.proofs.ElementLemmas.{times_cons_same}
 use Rattle.place_table.specs.declared.view.BitAsked.{BitAsked}
 use Rattle.place_table.specs.declared.view.Hold.{Hold}
@@ -42,7 +46,8 @@ use Rattle.place_table.specs.Known.{BitTouch, SeesBit, Learns}
 use Rattle.place_table.specs.Passes.{PassView, TableView, Claimed, Cleared, Goes, with_view}
 use Rattle.place_table.proofs.Came.{came_among}
 use Rattle.place_table.specs.TurnNotes.{clears_among, clears_noted, AreCleared, WasReadInHand, ProbeFits, CameToHand}
-use Rattle.place_table.specs.Views.{is_among, is_in_hand_of, hold_at, now_under, with_now, with_came, with_clear, with_in_hand, no_notes, bit_seen, claimed as claimed_view, cleared as cleared_view, hold_with}
+use Rattle.place_table.specs.Views.{is_among, is_in_hand_of, hold_at, now_under, with_now, with_came, with_clear, with_in_hand, no_notes, bit_seen, claimed as claimed_view, cleared as cleared_view, hold_with, with_changed}
+use Rattle.place_table.specs.Owners.{owner_left}
 use Rattle.place_table.proofs.Entries.{append_nil}
 use Rattle.place_table.proofs.Going.{goes_on, goes_noted, goes_of_table, goes_begun, same_head, learns_on, learns_nothing, learns_cleared}
 use Rattle.place_table.proofs.Hands.{now_at_is, in_hand_more}
@@ -55,12 +60,14 @@ use Rattle.lru_lists.specs.declared.notes.RotateNotes.{RotateNotes}
 use Rattle.lru_lists.specs.declared.notes.ShrinkNotes.{ShrinkNotes}
 use Rattle.lru_lists.specs.Notes.{AreNoted}
 use Rattle.lru_lists.specs.Sets.{SetView, IsSet, listed, moved_in, with_free}
-use Rattle.lru_ops.specs.Askings.{asked_by, asked_after, owners_with, owners_after, notes_after, lists_after, touch_by, AreEvicts}
-use Rattle.lru_ops.specs.Evictions.{SawHolders}
+use Rattle.lru_ops.specs.Askings.{asked_by, asked_after, owners_with, owners_after, notes_after, lists_after, touch_by, AreEvicts, changed_after, changed_with}
+use Rattle.lru_ops.specs.Evictions.{SawHolders, AreFreed}
 use Rattle.lru_ops.specs.OwnTurns.{note_of, rows_on, try_of, CanWork, Worked, CanGiveOut, GaveOut, GivesOut, in_turn}
+use Rattle.lru_ops.specs.declared.probing.Destination.TheVariants.{OwnFree}
 use Rattle.lru_ops.proofs.OwnWalk.{now_first, DidOwn, did_own}
 use Rattle.lru_ops.proofs.PassWork.{held_alone}
 use Rattle.lru_ops.proofs.Holders.{saw_on_none, saw_none}
+use Rattle.lru_ops.proofs.OwnersLeft.{own_left}
 use Rattle.percpu_values.specs.BodyList.{popped_from, popped}
 
 -- The free list without its head
@@ -202,6 +209,15 @@ found_new e hash (x ∷ xs) ys none =
     by_test x.element e (λ b. cond b (suc (times e (elements_of xs))) (times e (elements_of xs)) ≡ 0 → option_map (λ (r : Row). r.hash) (cond b (Some x) (find (λ (r : Row). r.element == e) (xs ++ record { element = e; hash = hash } ∷ ys))) ≡ Some hash)
     (λ _ is. absurd (omega (arith, is))) (λ _ is. found_new e hash xs ys is) none
 
+-- what probes of the own set removed was set free
+freed_with : (e : ℕ) (seen : Seen) (changed : List OwnerSeen) → AreFreed changed → AreFreed (changed_with OwnFree e seen changed)
+freed_with e Removed changed freed = (refl, freed)
+freed_with e (Held holder) changed freed = freed
+
+freed_after : (probes : List ProbeCall) (changed : List OwnerSeen) → AreFreed changed → AreFreed (changed_after OwnFree probes changed)
+freed_after [] changed freed = freed
+freed_after (probe ∷ probes) changed freed = freed_after probes (changed_with OwnFree probe.element probe.probed changed) (freed_with probe.element probe.probed changed freed)
+
 -- what comes to a CPU's hand, if anything does
 abbrev pub hand_with_got : Option ℕ → ℕ → List InHand → List InHand
 hand_with_got None cpu hand = hand
@@ -241,6 +257,7 @@ pub record Ready (t : TableView) (hash : ℕ) (turning turning_after : RotateNot
   pub cleared : AreCleared (got_cleared got) (active ++ (inactive ++ looks_told (note_of shrunk looks forced))) (clears_noted notes)
   pub in_order : (behind : List Visit) × (clears_noted notes ≡ (active ++ (inactive ++ looks_told (note_of shrunk looks forced))) ++ behind)
   pub owners : All (ProbeFits notes.owners) (shrink_probes (note_of shrunk looks forced))
+  pub owners_told : (lock : DomainId) (x : ℕ) (owner : Owner) → owner_left notes.changed x owner ≡ owner_by (own_steps q.cpu lock (own.Turn hash active inactive (note_of shrunk looks forced) got)) x owner
   pub came : All (CameToHand s.view (hold_with hold now) notes) (option_to_list got)
   pub probes : List ProbeCall
   pub are_evicts : AreEvicts t.shape q.cpu q.call (rows_on set) probes turns
@@ -315,9 +332,11 @@ module _ {t : TableView} {set worked : SetView} {turning turning_after : RotateN
             above = tt;
             lock_is = h.lock_is ∙ ap (λ (c : ℕ). lock_number t.shape (CpuLru c)) (sym d.goes.cpu);
             cpu_is = h.cpu_is ∙ sym d.goes.cpu;
-            notes = notes_after w.calls w.probes d.notes;
+            notes = notes_after OwnFree w.calls w.probes d.notes;
             below = d.below;
             notes_are = d.noted;
+            freed = subst (λ (l : List OwnerSeen). AreFreed l) (ap (λ (n : Notes). changed_after OwnFree w.probes n.changed) (same_head (sym h.notes_are ∙ d.was_noted))) (freed_after w.probes h.notes.changed h.freed);
+            unchanged = λ x. refl;
           };
           alone = refl;
           hands_empty = λ e cpu among. ap (is_in_hand_of e cpu) d.hand ∙ can.holds.hands_empty e cpu (ap (is_among cpu) (sym d.goes.cpus) ∙ among);
@@ -349,7 +368,7 @@ module _ {t : TableView} {set worked : SetView} {turning turning_after : RotateN
         was = d.was;
         now = lists_after w.probes hold_there.now;
         held = d.held;
-        notes = notes_after w.calls w.probes d.notes;
+        notes = notes_after OwnFree w.calls w.probes d.notes;
         below = d.below;
         was_noted = d.was_noted ∙ ap (λ (n : Notes). n ∷ d.below) n_is;
         noted = d.noted;
@@ -367,7 +386,8 @@ module _ {t : TableView} {set worked : SetView} {turning turning_after : RotateN
         cleared = (λ i. clears_among (reverse (asked_after (k.calls_are i) ((n_is i).asked)))) ∙ clears_told bits;
         in_order = ([], (λ i. clears_among (reverse (asked_after (k.calls_are i) ((n_is i).asked)))) ∙ (clears_told bits ∙ sym (append_nil bits)));
         owners = subst (All (ProbeFits (owners_after w.probes d.notes.owners))) k.probes_are (probes_fit w.probes d.notes.owners);
-        came = All-nil (CameToHand r.view (hold_with hold_there (lists_after w.probes hold_there.now)) (notes_after w.calls w.probes d.notes));
+        owners_told = λ lock x owner. ap (λ (n : Notes). owner_left (changed_after OwnFree w.probes n.changed) x owner) n_is ∙ own_left q.cpu hash lock k.active k.inactive (note_of shrunk k.looks k.forced) None w.probes k.probes_are x owner;
+        came = All-nil (CameToHand r.view (hold_with hold_there (lists_after w.probes hold_there.now)) (notes_after OwnFree w.calls w.probes d.notes));
         probes = w.probes;
         are_evicts = d.are_evicts;
         saw = d.saw;
@@ -395,7 +415,7 @@ module _ {t : TableView} {set worked : SetView} {turning turning_after : RotateN
         let k = w.works in
         let e : ℕ = body.element in
         let n_is : d.notes ≡ no_notes = same_head (sym d.was_noted ∙ fresh) in
-        let n : Notes = notes_after w.calls w.probes d.notes in
+        let n : Notes = notes_after OwnFree w.calls w.probes d.notes in
         let bits : List Visit = k.active ++ (k.inactive ++ looks_told (note_of shrunk k.looks k.forced)) in
         let now : Lists = lists_after w.probes hold_there.now in
         let then : Lists = with_row (CpuLru r.cpu) e (without_free e now) in
@@ -407,7 +427,7 @@ module _ {t : TableView} {set worked : SetView} {turning turning_after : RotateN
         let lock : ℕ = lock_number r.view.shape (CpuLru r.cpu) in
         let here : lock ≡ (hold_with hold_there now).lock = (λ i. lock_number ((d.goes.shape ∙ can.holds.lists.of_table.1) i) (CpuLru (d.goes.cpu i))) ∙ sym can.holds.lists.lock_is in
         let known : now_under (CpuLru r.cpu) r.view ≡ now = now_at_is lock r.view.held (hold_with hold_there now) ((λ i. hold_at (here i) (d.held i)) ∙ hold_at_first (hold_with hold_there now) []) in
-        let noted_then : Notes = record n { came = e ∷ n.came; asked = record { element = e; bit = g.bit; cleared = true } ∷ n.asked } in
+        let noted_then : Notes = record n { came = e ∷ n.came; asked = record { element = e; bit = g.bit; cleared = true } ∷ n.asked; changed = record { element = e; owner = owners.Hand r.cpu } ∷ n.changed } in
         let goes_claim : Goes r m [] [] = subst (λ (z : PassView). Goes r z [] []) (sym m_is) (record {
           table = refl;
           seat = refl;
@@ -453,7 +473,7 @@ module _ {t : TableView} {set worked : SetView} {turning turning_after : RotateN
           below = d.below;
           was_noted = d.was_noted ∙ ap (λ (x : Notes). x ∷ d.below) n_is;
           noted = ap (λ (z : PassView). z.view.notes) s_is ∙ (ap (λ (z : PassView). with_clear e g.bit z.view.notes) m_is
-              ∙ ((λ i. with_clear e g.bit (with_came lock e (d.held i) (d.noted i))) ∙ ap (with_clear e g.bit) (came_first lock e (hold_with hold_there now) n d.below here)));
+              ∙ ((λ i. with_clear e g.bit (with_changed e (owners.Hand r.cpu) (with_came lock e (d.held i) (d.noted i)))) ∙ ap (λ (l : List Notes). with_clear e g.bit (with_changed e (owners.Hand r.cpu) l)) (came_first lock e (hold_with hold_there now) n d.below here)));
           carried = ap (λ (z : PassView). z.view.carried) s_is ∙ (ap (λ (z : PassView). z.view.carried) m_is ∙ d.carried);
           spares = ap (λ (z : PassView). z.spares) s_is ∙ (ap (λ (z : PassView). z.spares) m_is ∙ d.spares);
           hand = hand_is;
@@ -473,6 +493,7 @@ module _ {t : TableView} {set worked : SetView} {turning turning_after : RotateN
           cleared = (bits, g.bit, [], clears_then, append_nil bits);
           in_order = (record { element = e; bit = g.bit } ∷ [], clears_then);
           owners = subst (All (ProbeFits (owners_after w.probes d.notes.owners))) k.probes_are (probes_fit w.probes d.notes.owners);
+          owners_told = λ on x owner. (λ i. cond (e == x) (owners.Hand (d.goes.cpu i)) (owner_left (changed_after OwnFree w.probes ((n_is i).changed)) x owner)) ∙ own_left q.cpu hash on k.active k.inactive (note_of shrunk k.looks k.forced) (Some e) w.probes k.probes_are x owner;
           came = All-cons (CameToHand s.view (hold_with hold_there then) noted_then) e [] ((let more = times_cons_same e n.came in omega (arith, more)), in_hand) (All-nil (CameToHand s.view (hold_with hold_there then) noted_then));
           probes = w.probes;
           are_evicts = d.are_evicts;

@@ -46,7 +46,9 @@ use Rattle.place_table.specs.Known.{BitTouch, IsBy, Learns, turn_at}
 use Rattle.place_table.specs.Passes.{PassView, TableView, IsPassOf, TookLock, CanGive, Gave, GaveBack, MayGiveBack, Goes}
 use Rattle.place_table.specs.StoredHashes.{stored_in}
 use Rattle.place_table.specs.TurnNotes.{AreCleared, CameToHand, ProbeFits, TellsFlush, WasRead, clears_among, clears_noted}
-use Rattle.place_table.specs.Views.{is_among, known_log, holds_below, notes_below, passed_on, no_notes, hold_with}
+use Rattle.place_table.specs.Views.{is_among, known_log, holds_below, notes_below, passed_on, no_notes, hold_with, is_local}
+use Rattle.place_table.specs.Owners.{owner_left}
+use Rattle.place_table.specs.declared.view.OwnerSeen.{OwnerSeen}
 use Rattle.place_table.proofs.Entries.{append_nil}
 use Rattle.place_table.proofs.Telling.{tells_turn}
 use Rattle.place_table.proofs.Going.{AreElsewhere, log_elsewhere, given_turn, goes_on, goes_took, goes_of_table, goes_begun, same_head, learns_on, learns_after, learns_gave, learns_took}
@@ -78,6 +80,8 @@ use Rattle.lru_ops.proofs.OwnTurns.{GaveAs, gave_as, gave_some_as, evicts_bits, 
 use Rattle.lru_ops.proofs.SameFlushes.{flushes_passed, flushes_same, flushes_told}
 use Rattle.lru_ops.proofs.SetWork.{stored_row}
 use Rattle.lru_ops.proofs.FillTaken.{stored_global}
+use Rattle.lru_ops.proofs.OwnersAround.{global_no_probe}
+use Rattle.lru_ops.proofs.OwnersLeft.{global_left}
 
 -- Probes among the rows that were there or flushed
 
@@ -184,6 +188,12 @@ module _ {t : TableView} {lists : LocalView} {p q : PassView} {set : SetView} (r
                 y.hashed row.0 (ap (λ (e : ℕ). row_on e out) same ∙ row.1) j h other held (ap (stored_in (content t.shape (lock_named t.shape j) other.log)) same ∙ before) ∙ row.2;
             gone = λ _ c x h is. absurd (global_no_local c (sym named ∙ is));
           };
+          inside = record {
+            outer = hold_with y.local y.local_now;
+            others = [];
+            held_are = refl;
+            may_be = subst (λ (d : DomainId). IsTrue (is_local d)) (sym (ap (λ (z : Hold). lock_named t.shape z.lock) local_is ∙ (ap (lock_named t.shape) r.lock_is ∙ named_by_number t.shape (Local p.cpu) r.there))) refl;
+          };
           notes_fit = record {
             marks_are = y.no_marks;
             clears_are = cleared_are;
@@ -192,6 +202,10 @@ module _ {t : TableView} {lists : LocalView} {p q : PassView} {set : SetView} (r
             off = subst (All (λ e. flushes e part ≡ true)) (sym y.none_off) (All-nil (λ e. flushes e part ≡ true));
             held = subst (λ (owners : _). All (ProbeFits owners) (shrink_probes (global_note (lacks target) target y.looks y.forced))) (sym y.owners_are) (subst (All (ProbeFits (owners_after y.probes []))) y.tried (probes_fit y.probes []));
             came = All-nil (CameToHand s.view (hold_with y.global y.global_now) y.notes);
+          };
+          owners_fit = λ _. record {
+            changes = λ x owner. ap (λ (l : List OwnerSeen). owner_left l x owner) y.changed_is ∙ global_left s.cpu y.flushed y.active y.inactive y.free (global_note (lacks target) target y.looks y.forced) y.probes y.tried x owner;
+            probed = λ x holder is. absurd (global_no_probe turn x holder is);
           };
         }
 
@@ -376,6 +390,7 @@ module _ {t : TableView} {lists : LocalView} {p q : PassView} {set : SetView} (r
         noted = notes_left;
         no_marks = y.around_marks;
         none_asked = y.around_asked;
+        none_changed = y.around_changed;
         told_inside = flushes_there;
         off_is = y.around_off;
         hand = g.hand ∙ (y.hand ∙ ap (λ (z : PassView). z.view.hand) took.after_is);

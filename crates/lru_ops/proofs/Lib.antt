@@ -24,6 +24,8 @@ pub mod NoneFound
 pub mod Offering
 pub mod OwnTurns
 pub mod OwnWalk
+pub mod OwnersAround
+pub mod OwnersLeft
 pub mod PassWork
 pub mod Popped
 pub mod Pushes

@@ -15,6 +15,7 @@ use Rattle.map_types.specs.Kind.{is_lru}
 use Rattle.map_types.specs.Listed.{elements_of}
 use Rattle.map_types.proofs.CreationLemmas.{bounds_of_shape}
 use Rattle.key_hash.specs.Bucket.{bucket_number, IsPowerOfTwo}
+use Rattle.owner_words.specs.Owners.{owner_by, owner_told}
 use Rattle.place_words.specs.declared.bucket_part.BucketPart.TheVariants.{Evict}
 use Rattle.place_words.specs.declared.bucket_part.Seen.TheVariants.{Held}
 use Rattle.place_words.specs.declared.history.Entry.{Entry}
@@ -33,6 +34,8 @@ use Rattle.place_words.proofs.LockLemmas.{named_by_number}
 use Rattle.place_words.specs.declared.step.Lists.{Lists}
 use Rattle.place_words.specs.State.{rows}
 use Rattle.place_words.specs.Wholeness.{all_of}
+use Rattle.place_words.specs.Interleaving.{local_steps}
+use Rattle.place_words.specs.declared.owner.Owner.{Owner}
 use Rattle.place_table.specs.declared.content.Content.TheVariants as contents
 use Rattle.place_table.specs.declared.view.Hold.{Hold}
 use Rattle.place_table.specs.declared.view.Notes.{Notes}
@@ -45,6 +48,7 @@ use Rattle.place_table.specs.Passes.{PassView, TableView, IsPassOf, HasBegun, To
 use Rattle.place_table.specs.StoredHashes.{stored_in}
 use Rattle.place_table.specs.TurnNotes.{NotesFit, clears_noted}
 use Rattle.place_table.specs.Views.{is_among, is_in_hand_of, hold_at, known_log, came_last, hashes_given, holds_below, notes_below, passed_on, no_notes, hold_with}
+use Rattle.place_table.specs.Owners.{owner_left}
 use Rattle.place_table.proofs.Entries.{append_nil}
 use Rattle.place_table.proofs.Telling.{tells_turn}
 use Rattle.place_table.proofs.Going.{AreElsewhere, log_elsewhere, given_turn, goes_on, goes_took, goes_of_table, goes_begun, same_head, learns_on, learns_after, learns_gave, learns_took}
@@ -60,6 +64,7 @@ use Rattle.lru_ops.proofs.EvictTurns.{bucket_apart}
 use Rattle.lru_ops.proofs.Holders.{TellsNoHolder, saw_on, saw_none, saw_nothing, saw_on_both, saw_both}
 use Rattle.lru_ops.proofs.OwnTurns.{GaveAs, evict_lock, evicts_by, evicts_bits, evicts_told, chase_of, cleared_times}
 use Rattle.lru_ops.proofs.OwnWalk.{hold_at_only}
+use Rattle.lru_ops.proofs.OwnersAround.{local_no_probe}
 
 -- Where the CPUs share lists, each has local ones.
 pub local_there : (shape : Shape) (cpu : ℕ) → IsTrue shape.common → cpu < shape.cpus → IsTrue (is_lock shape (Local cpu))
@@ -98,6 +103,7 @@ pub record ReadyAround (t : TableView) (part : LocalPart) (lists out : LocalView
   pub rows_kept : (x h n : ℕ) → (is_in_hand_of x hold.cpu s.view.hand && is_among x notes.came) ≡ false → stored_hash x lists.pending ≡ Some h → stored_hash x out.pending ≡ Some n → h ≡ n
   pub gone : (x h : ℕ) → stored_hash x lists.pending ≡ Some h → times x (all_of now) ≡ 0 → (is_in_hand_of x hold.cpu s.view.carried ≡ true) ⊎ (flushes x (parts.Local part) ≡ true)
   pub notes_fit : NotesFit t.shape s.view (hold_with hold now) (parts.Local part) notes
+  pub owners_told : (lock : DomainId) (x : ℕ) (owner : Owner) → owner_left notes.changed x owner ≡ owner_by (local_steps q.cpu lock part) x owner
   pub stays : IsFalse (found_moved_on part)
   pub saw : SawHolders t.shape q s (steps ++ inner)
   pub learns : Learns t.shape q.view s.view steps (bits_of_turns t.shape inner ++ (map reads_bit (local_reads part) ++ map clears_bit (local_also part)))
@@ -119,6 +125,7 @@ pub record ReadyLocal (t : TableView) (part : LocalPart) (lists out : LocalView)
   pub rows_kept : (x h n : ℕ) → (is_in_hand_of x hold.cpu s.view.hand && is_among x notes.came) ≡ false → stored_hash x lists.pending ≡ Some h → stored_hash x out.pending ≡ Some n → h ≡ n
   pub gone : (x h : ℕ) → stored_hash x lists.pending ≡ Some h → times x (all_of now) ≡ 0 → is_in_hand_of x hold.cpu s.view.carried ≡ true
   pub notes_fit : NotesFit t.shape s.view (hold_with hold now) (parts.Local part) notes
+  pub owners_told : (lock : DomainId) (x : ℕ) (owner : Owner) → owner_left notes.changed x owner ≡ owner_by (local_steps q.cpu lock part) x owner
   pub stays : IsFalse (found_moved_on part)
   pub probes : List ProbeCall
   pub are_evicts : AreEvicts t.shape q.cpu q.call lists.pending probes turns
@@ -220,7 +227,12 @@ module _ {t : TableView} {c : ℕ} {lists : LocalView} {p q : PassView} (b : OnL
                 y.rows_kept x h n (ap (λ (l : List Notes). is_in_hand_of x b.took.hold.cpu s.view.hand && is_among x (came_last l)) (sym y.noted) ∙ not_mine) (sym (stored_pending lists x) ∙ was) (sym (stored_pending out x) ∙ after);
             gone = λ _ d x h _ before none. y.gone x h (sym (stored_pending lists x) ∙ ((λ i. stored_in (found_local i) x) ∙ before)) none;
           };
+          inside = tt;
           notes_fit = y.notes_fit;
+          owners_fit = λ _. record {
+            changes = λ x owner. y.owners_told (lock_named t.shape b.took.hold.lock) x owner ∙ ap (λ (n : ℕ). owner_told t.shape (lock_named t.shape b.took.hold.lock) n entry_part x owner) (sym y.goes.cpu);
+            probed = λ x holder is. absurd (local_no_probe part x holder is);
+          };
         }
 
     pub may_give_around : (given_part : Option Part) → IfSome given_part (λ x. x ≡ entry_part) → MayGiveBack t (Local c) s (contents.Local out) given_part
@@ -369,6 +381,7 @@ module _ {t : TableView} {c : ℕ} {lists : LocalView} {p q : PassView} (b : OnL
           rows_kept = y.rows_kept;
           gone = λ x h before none_left. inl (y.gone x h before none_left);
           notes_fit = y.notes_fit;
+          owners_told = y.owners_told;
           stays = y.stays;
           saw = saw_twice t.shape q s y.turns y.saw;
           learns = subst (λ (l : List BitTouch). Learns t.shape q.view s.view y.turns (l ++ bits)) (sym none) y.learns;

@@ -7,6 +7,7 @@ use Rattle.map_types.specs.declared.kind.DomainId.{DomainId}
 use Rattle.map_types.specs.declared.kind.DomainId.TheVariants.{Local}
 use Rattle.map_types.specs.ElementLists.{times, IsHead}
 use Rattle.map_types.specs.Stored.{Stored, IsSized}
+use Rattle.place_words.specs.declared.owner.Owner.TheVariants as owners
 use Rattle.place_words.specs.Bodies.{numbers}
 use Rattle.place_words.specs.Locks.{lock_number}
 use Rattle.place_words.specs.declared.step.Lists.{Lists}
@@ -17,7 +18,7 @@ use Rattle.place_table.specs.declared.view.View.{View}
 use Rattle.place_table.specs.Calls.{clears_bit}
 use Rattle.place_table.specs.Known.{Learns}
 use Rattle.place_table.specs.Passes.{PassView, TableView, CanClaim, CanClear, Claimed, Cleared, Goes}
-use Rattle.place_table.specs.Views.{is_in_hand_of, hold_at, now_under, with_came, with_clear, with_in_hand, with_now, cleared as cleared_view, hold_with}
+use Rattle.place_table.specs.Views.{is_in_hand_of, hold_at, now_under, with_came, with_clear, with_in_hand, with_now, cleared as cleared_view, hold_with, with_changed}
 use Rattle.place_table.proofs.Going.{goes_on, goes_noted, goes_of_table, goes_begun, learns_on, learns_cleared}
 use Rattle.place_table.proofs.Hands.{in_hand_more, now_at_is}
 use Rattle.place_table.proofs.Worlds.{hold_at_first}
@@ -28,6 +29,7 @@ use Rattle.lru_ops.specs.LocalWork.{CanMakePending, MadePending}
 use Rattle.lru_ops.proofs.GivingOut.{came_first, forget_seen, popped_sized, first_of, head_number, without_head}
 use Rattle.lru_ops.proofs.Holders.{saw_on_none, saw_none}
 use Rattle.lru_ops.proofs.Removed.{goes_placed, learns_placed, now_first}
+use Rattle.lru_ops.proofs.OwnersAround.{unchanged_alone}
 use Rattle.percpu_values.specs.BodyList.{popped}
 
 -- The head of free
@@ -53,6 +55,7 @@ can_claim_free {t} {lists} {p} {body} element lock can own top number =
       held = own_held can;
       cpu_is = can.cpu_is;
       head = subst (λ (l : List ℕ). IsHead body.element l) (sym can.free_is) (top_is_head lists.free.bodies body top);
+      around = λ _. unchanged_alone p.view can.hold body.element can.held;
     }
 
 pub can_clear_free : {t : TableView} {lists : LocalView} {p m : PassView} {body : Stored} (element : ℕ) (lock : DomainId) → CanMakePending t lists p → Some body ≡ slice_get lists.free.bodies 0 → element ≡ body.element → Claimed lock element p m → CanClear t element m
@@ -122,14 +125,14 @@ module _ {t : TableView} {hash : ℕ} {before after : LocalView} {p q : PassView
 
   -- what is noted then
   abbrev pub noted_with : Notes → Notes
-  noted_with n = record n { came = e ∷ n.came; asked = record { element = e; bit = g.bit; cleared = true } ∷ n.asked }
+  noted_with n = record n { came = e ∷ n.came; asked = record { element = e; bit = g.bit; cleared = true } ∷ n.asked; changed = record { element = e; owner = owners.Hand p.cpu } ∷ n.changed }
 
   pub noted_given : (n : Notes) (below : List Notes) → p.view.notes ≡ n ∷ below → q.view.notes ≡ noted_with n ∷ below
   noted_given n below was =
       let k : ℕ = lock_number p.view.shape (Local p.cpu) in
       ap (λ (z : PassView). z.view.notes) g.cleared.after_is
       ∙ (ap (λ (z : PassView). with_clear e g.bit z.view.notes) g.claimed.1
-      ∙ ((λ i. with_clear e g.bit (with_came k e (can.held i) (was i))) ∙ ap (with_clear e g.bit) (came_first k e can.hold n below number_is)))
+      ∙ ((λ i. with_clear e g.bit (with_changed e (owners.Hand p.cpu) (with_came k e (can.held i) (was i)))) ∙ ap (λ (l : List Notes). with_clear e g.bit (with_changed e (owners.Hand p.cpu) l)) (came_first k e can.hold n below number_is)))
 
   pub hand_given : q.view.hand ≡ with_in_hand e p.cpu p.view.hand
   hand_given = ap (λ (z : PassView). z.view.hand) g.cleared.after_is ∙ ap (λ (z : PassView). z.view.hand) g.claimed.1

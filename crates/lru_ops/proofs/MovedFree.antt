@@ -47,6 +47,7 @@ use Rattle.lru_ops.proofs.GlobalWalk.{free_rows, elements_of_free, length_free}
 use Rattle.lru_ops.proofs.Holders.{saw_on, saw_none, saw_nothing}
 use Rattle.lru_ops.proofs.Removed.{came_second, changed_first, changed_second, goes_placed, learns_placed}
 use Rattle.lru_ops.proofs.SetWork.{rows_few, length_numbers}
+use Rattle.lru_ops.proofs.OwnersAround.{freed_named, unchanged_around, unchanged_named}
 use Rattle.percpu_values.specs.BodyList.{pushed, popped}
 
 module _ {t : TableView} {set : SetView} {lists : LocalView} {p : PassView} {body : Stored} (can : CanFill t set lists p) (top : Some body ≡ slice_get set.free.bodies 0) where
@@ -126,6 +127,7 @@ module _ {t : TableView} {set : SetView} {lists : LocalView} {p : PassView} {bod
     from = homes.In Global;
     home = at_global;
     goes = (holds_own_local can, inl known_free);
+    around = λ _. unchanged_around can.walk.holds.lists e;
   }
 
   -- and it went to the local lists
@@ -229,6 +231,8 @@ module _ {t : TableView} {set : SetView} {lists : LocalView} {p : PassView} {bod
         notes = can.notes;
         below = around_then ∷ can.below;
         notes_are = noted_r;
+        freed = freed_named can.walk.holds.lists can.notes (can.around ∷ can.below) can.noted;
+        unchanged = λ x. unchanged_named can.walk.holds.lists (global_hold can) (local_hold can) can.notes can.around can.below (both_held can) can.noted x;
       };
       local_there = subst (λ (c : ℕ). IsTrue (is_lock t.shape (Local c))) (sym to_r.cpu) can.walk.holds.local_there;
       local = hold_with (local_hold can) local_then;

@@ -20,6 +20,7 @@ use Rattle.map_types.proofs.CreationLemmas.{bounds_of_shape}
 use Rattle.map_types.proofs.RowLemmas.{by_test}
 use Rattle.key_hash.specs.Bucket.{bucket_number, IsPowerOfTwo}
 use Rattle.key_hash.proofs.Buckets.{bucket_number-lt}
+use Rattle.owner_words.specs.Owners.{owner_told}
 use Rattle.place_words.specs.declared.bucket_part.BucketPart.TheVariants.{Evict}
 use Rattle.place_words.specs.declared.bucket_part.Seen.{Seen}
 use Rattle.place_words.specs.declared.history.Entry.{Entry}
@@ -72,6 +73,7 @@ use Rattle.lru_ops.proofs.GivingOut.{Ready, ready, hand_with_got, found_new, row
 use Rattle.lru_ops.proofs.Holders.{saw_on, saw_none, saw_both, own_tells_none}
 use Rattle.lru_ops.proofs.NoneFound.{shrank_none, held_elsewhere}
 use Rattle.lru_ops.proofs.PassWork.{stored_here}
+use Rattle.lru_ops.proofs.OwnersAround.{own_no_probe}
 
 -- Where each CPU has lists of its own, the map has their locks.
 pub own_set_there : (shape : Shape) (cpu : ℕ) → IsTrue (is_lru shape.kind) → shape.common ≡ false → cpu < shape.cpus → IsTrue (is_lock shape (CpuLru cpu))
@@ -109,6 +111,8 @@ can_work t p q set is_shape evicts there can took =
           notes = no_notes;
           below = p.view.notes;
           notes_are = ap (λ (v : View). v.notes) view;
+          freed = tt;
+          unchanged = λ x. refl;
         };
         alone = refl;
         hands_empty = λ e cpu among. ap (λ (v : View). is_in_hand_of e cpu v.hand) view ∙ none_in_hand t p can evicts e cpu (ap (λ (v : View). is_among cpu v.cpus) (sym view) ∙ among);
@@ -343,6 +347,7 @@ module _ {t : TableView} {p q s : PassView} {set out : SetView} {hash : ℕ} {tu
               y.rows_kept x h n (ap (λ (l : List Notes). is_in_hand_of x y.hold.cpu s.view.hand && is_among x (came_last l)) (sym y.noted) ∙ not_mine) (sym (stored_here set x) ∙ was) (sym (stored_here out x) ∙ (ap (λ (c : Content). stored_in c x) (sym out_there) ∙ after));
           gone = λ _ c x h is. absurd (set_no_local p.cpu c (sym named ∙ is));
         };
+        inside = tt;
         notes_fit = record {
           marks_are = y.marks;
           clears_are = y.cleared;
@@ -351,6 +356,10 @@ module _ {t : TableView} {p q s : PassView} {set out : SetView} {hash : ℕ} {tu
           off = subst (All (λ e. flushes e part ≡ true)) (sym y.off) (All-nil (λ e. flushes e part ≡ true));
           held = y.owners;
           came = y.came;
+        };
+        owners_fit = λ _. record {
+          changes = λ x owner. y.owners_told (lock_named t.shape y.hold.lock) x owner ∙ ap (λ (c : ℕ). owner_told t.shape (lock_named t.shape y.hold.lock) c part x owner) (sym y.goes.cpu);
+          probed = λ x holder is. absurd (own_no_probe _ x holder is);
         };
       }
 

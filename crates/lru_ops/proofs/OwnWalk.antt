@@ -52,7 +52,7 @@ pub record DidOwn (t : TableView) (rows : List Row) (calls : List BitCall) (prob
   pub notes : Notes
   pub below : List Notes
   pub was_noted : before.view.notes ≡ notes ∷ below
-  pub noted : after.view.notes ≡ notes_after calls probes notes ∷ below
+  pub noted : after.view.notes ≡ notes_after OwnFree calls probes notes ∷ below
   pub carried : after.view.carried ≡ before.view.carried
   pub hand : after.view.hand ≡ before.view.hand
   pub spares : after.spares ≡ before.spares
@@ -69,7 +69,7 @@ did_own {t} {rows} {calls} {probes} {before} {after} hold was d = record {
   notes = d.notes;
   below = d.below;
   was_noted = d.was_noted;
-  noted = d.noted ∙ ap (λ (l : List Notes). notes_after calls probes d.notes ∷ l) (own_came probes d.below);
+  noted = d.noted ∙ ap (λ (l : List Notes). notes_after OwnFree calls probes d.notes ∷ l) (own_came probes d.below);
   carried = d.carried ∙ taken_none OwnFree own_taken before.cpu probes before.view.carried;
   hand = d.hand ∙ taken_none OwnFree own_taken before.cpu probes before.view.hand;
   spares = d.spares;

@@ -117,6 +117,7 @@ module _ {t : TableView} {lists : LocalView} {p q : PassView} (b : OnLocal t p.c
         held = All-nil (ProbeFits []);
         came = All-cons (CameToHand s.view (hold_with hold now) noted_here) e [] ((let more = times_cons_same e [] in omega (arith, more)), in_hand_given can g) (All-nil (CameToHand s.view (hold_with hold now) noted_here));
       };
+      owners_told = λ lock x owner. refl;
       stays = refl;
       probes = [];
       are_evicts = tt;

@@ -25,6 +25,7 @@ use Rattle.place_words.specs.Bodies.{numbers}
 use Rattle.place_words.specs.Histories as histories
 use Rattle.place_words.specs.declared.visits.Visit.{Visit}
 use Rattle.place_words.specs.Histories.{content, content_after, Allows, IsLegal, marks, bits_cleared, bits_read, also_cleared}
+use Rattle.place_words.specs.Interleaving.{is_inner}
 use Rattle.place_words.specs.Locks.{is_lock, lock_named, lock_number}
 use Rattle.place_words.specs.SerialOrder.{probes_in}
 use Rattle.place_words.specs.Sets.{ListSet, has_row, is_listed, own_after, pushed_free}
@@ -36,6 +37,7 @@ use Rattle.place_words.specs.declared.step.Lists.{Lists}
 use Rattle.place_words.specs.State.{rows, is_bucket}
 use Rattle.place_words.specs.Steps as steps
 use Rattle.place_words.specs.Wholeness.{all_of}
+use Rattle.place_words.specs.declared.owner.Owner.TheVariants.{Free}
 use Rattle.place_words.proofs.ElementLemmas.{times_without_same, times_without_other}
 use Rattle.place_words.proofs.OpeningLemmas.{its_cpu_is, its_quotient}
 use Rattle.place_table.specs.declared.content.Content.{Content}
@@ -52,8 +54,10 @@ use Rattle.place_table.specs.Known.{BitTouch, Learns, KnowsAll, SeesBit, turn_of
 use Rattle.place_table.specs.Passes.{PassView, TableView, TookLock, CanGive, CanSettle, Gave, Goes, Cleared, Settled, entry_of}
 use Rattle.place_table.specs.StoredHashes.{stored_in}
 use Rattle.place_table.specs.TurnNotes.{NotesFit, WasRead, AreCleared, FlushedFit, clears_noted, given_out_by, ProbeFits, CameToHand}
-use Rattle.place_table.specs.Views.{hold_at, is_in_hand_of, now_under, without_in_hand, with_clear, bits_with, bit_seen, touching, no_notes, notes_below, holds_below, with_now, learned, passed_on, hold_with}
+use Rattle.place_table.specs.Views.{hold_at, is_in_hand_of, now_under, without_in_hand, with_clear, bits_with, bit_seen, touching, no_notes, notes_below, holds_below, with_now, learned, passed_on, hold_with, with_changed}
 use Rattle.place_table.specs.Words.{owner_word, bit_word}
+use Rattle.place_table.specs.Owners.{OwnersFit}
+use Rattle.place_table.proofs.Nesting.{made_alone}
 use Rattle.place_table.proofs.Entries.{append_nil}
 use Rattle.place_table.proofs.Going.{goes_on, goes_took, goes_moved, goes_noted, goes_gave, goes_of_table, goes_begun, given_turn, same_head, learns_on, learns_after, learns_took, learns_moved, learns_cleared, learns_gave}
 use Rattle.place_table.proofs.Hands.{now_at_is}
@@ -64,6 +68,7 @@ use Rattle.place_table.proofs.Telling.{tells_turn}
 use Rattle.lru_ops.specs.Lists.{Changed, CanFree, Freed}
 use Rattle.lru_ops.specs.Shared.{FreedBy, HasTouched}
 use Rattle.percpu_values.specs.BodyList.{pushed}
+use Rattle.lru_ops.proofs.OwnersAround.{free_of_none, own_no_probe, unchanged_alone}
 
 -- The set in which an element lives
 
@@ -182,9 +187,9 @@ touched_gave s z part gave =
 
 -- Turns under way
 
--- what is noted of a turn in which the bit of one element was cleared
+-- what is noted of a turn in which the bit of one element was cleared and it was set free
 abbrev pub with_clear_of : ℕ → Bool → Notes
-with_clear_of e bit = record { came = []; marks = []; asked = record { element = e; bit = bit; cleared = true } ∷ []; owners = []; homes = []; flushed = []; off = [] }
+with_clear_of e bit = record { came = []; marks = []; asked = record { element = e; bit = bit; cleared = true } ∷ []; owners = []; homes = []; flushed = []; off = []; changed = record { element = e; owner = Free } ∷ [] }
 
 -- The pass held no lock, took this one, and did this since: these lists lie there now, this is noted of the turn, and these steps
 -- were made on bits.
@@ -293,6 +298,7 @@ module _ {t : TableView} {lock : DomainId} {p q : PassView} {body : Stored} {her
       has_free_list = has_free_list;
       in_hand = ap (λ (z : PassView). is_in_hand_of body.element z.cpu z.view.hand) clear.after_is ∙ (ap (λ (z : PassView). is_in_hand_of body.element z.cpu z.view.hand) took.after_is ∙ can.in_hand);
       listed = λ _. listed;
+      around = λ _. free_of_none r.view body.element (unchanged_alone r.view took.hold body.element held_cleared);
     }
 
     -- and settles there
@@ -302,11 +308,11 @@ module _ {t : TableView} {lock : DomainId} {p q : PassView} {body : Stored} {her
 
       pub underway_pushed : Underway t took.hold p s (steps.with_free body.element (steps.without_row body.element took.hold.now)) (with_clear_of body.element bit) (clears_bit body.element ∷ [])
       underway_pushed = record {
-        goes = goes_on p r s [] [] [] [] to_here (goes_moved settle.0 number_then now_then (without_in_hand body.element r.cpu r.view.hand) r.view.notes (owner_word r.view.shape body.element) 0 r s settle.1);
+        goes = goes_on p r s [] [] [] [] to_here (goes_moved settle.0 number_then now_then (without_in_hand body.element r.cpu r.view.hand) (with_changed body.element Free r.view.notes) (owner_word r.view.shape body.element) 0 r s settle.1);
         held = ap (λ (z : PassView). z.view.held) settle.1 ∙ (ap (with_now number_then now_then) held_cleared
             ∙ (by_test took.hold.lock number_then (λ b. cond b (hold_with took.hold now_then ∷ []) (took.hold ∷ []) ≡ hold_with took.hold now_then ∷ []) (λ _. refl) (λ other. absurd (other (sym number_here)))
             ∙ ap (λ (now : Lists). hold_with took.hold (steps.with_free body.element (steps.without_row body.element now)) ∷ []) now_is));
-        noted = ap (λ (z : PassView). z.view.notes) settle.1 ∙ (ap (λ (z : PassView). z.view.notes) clear.after_is ∙ ap (λ (z : PassView). with_clear body.element bit z.view.notes) took.after_is);
+        noted = ap (λ (z : PassView). z.view.notes) settle.1 ∙ (ap (λ (z : PassView). with_changed body.element Free z.view.notes) clear.after_is ∙ ap (λ (z : PassView). with_changed body.element Free (with_clear body.element bit z.view.notes)) took.after_is);
         spares = ap (λ (z : PassView). z.spares) settle.1 ∙ (ap (λ (z : PassView). z.spares) clear.after_is ∙ ap (λ (z : PassView). z.spares) took.after_is);
         carried = ap (λ (z : PassView). z.view.carried) settle.1 ∙ (ap (λ (z : PassView). z.view.carried) clear.after_is ∙ ap (λ (z : PassView). z.view.carried) took.after_is);
         touched = touched_on p r s (touched_on p q r touched_there (has_touched q r _ (ap (λ (z : PassView). z.view.touched) clear.after_is) (ap (λ (z : PassView). z.view.homes_read) clear.after_is))) (has_touched r s _ (ap (λ (z : PassView). z.view.touched) settle.1) (ap (λ (z : PassView). z.view.homes_read) settle.1));
@@ -314,7 +320,7 @@ module _ {t : TableView} {lock : DomainId} {p q : PassView} {body : Stored} {her
             let known : Learns t.shape q.view r.view [] (clears_bit body.element ∷ []) = learns_any (subst (λ (z : PassView). Learns t.shape q.view z.view [] (record { element = body.element; seen = Some bit; left = false } ∷ [])) (sym clear.after_is) (learns_cleared t.shape clear.at body.element bit q.view clear.known)) in
             learns_on t.shape p.view r.view s.view [] [] (clears_bit body.element ∷ []) []
             (learns_after t.shape p.view q.view r.view [] (clears_bit body.element ∷ []) (learns_took t lock p q here took) known)
-            (learns_moved t.shape settle.0 number_then now_then (without_in_hand body.element r.cpu r.view.hand) r.view.notes (owner_word r.view.shape body.element) 0 r s settle.1);
+            (learns_moved t.shape settle.0 number_then now_then (without_in_hand body.element r.cpu r.view.hand) (with_changed body.element Free r.view.notes) (owner_word r.view.shape body.element) 0 r s settle.1);
       }
 
       pub hand_pushed : s.view.hand ≡ without_in_hand body.element p.cpu p.view.hand
@@ -324,8 +330,8 @@ module _ {t : TableView} {lock : DomainId} {p q : PassView} {body : Stored} {her
 
   -- what was done so far may be given back, by a part that leads there
   module _ {s : PassView} {now : Lists} {notes : Notes} {touches : List BitTouch} (u : Underway t took.hold p s now notes touches) {back : Content} {part : Part} where
-    pub can_give_under : Leads t lock s.cpu here back now part → NotesFit t.shape s.view (hold_with took.hold now) part notes → CanGive t lock s back part
-    can_give_under leads noted =
+    pub can_give_under : Leads t lock s.cpu here back now part → NotesFit t.shape s.view (hold_with took.hold now) part notes → OwnersFit t.shape s.view (hold_with took.hold now) s.cpu part notes → IsFalse (is_inner part) → CanGive t lock s back part
+    can_give_under leads noted owners alone =
         let begun = goes_begun p s [] [] u.goes can.begun in record {
           of_table = goes_of_table t p s [] [] u.goes can.of_table;
           begun = begun;
@@ -349,7 +355,9 @@ module _ {t : TableView} {lock : DomainId} {p q : PassView} {body : Stored} {her
             gone = λ _ on x h is_local was none.
                 let inside = leads.none_gone x (stored_listed (content_told lock here) x h (ap (λ (z : histories.Content). stored_in z x) found ∙ was)) in absurd (omega (arith, none, inside));
           };
+          inside = made_alone t.shape part [] alone;
           notes_fit = noted;
+          owners_fit = λ _. owners;
         }
       where
         was_there : (j : ℕ) (other : Hold) → hold_at j s.view.held ≡ Some other → content_told lock here ≡ content t.shape (lock_named t.shape j) other.log
@@ -396,13 +404,15 @@ module _ {t : TableView} {lock : DomainId} {p q : PassView} {body : Stored} {her
 
 -- Pushes
 
--- This part of a push clears the bit of the element alone, reads nothing and hands nothing on.
+-- This part of a push clears the bit of the element alone, sets it free, reads nothing and hands nothing on, and its turn is made inside none.
 pub record IsPush (shape : Shape) (e : ℕ) (part : Part) : Type 0 where
   pub noted : (v : View) (hold : Hold) (bit : Bool) → NotesFit shape v hold part (with_clear_of e bit)
+  pub owners : (v : View) (hold : Hold) (cpu : ℕ) (bit : Bool) → OwnersFit shape v hold cpu part (with_clear_of e bit)
   pub bits : bits_of_part shape part ≡ clears_bit e ∷ []
   pub none_told : bits_cleared part ≡ []
   pub hands_on : (all : List Notes) → passed_on part all ≡ notes_below all
   pub finds_it : IsFalse (finds_moved_on part)
+  pub alone : IsFalse (is_inner part)
 
 -- the turn of a push, from the take of its lock
 module _ {t : TableView} {lock : DomainId} {p q r s : PassView} {body : Stored} {here : Content} {bit : Bool} {part : Part} (push : IsPush t.shape body.element part) (is_there : IsTrue (is_lock t.shape lock)) (can : CanFree t body p) (took : TookLock t lock p q here) (clear : Cleared body.element q r bit) (settle : Settled lock body.element r s) where
@@ -413,7 +423,7 @@ module _ {t : TableView} {lock : DomainId} {p q r s : PassView} {body : Stored} 
   pushed_here = underway_pushed is_there can took clear settle
 
   pub can_give_pushed : {back : Content} → Leads t lock s.cpu here back now_pushed part → CanGive t lock s back part
-  can_give_pushed leads = can_give_under is_there can took pushed_here leads (push.noted s.view (hold_with took.hold now_pushed) bit)
+  can_give_pushed leads = can_give_under is_there can took pushed_here leads (push.noted s.view (hold_with took.hold now_pushed) bit) (push.owners s.view (hold_with took.hold now_pushed) s.cpu bit) push.alone
 
   pub freed : {back : Content} (z : PassView) → IsTrue (is_lru t.shape.kind) → CanGive t lock s back part → Gave s z part → FreedBy t (on_lock lock part) body p z
   freed z lru meant gave =
@@ -541,10 +551,12 @@ own_push e = parts.Own (own.Push e)
 is_own_push : (shape : Shape) (e : ℕ) → IsPush shape e (own_push e)
 is_own_push shape e = record {
   noted = λ v hold bit. fits_with shape v hold (own_push e) (with_clear_of e bit) refl ([], bit, [], refl, refl) refl tt refl refl refl;
+  owners = λ v hold cpu bit. record { changes = λ x owner. refl; probed = λ x holder is. absurd (own_no_probe (own.Push e) x holder is) };
   bits = refl;
   none_told = refl;
   hands_on = λ all. refl;
   finds_it = refl;
+  alone = refl;
 }
 
 pub freed_own : {t : TableView} {body : Stored} {c : ℕ} {p z : PassView} → t.shape.common ≡ false → c ≡ set_of t.shape body.element → FreedBy t (on_lock (CpuLru c) (own_push body.element)) body p z → Freed t body p z

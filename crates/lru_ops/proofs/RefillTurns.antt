@@ -10,6 +10,7 @@ use Rattle.map_types.specs.ElementLists.{times, IsIn}
 use Rattle.map_types.specs.Listed.{elements_of}
 use Rattle.map_types.specs.Stored.{Stored}
 use Rattle.map_types.proofs.RowLemmas.{by_test}
+use Rattle.place_words.specs.declared.owner.Owner.TheVariants as owners
 use Rattle.place_words.specs.declared.history.Part.{Part}
 use Rattle.place_words.specs.declared.history.Part.TheVariants as parts
 use Rattle.place_words.specs.declared.list_part.LocalPart.{LocalPart}
@@ -35,9 +36,12 @@ use Rattle.place_table.specs.declared.view.Turned.{Turned}
 use Rattle.place_table.specs.Calls.{CanCall, bits_of_turns, clears_bit}
 use Rattle.place_table.specs.Flushes.{is_visited}
 use Rattle.place_table.specs.Known.{Learns, turn_at}
+use Rattle.place_table.specs.Nested.{AreOutside}
 use Rattle.place_table.specs.Passes.{PassView, TableView, CanGive, Gave, GaveBack, Goes, MayGiveBack, TookLock}
 use Rattle.place_table.specs.TurnNotes.{WasRead, ProbeFits, CameToHand, clears_among}
 use Rattle.place_table.specs.Views.{is_among, is_in_hand_of, notes_below, bucket_known, with_in_hand, hold_with}
+use Rattle.place_table.specs.Owners.{owner_left}
+use Rattle.place_table.specs.declared.view.OwnerSeen.{OwnerSeen}
 use Rattle.place_table.proofs.Came.{came_among}
 use Rattle.place_table.proofs.Entries.{append_nil}
 use Rattle.place_table.proofs.Going.{AreElsewhere, given_turn, goes_on, goes_of_table, goes_begun, learns_on, same_head}
@@ -124,6 +128,7 @@ module _ {t : TableView} {lists : LocalView} {p q : PassView} (b : OnLocal t p.c
     held = taken_held b;
     lock_is = b.took.lock_is ∙ ap (λ (c : ℕ). lock_number t.shape (Local c)) (sym (to_q b).cpu);
     cpu_is = b.took.cpu_is ∙ sym (to_q b).cpu;
+    outside = subst (λ (z : PassView). AreOutside b.took.hold.lock b.took.hold.log z.view.steps) (sym b.took.after_is) b.took.outside;
     found = b.took.told_is ∙ ap (λ (c : ℕ). content t.shape (Local c) b.took.hold.log) (sym (to_q b).cpu);
     now = b.took.now;
     fits = b.took.fits;
@@ -223,6 +228,7 @@ module _ {t : TableView} {lists : LocalView} {p q : PassView} (b : OnLocal t p.c
         held = All-nil (ProbeFits f.notes.owners);
         came = All-nil (CameToHand r.view (hold_with hold f.now) f.notes);
       };
+      owners_told = λ lock x owner. ap (λ (l : List OwnerSeen). owner_left l x owner) f.none_changed;
       stays = refl;
       saw = f.saw;
       learns = subst (Learns t.shape q.view r.view f.steps) (sym (append_nil (bits_of_turns t.shape f.told_steps))) f.learns;
@@ -293,6 +299,7 @@ module _ {t : TableView} {lists : LocalView} {p q : PassView} (b : OnLocal t p.c
           held = All-nil (ProbeFits f.notes.owners);
           came = All-cons (CameToHand s.view (hold_with hold now) noted_here) e [] ((let more = times_cons_same e f.notes.came in omega (arith, more)), in_hand_given can g) (All-nil (CameToHand s.view (hold_with hold now) noted_here));
         };
+        owners_told = λ lock x owner. λ i. cond (eqb e x) (owners.Hand (f.goes.cpu i)) (owner_left (f.none_changed i) x owner);
         stays = refl;
         saw = saw_on_none t.shape q r s (f.steps ++ f.told_steps) f.saw (saw_given can g);
         learns = subst (λ (l : List Turned). Learns t.shape q.view s.view l (bits_of_turns t.shape f.told_steps ++ clears_bit e ∷ [])) (append_nil f.steps)

@@ -28,8 +28,9 @@ use Rattle.place_table.specs.declared.view.Notes.{Notes}
 use Rattle.place_table.specs.declared.view.WordStep.{WordStep}
 use Rattle.place_table.specs.Known.{Learns}
 use Rattle.place_table.specs.Passes.{PassView, TableView, CanRehome, CanSettle, Goes, Rehomed, Settled, with_view}
+use Rattle.place_table.specs.Owners.{IsUnchangedAround, change_in}
 use Rattle.place_table.specs.Plays.{HoldsLock, IsKnownHome}
-use Rattle.place_table.specs.Views.{holds_below, is_in_hand_of, hold_at, now_at, with_now, with_came, with_in_hand, without_in_hand, with_places, settled as settled_view, rehomed as rehomed_view, hold_with}
+use Rattle.place_table.specs.Views.{holds_below, notes_below, with_changed, is_in_hand_of, hold_at, now_at, with_now, with_came, with_in_hand, without_in_hand, with_places, settled as settled_view, rehomed as rehomed_view, hold_with}
 use Rattle.place_table.specs.Words.{home_word, owner_word}
 use Rattle.place_table.proofs.Came.{come_from_other}
 use Rattle.place_table.proofs.Entries.{append_nil}
@@ -40,9 +41,10 @@ use Rattle.lru_lists.specs.declared.bits.Probed.{Probed}
 use Rattle.lru_lists.specs.declared.bits.Probed.TheVariants as answers
 use Rattle.lru_ops.specs.declared.probing.Destination.{Destination}
 use Rattle.lru_ops.specs.declared.probing.Destination.TheVariants.{OwnFree, LocalFree, OwnHand}
-use Rattle.lru_ops.specs.Evictions.{HoldsFor, CanChase, CanPut, PutThere, EvictedWith, Evicted, Chased, ChasedFor, came_local, removed_to, noted_to, taken_to, hand_left}
+use Rattle.lru_ops.specs.Evictions.{HoldsFor, CanChase, CanPut, PutThere, EvictedWith, Evicted, Chased, ChasedFor, came_local, came_outside, removed_to, noted_to, taken_to, hand_left}
 use Rattle.lru_ops.proofs.EvictTurns.{no_bucket, names_apart}
 use Rattle.lru_ops.proofs.Holders.{saw_on_none, saw_none}
+use Rattle.lru_ops.proofs.OwnersAround.{free_of_none, unchanged_around}
 
 -- Hands
 
@@ -99,6 +101,11 @@ came_second k e hold local outer (n ∷ m ∷ below) other is =
     by_test hold.lock k (λ b. cond b (record n { came = e ∷ n.came } ∷ m ∷ below) (n ∷ with_came k e (local ∷ outer) (m ∷ below)) ≡ n ∷ record m { came = e ∷ m.came } ∷ below)
     (λ same. absurd (other (sym same)))
     (λ _. by_test local.lock k (λ b. n ∷ cond b (record m { came = e ∷ m.came } ∷ below) (m ∷ with_came k e outer below) ≡ n ∷ record m { came = e ∷ m.came } ∷ below) (λ _. refl) (λ no. absurd (no (sym is))))
+
+-- what came to the local lists changed no owner
+came_unchanged : (e : ℕ) (local same : Hold) (below : List Notes) → change_in e (local ∷ []) (came_outside e below) ≡ change_in e (same ∷ []) below
+came_unchanged e local same [] = refl
+came_unchanged e local same (n ∷ below) = refl
 
 -- Passes whose elements are placed otherwise
 
@@ -183,6 +190,7 @@ module _ {t : TableView} {e : ℕ} {r : PassView} (can : CanPut t OwnFree e r) w
         has_free_list = no_bucket can.lock can.holds.lists;
         in_hand = can.in_hand;
         listed = λ _. can.listed;
+        around = λ _. free_of_none r.view e (unchanged_around can.holds e);
       }
 
   pub freed_own : (cpu : ℕ) (s : PassView) → cpu ≡ r.cpu → Settled (CpuLru cpu) e r s → PutThere t OwnFree e r s
@@ -218,6 +226,7 @@ module _ {t : TableView} {e : ℕ} {r : PassView} (can : CanPut t OwnHand e r) w
         from = homes.In can.lock;
         home = at_home can;
         goes = (mine, can.in_hand);
+        around = λ _. unchanged_around can.holds e;
       }
 
   pub carried_off : (cpu : ℕ) (s : PassView) → cpu ≡ r.cpu → Rehomed t e (homes.Hand cpu) r s → PutThere t OwnHand e r s
@@ -288,6 +297,7 @@ module _ {t : TableView} {e : ℕ} {r : PassView} (can : CanPut t LocalFree e r)
         from = homes.In can.lock;
         home = at_home can;
         goes = (holds_local, inr can.in_hand);
+        around = λ _. unchanged_around can.holds e;
       }
 
   -- what is at home on the global lists is not on the local ones
@@ -331,6 +341,16 @@ module _ {t : TableView} {e : ℕ} {r : PassView} (can : CanPut t LocalFree e r)
       come_from_other r.view.shape (homes.In Global) (Local r.cpu) e r.view.held r.view.notes local_code
       ∙ (ap (λ (l : List Hold). with_came (lock_number r.view.shape (Local r.cpu)) e l r.view.notes) both_held ∙ came_second (lock_number r.view.shape (Local r.cpu)) e walk local [] r.view.notes local_other local_number)
 
+  -- nothing was changed in the turn of the local lists
+  none_around : (m : PassView) (at : ℕ) → m ≡ with_view r (rehomed_view at (homes.In Global) (homes.In (Local r.cpu)) (owners.Hand r.cpu) e r.view) → IsUnchangedAround m.view e
+  none_around m at after =
+      let noted : m.view.notes ≡ came_local e (can.holds.notes ∷ can.holds.below) = ap (λ (z : PassView). z.view.notes) after ∙ (home_noted at ∙ ap (came_local e) can.holds.notes_are) in
+      let held : m.view.held ≡ home_lists = ap (λ (z : PassView). z.view.held) after ∙ home_held at in
+      let around : can.holds.outer ≡ local ∷ [] = ap holds_below (sym can.holds.held ∙ can.holds_for.2.2) in
+      (λ i. change_in e (holds_below (held i)) (notes_below (noted i)))
+      ∙ (came_unchanged e (hold_with local (with_row (Local r.cpu) e local.now)) local can.holds.below
+      ∙ (ap (λ (l : List Hold). change_in e l can.holds.below) (sym around) ∙ can.holds.unchanged e))
+
   pub can_free_local : (cpu : ℕ) (m : PassView) → cpu ≡ r.cpu → Rehomed t e (homes.In (Local cpu)) r m → CanSettle t e (Local cpu) m
   can_free_local cpu m mine re =
       let after = come_home cpu m mine re in
@@ -347,6 +367,7 @@ module _ {t : TableView} {e : ℕ} {r : PassView} (can : CanPut t LocalFree e r)
         has_free_list = refl;
         in_hand = ap (λ (z : PassView). is_in_hand_of e z.cpu z.view.hand) after ∙ can.in_hand;
         listed = λ _. listed;
+        around = λ _. free_of_none m.view e (none_around m re.at after);
       }
 
   -- .. and was freed there
@@ -366,7 +387,7 @@ module _ {t : TableView} {e : ℕ} {r : PassView} (can : CanPut t LocalFree e r)
       record {
         goes = goes_on r m s [] [] [] [] goes (goes_placed _ _ _ _ _ _ m s here);
         held = ap (λ (z : PassView). z.view.held) here ∙ ((λ i. with_now (lock_number (shape_same i) (Local r.cpu)) (free (now_at (lock_number (shape_same i) (Local r.cpu)) (held_is i))) (held_is i)) ∙ (freed ∙ then));
-        notes = ap (λ (z : PassView). z.view.notes) here ∙ (ap (λ (z : PassView). z.view.notes) after ∙ home_noted re.at);
+        notes = ap (λ (z : PassView). z.view.notes) here ∙ (ap (λ (z : PassView). with_changed e owners.Free z.view.notes) after ∙ ap (with_changed e owners.Free) (home_noted re.at));
         carried = ap (λ (z : PassView). z.view.carried) here ∙ ap (λ (z : PassView). z.view.carried) after;
         hand = ap (λ (z : PassView). z.view.hand) here ∙ ap (λ (z : PassView). without_in_hand e z.cpu z.view.hand) after;
         spares = ap (λ (z : PassView). z.spares) here ∙ ap (λ (z : PassView). z.spares) after;
@@ -415,6 +436,8 @@ module _ {t : TableView} {to : Destination} {bucket e : ℕ} {p : PassView} (cha
           notes = h.notes;
           below = h.below;
           notes_are = done.notes ∙ h.notes_are;
+          freed = h.freed;
+          unchanged = h.unchanged;
         };
         holds_for = still_for t to chase.can.lock p r done.goes.cpu done.held chase.holds_for;
         real = m.real;

@@ -42,7 +42,6 @@ use Rattle.place_words.specs.Wholeness.{all_of}
 use Rattle.place_table.specs.declared.content.Content.TheVariants as contents
 use Rattle.place_table.specs.declared.view.Hold.{Hold}
 use Rattle.place_table.specs.declared.view.HomeIn.{HomeIn}
-use Rattle.place_table.specs.declared.view.InHand.{InHand}
 use Rattle.place_table.specs.declared.view.Turned.{Turned}
 use Rattle.place_table.specs.declared.view.WordStep.{WordStep}
 use Rattle.place_table.specs.Calls.{finds_moved_on}
@@ -63,6 +62,7 @@ use Rattle.lru_ops.specs.Lists.{Changed, CanFree, Freed, FreesFrom, ReadHomeFirs
 use Rattle.lru_ops.specs.Shared.{CanPushAt, LiesUnder, FreedBy, FoundMoved, HasTouched}
 use Rattle.lru_ops.proofs.Ends.{changed_on}
 use Rattle.lru_ops.proofs.Pushes.{Leads, TurnMade, IsPush, OnSet, Pushing, with_clear_of, fits_with, has_row_in, left_times, left_hash, none_lost, room_left, underway_taken, can_settle_listed, can_give_under, turn_made, can_give_pushed, freed, frees_on, touched_on}
+use Rattle.lru_ops.proofs.OwnersAround.{global_no_probe, local_no_probe}
 use Rattle.percpu_values.specs.BodyList.{pushed}
 
 -- Homes that were read
@@ -245,10 +245,12 @@ global_push e = parts.Global (global.Push e)
 is_global_push : (shape : Shape) (e : ℕ) → IsPush shape e (global_push e)
 is_global_push shape e = record {
   noted = λ v hold bit. fits_with shape v hold (global_push e) (with_clear_of e bit) refl ([], bit, [], refl, refl) refl tt refl refl refl;
+  owners = λ v hold cpu bit. record { changes = λ x owner. refl; probed = λ x holder is. absurd (global_no_probe (global.Push e) x holder is) };
   bits = refl;
   none_told = refl;
   hands_on = λ all. refl;
   finds_it = refl;
+  alone = refl;
 }
 
 on_global_lists : (shape : Shape) (e : ℕ) → OnSet shape Global e (global_push e)
@@ -296,10 +298,12 @@ local_push done e = parts.Local (local.Push e done)
 is_local_push : (shape : Shape) (e : ℕ) → IsPush shape e (local_push true e)
 is_local_push shape e = record {
   noted = λ v hold bit. fits_with shape v hold (local_push true e) (with_clear_of e bit) refl ([], bit, [], refl, refl) refl tt refl refl refl;
+  owners = λ v hold cpu bit. record { changes = λ x owner. refl; probed = λ x holder is. absurd (local_no_probe (local.Push e true) x holder is) };
   bits = refl;
   none_told = refl;
   hands_on = λ all. refl;
   finds_it = refl;
+  alone = refl;
 }
 
 no_row : (e : ℕ) (rows : List Row) → times e (elements_of rows) ≡ 0 → has_row e rows ≡ false
@@ -399,6 +403,7 @@ module _ {t : TableView} {c : ℕ} {p q : PassView} {body : Stored} {lists : Loc
     may_leave back is =
         can_give_under read.there can took (underway_taken read.there can took) (stays_leads q.cpu back none is)
         (fits_with t.shape q.view (hold_with took.hold took.hold.now) (local_push false e) no_notes refl refl refl tt refl refl refl)
+        (record { changes = λ x owner. refl; probed = λ x holder is. absurd (local_no_probe (local.Push e false) x holder is) }) refl
 
     pub found_moved : {back : LocalView} (z : PassView) → IsTrue (is_lru t.shape.kind) → LiesUnder t (Local c) e p → CanGive t (Local c) q (contents.Local back) (local_push false e) → Gave q z (local_push false e) → FoundMoved t c body p z
     found_moved {back} z lru lies meant gave =

@@ -32,7 +32,7 @@ use Rattle.place_table.specs.Flushes.{flushes}
 use Rattle.place_table.specs.Passes.{PassView, TableView, CanGive, CanRehome, Claimed, Gave, Goes, Rehomed, TookLock, with_view}
 use Rattle.place_table.specs.Plays.{HoldsLock}
 use Rattle.place_table.specs.TurnNotes.{WasRead, ProbeFits, CameToHand}
-use Rattle.place_table.specs.Views.{is_in_hand_of, hold_at, no_notes, notes_below, now_at, now_under, with_came, with_in_hand, with_now, rehomed as rehomed_view, hold_with}
+use Rattle.place_table.specs.Views.{is_in_hand_of, hold_at, no_notes, notes_below, now_at, now_under, with_came, with_in_hand, with_now, rehomed as rehomed_view, hold_with, with_changed}
 use Rattle.place_table.proofs.Entries.{append_nil}
 use Rattle.place_table.proofs.Going.{given_turn, goes_on, goes_of_table, goes_begun, learns_on, same_head}
 use Rattle.place_table.proofs.Hands.{in_hand_more, now_at_is}
@@ -47,6 +47,7 @@ use Rattle.lru_ops.proofs.Holders.{saw_on_none, saw_none}
 use Rattle.lru_ops.proofs.LocalTurns.{OnLocal, ReadyLocal, local_there, to_q, taken_held, taken_noted, can_give_local, changed_local, chased_local, saw_local}
 use Rattle.lru_ops.proofs.OwnTurns.{GaveAs, gave_as}
 use Rattle.lru_ops.proofs.Removed.{changed_first, goes_placed, learns_placed, now_first, row_passes, without_gone}
+use Rattle.lru_ops.proofs.OwnersAround.{unchanged_alone}
 use Rattle.percpu_values.specs.BodyList.{popped}
 
 -- The lists were taken, and these bodies were free, the first of which is to be stolen.
@@ -102,11 +103,11 @@ module _ {t : TableView} {from : ℕ} {lists : LocalView} {p q : PassView} {body
         ap (λ (z : PassView). z.view.held) claim.1
         ∙ ((λ i. with_now k (with_row (Local from) e (without_free e (known i))) (taken_held b i)) ∙ now_first k claimed_now hold number_is)
 
-    noted_m : m.view.notes ≡ record no_notes { came = e ∷ [] } ∷ p.view.notes
+    noted_m : m.view.notes ≡ record no_notes { came = e ∷ []; changed = record { element = e; owner = owners.Hand q.cpu } ∷ [] } ∷ p.view.notes
     noted_m =
         let k : ℕ = lock_number q.view.shape (Local from) in
         ap (λ (z : PassView). z.view.notes) claim.1
-        ∙ ((λ i. with_came k e (taken_held b i) (taken_noted b i)) ∙ came_first k e hold no_notes p.view.notes number_is)
+        ∙ ((λ i. with_changed e (owners.Hand q.cpu) (with_came k e (taken_held b i) (taken_noted b i))) ∙ ap (with_changed e (owners.Hand q.cpu)) (came_first k e hold no_notes p.view.notes number_is))
 
     in_hand_m : is_in_hand_of e m.cpu m.view.hand ≡ true
     in_hand_m = ap (λ (z : PassView). is_in_hand_of e z.cpu z.view.hand) claim.1 ∙ in_hand_more e q.cpu q.view.hand
@@ -137,6 +138,7 @@ module _ {t : TableView} {from : ℕ} {lists : LocalView} {p q : PassView} {body
       from = homes.In (Local from);
       home = (holds_m, refl, listed_m);
       goes = (mine ∙ sym (to_m.cpu ∙ (to_q b).cpu), in_hand_m);
+      around = λ _. unchanged_alone m.view (hold_with hold claimed_now) e held_m;
     }
 
     -- and went off
@@ -177,7 +179,7 @@ module _ {t : TableView} {from : ℕ} {lists : LocalView} {p q : PassView} {body
           ap (times x) ((λ i. first_same i ++ second i) ∙ append_nil (elements_of lists.pending))
 
       abbrev noted_here : Notes
-      noted_here = record no_notes { came = e ∷ [] }
+      noted_here = record no_notes { came = e ∷ []; changed = record { element = e; owner = owners.Hand q.cpu } ∷ [] }
 
       abbrev pub left_lists : LocalView
       left_lists = with_free (popped lists.free) lists
@@ -221,6 +223,7 @@ module _ {t : TableView} {from : ℕ} {lists : LocalView} {p q : PassView} {body
           held = All-nil (ProbeFits []);
           came = All-nil (CameToHand s.view (hold_with hold left_now) noted_here);
         };
+        owners_told = λ lock x owner. refl;
         stays = refl;
         probes = [];
         are_evicts = tt;

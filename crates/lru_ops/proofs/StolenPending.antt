@@ -9,8 +9,10 @@ use Rattle.map_types.specs.declared.row.Row.{Row}
 use Rattle.map_types.specs.ElementLists.{times, IsIn}
 use Rattle.map_types.specs.Listed.{elements_of}
 use Rattle.map_types.specs.Stored.{Stored, IsSized}
+use Rattle.map_types.specs.declared.kind.DomainId.{DomainId}
 use Rattle.map_types.proofs.RowLemmas.{times_append, by_test}
 use Rattle.percpu_values.specs.BodyList.{BodyList, popped_from, popped}
+use Rattle.owner_words.specs.Owners.{owner_by}
 use Rattle.place_words.specs.declared.history.Part.{Part}
 use Rattle.place_words.specs.declared.history.Part.TheVariants as parts
 use Rattle.place_words.specs.declared.list_part.LocalPart.TheVariants as local
@@ -26,6 +28,8 @@ use Rattle.place_words.specs.Takings.{stored_hash, stolen_element, walk_probes}
 use Rattle.place_words.specs.declared.step.Lists.{Lists}
 use Rattle.place_words.specs.State.{rows}
 use Rattle.place_words.specs.Wholeness.{all_of}
+use Rattle.place_words.specs.Interleaving.{local_steps}
+use Rattle.place_words.specs.declared.owner.Owner.{Owner}
 use Rattle.place_table.specs.declared.content.Content.{Content as Slot}
 use Rattle.place_table.specs.declared.content.Content.TheVariants as contents
 use Rattle.place_table.specs.declared.view.BitAsked.{BitAsked}
@@ -40,6 +44,8 @@ use Rattle.place_table.specs.Known.{BitTouch, Learns}
 use Rattle.place_table.specs.Passes.{PassView, TableView, CanGive, Gave, GaveBack, MayGiveBack, TookLock}
 use Rattle.place_table.specs.TurnNotes.{WasRead, ProbeFits, CameToHand, clears_among}
 use Rattle.place_table.specs.Views.{is_among, is_in_hand_of, no_notes, notes_below, with_in_hand, hold_with}
+use Rattle.place_table.specs.Owners.{owner_left}
+use Rattle.place_table.specs.declared.view.OwnerSeen.{OwnerSeen}
 use Rattle.place_table.proofs.Entries.{append_nil}
 use Rattle.place_table.proofs.Going.{given_turn, goes_of_table, goes_begun, same_head}
 use Rattle.place_table.proofs.Hands.{in_hand_more}
@@ -67,7 +73,7 @@ use Rattle.lru_ops.proofs.OwnTurns.{GaveAs, gave_as, gave_some_as, lock_among}
 use Rattle.lru_ops.proofs.Pushes.{left_row}
 use Rattle.lru_ops.proofs.SetWork.{taken_by, walk_taken, walk_tried}
 use Rattle.lru_ops.proofs.StolenFree.{on_lists}
-use Rattle.lru_ops.proofs.ThiefWalk.{hand_held, hand_came, hand_taken, in_hands}
+use Rattle.lru_ops.proofs.ThiefWalk.{hand_held, hand_came, hand_taken, in_hands, hand_changed}
 
 -- Bits that were only read
 
@@ -153,6 +159,11 @@ in_hand_found (Some body) e cpu hand inside =
     (λ same _. subst (λ (y : ℕ). is_in_hand_of y cpu (with_in_hand body.element cpu hand) ≡ true) same (in_hand_more body.element cpu hand))
     (λ _ none. absurd (omega (arith, none))) inside
 
+-- a theft of what was found in a bucket changes no owner, once it was found
+stolen_left : (found : Option Stored) (looks : List Look) (tries : List Try) (cpu : ℕ) (lock : DomainId) (x : ℕ) (owner : Owner) → owner ≡ owner_by (local_steps cpu lock (local.Steal (stolen_of found) looks tries)) x owner
+stolen_left None looks tries cpu lock x owner = refl
+stolen_left (Some body) looks tries cpu lock x owner = refl
+
 -- The lists were taken by a pass with nothing in hand.
 module _ {t : TableView} {from : ℕ} {lists : LocalView} {p q : PassView} (can : CanSteal t p) (b : OnLocal t from lists p q) where
   pub can_search : CanSearch t lists q
@@ -174,6 +185,8 @@ module _ {t : TableView} {from : ℕ} {lists : LocalView} {p q : PassView} (can 
       notes = no_notes;
       below = p.view.notes;
       notes_are = taken_noted b;
+      freed = tt;
+      unchanged = λ x. refl;
     };
     alone = refl;
     hands_empty = λ e cpu among.
@@ -207,7 +220,7 @@ module _ {t : TableView} {from : ℕ} {lists : LocalView} {p q : PassView} (can 
     now = left_after w.probes hold.now
 
     abbrev noted_here : Notes
-    noted_here = notes_after (bits_read w.looks) w.probes no_notes
+    noted_here = notes_after OwnHand (bits_read w.looks) w.probes no_notes
 
     once : (x : ℕ) → times x (rows hold.now) ≤ 1
     once x = b.took.elements.rows_once x
@@ -243,7 +256,7 @@ module _ {t : TableView} {from : ℕ} {lists : LocalView} {p q : PassView} (can 
           now = now;
           held = d.held ∙ (ap (held_after OwnHand w.probes) (taken_held b) ∙ hand_held w.probes hold);
           notes = noted_here;
-          noted = d.noted ∙ (λ i. notes_after (bits_read w.looks) w.probes (fresh i) ∷ (hand_came w.probes d.below ∙ (below_is ∙ sym (ap notes_below (taken_noted b)))) i);
+          noted = d.noted ∙ (λ i. notes_after OwnHand (bits_read w.looks) w.probes (fresh i) ∷ (hand_came w.probes d.below ∙ (below_is ∙ sym (ap notes_below (taken_noted b)))) i);
           spares = d.spares;
           left = searched_after found w.looks w.tries lists;
           allowed = allowed_search (IsSized t.shape) found w.looks w.tries lists w.search w.removed;
@@ -266,6 +279,7 @@ module _ {t : TableView} {from : ℕ} {lists : LocalView} {p q : PassView} (can 
             held = subst (All (ProbeFits (owners_after w.probes []))) tried (probes_fit w.probes []);
             came = All-nil (CameToHand s.view (hold_with hold now) noted_here);
           };
+          owners_told = λ lock x owner. ap (λ (l : List OwnerSeen). owner_left l x owner) (hand_changed w.probes []) ∙ stolen_left found w.looks w.tries q.cpu lock x owner;
           stays = refl;
           probes = w.probes;
           are_evicts = d.are_evicts;

@@ -31,6 +31,7 @@ use Rattle.place_table.specs.Passes.{PassView, TableView}
 use Rattle.place_table.specs.Plays.{HoldsLock}
 use Rattle.place_table.specs.StoredHashes.{stored_in}
 use Rattle.place_table.specs.Views.{is_among, is_in_hand_of, hold_at, with_in_hand, hold_with}
+use Rattle.place_table.specs.declared.view.OwnerSeen.{OwnerSeen}
 use Rattle.place_table.proofs.Entries.{append_nil}
 use Rattle.place_table.proofs.Going.{goes_of_table, goes_begun}
 use Rattle.place_table.proofs.Worlds.{hold_at_first, some_is}
@@ -45,8 +46,8 @@ use Rattle.lru_shrink.specs.Searches.{bits_read, IsFound, SearchMoment, SparingS
 use Rattle.lru_shrink.specs.Shrunk.{probes_of_looks, probes_of_tries, removed_by_looks, removed_by_tries}
 use Rattle.lru_ops.specs.declared.probing.Destination.{Destination}
 use Rattle.lru_ops.specs.declared.probing.Destination.TheVariants.{LocalFree, OwnHand}
-use Rattle.lru_ops.specs.Askings.{calls_noted, probes_made, hash_in, notes_after, came_after, held_after, taken_after, Does, Since, MayAsk, MayChase}
-use Rattle.lru_ops.specs.Evictions.{held_with, taken_with}
+use Rattle.lru_ops.specs.Askings.{calls_noted, probes_made, hash_in, notes_after, came_after, held_after, taken_after, Does, Since, MayAsk, MayChase, changed_after, changed_with}
+use Rattle.lru_ops.specs.Evictions.{held_with, taken_with, AreFreed}
 use Rattle.lru_ops.specs.Thefts.{last_lock, CanSearch, SearchedSparing, SearchedAll, Walked, both_walks}
 use Rattle.lru_ops.proofs.Asked.{now_with, same_table, since_start}
 use Rattle.lru_ops.proofs.DoesOn.{does_on}
@@ -54,6 +55,7 @@ use Rattle.lru_ops.proofs.LocalTurns.{stored_pending}
 use Rattle.lru_ops.proofs.LocalWalk.{left_after}
 use Rattle.lru_ops.proofs.OwnWalk.{hold_at_only}
 use Rattle.lru_ops.proofs.SetWork.{taken_by, taken_cons, taken_with as removed_with, walk_taken}
+use Rattle.lru_ops.proofs.OwnersAround.{freed_named}
 
 -- Under the lock of the walk lies what was there, without what was removed
 
@@ -66,6 +68,14 @@ hand_held [] hold = refl
 hand_held (probe ∷ probes) hold =
     ap (held_after OwnHand probes) (hand_one probe.element probe.probed hold)
     ∙ hand_held probes (hold_with hold (now_with LocalFree probe.element probe.probed hold.now))
+
+changed_one : (e : ℕ) (seen : Seen) (changed : List OwnerSeen) → changed_with OwnHand e seen changed ≡ changed
+changed_one e Removed changed = refl
+changed_one e (Held holder) changed = refl
+
+pub hand_changed : (probes : List ProbeCall) (changed : List OwnerSeen) → changed_after OwnHand probes changed ≡ changed
+hand_changed [] changed = refl
+hand_changed (probe ∷ probes) changed = ap (changed_after OwnHand probes) (changed_one probe.element probe.probed changed) ∙ hand_changed probes changed
 
 pub hand_came : (probes : List ProbeCall) (below : List Notes) → came_after OwnHand probes below ≡ below
 hand_came [] below = refl
@@ -282,9 +292,11 @@ module _ {t : TableView} {lists : LocalView} {first first_after : Noted Look} {p
           above = tt;
           lock_is = h.lock_is;
           cpu_is = h.cpu_is ∙ sym d.goes.cpu;
-          notes = notes_after s.calls s.probes d.notes;
+          notes = notes_after OwnHand s.calls s.probes d.notes;
           below = came_after OwnHand s.probes d.below;
           notes_are = d.noted;
+          freed = subst AreFreed (sym (hand_changed s.probes d.notes.changed)) (freed_named h d.notes d.below d.was_noted);
+          unchanged = λ x. refl;
         };
         alone = refl;
         hands_empty = λ e cpu among.

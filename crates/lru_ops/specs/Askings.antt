@@ -11,7 +11,7 @@ use Rattle.place_words.specs.declared.bucket_part.Seen.{Seen}
 use Rattle.place_words.specs.declared.bucket_part.Seen.TheVariants.{Removed, Held}
 use Rattle.place_words.specs.declared.history.Part.{Part}
 use Rattle.place_words.specs.declared.history.Part.TheVariants as parts
-use Rattle.place_words.specs.declared.owner.Owner.TheVariants.{Hand}
+use Rattle.place_words.specs.declared.owner.Owner.TheVariants.{Free, Hand}
 use Rattle.place_words.specs.Takings.{stored_hash}
 use Rattle.place_words.specs.declared.step.Lists.{Lists}
 use Rattle.place_table.specs.declared.view.BitAsked.{BitAsked}
@@ -82,8 +82,22 @@ abbrev pub owners_after : List ProbeCall → List OwnerSeen → List OwnerSeen
 owners_after [] owners = owners
 owners_after (probe ∷ probes) owners = owners_after probes (owners_with probe.element probe.probed owners)
 
-abbrev pub notes_after : List BitCall → List ProbeCall → Notes → Notes
-notes_after calls probes n = record n { asked = asked_after calls n.asked; owners = owners_after probes n.owners }
+-- what is freed is noted as changed
+abbrev pub changed_by : Destination → ℕ → List OwnerSeen → List OwnerSeen
+changed_by OwnFree e changed = record { element = e; owner = Free } ∷ changed
+changed_by LocalFree e changed = record { element = e; owner = Free } ∷ changed
+changed_by OwnHand e changed = changed
+
+abbrev pub changed_with : Destination → ℕ → Seen → List OwnerSeen → List OwnerSeen
+changed_with to e Removed changed = changed_by to e changed
+changed_with to e (Held holder) changed = changed
+
+abbrev pub changed_after : Destination → List ProbeCall → List OwnerSeen → List OwnerSeen
+changed_after to [] changed = changed
+changed_after to (probe ∷ probes) changed = changed_after to probes (changed_with to probe.element probe.probed changed)
+
+abbrev pub notes_after : Destination → List BitCall → List ProbeCall → Notes → Notes
+notes_after to calls probes n = record n { asked = asked_after calls n.asked; owners = owners_after probes n.owners; changed = changed_after to probes n.changed }
 
 -- in those of the lock around it
 abbrev pub came_with : Destination → ℕ → Seen → List Notes → List Notes
@@ -132,7 +146,7 @@ pub record Does (t : TableView) (to : Destination) (rows : List Row) (calls : Li
   pub notes : Notes
   pub below : List Notes
   pub was_noted : before.view.notes ≡ notes ∷ below
-  pub noted : after.view.notes ≡ notes_after calls probes notes ∷ came_after to probes below
+  pub noted : after.view.notes ≡ notes_after to calls probes notes ∷ came_after to probes below
   pub carried : after.view.carried ≡ taken_after to before.cpu probes before.view.carried
   pub hand : after.view.hand ≡ taken_after to before.cpu probes before.view.hand
   pub spares : after.spares ≡ before.spares

@@ -1,5 +1,5 @@
 -- The turn of a bucket that a probe makes, by a pass that holds a lock of lists, and where an element goes that it removes.
-use Rattle.std.specs.Prelude.{◌≡◌, ℕ, ◌<◌, true, false, IsTrue, List, [], ◌∷◌, ◌++◌, All, Some}
+use Rattle.std.specs.Prelude.{◌≡◌, ℕ, ◌<◌, true, false, IsTrue, List, [], ◌∷◌, ◌++◌, All, None, Some}
 use Rattle.map_types.specs.declared.attr.Shape.{Shape}
 use Rattle.map_types.specs.declared.kind.DomainId.{DomainId}
 use Rattle.map_types.specs.declared.kind.DomainId.TheVariants.{Bucket, CpuLru, Global, Local}
@@ -14,7 +14,8 @@ use Rattle.place_words.specs.declared.bucket_part.Seen.{Seen}
 use Rattle.place_words.specs.declared.bucket_part.Seen.TheVariants.{Removed, Held}
 use Rattle.place_words.specs.declared.history.Entry.{Entry}
 use Rattle.place_words.specs.declared.history.Part.TheVariants as parts
-use Rattle.place_words.specs.declared.owner.Owner.TheVariants.{Hand}
+use Rattle.place_words.specs.declared.owner.Owner.{Owner}
+use Rattle.place_words.specs.declared.owner.Owner.TheVariants.{Free, Hand}
 use Rattle.place_words.specs.Bodies.{body_of, without_element}
 use Rattle.place_words.specs.Histories.{in_bucket, content, IsLegal}
 use Rattle.place_words.specs.Locks.{is_lock, lock_number, rank_of}
@@ -24,21 +25,30 @@ use Rattle.place_words.specs.Steps.{with_free, without_row}
 use Rattle.place_table.specs.declared.view.Hold.{Hold}
 use Rattle.place_table.specs.declared.view.InHand.{InHand}
 use Rattle.place_table.specs.declared.view.Notes.{Notes}
+use Rattle.place_table.specs.declared.view.OwnerSeen.{OwnerSeen}
 use Rattle.place_table.specs.declared.view.Turned.{Turned}
 use Rattle.place_table.specs.declared.view.WordStep.{WordStep}
 use Rattle.place_table.specs.Calls.{TellsTurn}
 use Rattle.place_table.specs.Contents.{lists_of}
 use Rattle.place_table.specs.Known.{Learns}
+use Rattle.place_table.specs.Nested.{IsLocalLast}
+use Rattle.place_table.specs.Owners.{change_in}
 use Rattle.place_table.specs.Passes.{PassView, TableView, IsPassOf, HasBegun, Goes}
 use Rattle.place_table.specs.Rules.{owner_step, HasStep, IsAboveAll}
 use Rattle.place_table.specs.TurnNotes.{HasOnlyHash}
-use Rattle.place_table.specs.Views.{is_among, is_in_hand_of, known_log, no_notes, with_in_hand, without_in_hand, holds_below, notes_below, with_owner_read, hold_with}
+use Rattle.place_table.specs.Views.{is_among, is_in_hand_of, known_log, no_notes, with_in_hand, without_in_hand, holds_below, notes_below, with_changed, with_owner_read, hold_with}
 use Rattle.lru_ops.specs.declared.probing.Destination.{Destination}
 use Rattle.lru_ops.specs.declared.probing.Destination.TheVariants.{OwnFree, LocalFree, OwnHand}
 use Rattle.lru_lists.specs.declared.bits.Probed.{Probed}
 use Rattle.lru_lists.specs.Probes.{seen_of, IfRemoved}
 
--- The pass holds a lock of lists, taken last, and perhaps one of lower rank.
+-- each of these elements was set free
+abbrev pub AreFreed : List OwnerSeen → Type 0
+AreFreed [] = Unit {0}
+AreFreed (x ∷ xs) = (x.owner ≡ Free) × AreFreed xs
+
+-- The pass holds a lock of lists, taken last, and perhaps one of lower rank. The owners that it changed in the turn of the lock taken last
+-- are those of elements that it set free there, and in the turn around it changed none.
 pub record HoldsLists (t : TableView) (lock : DomainId) (p : PassView) : Type 0 where
   pub of_table : IsPassOf t p
   pub begun : HasBegun p
@@ -55,6 +65,8 @@ pub record HoldsLists (t : TableView) (lock : DomainId) (p : PassView) : Type 0 
   pub notes : Notes
   pub below : List Notes
   pub notes_are : p.view.notes ≡ notes ∷ below
+  pub freed : AreFreed notes.changed
+  pub unchanged : (e : ℕ) → change_in e outer below ≡ None
 
 -- An element may be probed by this hash where it is listed there now, each row that it had under a lock that is held, when that was
 -- taken, has the hash, and it is in no hand of the pass.
@@ -67,10 +79,11 @@ pub record MayProbe (t : TableView) (p : PassView) (row : Row) : Type 0 where
   pub hashed : HasOnlyHash t.shape p.view row.element row.hash
   pub in_no_hand : (cpu : ℕ) → is_among cpu p.view.cpus ≡ true → is_in_hand_of row.element cpu p.view.hand ≡ false
 
--- the bucket is that of the stored hash of the element
+-- The bucket is that of the stored hash of the element. Where the pass holds the global lists, it took them inside local ones.
 pub record CanProbe (t : TableView) (bucket e : ℕ) (p : PassView) : Type 0 where
   pub lock : DomainId
   pub holds : HoldsLists t lock p
+  pub under : lock ≡ Global → IsLocalLast t.shape holds.outer
   pub hash : ℕ
   pub may : MayProbe t p (record { element = e; hash = hash })
   pub bucket_is : bucket ≡ bucket_number hash t.shape.buckets
@@ -101,11 +114,13 @@ pub record Inside (t : TableView) (bucket e : ℕ) (q : PassView) (bodies : List
   pub lists_there : IsTrue (is_lock t.shape lock)
   pub lists_are : rank_of lock < 3
   pub lists_lock : lists.lock ≡ lock_number t.shape lock
+  pub under : lock ≡ Global → IsLocalLast t.shape outer
   pub in_no_hand : (cpu : ℕ) → is_among cpu q.view.cpus ≡ true → is_in_hand_of e cpu q.view.hand ≡ false
   pub listed : IsIn e (rows lists.now)
   pub hash : ℕ
   pub hashed : HasOnlyHash t.shape q.view e hash
   pub bucket_is : bucket ≡ bucket_number hash t.shape.buckets
+  pub around : (owner : Owner) → change_in e (lists ∷ outer) below ≡ Some owner → owner ≡ Free
 
 -- and the body of the element was taken out of them
 pub record TakenOut (t : TableView) (bucket e : ℕ) (q : PassView) (left : List Stored) : Type 0 where
@@ -227,7 +242,7 @@ hand_left OwnFree e cpu hand = without_in_hand e cpu hand
 hand_left LocalFree e cpu hand = without_in_hand e cpu hand
 hand_left OwnHand e cpu hand = hand
 
--- and in the notes: what comes to the local lists is noted there
+-- and in the notes: what comes to the local lists is noted there, and what is freed in the turn of the walk
 abbrev pub came_outside : ℕ → List Notes → List Notes
 came_outside e [] = []
 came_outside e (n ∷ below) = record n { came = e ∷ n.came } ∷ below
@@ -237,8 +252,8 @@ came_local e [] = []
 came_local e (n ∷ below) = n ∷ came_outside e below
 
 abbrev pub noted_to : Destination → ℕ → List Notes → List Notes
-noted_to OwnFree e notes = notes
-noted_to LocalFree e notes = came_local e notes
+noted_to OwnFree e notes = with_changed e Free notes
+noted_to LocalFree e notes = with_changed e Free (came_local e notes)
 noted_to OwnHand e notes = notes
 
 abbrev pub noted_with : Destination → ℕ → Seen → List Notes → List Notes
@@ -262,7 +277,7 @@ pub record CanPut (t : TableView) (to : Destination) (e : ℕ) (r : PassView) : 
   pub listed : IsIn e (rows holds.hold.now)
   pub in_hand : is_in_hand_of e r.cpu r.view.hand ≡ true
 
--- It went there: no turn was made, and only places, notes of what came, and steps on words are others.
+-- It went there: no turn was made, and only places, notes of what came and of what was freed, and steps on words are others.
 pub record PutThere (t : TableView) (to : Destination) (e : ℕ) (r s : PassView) : Type 0 where
   pub goes : Goes r s [] []
   pub held : s.view.held ≡ removed_to to e r.view.held

@@ -37,7 +37,7 @@ use Rattle.lru_lists.specs.declared.notes.ShrinkNotes.{ShrinkNotes}
 use Rattle.lru_lists.specs.Notes.{AreNoted}
 use Rattle.lru_lists.specs.Sets.{SetView, moved_in, times_on as times_on_set, row_on, times_listed, with_free}
 use Rattle.lru_ops.specs.declared.refill.GlobalNotes.{GlobalNotes}
-use Rattle.lru_ops.specs.Askings.{asked_after, AreEvicts, owners_after}
+use Rattle.lru_ops.specs.Askings.{asked_after, AreEvicts, owners_after, changed_after}
 use Rattle.lru_ops.specs.Evictions.{SawHolders}
 use Rattle.lru_ops.specs.GlobalWork.{BothLists, CanWalk, ShrunkInto}
 use Rattle.map_types.specs.Stored.{Stored}
@@ -46,6 +46,7 @@ use Rattle.place_words.specs.Histories.{bits_cleared}
 use Rattle.place_table.specs.declared.view.Turned.{Turned}
 use Rattle.lru_lists.specs.declared.bits.ProbeCall.{ProbeCall}
 use Rattle.lru_ops.specs.OwnTurns.{try_of}
+use Rattle.lru_ops.specs.declared.probing.Destination.TheVariants.{LocalFree}
 use Rattle.percpu_values.specs.BodyList.{pushed, popped}
 
 -- What is pending is flushed
@@ -249,9 +250,11 @@ pub record FilledUp (t : TableView) (before after : BothLists) (noting noting_af
   pub no_marks : notes.marks ≡ []
   pub asked_is : notes.asked ≡ asked_after (map calls.Cleared (bits_cleared (parts.Global (turn_told flushed active inactive free target looks forced)))) []
   pub owners_are : notes.owners ≡ owners_after probes []
+  pub changed_is : notes.changed ≡ changed_after LocalFree probes []
   pub none_off : notes.off ≡ []
   pub around_marks : around.marks ≡ []
   pub around_asked : around.asked ≡ []
+  pub around_changed : around.changed ≡ []
   pub around_flushed : around.flushed ≡ []
   pub around_off : around.off ≡ reverse (flushed_elements flushed)
   -- and the rest of the pass

@@ -19,6 +19,7 @@ use Rattle.place_table.specs.declared.view.Notes.{Notes}
 use Rattle.place_table.specs.Calls.{AreTold, bits_of_turns, finds_moved_on}
 use Rattle.place_table.specs.Contents.{FitsLocal, lists_of}
 use Rattle.place_table.specs.Known.{Learns, IsBy, turn_at}
+use Rattle.place_table.specs.Nested.{AreOutside}
 use Rattle.place_table.specs.Passes.{PassView, TableView, Goes, IsPassOf, HasBegun}
 use Rattle.place_table.specs.TurnNotes.{TellsFlush}
 use Rattle.place_table.specs.Views.{is_among, is_in_hand_of, no_notes, hold_with}
@@ -38,7 +39,7 @@ use Rattle.place_table.specs.declared.view.Turned.{Turned}
 use Rattle.lru_ops.specs.Lists.{GaveNone}
 
 -- The pass holds the lock of its CPU's local lists and no other, and these are the lists as they were taken: nothing is free on them.
--- Nothing was done under the lock yet, and nothing is in hand.
+-- Nothing was done under the lock yet, no turn was made while it was held so, and nothing is in hand.
 pub record CanRefill (t : TableView) (lists : LocalView) (p : PassView) : Type 0 where
   pub of_table : IsPassOf t p
   pub begun : HasBegun p
@@ -50,6 +51,7 @@ pub record CanRefill (t : TableView) (lists : LocalView) (p : PassView) : Type 0
   pub held : p.view.held ≡ hold ∷ []
   pub lock_is : hold.lock ≡ lock_number t.shape (Local p.cpu)
   pub cpu_is : hold.cpu ≡ p.cpu
+  pub outside : AreOutside hold.lock hold.log p.view.steps
   pub found : in_locals (local_told lists) ≡ content t.shape (Local p.cpu) hold.log
   pub now : hold.now ≡ lists_of (in_locals (local_told lists))
   pub fits : FitsLocal t.shape lists
@@ -96,6 +98,7 @@ pub record FilledFrom (t : TableView) (lists lists_after : LocalView) (p q : Pas
   pub noted : q.view.notes ≡ notes ∷ below
   pub no_marks : notes.marks ≡ []
   pub none_asked : notes.asked ≡ []
+  pub none_changed : notes.changed ≡ []
   pub told_inside : All (TellsFlush notes.flushed) (map flush_visit flushed)
   pub off_is : notes.off ≡ reverse (flushed_elements flushed)
   -- and the rest of the pass

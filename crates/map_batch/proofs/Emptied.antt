@@ -11,10 +11,12 @@ use Rattle.map_types.specs.Kind.{is_lru}
 use Rattle.map_types.specs.Stored.{Stored, IsSized}
 use Rattle.map_types.proofs.RowLemmas.{by_test}
 use Rattle.place_words.specs.declared.free_part.FreePart.TheVariants.{Pushed}
+use Rattle.place_words.specs.declared.owner.Owner.TheVariants as owners
 use Rattle.place_words.specs.Bodies.{numbers, has_key, without_key}
 use Rattle.place_words.specs.Histories.{in_bucket}
 use Rattle.place_words.specs.Turns.{Turn, on_freelist_of}
 use Rattle.place_words.specs.declared.step.Lists.{Lists}
+use Rattle.place_table.specs.declared.view.OwnerSeen.{OwnerSeen}
 use Rattle.place_table.specs.declared.view.Turned.{Turned}
 use Rattle.place_table.specs.Contents.{lists_of}
 use Rattle.place_table.specs.InBucket.{InBucket}
@@ -26,7 +28,7 @@ use Rattle.place_table.proofs.Hands.{in_hand_more, hand_back}
 use Rattle.place_table.proofs.Worlds.{some_is, none_some}
 use Rattle.place_table.specs.BucketHeld.{Holds}
 use Rattle.place_table.proofs.BucketOut.{rows_here}
-use Rattle.place_table.proofs.BucketUnder.{Under, holds_bucket, under_nothing, under_detached, can_mark}
+use Rattle.place_table.proofs.BucketUnder.{Under, holds_bucket, under_nothing, under_detached, can_detach}
 use Rattle.hash_ops.proofs.Between.{Between, may_reach, holds_reached, between_nothing, between_reached, between_on}
 use Rattle.hash_ops.proofs.HandLemmas.{none_in_hand}
 use Rattle.map_batch.specs.PlainTakes.{CanPushOut, PushesOut, PushesAll}
@@ -73,7 +75,8 @@ pushes_more cpu gone body =
 pub record Emptied (t : TableView) (bucket : ℕ) (q r : PassView) (bodies gone left : List Stored) : Type 0 where
   pub inner : List Turned
   pub bodies_are : bodies ≡ gone ++ left
-  pub holds : Holds t bucket r bodies (lists_of (in_bucket left)) []
+  pub changed : List OwnerSeen
+  pub holds : Holds t bucket r bodies (lists_of (in_bucket left)) [] changed
   pub between : Between t q r inner
   pub turns : map (turn_of t.shape) inner ≡ pushes_of q.cpu (numbers gone)
   pub spares : r.spares ≡ q.spares
@@ -83,6 +86,7 @@ emptied_none : {t : TableView} {bucket : ℕ} {q : PassView} {bodies : List Stor
 emptied_none {t} {bucket} {q} {bodies} b = record {
   inner = [];
   bodies_are = refl;
+  changed = [];
   holds = holds_bucket b;
   between = between_nothing t q;
   turns = refl;
@@ -99,9 +103,9 @@ module _ {t : TableView} {bucket : ℕ} {q r : PassView} {bodies gone left : Lis
   is_real = so_far.holds.elements.rows_real body.element (subst (λ (n : ℕ). 0 < n) (rows_here bodies body.element) lies_there)
 
   -- once it is in hand the bucket holds the others
-  under_out : (out : PassView) → Detached bucket body.element r out → Under t bucket r out bodies (lists_of (in_bucket left)) [] (with_in_hand body.element r.cpu r.view.hand)
+  under_out : (out : PassView) → Detached bucket body.element r out → Under t bucket r out bodies (lists_of (in_bucket left)) [] (record { element = body.element; owner = owners.Hand r.cpu } ∷ so_far.changed) (with_in_hand body.element r.cpu r.view.hand)
   under_out out is =
-      subst (λ (l : Lists). Under t bucket r out bodies l [] (with_in_hand body.element r.cpu r.view.hand)) (without_head body left) (under_detached (under_nothing so_far.holds) body.element out is)
+      subst (λ (l : Lists). Under t bucket r out bodies l [] (record { element = body.element; owner = owners.Hand r.cpu } ∷ so_far.changed) (with_in_hand body.element r.cpu r.view.hand)) (without_head body left) (under_detached (under_nothing so_far.holds) body.element out is)
 
   between_out : (out : PassView) → Detached bucket body.element r out → Between t r out []
   between_out out is =
@@ -117,7 +121,7 @@ module _ {t : TableView} {bucket : ℕ} {q r : PassView} {bodies gone left : Lis
 
   pub can_push_out : CanPushOut t bucket body r
   can_push_out = record {
-    detach = can_mark so_far.holds body.element (inside_behind [] left body) is_real;
+    detach = can_detach so_far.holds body.element (inside_behind [] left body) is_real;
     push = λ out is. record {
       can = may_reach (under_out out is).holds;
       real = is_real;
@@ -136,6 +140,7 @@ module _ {t : TableView} {bucket : ℕ} {q r : PassView} {bodies gone left : Lis
       record {
         inner = so_far.inner ++ one.pushed.step ∷ [];
         bodies_are = so_far.bodies_are ∙ sym (append_assoc gone (body ∷ []) left);
+        changed = record { element = body.element; owner = owners.Hand r.cpu } ∷ so_far.changed;
         holds = holds_reached (under_out one.out one.detached).holds s (one.pushed.step ∷ []) one.pushed.reached;
         between = between_on so_far.between (between_on (between_out one.out one.detached) (between_reached one.pushed.reached));
         turns = map-append (turn_of t.shape) so_far.inner (one.pushed.step ∷ []) ∙ ((λ i. so_far.turns i ++ turn i ∷ []) ∙ sym (pushes_more q.cpu gone body));

@@ -1,6 +1,6 @@
 -- The turn of a bucket from which all is taken out, head first: what was taken so far, what the turn asks when the bucket is given
 -- back, and what it leaves; and the turn that leaves a bucket for which there is no room.
-use Rattle.std.proofs.Common.{◌≡◌, ℕ, suc, ◌+◌, ◌-◌, ◌<◌, ◌≤◌, cond, Bool, true, false, List, [], ◌∷◌, length, eqb, sym, refl, ap, ◌∙◌, subst, arith, Option, Some, None}
+use Rattle.std.proofs.Common.{◌≡◌, ℕ, suc, ◌+◌, ◌-◌, ◌<◌, ◌≤◌, cond, Bool, true, false, List, [], ◌∷◌, length, map, eqb, sym, refl, ap, ◌∙◌, subst, arith, Option, Some, None}
 use Rattle.std.specs.Prelude.{IsTrue, All, IfSome, nat_lt, reverse, remove, slice_get}
 use Rattle.std.proofs.lemmas.Bool.{ltb-true, ltb-false}
 use Rattle.std.proofs.lemmas.List.{reverse-reverse}
@@ -14,15 +14,20 @@ use Rattle.map_types.specs.Stored.{Stored, IsSized}
 use Rattle.map_types.proofs.RowLemmas.{by_test}
 use Rattle.percpu_values.specs.BodyList.{BodyList}
 use Rattle.bucket_chain.specs.Turns.{IsTurn}
+use Rattle.owner_words.specs.Owners.{owner_by}
 use Rattle.place_words.specs.declared.bucket_part.BucketPart.{BucketPart}
 use Rattle.place_words.specs.declared.bucket_part.BucketPart.TheVariants.{Walk}
 use Rattle.place_words.specs.declared.bucket_part.Walked.{Walked}
 use Rattle.place_words.specs.declared.bucket_part.Walked.TheVariants.{Over, Taken}
 use Rattle.place_words.specs.declared.history.Part.{Part}
 use Rattle.place_words.specs.declared.history.Part.TheVariants as parts
+use Rattle.place_words.specs.declared.owner.Owner.{Owner}
+use Rattle.place_words.specs.declared.owner.Owner.TheVariants as owners
 use Rattle.place_words.specs.Bodies.{numbers}
 use Rattle.place_words.specs.Buckets.{AllowsInBucket, bucket_after}
 use Rattle.place_words.specs.Histories.{in_bucket}
+use Rattle.place_words.specs.Interleaving.{detaches, leave_steps}
+use Rattle.place_words.specs.Moves.{taken_from_bucket}
 use Rattle.place_words.specs.Turns.{on_lock}
 use Rattle.place_words.specs.Walks.{walked_out}
 use Rattle.place_words.specs.declared.step.Lists.{Lists}
@@ -30,13 +35,15 @@ use Rattle.place_words.specs.Steps.{without_row}
 use Rattle.place_words.proofs.ElementLemmas.{times_cons_same}
 use Rattle.place_table.specs.declared.content.Content.TheVariants as contents
 use Rattle.place_table.specs.Contents.{lists_of}
+use Rattle.place_table.specs.declared.view.OwnerSeen.{OwnerSeen}
 use Rattle.place_table.specs.InBucket.{InBucket}
-use Rattle.place_table.specs.Passes.{PassView, TableView, CanMark, Detached, GaveBack, MayGiveBack}
+use Rattle.place_table.specs.Owners.{owner_left}
+use Rattle.place_table.specs.Passes.{PassView, TableView, CanDetach, Detached, GaveBack, MayGiveBack}
 use Rattle.place_table.proofs.BucketBodies.{rows_taken}
 use Rattle.place_table.proofs.BucketOut.{rows_here, sets_none}
 use Rattle.place_table.proofs.BucketTurned.{unchanged}
 use Rattle.place_table.proofs.BucketTurns.{IsTurnWith, unchanged_turn}
-use Rattle.place_table.proofs.BucketUnder.{Under, Gives, gives, holds_bucket, under_nothing, under_detached, can_mark}
+use Rattle.place_table.proofs.BucketUnder.{Under, Gives, gives, holds_bucket, under_nothing, under_detached, can_detach, AreChangedBy}
 use Rattle.place_table.proofs.Worlds.{by_bool, true_false, some_is, none_some}
 use Rattle.lru_ops.specs.Under.{GivenBack, IsOut}
 use Rattle.lru_ops.proofs.Ends.{changed_given}
@@ -85,6 +92,19 @@ pub numbers_read : (shape : Shape) (cpu : ℕ) (bodies : List Stored) → number
 numbers_read shape cpu [] = refl
 numbers_read shape cpu (body ∷ bodies) = ap (λ (l : List ℕ). body.element ∷ l) (numbers_read shape cpu bodies)
 
+-- an element that came to the hand of a CPU
+abbrev pub to_hand_of : ℕ → ℕ → OwnerSeen
+to_hand_of cpu e = record { element = e; owner = owners.Hand cpu }
+
+none_leaves : (lru : Bool) (cpu bucket : ℕ) → leave_steps lru cpu bucket [] ≡ []
+none_leaves true cpu bucket = refl
+none_leaves false cpu bucket = refl
+
+-- elements that are detached one after another, each of which comes to the CPU's hand
+detached_owners : (cpu bucket e : ℕ) (owner : Owner) (elements earlier : List ℕ) → owner_left (map (to_hand_of cpu) (reverse_aux elements earlier)) e owner ≡ owner_by (detaches cpu bucket elements) e (owner_left (map (to_hand_of cpu) earlier) e owner)
+detached_owners cpu bucket e owner [] earlier = refl
+detached_owners cpu bucket e owner (x ∷ elements) earlier = detached_owners cpu bucket e owner elements (x ∷ earlier)
+
 -- a bucket without its head
 pub without_head : (body : Stored) (left : List Stored) → without_row body.element (lists_of (in_bucket (body ∷ left))) ≡ lists_of (in_bucket left)
 without_head body left =
@@ -107,7 +127,7 @@ all_out t (body ∷ bodies) sized real =
 module _ {t : TableView} {bucket : ℕ} {q : PassView} {bodies : List Stored} (b : InBucket t bucket q bodies) where
   -- From where it was taken: these bodies are left in it, and these were taken out, the last first.
   pub record TakingOut (r : PassView) (left gone : List Stored) : Type 0 where
-    pub under : Under t bucket q r bodies (lists_of (in_bucket left)) [] (with_all_in_hand gone q.cpu q.view.hand)
+    pub under : Under t bucket q r bodies (lists_of (in_bucket left)) [] (map (to_hand_of q.cpu) (numbers gone)) (with_all_in_hand gone q.cpu q.view.hand)
     pub split : reverse_aux gone left ≡ bodies
 
   pub taking_begins : TakingOut q bodies []
@@ -117,16 +137,16 @@ module _ {t : TableView} {bucket : ℕ} {q : PassView} {bodies : List Stored} (b
   real_here e inside = b.elements.rows_real e (subst (λ (n : ℕ). 0 < n) (rows_taken b e) inside)
 
   module _ {r : PassView} {left gone : List Stored} (body : Stored) (so_far : TakingOut r (body ∷ left) gone) where
-    pub can_take_next : CanMark t body.element bucket r
+    pub can_take_next : CanDetach t body.element bucket r
     can_take_next =
         let e : ℕ = body.element in
         let here : times e (e ∷ numbers left) ≡ suc (times e (numbers left)) = times_cons_same e (numbers left) in
         let apart : times e (numbers bodies) ≡ times e (numbers gone) + times e (e ∷ numbers left) = ap (λ (l : List Stored). times e (numbers l)) (sym so_far.split) ∙ counted_apart e gone (body ∷ left) in
-        can_mark so_far.under.holds e (omega (arith, here)) (real_here e (omega (arith, apart, here)))
+        can_detach so_far.under.holds e (omega (arith, here)) (real_here e (omega (arith, apart, here)))
 
     pub taking_more : (s : PassView) → Detached bucket body.element r s → TakingOut s left (body ∷ gone)
     taking_more s detached = record {
-      under = subst (λ (l : Lists). Under t bucket q s bodies l [] (with_all_in_hand (body ∷ gone) q.cpu q.view.hand)) (without_head body left) (under_detached so_far.under body.element s detached);
+      under = subst (λ (l : Lists). Under t bucket q s bodies l [] (map (to_hand_of q.cpu) (numbers (body ∷ gone))) (with_all_in_hand (body ∷ gone) q.cpu q.view.hand)) (without_head body left) (under_detached so_far.under body.element s detached);
       split = so_far.split;
     }
 
@@ -164,8 +184,8 @@ module _ {t : TableView} {bucket spare : ℕ} {q r : PassView} {bodies left now 
   taking_here : TakingOut so_far.inside r (body ∷ now) gone.bodies
   taking_here = subst (λ (l : List Stored). TakingOut so_far.inside r l gone.bodies) left_is so_far.taking
 
-  pub can_detach : (e : ℕ) → e ≡ body.element → CanMark t e bucket r
-  can_detach e e_is = subst (λ (x : ℕ). CanMark t x bucket r) (sym e_is) (can_take_next so_far.inside body taking_here)
+  pub can_detach_head : (e : ℕ) → e ≡ body.element → CanDetach t e bucket r
+  can_detach_head e e_is = subst (λ (x : ℕ). CanDetach t x bucket r) (sym e_is) (can_take_next so_far.inside body taking_here)
 
   pub has_space : (room : ℕ) → length bodies ≤ room → room ≤ spare → 1 ≤ gone.spare
   has_space room fits enough =
@@ -252,6 +272,7 @@ module _ {t : TableView} {bucket : ℕ} {p q : PassView} {chain : BodyList} (ent
         unchanged chain (holds_bucket b) part
         (unchanged_turn t.shape q.cpu chain.bodies b.sized part (subst (λ (w : Walked). IsTurn t.shape q.cpu (Walk true room w) chain.bodies chain.bodies) (sym walked_over) (left_alone t.shape q.cpu room chain.bodies (ltb-true room (length chain.bodies) over_is))))
         refl refl
+        (ap (λ (w : Walked). leave_steps (is_lru t.shape.kind) q.cpu bucket (taken_from_bucket (Walk true room w))) walked_over ∙ none_leaves (is_lru t.shape.kind) q.cpu bucket)
 
     pub may_give_over : (found : Option Part) → IfSome found (λ x. x ≡ parts.Bucket part) → MayGiveBack t (Bucket bucket) q (contents.Bucket chain) found
     may_give_over found is = (leaves found is).0
@@ -281,6 +302,13 @@ module _ {t : TableView} {bucket : ℕ} {p q : PassView} {chain : BodyList} (ent
     walked_all : walked ≡ Taken (all_read t.shape q.cpu chain.bodies)
     walked_all = ap (λ z. cond z (Over (length chain.bodies)) (Taken (all_read told cpu chain.bodies))) fits_is ∙ (λ i. Taken (all_read (told_is i) (cpu_is i) chain.bodies))
 
+    -- what was taken out is told to have come to the CPU's hand
+    owned_out : AreChangedBy t.shape bucket q.cpu part (map (to_hand_of q.cpu) (numbers gone))
+    owned_out e owner =
+        ap (λ (l : List ℕ). owner_left (map (to_hand_of q.cpu) l) e owner) (gone_are b at_end t.shape q.cpu)
+        ∙ (detached_owners q.cpu bucket e owner (numbers (all_read t.shape q.cpu chain.bodies)) []
+        ∙ (λ i. owner_by (leave_steps (sym lru i) q.cpu bucket (taken_from_bucket (Walk true room (sym walked_all i)))) e owner))
+
     empties : (found : Option Part) → IfSome found (λ x. x ≡ parts.Bucket part) → Gives at_end.under back part found
     empties =
         let turn : IsTurnWith t.shape q.cpu part chain.bodies back.bodies [] = record {
@@ -288,7 +316,7 @@ module _ {t : TableView} {bucket : ℕ} {p q : PassView} {chain : BodyList} (ent
           sized = All-same (IsSized t.shape) back.bodies [] back_is (All-nil (IsSized t.shape));
           counts = λ x. ap (λ (l : List Stored). times x (numbers l)) back_is;
         } in
-        gives at_end.under back part [] turn (rows_here []) refl refl (sets_none t.shape part refl)
+        gives at_end.under back part [] turn (rows_here []) refl refl (sets_none t.shape part refl) (λ _. owned_out)
 
     pub may_give_empty : (found : Option Part) → IfSome found (λ x. x ≡ parts.Bucket part) → MayGiveBack t (Bucket bucket) r (contents.Bucket back) found
     may_give_empty found is = (empties found is).0

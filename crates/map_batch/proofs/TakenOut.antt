@@ -27,12 +27,13 @@ use Rattle.place_table.specs.declared.content.Content.TheVariants as contents
 use Rattle.place_table.specs.declared.view.Turned.{Turned}
 use Rattle.place_table.specs.Contents.{lists_of}
 use Rattle.place_table.specs.InBucket.{InBucket}
+use Rattle.place_table.specs.declared.view.OwnerSeen.{OwnerSeen}
 use Rattle.place_table.specs.Known.{IsBy, turn_of, turn_at}
 use Rattle.place_table.specs.Passes.{PassView, TableView, GaveBack, Goes, MayGiveBack}
 use Rattle.place_table.specs.Views.{is_in_hand_of, notes_below}
 use Rattle.place_table.proofs.Entries.{append_nil}
 use Rattle.place_table.proofs.Going.{goes_on, goes_took, learns_after, learns_took}
-use Rattle.place_table.proofs.Worlds.{by_bool}
+use Rattle.place_table.proofs.Worlds.{by_bool, true_false}
 use Rattle.place_table.specs.BucketHeld.{Holds}
 use Rattle.place_table.specs.BucketTurns.{GivenBack}
 use Rattle.place_table.proofs.BucketOut.{rows_here, sets_none}
@@ -62,7 +63,8 @@ taken_out shape cpu room bodies left fits none = record { allowed = (fits, refl)
 pub record CanGiveTaken (t : TableView) (bucket : ℕ) (q r : PassView) (bodies : List Stored) (back : BodyList) (room : ℕ) (walked : Walked) (found : Option Part) : Type 0 where
   pub inner : List Turned
   pub now : Lists
-  pub holds : Holds t bucket r bodies now []
+  pub changed : List OwnerSeen
+  pub holds : Holds t bucket r bodies now [] changed
   pub between : Between t q r inner
   pub gives : Gives (under_nothing holds) back (Walk true room walked) found
   pub turns : map (turn_of t.shape) inner ≡ pushes_of q.cpu (walked_out true walked)
@@ -87,9 +89,10 @@ module _ {t : TableView} {bucket : ℕ} {q : PassView} {bodies : List Stored} (b
       record {
         inner = emptied.inner;
         now = lists_of (in_bucket []);
+        changed = emptied.changed;
         holds = emptied.holds;
         between = emptied.between;
-        gives = gives (under_nothing emptied.holds) back part [] (subst (λ (c : ℕ). IsTurnWith t.shape c part bodies back.bodies []) (sym emptied.between.goes.cpu) turn) (rows_here []) refl refl (sets_none t.shape part refl) found is;
+        gives = gives (under_nothing emptied.holds) back part [] (subst (λ (c : ℕ). IsTurnWith t.shape c part bodies back.bodies []) (sym emptied.between.goes.cpu) turn) (rows_here []) refl refl (sets_none t.shape part refl) (λ lru. absurd (true_false (sym lru ∙ plain))) found is;
         turns = emptied.turns ∙ ap (pushes_of q.cpu) (sym (numbers_read t.shape q.cpu bodies));
         spares = emptied.spares;
         hands = emptied.hands;
@@ -107,9 +110,10 @@ module _ {t : TableView} {bucket : ℕ} {q : PassView} {bodies : List Stored} (b
       subst (λ (z : PassView). CanGiveTaken t bucket q z bodies back room (Over (length bodies)) found) (sym same) record {
         inner = [];
         now = lists_of (in_bucket bodies);
+        changed = [];
         holds = holds_bucket b;
         between = between_nothing t q;
-        gives = gives (under_nothing (holds_bucket b)) back part (numbers bodies) turn (rows_here bodies) refl refl (sets_none t.shape part refl) found is;
+        gives = gives (under_nothing (holds_bucket b)) back part (numbers bodies) turn (rows_here bodies) refl refl (sets_none t.shape part refl) (λ lru. absurd (true_false (sym lru ∙ plain))) found is;
         turns = refl;
         spares = refl;
         hands = λ _ _. refl;

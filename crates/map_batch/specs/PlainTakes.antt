@@ -13,7 +13,7 @@ use Rattle.place_words.specs.Walks.{TakesOut, Walks, buckets_from, walked_out}
 use Rattle.place_table.specs.declared.view.Turned.{Turned}
 use Rattle.place_table.specs.Calls.{AreTold}
 use Rattle.place_table.specs.Known.{Learns, turn_of, turn_at, IsBy}
-use Rattle.place_table.specs.Passes.{PassView, TableView, CanMark, Detached, Made}
+use Rattle.place_table.specs.Passes.{PassView, TableView, CanDetach, Detached, Made}
 use Rattle.place_table.specs.Views.{is_in_hand_of}
 use Rattle.hash_ops.specs.Free.{CanPush, Pushed}
 use Rattle.bucket_walks.specs.BatchReads.{PairsSoFar, IsGathered, stop_of}
@@ -22,7 +22,7 @@ use Rattle.bucket_walks.specs.BatchReads.{PairsSoFar, IsGathered, stop_of}
 
 -- a body that was taken out of a bucket that is held: its element may come to the CPU's hand, and be pushed from there
 pub record CanPushOut (t : TableView) (bucket : ℕ) (body : Stored) (p : PassView) : Type 0 where
-  pub detach : CanMark t body.element bucket p
+  pub detach : CanDetach t body.element bucket p
   pub push : (out : PassView) → Detached bucket body.element p out → CanPush t body out
 
 -- it came to the hand and went to the CPU's freelist

@@ -2,6 +2,7 @@
 use Rattle.std.proofs.Common.{◌≡◌, ℕ, ◌≤◌, false, List, ◌++◌, length, refl, ap, sym, ◌∙◌, subst, arith}
 use Rattle.std.specs.Prelude.{IfOk, Result, Ok, Err}
 use Rattle.std.proofs.lemmas.List.{length-map}
+use Rattle.map_types.proofs.CreationLemmas.{bounds_of_shape}
 use Rattle.map_types.specs.Creation.{IsShape}
 use Rattle.map_types.specs.declared.attr.CreateAttr.{CreateAttr}
 use Rattle.map_types.specs.declared.attr.Shape.{Shape}
@@ -23,11 +24,12 @@ use Rattle.place_table.specs.Passes.{PassView, TableView}
 use Rattle.run_records.specs.declared.pieces.Piece.{Piece}
 use Rattle.run_records.specs.Copies.{IsCopyOf, record_left}
 use Rattle.run_records.specs.Races.{IsRaceRecord}
-use Rattle.run_records.proofs.RaceRecord.{race_is_record}
+use Rattle.run_records.proofs.RaceEnds.{race_is_record}
 use Rattle.run_records.proofs.RunEnds.{copy_by_phases, end_by_phases}
 use Rattle.serial_laws.specs.Served.{IsScript}
 use Rattle.serial_laws.proofs.ServedLemmas.{IsServed-from_script, well_formed}
 use Rattle.map_run.specs.Copying.{HasCopiedLast, IsCopyRecord}
+use Rattle.map_run.proofs.OneOrder.{race_is_run}
 use Rattle.map_run.proofs.ExtendedPhases.{extended_served}
 
 module _ {script : Script} {t u : TableView} {count : ℕ} {now put_now : PassView} {told : List Reply} {starts : List PhaseStart} {pieces : List Piece} {reads puts : List Reply} {put_starts : List PhaseStart} {put_pieces : List Piece} {closed put_closed : ClosedView}
@@ -60,6 +62,7 @@ module _ {script : Script} {t u : TableView} {count : ℕ} {now put_now : PassVi
             let long : length reads ≡ length steps = ap length copied.reads_are ∙ length-map steps (λ (step : Step). step.page) in
             omega (arith, few, long);
         source = source_both.0;
+        one_run = race_is_run (extended script steps) (record_left script.shape.cpus pieces (told ++ reads) starts closed) (bounds_of_shape script.shape (well_formed script is).shape) source_both.0;
         target_is = put_is target.attr ∙ ap (λ (s : Shape). serial (target_script target.attr s steps)) shape_is;
       }
 

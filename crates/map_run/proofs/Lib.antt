@@ -4,6 +4,7 @@ pub mod ReadAnswers
 mod HandedCalls
 pub mod Joining
 pub mod Judged
+pub mod OneOrder
 pub mod Working
 pub mod Workers
 pub mod Refused

@@ -23,6 +23,7 @@ use Rattle.map_report.specs.declared.record.RunRecord.{RunRecord}
 use Rattle.map_report.specs.Record.{MayAnswer}
 use Rattle.map_report.specs.Runs.{serial}
 use Rattle.place_words.specs.AtRest.{IsStart}
+use Rattle.place_words.specs.Interleaving.{CoreRun}
 use Rattle.place_words.specs.Phases.{phase_count}
 use Rattle.place_table.specs.Calls.{Called}
 use Rattle.place_table.specs.Passes.{PassView, TableView, IsInNoCall, IsPassOf, begun}
@@ -185,7 +186,9 @@ pub record IsCopyRecord (script : Script) (target : Target) (kept : RunRecord) (
   -- buckets, and 17 more.
   pub answered : AreAnswered script.shape steps
   pub few : length reads ≤ script.shape.buckets + 17
-  -- With the reads' replies at its end, the source's record is that of a race of the script with the reads as calls of its last phase.
+  -- With the reads' replies at its end, the source's record is that of a race of the script with the reads as calls of its last phase,
+  -- and its turns, in the order of their tickets, are a run of the core.
   pub source : IsRaceRecord (extended script steps) (with_replies kept reads)
+  pub one_run : CoreRun script.shape kept.histories
   -- The target's record is that of its script, whose calls are the puts, in serial order.
   pub target_is : put ≡ serial (target_script target.attr target.shape steps)

@@ -45,6 +45,8 @@ use std::thread::{Threads, join_mut};
 /// kept is the record of the source, without what the reads answered, which stands beside it with the record of the target. It fails
 /// only where memory does.
 ///
+/// The turns of the source, in the order of their tickets, are a run of the core.
+///
 /// The script's target is the map into which it is copied, and says how many pairs the first read asks for. The reads are calls on the
 /// source behind those of the script, and are numbered so; the puts are the calls on the target. The gate is passed on the source alone.
 pub fn run_copy<R: Threads + Wait + Sync, G: Gate>(

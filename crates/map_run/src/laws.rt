@@ -1,8 +1,10 @@
 //! What the contracts of runs refuse, and what they tell of judged reports and of copies, as clauses of functions that do nothing.
 
 ghost use Rattle.map_run.specs.CopiesKept.{KeepsCopies};
-ghost use Rattle.map_run.specs.Judged.{EndsWithYes};
+ghost use Rattle.map_run.specs.Judged.{EndsWithYes, RacesPass};
 ghost use Rattle.map_run.specs.Refusals.{KeptFromATable, LoneCallsByOne, LonePhaseIsWhole};
+
+use record_check::verdict_laws;
 
 /// No run may end with a record that no closed table stands behind, as one that is computed. No phase whose calls are all of one
 /// CPU may be run by workers: what they tell isn't what is asked there, and no record of a race has a strand that one of them
@@ -18,6 +20,13 @@ pub fn refused_laws()
 pub fn check_law()
     ensures { EndsWithYes }
 {}
+
+/// Whatever is said of the report of a race, with its history and its dump, it is that it is right.
+pub fn race_law()
+    ensures { RacesPass }
+{
+    verdict_laws();
+}
 
 /// What is kept of a copy is there exactly in mode `copy`, where a record is kept.
 pub fn copy_law()

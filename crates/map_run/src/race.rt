@@ -6,6 +6,7 @@ ghost use Rattle.map_types.specs.declared.call.Call.{Call};
 ghost use Rattle.map_script.specs.WellFormed.{HasPhases};
 ghost use Rattle.map_batch.specs.Calls.{table_of};
 ghost use Rattle.place_table.specs.Passes.{IsFirstPass, PassView};
+ghost use Rattle.place_words.specs.Interleaving.{CoreRun};
 ghost use Rattle.place_words.specs.Phases.{phase_count};
 ghost use Rattle.map_run.specs.declared.worker.Worker.{Worker};
 ghost use Rattle.record_shape.specs.WellShaped.{WellShaped};
@@ -41,6 +42,9 @@ use std::thread::Threads;
 /// of the script, what happened under each lock, the starts of the phases, in each phase a strand for each CPU, or one of all, and
 /// what the map holds at the end; beside it stands what the closed table left. It fails only where memory does.
 ///
+/// The turns of the record, in the order of their tickets, are a run of the core. So whatever is said of its report with `--history`
+/// and `--dump`, it is that it is right (`race_law`).
+///
 /// The record is well shaped. So `read_record` reads its report with `--history` and `--dump` back as the record, where that
 /// has at most 2^32 - 3 line feeds and memory is found.
 ///
@@ -54,6 +58,7 @@ pub fn run_race<R: Threads + Wait + Sync, G: Gate>(
 ) -> Result<(RunRecord, Closed), NoMemory>
     requires script { IsScript script.now }
     ensures record { IfOk result (λ kept. IsRaceRecord script.now kept.0) }
+    ensures order { IfOk result (λ kept. CoreRun script.now.shape kept.0.histories) }
     ensures shaped { IfOk result (λ kept. WellShaped script.now kept.0) }
     ensures closed { IfOk result (λ kept. IsCopyOf kept.0 kept.1) }
 {

@@ -34,7 +34,11 @@ use Rattle.place_table.specs.BucketPuts.{Asked, IsOffered, IsRefusal, Adds, Writ
 use Rattle.place_table.specs.BucketTurns.{GivenBack, MarkedOn}
 use Rattle.place_table.proofs.BucketOut.{rows_here, sets_none, is_real, can_mark_at}
 use Rattle.place_table.proofs.BucketTurned.{unchanged}
-use Rattle.place_table.proofs.BucketUnder.{Under, under_nothing, under_marked_on, under_attached, under_detached, can_mark, can_attach, Gives, gives}
+use Rattle.place_words.specs.declared.owner.Owner.TheVariants as owners
+use Rattle.place_words.specs.Interleaving.{bucket_steps, put_steps}
+use Rattle.place_table.specs.declared.view.OwnerSeen.{OwnerSeen}
+use Rattle.place_table.specs.Passes.{CanDetach}
+use Rattle.place_table.proofs.BucketUnder.{Under, none_changed, under_nothing, under_marked_on, under_attached, under_detached, can_mark, can_attach, can_detach, Gives, gives}
 
 -- an element that leaves where another came, whichever it is
 swapped : (new old x : ℕ) (all : List ℕ) → IsIn old all → times x (new ∷ without old all) ≡ times x (without old (new ∷ all))
@@ -63,8 +67,12 @@ module _ {t : TableView} {bucket : ℕ} {q : PassView} {bodies : List Stored} (h
   pub can_attach_offered : {body : Stored} (e : ℕ) → IsOffered t bucket q body → e ≡ body.element → CanAttach t e bucket q
   can_attach_offered {body} e offered e_is = subst (λ n. CanAttach t n bucket q) (sym e_is) (can_attach h body.element offered.in_hand offered.not_carried offered.hashed)
 
+  -- what it changes of owners
+  abbrev attaching : ℕ → List OwnerSeen
+  attaching e = record { element = e; owner = owners.Bucket bucket } ∷ []
+
   module _ (e : ℕ) (r : PassView) (attached : Attached bucket e q r) where
-    pub under_added : Under t bucket q r bodies (with_row (Bucket bucket) e (lying bodies)) [] (without_in_hand e q.cpu q.view.hand)
+    pub under_added : Under t bucket q r bodies (with_row (Bucket bucket) e (lying bodies)) [] (attaching e) (without_in_hand e q.cpu q.view.hand)
     under_added = under_attached (under_nothing h) e r attached
 
     -- its bit may be set
@@ -72,12 +80,12 @@ module _ {t : TableView} {bucket : ℕ} {q : PassView} {bodies : List Stored} (h
     can_mark_new real = can_mark under_added.holds e (let more = times_cons_same e (numbers bodies) in let some_there : 0 < times e (e ∷ numbers bodies) = omega arith in some_there) real
 
     module _ (r2 : PassView) (marked : MarkedOn t e r r2) where
-      under_marked_new : Under t bucket q r2 bodies (with_row (Bucket bucket) e (lying bodies)) (cond (is_lru t.shape.kind) (e ∷ []) []) (without_in_hand e q.cpu q.view.hand)
+      under_marked_new : Under t bucket q r2 bodies (with_row (Bucket bucket) e (lying bodies)) (cond (is_lru t.shape.kind) (e ∷ []) []) (attaching e) (without_in_hand e q.cpu q.view.hand)
       under_marked_new = under_marked_on e r2 under_added marked
 
       -- and that of a key's body may be detached
-      pub can_detach_was : (key : List ℕ) (was : Stored) (old : ℕ) → present key bodies ≡ Some was → old ≡ was.element → CanMark t old bucket r2
-      can_detach_was key was old holder old_is = can_mark under_marked_new.holds old still_inside (subst (λ n. n < t.shape.elements) (sym old_is) (is_real h key was holder))
+      pub can_detach_was : (key : List ℕ) (was : Stored) (old : ℕ) → present key bodies ≡ Some was → old ≡ was.element → CanDetach t old bucket r2
+      can_detach_was key was old holder old_is = can_detach under_marked_new.holds old still_inside (subst (λ n. n < t.shape.elements) (sym old_is) (is_real h key was holder))
         where
           still_inside : IsIn old (e ∷ numbers bodies)
           still_inside =
@@ -85,7 +93,7 @@ module _ {t : TableView} {bucket : ℕ} {q : PassView} {bodies : List Stored} (h
               by_test e old (λ z. 0 < cond z (suc (times old (numbers bodies))) (times old (numbers bodies))) (λ _. omega arith) (λ _. there)
 
       pub under_replaced : (old : ℕ) (r3 : PassView) → Detached bucket old r2 r3
-          → Under t bucket q r3 bodies (without_row old (with_row (Bucket bucket) e (lying bodies))) (cond (is_lru t.shape.kind) (e ∷ []) []) (with_in_hand old q.cpu (without_in_hand e q.cpu q.view.hand))
+          → Under t bucket q r3 bodies (without_row old (with_row (Bucket bucket) e (lying bodies))) (cond (is_lru t.shape.kind) (e ∷ []) []) (record { element = old; owner = owners.Hand q.cpu } ∷ attaching e) (with_in_hand old q.cpu (without_in_hand e q.cpu q.view.hand))
       under_replaced old r3 detached = under_detached under_marked_new old r3 detached
 
 -- What is owed where the bucket is given back, and what it leaves
@@ -126,8 +134,19 @@ module _ {t : TableView} {bucket : ℕ} {q : PassView} (chain : BodyList) (h : H
         go puts.Absent refusal = refl
         go puts.Full refusal = refl
 
+    refused_steps : bucket_steps t.shape q.cpu bucket (part_of put) ≡ []
+    refused_steps = go put refusal
+      where
+        go : (put : Put) → IsRefusal put → put_steps q.cpu bucket put ≡ []
+        go (puts.Added e) refusal = absurd refusal
+        go (puts.Replaced new old) refusal = absurd refusal
+        go (puts.Written e) refusal = absurd refusal
+        go puts.Exists refusal = refl
+        go puts.Absent refusal = refl
+        go puts.Full refusal = refl
+
     pub refuses : AllowsPut t.shape flags key put chain.bodies → (found : Option Part) → IfSome found (λ x. x ≡ update_part asked put) → Gives (under_nothing h) chain (part_of put) found
-    refuses allowed found is = unchanged chain h (part_of put) (unchanged_turn t.shape q.cpu chain.bodies h.sized (part_of put) (refused_turn allowed)) refl refused_sets found is
+    refuses allowed found is = unchanged chain h (part_of put) (unchanged_turn t.shape q.cpu chain.bodies h.sized (part_of put) (refused_turn allowed)) refl refused_sets refused_steps found is
 
   module _ {shape : Shape} {cpu : ℕ} (shape_is : shape ≡ t.shape) (cpu_is : cpu ≡ q.cpu) where
     -- A key is written in place
@@ -145,7 +164,7 @@ module _ {t : TableView} {bucket : ℕ} {q : PassView} (chain : BodyList) (h : H
             → MayGiveBack t (Bucket bucket) r (contents.Bucket back) found × ((s : PassView) → GaveBack t (Bucket bucket) r s (contents.Bucket back) found → Writes t bucket q s asked)
         writes found is =
             let g : Gives (under_marked_on e r (under_nothing h) marked) back (part_of (puts.Written e)) found =
-            gives (under_marked_on e r (under_nothing h) marked) back (part_of (puts.Written e)) (numbers chain.bodies) turn_written (rows_here chain.bodies) refl refl refl found is in
+            gives (under_marked_on e r (under_nothing h) marked) back (part_of (puts.Written e)) (numbers chain.bodies) turn_written (rows_here chain.bodies) refl refl refl (λ _. none_changed t.shape bucket q.cpu (part_of (puts.Written e)) refl) found is in
             (g.0, λ s gave. record { written = e; gives = g.1 s gave })
 
     -- An element was attached, whose body was filled and put at the head
@@ -165,7 +184,7 @@ module _ {t : TableView} {bucket : ℕ} {q : PassView} (chain : BodyList) (h : H
       adds back absent other left found is =
           let g : Gives (under_added h e r attached) back (part_of (puts.Added e)) found =
           gives (under_added h e r attached) back (part_of (puts.Added e)) (e ∷ numbers chain.bodies) (added_turn t.shape q.cpu chain.bodies back.bodies h.sized asked.update.side flags key asked.update.value asked.offer e filled absent other filled_is is_sized left)
-          (λ x. ap (λ (l : List ℕ). times x (e ∷ l)) (sym (append_nil (numbers chain.bodies)))) refl refl (sets_none t.shape (part_of (puts.Added e)) refl) found is in (
+          (λ x. ap (λ (l : List ℕ). times x (e ∷ l)) (sym (append_nil (numbers chain.bodies)))) refl refl (sets_none t.shape (part_of (puts.Added e)) refl) (λ _ x owner. refl) found is in (
             g.0,
             λ s gave. subst (λ (z : ℕ × Option ℕ). GivenBack t bucket q s (update_part (with_offer asked.update z.1) (puts.Added z.0)) (without_in_hand z.0 q.cpu q.view.hand)) (λ i. (e_is i, offer_here i)) (g.1 s gave),
           )
@@ -173,14 +192,14 @@ module _ {t : TableView} {bucket : ℕ} {q : PassView} (chain : BodyList) (h : H
       -- in the place of a present key's
       module _ (r2 : PassView) (marked : MarkedOn t e r r2) (old : ℕ) (r3 : PassView) (detached : Detached bucket old r2 r3) (place : ℕ) (was : Stored) (found_there : slice_get chain.bodies place ≡ Some was) (holder : present filled.key chain.bodies ≡ Some was) (old_is : old ≡ was.element)
           (back : BodyList) (single : is_percpu t.shape.kind ≡ false) (replaces : flags ≢ 1) (left : back.bodies ≡ filled ∷ without_key filled.key chain.bodies) where
-        under : Under t bucket q r3 chain.bodies (without_row old (with_row (Bucket bucket) e (lying chain.bodies))) (cond (is_lru t.shape.kind) (e ∷ []) []) (with_in_hand old q.cpu (without_in_hand e q.cpu q.view.hand))
+        under : Under t bucket q r3 chain.bodies (without_row old (with_row (Bucket bucket) e (lying chain.bodies))) (cond (is_lru t.shape.kind) (e ∷ []) []) (record { element = old; owner = owners.Hand q.cpu } ∷ record { element = e; owner = owners.Bucket bucket } ∷ []) (with_in_hand old q.cpu (without_in_hand e q.cpu q.view.hand))
         under = under_replaced h e r attached r2 marked old r3 detached
 
         gives_replaced : (found : Option Part) → IfSome found (λ x. x ≡ update_part asked (puts.Replaced e old)) → Gives under back (part_of (puts.Replaced e old)) found
         gives_replaced found is =
             gives under back (part_of (puts.Replaced e old)) (e ∷ without old (numbers chain.bodies))
             (replaced_turn t.shape q.cpu chain.bodies back.bodies h.sized asked.update.side flags key asked.update.value asked.offer e old filled was replaces single filled_is is_sized holder left old_is)
-            (λ x. swapped e old x (numbers chain.bodies) (subst (λ n. IsIn n (numbers chain.bodies)) (sym old_is) (present_is_in filled.key chain.bodies was holder)) ∙ ap (times x) (sym (append_nil (without old (e ∷ numbers chain.bodies))))) refl refl refl found is
+            (λ x. swapped e old x (numbers chain.bodies) (subst (λ n. IsIn n (numbers chain.bodies)) (sym old_is) (present_is_in filled.key chain.bodies was holder)) ∙ ap (times x) (sym (append_nil (without old (e ∷ numbers chain.bodies))))) refl refl refl (λ _ x owner. refl) found is
 
         pub replaces_it : (found : Option Part) → IfSome found (λ x. x ≡ update_part asked (puts.Replaced e old))
             → MayGiveBack t (Bucket bucket) r3 (contents.Bucket back) found × ((s : PassView) → GaveBack t (Bucket bucket) r3 s (contents.Bucket back) found → Replaces t bucket q s asked.update number was)

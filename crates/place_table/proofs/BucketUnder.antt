@@ -55,7 +55,18 @@ use Rattle.place_words.specs.Buckets.{bucket_marks}
 use Rattle.place_table.specs.Passes.{CanAttach}
 use Rattle.place_table.specs.Views.{has_all, has_all_below, is_in_hand_of, bucket_known}
 use Rattle.place_table.proofs.Worlds.{by_bool, true_false}
+use Rattle.owner_words.specs.Owners.{owner_by, owner_told}
+use Rattle.place_words.specs.declared.owner.Owner.{Owner}
+use Rattle.place_words.specs.declared.owner.Owner.TheVariants as owners
+use Rattle.place_words.specs.declared.step.Step.{Step}
+use Rattle.place_words.specs.declared.visits.Try.{Try}
+use Rattle.place_words.specs.Interleaving.{bucket_steps}
+use Rattle.place_words.specs.SerialOrder.{probes_in}
+use Rattle.place_table.specs.Owners.{owner_left, change_in, IsFreeAround}
+use Rattle.place_table.specs.Passes.{CanDetach}
+use Rattle.place_table.specs.Views.{with_changed}
 use Rattle.place_table.specs.BucketHeld.{Holds, HoldsBucket, with_marks}
+use Rattle.place_table.proofs.Nesting.{probes_nothing}
 use Rattle.place_table.specs.BucketTurns.{CanEnter, Entered, LosesAtMost, GivenBack, MarkedOn}
 
 -- Entering
@@ -136,15 +147,26 @@ told_bits shape told part is =
     (λ _. ap (λ (p : Part). bits_of_part shape p ++ []) is ∙ ap (λ (l : List BitTouch). l ++ []) (append_nil (map sets_bit (marks shape (parts.Bucket part)) ++ []) ∙ append_nil (map sets_bit (marks shape (parts.Bucket part)))))
     (λ plain. sym (ap (λ b. map sets_bit (cond b (bucket_marks part) []) ++ []) plain))
 
+none_probed : {probe : Try} → [] ≡ probe ∷ [] → ⊥
+none_probed {probe} is = cc
+
+-- What the part of a CPU's turn of the bucket makes of owners is what was changed.
+abbrev pub AreChangedBy : Shape → ℕ → ℕ → BucketPart → List OwnerSeen → Type 0
+AreChangedBy shape bucket cpu part changed = (e : ℕ) (owner : Owner) → owner_left changed e owner ≡ owner_told shape (Bucket bucket) cpu (parts.Bucket part) e owner
+
+-- no owner was, where the part has no steps on owners
+pub none_changed : (shape : Shape) (bucket cpu : ℕ) (part : BucketPart) → bucket_steps shape cpu bucket part ≡ [] → AreChangedBy shape bucket cpu part []
+none_changed shape bucket cpu part none e owner = ap (λ (steps : List Step). owner_by steps e owner) (sym none)
+
 -- Under the bucket
 
 -- it is held after a step that took no lock and gave none back
-module _ {t : TableView} {bucket : ℕ} {r s : PassView} {bodies : List Stored} {now : Lists} {marked : List ℕ} (h : Holds t bucket r bodies now marked) where
+module _ {t : TableView} {bucket : ℕ} {r s : PassView} {bodies : List Stored} {now : Lists} {marked : List ℕ} {changed : List OwnerSeen} (h : Holds t bucket r bodies now marked changed) where
   pub has_all_before : Goes r s [] [] → has_all s.view ≡ true → has_all r.view ≡ true
   has_all_before goes has = sym (λ i. has_all_below (goes.shape i).cpus (goes.cpus i)) ∙ has
 
-  holds_on : {after : Lists} (then : Lists) (more : List ℕ) → then ≡ after → Goes r s [] [] → s.view.held ≡ hold_with h.hold then ∷ [] → s.view.notes ≡ with_marks more ∷ h.below → s.view.known ≡ r.view.known → Holds t bucket s bodies after more
-  holds_on then more lies goes held notes known = record {
+  holds_on : {after : Lists} (then : Lists) (more : List ℕ) (made : List OwnerSeen) → then ≡ after → Goes r s [] [] → s.view.held ≡ hold_with h.hold then ∷ [] → s.view.notes ≡ with_marks more made ∷ h.below → s.view.known ≡ r.view.known → Holds t bucket s bodies after more made
+  holds_on then more made lies goes held notes known = record {
     of_table = goes_of_table t r s [] [] goes h.of_table;
     begun = goes_begun r s [] [] goes h.begun;
     there = h.there;
@@ -163,9 +185,31 @@ module _ {t : TableView} {bucket : ℕ} {r s : PassView} {bodies : List Stored} 
     known = λ has log is. h.known (has_all_before goes has) log (ap (known_log h.hold.lock) (sym known) ∙ is);
   }
 
--- From q on no lock was taken or given back: this lies in the bucket now, the bits of these elements were set, and this is in hand.
-pub record Under (t : TableView) (bucket : ℕ) (q r : PassView) (bodies : List Stored) (now : Lists) (marked : List ℕ) (hand : List InHand) : Type 0 where
-  pub holds : Holds t bucket r bodies now marked
+-- the same owners, told otherwise
+abbrev pub holds_same : {t : TableView} {bucket : ℕ} {r : PassView} {bodies : List Stored} {now : Lists} {marked : List ℕ} {changed : List OwnerSeen} (other : List OwnerSeen) → changed ≡ other → Holds t bucket r bodies now marked changed → Holds t bucket r bodies now marked other
+holds_same {t} {bucket} {r} {bodies} {now} {marked} {changed} other same h = record {
+  of_table = h.of_table;
+  begun = h.begun;
+  there = h.there;
+  cpu_there = h.cpu_there;
+  hold = h.hold;
+  below = h.below;
+  held = h.held;
+  notes = h.notes ∙ (λ i. with_marks marked (same i) ∷ h.below);
+  lock_is = h.lock_is;
+  cpu_is = h.cpu_is;
+  content_is = h.content_is;
+  legal = h.legal;
+  now_is = h.now_is;
+  elements = h.elements;
+  sized = h.sized;
+  known = h.known;
+}
+
+-- From q on no lock was taken or given back: this lies in the bucket now, the bits of these elements were set, these owners were
+-- changed, and this is in hand.
+pub record Under (t : TableView) (bucket : ℕ) (q r : PassView) (bodies : List Stored) (now : Lists) (marked : List ℕ) (changed : List OwnerSeen) (hand : List InHand) : Type 0 where
+  pub holds : Holds t bucket r bodies now marked changed
   pub below_is : holds.below ≡ notes_below q.view.notes
   -- and the turns of the bucket before this one are those that q has of it
   pub log_is : (hold : Hold) → q.view.held ≡ hold ∷ [] → holds.hold.log ≡ hold.log
@@ -176,8 +220,8 @@ pub record Under (t : TableView) (bucket : ℕ) (q r : PassView) (bodies : List 
   pub bits : is_lru t.shape.kind ≡ false → r.view.bits ≡ q.view.bits
   pub learns : Learns t.shape q.view r.view [] (map sets_bit marked)
 
-pub under_nothing : {t : TableView} {bucket : ℕ} {q : PassView} {bodies : List Stored} {now : Lists} → Holds t bucket q bodies now [] → Under t bucket q q bodies now [] q.view.hand
-under_nothing {t} {bucket} {q} {bodies} {now} h = record {
+pub under_nothing : {t : TableView} {bucket : ℕ} {q : PassView} {bodies : List Stored} {now : Lists} {changed : List OwnerSeen} → Holds t bucket q bodies now [] changed → Under t bucket q q bodies now [] changed q.view.hand
+under_nothing {t} {bucket} {q} {bodies} {now} {changed} h = record {
   holds = h;
   below_is = sym (ap notes_below h.notes);
   log_is = λ hold held. ap (λ (z : Hold). z.log) (same_head (sym h.held ∙ held));
@@ -190,12 +234,12 @@ under_nothing {t} {bucket} {q} {bodies} {now} h = record {
 }
 
 -- the bit of one element was set
-module _ {t : TableView} {bucket : ℕ} {q r : PassView} {bodies : List Stored} {now : Lists} {hand : List InHand} (e : ℕ) (s : PassView) (u : Under t bucket q r bodies now [] hand) where
-  under_marked : IsTrue (is_lru t.shape.kind) → Marked e r s → Under t bucket q s bodies now (e ∷ []) hand
+module _ {t : TableView} {bucket : ℕ} {q r : PassView} {bodies : List Stored} {now : Lists} {changed : List OwnerSeen} {hand : List InHand} (e : ℕ) (s : PassView) (u : Under t bucket q r bodies now [] changed hand) where
+  under_marked : IsTrue (is_lru t.shape.kind) → Marked e r s → Under t bucket q s bodies now (e ∷ []) changed hand
   unfolding holds_on
   under_marked lru is =
       let step = goes_noted (with_mark e r.view.notes) (bits_with e true r.view) (touching is.0 (bit_word r.view.shape e) None 1 r.view) r.view.readings r s is.1 in
-      let here : Holds t bucket s bodies now (e ∷ []) = holds_on u.holds u.holds.hold.now (e ∷ []) u.holds.now_is step (ap (λ (z : PassView). z.view.held) is.1 ∙ u.holds.held) (ap (λ (z : PassView). z.view.notes) is.1 ∙ ap (with_mark e) u.holds.notes) (ap (λ (z : PassView). z.view.known) is.1) in
+      let here : Holds t bucket s bodies now (e ∷ []) changed = holds_on u.holds u.holds.hold.now (e ∷ []) changed u.holds.now_is step (ap (λ (z : PassView). z.view.held) is.1 ∙ u.holds.held) (ap (λ (z : PassView). z.view.notes) is.1 ∙ ap (with_mark e) u.holds.notes) (ap (λ (z : PassView). z.view.known) is.1) in
       record {
         holds = here;
         below_is = u.below_is;
@@ -209,13 +253,13 @@ module _ {t : TableView} {bucket : ℕ} {q r : PassView} {bodies : List Stored} 
       }
 
   -- where the map evicts
-  pub under_marked_on : MarkedOn t e r s → Under t bucket q s bodies now (cond (is_lru t.shape.kind) (e ∷ []) []) hand
+  pub under_marked_on : MarkedOn t e r s → Under t bucket q s bodies now (cond (is_lru t.shape.kind) (e ∷ []) []) changed hand
   under_marked_on =
-      by_bool (is_lru t.shape.kind) (λ b. MatchBool b (Marked e r s) (s ≡ r) → Under t bucket q s bodies now (cond b (e ∷ []) []) hand)
-      (λ lru is. under_marked lru is) (λ _ same. subst (λ (z : PassView). Under t bucket q z bodies now [] hand) (sym same) u)
+      by_bool (is_lru t.shape.kind) (λ b. MatchBool b (Marked e r s) (s ≡ r) → Under t bucket q s bodies now (cond b (e ∷ []) []) changed hand)
+      (λ lru is. under_marked lru is) (λ _ same. subst (λ (z : PassView). Under t bucket q z bodies now [] changed hand) (sym same) u)
 
 -- The bucket that is held, and the steps that it asks for
-module _ {t : TableView} {bucket : ℕ} {r : PassView} {bodies : List Stored} {now : Lists} {marked : List ℕ} (h : Holds t bucket r bodies now marked) where
+module _ {t : TableView} {bucket : ℕ} {r : PassView} {bodies : List Stored} {now : Lists} {marked : List ℕ} {changed : List OwnerSeen} (h : Holds t bucket r bodies now marked changed) where
   number_here : lock_number r.view.shape (Bucket bucket) ≡ h.hold.lock
   number_here = ap (λ (s : Shape). lock_number s (Bucket bucket)) h.of_table.1 ∙ sym h.lock_is
 
@@ -246,6 +290,10 @@ module _ {t : TableView} {bucket : ℕ} {r : PassView} {bodies : List Stored} {n
     inside = subst (λ (l : Lists). IsIn e l.first) (sym h.now_is) inside;
   }
 
+  -- nothing is held around it
+  around_here : (e : ℕ) → IsFreeAround r.view e
+  around_here e owner is = absurd (none_some (sym (λ i. change_in e (holds_below (h.held i)) (notes_below r.view.notes)) ∙ is))
+
   pub can_attach : (e : ℕ) → is_in_hand_of e r.cpu r.view.hand ≡ true → (IsTrue (is_lru t.shape.kind) → is_in_hand_of e r.cpu r.view.carried ≡ false) → (IsTrue (is_lru t.shape.kind) → bucket_known e r.cpu r.view.hashes ≡ Some bucket) → CanAttach t e bucket r
   can_attach e in_hand not_carried hashed = record {
     of_table = h.of_table;
@@ -257,21 +305,25 @@ module _ {t : TableView} {bucket : ℕ} {r : PassView} {bodies : List Stored} {n
     in_hand = in_hand;
     not_carried = not_carried;
     hashed = λ lru. (hashed lru, alone);
+    around = λ _. around_here e;
   }
 
+  pub can_detach : (e : ℕ) → IsIn e now.first → e < t.shape.elements → CanDetach t e bucket r
+  can_detach e inside real = record { there = can_mark e inside real; around = λ _. around_here e }
+
 -- an element was moved there
-module _ {t : TableView} {bucket : ℕ} {q r : PassView} {bodies : List Stored} {now : Lists} {marked : List ℕ} {hand : List InHand} (u : Under t bucket q r bodies now marked hand) where
-  under_moved : {hashes : List HashIn} (s : PassView) (then : Lists) (at : ℕ) (held : List InHand) (word left : ℕ) → s ≡ with_view r (with_hashes hashes (moved at (lock_number r.view.shape (Bucket bucket)) then held r.view.notes word left r.view)) → Under t bucket q s bodies then marked held
+module _ {t : TableView} {bucket : ℕ} {q r : PassView} {bodies : List Stored} {now : Lists} {marked : List ℕ} {changed : List OwnerSeen} {hand : List InHand} (u : Under t bucket q r bodies now marked changed hand) where
+  under_moved : {hashes : List HashIn} (e : ℕ) (to : Owner) (s : PassView) (then : Lists) (at : ℕ) (held : List InHand) (word left : ℕ) → s ≡ with_view r (with_hashes hashes (moved at (lock_number r.view.shape (Bucket bucket)) then held (with_changed e to r.view.notes) word left r.view)) → Under t bucket q s bodies then marked (record { element = e; owner = to } ∷ changed) held
   unfolding holds_on
-  under_moved {hashes} s then at held word left is =
+  under_moved {hashes} e to s then at held word left is =
       let h = u.holds in
       let k : ℕ = lock_number r.view.shape (Bucket bucket) in
-      let step = goes_moved at k then held r.view.notes word left r s is in
+      let step = goes_moved at k then held (with_changed e to r.view.notes) word left r s is in
       record {
-        holds = holds_on h then marked refl step
+        holds = holds_on h then marked (record { element = e; owner = to } ∷ changed) refl step
             (ap (λ (z : PassView). z.view.held) is ∙ (ap (with_now k then) h.held
             ∙ by_test h.hold.lock k (λ b. cond b (record { lock = h.hold.lock; cpu = h.hold.cpu; log = h.hold.log; now = then; lost = h.hold.lost } ∷ []) (h.hold ∷ []) ≡ hold_with h.hold then ∷ []) (λ _. refl) (λ other. absurd (other (sym (number_here h))))))
-            (ap (λ (z : PassView). z.view.notes) is ∙ h.notes) (ap (λ (z : PassView). z.view.known) is);
+            (ap (λ (z : PassView). z.view.notes) is ∙ ap (with_changed e to) h.notes) (ap (λ (z : PassView). z.view.known) is);
         below_is = u.below_is;
         log_is = u.log_is;
         goes = goes_on q r s [] [] [] [] u.goes step;
@@ -279,20 +331,20 @@ module _ {t : TableView} {bucket : ℕ} {q r : PassView} {bodies : List Stored} 
         carried = ap (λ (z : PassView). z.view.carried) is ∙ u.carried;
         hand_is = ap (λ (z : PassView). z.view.hand) is;
         bits = λ plain. ap (λ (z : PassView). z.view.bits) is ∙ u.bits plain;
-        learns = subst (Learns t.shape q.view s.view []) (append_nil (map sets_bit marked)) (learns_on t.shape q.view r.view s.view [] [] (map sets_bit marked) [] u.learns (learns_moved t.shape at k then held r.view.notes word left r s is));
+        learns = subst (Learns t.shape q.view s.view []) (append_nil (map sets_bit marked)) (learns_on t.shape q.view r.view s.view [] [] (map sets_bit marked) [] u.learns (learns_moved t.shape at k then held (with_changed e to r.view.notes) word left r s is));
       }
 
-  pub under_attached : (e : ℕ) (s : PassView) → Attached bucket e r s → Under t bucket q s bodies (with_row (Bucket bucket) e now) marked (without_in_hand e q.cpu hand)
+  pub under_attached : (e : ℕ) (s : PassView) → Attached bucket e r s → Under t bucket q s bodies (with_row (Bucket bucket) e now) marked (record { element = e; owner = owners.Bucket bucket } ∷ changed) (without_in_hand e q.cpu hand)
   under_attached e s is =
       let hand_is : without_in_hand e r.cpu r.view.hand ≡ without_in_hand e q.cpu hand = λ i. without_in_hand e (u.goes.cpu i) (u.hand_is i) in
-      subst (λ (z : Lists × List InHand). Under t bucket q s bodies (with_row (Bucket bucket) e z.0) marked z.1) (λ i. (now_here u.holds i, hand_is i))
-      (under_moved s (with_row (Bucket bucket) e (now_under (Bucket bucket) r.view)) is.0 (without_in_hand e r.cpu r.view.hand) (owner_word r.view.shape e) (32 + bucket) is.1)
+      subst (λ (z : Lists × List InHand). Under t bucket q s bodies (with_row (Bucket bucket) e z.0) marked (record { element = e; owner = owners.Bucket bucket } ∷ changed) z.1) (λ i. (now_here u.holds i, hand_is i))
+      (under_moved e (owners.Bucket bucket) s (with_row (Bucket bucket) e (now_under (Bucket bucket) r.view)) is.0 (without_in_hand e r.cpu r.view.hand) (owner_word r.view.shape e) (32 + bucket) is.1)
 
-  pub under_detached : (e : ℕ) (s : PassView) → Detached bucket e r s → Under t bucket q s bodies (without_row e now) marked (with_in_hand e q.cpu hand)
+  pub under_detached : (e : ℕ) (s : PassView) → Detached bucket e r s → Under t bucket q s bodies (without_row e now) marked (record { element = e; owner = owners.Hand q.cpu } ∷ changed) (with_in_hand e q.cpu hand)
   under_detached e s is =
       let hand_is : with_in_hand e r.cpu r.view.hand ≡ with_in_hand e q.cpu hand = λ i. with_in_hand e (u.goes.cpu i) (u.hand_is i) in
-      subst (λ (z : Lists × List InHand). Under t bucket q s bodies (without_row e z.0) marked z.1) (λ i. (now_here u.holds i, hand_is i))
-      (under_moved s (without_row e (now_under (Bucket bucket) r.view)) is.0 (with_in_hand e r.cpu r.view.hand) (owner_word r.view.shape e) (1 + r.cpu) is.1)
+      subst (λ (z : (Lists × ℕ) × List InHand). Under t bucket q s bodies (without_row e z.0.0) marked (record { element = e; owner = owners.Hand z.0.1 } ∷ changed) z.1) (λ i. ((now_here u.holds i, u.goes.cpu i), hand_is i))
+      (under_moved e (owners.Hand r.cpu) s (without_row e (now_under (Bucket bucket) r.view)) is.0 (with_in_hand e r.cpu r.view.hand) (owner_word r.view.shape e) (1 + r.cpu) is.1)
 
   -- Giving back
 
@@ -304,15 +356,15 @@ module _ {t : TableView} {bucket : ℕ} {q r : PassView} {bodies : List Stored} 
 
   -- by a part that probes nothing and sets the bits that were set
   can_give : (back : BodyList) (part : BucketPart) (elements : List ℕ) → IsTurnWith t.shape r.cpu part bodies back.bodies elements → ((x : ℕ) → times x elements ≡ times x (rows now)) → now.free ≡ []
-      → bucket_probes part ≡ [] → marked ≡ marks t.shape (parts.Bucket part) → CanGive t (Bucket bucket) r (contents.Bucket back) (parts.Bucket part)
-  can_give back part elements turn counted no_free no_probes marks_are =
+      → bucket_probes part ≡ [] → marked ≡ marks t.shape (parts.Bucket part) → (IsTrue (is_lru t.shape.kind) → AreChangedBy t.shape bucket r.cpu part changed) → CanGive t (Bucket bucket) r (contents.Bucket back) (parts.Bucket part)
+  can_give back part elements turn counted no_free no_probes marks_are changes =
       let h = u.holds in record {
         of_table = h.of_table;
         begun = h.begun;
         hold = h.hold;
         below = [];
         innermost = h.held;
-        notes = with_marks marked;
+        notes = with_marks marked changed;
         notes_below = h.below;
         notes_are = h.notes;
         there = bucket_there t.shape bucket h.there;
@@ -327,6 +379,7 @@ module _ {t : TableView} {bucket : ℕ} {q r : PassView} {bodies : List Stored} 
           rows_kept = λ _ j e n m other _ _ _ _ is. absurd (none_in_bucket back.bodies e m is);
           gone = λ _ c e n is _ _. absurd (not_local bucket c (sym named ∙ is));
         };
+        inside = probes_nothing t.shape part [] no_probes;
         notes_fit = record {
           marks_are = marks_are;
           clears_are = refl;
@@ -334,7 +387,11 @@ module _ {t : TableView} {bucket : ℕ} {q r : PassView} {bodies : List Stored} 
           flushed = tt;
           off = All-nil (λ e. flushes e (parts.Bucket part) ≡ true);
           held = subst (All (ProbeFits [])) (sym no_probes) (All-nil (ProbeFits []));
-          came = All-nil (CameToHand r.view h.hold (with_marks marked));
+          came = All-nil (CameToHand r.view h.hold (with_marks marked changed));
+        };
+        owners_fit = λ lru. record {
+          changes = λ e owner. changes lru e owner ∙ ap (λ (d : DomainId). owner_told t.shape d r.cpu (parts.Bucket part) e owner) (sym named);
+          probed = λ e holder is. absurd (none_probed (sym no_probes ∙ ap probes_in is));
         };
       }
 
@@ -428,5 +485,5 @@ module _ {t : TableView} {bucket : ℕ} {q r : PassView} {bodies : List Stored} 
   )
 
   pub gives : (back : BodyList) (part : BucketPart) (elements : List ℕ) → IsTurnWith t.shape q.cpu part bodies back.bodies elements → ((x : ℕ) → times x elements ≡ times x (rows now)) → now.free ≡ [] → bucket_probes part ≡ [] → marked ≡ marks t.shape (parts.Bucket part)
-      → (found : Option Part) → IfSome found (λ x. x ≡ parts.Bucket part) → Gives back part found
-  gives back part elements turn counted no_free no_probes marks_are found is = gives_by back part found marks_are (can_give back part elements (subst (λ (c : ℕ). IsTurnWith t.shape c part bodies back.bodies elements) (sym u.goes.cpu) turn) counted no_free no_probes marks_are) is
+      → (IsTrue (is_lru t.shape.kind) → AreChangedBy t.shape bucket q.cpu part changed) → (found : Option Part) → IfSome found (λ x. x ≡ parts.Bucket part) → Gives back part found
+  gives back part elements turn counted no_free no_probes marks_are changes found is = gives_by back part found marks_are (can_give back part elements (subst (λ (c : ℕ). IsTurnWith t.shape c part bodies back.bodies elements) (sym u.goes.cpu) turn) counted no_free no_probes marks_are (λ lru. subst (λ (c : ℕ). AreChangedBy t.shape bucket c part changed) (sym u.goes.cpu) (changes lru))) is

@@ -29,9 +29,12 @@ use Rattle.place_table.specs.declared.view.Ended.{Ended}
 use Rattle.place_table.specs.Contents.{content_told, lists_of, FitsLock}
 use Rattle.place_table.specs.Views.{is_among, hold_at, is_in_hand_of, known_log, bit_seen, current_strand, all_strands, next}
 use Rattle.place_table.specs.Words.{ticket_word}
+use Rattle.owner_words.specs.Owners.{OwnersTold}
 use Rattle.place_table.specs.Tickets.{NoneLost, turn_tickets}
 use Rattle.place_table.proofs.TicketLemmas.{each_append, each_to, exact_there, first_there, inner_there}
-use Rattle.place_table.proofs.TicketsShared.{idle_reached}
+use Rattle.place_table.specs.Nested.{EachNested}
+use Rattle.place_table.proofs.Nesting.{each_nested_on, nested_at}
+use Rattle.place_table.proofs.TicketsShared.{idle_reached, all_nested}
 use Rattle.place_words.proofs.Ascending.{ascend_to}
 use Rattle.place_table.proofs.TicketsClosed as tickets_closed
 use Rattle.place_table.specs.Rules.{World, Rule, PassKnows, entries, hold_of, is_hand_of, turns_on, turns_of, indexes, StandIn, ArePast, HaveNoSteps, touches_of, IsOfStrand, AreReads, logs_of, marks_under, IsMarked}
@@ -72,6 +75,7 @@ pub record AtEnd (shape : Shape) (v : View) (words : List ℕ) (slots : List Beh
   pub unmarked : is_lru shape.kind ≡ false → (e : ℕ) → e < shape.elements → core.bit e ≡ false
   pub turns : (k : ℕ) → AreTurnsOf k (all_strands v) (log k)
   pub stand : (n : ℕ) (strand : Ended) → slice_get (all_strands v) n ≡ Some strand → StandIn log strand.steps
+  pub nested : EachNested shape lost (all_strands v)
   pub words_told : AreWordsOf shape core words
   pub touches : AreTouchesOf shape (all_strands v) words
   pub recorded : (n : ℕ) (strand : Ended) → slice_get (all_strands v) n ≡ Some strand
@@ -81,6 +85,7 @@ pub record AtEnd (shape : Shape) (v : View) (words : List ℕ) (slots : List Beh
   pub counted : drawn < 2 ^ 64
   pub ticketed : NoneLost shape lost → HaveTickets shape log (all_strands v) drawn
   pub all_drawn : NoneLost shape lost → v.refused ≡ 0
+  pub owned : IsTrue (is_lru shape.kind) → NoneLost shape lost → OwnersTold shape (λ lock. log (lock_number shape lock))
   pub losses : (k : ℕ) → is_among k v.lost ≡ true → (k < lock_count shape) × IsTrue (has_lock shape k) × (lost k ≡ true)
   pub slots_are : AreSlots shape log lost slots
 
@@ -199,6 +204,7 @@ module _ (shape : Shape) (s : State Behind View) (r : Rule shape s) (pass : ℕ)
         unmarked = λ plain e _. by_bool (w.core.bit e) (λ b. b ≡ false) (λ is_set. absurd (not_marked e (r.unmarked plain e is_set))) (λ _. refl);
         turns = turns_now;
         stand = λ n strand at_n. (strand_here shape w pass (done w pass) (all_strands v) n strand strands at_n).is.stand;
+        nested = let mine = r.tickets.known pass v at_pass in all_nested shape w.lost v no_lock mine.nested mine.ended_nested;
         recorded = λ n strand at_n. (strand_here shape w pass (done w pass) (all_strands v) n strand strands at_n).is.kept_are;
         drawn = get_or s.words (ticket_word shape) 0;
         drawn_is =
@@ -206,6 +212,7 @@ module _ (shape : Shape) (s : State Behind View) (r : Rule shape s) (pass : ℕ)
             ∙ idle_reached (get_or s.words (ticket_word shape) 0) r.tickets.drawing r.tickets.stand v v.ticket no_lock (r.tickets.known pass v at_pass).ticket;
         counted = let most = r.tickets.bounded in omega arith;
         all_drawn = λ none. (r.tickets.known pass v at_pass).all_drawn none;
+        owned = λ lru none. (r.owners lru none).told;
         ticketed = λ none.
             let mine = r.tickets.known pass v at_pass in
             let drawn : ℕ = get_or s.words (ticket_word shape) 0 in record {
@@ -303,6 +310,7 @@ module _ (shape : Shape) (p : PassView) (words : List ℕ) (slots : List Behind)
     unmarked = e.unmarked;
     turns = e.turns;
     stand = e.stand;
+    nested = nested_at shape (λ k. was.strands_lost || e.lost k) (all_strands p.view) (each_nested_on shape e.lost (λ k. was.strands_lost || e.lost k) (all_strands p.view) (λ k lo. (neither was.strands_lost (e.lost k) lo).1) e.nested);
     words = words;
     words_told = e.words_told;
     touches = e.touches;
@@ -314,6 +322,7 @@ module _ (shape : Shape) (p : PassView) (words : List ℕ) (slots : List Behind)
     counted = e.counted;
     ticketed = λ kept. e.ticketed (none_lost_of kept);
     all_drawn = λ kept. e.all_drawn (none_lost_of kept);
+    owners = λ lru kept. e.owned lru (none_lost_of kept);
     losses = λ k among. let is = e.losses k among in
         was.left.lost_is ∙ any_of shape (λ i. was.strands_lost || e.lost i) k is.0 is.1 (or_right was.strands_lost (e.lost k) is.2);
     left = was.left;

@@ -1,6 +1,6 @@
 -- The step by which a lock is given back, with its slot and a turn.
 use Rattle.std.proofs.Common.{◌≡◌, ◌≢◌, ℕ, ◌+◌, ◌<◌, ◌≤◌, ◌⊎◌, inl, inr, ⊎_elim, eqb, cond, Bool, true, false, List, [], ◌∷◌, ◌++◌, length, get_or, set, sym, refl, ap, ◌∙◌, subst, arith, Option, Some, None, length-append, length-set, get_or-set_other, get_or-set_same}
-use Rattle.std.specs.Prelude.{◌&&◌, IsTrue, IsFalse, MatchOption}
+use Rattle.std.specs.Prelude.{◌&&◌, IsTrue, IsFalse, MatchOption, option_map}
 use mathlib.Core.Option.{some}
 use lib.ListN.{get_elem?}
 use Rattle.atomic_table.specs.Table.{State, Allows, gives, stepped, rest, step, put_back}
@@ -45,9 +45,9 @@ use Rattle.place_table.specs.Views.{is_among, hold_at, known_log, holding, has_a
 use Rattle.place_table.specs.Rules.{World, Rule, PassKnows, givers, strands_of, AtHome, Tagged, entries, hold, hold_of, IsAboveAll, Ascends, turns_on, turns_of, indexes, logs_of, AreTagged, HashesRight, StillHome, HasRow, IsHashed, is_hand_of, LeadTo, AreNoted, IsCounted, marks_under}
 use Rattle.place_table.specs.Words.{lock_code, owner_word, home_word, bit_word, ticket_word, opening_words}
 use Rattle.place_table.specs.Plays.{Seated, MayPut, MayGive, HasItsTicket, IsRecorded, IsKeptOrLost, GivesBack, GivesSome, entry_by}
-use Rattle.place_table.specs.TurnNotes.{NotesFit}
+use Rattle.place_table.specs.TurnNotes.{NotesFit, InnermostFits}
 use Rattle.place_table.specs.StoredHashes.{stored_in}
-use Rattle.place_table.proofs.StoredHashes.{renewed, elsewhere, hashes_gave, hash_stays, hashed_gave, IsGiven, IsOlder, given_known, given_kept, given_new, in_all}
+use Rattle.place_table.proofs.StoredHashes.{renewed, elsewhere, hashes_gave, hash_stays, hashed_gave, IsGiven, IsOlder, given_known, given_kept, given_new, in_all, lies_on, stored_no_bucket, stored_listed}
 use Rattle.place_table.proofs.Came.{came_first, came_other, came_passed}
 use Rattle.place_table.proofs.HashSteps.{no_bucket_home}
 use Rattle.place_table.proofs.Entries.{append_nil, entries_more, entries_length, turns_of_same, turns_of_other, turns_on_same, turns_on_other, places_on_same, places_on_other, indexes_more}
@@ -60,9 +60,16 @@ use Rattle.place_words.specs.Wholeness.{all_of}
 use Rattle.place_table.specs.declared.view.WordStep.{WordStep}
 use Rattle.place_table.proofs.StepLog.{made, time_more, givers_other, givers_here, strands_more, touches_with, lead_with, of_strands_with, mine_more, past_same, other_same}
 use Rattle.place_table.proofs.NotesDone.{noted_gave}
-use Rattle.place_table.specs.declared.view.Ticket.TheVariants.{Drawn}
-use Rattle.place_table.specs.Tickets.{Tickets}
-use Rattle.place_table.specs.Tickets as by_tickets
+use Rattle.place_table.specs.declared.view.Ticket.{Ticket}
+use Rattle.place_table.specs.declared.view.Ticket.TheVariants.{Unread, Drawn}
+use Rattle.place_table.specs.Owners.{Owners, AreGuarded, undrawn, IsHomeHere, InnermostOwnersFit}
+use Rattle.place_table.proofs.OwnersKept.{only_changes}
+use Rattle.place_table.proofs.OwnersNoted.{changes_passed, noted_first}
+use Rattle.place_table.proofs.OwnersOrder.{AreApart, IsToldOf, apart_there, home_apart, knows_hashed, owners_given}
+use Rattle.place_table.proofs.OwnersGiven.{no_bucket_below, none_last_below, told_of_turn}
+use Rattle.place_table.proofs.OwnerSteps.{cpu_here, home_here}
+use Rattle.place_table.specs.Tickets.{Tickets, NoneLost}
+use Rattle.place_table.specs.Nested.{log_held}
 use Rattle.place_table.specs.Views.{ticket_of}
 use Rattle.place_table.proofs.TicketLemmas.{theirs_there}
 use Rattle.place_table.proofs.TicketChanges.{tickets_given}
@@ -255,6 +262,52 @@ module _ (shape : Shape) (slots pass : ℕ) (v : View) (b : Behind) (cs : List (
       (λ _ _ f. let was = kn.hashes x c noted within f in (was.in_hand, was.bucket_is)) refl
       (ap (λ z. views.hash_known x c (cond (is_lru z.kind) (views.hashes_given h.cpu v.shape.buckets here came v.hand v.hashes) v.hashes)) (sym kn.shape_is) ∙ found)
 
+  -- what the rule says of owners, once the turn is recorded
+  owners_then : (s : State Behind View) (r : Rule shape s) (at_pass : get_elem? s.views pass ≡ some v) (nv : View) → nv.cpus ≡ v.cpus → nv.held ≡ below → nv.notes ≡ passed_on e.part v.notes → nv.ticket ≡ Unread
+      → IsTrue (is_lru shape.kind) → NoneLost shape r.world.lost → lost_of b.history ≡ false → (IsTrue (is_lru shape.kind) → (x : ℕ) → fresh x ≡ false → renewed true (stored_in back x) (r.world.hash x) ≡ r.world.hash x)
+      → Owners shape (get_or s.words (ticket_word shape) 0) r.world.core.owner r.world.core.home (λ x. renewed (is_lru shape.kind) (stored_in back x) (r.world.hash x)) (logs_of (gave_world r.world)) (set s.views pass nv)
+  unfolding gave_world fresh
+  owners_then s r at_pass nv cpus held notes unread lru none some_there stays =
+      let k : ℕ = lock_number shape lock in
+      let w = r.world in let kn = r.knows pass v at_pass in
+      let at = found_hold w kn in
+      let o = r.owners lru none in
+      let named : lock_named shape k ≡ lock = named_by_number shape lock is in
+      let first = noted_first shape v.touched k h v.held v.notes (ap (hold_at k) is_held ∙ subst (λ (z : ℕ). hold_at z (h ∷ below) ≡ Some h) at_lock (hold_at_first h below)) kn.noted in
+      let n : Notes = first.3 in let ns : List Notes = first.4 in
+      let drawn : v.ticket ≡ Drawn e.ticket = either_record b.history _ _ _ may.ticketed (λ lost _. true_false (sym lost ∙ some_there)) (λ _ _ d. d) in
+      let above : IsAboveAll shape (rank_of lock) below = subst (λ (d : DomainId). IsAboveAll shape (rank_of d) below) (ap (lock_named shape) at_lock ∙ named) (subst (Ascends shape) is_held kn.ascends).0 in
+      let guarded : AreGuarded shape w.core.owner w.core.home w.hash v.cpus below ns =
+      subst (λ (z : Ticket × (List Hold × List Notes)). AreGuarded shape w.core.owner w.core.home w.hash v.cpus (undrawn z.0 z.1.0) (undrawn z.0 z.1.1)) (λ i. (drawn i, (is_held i, first.5 i))) (o.known pass v at_pass).guarded in
+      let told : IsToldOf shape w.core.owner w.core.home w.hash v h.lock e n =
+      told_of_turn shape s r pass v at_pass lru h below is_held n ns first.5 e (subst (InnermostFits shape v h e.part) first.5 may.noted) (subst (InnermostOwnersFit shape v h e.cpu e.part) first.5 (may.owners_fit lru)) guarded in
+      owners_given shape (get_or s.words (ticket_word shape) 0) w.core.owner w.core.home w.hash (λ x. renewed (is_lru shape.kind) (stored_in back x) (w.hash x)) (logs_of w) (logs_of (gave_world w)) s.views pass k v nv e at_pass h below is_held n ns first.5 drawn
+      (no_bucket_below shape lock below (bounds_of_shape shape r.is_shape) lru is above) (none_last_below shape lock below lru is above)
+      (subst (λ (m : ℕ). IsToldOf shape w.core.owner w.core.home w.hash v m e n) at_lock told) cpus held (ap only_changes notes ∙ (changes_passed e.part v.notes ∙ (λ i. only_changes (views.notes_below (first.5 i))))) unread
+      (ap entries (put_here w.log k (w.log k ++ (w.current pass, e) ∷ [])) ∙ entries_more (w.log k) (w.current pass, e)) (λ m ne. ap entries (put_else w.log k (w.log k ++ (w.current pass, e) ∷ []) m ne))
+      (λ canon j u at_u other.
+      let between = apart_there shape w s.views pass v r.knows at_pass j u at_u other in
+      knows_hashed shape canon w.core.owner w.core.home w.hash (λ x. renewed (is_lru shape.kind) (stored_in back x) (w.hash x)) u
+      (λ x. by_bool (fresh x) (λ t. fresh x ≡ t → (renewed (is_lru shape.kind) (stored_in back x) (w.hash x) ≡ w.hash x) ⊎ (((c : ℕ) → w.core.owner x ≡ owners.Hand c → is_among c u.cpus ≡ true → ⊥) × (IsHomeHere shape u.cpus u.held (w.core.home x) → ⊥)))
+      (λ yes _. hash_or_home x (fresh_there s r at_pass x yes) u between (stored_in back x) refl)
+      (λ no _. inl (ap (λ (t : Bool). renewed t (stored_in back x) (w.hash x)) lru ∙ stays lru x no)) refl))
+      o
+    where
+      hash_or_home : (x : ℕ) → r.world.core.owner x ≡ owners.Hand h.cpu → (u : View) → AreApart v u → (found : Option ℕ) → stored_in back x ≡ found
+          → (renewed (is_lru shape.kind) found (r.world.hash x) ≡ r.world.hash x) ⊎ (((c : ℕ) → r.world.core.owner x ≡ owners.Hand c → is_among c u.cpus ≡ true → ⊥) × (IsHomeHere shape u.cpus u.held (r.world.core.home x) → ⊥))
+      hash_or_home x was u between None found = inl (ap (λ (t : Bool). renewed t None (r.world.hash x)) lru)
+      hash_or_home x was u between (Some z) found =
+          let k : ℕ = lock_number shape lock in
+          let w = r.world in let kn = r.knows pass v at_pass in
+          let m = put_back_there w kn in
+          let found_here : hold_at k v.held ≡ Some h = ap (hold_at k) is_held ∙ subst (λ (z : ℕ). hold_at z (h ∷ below) ≡ Some h) at_lock (hold_at_first h below) in
+          let no_bucket = stored_no_bucket shape (lock_named shape k) may.here x z m.fits found in
+          let listed : IsIn x (rows (w.core.lists k)) = subst (λ (c : ℕ). 0 < c) (m.same_rows x) (stored_listed back x z found) in
+          let here = home_here shape s r pass v at_pass k h found_here x lru ((elements_there shape s r k).rows_real x listed) (lies_on shape w.core.lists w.core.owner w.core.home r.placed.place r.placed.placed k x no_bucket (in_all x (w.core.lists k) listed)) in inr (
+            (λ c owner_is theirs. between.cpu c (ap (λ (d : ℕ). is_among d v.cpus) (same_hands c h.cpu (sym owner_is ∙ was)) ∙ cpu_here shape s r pass v at_pass k h found_here) theirs),
+            (λ theirs. home_apart shape v u (w.core.home x) between here theirs),
+          )
+
   -- the pass may come to know that the record of this lock is lost
   gave_rule : (s : State Behind View) (r : Rule shape s) → get_elem? s.views pass ≡ some v
       → (known_lost : List ℕ) → ((m : ℕ) → is_among m known_lost ≡ true → (is_among m v.lost ≡ true) ⊎ ((m ≡ lock_number shape lock) × (lost_of b.history ≡ true)))
@@ -373,12 +426,16 @@ module _ (shape : Shape) (slots pass : ℕ) (v : View) (b : Behind) (cs : List (
           lead = λ m within. subst (λ (z : ℕ). LeadTo m (get_or (opening_words shape) m 0) (w.touches ++ (w.current pass, record { at = made w; word = z; seen = None; left = 0 }) ∷ []) (get_or (set s.words k 0) m 0)) (sym at_lock)
               (lead_with shape s r (w.current pass) record { at = made w; word = k; seen = None; left = 0 } (omega (arith, r.words, real)) tt m within);
           tickets = subst (λ (z : ℕ). Tickets shape z (logs_of w') w'.lost w'.pass_of_cpu (set s.views pass nv)) (sym (get_or-set_other s.words k (ticket_word shape) 0 0 (λ y. omega (arith, real))))
-              (tickets_given shape (get_or s.words (ticket_word shape) 0) (logs_of w) (logs_of w') w.lost w'.lost w.pass_of_cpu s.views pass k v nv record { cpu = h.cpu; log = h.log; lost = h.lost } e new_turn at_pass
-              (theirs_there shape s r) (ap by_tickets.innermost is_held) log_is (ap (λ (z : Hold). z.lost) at.hold_is) real (subst (λ (d : DomainId). IsTrue (is_lock shape d)) (sym (named_by_number shape lock is)) is)
+              (tickets_given shape (get_or s.words (ticket_word shape) 0) (logs_of w) (logs_of w') w.lost w'.lost w.pass_of_cpu s.views pass k v nv e new_turn at_pass
+              (theirs_there shape s r) record { own = h; held_are = is_held ∙ ap (λ (l : List Hold). h ∷ l) (sym (ap views.holds_below is_held)); moment_is = refl; lock_is = refl; earlier_is = refl; ascends = kn.ascends; inside = may.inside }
+              (ap (log_held k) is_held ∙ (subst (λ (z : ℕ). log_held z (h ∷ below) ≡ Some h.log) at_lock (ap (option_map (λ (z : Hold). z.log)) (hold_at_first h below)) ∙ ap Some log_is)) real (subst (λ (d : DomainId). IsTrue (is_lock shape d)) (sym (named_by_number shape lock is)) is)
               (ap entries (put_here w.log k l') ∙ es_is) (λ m ne. ap entries (put_else w.log k l' m ne)) (λ m ne. put_else w.lost k lo' m ne)
               (λ stays. let lo = sym (put_here w.lost k lo') ∙ stays in
               (either_record b.history _ _ _ may.ticketed (λ lost _. true_false (sym lost ∙ lo)) (λ _ _ drawn. drawn), either_record b.history _ _ _ rec (λ lost _. true_false (sym lost ∙ lo)) (λ _ _ p. p.0)))
               may.taken may.numbered refl refl refl refl refl refl r.tickets);
+          owners = λ lru none. subst (λ (z : ℕ). Owners shape z w.core.owner w.core.home w'.hash (logs_of w') (set s.views pass nv)) (sym (get_or-set_other s.words k (ticket_word shape) 0 0 (λ y. omega (arith, real))))
+              (owners_then s r at_pass nv refl (ap views.holds_below is_held) refl refl lru (λ m below there_is. losses m (none m below there_is)) (sym (put_here w.lost k lo') ∙ none k real (subst (λ (d : DomainId). IsTrue (is_lock shape d)) (sym (named_by_number shape lock is)) is))
+              (λ lru x other. hash_there lru x other));
           of_strands = of_strands_with shape w pass v kn last w' (length s.views) (length (set s.views pass nv)) (there s.views pass v at_pass) (sym (length-set s.views pass nv)) same r.of_strands;
           knows = λ j u f. ⊎_elim
               (λ t. subst (λ (z : ℕ × View). PassKnows shape w' z.0 z.1) (λ i. (sym t.0 i, t.1 i)) record {

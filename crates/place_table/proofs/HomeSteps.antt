@@ -1,6 +1,6 @@
 -- The step on a home word: an element goes from the lists of a lock, or from a hand that carries it, to others.
 use Rattle.std.proofs.Common.{◌≡◌, ◌≢◌, ℕ, ◌+◌, ◌<◌, ◌⊎◌, inl, inr, ⊎_elim, eqb, cond, Bool, true, false, List, [], ◌∷◌, ◌++◌, get_or, set, sym, refl, ap, ◌∙◌, subst, arith, get_or-set_other, get_or-set_same, None, Some, Option}
-use Rattle.std.specs.Prelude.{◌&&◌, IsTrue, IsFalse}
+use Rattle.std.specs.Prelude.{◌&&◌, IsTrue, IsFalse, is_some}
 use Rattle.std.proofs.lemmas.Bool.{and_parts, eq-eqb}
 use mathlib.Core.Option.{some}
 use lib.ListN.{get_elem?}
@@ -50,10 +50,16 @@ use Rattle.place_table.specs.Passes.{PassView, TableView, Carries, IsPassOf, Has
 use Rattle.place_table.specs.Plays.{Seated, HoldsLock, IsKnownHome, IsKnownFree, MayBeHome, MayGoHome, OwnerFits, HomeFits, Rehomes, Clears, MayClear, SeesHome}
 use Rattle.place_table.proofs.Hands.{ascends_now, carries_now, AreInHands, comes_to_hand, leaves_hand, stays_in_hand, IsHomeOfPass}
 use Rattle.place_table.proofs.Locks.{allows_of}
-use Rattle.place_table.proofs.TicketLemmas.{inner_with, inner_without}
+use Rattle.place_table.proofs.Nesting.{lists_with, lists_without}
 use Rattle.place_table.proofs.PlaceSteps.{IsHeldByPass, AreHeld, rowed_moved, now_is, held_moved, place_rule, hashes_kept, now_there, holds_there}
 use Rattle.place_table.proofs.WordSteps.{clears_by, look_rule}
 use Rattle.place_table.proofs.OwnersSeen.{owner_fits}
+use Rattle.place_table.specs.declared.view.Ticket.TheVariants.{Unread}
+use Rattle.place_table.specs.Words.{ticket_word}
+use Rattle.place_table.specs.Rules.{logs_of}
+use Rattle.place_table.specs.Owners.{IsUnchangedAround, IsHomeHere, is_held}
+use Rattle.place_table.proofs.OwnersNoted.{kept_home_read, kept_come_home, kept_left_home}
+use Rattle.place_table.proofs.OwnersOrder.{apart_there, keeps_known, owners_rehomed}
 use Rattle.place_table.proofs.Worlds.{true_false, by_bool, none_some, both_true, some_is, has_mine, hand_is, in_hand_is, hold_of_mine, hashed_stands, hashed_away, IsAway}
 use Rattle.place_table.proofs.Readings.{listed_at_home, without_home, still_flushed, still_is, IsNew, read_home_known, home_is_hand}
 use Rattle.place_table.proofs.Rehomes.{rows_come, hashes_rehomed}
@@ -342,11 +348,27 @@ module _ (shape : Shape) (s : State Behind View) (r : Rule shape s) (pass : ℕ)
       let j : ℕ = lock_number shape away.from in
       hashed_away shape w.core.holder w.core.holder w.log w.log w.hash w.hash v.hashes (kept_hashes v.hand v.hashes) (came_at j v.held v.notes) came j k e d away.left away.now (kept_there e d v.hand v.hashes in_hand) (kn.hashed lru e d away.from real within in_hand away.was)))
 
+  -- the pass has the home that the element leaves, and that to which it goes
+  lock_here : (lock : DomainId) → Holds shape r.world.core c lock → is_held (lock_number shape lock) v.held ≡ true
+  lock_here lock holds =
+      let w = r.world in let kn = r.knows pass v at_pass in let k : ℕ = lock_number shape lock in
+      ap is_some (kn.held k ∙ (ap (λ (z : Option ℕ). hold_of pass w.pass_of_cpu k z (w.log k) (w.core.lists k) (w.lost k)) holds.held ∙ hold_of_mine w.pass_of_cpu pass k c (w.log k) (w.core.lists k) (w.lost k) (has_mine shape w pass v c kn has)))
+
+  leaves_here : (from : Home) → MayLeave shape r.world.core c from → IsHomeHere shape v.cpus v.held from
+  leaves_here homes.Unlisted may = may
+  leaves_here (homes.In lock) may = lock_here lock may
+  leaves_here (homes.Hand d) may = ap (λ (n : ℕ). is_among n v.cpus) may ∙ has
+
+  enters_here : (to : Home) → MayEnter shape r.world.core c (r.world.core.owner e) to → IsHomeHere shape v.cpus v.held to
+  enters_here homes.Unlisted may = may
+  enters_here (homes.In lock) may = lock_here lock (entered (homes.In lock) may lock refl)
+  enters_here (homes.Hand d) may = ap (λ (n : ℕ). is_among n v.cpus) may.0 ∙ has
+
   -- the home is another from now on
-  home_rule : (to : Home) (cs : List (ℕ × Behind)) → (can : CanRehome shape r.world.core c e to)
+  home_rule : (to : Home) (cs : List (ℕ × Behind)) → v.ticket ≡ Unread → (IsTrue (is_lru shape.kind) → IsUnchangedAround v e) → (can : CanRehome shape r.world.core c e to)
       → (after : Rule shape (stepped s (home_word shape e) (home_code to) pass cs (with_places (held_with shape to (r.world.core.owner e) e (held_without shape (r.world.core.home e) (r.world.core.owner e) e v.held)) v.hand (carried_with to e (carried_without (r.world.core.home e) e v.carried)) (without_readings e v.readings) (notes_then v.shape (r.world.core.home e) to e v) (touching (made r.world) (home_word shape e) None (home_code to) v) v) keeps))
       × (after.world.core ≡ steps.rehomed shape r.world.core e to)
-  home_rule to cs can =
+  home_rule to cs unread around can =
       let i : ℕ = home_word shape e in let code : ℕ = home_code to in
       let w = r.world in let kn = r.knows pass v at_pass in
       let owner : Owner = w.core.owner e in let from : Home = w.core.home e in
@@ -363,8 +385,16 @@ module _ (shape : Shape) (s : State Behind View) (r : Rule shape s) (pass : ℕ)
       (λ _. get_or-set_same s.words i code 0 (omega (arith, r.words)))
       (λ ne below. get_or-set_other s.words i (home_word shape x) code 0 (λ y. ne (omega arith)) ∙ r.home_words x below) below)
       (let notes = notes_then v.shape from to e v in noted_with shape v.touched to owner e (held_without shape from owner e v.held) notes (noted_without shape v.touched from owner e v.held notes (noted_home_come shape v.shape v.touched from to e v.held (with_left_home v.shape from to e v.held v.notes) (noted_left_home shape v.shape v.touched from to e v.held v.notes kn.noted))))
-      (inner_with shape to owner e (held_without shape from owner e v.held) ∙ inner_without shape from owner e v.held)
+      (lists_with shape to owner e (held_without shape from owner e v.held) ∙ lists_without shape from owner e v.held)
       (let notes = notes_then v.shape from to e v in marks_with shape to owner e (held_without shape from owner e v.held) notes ∙ (marks_without shape from owner e v.held notes ∙ (marks_come_home v.shape from to e v.held (with_left_home v.shape from to e v.held v.notes) ∙ marks_left_home v.shape from to e v.held v.notes)))
+      (λ lru none. owners_rehomed shape (get_or s.words (ticket_word shape) 0) w.core.owner w.core.home w.hash (logs_of w) s.views pass v _ e to at_pass (apart_there shape w s.views pass v r.knows at_pass)
+      (leaves_here from can.from_there) (enters_here to can.to_there) unread (around lru) record {
+        cpus = refl;
+        held = lists_with shape to owner e (held_without shape from owner e v.held) ∙ lists_without shape from owner e v.held;
+        changed = (kept_come_home v.shape from to e v.held (with_left_home v.shape from to e v.held v.notes)).0 ∙ (kept_left_home v.shape from to e v.held v.notes).0;
+        read = (kept_come_home v.shape from to e v.held (with_left_home v.shape from to e v.held v.notes)).1 ∙ (kept_left_home v.shape from to e v.held v.notes).1;
+        ticket = inl refl;
+      } (r.owners lru none))
       record {
         under = λ k. ⊎_elim
             (λ (stays : lists k ≡ away k). ⊎_elim
@@ -419,9 +449,9 @@ module _ (shape : Shape) (s : State Behind View) (r : Rule shape s) (pass : ℕ)
             (λ other. subst (λ (z : Home). StillHome shape w.core.holder w.log n x z read) (sym (put_else w.core.home e to x other)) still);
       }
 
-pub rehomes_step : (shape : Shape) (slots pass : ℕ) (me : Seated) (c e : ℕ) (from to : Home) → IsTrue shape.common → e < shape.elements → is_among c me.0.cpus ≡ true → IsKnownHome shape me.0 c e from → MayGoHome shape me.0 c e to
+pub rehomes_step : (shape : Shape) (slots pass : ℕ) (me : Seated) (c e : ℕ) (from to : Home) → IsTrue shape.common → e < shape.elements → is_among c me.0.cpus ≡ true → IsKnownHome shape me.0 c e from → MayGoHome shape me.0 c e to → me.0.ticket ≡ Unread → (IsTrue (is_lru shape.kind) → IsUnchangedAround me.0 e)
     → StepsAs shape slots pass me (home_word shape e) (λ _. home_code to) (goes_by shape (Rehome c e to)) (λ _. Rehomes e to me)
-rehomes_step shape slots pass me c e from to common real has known may s r wide at_pass _ =
+rehomes_step shape slots pass me c e from to common real has known may unread around s r wide at_pass _ =
     let v = me.0 in let w = r.world in let kn = r.knows pass v at_pass in
     let bounds = bounds_of_shape shape r.is_shape in
     let owner : Owner = w.core.owner e in
@@ -434,7 +464,7 @@ rehomes_step shape slots pass me c e from to common real has known may s r wide 
       from_there = subst (MayLeave shape w.core c) (sym is) (leaves_known shape s r pass v at_pass c e has real from known);
       to_there = enters_known shape s r pass v at_pass c e has real to may;
     } in
-    let rule = home_rule shape s r pass v at_pass c e has real to me.1 can in (
+    let rule = home_rule shape s r pass v at_pass c e has real to me.1 unread around can in (
       with_places (held_with shape to owner e (held_without shape (w.core.home e) owner e v.held)) v.hand (carried_with to e (carried_without (w.core.home e) e v.carried)) (without_readings e v.readings) (notes_then v.shape (w.core.home e) to e v) (touching (made w) (home_word shape e) None (home_code to) v) v,
       keeps,
       tt,
@@ -450,11 +480,11 @@ rehomes_step shape slots pass me c e from to common real has known may s r wide 
     )
 
 -- at the word and the code that a caller has
-pub rehomes : (shape : Shape) (slots pass : ℕ) (me : Seated) (c e i code : ℕ) (from to : Home) → i ≡ home_word shape e → code ≡ home_code to → IsTrue shape.common → e < shape.elements → is_among c me.0.cpus ≡ true → IsKnownHome shape me.0 c e from → MayGoHome shape me.0 c e to
+pub rehomes : (shape : Shape) (slots pass : ℕ) (me : Seated) (c e i code : ℕ) (from to : Home) → i ≡ home_word shape e → code ≡ home_code to → IsTrue shape.common → e < shape.elements → is_among c me.0.cpus ≡ true → IsKnownHome shape me.0 c e from → MayGoHome shape me.0 c e to → me.0.ticket ≡ Unread → (IsTrue (is_lru shape.kind) → IsUnchangedAround me.0 e)
     → Allows (Rule shape) slots pass me i (λ _. code) (λ _. Rehomes e to me)
-rehomes shape slots pass me c e i code from to i_is code_is common real has known may =
+rehomes shape slots pass me c e i code from to i_is code_is common real has known may unread around =
     subst (λ (z : ℕ × ℕ). Allows (Rule shape) slots pass me z.0 (λ _. z.1) (λ _. Rehomes e to me)) (λ n. (sym i_is n, sym code_is n))
-    (allows_of shape slots pass me (home_word shape e) (λ _. home_code to) (goes_by shape (Rehome c e to)) (λ _. Rehomes e to me) (rehomes_step shape slots pass me c e from to common real has known may))
+    (allows_of shape slots pass me (home_word shape e) (λ _. home_code to) (goes_by shape (Rehome c e to)) (λ _. Rehomes e to me) (rehomes_step shape slots pass me c e from to common real has known may unread around))
 
 -- the slots that the pass has
 pub carries_rehomed : (shape : Shape) (from to : Home) (owner : Owner) (e : ℕ) (held : List Hold) (slots : List (ℕ × Behind)) → Carries held slots → Carries (held_with shape to owner e (held_without shape from owner e held)) slots
@@ -589,7 +619,7 @@ sees_home_step shape slots pass me e real s r wide at_pass _ =
       with_homes_read homes_now (noted (with_home_read e home me.0.held me.0.notes) me.0.bits (touching (made w) (home_word shape e) (Some (home_code home)) (home_code home) me.0) (with_reading (made w) turns e home me.0.hand me.0.readings) me.0),
       keeps,
       tt,
-      look_rule shape s r pass me.0 at_pass (with_home_read e home me.0.held me.0.notes) (λ k. came_home_read e home k me.0.held me.0.notes) (on_same _ _ (marks_home_read e home me.0.held me.0.notes)) (home_word shape e) (home_code home) me.1 me.0.bits homes_now
+      look_rule shape s r pass me.0 at_pass (with_home_read e home me.0.held me.0.notes) (λ k. came_home_read e home k me.0.held me.0.notes) (on_same _ _ (marks_home_read e home me.0.held me.0.notes)) (keeps_known shape w.core.owner w.core.home w.hash me.0 _ (kept_home_read e home me.0.held me.0.notes)) (home_word shape e) (home_code home) me.1 me.0.bits homes_now
           (homes_with shape w.touches me.0.homes_read (record { element = e; home = home; at = made w; turns = turns }) kn.homes_read (counted_now shape w.touches home))
           (with_reading (made w) turns e home me.0.hand me.0.readings)
           (λ x d read within found. ⊎_elim

@@ -20,6 +20,7 @@ use Rattle.place_table.specs.declared.view.Notes.{Notes}
 use Rattle.place_words.specs.Locks.{lock_number}
 use Rattle.place_table.specs.Views.{is_among, hold_at, is_in_hand_of, in_no_hand_of, hash_known, came_at, current_strand, all_strands, joined, spent, home_known}
 use Rattle.place_table.specs.Words.{ticket_word}
+use Rattle.place_table.proofs.OwnersOrder.{owners_idle}
 use Rattle.place_table.proofs.TicketsShared.{tickets_joined}
 use Rattle.place_table.specs.Rules.{Tagged, World, hold, hold_of, is_hand_of, is_home_of, IsStrand, ArePast, IsLostLock, IsHashed, HasHash, HasCome, HasRow, IsBrought, PassKnows, Rule, logs_of}
 use Rattle.place_table.proofs.Worlds.{true_false, by_bool, none_some, both_true, lock_still_lost}
@@ -451,6 +452,8 @@ module _ (shape : Shape) (id other : ℕ) (v u : View) (apart : other ≢ id) (n
             (λ d not_id not_other. by_test (w.pass_of_cpu d) other (λ b. cond b id (w.pass_of_cpu d) ≡ w.pass_of_cpu d) (λ same. absurd (not_other same)) (λ _. refl))
             (λ d which. by_test (w.pass_of_cpu d) other (λ b. cond b id (w.pass_of_cpu d) ≡ id) (λ _. refl)
             (λ not_other. ⊎_elim (λ (mine : w.pass_of_cpu d ≡ id). mine) (λ (theirs : w.pass_of_cpu d ≡ other). absurd (not_other theirs)) which)) apart r.tickets;
+        owners = λ lru none. owners_idle shape (get_or s.words (ticket_word shape) 0) w.core.owner w.core.home w.hash (logs_of w) (set s.views id both) other u gone at_there nor_lock record { held = refl; notes = refl; unread = refl }
+            (owners_idle shape (get_or s.words (ticket_word shape) 0) w.core.owner w.core.home w.hash (logs_of w) s.views id v both at_id no_lock record { held = refl; notes = refl; unread = refl } (r.owners lru none));
         of_strands = of_strands_move w w' (length s.views) (length (set (set s.views id both) other gone)) w.touches
             (λ t below old among. subst (λ (z : ℕ). StaysListed w w' z t) (sym long) (listed_on w (length s.views) t here below old among)) r.of_strands;
         knows = λ j x f. ⊎_elim

@@ -31,9 +31,14 @@ pub mod Leaves
 pub mod Locks
 pub mod MapLeft
 pub mod MarksNoted
+pub mod Nesting
 pub mod NotesDone
 pub mod Opens
 pub mod OwnerSteps
+pub mod OwnersKept
+pub mod OwnersNoted
+pub mod OwnersOrder
+pub mod OwnersGiven
 pub mod OwnersSeen
 pub mod Parted
 pub mod Passes

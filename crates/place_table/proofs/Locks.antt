@@ -40,6 +40,7 @@ use Rattle.place_table.specs.Contents.{lists_of}
 use Rattle.place_table.specs.Laws.{StepsAs, goes_if, goes_by}
 use Rattle.place_table.specs.StoredHashes.{stored_in}
 use Rattle.place_table.specs.Views.{is_among, hold_at, holding, home_then, came_at, no_notes}
+use Rattle.place_table.specs.Nested.{MayTake}
 use Rattle.place_table.specs.Rules.{World, Rule, PassKnows, AtHome, IsSlotAfter, entries, hold, hold_of, IsAboveAll, logs_of, AreTagged, IsFresh, AreOfStrands, StillHome, IsCounted, HasRow, IsBrought, LeadTo, IsMarked}
 use Rattle.place_table.specs.Words.{lock_code, owner_word, home_word, bit_word, ticket_word, opening_words}
 use Rattle.place_table.specs.Plays.{Seated, Tries, AreElements, IsApartFromHands}
@@ -55,6 +56,9 @@ use Rattle.place_table.proofs.StepLog.{made, time_more, givers_other, touches_wi
 use Rattle.place_table.proofs.NotesDone.{none_off}
 use Rattle.place_table.specs.declared.view.Ticket.TheVariants.{Unread}
 use Rattle.place_table.specs.Tickets.{Tickets}
+use Rattle.place_table.specs.Owners.{Owners}
+use Rattle.place_table.proofs.OwnersOrder.{owners_taken}
+use Rattle.place_table.proofs.Nesting.{holds_taken, keep_taken, above_taken, outside_taken, none_inside}
 use Rattle.place_table.proofs.TicketLemmas.{tickets_stay}
 use Rattle.place_table.specs.declared.view.HomeIn.{HomeIn}
 use Rattle.place_table.proofs.Counted.{counted_more, counted_then, homes_more}
@@ -107,6 +111,7 @@ same_rule shape s r words views e f = record {
   of_strands = subst (λ (l : List View). AreOfStrands r.world (length l) r.world.touches) (sym f) r.of_strands;
   gave_back = r.gave_back;
   tickets = subst (λ (z : List ℕ × List View). Tickets shape (get_or z.0 (ticket_word shape) 0) (logs_of r.world) r.world.lost r.world.pass_of_cpu z.1) (λ i. (sym e i, sym f i)) r.tickets;
+  owners = λ lru none. subst (λ (z : List ℕ × List View). Owners shape (get_or z.0 (ticket_word shape) 0) r.world.core.owner r.world.core.home r.world.hash (logs_of r.world) z.1) (λ i. (sym e i, sym f i)) (r.owners lru none);
   knows = λ j u at. r.knows j u (sym (ap (λ (l : List View). get_elem? l j) f) ∙ at);
 }
 
@@ -167,7 +172,10 @@ apart_there shape s r pass v at_pass k e c has in_hand =
     no_row_there lru (Bucket x) here bucket = refl
     no_row_there lru (Freelist x) here bucket = true_false (sym bucket)
 
-module _ (shape : Shape) (slots pass : ℕ) (me : Seated) (lock : DomainId) (c : ℕ) (cpu : is_among c me.0.cpus ≡ true) (is : IsTrue (is_lock shape lock)) (above : IsAboveAll shape (rank_of lock) me.0.held) (unread : me.0.ticket ≡ Unread) where
+module _ (shape : Shape) (slots pass : ℕ) (me : Seated) (lock : DomainId) (c : ℕ) (cpu : is_among c me.0.cpus ≡ true) (is : IsTrue (is_lock shape lock)) (may : MayTake shape lock me.0) (unread : me.0.ticket ≡ Unread) where
+  above : IsAboveAll shape (rank_of lock) me.0.held
+  above = above_taken shape lock me.0 may
+
   can_take : (s : State Behind View) (r : Rule shape s) → get_elem? s.views pass ≡ some me.0 → r.world.core.holder (lock_number shape lock) ≡ None → CanTake shape r.world.core c lock
   can_take s r at free =
       let kn = r.knows pass me.0 at in let mine = has_mine shape r.world pass me.0 c kn cpu in record {
@@ -201,6 +209,8 @@ module _ (shape : Shape) (slots pass : ℕ) (me : Seated) (lock : DomainId) (c :
       let nv : View = holding (made w) h v in
       let x : WordStep = took_step w in
       let can = can_take s r at_pass free in
+      let named = named_by_number shape lock is in
+      let above_named : IsAboveAll shape (rank_of (lock_named shape k)) v.held = subst (λ (d : DomainId). IsAboveAll shape (rank_of d) v.held) (sym named) above in
       let bounds = bounds_of_shape shape r.is_shape in
       let same : SameStrands w w' = record { pass_of_strand = λ _. refl; cpus_of_strand = λ _. refl; next = refl; current = λ _. refl; past = λ _. refl; pass_of_cpu = λ _. refl; still = λ _ z. z } in (
         record {
@@ -239,8 +249,10 @@ module _ (shape : Shape) (slots pass : ℕ) (me : Seated) (lock : DomainId) (c :
           gave_back = λ m below. givers_other m w.touches (w.current pass, x) (λ _ zero_left. absurd (omega (arith, zero_left))) ∙ r.gave_back m below;
           lead = lead_with shape s r (w.current pass) x (omega (arith, r.words, real)) (sym (r.lock_words k real ∙ ap lock_code free));
           tickets = subst (λ (z : ℕ). Tickets shape z (logs_of w) w.lost w.pass_of_cpu (set s.views pass nv)) (sym (get_or-set_other s.words k (ticket_word shape) (1 + c) 0 (λ y. omega (arith, real))))
-              (tickets_stay shape (get_or s.words (ticket_word shape) 0) (logs_of w) w.lost w.pass_of_cpu s.views pass v nv at_pass record { reached = refl; refused = refl; steps = refl; ended = refl; ticket = inr (unread, unread) } r.tickets);
+              (tickets_stay shape (get_or s.words (ticket_word shape) 0) (logs_of w) w.lost w.pass_of_cpu s.views pass v nv at_pass record { reached = refl; refused = refl; steps = refl; ended = refl; ticket = inr (unread, unread, holds_taken shape h v.held above_named, keep_taken shape h v.held v.steps above_named (λ global. outside_taken shape lock v may (sym named ∙ global))) } r.tickets);
           of_strands = of_strands_with shape w pass v kn x w' (length s.views) (length (set s.views pass nv)) (there s.views pass v at_pass) (sym (length-set s.views pass nv)) same r.of_strands;
+          owners = λ lru none. subst (λ (z : ℕ). Owners shape z w.core.owner w.core.home w.hash (logs_of w) (set s.views pass nv)) (sym (get_or-set_other s.words k (ticket_word shape) (1 + c) 0 (λ y. omega (arith, real))))
+              (owners_taken shape (get_or s.words (ticket_word shape) 0) w.core.owner w.core.home w.hash (logs_of w) s.views pass v nv h at_pass unread unread refl refl refl (r.owners lru none));
           knows = λ j u f. ⊎_elim
               (λ t. subst (λ (z : ℕ × View). PassKnows shape w' z.0 z.1) (λ i. (sym t.0 i, t.1 i)) record {
                 shape_is = kn.shape_is;
@@ -249,7 +261,7 @@ module _ (shape : Shape) (slots pass : ℕ) (me : Seated) (lock : DomainId) (c :
                 held = λ m. at_put w.core.holder k (Some c) (λ i x. hold_at i (h ∷ v.held) ≡ hold_of pass w.pass_of_cpu i x (w.log i) (w.core.lists i) (w.lost i)) m
                     (hold_at_first h v.held ∙ sym (hold_of_mine w.pass_of_cpu pass k c (w.log k) (w.core.lists k) (w.lost k) mine))
                     (λ ne. hold_at_other m h v.held ne ∙ kn.held m);
-                ascends = (subst (λ (d : DomainId). IsAboveAll shape (rank_of d) v.held) (sym (named_by_number shape lock is)) above, kn.ascends);
+                ascends = (above_named, kn.ascends);
                 hands = kn.hands;
                 carried = kn.carried;
                 hashes = λ x d noted within found. hash_stands shape w.hash w'.hash v.hand x d noted.bucket (kn.hashes x d noted within found) (λ _. refl);
@@ -351,6 +363,8 @@ module _ (shape : Shape) (slots pass : ℕ) (me : Seated) (lock : DomainId) (c :
             apart = subst (λ z. IsApartFromHands me.0 (lock_named z k) (w.core.lists k)) (sym kn.shape_is) (apart_there shape s r pass me.0 at_pass k);
             legal = subst (λ z. IsLegal z (lock_named z k) (entries (w.log k))) (sym kn.shape_is) (r.legal k);
             known = λ log f. kn.known k log f;
+            outside = none_inside shape w.lost k (logs_of w) me.0.steps me.0.held
+                (kn.held k ∙ ap (λ (z : Option ℕ). hold_of pass w.pass_of_cpu k z (w.log k) (w.core.lists k) (w.lost k)) free) kn.strand.stand (r.tickets.known pass me.0 at_pass).nested;
             at_home = λ x d other read within found read_is at.
                 let then = then_known x d read me.0.shape h me.0.readings found in
                 let old : HomeIn = then.0 in let same_then = then.2 in
@@ -388,9 +402,9 @@ module _ (shape : Shape) (slots pass : ℕ) (me : Seated) (lock : DomainId) (c :
       ))
 
 -- the same, at the number and the code that a caller has
-pub tries_at : (shape : Shape) (slots pass : ℕ) (me : Seated) (k c code : ℕ) → is_among c me.0.cpus ≡ true → IsTrue (is_lock shape (lock_named shape k)) → IsAboveAll shape (rank_of (lock_named shape k)) me.0.held → me.0.ticket ≡ Unread → code ≡ 1 + c
+pub tries_at : (shape : Shape) (slots pass : ℕ) (me : Seated) (k c code : ℕ) → is_among c me.0.cpus ≡ true → IsTrue (is_lock shape (lock_named shape k)) → MayTake shape (lock_named shape k) me.0 → me.0.ticket ≡ Unread → code ≡ 1 + c
     → Allows (Rule shape) slots pass me k (λ n. either (eqb n 0) code n) (Tries (step slots k 0 code none) me)
-tries_at shape slots pass me k c code cpu is above unread code_is =
+tries_at shape slots pass me k c code cpu is may unread code_is =
     subst (λ (z : ℕ × ℕ). Allows (Rule shape) slots pass me z.0 (λ n. either (eqb n 0) z.1 n) (Tries (step slots z.0 0 z.1 none) me)) (λ i. (number_of_named shape k i, sym code_is i))
     (allows_of shape slots pass me (lock_number shape (lock_named shape k)) (λ n. either (eqb n 0) (1 + c) n) (goes_if shape 0 (Take c (lock_named shape k))) (Tries (step slots (lock_number shape (lock_named shape k)) 0 (1 + c) none) me)
-    (tries shape slots pass me (lock_named shape k) c cpu is above unread))
+    (tries shape slots pass me (lock_named shape k) c cpu is may unread))

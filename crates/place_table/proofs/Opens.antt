@@ -36,6 +36,8 @@ use Rattle.place_table.proofs.Worlds.{none_some, true_false}
 use Rattle.place_table.specs.Views.{is_among, is_in_hand_of, first_hand, known_log, bit_seen, numbers_below, no_turns, no_bits, first_view}
 use Rattle.place_table.specs.Rules.{World, Rule, PassKnows, IsSlotAfter, AtHome, Tagged, HashesRight, is_hand_of, is_home_of}
 use Rattle.place_table.specs.Words.{bit_word, ticket_word}
+use Rattle.place_table.specs.Owners.{Owners}
+use Rattle.place_table.proofs.OwnersOrder.{owners_first}
 use Rattle.place_table.specs.Tickets.{Tickets, KnowsTickets, count_drawing, with_cpu}
 use Rattle.place_table.specs.Opening.{IsFirstContent, IsFirstSlot, AreFirstSlots}
 use Rattle.place_table.specs.Words.{opening_words}
@@ -217,7 +219,7 @@ first_tickets shape bounds = record {
     none_near (suc n) = let rest = none_near n in omega arith
 
     known : (pass : ℕ) (v : View) → get_elem? (first_view shape ∷ []) pass ≡ some v → KnowsTickets shape 0 (λ k. false) (λ c. false) (λ t. with_cpu 0) v
-    known zero v at = subst (KnowsTickets shape 0 (λ k. false) (λ c. false) (λ t. with_cpu 0)) (some-injective (first_view shape) v at) record { reached = omega arith; refused = inl refl; all_drawn = λ _. refl; strand = omega arith; ended = tt; ticket = tt }
+    known zero v at = subst (KnowsTickets shape 0 (λ k. false) (λ c. false) (λ t. with_cpu 0)) (some-injective (first_view shape) v at) record { reached = omega arith; refused = inl refl; all_drawn = λ _. refl; strand = omega arith; ended = tt; ticket = tt; below = λ read. absurd read; nested = tt; ended_nested = tt }
     known (suc pass) v at = absurd (some-ne-none v (sym at))
 
 opens_at : (shape : Shape) (slots : List Behind) → IsShape shape → AreFirstSlots shape (lock_count shape) slots → Rule shape (table.opening (opening_words shape) slots (first_view shape))
@@ -245,6 +247,7 @@ opens_at shape slots is_one are =
       in_time = tt;
       lead = λ i below. refl;
       tickets = subst (λ (z : ℕ). Tickets shape z (λ k. []) (λ k. false) (λ c. 0) (first_view shape ∷ [])) (sym (first_ticket_word shape)) (first_tickets shape bounds);
+      owners = λ lru none. subst (λ (z : ℕ). Owners shape z (opening shape).owner (opening shape).home (λ e. 0) (λ k. []) (first_view shape ∷ [])) (sym (first_ticket_word shape)) (owners_first shape (opening shape).home (λ e. 0));
       of_strands = tt;
       gave_back = λ k below. refl;
       knows = λ pass v at. first_seat bounds pass v at;

@@ -40,8 +40,10 @@ use Rattle.place_table.specs.declared.view.Ticket.{Ticket}
 use Rattle.place_table.specs.declared.view.Ticket.TheVariants.{Unread, Drawn}
 use Rattle.place_table.specs.Views.{ticketed, ticket_of, number_by, next, numbered_entry, reached_by, refused_by}
 use Rattle.place_table.specs.Tickets.{IsTaken}
+use Rattle.place_table.specs.Nested.{IsInside, AreOutside}
 use Rattle.place_table.specs.Plays.{TakesTicket}
-use Rattle.place_table.proofs.TicketsTaken.{IsTicketed, put_unticketed, notes_unticketed, numbered_by}
+use Rattle.place_table.specs.Owners.{InnermostOwnersFit}
+use Rattle.place_table.proofs.TicketsTaken.{IsTicketed, put_unticketed, notes_unticketed, owners_unticketed, numbered_by}
 use Rattle.place_table.specs.Recording.{IsLost, RecordsIn, Records, recorded_step, last_from, last_in, entry_given, no_entry, history_with}
 use Rattle.place_table.specs.Plays.{Seated, Took, AreElements, IsApartFromHands, GivesBack, GivesSome, entry_by, IsKeptOrLost, MayPut, MayGive, OwnerFits, SeesOwner, HomeFits, SeesHome}
 use Rattle.place_table.specs.TurnNotes.{NotesFit, InnermostFits}
@@ -104,6 +106,7 @@ takes_of t lock before after here k cpu old taken out b is begun mine real befor
       apart = subst (λ (v : View). IsApartFromHands v lock took.hold.now) old_is (subst (λ (d : DomainId). IsApartFromHands old.0 d took.hold.now) named (subst (λ (z : Shape). IsApartFromHands old.0 (lock_named z k) took.hold.now) shape_is took.apart));
       legal = subst (λ (d : DomainId). IsLegal t.shape d took.hold.log) named (subst (λ (z : Shape). IsLegal z (lock_named z k) took.hold.log) shape_is took.legal);
       known = λ log found. took.known log ((λ i. known_log (k_is i) ((old_is i).known)) ∙ found);
+      outside = subst (λ (z : ℕ × View). AreOutside z.0 took.hold.log z.1.steps) (λ i. (sym took.lock i, old_is i)) took.outside;
       at_home = λ e c read within found read_is. took.at_home e c lock read (subst (λ (z : Shape). c < z.cpus) (sym shape_is) within) (ap (λ (v : View). home_known e c v.readings) (sym view_is) ∙ found) read_is (ap (λ (z : Shape). lock_number z lock) shape_is ∙ sym k_is);
       moved_on = λ e c d read within lock_is found read_is none.
           subst (λ (l : DomainId). flushed_since t.shape l read.turns e took.hold.log ≡ true) named (subst (λ (z : Shape). flushed_since z (lock_named z k) read.turns e took.hold.log ≡ true) shape_is
@@ -247,8 +250,12 @@ may_give t lock p here ticket part can key v history entry e strand now recorded
           (λ i. (strand_kept i, sym named i, sym e_is i))
           (renumbered recorded.history v entry (now ≡ strand) (λ u (z : Entry). (hold.lost ≡ false) × (u.items ≡ hold.log ++ z ∷ []) × (now ≡ strand ++ recorded_step lock (length hold.log) ∷ []))
           (its_ticket history lock entry strand now recorded (v.ticket ≡ Drawn entry.ticket) drawn records) (one_more history lock entry strand now recorded hold.lost hold.log kept records));
+      inside = subst (λ (z : Shape × Part × List Hold). IsInside z.0 z.1 z.2)
+          (λ i. (sym key_is i, ap (λ (y : Entry). y.part) (sym (e_is ∙ ap (numbered_entry v) entry_is)) i, sym (ap (λ (z : View). holds_below z.held) v_is ∙ ap holds_below can.innermost) i)) can.inside;
       noted = subst (λ (z : Shape × View × Part × List Notes). InnermostFits z.0 z.1 hold z.2 z.3)
           (λ i. (sym key_is i, sym v_is i, ap (λ (y : Entry). y.part) (sym (e_is ∙ ap (numbered_entry v) entry_is)) i, sym (ap (λ (z : View). z.notes) v_is ∙ can.notes_are) i)) can.notes_fit;
+      owners_fit = λ lru. subst (λ (z : (Shape × View) × (Entry × List Notes)). InnermostOwnersFit z.0.0 z.0.1 hold z.1.0.cpu z.1.0.part z.1.1)
+          (λ i. ((sym key_is i, sym v_is i), (sym (e_is ∙ ap (numbered_entry v) entry_is) i, sym (ap (λ (z : View). z.notes) v_is ∙ can.notes_are) i))) (can.owners_fit (subst (λ (z : Shape). IsTrue (is_lru z.kind)) key_is lru));
     }
 
 -- and with nothing recorded
@@ -262,7 +269,9 @@ may_lose t lock p here part can key v key_is v_is taken = record {
   numbered = refl;
   ticketed = tt;
   records = refl;
+  inside = subst (λ (z : Shape × List Hold). IsInside z.0 part z.1) (λ i. (sym key_is i, sym (ap (λ (z : View). holds_below z.held) v_is ∙ ap holds_below can.innermost) i)) can.inside;
   noted = subst (λ (z : Shape × View × List Notes). InnermostFits z.0 z.1 can.hold part z.2) (λ i. (sym key_is i, sym v_is i, sym (ap (λ (z : View). z.notes) v_is ∙ can.notes_are) i)) can.notes_fit;
+  owners_fit = λ lru. subst (λ (z : Shape × View × List Notes). InnermostOwnersFit z.0 z.1 can.hold p.cpu part z.2) (λ i. (sym key_is i, sym v_is i, sym (ap (λ (z : View). z.notes) v_is ∙ can.notes_are) i)) (can.owners_fit (subst (λ (z : Shape). IsTrue (is_lru z.kind)) key_is lru));
 }
 
 -- a pass once its lock is given back
@@ -341,7 +350,10 @@ gave_some_of t lock before after here part can drawn ready is put given_seat beh
         there = can.there;
         lock_is = ap (λ (z : Hold). z.lock) same_hold ∙ can.lock_is;
         may_put = put_unticketed t.shape before.view is.ticket is.reached is.touched some.hold before.cpu some.part here may;
+        inside = subst (λ (z : Shape × List Hold). IsInside z.0 some.part z.1) (λ i. (shape_is i, ap holds_below some.innermost i)) some.may.inside;
         notes_fit = notes_unticketed t.shape before.view is.ticket is.reached is.touched some.hold some.part some.notes (subst (λ (z : Shape × View). NotesFit z.0 z.1 some.hold some.part some.notes) (λ i. (shape_is i, put_is i)) some.notes_fit);
+        owners_fit = λ lru. owners_unticketed t.shape before.view is.ticket is.reached is.touched some.hold before.cpu some.part some.notes
+            (subst (λ (z : Shape × View × List Notes). InnermostOwnersFit z.0 z.1 some.hold before.cpu some.part z.2) (λ i. (shape_is i, put_is i, some.notes_are i)) (some.may.owners_fit (subst (λ (z : Shape). IsTrue (is_lru z.kind)) (sym shape_is) lru)));
       };
       took = record { drawn = drawn; ticket = is.ticket; reached = is.reached; touched = is.touched; takes = subst (TakesTicket (before.view, []) drawn) is.after_is takes };
       numbered = let view_is = ap (λ (z : PassView). z.view) after_is ∙ ap (λ (z : Seated). z.0) some.after_is in

@@ -30,7 +30,9 @@ use Rattle.place_table.specs.declared.view.InHand.{InHand}
 use Rattle.place_table.specs.declared.view.HashIn.{HashIn}
 use Rattle.place_table.specs.declared.view.Notes.{Notes}
 use Rattle.place_table.specs.Views.{hold_at, now_at, with_now, with_places, home_known, hash_known, kept_hashes, kept_readings, touching, is_among, is_in_hand_of, came_at}
-use Rattle.place_table.specs.Tickets.{Tickets, innermost}
+use Rattle.place_table.specs.Tickets.{Tickets, NoneLost}
+use Rattle.place_table.specs.Owners.{Owners}
+use Rattle.place_table.proofs.Nesting.{without_lists}
 use Rattle.place_table.proofs.TicketLemmas.{tickets_stay}
 use Rattle.place_table.specs.Rules.{World, Rule, PassKnows, HashesRight, AreRowed, AtHome, Ascends, entries, hold, hold_of, is_hand_of, is_home_of, StillHome, IsReading, IsHashOf, IsHashed, AreNoted, logs_of, marks_under}
 use Rattle.place_table.specs.Words.{owner_word, home_word, bit_word, ticket_word}
@@ -124,11 +126,12 @@ module _ (shape : Shape) (s : State Behind View) (r : Rule shape s) (pass : ℕ)
   pub place_rule : (i n : ℕ) (c : ℕ) (mine : is_among c v.cpus ≡ true) (held : List Hold) (hand carried : List InHand) (readings : List HomeIn) (notes : List Notes) (hashes : List HashIn) (cs : List (ℕ × Behind)) → lock_count shape ≤ i → i < bit_word shape 0
       → ((e : ℕ) → e < shape.elements → get_or (set s.words i n) (owner_word shape e) 0 ≡ owner_code (owner e))
       → ((e : ℕ) → e < shape.elements → get_or (set s.words i n) (home_word shape e) 0 ≡ home_code (home e))
-      → AreNoted shape v.touched held notes → innermost held ≡ innermost v.held → marks_under held notes ≡ marks_under v.held v.notes
+      → AreNoted shape v.touched held notes → without_lists held ≡ without_lists v.held → marks_under held notes ≡ marks_under v.held v.notes
+      → (IsTrue (is_lru shape.kind) → NoneLost shape r.world.lost → Owners shape (get_or s.words (ticket_word shape) 0) owner home r.world.hash (logs_of r.world) (set s.views pass (record (with_places held hand carried readings notes (touching (made r.world) i None n v) v) { hashes = hashes })))
       → MovesPlaces shape r.world pass lists owner home held hand carried readings notes hashes
       → (after : Rule shape (stepped s i n pass cs (record (with_places held hand carried readings notes (touching (made r.world) i None n v) v) { hashes = hashes }) keeps)) × (after.world.core ≡ core_moved r.world lists owner home)
   unfolding moved_world
-  place_rule i n c mine held hand carried readings notes hashes cs above below owner_words home_words are_noted same_inner same_marks moves =
+  place_rule i n c mine held hand carried readings notes hashes cs above below owner_words home_words are_noted same_holds same_marks owned moves =
       let w = r.world in
       let x : WordStep = record { at = made w; word = i; seen = None; left = n } in
       let w' : World = moved_world w x in
@@ -160,7 +163,8 @@ module _ (shape : Shape) (s : State Behind View) (r : Rule shape s) (pass : ℕ)
           gave_back = λ k real. givers_other k w.touches (w.current pass, x) (λ at _. omega arith) ∙ r.gave_back k real;
           lead = lead_with shape s r (w.current pass) x (omega (arith, r.words, below)) tt;
           tickets = subst (λ (z : ℕ). Tickets shape z (logs_of w) w.lost w.pass_of_cpu (set s.views pass nv)) (sym (get_or-set_other s.words i (ticket_word shape) n 0 (λ y. omega arith)))
-              (tickets_stay shape (get_or s.words (ticket_word shape) 0) (logs_of w) w.lost w.pass_of_cpu s.views pass v nv at_pass record { reached = refl; refused = refl; steps = refl; ended = refl; ticket = inl (refl, same_inner) } r.tickets);
+              (tickets_stay shape (get_or s.words (ticket_word shape) 0) (logs_of w) w.lost w.pass_of_cpu s.views pass v nv at_pass record { reached = refl; refused = refl; steps = refl; ended = refl; ticket = inl (refl, same_holds) } r.tickets);
+          owners = λ lru none. subst (λ (z : ℕ). Owners shape z owner home w.hash (logs_of w) (set s.views pass nv)) (sym (get_or-set_other s.words i (ticket_word shape) n 0 (λ y. omega arith))) (owned lru none);
           of_strands = of_strands_with shape w pass v kn x w' (length s.views) (length (set s.views pass nv)) (there s.views pass v at_pass) (sym (length-set s.views pass nv)) same r.of_strands;
           knows = λ j u f. ⊎_elim
               (λ t. subst (λ (z : ℕ × View). PassKnows shape w' z.0 z.1) (λ i. (sym t.0 i, t.1 i)) record {

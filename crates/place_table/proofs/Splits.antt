@@ -20,6 +20,7 @@ use Rattle.place_table.specs.declared.view.View.{View}
 use Rattle.place_table.specs.declared.view.InHand.{InHand}
 use Rattle.place_table.specs.Views.{is_among, hold_at, is_in_hand_of, kept_hashes, came_at, without_cpu, in_hand_of, in_other_hands, all_strands, split_from, split_off}
 use Rattle.place_table.specs.Words.{ticket_word}
+use Rattle.place_table.proofs.OwnersOrder.{owners_idle, owners_more}
 use Rattle.place_table.proofs.TicketsShared.{tickets_split}
 use Rattle.place_table.specs.Rules.{Tagged, World, hold, hold_of, is_hand_of, is_home_of, IsStrand, ArePast, IsHashed, PassKnows, Rule, logs_of}
 use Rattle.place_table.proofs.StoredHashes.{kept_there}
@@ -349,6 +350,8 @@ module _ (shape : Shape) (id c : ℕ) (v : View) (cpu : is_among c v.cpus ≡ tr
         lead = r.lead;
         tickets = tickets_split shape (get_or s.words (ticket_word shape) 0) (logs_of w) w.lost w.pass_of_cpu (put w.pass_of_cpu c n) s.views id c v at_id no_lock
             (λ d other. put_else w.pass_of_cpu c n d (λ same. other (ap w.pass_of_cpu same ∙ has_mine shape w id v c (r.knows id v at_id) cpu))) ((r.knows id v at_id).within c cpu) (put_here w.pass_of_cpu c n ∙ sym (length-set s.views id (split_from c v))) r.tickets;
+        owners = λ lru none. owners_more shape (get_or s.words (ticket_word shape) 0) w.core.owner w.core.home w.hash (logs_of w) (set s.views id (split_from c v)) (split_off c v) record { held = refl; notes = refl; unread = refl }
+            (owners_idle shape (get_or s.words (ticket_word shape) 0) w.core.owner w.core.home w.hash (logs_of w) s.views id v (split_from c v) at_id no_lock record { held = refl; notes = refl; unread = refl } (r.owners lru none));
         of_strands = of_strands_move w w' n (length (set s.views id (split_from c v) ++ split_off c v ∷ [])) w.touches
             (λ t below old among. subst (λ (z : ℕ). StaysListed w w' z t) (sym long) (listed_on w n t here below old among)) r.of_strands;
         knows = λ j u f. ⊎_elim

@@ -6,6 +6,7 @@ use Rattle.map_types.specs.declared.kind.DomainId.{DomainId}
 use Rattle.map_types.specs.declared.kind.DomainId.TheVariants.{Local, Global, CpuLru, Bucket, Freelist}
 use Rattle.place_words.specs.declared.history.Part.{Part}
 use Rattle.place_words.specs.declared.history.Part.TheVariants as parts
+use Rattle.map_types.specs.Kind.{is_lru}
 use Rattle.map_types.specs.ElementLists.{times}
 use Rattle.map_types.proofs.RowLemmas.{times_append, by_test}
 use Rattle.place_words.specs.Histories as histories
@@ -24,6 +25,8 @@ use Rattle.place_table.specs.Contents.{content_told, lists_of, FitsLock}
 use Rattle.place_table.specs.declared.view.View.{View}
 use Rattle.place_table.specs.declared.view.Turned.{Turned}
 use Rattle.place_table.specs.Views.{no_notes, is_among, is_in_hand_of, numbers_below, passed_on, notes_below, with_owners_read}
+use Rattle.place_table.specs.Nested.{IsInside}
+use Rattle.place_table.specs.Owners.{OwnersFit}
 use Rattle.place_table.specs.TurnNotes.{NotesFit}
 use Rattle.place_table.specs.Passes.{PassView, TableView, IsPassOf, HasBegun, TookLock, CanGive, Went, IsInNoCall, IsFirstPass, spare_of}
 use Rattle.place_table.proofs.StoredHashes.{stored_listed, HasNoHashes, none_stored}
@@ -31,8 +34,8 @@ use Rattle.place_table.specs.declared.view.OwnerSeen.{OwnerSeen}
 
 -- a bucket or a freelist that was taken may be given back by a part that changes nothing
 pub unchanged : (t : TableView) (lock : DomainId) (p q : PassView) (here : Content) (part : Part) → HasNoHashes lock → (took : TookLock t lock p q here) → IsPassOf t q → HasBegun q → IsTrue (is_lock t.shape lock)
-    → Allows t.shape q.cpu part (content_told lock here) → content_after t.shape q.cpu part (content_told lock here) ≡ content_told lock here → NotesFit t.shape q.view took.hold part no_notes → CanGive t lock q here part
-unchanged t lock p q here part no_hashes took of_table begun there allowed same notes_fit =
+    → Allows t.shape q.cpu part (content_told lock here) → content_after t.shape q.cpu part (content_told lock here) ≡ content_told lock here → NotesFit t.shape q.view took.hold part no_notes → (IsTrue (is_lru t.shape.kind) → OwnersFit t.shape q.view took.hold q.cpu part no_notes) → IsInside t.shape part p.view.held → CanGive t lock q here part
+unchanged t lock p q here part no_hashes took of_table begun there allowed same notes_fit owners_fit inside =
     let named : lock_named t.shape took.hold.lock ≡ lock = ap (lock_named t.shape) took.lock_is ∙ named_by_number t.shape lock there in
     let told_there : content_told lock here ≡ content t.shape (lock_named t.shape took.hold.lock) took.hold.log = took.told_is ∙ ap (λ (d : DomainId). content t.shape d took.hold.log) (sym named) in
     let lists_there : lists_of (content_told (lock_named t.shape took.hold.lock) here) ≡ took.hold.now = ap (λ (d : DomainId). lists_of (content_told d here)) named ∙ sym took.now in record {
@@ -60,7 +63,9 @@ unchanged t lock p q here part no_hashes took of_table begun there allowed same 
             let there : 0 < times e (rows took.hold.now) = subst (λ l. 0 < times e (rows l)) (sym took.now) inside in
             absurd (omega (arith, there, both, none));
       };
+      inside = inside;
       notes_fit = notes_fit;
+      owners_fit = owners_fit;
     }
 
 -- a turn of the global lists leaves such lists

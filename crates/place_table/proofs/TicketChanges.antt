@@ -21,16 +21,18 @@ use Rattle.place_table.specs.declared.view.WordStep.{WordStep}
 use Rattle.place_table.specs.Views.{learning, found_below, reached_by, refused_by, next, number_by, ticket_of, ticketed}
 use Rattle.place_table.specs.Words.{ticket_bound}
 use Rattle.place_words.specs.Tickets.{tickets_of, AscendIn}
-use Rattle.place_table.specs.Tickets.{Stand, in_log, with_cpu, turn_tickets, EachAscends, NoneLost, Inner, innermost, IsUnderWay, TicketFits, IsTaken, KnowsTickets, IsNewest, IsAt, Tickets}
-use Rattle.place_table.proofs.Worlds.{by_bool, some_is}
+use Rattle.place_table.specs.Tickets.{Stand, in_log, with_cpu, turn_tickets, EachAscends, NoneLost, Inner, innermost, IsUnderWay, TicketFits, IsTaken, IsRead, KnowsTickets, IsNewest, IsAt, Tickets}
+use Rattle.place_table.specs.Nested.{log_held, AreNested, EachNested}
+use Rattle.place_table.proofs.Worlds.{by_bool}
+use Rattle.place_table.proofs.Nesting.{Ends, nested_ended, each_nested_on}
 use Rattle.place_words.proofs.Ascending.{ascend_to, ascend_more, tickets_more, ticket_below}
-use Rattle.place_table.proofs.TicketLemmas.{each_to, turn_tickets_more, got_before, got_last, got_either, count_most, count_off, unread_drawn, drawing_drawn, refused_drawn, drawn_is, cpu_is_not_log, cpu_of, seat_below, newest_moves, newest_here, out_else, knows_else, AreTheirs}
+use Rattle.place_table.proofs.TicketLemmas.{each_to, turn_tickets_more, got_before, got_last, got_either, count_most, count_off, unread_drawn, drawing_drawn, refused_drawn, drawn_is, cpu_is_not_log, cpu_of, seat_below, newest_moves, newest_here, out_else, knows_else, taken_read, AreTheirs}
 
--- THE READ: the ticket word is read by a pass that holds a lock, k.
-pub tickets_read : (shape : Shape) (word : ℕ) (log : ℕ → List Entry) (lost : ℕ → Bool) (pass_of_cpu : ℕ → ℕ) (views : List View) (pass k : ℕ) (v : View) (inner : Inner) (touched : List WordStep) → get_elem? views pass ≡ some v → v.ticket ≡ Unread
-    → innermost v.held ≡ Some inner → (inner.lost ≡ false → (lost k ≡ false) × (inner.log ≡ log k)) → shape.cpus ≤ 16 → inner.cpu < shape.cpus → pass_of_cpu inner.cpu ≡ pass
+-- THE READ: the ticket word is read by a pass that holds a lock.
+pub tickets_read : (shape : Shape) (word : ℕ) (log : ℕ → List Entry) (lost : ℕ → Bool) (pass_of_cpu : ℕ → ℕ) (views : List View) (pass : ℕ) (v : View) (inner : Inner) (touched : List WordStep) → get_elem? views pass ≡ some v → v.ticket ≡ Unread
+    → innermost v.held ≡ Some inner → ((k : ℕ) (l : List Entry) → log_held k v.held ≡ Some l → l ≡ log k) → shape.cpus ≤ 16 → inner.cpu < shape.cpus → pass_of_cpu inner.cpu ≡ pass
     → Tickets shape word log lost pass_of_cpu views → Tickets shape word log lost pass_of_cpu (set views pass (ticketed (found_below word) word touched v))
-tickets_read shape word log lost pass_of_cpu views pass k v inner touched at_pass unread inner_is holds few within mine r =
+tickets_read shape word log lost pass_of_cpu views pass v inner touched at_pass unread inner_is logs few within mine r =
     by_bool (nat_lt word ticket_bound) (λ b. nat_lt word ticket_bound ≡ b → Tickets shape word log lost pass_of_cpu (set views pass (ticketed (cond b Drawing Refused) word touched v)))
     (λ _ low. record {
       drawing = put r.drawing inner.cpu true;
@@ -46,17 +48,12 @@ tickets_read shape word log lost pass_of_cpu views pass k v inner touched at_pas
             all_drawn = kn.all_drawn;
             strand = ascend_to 0 (turn_tickets v.steps) (next v) (word + v.refused) further kn.strand;
             ended = each_to v.ended (next v) (word + v.refused) further kn.ended;
-            ticket = (
-              record {
-                inner = inner;
-                inner_is = inner_is;
-                below = λ kept. let is = holds kept in subst (λ (l : List Entry). AscendIn 0 (tickets_of l) word) (sym is.1) (r.ascend k is.0);
-              },
-              ltb-true word ticket_bound low,
-              put_here r.drawing inner.cpu true,
-            );
+            ticket = (record { inner = inner; inner_is = inner_is }, ltb-true word ticket_bound low, put_here r.drawing inner.cpu true);
+            below = λ _. all_below;
+            nested = kn.nested;
+            ended_nested = kn.ended_nested;
           })
-          (λ (other : (j ≢ pass) × (get_elem? views j ≡ some x)). knows_else shape word word lost lost r.drawing (put r.drawing inner.cpu true) r.stand r.stand x (omega arith) (λ none. none)
+          (λ (other : (j ≢ pass) × (get_elem? views j ≡ some x)). knows_else shape word word lost lost r.drawing (put r.drawing inner.cpu true) r.stand r.stand x (omega arith) (λ _ lo. lo)
           (λ found _ is. at_put r.drawing inner.cpu true (λ _ b. b ≡ true) found.cpu refl (λ _. is)) (λ _ _ _ _ is. is) (r.known j x other.1))
           (at_set views pass j (ticketed Drawing word touched v) x at);
       newest = newest_here shape.cpus word pass_of_cpu views pass inner.cpu v (ticketed Drawing word touched v) at_pass within mine refl;
@@ -76,6 +73,9 @@ tickets_read shape word log lost pass_of_cpu views pass k v inner touched at_pas
             strand = ascend_to 0 (turn_tickets v.steps) (next v) (word + v.refused) further kn.strand;
             ended = each_to v.ended (next v) (word + v.refused) further kn.ended;
             ticket = ltb-false word ticket_bound high;
+            below = λ _. all_below;
+            nested = kn.nested;
+            ended_nested = kn.ended_nested;
           })
           (λ (other : (j ≢ pass) × (get_elem? views j ≡ some x)). r.known j x other.1)
           (at_set views pass j (ticketed Refused word touched v) x at);
@@ -91,6 +91,9 @@ tickets_read shape word log lost pass_of_cpu views pass k v inner touched at_pas
 
     later : (v.refused ≡ 0) ⊎ (ticket_bound ≤ word)
     later = ⊎_elim (λ (none : v.refused ≡ 0). inl none) (λ (high : ticket_bound ≤ v.reached). inr (let low = kn.reached in omega arith)) kn.refused
+
+    all_below : (k : ℕ) (l : List Entry) → log_held k v.held ≡ Some l → lost k ≡ false → AscendIn 0 (tickets_of l) word
+    all_below k l is lo = subst (λ (z : List Entry). AscendIn 0 (tickets_of z) word) (sym (logs k l is)) (r.ascend k lo)
 
     at_stays : (t : ℕ) (u : View) (x : Stand) → IsAt shape log pass_of_cpu views t x → IsAt shape log pass_of_cpu (set views pass u) t x
     at_stays t u (in_log m place) is = is
@@ -114,6 +117,9 @@ tickets_seen shape word log lost pass_of_cpu views pass v touched learned at_pas
         strand = ascend_to 0 (turn_tickets v.steps) (next v) (word + v.refused) further kn.strand;
         ended = each_to v.ended (next v) (word + v.refused) further kn.ended;
         ticket = subst (TicketFits word r.drawing r.stand u) (sym unread) tt;
+        below = λ read. absurd (subst IsRead unread read);
+        nested = kn.nested;
+        ended_nested = kn.ended_nested;
       })
       (λ (other : (j ≢ pass) × (get_elem? views j ≡ some x)). r.known j x other.1)
       (at_set views pass j u x at);
@@ -163,9 +169,12 @@ tickets_drawn shape word log lost pass_of_cpu views pass v touched at_pass is_dr
         all_drawn = kn.all_drawn;
         strand = kn.strand;
         ended = kn.ended;
-        ticket = (record { inner = turn.inner; inner_is = turn.inner_is; below = turn.below }, fits.1, kn.reached, omega arith, put_here r.stand word (with_cpu c));
+        ticket = (record { inner = turn.inner; inner_is = turn.inner_is }, fits.1, kn.reached, omega arith, put_here r.stand word (with_cpu c));
+        below = λ _. kn.below (subst IsRead (sym is_drawing) tt);
+        nested = kn.nested;
+        ended_nested = kn.ended_nested;
       })
-      (λ (other : (j ≢ pass) × (get_elem? views j ≡ some x)). knows_else shape word (1 + word) lost lost r.drawing (put r.drawing c false) r.stand (put r.stand word (with_cpu c)) x (omega arith) (λ none. none)
+      (λ (other : (j ≢ pass) × (get_elem? views j ≡ some x)). knows_else shape word (1 + word) lost lost r.drawing (put r.drawing c false) r.stand (put r.stand word (with_cpu c)) x (omega arith) (λ _ lo. lo)
       (λ inner inner_is is. put_else r.drawing c false inner.cpu (λ same. other.0 (sym (theirs j x inner other.1 inner_is) ∙ (ap pass_of_cpu same ∙ theirs pass v turn.inner at_pass turn.inner_is))) ∙ is)
       (λ inner t _ less is. put_else r.stand word (with_cpu c) t (λ same. omega (arith, same, less)) ∙ is)
       (r.known j x other.1))
@@ -193,13 +202,13 @@ tickets_drawn shape word log lost pass_of_cpu views pass v touched at_pass is_dr
     at_stays t (with_cpu d) out = out_else pass_of_cpu views pass v u t d at_pass (λ drawn. drawing_drawn (sym is_drawing ∙ drawn)) out
 
 -- THE GIVE: the lock k, which the pass took last, is given back with an entry that has the ticket drawn, or its record is lost.
-pub tickets_given : (shape : Shape) (word : ℕ) (log logs : ℕ → List Entry) (lost losts : ℕ → Bool) (pass_of_cpu : ℕ → ℕ) (views : List View) (pass k : ℕ) (v u : View) (inner : Inner) (entry : Entry) (step : Turned) → get_elem? views pass ≡ some v
-    → AreTheirs pass_of_cpu views → innermost v.held ≡ Some inner → inner.log ≡ log k → inner.lost ≡ lost k → k < lock_count shape → IsTrue (is_lock shape (lock_named shape k))
+pub tickets_given : (shape : Shape) (word : ℕ) (log logs : ℕ → List Entry) (lost losts : ℕ → Bool) (pass_of_cpu : ℕ → ℕ) (views : List View) (pass k : ℕ) (v u : View) (entry : Entry) (step : Turned) → get_elem? views pass ≡ some v
+    → AreTheirs pass_of_cpu views → Ends shape v.held u.held step → log_held k v.held ≡ Some (log k) → k < lock_count shape → IsTrue (is_lock shape (lock_named shape k))
     → logs k ≡ log k ++ entry ∷ [] → ((m : ℕ) → m ≢ k → logs m ≡ log m) → ((m : ℕ) → m ≢ k → losts m ≡ lost m)
     → (losts k ≡ false → (v.ticket ≡ Drawn entry.ticket) × (lost k ≡ false))
     → IsTaken v.ticket → entry.ticket ≡ ticket_of v → u.reached ≡ reached_by v.ticket v.reached → u.refused ≡ refused_by v.ticket v.refused → u.steps ≡ v.steps ++ step ∷ [] → step.entry ≡ entry → u.ended ≡ v.ended → u.ticket ≡ Unread
     → Tickets shape word log lost pass_of_cpu views → Tickets shape word logs losts pass_of_cpu (set views pass u)
-tickets_given shape word log logs lost losts pass_of_cpu views pass k v u inner entry step at_pass theirs inner_is log_is lost_is real there grown log_else lost_else fits taken numbered reached refused steps step_is ended unread r = go v.ticket refl
+tickets_given shape word log logs lost losts pass_of_cpu views pass k v u entry step at_pass theirs ends held_is real there grown log_else lost_else fits taken numbered reached refused steps step_is ended unread r = go v.ticket refl
   where
     kn : KnowsTickets shape word lost r.drawing r.stand v
     kn = r.known pass v at_pass
@@ -209,6 +218,17 @@ tickets_given shape word log logs lost losts pass_of_cpu views pass k v u inner 
 
     losses : NoneLost shape losts → NoneLost shape lost
     losses none m below is = kept m (none m below is)
+
+    -- the turns before of each lock that is held have lower tickets
+    before_each : (m : ℕ) (l : List Entry) → log_held m v.held ≡ Some l → lost m ≡ false → AscendIn 0 (tickets_of l) v.reached
+    before_each = kn.below (taken_read v.ticket taken)
+
+    nested_now : v.reached ≤ entry.ticket → AreNested shape losts u.steps u.held
+    nested_now low = subst (λ (l : List Turned). AreNested shape losts l u.held) (sym steps) (nested_ended ends lost losts v.steps kept
+        (λ m l is lo. subst (AscendIn 0 (tickets_of l)) (sym (ap (λ (z : Entry). z.ticket) step_is)) (ascend_to 0 (tickets_of l) v.reached entry.ticket low (before_each m l is (kept m lo)))) kn.nested)
+
+    ended_now : EachNested shape losts u.ended
+    ended_now = subst (EachNested shape losts) (sym ended) (each_nested_on shape lost losts v.ended kept kn.ended_nested)
 
     over : IsNewest shape.cpus word pass_of_cpu (set views pass u)
     over = newest_moves shape.cpus word word pass_of_cpu views pass v u at_pass (λ is. ap (λ (x : Ticket). reached_by x u.reached) unread ∙ (reached ∙ is)) refl r.newest
@@ -237,8 +257,11 @@ tickets_given shape word log logs lost losts pass_of_cpu views pass k v u inner 
             ended = subst (λ (z : List Ended × ℕ × ℕ). EachAscends z.0 (z.1 + z.2)) (λ i. (sym ended i, sym (reached ∙ stays) i, sym (refused ∙ one_more) i))
                 (each_to v.ended (next v) (v.reached + suc v.refused) (omega arith) kn.ended);
             ticket = subst (TicketFits word r.drawing r.stand u) (sym unread) tt;
+            below = λ read. absurd (subst IsRead unread read);
+            nested = nested_now (omega (arith, numbered, its_number));
+            ended_nested = ended_now;
           })
-          (λ (other : (j ≢ pass) × (get_elem? views j ≡ some x)). knows_else shape word word lost losts r.drawing r.drawing r.stand r.stand x (omega arith) losses (λ _ _ is. is) (λ _ _ _ _ is. is) (r.known j x other.1))
+          (λ (other : (j ≢ pass) × (get_elem? views j ≡ some x)). knows_else shape word word lost losts r.drawing r.drawing r.stand r.stand x (omega arith) kept (λ _ _ is. is) (λ _ _ _ _ is. is) (r.known j x other.1))
           (at_set views pass j u x at);
       newest = over;
     }
@@ -287,8 +310,11 @@ tickets_given shape word log logs lost losts pass_of_cpu views pass k v u inner 
             ended = subst (λ (z : List Ended × ℕ × ℕ). EachAscends z.0 (z.1 + z.2)) (λ i. (sym ended i, sym reached_is i, sym none_refused i))
                 (each_to v.ended (next v) (suc t + 0) (omega (arith, next_low)) kn.ended);
             ticket = subst (TicketFits word r.drawing (put r.stand t last) u) (sym unread) tt;
+            below = λ read. absurd (subst IsRead unread read);
+            nested = nested_now (let low : v.reached ≤ t = is_so.2 in let its : entry.ticket ≡ t = numbered ∙ ap (λ (x : Ticket). number_by x (next v)) drawn in omega (arith, low, its));
+            ended_nested = ended_now;
           })
-          (λ (other : (j ≢ pass) × (get_elem? views j ≡ some x)). knows_else shape word word lost losts r.drawing r.drawing r.stand (put r.stand t last) x (omega arith) losses (λ _ _ is. is)
+          (λ (other : (j ≢ pass) × (get_elem? views j ≡ some x)). knows_else shape word word lost losts r.drawing r.drawing r.stand (put r.stand t last) x (omega arith) kept (λ _ _ is. is)
           (λ found n found_is _ is. put_else r.stand t last n (λ equal. other.0 (sym (theirs j x found other.1 found_is) ∙ (ap pass_of_cpu (cpu_of (sym is ∙ (ap r.stand equal ∙ is_so.4))) ∙ theirs pass v is_so.0.inner at_pass is_so.0.inner_is))) ∙ is)
           (r.known j x other.1))
           (at_set views pass j u x at);
@@ -314,9 +340,7 @@ tickets_given shape word log logs lost losts pass_of_cpu views pass k v u inner 
         its_ticket is = drawn_is (sym (fits is).0 ∙ drawn)
 
         before_is : losts k ≡ false → AscendIn 0 (tickets_of (log k)) v.reached
-        before_is is =
-            let same : is_so.0.inner ≡ inner = some_is (sym is_so.0.inner_is ∙ inner_is) in
-            subst (λ (l : List Entry). AscendIn 0 (tickets_of l) v.reached) (ap (λ (z : Inner). z.log) same ∙ log_is) (is_so.0.below (ap (λ (z : Inner). z.lost) same ∙ (lost_is ∙ (fits is).1)))
+        before_is is = before_each k (log k) held_is (fits is).1
 
         at_stays : (x : ℕ) → x ≢ t → (z : Stand) → IsAt shape log pass_of_cpu views x z → IsAt shape logs pass_of_cpu (set views pass u) x z
         at_stays x other (in_log m place) is = record {

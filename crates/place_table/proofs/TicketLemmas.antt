@@ -1,5 +1,5 @@
 -- What the rule says of tickets, where a step changes nothing that counts for them, and what of it other passes keep.
-use Rattle.std.proofs.Common.{◌≡◌, ◌≢◌, ℕ, zero, suc, ◌+◌, ◌<◌, ◌≤◌, ◌⊎◌, inl, inr, ⊎_elim, cond, Bool, true, false, List, [], ◌∷◌, ◌++◌, length, set, sym, refl, ap, ◌∙◌, subst, arith, Some}
+use Rattle.std.proofs.Common.{◌≡◌, ◌≢◌, ℕ, zero, suc, ◌+◌, ◌<◌, ◌≤◌, ◌⊎◌, inl, inr, ⊎_elim, Bool, true, false, List, [], ◌∷◌, ◌++◌, length, set, sym, refl, ap, ◌∙◌, subst, arith, Some}
 use Rattle.std.specs.Prelude.{slice_get}
 use mathlib.Core.Option.{some, some-ne-none, some-injective}
 use lib.ListN.{get_elem?}
@@ -18,17 +18,15 @@ use Rattle.place_table.specs.declared.view.Ticket.TheVariants.{Unread, Drawing, 
 use Rattle.place_table.specs.Views.{reached_by}
 use Rattle.place_table.specs.Words.{ticket_bound}
 use Rattle.place_words.specs.Tickets.{tickets_of, AscendIn}
-use Rattle.place_table.specs.Tickets.{Stand, in_log, with_cpu, turn_tickets, EachAscends, count_drawing, NoneLost, Inner, innermost, IsUnderWay, TicketFits, KnowsTickets, IsOut, IsNewest, IsAt, Tickets}
+use Rattle.place_table.specs.Nested.{AreNested, EachNested}
+use Rattle.place_table.specs.Tickets.{Stand, in_log, with_cpu, turn_tickets, EachAscends, count_drawing, Inner, innermost, IsUnderWay, TicketFits, IsTaken, IsRead, KnowsTickets, IsOut, IsNewest, IsAt, Tickets}
 use Rattle.atomic_table.specs.Table.{State}
 use Rattle.place_table.specs.declared.content.Behind.{Behind}
-use Rattle.place_table.specs.Views.{hold_at, with_now, held_without, held_with}
+use Rattle.place_table.specs.Views.{hold_at}
 use Rattle.place_table.specs.Rules.{Rule}
-use Rattle.place_words.specs.declared.step.Lists.{Lists}
-use Rattle.place_words.specs.declared.home.Home.{Home}
-use Rattle.place_words.specs.declared.home.Home.TheVariants as homes
-use Rattle.place_words.specs.declared.owner.Owner.{Owner}
 use Rattle.place_table.proofs.Worlds.{some_is, none_some, HoldIs, hold_of_is, hold_at_first}
 use Rattle.place_words.proofs.Ascending.{ascend_to}
+use Rattle.place_table.proofs.Nesting.{HoldsOn, without_lists, inner_same, same_logs, KeepWithGlobal, keep_fewer, nested_on, each_nested_on}
 
 pub each_to : (strands : List Ended) (to more : ℕ) → to ≤ more → EachAscends strands to → EachAscends strands more
 each_to [] to more less are = tt
@@ -115,29 +113,25 @@ seat_below (x ∷ xs) zero v at = omega arith
 seat_below (x ∷ xs) (suc pass) v at = let rest = seat_below xs pass v at in omega arith
 
 -- Nothing that counts for tickets changes.
-pub record SameTickets (v u : View) : Type 0 where
+pub record SameTickets (shape : Shape) (v u : View) : Type 0 where
   pub reached : u.reached ≡ v.reached
   pub refused : u.refused ≡ v.refused
   pub steps : u.steps ≡ v.steps
   pub ended : u.ended ≡ v.ended
-  pub ticket : ((u.ticket ≡ v.ticket) × (innermost u.held ≡ innermost v.held)) ⊎ ((v.ticket ≡ Unread) × (u.ticket ≡ Unread))
+  pub ticket : ((u.ticket ≡ v.ticket) × (without_lists u.held ≡ without_lists v.held)) ⊎ ((v.ticket ≡ Unread) × (u.ticket ≡ Unread) × HoldsOn v.held u.held × KeepWithGlobal shape v.held u.held v.steps)
 
-pub under_way_stays : (v u : View) → u.reached ≡ v.reached → innermost u.held ≡ innermost v.held → (turn : IsUnderWay v) → IsUnderWay u
-under_way_stays v u reached held turn = record {
-  inner = turn.inner;
-  inner_is = held ∙ turn.inner_is;
-  below = λ kept. subst (AscendIn 0 (tickets_of turn.inner.log)) (sym reached) (turn.below kept);
-}
+pub under_way_stays : (v u : View) → innermost u.held ≡ innermost v.held → (turn : IsUnderWay v) → IsUnderWay u
+under_way_stays v u held turn = record { inner = turn.inner; inner_is = held ∙ turn.inner_is }
 
 pub fits_stays : (word : ℕ) (drawing : ℕ → Bool) (stand : ℕ → Stand) (v u : View) (x : Ticket) → u.reached ≡ v.reached → innermost u.held ≡ innermost v.held → TicketFits word drawing stand v x → TicketFits word drawing stand u x
 unfolding under_way_stays
 fits_stays word drawing stand v u Unread reached held fits = tt
-fits_stays word drawing stand v u Drawing reached held fits = (under_way_stays v u reached held fits.0, subst (λ (z : ℕ). z < ticket_bound) (sym reached) fits.1, fits.2)
+fits_stays word drawing stand v u Drawing reached held fits = (under_way_stays v u held fits.0, subst (λ (z : ℕ). z < ticket_bound) (sym reached) fits.1, fits.2)
 fits_stays word drawing stand v u (Drawn t) reached held fits =
-    (under_way_stays v u reached held fits.0, subst (λ (z : ℕ). z < ticket_bound) (sym reached) fits.1, subst (λ (z : ℕ). z ≤ t) (sym reached) fits.2, fits.3, fits.4)
+    (under_way_stays v u held fits.0, subst (λ (z : ℕ). z < ticket_bound) (sym reached) fits.1, subst (λ (z : ℕ). z ≤ t) (sym reached) fits.2, fits.3, fits.4)
 fits_stays word drawing stand v u Refused reached held fits = subst (λ (z : ℕ). ticket_bound ≤ z) (sym reached) fits
 
-pub knows_stays : (shape : Shape) (word : ℕ) (lost drawing : ℕ → Bool) (stand : ℕ → Stand) (v u : View) → SameTickets v u → KnowsTickets shape word lost drawing stand v → KnowsTickets shape word lost drawing stand u
+pub knows_stays : (shape : Shape) (word : ℕ) (lost drawing : ℕ → Bool) (stand : ℕ → Stand) (v u : View) → SameTickets shape v u → KnowsTickets shape word lost drawing stand v → KnowsTickets shape word lost drawing stand u
 knows_stays shape word lost drawing stand v u same kn = record {
   reached = subst (λ (z : ℕ). z ≤ word) (sym same.reached) kn.reached;
   refused = subst (λ (z : ℕ × ℕ). (z.1 ≡ 0) ⊎ (ticket_bound ≤ z.0)) (λ i. (sym same.reached i, sym same.refused i)) kn.refused;
@@ -145,9 +139,24 @@ knows_stays shape word lost drawing stand v u same kn = record {
   strand = subst (λ (z : List Turned × ℕ × ℕ). AscendIn 0 (turn_tickets z.0) (z.1 + z.2)) (λ i. (sym same.steps i, sym same.reached i, sym same.refused i)) kn.strand;
   ended = subst (λ (z : List Ended × ℕ × ℕ). EachAscends z.0 (z.1 + z.2)) (λ i. (sym same.ended i, sym same.reached i, sym same.refused i)) kn.ended;
   ticket = ⊎_elim
-      (λ (s : (u.ticket ≡ v.ticket) × (innermost u.held ≡ innermost v.held)). subst (TicketFits word drawing stand u) (sym s.0) (fits_stays word drawing stand v u v.ticket same.reached s.1 kn.ticket))
-      (λ (s : (v.ticket ≡ Unread) × (u.ticket ≡ Unread)). subst (TicketFits word drawing stand u) (sym s.1) tt)
+      (λ (s : (u.ticket ≡ v.ticket) × (without_lists u.held ≡ without_lists v.held)). subst (TicketFits word drawing stand u) (sym s.0) (fits_stays word drawing stand v u v.ticket same.reached (inner_same v.held u.held s.1) kn.ticket))
+      (λ (s : (v.ticket ≡ Unread) × (u.ticket ≡ Unread) × HoldsOn v.held u.held × KeepWithGlobal shape v.held u.held v.steps). subst (TicketFits word drawing stand u) (sym s.1) tt)
       same.ticket;
+  below = λ read k log is lo. ⊎_elim
+      (λ (s : (u.ticket ≡ v.ticket) × (without_lists u.held ≡ without_lists v.held)). subst (AscendIn 0 (tickets_of log)) (sym same.reached) (kn.below (subst IsRead s.0 read) k log (sym (same_logs v.held u.held s.1 k) ∙ is) lo))
+      (λ (s : (v.ticket ≡ Unread) × (u.ticket ≡ Unread) × HoldsOn v.held u.held × KeepWithGlobal shape v.held u.held v.steps). absurd (subst IsRead s.1 read))
+      same.ticket;
+  nested = subst (λ (l : List Turned). AreNested shape lost l u.held) (sym same.steps) (nested_on shape lost lost v.steps v.held u.held
+      (⊎_elim
+      (λ (s : (u.ticket ≡ v.ticket) × (without_lists u.held ≡ without_lists v.held)). λ k log is. same_logs v.held u.held s.1 k ∙ is)
+      (λ (s : (v.ticket ≡ Unread) × (u.ticket ≡ Unread) × HoldsOn v.held u.held × KeepWithGlobal shape v.held u.held v.steps). s.2)
+      same.ticket)
+      (⊎_elim
+      (λ (s : (u.ticket ≡ v.ticket) × (without_lists u.held ≡ without_lists v.held)). keep_fewer shape v.held u.held v.steps (λ k log is. sym (same_logs v.held u.held s.1 k) ∙ is))
+      (λ (s : (v.ticket ≡ Unread) × (u.ticket ≡ Unread) × HoldsOn v.held u.held × KeepWithGlobal shape v.held u.held v.steps). s.3)
+      same.ticket)
+      (λ _ lo. lo) kn.nested);
+  ended_nested = subst (EachNested shape lost) (sym same.ended) kn.ended_nested;
 }
 
 -- Who knows what the word is, where a pass has another view then.
@@ -190,7 +199,7 @@ exact_there shape word log lost pass_of_cpu views pass v at_pass all r =
     sym is.reached ∙ ap (λ (z : View). reached_by z.ticket z.reached) mine
 
 -- THE FRAME: a step of a pass that changes nothing that counts for tickets.
-pub tickets_stay : (shape : Shape) (word : ℕ) (log : ℕ → List Entry) (lost : ℕ → Bool) (pass_of_cpu : ℕ → ℕ) (views : List View) (pass : ℕ) (v u : View) → get_elem? views pass ≡ some v → SameTickets v u
+pub tickets_stay : (shape : Shape) (word : ℕ) (log : ℕ → List Entry) (lost : ℕ → Bool) (pass_of_cpu : ℕ → ℕ) (views : List View) (pass : ℕ) (v u : View) → get_elem? views pass ≡ some v → SameTickets shape v u
     → Tickets shape word log lost pass_of_cpu views → Tickets shape word log lost pass_of_cpu (set views pass u)
 tickets_stay shape word log lost pass_of_cpu views pass v u at_pass same r = record {
   drawing = r.drawing;
@@ -205,8 +214,8 @@ tickets_stay shape word log lost pass_of_cpu views pass v u at_pass same r = rec
       (at_set views pass j u x at);
   newest = newest_moves shape.cpus word word pass_of_cpu views pass v u at_pass
       (λ is. ⊎_elim
-      (λ (s : (u.ticket ≡ v.ticket) × (innermost u.held ≡ innermost v.held)). (λ i. reached_by (s.0 i) (same.reached i)) ∙ is)
-      (λ (s : (v.ticket ≡ Unread) × (u.ticket ≡ Unread)). (λ i. reached_by (s.1 i) (same.reached i)) ∙ ((λ i. reached_by (sym s.0 i) v.reached) ∙ is))
+      (λ (s : (u.ticket ≡ v.ticket) × (without_lists u.held ≡ without_lists v.held)). (λ i. reached_by (s.0 i) (same.reached i)) ∙ is)
+      (λ (s : (v.ticket ≡ Unread) × (u.ticket ≡ Unread) × HoldsOn v.held u.held × KeepWithGlobal shape v.held u.held v.steps). (λ i. reached_by (s.1 i) (same.reached i)) ∙ ((λ i. reached_by (sym s.0 i) v.reached) ∙ is))
       same.ticket)
       refl r.newest;
 }
@@ -218,15 +227,15 @@ tickets_stay shape word log lost pass_of_cpu views pass v u at_pass same r = rec
         let is : out.view ≡ v = some-injective out.view v (sym out.seat ∙ (ap (get_elem? views) here ∙ at_pass)) in
         let drawn : v.ticket ≡ Drawn t = ap (λ (z : View). z.ticket) (sym is) ∙ out.drawn in
         ⊎_elim
-        (λ (s : (u.ticket ≡ v.ticket) × (innermost u.held ≡ innermost v.held)). record {
+        (λ (s : (u.ticket ≡ v.ticket) × (without_lists u.held ≡ without_lists v.held)). record {
           view = u;
           inner = out.inner;
           seat = ap (get_elem? (set views pass u)) here ∙ set_here views pass u (seat_below views pass v at_pass);
-          inner_is = s.1 ∙ (ap (λ (z : View). innermost z.held) (sym is) ∙ out.inner_is);
+          inner_is = inner_same v.held u.held s.1 ∙ (ap (λ (z : View). innermost z.held) (sym is) ∙ out.inner_is);
           cpu_is = out.cpu_is;
           drawn = s.0 ∙ drawn;
         })
-        (λ (s : (v.ticket ≡ Unread) × (u.ticket ≡ Unread)). unread_drawn (sym s.0 ∙ drawn))
+        (λ (s : (v.ticket ≡ Unread) × (u.ticket ≡ Unread) × HoldsOn v.held u.held × KeepWithGlobal shape v.held u.held v.steps). unread_drawn (sym s.0 ∙ drawn))
         same.ticket)
         (λ other. record {
           view = out.view;
@@ -269,25 +278,34 @@ fits_else word more drawing drawings stand stands u (Drawn t) less also stays fi
     (fits.0, fits.1, fits.2, omega arith, stays fits.0.inner t fits.0.inner_is below fits.4)
 fits_else word more drawing drawings stand stands u Refused less also stays fits = fits
 
-pub knows_else : (shape : Shape) (word more : ℕ) (lost losts drawing drawings : ℕ → Bool) (stand stands : ℕ → Stand) (u : View) → word ≤ more → (NoneLost shape losts → NoneLost shape lost)
+pub knows_else : (shape : Shape) (word more : ℕ) (lost losts drawing drawings : ℕ → Bool) (stand stands : ℕ → Stand) (u : View) → word ≤ more → ((k : ℕ) → losts k ≡ false → lost k ≡ false)
     → ((inner : Inner) → innermost u.held ≡ Some inner → drawing inner.cpu ≡ true → drawings inner.cpu ≡ true)
     → ((inner : Inner) (t : ℕ) → innermost u.held ≡ Some inner → t < word → stand t ≡ with_cpu inner.cpu → stands t ≡ with_cpu inner.cpu)
     → KnowsTickets shape word lost drawing stand u → KnowsTickets shape more losts drawings stands u
-knows_else shape word more lost losts drawing drawings stand stands u less losses also stays kn = record {
+knows_else shape word more lost losts drawing drawings stand stands u less kept also stays kn = record {
   reached = let was = kn.reached in omega arith;
   refused = kn.refused;
-  all_drawn = λ none. kn.all_drawn (losses none);
+  all_drawn = λ none. kn.all_drawn (λ k real there. kept k (none k real there));
   strand = kn.strand;
   ended = kn.ended;
   ticket = fits_else word more drawing drawings stand stands u u.ticket less also stays kn.ticket;
+  below = λ read k log is lo. kn.below read k log is (kept k lo);
+  nested = nested_on shape lost losts u.steps u.held u.held (λ _ _ is. is) (keep_fewer shape u.held u.held u.steps (λ _ _ is. is)) kept kn.nested;
+  ended_nested = each_nested_on shape lost losts u.ended kept kn.ended_nested;
 }
+
+pub taken_read : (x : Ticket) → IsTaken x → IsRead x
+taken_read Unread taken = taken
+taken_read Drawing taken = tt
+taken_read (Drawn t) taken = tt
+taken_read Refused taken = tt
 
 -- the CPU of the lock that a pass took last is one of the pass
 abbrev pub AreTheirs : (ℕ → ℕ) → List View → Type 0
 AreTheirs pass_of_cpu views = (pass : ℕ) (v : View) (inner : Inner) → get_elem? views pass ≡ some v → innermost v.held ≡ Some inner → pass_of_cpu inner.cpu ≡ pass
 
 -- The lock that a pass took last, in the world.
-pub inner_there : (held : List Hold) (inner : Inner) → innermost held ≡ Some inner → (h : Hold) × (below : List Hold) × (held ≡ h ∷ below) × (inner ≡ record { cpu = h.cpu; log = h.log; lost = h.lost })
+pub inner_there : (held : List Hold) (inner : Inner) → innermost held ≡ Some inner → (h : Hold) × (below : List Hold) × (held ≡ h ∷ below) × (inner ≡ record { cpu = h.cpu })
 inner_there [] inner is = absurd (none_some is)
 inner_there (h ∷ hs) inner is = (h, hs, refl, sym (some_is is))
 
@@ -301,19 +319,3 @@ pub theirs_there : (shape : Shape) (s : State Behind View) (r : Rule shape s) �
 theirs_there shape s r pass v inner at_pass is =
     let found = inner_there v.held inner is in
     ap (λ (z : Inner). r.world.pass_of_cpu z.cpu) found.3 ∙ (first_there shape s r pass v at_pass found.0 found.1 found.2).mine
-
--- Other lists under a lock change nothing of it that counts for tickets.
-pub inner_now : (k : ℕ) (now : Lists) (held : List Hold) → innermost (with_now k now held) ≡ innermost held
-inner_now k now [] = refl
-inner_now k now (h ∷ hs) =
-    by_test h.lock k (λ b. innermost (cond b (record { lock = h.lock; cpu = h.cpu; log = h.log; now = now; lost = h.lost } ∷ hs) (h ∷ with_now k now hs)) ≡ Some record { cpu = h.cpu; log = h.log; lost = h.lost }) (λ _. refl) (λ _. refl)
-
-pub inner_without : (shape : Shape) (home : Home) (owner : Owner) (e : ℕ) (held : List Hold) → innermost (held_without shape home owner e held) ≡ innermost held
-inner_without shape homes.Unlisted owner e held = refl
-inner_without shape (homes.In lock) owner e held = inner_now _ _ held
-inner_without shape (homes.Hand cpu) owner e held = refl
-
-pub inner_with : (shape : Shape) (home : Home) (owner : Owner) (e : ℕ) (held : List Hold) → innermost (held_with shape home owner e held) ≡ innermost held
-inner_with shape homes.Unlisted owner e held = refl
-inner_with shape (homes.In lock) owner e held = inner_now _ _ held
-inner_with shape (homes.Hand cpu) owner e held = refl

@@ -2,7 +2,7 @@
 use Rattle.place_table.proofs.StrandMoves.{is_one}
 use Rattle.std.proofs.Math.Nat.{mod-eq_of_lt}
 use Rattle.std.proofs.Common.{◌≡◌, ℕ, ◌+◌, ◌%◌, ◌^◌, ◌<◌, ◌≤◌, inl, inr, ⊎_elim, cond, List, [], ◌∷◌, length, get_or, set, sym, refl, ap, ◌∙◌, subst, arith, Some, None, Option, length-set, get_or-set_other, get_or-set_same, eqb, zero, suc, ◌⊎◌, Bool, true, false}
-use Rattle.std.specs.Prelude.{nat_lt}
+use Rattle.std.specs.Prelude.{nat_lt, IsTrue}
 use Rattle.std.proofs.lemmas.Bool.{ltb-false}
 use mathlib.Core.Option.{some}
 use lib.ListN.{get_elem?}
@@ -27,7 +27,18 @@ use Rattle.place_table.specs.declared.view.Ticket.TheVariants.{Unread, Drawing, 
 use Rattle.place_table.specs.Views.{is_among, touching, ticketed, found_below, ticket_drawn, came_at, has_all, known_log, learning}
 use Rattle.place_table.specs.Words.{owner_word, home_word, bit_word, ticket_word, ticket_bound}
 use Rattle.place_table.specs.Rules.{World, Rule, PassKnows, IsSeen, HasRow, IsFresh, IsBrought, logs_of, entries}
-use Rattle.place_table.specs.Tickets.{Tickets, Inner, innermost, TicketFits}
+use Rattle.place_table.specs.Tickets.{Tickets, NoneLost, Inner, innermost, TicketFits}
+use Rattle.map_types.specs.declared.kind.DomainId.{DomainId}
+use Rattle.map_types.specs.Kind.{is_lru}
+use Rattle.place_words.specs.Locks.{is_lock, lock_named}
+use Rattle.place_words.proofs.Ascending.{ticket_below}
+use Rattle.place_words.proofs.LockLemmas.{named_by_number, number_within}
+use Rattle.place_table.specs.Owners.{Owners}
+use Rattle.place_table.specs.Views.{hold_at}
+use Rattle.place_table.proofs.OwnersKept.{alike_found}
+use Rattle.place_table.proofs.OwnersNoted.{noted_first}
+use Rattle.place_table.proofs.OwnersOrder.{apart_there, owners_stay, owners_drawn}
+use Rattle.place_table.proofs.Worlds.{hold_at_first}
 use Rattle.place_table.specs.Plays.{Seated, ReadsTicket, DrawsTicket, SeesTicket, TakesTicket, WordFits}
 use Rattle.place_table.proofs.Worlds.{by_bool, true_false, has_mine, here_all, others, hashed_stands, lock_still_lost, past_stays, tagged_stays, SameStrands, hash_stands, none_some}
 use Rattle.place_table.proofs.StepLog.{made, time_more, givers_other, touches_with, lead_with, of_strands_with, strand_with, past_same, other_same, reads_more}
@@ -35,6 +46,7 @@ use Rattle.place_table.proofs.NotesDone.{noted_more, word_off}
 use Rattle.place_table.proofs.Locks.{there, allows_of}
 use Rattle.place_table.specs.Laws.{StepsAs, stays}
 use Rattle.place_table.proofs.TicketLemmas.{exact_there, theirs_there, first_there, inner_there}
+use Rattle.place_table.proofs.Nesting.{log_there}
 use Rattle.place_table.proofs.TicketChanges.{tickets_read, tickets_drawn, tickets_seen}
 use Rattle.place_table.proofs.Counted.{counted_more, reading_more, homes_more}
 use Rattle.place_table.proofs.MarksNoted.{marked_on}
@@ -60,8 +72,9 @@ module _ (shape : Shape) (s : State Behind View) (r : Rule shape s) (pass : ℕ)
   learning_rule : (n : ℕ) (seen : Option ℕ) (ticket : Ticket) (reached : ℕ) (learned : List Known) (cs : List (ℕ × Behind))
       → ((k : ℕ) (log : List Entry) → known_log k learned ≡ Some log → entries (r.world.log k) ≡ log) → (((learned ≡ []) × (v.bits ≡ [])) ⊎ ((c : ℕ) → c < shape.cpus → is_among c v.cpus ≡ true)) → IsSeen seen (get_or s.words (ticket_word shape) 0) → (v.cpus ≡ [] → seen ≡ Some n)
       → Tickets shape n (logs_of r.world) r.world.lost r.world.pass_of_cpu (set s.views pass (learning learned (ticketed ticket reached (touching (made r.world) (ticket_word shape) seen n v) v)))
+      → (IsTrue (is_lru shape.kind) → NoneLost shape r.world.lost → Owners shape n r.world.core.owner r.world.core.home r.world.hash (logs_of r.world) (set s.views pass (learning learned (ticketed ticket reached (touching (made r.world) (ticket_word shape) seen n v) v))))
       → Rule shape (stepped s (ticket_word shape) n pass cs (learning learned (ticketed ticket reached (touching (made r.world) (ticket_word shape) seen n v) v)) keeps)
-  learning_rule n seen ticket reached learned cs right_logs right_only seen_is only_read tickets =
+  learning_rule n seen ticket reached learned cs right_logs right_only seen_is only_read tickets owned =
       let i : ℕ = ticket_word shape in
       let w = r.world in
       let x : WordStep = record { at = made w; word = i; seen = seen; left = n } in
@@ -100,6 +113,7 @@ module _ (shape : Shape) (s : State Behind View) (r : Rule shape s) (pass : ℕ)
         lead = lead_with shape s r (w.current pass) x (omega (arith, r.words)) seen_is;
         of_strands = of_strands_with shape w pass v kn x w' (length s.views) (length (set s.views pass nv)) (there s.views pass v at_pass) (sym (length-set s.views pass nv)) same r.of_strands;
         tickets = subst (λ (z : ℕ). Tickets shape z (logs_of w) w.lost w.pass_of_cpu (set s.views pass nv)) (sym (get_or-set_same s.words i n 0 (omega (arith, r.words)))) tickets;
+        owners = λ lru none. subst (λ (z : ℕ). Owners shape z w.core.owner w.core.home w.hash (logs_of w) (set s.views pass nv)) (sym (get_or-set_same s.words i n 0 (omega (arith, r.words)))) (owned lru none);
         knows = λ j u h. ⊎_elim
             (λ t. subst (λ (z : ℕ × View). PassKnows shape w' z.0 z.1) (λ i. (sym t.0 i, t.1 i)) record {
               shape_is = kn.shape_is;
@@ -133,10 +147,11 @@ module _ (shape : Shape) (s : State Behind View) (r : Rule shape s) (pass : ℕ)
 
   ticket_rule : (n : ℕ) (seen : Option ℕ) (ticket : Ticket) (reached : ℕ) (cs : List (ℕ × Behind)) → IsSeen seen (get_or s.words (ticket_word shape) 0) → (v.cpus ≡ [] → seen ≡ Some n)
       → Tickets shape n (logs_of r.world) r.world.lost r.world.pass_of_cpu (set s.views pass (ticketed ticket reached (touching (made r.world) (ticket_word shape) seen n v) v))
+      → (IsTrue (is_lru shape.kind) → NoneLost shape r.world.lost → Owners shape n r.world.core.owner r.world.core.home r.world.hash (logs_of r.world) (set s.views pass (ticketed ticket reached (touching (made r.world) (ticket_word shape) seen n v) v)))
       → Rule shape (stepped s (ticket_word shape) n pass cs (ticketed ticket reached (touching (made r.world) (ticket_word shape) seen n v) v) keeps)
-  ticket_rule n seen ticket reached cs seen_is only_read tickets =
+  ticket_rule n seen ticket reached cs seen_is only_read tickets owned =
       let kn = r.knows pass v at_pass in
-      learning_rule n seen ticket reached v.known cs kn.known kn.only seen_is only_read tickets
+      learning_rule n seen ticket reached v.known cs kn.known kn.only seen_is only_read tickets owned
 
 -- what a pass knows of the word is so
 word_fits : (shape : Shape) (s : State Behind View) (r : Rule shape s) (pass : ℕ) (v : View) → get_elem? s.views pass ≡ some v → WordFits v (get_or s.words (ticket_word shape) 0)
@@ -209,7 +224,8 @@ sees_step shape slots pass me unread s r wide at_pass small =
       tt,
       (
         learning_rule shape s r pass v at_pass n (Some n) v.ticket n learned me.1 (right_then shape s r pass v at_pass (has_all v)) (only_then shape s r pass v at_pass (has_all v) refl) refl (λ _. refl)
-            (tickets_seen shape n (logs_of w) w.lost w.pass_of_cpu s.views pass v (touching (made w) (ticket_word shape) (Some n) n v) learned at_pass unread r.tickets),
+            (tickets_seen shape n (logs_of w) w.lost w.pass_of_cpu s.views pass v (touching (made w) (ticket_word shape) (Some n) n v) learned at_pass unread r.tickets)
+            (λ lru none. owners_stay shape n w.core.owner w.core.home w.hash (logs_of w) s.views pass v _ at_pass record { cpus = refl; held = refl; changed = refl; read = refl; ticket = inl refl } (r.owners lru none)),
         refl,
       ),
       record {
@@ -237,8 +253,9 @@ reads_step shape slots pass me hold below held unread s r wide at_pass small =
       tt,
       (
         ticket_rule shape s r pass v at_pass n (Some n) (found_below n) n me.1 refl (λ _. refl)
-            (tickets_read shape n (logs_of w) w.lost w.pass_of_cpu s.views pass hold.lock v record { cpu = hold.cpu; log = hold.log; lost = hold.lost } (touching (made w) (ticket_word shape) (Some n) n v) at_pass unread (ap innermost held)
-            (λ kept. (sym (ap (λ (h : Hold). h.lost) first.hold_is) ∙ kept, ap (λ (h : Hold). h.log) first.hold_is)) (let bounds = bounds_of_shape shape r.is_shape in omega arith) (r.ranked.within hold.cpu hold.lock first.holder_is) first.mine r.tickets),
+            (tickets_read shape n (logs_of w) w.lost w.pass_of_cpu s.views pass v record { cpu = hold.cpu } (touching (made w) (ticket_word shape) (Some n) n v) at_pass unread (ap innermost held)
+            (log_there shape w pass v kn) (let bounds = bounds_of_shape shape r.is_shape in omega arith) (r.ranked.within hold.cpu hold.lock first.holder_is) first.mine r.tickets)
+            (λ lru none. owners_stay shape n w.core.owner w.core.home w.hash (logs_of w) s.views pass v _ at_pass record { cpus = refl; held = refl; changed = refl; read = refl; ticket = alike_found n v.ticket unread } (r.owners lru none)),
         refl,
       ),
       record {
@@ -269,7 +286,15 @@ draws_step shape slots pass me is_drawing s r wide at_pass small =
       (
         ticket_rule shape s r pass v at_pass (1 + n) (Some n) (Drawn n) v.reached me.1 refl (λ empty. true_false (sym (kn.cpus found.0.cpu cpu_within ∙ (ap (λ (z : ℕ). eqb z pass) first.mine ∙ is_one pass)) ∙ ap (is_among found.0.cpu) empty))
             (tickets_drawn shape n (logs_of w) w.lost w.pass_of_cpu s.views pass v (touching (made w) (ticket_word shape) (Some n) (1 + n) v) at_pass is_drawing (theirs_there shape s r)
-            (λ inner inner_is. let its = inner_there v.held inner inner_is in subst (λ (z : Inner). z.cpu < shape.cpus) (sym its.3) (r.ranked.within its.0.cpu its.0.lock (first_there shape s r pass v at_pass its.0 its.1 its.2).holder_is)) t),
+            (λ inner inner_is. let its = inner_there v.held inner inner_is in subst (λ (z : Inner). z.cpu < shape.cpus) (sym its.3) (r.ranked.within its.0.cpu its.0.lock (first_there shape s r pass v at_pass its.0 its.1 its.2).holder_is)) t)
+            (λ lru none.
+            let first_noted = noted_first shape v.touched found.0.lock found.0 v.held v.notes (ap (hold_at found.0.lock) found.2 ∙ hold_at_first found.0 found.1) kn.noted in
+            subst (λ (m : ℕ). Owners shape m w.core.owner w.core.home w.hash (logs_of w) (set s.views pass (ticketed (Drawn n) v.reached (touching (made w) (ticket_word shape) (Some n) (1 + n) v) v))) (let g : suc n ≡ 1 + n = omega arith in g)
+            (owners_drawn shape n w.core.owner w.core.home w.hash (logs_of w) s.views pass v v.reached (touching (made w) (ticket_word shape) (Some n) (1 + n) v) at_pass (apart_there shape w s.views pass v r.knows at_pass) is_drawing
+            found.0 found.1 found.2 first_noted.3 first_noted.4 first_noted.5
+            (λ lock place entry is at. ticket_below 0 (logs_of w (lock_number shape lock)) n place entry (t.ascend (lock_number shape lock) (none (lock_number shape lock) (number_within shape lock is) (subst (λ (d : DomainId). IsTrue (is_lock shape d)) (sym (named_by_number shape lock is)) is))) at)
+            (λ j u x at drawn. let theirs : TicketFits n t.drawing t.stand u (Drawn x) = subst (TicketFits n t.drawing t.stand u) drawn (t.known j u at).ticket in theirs.3)
+            (r.owners lru none))),
         refl,
       ),
       record {

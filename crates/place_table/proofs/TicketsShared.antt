@@ -16,6 +16,8 @@ use Rattle.place_table.specs.Words.{ticket_bound}
 use Rattle.place_table.specs.Tickets.{Stand, in_log, with_cpu, turn_tickets, innermost, TicketFits, KnowsTickets, IsOut, IsNewest, IsAt, Tickets}
 use Rattle.place_table.proofs.Worlds.{none_some}
 use Rattle.place_words.proofs.Ascending.{ascend_to}
+use Rattle.place_table.specs.Nested.{AreNested, EachNested}
+use Rattle.place_table.proofs.Nesting.{each_nested_append}
 use Rattle.place_table.proofs.TicketLemmas.{each_to, each_append, seat_below}
 
 -- A pass that holds no lock has no turn under way.
@@ -31,6 +33,10 @@ idle_reached word drawing stand v Drawing idle fits = refl
 idle_reached word drawing stand v (Drawn t) idle fits = absurd (none_some (sym (ap innermost idle) ∙ fits.0.inner_is))
 idle_reached word drawing stand v Refused idle fits = refl
 
+-- the turns of all its strands are nested
+pub all_nested : (shape : Shape) (lost : ℕ → Bool) (v : View) → v.held ≡ [] → AreNested shape lost v.steps v.held → EachNested shape lost v.ended → EachNested shape lost (all_strands v)
+all_nested shape lost v idle nested ended = each_nested_append shape lost v.ended (current_strand v ∷ []) ended (subst (AreNested shape lost v.steps) idle nested, tt)
+
 -- THE SPLIT: a CPU goes from a pass, which holds no lock, to a new one, and so do all strands.
 pub tickets_split : (shape : Shape) (word : ℕ) (log : ℕ → List Entry) (lost : ℕ → Bool) (pass_of_cpu passes_of_cpu : ℕ → ℕ) (views : List View) (pass c : ℕ) (v : View) → get_elem? views pass ≡ some v → v.held ≡ []
     → ((d : ℕ) → pass_of_cpu d ≢ pass → passes_of_cpu d ≡ pass_of_cpu d) → c < shape.cpus → passes_of_cpu c ≡ length (set views pass (split_from c v))
@@ -44,7 +50,7 @@ tickets_split shape word log lost pass_of_cpu passes_of_cpu views pass c v at_pa
   filled = λ none t less. at_stays t (r.stand t) (r.filled none t less);
   known = λ j x at. ⊎_elim
       (λ (before : get_elem? (set views pass (split_from c v)) j ≡ some x). ⊎_elim
-      (λ (here : (j ≡ pass) × (split_from c v ≡ x)). subst (KnowsTickets shape word lost r.drawing r.stand) here.1 record { reached = kn.reached; refused = kn.refused; all_drawn = kn.all_drawn; strand = omega arith; ended = tt; ticket = tt })
+      (λ (here : (j ≡ pass) × (split_from c v ≡ x)). subst (KnowsTickets shape word lost r.drawing r.stand) here.1 record { reached = kn.reached; refused = kn.refused; all_drawn = kn.all_drawn; strand = omega arith; ended = tt; ticket = tt; below = λ read. absurd read; nested = tt; ended_nested = tt })
       (λ (other : (j ≢ pass) × (get_elem? views j ≡ some x)). r.known j x other.1)
       (at_set views pass j (split_from c v) x before))
       (λ (new : split_off c v ≡ x). subst (KnowsTickets shape word lost r.drawing r.stand) new record {
@@ -54,6 +60,9 @@ tickets_split shape word log lost pass_of_cpu passes_of_cpu views pass c v at_pa
         strand = omega arith;
         ended = each_append v.ended (current_strand v ∷ []) (next v) kn.ended (kn.strand, tt);
         ticket = tt;
+        below = λ read. absurd read;
+        nested = tt;
+        ended_nested = all_nested shape lost v idle kn.nested kn.ended_nested;
       })
       (at_snoc (set views pass (split_from c v)) (split_off c v) x j at);
   newest = let is = r.newest in
@@ -104,7 +113,7 @@ tickets_joined shape word log lost pass_of_cpu passes_of_cpu views pass other v 
   ascend = r.ascend;
   filled = λ none t less. at_stays t (r.stand t) (r.filled none t less);
   known = λ j x at. ⊎_elim
-      (λ (here : (j ≡ other) × (spent u.shape ≡ x)). subst (KnowsTickets shape word lost r.drawing r.stand) here.1 record { reached = omega arith; refused = inl refl; all_drawn = λ _. refl; strand = omega arith; ended = tt; ticket = tt })
+      (λ (here : (j ≡ other) × (spent u.shape ≡ x)). subst (KnowsTickets shape word lost r.drawing r.stand) here.1 record { reached = omega arith; refused = inl refl; all_drawn = λ _. refl; strand = omega arith; ended = tt; ticket = tt; below = λ read. absurd read; nested = tt; ended_nested = tt })
       (λ (elsewhere : (j ≢ other) × (get_elem? (set views pass (joined v u)) j ≡ some x)). ⊎_elim
       (λ (here : (j ≡ pass) × (joined v u ≡ x)). subst (KnowsTickets shape word lost r.drawing r.stand) here.1 record {
         reached = most;
@@ -115,6 +124,9 @@ tickets_joined shape word log lost pass_of_cpu passes_of_cpu views pass other v 
             (each_append v.ended (current_strand v ∷ []) (max v.reached u.reached + (v.refused + u.refused)) (each_to v.ended (next v) (max v.reached u.reached + (v.refused + u.refused)) (omega (arith, left)) kn.ended) (ascend_to 0 (turn_tickets v.steps) (next v) (max v.reached u.reached + (v.refused + u.refused)) (omega (arith, left)) kn.strand, tt))
             (each_append u.ended (current_strand u ∷ []) (max v.reached u.reached + (v.refused + u.refused)) (each_to u.ended (next u) (max v.reached u.reached + (v.refused + u.refused)) (omega (arith, right)) ku.ended) (ascend_to 0 (turn_tickets u.steps) (next u) (max v.reached u.reached + (v.refused + u.refused)) (omega (arith, right)) ku.strand, tt));
         ticket = tt;
+        below = λ read. absurd read;
+        nested = tt;
+        ended_nested = each_nested_append shape lost (all_strands v) (all_strands u) (all_nested shape lost v idle kn.nested kn.ended_nested) (all_nested shape lost u idle_too ku.nested ku.ended_nested);
       })
       (λ (others : (j ≢ pass) × (get_elem? views j ≡ some x)). r.known j x others.1)
       (at_set views pass j (joined v u) x elsewhere.1))

@@ -24,6 +24,7 @@ use Rattle.place_table.specs.declared.view.Ticket.TheVariants.{Unread, Drawing, 
 use Rattle.place_table.specs.Views.{is_among, has_all, ticket_of, number_by, refused_by, reached_by, ticket_seen, learning, ticketed, ticket_read, touching, found_below}
 use Rattle.place_table.specs.Words.{ticket_word, ticket_bound}
 use Rattle.place_table.specs.TurnNotes.{NotesFit, FlushedFit}
+use Rattle.place_table.specs.Owners.{OwnersFit}
 use Rattle.place_table.specs.Idle.{LearnsAll}
 use Rattle.place_table.specs.Plays.{Seated, MayPut, TakesTicket, SeesTicket}
 use Rattle.place_table.specs.Passes.{PassView, TableView, CanGive, with_view, IsPass, IsPassOf, SawTicket, IsNumbered}
@@ -110,6 +111,20 @@ module _ (shape : Shape) (v : View) (ticket : Ticket) (reached : ℕ) (touched :
   pub notes_unticketed : (part : Part) (notes : Notes) → NotesFit shape (ticketed ticket reached touched v) hold part notes → NotesFit shape v hold part notes
   notes_unticketed part notes fit = record { marks_are = fit.marks_are; clears_are = fit.clears_are; reads = fit.reads; flushed = flushed_back part notes.flushed fit.flushed; off = fit.off; held = fit.held; came = fit.came }
 
+  pub owners_ticketed : (cpu : ℕ) (part : Part) (notes : Notes) → OwnersFit shape v hold cpu part notes → OwnersFit shape (ticketed ticket reached touched v) hold cpu part notes
+  owners_ticketed cpu part notes fit = record {
+    changes = fit.changes;
+    probed = λ e holder is. let it = fit.probed e holder is in
+        record { listed = record { lock = it.listed.lock; hold = it.listed.hold; held = it.listed.held; no_bucket = it.listed.no_bucket; listed = it.listed.listed }; hash = it.hash; only = it.only; lock_is = it.lock_is; around = it.around };
+  }
+
+  pub owners_unticketed : (cpu : ℕ) (part : Part) (notes : Notes) → OwnersFit shape (ticketed ticket reached touched v) hold cpu part notes → OwnersFit shape v hold cpu part notes
+  owners_unticketed cpu part notes fit = record {
+    changes = fit.changes;
+    probed = λ e holder is. let it = fit.probed e holder is in
+        record { listed = record { lock = it.listed.lock; hold = it.listed.hold; held = it.listed.held; no_bucket = it.listed.no_bucket; listed = it.listed.listed }; hash = it.hash; only = it.only; lock_is = it.lock_is; around = it.around };
+  }
+
 -- so the lock can still be given back
 abbrev pub can_ticketed : (t : TableView) (lock : DomainId) (p : PassView) (here : Content) (part : Part) (ticket : Ticket) (reached : ℕ) (touched : List WordStep) → CanGive t lock p here part → CanGive t lock (with_view p (ticketed ticket reached touched p.view)) here part
 can_ticketed t lock p here part ticket reached touched can = record {
@@ -124,7 +139,9 @@ can_ticketed t lock p here part ticket reached touched can = record {
   there = can.there;
   lock_is = can.lock_is;
   may_put = put_ticketed t.shape p.view ticket reached touched can.hold p.cpu part here can.may_put;
+  inside = can.inside;
   notes_fit = notes_ticketed t.shape p.view ticket reached touched can.hold part can.notes can.notes_fit;
+  owners_fit = λ lru. owners_ticketed t.shape p.view ticket reached touched can.hold p.cpu part can.notes (can.owners_fit lru);
 }
 
 -- where there is still a history, the ticket was drawn

@@ -42,6 +42,10 @@ use Rattle.place_table.proofs.Came.{came_marked, came_cleared, came_bit_read, ca
 use Rattle.place_table.proofs.Locks.{allows_of, found_at, elements_there, there}
 use Rattle.place_table.proofs.Worlds.{by_bool, true_false, some_is, none_some, hold_of_is, has_mine, all_here, here_all, others, hashed_stands, lock_still_lost, past_stays, tagged_stays, SameStrands, knows_none, hash_stands}
 use Rattle.place_table.proofs.OwnersSeen.{owner_fits}
+use Rattle.place_table.specs.declared.view.Ticket.TheVariants.{Unread}
+use Rattle.place_table.specs.Owners.{Owners}
+use Rattle.place_table.proofs.OwnersNoted.{kept_mark, kept_clear, kept_bit_read}
+use Rattle.place_table.proofs.OwnersOrder.{KeepsKnown, keeps_known, keeps_read, owners_noted}
 use Rattle.place_table.specs.declared.view.HomeIn.{HomeIn}
 use Rattle.place_table.specs.declared.view.WordStep.{WordStep}
 use Rattle.place_table.proofs.StepLog.{made, time_more, givers_other, touches_with, lead_with, of_strands_with, strand_with, past_same, other_same, reads_more}
@@ -117,7 +121,7 @@ rowed_still shape hash held notes notes' same are k e hold found no_bucket insid
     (are k e hold found no_bucket inside)
 
 module _ (shape : Shape) (s : State Behind View) (r : Rule shape s) (pass : ℕ) (v : View) (at_pass : get_elem? s.views pass ≡ some v) (notes : List Notes) (same_came : (k : ℕ) → came_at k v.held notes ≡ came_at k v.held v.notes)
-    (more_marks : (x : ℕ) → IsIn x (marks_under v.held v.notes) → IsIn x (marks_under v.held notes)) where
+    (more_marks : (x : ℕ) → IsIn x (marks_under v.held v.notes) → IsIn x (marks_under v.held notes)) (knows_still : KeepsKnown shape r.world.core.owner r.world.core.home r.world.hash v notes) where
   -- what other passes know of bits where this one has a CPU
   no_others : (c : ℕ) → is_among c v.cpus ≡ true → (f : ℕ → Bool) (j : ℕ) (u : View) → get_elem? s.views j ≡ some u → j ≢ pass → (y : ℕ) (bit : Bool) → bit_seen y u.bits ≡ Some bit → f y ≡ bit
   no_others c cpu f j u at other y bit found =
@@ -176,6 +180,8 @@ module _ (shape : Shape) (s : State Behind View) (r : Rule shape s) (pass : ℕ)
         gave_back = λ m below. givers_other m w.touches (w.current pass, x) (λ at _. omega arith) ∙ r.gave_back m below;
         lead = λ m below. subst (λ (z : ℕ). LeadTo m (get_or (opening_words shape) m 0) (touches_with w pass x) (get_or (set s.words i z) m 0)) (sym n_is)
             (lead_with shape s r (w.current pass) x (omega (arith, r.words)) (subst (IsSeen seen) (sym (r.bit_words e real)) seen_is) m below);
+        owners = λ lru none. subst (λ (z : ℕ). Owners shape z w.core.owner w.core.home w.hash (logs_of w) (set s.views pass nv)) (sym (get_or-set_other s.words i (ticket_word shape) n 0 (λ y. omega arith)))
+            (owners_noted shape (get_or s.words (ticket_word shape) 0) w.core.owner w.core.home w.hash (logs_of w) s.views pass v nv notes at_pass knows_still record { cpus = refl; held = refl; changed = refl; read = refl; ticket = inl refl } (r.owners lru none));
         of_strands = of_strands_with shape w pass v kn x w' (length s.views) (length (set s.views pass nv)) (there s.views pass v at_pass) (sym (length-set s.views pass nv)) same r.of_strands;
         knows = λ j u h. ⊎_elim
             (λ t. subst (λ (z : ℕ × View). PassKnows shape w' z.0 z.1) (λ i. (sym t.0 i, t.1 i)) record {
@@ -245,6 +251,8 @@ module _ (shape : Shape) (s : State Behind View) (r : Rule shape s) (pass : ℕ)
           gave_back = λ m below. givers_other m w.touches (w.current pass, x) (λ at _. omega arith) ∙ r.gave_back m below;
           lead = λ m below. subst (λ (z : ℕ). LeadTo m (get_or (opening_words shape) m 0) (touches_with w pass x) (get_or (set s.words i z) m 0)) (sym found_is)
               (lead_with shape s r (w.current pass) x inside (sym found_is) m below);
+          owners = λ lru none. subst (λ (l : List ℕ). Owners shape (get_or l (ticket_word shape) 0) w.core.owner w.core.home w.hash (logs_of w) (set s.views pass nv)) (sym back)
+              (owners_noted shape (get_or s.words (ticket_word shape) 0) w.core.owner w.core.home w.hash (logs_of w) s.views pass v nv notes at_pass knows_still record { cpus = refl; held = refl; changed = refl; read = refl; ticket = inl refl } (r.owners lru none));
           of_strands = of_strands_with shape w pass v kn x w' (length s.views) (length (set s.views pass nv)) (there s.views pass v at_pass) (sym (length-set s.views pass nv)) same r.of_strands;
           knows = λ j u h. ⊎_elim
               (λ t. subst (λ (z : ℕ × View). PassKnows shape w' z.0 z.1) (λ i. (sym t.0 i, t.1 i)) record {
@@ -315,10 +323,10 @@ marks_step shape slots pass me e bucket hold there found inside s r wide at_pass
       keeps,
       tt,
       (
-        bit_rule shape s r pass me.0 at_pass (with_mark e me.0.notes) (λ k. came_marked e k me.0.held me.0.notes) (marks_marked e me.0.held me.0.notes) e 1 true (put w.core.bit e true) None me.1 can.0.real refl
+        bit_rule shape s r pass me.0 at_pass (with_mark e me.0.notes) (λ k. came_marked e k me.0.held me.0.notes) (marks_marked e me.0.held me.0.notes) (keeps_known shape r.world.core.owner r.world.core.home r.world.hash me.0 _ (kept_mark e me.0.notes)) e 1 true (put w.core.bit e true) None me.1 can.0.real refl
             (put_here w.core.bit e true) (λ y ne. put_else w.core.bit e true y ne) tt (λ empty. true_false (sym can.1 ∙ ap (is_among hold.cpu) empty))
             (noted_mark shape me.0.touched (x ∷ []) me.0.held me.0.notes e kn.noted (word_off shape me.0.touched x me.0.held me.0.notes kn.noted (omega arith)) (inl refl))
-            (no_others shape s r pass me.0 at_pass (with_mark e me.0.notes) (λ k. came_marked e k me.0.held me.0.notes) (marks_marked e me.0.held me.0.notes) hold.cpu can.1 (put w.core.bit e true))
+            (no_others shape s r pass me.0 at_pass (with_mark e me.0.notes) (λ k. came_marked e k me.0.held me.0.notes) (marks_marked e me.0.held me.0.notes) (keeps_known shape r.world.core.owner r.world.core.home r.world.hash me.0 _ (kept_mark e me.0.notes)) hold.cpu can.1 (put w.core.bit e true))
             (λ y is_set. by_test y e (λ _. (w.core.bit y ≡ true) ⊎ IsIn y (marks_under me.0.held (with_mark e me.0.notes)))
             (λ same. inr (subst (λ (z : ℕ). IsIn z (marks_under me.0.held (with_mark e me.0.notes))) (sym same) (marks_here shape me.0.touched e (lock_number shape (Bucket bucket)) hold me.0.held me.0.notes kn.noted found)))
             (λ ne. inl (sym (put_else w.core.bit e true y ne) ∙ is_set)))
@@ -352,10 +360,10 @@ clears_by shape slots pass me e c real cpu allowed s r wide at_pass _ =
       keeps,
       tt,
       (
-        bit_rule shape s r pass me.0 at_pass (with_clear e bit me.0.notes) (λ k. came_cleared e bit k me.0.held me.0.notes) (on_same _ _ (marks_cleared e bit me.0.held me.0.notes)) e 0 false (put r.world.core.bit e false) (Some (one bit)) me.1 real refl
+        bit_rule shape s r pass me.0 at_pass (with_clear e bit me.0.notes) (λ k. came_cleared e bit k me.0.held me.0.notes) (on_same _ _ (marks_cleared e bit me.0.held me.0.notes)) (keeps_known shape r.world.core.owner r.world.core.home r.world.hash me.0 _ (kept_clear e bit me.0.notes)) e 0 false (put r.world.core.bit e false) (Some (one bit)) me.1 real refl
             (put_here r.world.core.bit e false) (λ y ne. put_else r.world.core.bit e false y ne) refl (λ empty. true_false (sym cpu ∙ ap (is_among c) empty))
             (noted_clear shape me.0.touched (x ∷ []) me.0.held me.0.notes e bit kn.noted (word_off shape me.0.touched x me.0.held me.0.notes kn.noted (omega arith)) (inl refl))
-            (no_others shape s r pass me.0 at_pass (with_clear e bit me.0.notes) (λ k. came_cleared e bit k me.0.held me.0.notes) (on_same _ _ (marks_cleared e bit me.0.held me.0.notes)) c cpu (put r.world.core.bit e false))
+            (no_others shape s r pass me.0 at_pass (with_clear e bit me.0.notes) (λ k. came_cleared e bit k me.0.held me.0.notes) (on_same _ _ (marks_cleared e bit me.0.held me.0.notes)) (keeps_known shape r.world.core.owner r.world.core.home r.world.hash me.0 _ (kept_clear e bit me.0.notes)) c cpu (put r.world.core.bit e false))
             (λ y is_set. by_test y e (λ _. (r.world.core.bit y ≡ true) ⊎ IsIn y (marks_under me.0.held (with_clear e bit me.0.notes)))
             (λ same. true_false (sym is_set ∙ (ap (put r.world.core.bit e false) same ∙ put_here r.world.core.bit e false)))
             (λ ne. inl (sym (put_else r.world.core.bit e false y ne) ∙ is_set)))
@@ -386,7 +394,7 @@ sees_bit_step shape slots pass me e real s r wide at_pass _ =
       keeps,
       tt,
       (
-        bit_rule shape s r pass me.0 at_pass (with_bit_read e bit me.0.notes) (λ k. came_bit_read e bit k me.0.held me.0.notes) (on_same _ _ (marks_bit_read e bit me.0.held me.0.notes)) e (get_or s.words (bit_word shape e) 0) bit w.core.bit (Some (one bit)) me.1 real (r.bit_words e real)
+        bit_rule shape s r pass me.0 at_pass (with_bit_read e bit me.0.notes) (λ k. came_bit_read e bit k me.0.held me.0.notes) (on_same _ _ (marks_bit_read e bit me.0.held me.0.notes)) (keeps_known shape r.world.core.owner r.world.core.home r.world.hash me.0 _ (kept_bit_read e bit me.0.notes)) e (get_or s.words (bit_word shape e) 0) bit w.core.bit (Some (one bit)) me.1 real (r.bit_words e real)
             refl (λ _ _. refl) refl (λ _. refl)
             (noted_bit shape me.0.touched (x ∷ []) me.0.held me.0.notes e bit kn.noted (word_off shape me.0.touched x me.0.held me.0.notes kn.noted (omega arith)) (inl refl))
             (λ j u at _ y known found. (r.knows j u at).bits y known found) (λ y is_set. inl is_set) r.placed r.ranked,
@@ -406,9 +414,9 @@ sees_bit shape slots pass me e i is real =
     subst (λ (z : ℕ). Allows (Rule shape) slots pass me z (λ n. n) (SeesBit e me)) (sym is)
     (allows_of shape slots pass me (bit_word shape e) (λ n. n) (goes_by shape (Glance 0 e)) (SeesBit e me) (sees_bit_step shape slots pass me e real))
 
-pub sees_owner_step : (shape : Shape) (slots pass : ℕ) (me : Seated) (e : ℕ) → e < shape.elements → StepsAs shape slots pass me (owner_word shape e) (λ n. n) (goes_by shape (Glance 0 e)) (SeesOwner e me)
+pub sees_owner_step : (shape : Shape) (slots pass : ℕ) (me : Seated) (e : ℕ) → e < shape.elements → me.0.ticket ≡ Unread → StepsAs shape slots pass me (owner_word shape e) (λ n. n) (goes_by shape (Glance 0 e)) (SeesOwner e me)
 unfolding look_rule
-sees_owner_step shape slots pass me e real s r wide at_pass _ =
+sees_owner_step shape slots pass me e real unread s r wide at_pass _ =
     let kn = r.knows pass me.0 at_pass in
     let w = r.world in
     let owner : Owner = w.core.owner e in
@@ -416,7 +424,7 @@ sees_owner_step shape slots pass me e real s r wide at_pass _ =
       noted (with_owner_read e owner me.0.notes) me.0.bits (touching (made w) (owner_word shape e) (Some (owner_code owner)) (owner_code owner) me.0) me.0.readings me.0,
       keeps,
       tt,
-      look_rule shape s r pass me.0 at_pass (with_owner_read e owner me.0.notes) (λ k. came_owner_read e owner k me.0.held me.0.notes) (on_same _ _ (marks_owner_read e owner me.0.held me.0.notes)) (owner_word shape e) (owner_code owner) me.1 me.0.bits me.0.homes_read kn.homes_read me.0.readings kn.readings (omega (arith, r.words)) (r.owner_words e real)
+      look_rule shape s r pass me.0 at_pass (with_owner_read e owner me.0.notes) (λ k. came_owner_read e owner k me.0.held me.0.notes) (on_same _ _ (marks_owner_read e owner me.0.held me.0.notes)) (keeps_read shape w.core.owner w.core.home w.hash me.0 e unread) (owner_word shape e) (owner_code owner) me.1 me.0.bits me.0.homes_read kn.homes_read me.0.readings kn.readings (omega (arith, r.words)) (r.owner_words e real)
           (omega arith)
           (noted_owner shape me.0.touched (x ∷ []) me.0.held me.0.notes e owner kn.noted (word_off shape me.0.touched x me.0.held me.0.notes kn.noted (omega arith)) (inl refl)) kn.bits kn.only e real,
       record {
@@ -429,7 +437,7 @@ sees_owner_step shape slots pass me e real s r wide at_pass _ =
       },
     )
 
-pub sees_owner : (shape : Shape) (slots pass : ℕ) (me : Seated) (e i : ℕ) → i ≡ owner_word shape e → e < shape.elements → Allows (Rule shape) slots pass me i (λ n. n) (SeesOwner e me)
-sees_owner shape slots pass me e i is real =
+pub sees_owner : (shape : Shape) (slots pass : ℕ) (me : Seated) (e i : ℕ) → i ≡ owner_word shape e → e < shape.elements → me.0.ticket ≡ Unread → Allows (Rule shape) slots pass me i (λ n. n) (SeesOwner e me)
+sees_owner shape slots pass me e i is real unread =
     subst (λ (z : ℕ). Allows (Rule shape) slots pass me z (λ n. n) (SeesOwner e me)) (sym is)
-    (allows_of shape slots pass me (owner_word shape e) (λ n. n) (goes_by shape (Glance 0 e)) (SeesOwner e me) (sees_owner_step shape slots pass me e real))
+    (allows_of shape slots pass me (owner_word shape e) (λ n. n) (goes_by shape (Glance 0 e)) (SeesOwner e me) (sees_owner_step shape slots pass me e real unread))

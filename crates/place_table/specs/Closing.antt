@@ -28,7 +28,9 @@ use Rattle.place_words.specs.Codes.{owner_code, home_code}
 use Rattle.map_types.specs.ElementLists.{one, times}
 use Rattle.place_words.specs.Tickets.{tickets_of, AscendIn}
 use Rattle.place_table.specs.Tickets.{EachAscends}
+use Rattle.place_table.specs.Nested.{AreNested}
 use Rattle.place_words.specs.Real.{IsAlwaysReal}
+use Rattle.owner_words.specs.Owners.{OwnersTold}
 pub use Rattle.place_table.specs.StrandTurns.{numbered, turns_by, AreTurnsOf}
 
 -- what is handed out
@@ -144,6 +146,8 @@ pub record IsClosed (shape : Shape) (pass : PassView) (closed : ClosedView) : Ty
   pub turns : (k : ℕ) → AreTurnsOf k (all_strands pass.view) (log k)
   -- and stands there right after what the strand has before it
   pub stand : (n : ℕ) (strand : Ended) → slice_get (all_strands pass.view) n ≡ Some strand → StandIn log strand.steps
+  -- turns are nested as locks were held, and no lock is held now: each that was held around a turn has a later one in the strand
+  pub nested : (n : ℕ) (strand : Ended) → slice_get (all_strands pass.view) n ≡ Some strand → AreNested shape lost strand.steps []
   -- on a map that doesn't evict no bit is set
   pub unmarked : is_lru shape.kind ≡ false → (e : ℕ) → e < shape.elements → core.bit e ≡ false
   -- the words at the end, which tell holders, owners, homes and bits, are what all steps of the strands on them lead to
@@ -162,6 +166,8 @@ pub record IsClosed (shape : Shape) (pass : PassView) (closed : ClosedView) : Ty
   pub drawn_is : drawn ≡ pass.view.reached
   pub ticketed : closed.lost ≡ false → HaveTickets shape log (all_strands pass.view) drawn
   pub all_drawn : closed.lost ≡ false → pass.view.refused ≡ 0
+  -- and on a map that evicts, where no record is lost, the turns tell the owners of elements in the order of tickets
+  pub owners : IsTrue (is_lru shape.kind) → closed.lost ≡ false → OwnersTold shape (λ lock. log (lock_number shape lock))
   -- tickets are numbers of 64 bits
   pub counted : drawn < 2 ^ 64
   -- where the pass gave a lock back without a part, a record is lost

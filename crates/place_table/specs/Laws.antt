@@ -15,7 +15,7 @@ use Rattle.place_words.specs.Codes.{home_code}
 use Rattle.map_types.specs.ElementLists.{IsIn, IsHead}
 use Rattle.map_types.specs.Kind.{is_lru}
 use Rattle.place_words.specs.Histories.{content, content_after, Allows}
-use Rattle.place_words.specs.Locks.{is_lock, lock_named, lock_number, rank_of}
+use Rattle.place_words.specs.Locks.{is_lock, lock_named, lock_number}
 use Rattle.place_words.specs.declared.step.Step.{Step}
 use Rattle.place_words.specs.declared.step.Step.TheVariants.{Take, Give, Claim, Settle, Attach, Detach, Rehome, Mark, Clear, Glance}
 use Rattle.place_words.specs.State as cores
@@ -27,9 +27,11 @@ use Rattle.place_table.specs.declared.view.Hold.{Hold}
 use Rattle.place_table.specs.declared.view.Ticket.TheVariants.{Unread, Drawing}
 use Rattle.place_table.specs.Contents.{content_told, lists_of}
 use Rattle.place_table.specs.declared.content.Content.{Content}
+use Rattle.place_table.specs.Nested.{MayTake}
 use Rattle.place_table.specs.Views.{is_among, hold_at, is_in_hand_of, given, with_lost, split_from, split_off, joined, spent}
-use Rattle.place_table.specs.Rules.{Rule, IsAboveAll, logs_of}
+use Rattle.place_table.specs.Rules.{Rule, logs_of}
 use Rattle.place_table.specs.Words.{owner_word, home_word, bit_word, ticket_word}
+use Rattle.place_table.specs.Owners.{IsUnchangedAround, IsFreeAround}
 use Rattle.place_table.specs.Plays.{Seated, MayGive, Tries, GivesBack, ReadsTicket, DrawsTicket, SeesTicket, Claims, Settles, Attaches, Detaches, Marks, Clears, SeesBit, SeesOwner, SeesHome, IsKnownHome, MayGoHome, Rehomes, MayClear, IsInnermost, IsHashedInto}
 
 -- A step on the word i, which becomes f of what it was, by a pass with this seat: whatever the table is then, if the rule
@@ -60,7 +62,7 @@ taken_by c n = either (n == 0) (1 + c) n
 abbrev pub TakeIsStep : Type 0
 TakeIsStep =
     (shape : Shape) (slots pass : ℕ) (me : Seated) (lock : DomainId) (c : ℕ)
-    → is_among c me.0.cpus ≡ true → IsTrue (is_lock shape lock) → IsAboveAll shape (rank_of lock) me.0.held → me.0.ticket ≡ Unread
+    → is_among c me.0.cpus ≡ true → IsTrue (is_lock shape lock) → MayTake shape lock me.0 → me.0.ticket ≡ Unread
     → StepsAs shape slots pass me (lock_number shape lock) (taken_by c)
     (goes_if shape 0 (Take c lock)) (Tries (step slots (lock_number shape lock) 0 (1 + c) none) me)
 
@@ -95,6 +97,9 @@ GiveLeadsOn =
     → (at : ℕ) × ((after : Rule shape (stepped s (lock_number shape lock) 0 pass ((lock_number shape lock, behind) ∷ slots_below) (with_lost lost (given at hold entry kept v)) gives))
     × LeadsOn shape (lock_number shape lock) entry behind (logs_of r.world) (logs_of after.world))
 
+-- A step on an owner or a home, and a look at an owner, is made while no ticket is drawn for a turn. On a map that evicts such a step asks
+-- besides what the turns around made of the element's owner.
+
 -- the pass holds this lock, with what lies there
 abbrev pub IsHeld : Shape → Seated → DomainId → Hold → Type 0
 IsHeld shape me lock hold = hold_at (lock_number shape lock) me.0.held ≡ Some hold
@@ -121,7 +126,7 @@ GlanceIsStep =
     (shape : Shape) (slots pass : ℕ) (me : Seated) (e : ℕ)
     → e < shape.elements
     → StepsAs shape slots pass me (bit_word shape e) (λ n. n) (goes_by shape (Glance 0 e)) (SeesBit e me)
-    × StepsAs shape slots pass me (owner_word shape e) (λ n. n) (goes_by shape (Glance 0 e)) (SeesOwner e me)
+    × (me.0.ticket ≡ Unread → StepsAs shape slots pass me (owner_word shape e) (λ n. n) (goes_by shape (Glance 0 e)) (SeesOwner e me))
     × StepsAs shape slots pass me (home_word shape e) (λ n. n) (goes_by shape (Glance 0 e)) (SeesHome e me)
 
 -- The head of a lock's free list comes to the hand of the CPU that holds the lock, by a store of 1 and the CPU.
@@ -129,6 +134,7 @@ abbrev pub ClaimIsStep : Type 0
 ClaimIsStep =
     (shape : Shape) (slots pass : ℕ) (me : Seated) (e : ℕ) (lock : DomainId) (hold : Hold)
     → e < shape.elements → IsTrue (is_lock shape lock) → IsHeld shape me lock hold → IsHead e hold.now.free
+    → me.0.ticket ≡ Unread → (IsTrue (is_lru shape.kind) → IsUnchangedAround me.0 e)
     → StepsAs shape slots pass me (owner_word shape e) (λ _. 1 + hold.cpu)
     (goes_by shape (Claim hold.cpu e lock)) (λ _. Claims lock e hold.cpu me)
 
@@ -139,6 +145,7 @@ SettleIsStep =
     → e < shape.elements → IsTrue (is_lock shape lock) → IsHeld shape me lock hold → IsFalse (is_bucket lock)
     → is_among hold.cpu me.0.cpus ≡ true → is_in_hand_of e hold.cpu me.0.hand ≡ true
     → (IsTrue (is_lru shape.kind) → IsIn e (rows hold.now))
+    → me.0.ticket ≡ Unread → (IsTrue (is_lru shape.kind) → IsFreeAround me.0 e)
     → StepsAs shape slots pass me (owner_word shape e) (λ _. 0)
     (goes_by shape (Settle hold.cpu e lock)) (λ _. Settles lock e hold.cpu me)
 
@@ -151,6 +158,7 @@ AttachIsStep =
     → is_among hold.cpu me.0.cpus ≡ true → is_in_hand_of e hold.cpu me.0.hand ≡ true
     → (IsTrue (is_lru shape.kind) → is_in_hand_of e hold.cpu me.0.carried ≡ false)
     → (IsTrue (is_lru shape.kind) → IsHashedInto shape me.0 bucket e hold.cpu)
+    → me.0.ticket ≡ Unread → (IsTrue (is_lru shape.kind) → IsFreeAround me.0 e)
     → StepsAs shape slots pass me (owner_word shape e) (λ _. 32 + bucket)
     (goes_by shape (Attach hold.cpu e bucket)) (λ _. Attaches bucket e hold.cpu me)
 
@@ -159,6 +167,7 @@ abbrev pub DetachIsStep : Type 0
 DetachIsStep =
     (shape : Shape) (slots pass : ℕ) (me : Seated) (e bucket : ℕ) (hold : Hold)
     → bucket < shape.buckets → IsHeld shape me (Bucket bucket) hold → IsIn e hold.now.first
+    → me.0.ticket ≡ Unread → (IsTrue (is_lru shape.kind) → IsFreeAround me.0 e)
     → StepsAs shape slots pass me (owner_word shape e) (λ _. 1 + hold.cpu)
     (goes_by shape (Detach hold.cpu e bucket)) (λ _. Detaches bucket e hold.cpu me)
 
@@ -168,6 +177,7 @@ abbrev pub RehomeIsStep : Type 0
 RehomeIsStep =
     (shape : Shape) (slots pass : ℕ) (me : Seated) (c e : ℕ) (from to : Home)
     → IsTrue shape.common → e < shape.elements → is_among c me.0.cpus ≡ true → IsKnownHome shape me.0 c e from → MayGoHome shape me.0 c e to
+    → me.0.ticket ≡ Unread → (IsTrue (is_lru shape.kind) → IsUnchangedAround me.0 e)
     → StepsAs shape slots pass me (home_word shape e) (λ _. home_code to)
     (goes_by shape (Rehome c e to)) (λ _. Rehomes e to me)
 

@@ -12,7 +12,9 @@ pub mod KeyCalls
 pub mod Known
 pub mod Laws
 pub mod Leaving
+pub mod Nested
 pub mod Opening
+pub mod Owners
 pub mod Passes
 pub mod Plays
 pub mod Recording

@@ -19,7 +19,7 @@ use Rattle.map_types.specs.Kind.{is_lru}
 use Rattle.place_words.specs.Codes.{HasHomeCode}
 use Rattle.map_types.specs.ElementLists.{times, IsIn, IsHead}
 use Rattle.place_words.specs.Histories.{content, IsLegal}
-use Rattle.place_words.specs.Locks.{lock_number, lock_named, rank_of, is_lock}
+use Rattle.place_words.specs.Locks.{lock_number, lock_named, is_lock}
 use Rattle.place_words.specs.Takings.{set_of}
 use Rattle.place_words.specs.State.{rows, is_bucket}
 use Rattle.place_words.specs.Places.{MayOwn}
@@ -39,13 +39,15 @@ use Rattle.place_table.specs.declared.view.Turned.{Turned}
 use Rattle.place_table.specs.declared.view.Ended.{Ended}
 use Rattle.place_table.specs.Contents.{content_told, lists_of, FitsLock}
 use Rattle.place_table.specs.Views.{is_among, hold_at, is_in_hand_of, known_log, first_view, place_of, kept_step, holding, given, losing, claimed, settled, attached, detached, marked, cleared, bit_read, owner_read, home_read, ticket_seen, learning, rehomed, is_recorded, split_from, split_off, joined, home_known}
-use Rattle.place_table.specs.Rules.{KeptAs, IsAboveAll}
+use Rattle.place_table.specs.Rules.{KeptAs}
 use Rattle.place_table.specs.Plays.{AreElements, IsApartFromHands, MayPut, IsInnermost, IsKeptOrLost, IsKnownBit, OwnerFits, IsKnownHome, HomeFits, MayGoHome, MayClear, TakesTicket, IsHashedInto}
 use Rattle.place_table.specs.declared.view.Ticket.{Ticket}
 use Rattle.place_table.specs.declared.view.Ticket.TheVariants.{Unread}
 use Rattle.place_table.specs.declared.view.WordStep.{WordStep}
 use Rattle.place_table.specs.Views.{ticketed, ticket_of, next, has_all}
 use Rattle.place_words.specs.Tickets.{AscendIn}
+use Rattle.place_table.specs.Nested.{IsInside, AreOutside, MayTake}
+use Rattle.place_table.specs.Owners.{IsUnchangedAround, IsFreeAround, OwnersFit}
 use Rattle.place_table.specs.Tickets.{turn_tickets}
 use Rattle.place_table.specs.TurnNotes.{NotesFit}
 
@@ -163,12 +165,13 @@ pub record IsFirstPass (t : TableView) (p : PassView) : Type 0 where
 abbrev pub begun : PassView → ℕ → ℕ → PassView
 begun p cpu call = record p { cpu = cpu; call = call }
 
--- take asks for a lock that the map has, above all that are held
+-- take asks for a lock that the map has, above all that are held; for the global lists only where no turn was made yet since what is held
+-- was taken
 pub record CanTake (t : TableView) (lock : DomainId) (p : PassView) : Type 0 where
   pub of_table : IsPassOf t p
   pub begun : HasBegun p
   pub there : IsTrue (is_lock t.shape lock)
-  pub above : IsAboveAll t.shape (rank_of lock) p.view.held
+  pub above : MayTake t.shape lock p.view
 
 -- What take leaves: the lock is held, and what lies there is what its turns lead to. Where the pass knew the turns, these
 -- are they.
@@ -187,6 +190,8 @@ pub record TookLock (t : TableView) (lock : DomainId) (before after : PassView) 
   pub apart : IsApartFromHands before.view lock hold.now
   pub legal : IsLegal t.shape lock hold.log
   pub known : (log : List Entry) → known_log (lock_number t.shape lock) before.view.known ≡ Some log → hold.log ≡ log
+  -- no turn of the strand was made while it was held so
+  pub outside : AreOutside hold.lock hold.log before.view.steps
   -- an element whose home was read, and is known to be this lock, is listed under it
   pub at_home : (e c : ℕ) (read : HomeIn) → c < t.shape.cpus → home_known e c after.view.readings ≡ Some read → read.home ≡ homes.In lock → IsIn e (rows hold.now)
   -- and one whose home was read as these local lists, and which is pending there no more, was flushed from them since
@@ -205,7 +210,9 @@ abbrev pub entry_of : PassView → ℕ → Part → Entry
 entry_of p ticket part = record { ticket = ticket; cpu = p.cpu; call = p.call; part = part }
 
 -- What give asks: the lock is the last one taken, the part is allowed on what lay there at the take and leads to what is
--- put back; this has the elements that lie there at this step; and the part tells what was done and read in the turn.
+-- put back; this has the elements that lie there at this step; the part tells what was done and read in the turn; and where it is that
+-- of an inner turn, the lock taken before is one inside whose turns such a turn is made. On a map that evicts the part tells what was
+-- made of owners.
 pub record CanGive (t : TableView) (lock : DomainId) (p : PassView) (here : Content) (part : Part) : Type 0 where
   pub of_table : IsPassOf t p
   pub begun : HasBegun p
@@ -218,7 +225,9 @@ pub record CanGive (t : TableView) (lock : DomainId) (p : PassView) (here : Cont
   pub there : IsTrue (is_lock t.shape lock)
   pub lock_is : hold.lock ≡ lock_number t.shape lock
   pub may_put : MayPut t.shape p.view hold p.cpu part here
+  pub inside : IsInside t.shape part below
   pub notes_fit : NotesFit t.shape p.view hold part notes
+  pub owners_fit : IsTrue (is_lru t.shape.kind) → OwnersFit t.shape p.view hold p.cpu part notes
 
 -- The ticket word was read, and a ticket was drawn where it was low enough.
 pub record TookTicket (before : View) : Type 0 where
@@ -296,7 +305,13 @@ pub record CanMark (t : TableView) (e bucket : ℕ) (p : PassView) : Type 0 wher
   pub cpu_is : hold.cpu ≡ p.cpu
   pub inside : IsIn e hold.now.first
 
--- attach asks for an element in the CPU's hand, and for a bucket that the CPU holds
+-- on a map that evicts, detach asks besides that the element, where it was changed in the turns around, was set free there
+pub record CanDetach (t : TableView) (e bucket : ℕ) (p : PassView) : Type 0 where
+  pub there : CanMark t e bucket p
+  pub around : IsTrue (is_lru t.shape.kind) → IsFreeAround p.view e
+
+-- Attach asks for an element in the CPU's hand, and for a bucket that the CPU holds. On a map that evicts, where the element was changed in
+-- the turns around, it was set free.
 pub record CanAttach (t : TableView) (e bucket : ℕ) (p : PassView) : Type 0 where
   pub of_table : IsPassOf t p
   pub begun : HasBegun p
@@ -309,8 +324,9 @@ pub record CanAttach (t : TableView) (e bucket : ℕ) (p : PassView) : Type 0 wh
   pub not_carried : IsTrue (is_lru t.shape.kind) → is_in_hand_of e p.cpu p.view.carried ≡ false
   -- there the last hash that the element was given is of that bucket, and no other lock is held
   pub hashed : IsTrue (is_lru t.shape.kind) → IsHashedInto t.shape p.view bucket e p.cpu
+  pub around : IsTrue (is_lru t.shape.kind) → IsFreeAround p.view e
 
--- claim asks for the head of the free list of a lock that the CPU holds
+-- Claim asks for the head of the free list of a lock that the CPU holds. On a map that evicts it wasn't changed in the turns around.
 pub record CanClaim (t : TableView) (e : ℕ) (lock : DomainId) (p : PassView) : Type 0 where
   pub of_table : IsPassOf t p
   pub begun : HasBegun p
@@ -320,9 +336,10 @@ pub record CanClaim (t : TableView) (e : ℕ) (lock : DomainId) (p : PassView) :
   pub held : hold_at (lock_number t.shape lock) p.view.held ≡ Some hold
   pub cpu_is : hold.cpu ≡ p.cpu
   pub head : IsHead e hold.now.free
+  pub around : IsTrue (is_lru t.shape.kind) → IsUnchangedAround p.view e
 
 -- Settle asks for an element in the CPU's hand, and for a lock that the CPU holds and that has a free list. On a map that
--- evicts the element is listed there.
+-- evicts the element is listed there, and where it was changed in the turns around, it was set free.
 pub record CanSettle (t : TableView) (e : ℕ) (lock : DomainId) (p : PassView) : Type 0 where
   pub of_table : IsPassOf t p
   pub begun : HasBegun p
@@ -333,9 +350,11 @@ pub record CanSettle (t : TableView) (e : ℕ) (lock : DomainId) (p : PassView) 
   pub has_free_list : IsFalse (is_bucket lock)
   pub in_hand : is_in_hand_of e p.cpu p.view.hand ≡ true
   pub listed : IsTrue (is_lru t.shape.kind) → IsIn e (rows hold.now)
+  pub around : IsTrue (is_lru t.shape.kind) → IsFreeAround p.view e
 
 -- Rehome asks for an element and for a home where it may go, on a map whose CPUs share its lists. The pass knows the home
--- that the element has: lists under a lock that the CPU holds, or the hand of the CPU, which carries it.
+-- that the element has: lists under a lock that the CPU holds, or the hand of the CPU, which carries it. On a map that evicts it wasn't
+-- changed in the turns around.
 pub record CanRehome (t : TableView) (e : ℕ) (to : Home) (p : PassView) : Type 0 where
   pub of_table : IsPassOf t p
   pub begun : HasBegun p
@@ -344,6 +363,7 @@ pub record CanRehome (t : TableView) (e : ℕ) (to : Home) (p : PassView) : Type
   pub from : Home
   pub home : IsKnownHome t.shape p.view p.cpu e from
   pub goes : MayGoHome t.shape p.view p.cpu e to
+  pub around : IsTrue (is_lru t.shape.kind) → IsUnchangedAround p.view e
 
 -- What it leaves: the element is gone from the home that it had, and each home that the pass knew it to have is this one.
 -- It is carried by the CPU, or at the head of a list of the lock that it went to. Its owner, which stays, tells which list:

@@ -39,8 +39,11 @@ use Rattle.place_table.specs.declared.view.Notes.{Notes}
 use Rattle.place_table.specs.declared.view.Ticket.TheVariants.{Drawn}
 use Rattle.place_table.specs.Words.{ticket_bound}
 use Rattle.place_table.specs.Tickets.{IsTaken}
+use Rattle.place_table.specs.Nested.{IsInside, AreOutside}
+use Rattle.place_table.specs.Owners.{InnermostOwnersFit}
+pub use Rattle.place_table.specs.Owners.{IsListedHere}
 use Rattle.place_table.specs.Contents.{content_told, lists_of, FitsLock}
-use Rattle.place_table.specs.Views.{is_among, hold_at, is_in_hand_of, bucket_known, known_log, bit_seen, holding, given, losing, ticket_read, ticket_drawn, ticket_seen, learning, has_all, reached_by, ticket_of, kept_step, moved, with_hashes, claimed, settled, attached, detached, marked, cleared, bit_read, owner_read, home_read, rehomed, home_known, came_last}
+use Rattle.place_table.specs.Views.{is_among, hold_at, is_in_hand_of, bucket_known, known_log, bit_seen, holding, given, losing, ticket_read, ticket_drawn, ticket_seen, learning, has_all, reached_by, ticket_of, kept_step, holds_below, moved, with_hashes, claimed, settled, attached, detached, marked, cleared, bit_read, owner_read, home_read, rehomed, home_known, came_last}
 use Rattle.place_table.specs.Rules.{IsSlotAfter, is_hand_of}
 use Rattle.place_table.specs.TurnNotes.{HasOnlyHash, NotesFit, InnermostFits}
 use Rattle.place_table.specs.StoredHashes.{stored_in}
@@ -78,6 +81,8 @@ pub record Took (k cpu : ℕ) (before after : Seated) : Type 0 where
   pub apart : IsApartFromHands before.0 (lock_named before.0.shape k) hold.now
   pub legal : IsLegal before.0.shape (lock_named before.0.shape k) hold.log
   pub known : (log : List Entry) → known_log k before.0.known ≡ Some log → hold.log ≡ log
+  -- no turn of the strand was made while it was held so
+  pub outside : AreOutside k hold.log before.0.steps
   -- an element whose home was read, and is known to be this lock, is listed under it
   pub at_home : (e c : ℕ) (lock : DomainId) (read : HomeIn) → c < before.0.shape.cpus → home_known e c after.0.readings ≡ Some read → read.home ≡ homes.In lock → lock_number before.0.shape lock ≡ k
       → IsIn e (rows hold.now)
@@ -157,7 +162,9 @@ pub record MayGive (shape : Shape) (v : View) (hold : Hold) (entry : Entry) (kep
   pub numbered : entry.ticket ≡ ticket_of v
   pub ticketed : HasItsTicket v entry behind
   pub records : IsRecorded shape v hold entry kept behind
+  pub inside : IsInside shape entry.part (holds_below v.held)
   pub noted : InnermostFits shape v hold entry.part v.notes
+  pub owners_fit : IsTrue (is_lru shape.kind) → InnermostOwnersFit shape v hold entry.cpu entry.part v.notes
 
 -- the steps that are recorded after a turn: the one of the turn too, or none more where the record of the lock is lost
 abbrev pub IsKeptOrLost : View → Hold → List StrandStep → Type 0
@@ -289,14 +296,6 @@ pub record SeesBit (e : ℕ) (before : Seated) (found : ℕ) (after : Seated) : 
 -- an element is not listed under a lock that is held
 abbrev pub IsNoneListed : View → ℕ → Type 0
 IsNoneListed v e = (k : ℕ) (hold : Hold) → hold_at k v.held ≡ Some hold → times e (rows hold.now) ≡ 0
-
--- it is listed under a lock that is held, which is no bucket
-pub record IsListedHere (shape : Shape) (v : View) (e : ℕ) : Type 0 where
-  pub lock : ℕ
-  pub hold : Hold
-  pub held : hold_at lock v.held ≡ Some hold
-  pub no_bucket : IsFalse (is_bucket (lock_named shape lock))
-  pub listed : IsIn e (rows hold.now)
 
 -- An owner that what the pass knows doesn't rule out: the element is in a bucket that is held exactly where it lies there,
 -- it is free where it lies on a free list that is held and not where it is listed under such a lock, and it is in the hand of

@@ -39,11 +39,13 @@ use Rattle.place_table.specs.declared.view.Turned.{Turned}
 use Rattle.place_table.specs.declared.view.Ended.{Ended}
 use Rattle.place_table.specs.Flushes.{flushed_since}
 use Rattle.place_table.specs.declared.view.WordStep.{WordStep}
-use Rattle.place_table.specs.Tickets.{Tickets}
+use Rattle.place_table.specs.Tickets.{Tickets, NoneLost}
+use Rattle.place_table.specs.Owners.{Owners}
 use Rattle.place_words.specs.Real.{IsAlwaysReal}
 use Rattle.place_table.specs.Words.{word_count, owner_word, home_word, bit_word, ticket_word, lock_code, opening_words}
 use Rattle.place_table.specs.Contents.{content_told, lists_of, FitsLock}
 use Rattle.place_table.specs.Views.{is_among, hold_at, is_in_hand_of, known_log, bit_seen, place_of, hash_known, home_known, came_at}
+pub use Rattle.place_table.specs.Views.{IsAboveAll, Ascends}
 use Rattle.place_table.specs.declared.view.Notes.{Notes}
 use Rattle.place_table.specs.declared.view.OwnerSeen.{OwnerSeen}
 use Rattle.place_table.specs.declared.view.BitAsked.{BitAsked}
@@ -115,15 +117,6 @@ is_hand_of cpu owner = false
 abbrev pub is_home_of : ℕ → Home → Bool
 is_home_of cpu (homes.Hand c) = c == cpu
 is_home_of cpu home = false
-
--- Locks are taken in the order of their ranks: each lock held has a rank above those of the locks taken before it.
-abbrev pub IsAboveAll : Shape → ℕ → List Hold → Type 0
-IsAboveAll shape rank [] = Unit {0}
-IsAboveAll shape rank (hold ∷ holds) = (rank_of (lock_named shape hold.lock) < rank) × IsAboveAll shape rank holds
-
-abbrev pub Ascends : Shape → List Hold → Type 0
-Ascends shape [] = Unit {0}
-Ascends shape (hold ∷ holds) = IsAboveAll shape (rank_of (lock_named shape hold.lock)) holds × Ascends shape holds
 
 -- the turns on one lock of a strand, each with its place in the lock's history
 abbrev pub turns_on : ℕ → List Turned → List (ℕ × Entry)
@@ -471,4 +464,6 @@ pub record Rule (shape : Shape) (s : table.State Behind View) : Type 0 where
   pub gave_back : (k : ℕ) → k < lock_count shape → givers k world.touches ≡ strands_of (world.log k)
   -- each turn has its ticket
   pub tickets : Tickets shape (slice_index_or s.words (ticket_word shape) 0) (logs_of world) world.lost world.pass_of_cpu s.views
+  -- and on a map that evicts, where no record is lost, the turns tell owners in the order of tickets
+  pub owners : IsTrue (is_lru shape.kind) → NoneLost shape world.lost → Owners shape (slice_index_or s.words (ticket_word shape) 0) world.core.owner world.core.home world.hash (logs_of world) s.views
   pub knows : (pass : ℕ) (v : View) → get_elem? s.views pass ≡ some v → PassKnows shape world pass v

@@ -16,6 +16,7 @@ use Rattle.place_table.specs.declared.view.Ticket.{Ticket}
 use Rattle.place_table.specs.declared.view.Ticket.TheVariants.{Unread, Drawing, Drawn, Refused}
 use Rattle.place_table.specs.Words.{ticket_bound}
 use Rattle.place_table.specs.Views.{reached_by, next}
+use Rattle.place_table.specs.Nested.{log_held, AreNested, EachNested}
 
 -- where a ticket stands: with the turn at a place of a lock's history, or with a CPU whose turn is under way
 pub data Stand : Type 0 where
@@ -41,22 +42,18 @@ count_drawing drawing (suc n) = one (drawing n) + count_drawing drawing n
 abbrev pub NoneLost : Shape → (ℕ → Bool) → Type 0
 NoneLost shape lost = (k : ℕ) → k < lock_count shape → IsTrue (is_lock shape (lock_named shape k)) → lost k ≡ false
 
--- of the lock taken last: the CPU that holds it, the turns before, and whether the record of them is lost
+-- of the lock taken last: the CPU that holds it
 pub record Inner : Type 0 where
   pub cpu : ℕ
-  pub log : List Entry
-  pub lost : Bool
 
 abbrev pub innermost : List Hold → Option Inner
 innermost [] = None
-innermost (hold ∷ holds) = Some record { cpu = hold.cpu; log = hold.log; lost = hold.lost }
+innermost (hold ∷ holds) = Some record { cpu = hold.cpu }
 
--- The turn of the lock taken last is under way. Where that lock's record isn't lost, the turns before have tickets below what the
--- ticket word is known to have reached.
+-- the turn of the lock taken last is under way
 pub record IsUnderWay (v : View) : Type 0 where
   pub inner : Inner
   pub inner_is : innermost v.held ≡ Some inner
-  pub below : inner.lost ≡ false → AscendIn 0 (tickets_of inner.log) v.reached
 
 -- A view that is about to draw holds a lock, and so does one that has drawn: no other turn has its ticket. One that gets none knows
 -- that the word is 2^63 or more.
@@ -72,8 +69,16 @@ IsTaken (Drawn t) = Unit {0}
 IsTaken Refused = Unit {0}
 IsTaken ticket = ⊥
 
--- Each view knows a number that the ticket word has reached. The numbers of the turns of each strand ascend, and are below the next
--- one.
+-- it was read for the turn of the lock taken last
+abbrev pub IsRead : Ticket → Type 0
+IsRead Unread = ⊥
+IsRead Drawing = Unit {0}
+IsRead (Drawn t) = Unit {0}
+IsRead Refused = Unit {0}
+
+-- Each view knows a number that the ticket word has reached. Once the word was read for a turn, the turns before of each lock that is
+-- held, the record of which isn't lost, have tickets below that. The numbers of the turns of each strand ascend, and are below the next
+-- one; and turns are nested as their locks were held.
 pub record KnowsTickets (shape : Shape) (word : ℕ) (lost drawing : ℕ → Bool) (stand : ℕ → Stand) (v : View) : Type 0 where
   pub reached : v.reached ≤ word
   pub refused : (v.refused ≡ 0) ⊎ (ticket_bound ≤ v.reached)
@@ -81,6 +86,9 @@ pub record KnowsTickets (shape : Shape) (word : ℕ) (lost drawing : ℕ → Boo
   pub strand : AscendIn 0 (turn_tickets v.steps) (next v)
   pub ended : EachAscends v.ended (next v)
   pub ticket : TicketFits word drawing stand v v.ticket
+  pub below : IsRead v.ticket → (k : ℕ) (log : List Entry) → log_held k v.held ≡ Some log → lost k ≡ false → AscendIn 0 (tickets_of log) v.reached
+  pub nested : AreNested shape lost v.steps v.held
+  pub ended_nested : EachNested shape lost v.ended
 
 -- the turn of a CPU that has this ticket is under way
 pub record IsOut (pass_of_cpu : ℕ → ℕ) (views : List View) (t cpu : ℕ) : Type 0 where

@@ -1,5 +1,5 @@
 -- What a pass knows, and how each step changes it.
-use Rattle.std.specs.Prelude.{ℕ, zero, suc, ◌+◌, ◌==◌, nat_lt, max, Bool, true, false, not, ◌&&◌, ◌||◌, List, [], ◌∷◌, ◌++◌, length, Option, None, Some, is_some, if◌then◌else◌}
+use Rattle.std.specs.Prelude.{ℕ, zero, suc, ◌+◌, ◌==◌, ◌<◌, nat_lt, max, Bool, true, false, not, ◌&&◌, ◌||◌, List, [], ◌∷◌, ◌++◌, length, Option, None, Some, is_some, if◌then◌else◌}
 use Rattle.map_types.specs.declared.attr.Shape.{Shape}
 use Rattle.map_types.specs.declared.kind.DomainId.{DomainId}
 use Rattle.map_types.specs.declared.kind.DomainId.TheVariants.{Bucket, Local, Global}
@@ -8,6 +8,7 @@ use Rattle.place_words.specs.declared.history.StrandStep.{StrandStep}
 use Rattle.place_words.specs.declared.home.Home.{Home}
 use Rattle.place_words.specs.declared.home.Home.TheVariants as homes
 use Rattle.place_words.specs.declared.owner.Owner.{Owner}
+use Rattle.place_words.specs.declared.owner.Owner.TheVariants as owners
 use Rattle.place_words.specs.declared.history.Part.{Part}
 use Rattle.place_words.specs.declared.list_part.GlobalPart.{GlobalPart}
 use Rattle.place_words.specs.declared.list_part.GlobalPart.TheVariants as global
@@ -16,7 +17,7 @@ use Rattle.place_words.specs.declared.history.Part.TheVariants as parts
 use Rattle.key_hash.specs.Bucket.{bucket_number}
 use Rattle.map_types.specs.Kind.{is_lru}
 use Rattle.place_words.specs.Histories.{Content, content, content_after}
-use Rattle.place_words.specs.Locks.{lock_count, lock_named, lock_number}
+use Rattle.place_words.specs.Locks.{lock_count, lock_named, lock_number, rank_of}
 use Rattle.place_words.specs.Openings.{first_spares}
 use Rattle.map_types.specs.declared.kind.MapKind.{MapKind}
 use Rattle.place_words.specs.declared.step.Lists.{Lists}
@@ -51,6 +52,15 @@ is_among n (x ∷ xs) = if x == n then true else is_among n xs
 abbrev pub hold_at : ℕ → List Hold → Option Hold
 hold_at k [] = None
 hold_at k (hold ∷ holds) = if hold.lock == k then Some hold else hold_at k holds
+
+-- Locks are taken in the order of their ranks: each lock held has a rank above those of the locks taken before it.
+abbrev pub IsAboveAll : Shape → ℕ → List Hold → Type 0
+IsAboveAll shape rank [] = Unit {0}
+IsAboveAll shape rank (hold ∷ holds) = (rank_of (lock_named shape hold.lock) < rank) × IsAboveAll shape rank holds
+
+abbrev pub Ascends : Shape → List Hold → Type 0
+Ascends shape [] = Unit {0}
+Ascends shape (hold ∷ holds) = IsAboveAll shape (rank_of (lock_named shape hold.lock)) holds × Ascends shape holds
 
 abbrev pub is_in_hand_of : ℕ → ℕ → List InHand → Bool
 is_in_hand_of e cpu [] = false
@@ -185,7 +195,7 @@ first_view shape = record (spent shape) {
 }
 
 abbrev pub no_notes : Notes
-no_notes = record { came = []; marks = []; asked = []; owners = []; homes = []; flushed = []; off = [] }
+no_notes = record { came = []; marks = []; asked = []; owners = []; homes = []; flushed = []; off = []; changed = [] }
 
 -- Its strand has one step more on a word. This one and those below are numbered: so many steps on words had been made before.
 abbrev pub touching : ℕ → ℕ → Option ℕ → ℕ → View → List WordStep
@@ -418,6 +428,11 @@ with_came k e [] notes = notes
 with_came k e (hold ∷ holds) [] = []
 with_came k e (hold ∷ holds) (n ∷ notes) = if hold.lock == k then record n { came = e ∷ n.came } ∷ notes else n ∷ with_came k e holds notes
 
+-- the owner of an element is changed, which is noted of the turn of the lock taken last
+abbrev pub with_changed : ℕ → Owner → List Notes → List Notes
+with_changed e owner [] = []
+with_changed e owner (n ∷ below) = record n { changed = record { element = e; owner = owner } ∷ n.changed } ∷ below
+
 -- an element comes to the hand of a CPU, or leaves it
 abbrev pub with_in_hand : ℕ → ℕ → List InHand → List InHand
 with_in_hand e cpu hand = record { element = e; cpu = cpu } ∷ hand
@@ -490,17 +505,17 @@ now_under lock v = now_at (lock_number v.shape lock) v.held
 abbrev pub claimed : ℕ → DomainId → ℕ → ℕ → View → View
 claimed at lock e cpu v =
     moved at (lock_number v.shape lock) (with_row lock e (without_free e (now_under lock v))) (with_in_hand e cpu v.hand)
-    (with_came (lock_number v.shape lock) e v.held v.notes) (owner_word v.shape e) (1 + cpu) v
+    (with_changed e (owners.Hand cpu) (with_came (lock_number v.shape lock) e v.held v.notes)) (owner_word v.shape e) (1 + cpu) v
 
 -- an element in a CPU's hand goes to the head of a lock's free list
 abbrev pub settled : ℕ → DomainId → ℕ → ℕ → View → View
 settled at lock e cpu v =
-    moved at (lock_number v.shape lock) (with_free e (without_row e (now_under lock v))) (without_in_hand e cpu v.hand) v.notes (owner_word v.shape e) 0 v
+    moved at (lock_number v.shape lock) (with_free e (without_row e (now_under lock v))) (without_in_hand e cpu v.hand) (with_changed e owners.Free v.notes) (owner_word v.shape e) 0 v
 
 -- an element in a CPU's hand goes to the head of a bucket
 abbrev pub attached : ℕ → ℕ → ℕ → ℕ → View → View
 attached at bucket e cpu v =
-    moved at (lock_number v.shape (Bucket bucket)) (with_row (Bucket bucket) e (now_under (Bucket bucket) v)) (without_in_hand e cpu v.hand) v.notes (owner_word v.shape e) (32 + bucket) v
+    moved at (lock_number v.shape (Bucket bucket)) (with_row (Bucket bucket) e (now_under (Bucket bucket) v)) (without_in_hand e cpu v.hand) (with_changed e (owners.Bucket bucket) v.notes) (owner_word v.shape e) (32 + bucket) v
 
 -- other hashes are known
 abbrev pub with_hashes : List HashIn → View → View
@@ -515,7 +530,7 @@ with_hash_of bucket e cpu v =
 abbrev pub detached : ℕ → ℕ → ℕ → ℕ → View → View
 detached at bucket e cpu v =
     with_hash_of bucket e cpu
-    (moved at (lock_number v.shape (Bucket bucket)) (without_row e (now_under (Bucket bucket) v)) (with_in_hand e cpu v.hand) v.notes (owner_word v.shape e) (1 + cpu) v)
+    (moved at (lock_number v.shape (Bucket bucket)) (without_row e (now_under (Bucket bucket) v)) (with_in_hand e cpu v.hand) (with_changed e (owners.Hand cpu) v.notes) (owner_word v.shape e) (1 + cpu) v)
 
 -- An element leaves a home or comes to one: the lists of a lock that is held, or the hand of a CPU that carries it.
 abbrev pub held_without : Shape → Home → Owner → ℕ → List Hold → List Hold

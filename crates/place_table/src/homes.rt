@@ -6,6 +6,9 @@ ghost use Rattle.place_words.specs.declared.home.Home as homes;
 ghost use Rattle.place_words.specs.Codes.{HasHomeCode};
 ghost use Rattle.place_table.specs.Views.{is_among};
 ghost use Rattle.place_table.specs.Words.{word_count, home_word};
+ghost use Rattle.map_types.specs.Kind.{is_lru};
+ghost use Rattle.place_table.specs.declared.view.Ticket.TheVariants.{Unread};
+ghost use Rattle.place_table.specs.Owners.{IsUnchangedAround};
 ghost use Rattle.place_table.specs.Plays.{IsKnownHome, MayGoHome, Rehomes};
 
 use crate::rule::{Rehoming, SharedTable, TableSeat, Way};
@@ -30,6 +33,9 @@ pub(crate) fn rehome_word<N: Way>(
     requires home { (from : homes.Home)
         × IsKnownHome shared.now.key seat.old.me.0 cpu element from }
     requires goes { MayGoHome shared.now.key seat.old.me.0 cpu element to }
+    requires unread { seat.old.me.0.ticket ≡ Unread }
+    requires around { IsTrue (is_lru shared.now.key.kind)
+        → IsUnchangedAround seat.old.me.0 element }
     ensures seat { (seat.new.table_id ≡ seat.old.table_id) × (seat.new.id ≡ seat.old.id) }
     ensures rehomed { Rehomes element to seat.old.me seat.new.me }
 {

@@ -11,6 +11,8 @@ ghost use Rattle.place_words.specs.State.{rows, is_bucket};
 ghost use Rattle.place_table.specs.declared.view.Hold.{Hold};
 ghost use Rattle.place_table.specs.Views.{is_among, hold_at, is_in_hand_of, moved, with_hashes, claimed, settled, attached, detached};
 ghost use Rattle.place_table.specs.Words.{word_count, owner_word};
+ghost use Rattle.place_table.specs.declared.view.Ticket.TheVariants.{Unread};
+ghost use Rattle.place_table.specs.Owners.{IsUnchangedAround, IsFreeAround};
 ghost use Rattle.place_table.specs.Plays.{Claims, Settles, Attaches, Detaches, IsHashedInto};
 
 use crate::rule::{Deed, Moving, SharedTable, TableSeat};
@@ -37,6 +39,8 @@ pub(crate) fn claim_word<N: Deed>(
         × (hold.cpu ≡ cpu) × IsHead element hold.now.free }
     requires element { element < shared.now.key.elements }
     requires code { HasOwnerCode (owners.Hand cpu) }
+    requires unread { seat.old.me.0.ticket ≡ Unread }
+    requires around { IsTrue (is_lru shared.now.key.kind) → IsUnchangedAround seat.old.me.0 element }
     ensures seat { (seat.new.table_id ≡ seat.old.table_id) × (seat.new.id ≡ seat.old.id) }
     ensures claimed { Claims lock element cpu seat.old.me seat.new.me }
 {
@@ -68,6 +72,8 @@ pub(crate) fn settle_word<N: Deed>(
     requires element { element < shared.now.key.elements }
     requires hand { (is_among cpu seat.old.me.0.cpus ≡ true)
         × (is_in_hand_of element cpu seat.old.me.0.hand ≡ true) }
+    requires unread { seat.old.me.0.ticket ≡ Unread }
+    requires around { IsTrue (is_lru shared.now.key.kind) → IsFreeAround seat.old.me.0 element }
     ensures seat { (seat.new.table_id ≡ seat.old.table_id) × (seat.new.id ≡ seat.old.id) }
     ensures settled { Settles lock element cpu seat.old.me seat.new.me }
 {
@@ -104,6 +110,8 @@ pub(crate) fn attach_word<N: Deed>(
         → is_in_hand_of element cpu seat.old.me.0.carried ≡ false }
     requires hashed { IsTrue (is_lru shared.now.key.kind)
         → IsHashedInto shared.now.key seat.old.me.0 bucket element cpu }
+    requires unread { seat.old.me.0.ticket ≡ Unread }
+    requires around { IsTrue (is_lru shared.now.key.kind) → IsFreeAround seat.old.me.0 element }
     ensures seat { (seat.new.table_id ≡ seat.old.table_id) × (seat.new.id ≡ seat.old.id) }
     ensures attached { Attaches bucket element cpu seat.old.me seat.new.me }
 {
@@ -133,6 +141,8 @@ pub(crate) fn detach_word<N: Deed>(
         ≡ Some hold) × (hold.cpu ≡ cpu) × IsIn element hold.now.first }
     requires element { element < shared.now.key.elements }
     requires code { HasOwnerCode (owners.Hand cpu) }
+    requires unread { seat.old.me.0.ticket ≡ Unread }
+    requires around { IsTrue (is_lru shared.now.key.kind) → IsFreeAround seat.old.me.0 element }
     ensures seat { (seat.new.table_id ≡ seat.old.table_id) × (seat.new.id ≡ seat.old.id) }
     ensures detached { Detaches bucket element cpu seat.old.me seat.new.me }
 {

@@ -3,7 +3,7 @@
 ghost use Rattle.std.specs.Prelude.{◌≡◌, ℕ, List, [], ◌+◌, ◌*◌, ◌<◌, ◌^◌, ◌∷◌, ◌++◌, length, true, IsTrue, MatchBool, MatchOption, IfSome, IfNone, Some, None};
 ghost use Rattle.atomic_table.specs.Table.{rest};
 ghost use Rattle.map_types.specs.declared.kind.DomainId.TheVariants as locks;
-ghost use Rattle.place_words.specs.Locks.{lock_count, lock_named, lock_number, is_lock, rank_of};
+ghost use Rattle.place_words.specs.Locks.{lock_count, lock_named, lock_number, is_lock};
 ghost use Rattle.map_types.specs.ElementLists.{IsIn};
 ghost use Rattle.place_words.specs.State.{rows};
 ghost use Rattle.place_table.specs.declared.content.Behind.{Behind};
@@ -12,7 +12,7 @@ ghost use Rattle.place_table.specs.declared.view.Hold.{Hold};
 ghost use Rattle.place_words.specs.declared.history.Part as history;
 ghost use Rattle.place_table.specs.declared.view.Notes.{Notes};
 ghost use Rattle.place_table.specs.Views.{is_among, hold_at, is_in_hand_of, kept_step, split_from, split_off, joined, numbered_entry, ticket_of};
-ghost use Rattle.place_table.specs.Rules.{IsAboveAll};
+ghost use Rattle.place_table.specs.Nested.{MayTake};
 ghost use Rattle.place_table.specs.Words.{word_count, owner_word, home_word, bit_word, ticket_word};
 ghost use Rattle.place_table.specs.declared.view.Ticket.TheVariants.{Unread};
 ghost use Rattle.place_table.specs.Plays.{MayClear, Took, MayGive, IsInnermost, GivesBack, GivesSome, entry_by, TakesTicket, SeesTicket, Marks, Clears, SeesBit, SeesOwner, SeesHome};
@@ -39,8 +39,7 @@ pub(crate) fn try_lock(shared: &SharedTable, seat: &mut TableSeat, lock: u32, cp
         × IsTrue (is_lock shared.now.key (lock_named shared.now.key lock)) }
     requires cpu { is_among cpu seat.old.me.0.cpus ≡ true }
     requires unread { seat.old.me.0.ticket ≡ Unread }
-    requires above { IsAboveAll shared.now.key (rank_of
-        (lock_named shared.now.key lock)) seat.old.me.0.held }
+    requires above { MayTake shared.now.key (lock_named shared.now.key lock) seat.old.me.0 }
     ensures seat { (seat.new.table_id ≡ seat.old.table_id) × (seat.new.id ≡ seat.old.id) }
     ensures took { MatchBool result (Took lock cpu seat.old.me seat.new.me)
         (seat.new.me ≡ seat.old.me) }
@@ -62,8 +61,7 @@ pub(crate) fn take_lock<R: Wait>(
         × IsTrue (is_lock shared.now.key (lock_named shared.now.key lock)) }
     requires cpu { is_among cpu seat.old.me.0.cpus ≡ true }
     requires unread { seat.old.me.0.ticket ≡ Unread }
-    requires above { IsAboveAll shared.now.key (rank_of
-        (lock_named shared.now.key lock)) seat.old.me.0.held }
+    requires above { MayTake shared.now.key (lock_named shared.now.key lock) seat.old.me.0 }
     ensures seat { (seat.new.table_id ≡ seat.old.table_id) × (seat.new.id ≡ seat.old.id) }
     ensures took { Took lock cpu seat.old.me seat.new.me }
 {
@@ -313,6 +311,7 @@ pub(crate) fn read_owner<N: About>(
     requires words { (shared.now.table_id.words ≡ word_count shared.now.key)
         × (word ≡ owner_word shared.now.key element) }
     requires element { (element < shared.now.key.elements) × (N.element ≡ element) }
+    requires unread { seat.old.me.0.ticket ≡ Unread }
     ensures seat { (seat.new.table_id ≡ seat.old.table_id) × (seat.new.id ≡ seat.old.id) }
     ensures seen { SeesOwner element seat.old.me result seat.new.me }
 {

@@ -5,7 +5,7 @@ ghost use Rattle.map_types.specs.Kind.{is_lru};
 ghost use Rattle.place_words.specs.Locks.{lock_number, lock_count, is_lock};
 ghost use Rattle.place_table.specs.Views.{is_among, is_in_hand_of};
 ghost use Rattle.place_table.specs.Words.{word_count, owner_word, home_word, bit_word, ticket_word};
-ghost use Rattle.place_table.specs.Passes.{IsPassOf, HasBegun, HasOnlySpares, begun, CanTake, TookLock, CanGive, CanGiveSome, MayGiveBack, Gave, GaveSome, GaveBack, CanClaim, Claimed, CanSettle, Settled, CanAttach, Attached, Detached, CanMark, Marked, CanRehome, Rehomed, CanClear, CanLook, Cleared, SawBit, SawOwner, SawHome, SawTicket, IsInNoCall};
+ghost use Rattle.place_table.specs.Passes.{IsPassOf, HasBegun, HasOnlySpares, begun, CanTake, TookLock, CanGive, CanGiveSome, MayGiveBack, Gave, GaveSome, GaveBack, CanClaim, Claimed, CanSettle, Settled, CanAttach, Attached, CanDetach, Detached, CanMark, Marked, CanRehome, Rehomed, CanClear, CanLook, Cleared, SawBit, SawOwner, SawHome, SawTicket, IsInNoCall};
 
 use crate::content::{Behind, Content};
 use crate::gate_points::{At, Points};
@@ -245,7 +245,7 @@ impl PlaceTable {
 
     /// Takes an element of a bucket that the CPU holds into the CPU's hand.
     pub fn detach(&self, pass: &mut Pass, element: u32, bucket: u32)
-        requires { CanMark self.now element bucket pass.old }
+        requires { CanDetach self.now element bucket pass.old }
         ensures { Detached bucket element pass.old pass.new }
     {
         let shared = &self.table.shared;

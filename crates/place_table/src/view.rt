@@ -59,7 +59,7 @@ pub struct BitAsked {
     pub cleared: bool,
 }
 
-/// The owner of an element, as it was read.
+/// An owner of an element.
 pub struct OwnerSeen {
     pub element: u64,
     pub owner: Owner,
@@ -126,6 +126,8 @@ pub struct Notes {
     /// The elements that went from these local lists to the global ones, straight or by way of a hand, also where they came back
     /// since.
     pub off: LinkedList<u64>,
+    /// The elements whose owners were changed, with what they were changed to.
+    pub changed: LinkedList<OwnerSeen>,
 }
 
 /// The turns of a lock that isn't held, as a pass with all CPUs knows them.

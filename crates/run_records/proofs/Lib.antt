@@ -26,11 +26,16 @@ pub mod SerialRun
 pub mod Whole
 pub mod RaceKept
 pub mod RaceCalls
+pub mod RaceEnds
 pub mod RaceFinals
 pub mod RaceListed
 pub mod RaceHistories
 pub mod RaceTickets
 pub mod RaceParts
+pub mod PartRanks
+pub mod NestedStrands
+pub mod NestsInOrder
 pub mod RaceRecord
+pub mod NestsOfRaces
 pub mod ShapeOrder
 pub mod Shaped

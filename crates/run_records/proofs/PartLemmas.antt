@@ -272,7 +272,7 @@ of_one k (q ∷ mine) (suc i) part j turn at is =
 
 module _ (shape : Shape) where
   -- where a part stands its strand does, which has the turns of parts that stand there
-  its_strand : (parts : List Part) (strands : List Ended) → AreCut shape parts strands → (i : ℕ) (part : Part) → slice_get parts i ≡ Some part
+  pub its_strand : (parts : List Part) (strands : List Ended) → AreCut shape parts strands → (i : ℕ) (part : Part) → slice_get parts i ≡ Some part
       → (n : ℕ) × (strand : Ended) × (mine : List Part) × (m : ℕ) × (slice_get strands n ≡ Some strand) × (slice_get mine m ≡ Some part) × (strand.steps ≡ turns_in mine) × (strand.kept ≡ kept_in mine)
       × ((j : ℕ) (q : Part) → slice_get mine j ≡ Some q → (l : ℕ) × (slice_get parts l ≡ Some q))
   its_strand parts [] cut i part at = absurd (none-some part (sym (ap (λ (l : List Part). slice_get l i) cut) ∙ at))

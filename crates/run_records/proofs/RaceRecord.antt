@@ -1,6 +1,6 @@
--- What is kept of a race whose closed table lost no record is a record of its script.
+-- What is kept of a race whose closed table lost no record is a record of its script, where its nests stand apart.
 use Rattle.std.proofs.Common.{◌≡◌, ◌≢◌, ◌⊎◌, ℕ, zero, suc, ◌+◌, ◌<◌, ◌≤◌, true, false, eqb, List, [], length, map, Option, Some, None, refl, ap, sym, ◌∙◌, subst, arith, inl, inr}
-use Rattle.std.specs.Prelude.{All, IsTrue, MatchBool, MatchOption, ⊤, filter, option_map, slice_get}
+use Rattle.std.specs.Prelude.{All, IsTrue, IsFalse, MatchBool, MatchOption, ⊤, filter, option_map, slice_get}
 use Rattle.std.specs.List.{AllByRecursion, range_with_len}
 use Rattle.std.proofs.lemmas.Bool.{cases_lt, eq-eqb, ne_eqb}
 use Rattle.std.proofs.lemmas.List.Elements.{recursion_from_All, All-from_recursion, All-weaker, All-filter, All-take, All-drop}
@@ -28,6 +28,7 @@ use Rattle.place_words.specs.Strands.{places_on}
 use Rattle.place_words.specs.Tickets.{AscendIn, tickets_of, all_entries, ticket_at, AreTicketed}
 use Rattle.place_words.proofs.Ascending.{ascend_from, ascend_to}
 use Rattle.place_words.proofs.LockLemmas.{named_by_number, number_within}
+use Rattle.owner_words.specs.Owners.{OwnersTold}
 use Rattle.place_table.specs.declared.view.Turned.{Turned}
 use Rattle.place_table.specs.declared.view.View.{View}
 use Rattle.place_table.specs.Calls.{element_of}
@@ -36,6 +37,7 @@ use Rattle.place_table.specs.Passes.{PassView, TableView, IsKeptOf, spare_of}
 use Rattle.place_table.specs.Rules.{indexes, turns_on, StandIn}
 use Rattle.place_table.specs.Tickets.{turn_tickets}
 use Rattle.place_table.specs.Views.{bit_seen, next}
+use Rattle.turn_order.specs.Nests.{NestsApart}
 use Rattle.map_report.specs.declared.record.PhaseStart.{PhaseStart}
 use Rattle.map_report.specs.declared.record.RunRecord.{RunRecord}
 use Rattle.map_report.specs.Phases.{HasExactPhases}
@@ -81,16 +83,16 @@ use Rattle.run_records.proofs.PhaseStates.{evicts_not, spareless_there}
 module _ (script : Script) (table : TableView) (created : IsShape script.shape) (is_served : IsServed script) (cuts : Rise 0 script.cuts (length script.calls))
     (now : PassView) (replies : List Reply) (starts : List PhaseStart) (pieces : List Piece) (come : HaveComeTo (record { id = table.id; shape = script.shape }) script (phase_count script.cuts) now replies starts pieces)
     (closed : ClosedView) (ends : IsClosed script.shape now closed) (whole : closed.lost ≡ false) where
-  abbrev t : TableView
+  abbrev pub t : TableView
   t = record { id = table.id; shape = script.shape }
 
-  abbrev shape : Shape
+  abbrev pub shape : Shape
   shape = script.shape
 
-  abbrev p : ℕ
+  abbrev pub p : ℕ
   p = phase_count script.cuts
 
-  abbrev did : ℕ → Done
+  abbrev pub did : ℕ → Done
   did = exact.did script table created is_served p now replies starts pieces come closed ends whole
 
   abbrev left : RunRecord
@@ -102,7 +104,7 @@ module _ (script : Script) (table : TableView) (created : IsShape script.shape) 
   served : (q : ℕ) → All (λ (call : Call). call.cpu < shape.cpus) (calls_of script q)
   served q = exact.served script table created is_served p now replies starts pieces come closed ends whole q
 
-  abbrev bound : ℕ → ℕ
+  abbrev pub bound : ℕ → ℕ
   bound = exact.bound script table created is_served p now replies starts pieces come closed ends whole
 
   abbrev spares : ℕ → ℕ → Option ℕ
@@ -114,7 +116,7 @@ module _ (script : Script) (table : TableView) (created : IsShape script.shape) 
   lost_at : (q : ℕ) → q < p → (did q).now.view.lost ≡ []
   lost_at q less = moments.lost_at t script (exact.some script table created is_served p now replies starts pieces come closed ends whole) (exact.served script table created is_served p now replies starts pieces come closed ends whole) p now replies starts pieces come (exact.sound script table created is_served p now replies starts pieces come closed ends whole) q less
 
-  made : (q cpu : ℕ) → q < p → cpu < shape.cpus → All (λ (step : Turned). (step.entry.cpu ≡ cpu) × (phase_of script.cuts step.entry.call ≡ q)) ((did q).turns cpu)
+  pub made : (q cpu : ℕ) → q < p → cpu < shape.cpus → All (λ (step : Turned). (step.entry.cpu ≡ cpu) × (phase_of script.cuts step.entry.call ≡ q)) ((did q).turns cpu)
   made q cpu less real = moments.made t script (exact.some script table created is_served p now replies starts pieces come closed ends whole) (exact.served script table created is_served p now replies starts pieces come closed ends whole) p now replies starts pieces come (exact.sound script table created is_served p now replies starts pieces come closed ends whole) cuts refl q cpu less real
 
   real_turns : (q cpu : ℕ) → q < p → cpu < shape.cpus → All (IsOfMap shape) ((did q).turns cpu)
@@ -131,7 +133,7 @@ module _ (script : Script) (table : TableView) (created : IsShape script.shape) 
   spares_now : (q : ℕ) → q < p → (cpu : ℕ) → element_of (spare_of cpu (did q).now.spares) ≡ spares (suc q) cpu
   spares_now q less cpu = ap (λ (v : PassView). element_of (spare_of cpu v.spares)) (sym (moments.at_end t script (exact.some script table created is_served p now replies starts pieces come closed ends whole) (exact.served script table created is_served p now replies starts pieces come closed ends whole) p now replies starts pieces come q less))
 
-  calls_by : (q cpu : ℕ) → q < p → cpu < shape.cpus → AreCallsBy shape cpu (suc (first_of script q)) (calls_of script q) (spares q cpu) (spares (suc q) cpu) (replies_of cpu (calls_of script q) (did q).told) ((did q).turns cpu)
+  pub calls_by : (q cpu : ℕ) → q < p → cpu < shape.cpus → AreCallsBy shape cpu (suc (first_of script q)) (calls_of script q) (spares q cpu) (spares (suc q) cpu) (replies_of cpu (calls_of script q) (did q).told) ((did q).turns cpu)
   calls_by q cpu less real =
       subst (λ (z : Option ℕ × Option ℕ). AreCallsBy shape cpu (suc (first_of script q)) (calls_of script q) z.0 z.1 (replies_of cpu (calls_of script q) (did q).told) ((did q).turns cpu))
       (λ i. (spares_begun q less cpu i, spares_now q less cpu i)) ((exact.fact script table created is_served p now replies starts pieces come closed ends whole q less).calls_are (lost_at q less) cpu real)
@@ -158,7 +160,7 @@ module _ (script : Script) (table : TableView) (created : IsShape script.shape) 
 
   -- Strands
 
-  abbrev parts : List Part
+  abbrev pub parts : List Part
   parts = parts_to t script did p
 
   -- what holds of each CPU in each phase holds of each part
@@ -175,7 +177,7 @@ module _ (script : Script) (table : TableView) (created : IsShape script.shape) 
       All-from_recursion (λ (part : Part). IsKeptOf shape part.turns [] part.kept) parts
       (by_cpu (λ (part : Part). IsKeptOf shape part.turns [] part.kept) (λ q cpu less real c is. (exact.fact script table created is_served p now replies starts pieces come closed ends whole q less).kept cpu real))
 
-  parts_real : All (λ (part : Part). All (IsOfMap shape) part.turns) parts
+  pub parts_real : All (λ (part : Part). All (IsOfMap shape) part.turns) parts
   parts_real = All-from_recursion (λ (part : Part). All (IsOfMap shape) part.turns) parts (by_cpu (λ (part : Part). All (IsOfMap shape) part.turns) (λ q cpu less real c is. real_turns q cpu less real))
 
   left_strands : left.strands ≡ map (strand_of shape) parts
@@ -192,7 +194,7 @@ module _ (script : Script) (table : TableView) (created : IsShape script.shape) 
       let at = mapped_there (strand_of shape) parts n strand (ap (λ (l : List Strand). slice_get l n) (sym left_strands) ∙ is) in
       subst Q at.2 (all_at (λ (part : Part). Q (strand_of shape part)) parts (All-from_recursion (λ (part : Part). Q (strand_of shape part)) parts all) n at.0 at.1)
 
-  stands : (q cpu : ℕ) → q < p → cpu < shape.cpus → (c : Option ℕ) → (((c ≡ Some cpu) × (lone_cpu (calls_of script q) ≡ None)) ⊎ ((c ≡ None) × (lone_cpu (calls_of script q) ≡ Some cpu))) → AllByRecursion (StandsThere shape closed.histories) ((did q).turns cpu)
+  pub stands : (q cpu : ℕ) → q < p → cpu < shape.cpus → (c : Option ℕ) → (((c ≡ Some cpu) × (lone_cpu (calls_of script q) ≡ None)) ⊎ ((c ≡ None) × (lone_cpu (calls_of script q) ≡ Some cpu))) → AllByRecursion (StandsThere shape closed.histories) ((did q).turns cpu)
   stands q cpu less real c is =
       let at = part_there t script did p q cpu less real in
       let its : StandIn ends.log ((did q).turns cpu) =
@@ -476,15 +478,30 @@ module _ (script : Script) (table : TableView) (created : IsShape script.shape) 
         exact_gets script created (All-weaker (IsServedCall shape) (λ (call : Call). call.cpu < shape.cpus) (λ call one. one.cpu) script.calls is_served.calls) left spares q is (exact.start_is script table created is_served p now replies starts pieces come closed ends whole q less),
       )
 
-  is_race_record : IsRaceRecord script left
+  owners : IsTrue (is_lru shape.kind) → OwnersTold shape (entries_of closed.histories)
+  owners evicts =
+      let told = ends.owners evicts whole in
+      record {
+        owner = told.owner;
+        first = told.first;
+        told = λ lock place entry real at. told.told lock place entry real (at_log lock place entry real at);
+        seen = λ lock place entry real at. told.seen lock place entry real (at_log lock place entry real at);
+      }
+    where
+      at_log : (lock : DomainId) (place : ℕ) (entry : Entry) → IsTrue (is_lock shape lock) → slice_get (entries_of closed.histories lock) place ≡ Some entry → slice_get (ends.log (lock_number shape lock)) place ≡ Some entry
+      at_log lock place entry real at = ap (λ (l : List Entry). slice_get l place) (sym (entries_told shape now closed ends whole lock real)) ∙ at
+
+  pub is_race_record : NestsApart left.histories → IsRaceRecord script left
   unfolding is_record
-  is_race_record = record {
+  is_race_record nests = record {
     is_record = is_record;
     strand_each = ap (map named_by) left_strands ∙ strands_told_to t script did p;
     exact = exact_phases;
+    nests = nests;
+    owners = owners;
   }
 
-  is_copy : IsCopyOf left closed
+  pub is_copy : IsCopyOf left closed
   is_copy = record {
     histories = refl;
     strands = subst (λ (l : List Strand). Rattle.run_records.specs.Copies.IsCutOf (filter Rattle.run_records.specs.Copies.has_step l) closed.strands) (sym left_strands)
@@ -492,13 +509,3 @@ module _ (script : Script) (table : TableView) (created : IsShape script.shape) 
     finals = refl;
     whole = whole;
   }
-
--- What is kept of a race, where the closed table lost no record: a record of the script, and a copy of what the table left.
-pub race_is_record : (script : Script) (t : TableView) (now : PassView) (replies : List Reply) (starts : List PhaseStart) (pieces : List Piece) (closed : ClosedView) → t.shape ≡ script.shape → IsShape script.shape → IsServed script → Rise 0 script.cuts (length script.calls)
-    → HaveComeTo t script (phase_count script.cuts) now replies starts pieces → IsClosed t.shape now closed → closed.lost ≡ false
-    → IsRaceRecord script (record_left script.shape.cpus pieces replies starts closed) × IsCopyOf (record_left script.shape.cpus pieces replies starts closed) closed
-race_is_record script t now replies starts pieces closed same created served cuts come ends whole =
-    let of_script : t ≡ record { id = t.id; shape = script.shape } = λ i. record { id = t.id; shape = same i } in
-    let here = subst (λ (table : TableView). HaveComeTo table script (phase_count script.cuts) now replies starts pieces) of_script come in
-    let left : IsClosed script.shape now closed = subst (λ (shape : Shape). IsClosed shape now closed) same ends in
-    (is_race_record script t created served cuts now replies starts pieces here closed left whole, is_copy script t created served cuts now replies starts pieces here closed left whole)

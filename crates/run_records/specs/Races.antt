@@ -1,14 +1,18 @@
 -- A race, phase by phase: what stands at each phase's start is read, and its calls are run, by one pass that has all CPUs where one CPU
 -- makes them all, else by workers, one for each CPU.
-use Rattle.std.specs.Prelude.{◌≡◌, ℕ, zero, suc, ◌-◌, List, [], ◌∷◌, ◌++◌, MatchOption, Option, None, Some, length, map}
+use Rattle.std.specs.Prelude.{◌≡◌, IsTrue, IsFalse, ℕ, zero, suc, ◌-◌, List, [], ◌∷◌, ◌++◌, MatchOption, Option, None, Some, length, map}
 use Rattle.std.specs.List.{flat_map, range_with_len}
 use Rattle.map_types.specs.declared.call.Call.{Call}
 use Rattle.map_types.specs.declared.reply.Reply.{Reply}
+use Rattle.map_types.specs.Kind.{is_lru}
 use Rattle.map_script.specs.declared.script.Script.{Script}
 use Rattle.place_words.specs.declared.history.Strand.{Strand}
 use Rattle.place_words.specs.AtRest.{IsStart}
+use Rattle.place_words.specs.Named.{entries_of}
 use Rattle.place_words.specs.Phases.{phase_count, calls_before, of_phase}
+use Rattle.owner_words.specs.Owners.{OwnersTold}
 use Rattle.place_table.specs.Passes.{PassView, TableView, IsFirstPass}
+use Rattle.turn_order.specs.Nests.{NestsApart}
 use Rattle.map_report.specs.declared.record.PhaseStart.{PhaseStart}
 use Rattle.map_report.specs.declared.record.RunRecord.{RunRecord}
 use Rattle.map_report.specs.Phases.{HasExactPhases}
@@ -72,8 +76,12 @@ strands_in script p = strands_by script.shape.cpus p (lone_cpu (calls_of script 
 
 -- What is kept of a race is a record of the script. In each phase whose calls are all of one CPU, or that has none, all CPUs are in one
 -- strand; in each other each CPU has its own, in the order of the CPUs. And in each phase whose calls are all of one CPU, or that has
--- none, what happens is determined by the state at its start, and no reply is ENOMEM.
+-- none, what happens is determined by the state at its start, and no reply is ENOMEM. The turns that stand before one in the
+-- history of its lock have lower tickets than those that were made inside it. On a map that evicts the turns tell the owners of elements
+-- in the order of their tickets.
 pub record IsRaceRecord (script : Script) (kept : RunRecord) : Type 0 where
   pub is_record : IsRecord script kept
   pub strand_each : map (λ (strand : Strand). (strand.phase, strand.cpus)) kept.strands ≡ flat_map (strands_in script) (range_with_len 0 (phase_count script.cuts))
   pub exact : HasExactPhases script kept is_record.spares
+  pub nests : NestsApart kept.histories
+  pub owners : IsTrue (is_lru script.shape.kind) → OwnersTold script.shape (entries_of kept.histories)

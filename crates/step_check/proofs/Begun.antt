@@ -107,13 +107,13 @@ by_ticket (x ∷ later) y z own (inr at) (inl also) same = absurd (own.0 y at (s
 by_ticket (x ∷ later) y z own (inr at) (inr there) same = by_ticket later y z own.1 at there same
 
 -- what has begun with one turn more
-among_more : (t u : ℕ) (begun : List ℕ) → among (t ∷ begun) u ≡ true → (t ≡ u) ⊎ (among begun u ≡ true)
+pub among_more : (t u : ℕ) (begun : List ℕ) → among (t ∷ begun) u ≡ true → (t ≡ u) ⊎ (among begun u ≡ true)
 among_more t u begun = by_test t u (λ b. (b || among begun u) ≡ true → (t ≡ u) ⊎ (among begun u ≡ true)) (λ is _. inl is) (λ is_not has. inr has)
 
-among_first : (t u : ℕ) (begun : List ℕ) → t ≡ u → among (t ∷ begun) u ≡ true
+pub among_first : (t u : ℕ) (begun : List ℕ) → t ≡ u → among (t ∷ begun) u ≡ true
 among_first t u begun is = ap (λ (b : Bool). b || among begun u) (eq-eqb t u is)
 
-among_rest : (t u : ℕ) (begun : List ℕ) → among begun u ≡ true → among (t ∷ begun) u ≡ true
+pub among_rest : (t u : ℕ) (begun : List ℕ) → among begun u ≡ true → among (t ∷ begun) u ≡ true
 among_rest t u begun has = by_test t u (λ b. (b || among begun u) ≡ true) (λ _. refl) (λ _. has)
 
 -- It is said of what has begun as far as tickets tell, and of holders alone.
@@ -350,17 +350,36 @@ over_both shape [] more w = refl
 over_both shape (does step ∷ some) more w = over_both shape some more (words_after shape w step)
 over_both shape (sees e holder ∷ some) more w = over_both shape some more w
 
+-- The words after a turn's block: nobody holds its lock, and else it is as after the taking of its locks.
+steps_holder : (shape : Shape) (xs : List Step) (w : Words) → AreWithin xs → (words_over shape w (map does xs)).holder ≡ w.holder
+unfolding words_over
+steps_holder shape [] w are = refl
+steps_holder shape (x ∷ xs) w are = steps_holder shape xs (words_after shape w x) are.1 ∙ within_holder shape w x are.0
+
+pub holder_after : (shape : Shape) (around : List Drawn) (begun : List ℕ) (lists : Lists) (x : Drawn) (w : Words)
+    → (words_over shape w (turn_events shape around begun lists x)).holder ≡ put (words_over shape w (map takes (not_begun begun (around ++ x ∷ [])))).holder (lock_number shape x.lock) None
+unfolding words_after words_over turn_events
+holder_after shape around begun lists x w =
+    let took : List Event = map takes (not_begun begun (around ++ x ∷ [])) in
+    let word : List Step = part_steps shape x.entry.cpu x.lock (bucket_around around) x.entry.part in
+    let give : List Event = does (steps.Give x.entry.cpu x.lock lists) ∷ [] in
+    ap (λ (v : Words). v.holder)
+    (over_both shape (took ++ map does word ++ seen_by x.entry.part) give w
+    ∙ ap (λ (v : Words). words_after shape v (steps.Give x.entry.cpu x.lock lists))
+    (over_both shape (took ++ map does word) (seen_by x.entry.part) w ∙ all_unseen shape x.entry.part (words_over shape w (took ++ map does word)) ∙ over_both shape took (map does word) w))
+    ∙ ap (λ (f : ℕ → Option ℕ). put f (lock_number shape x.lock) None) (steps_holder shape word (words_over shape w took) (within_part shape x.entry.cpu x.lock (bucket_around around) x.entry.part))
+
 -- Where turns stand
-stands_left : (y : Drawn) (xs ys : List Drawn) → Stands y xs → Stands y (xs ++ ys)
+pub stands_left : (y : Drawn) (xs ys : List Drawn) → Stands y xs → Stands y (xs ++ ys)
 stands_left y [] ys at = absurd at
 stands_left y (x ∷ xs) ys (inl is) = inl is
 stands_left y (x ∷ xs) ys (inr at) = inr (stands_left y xs ys at)
 
-stands_right : (y : Drawn) (xs ys : List Drawn) → Stands y ys → Stands y (xs ++ ys)
+pub stands_right : (y : Drawn) (xs ys : List Drawn) → Stands y ys → Stands y (xs ++ ys)
 stands_right y [] ys at = at
 stands_right y (x ∷ xs) ys at = inr (stands_right y xs ys at)
 
-stands_in : (y : Drawn) (xs ys : List Drawn) → Stands y (xs ++ ys) → Stands y xs ⊎ Stands y ys
+pub stands_in : (y : Drawn) (xs ys : List Drawn) → Stands y (xs ++ ys) → Stands y xs ⊎ Stands y ys
 stands_in y [] ys at = inr at
 stands_in y (x ∷ xs) ys (inl is) = inl (inl is)
 stands_in y (x ∷ xs) ys (inr at) = ⊎_elim (λ (l : Stands y xs). inl (inr l)) (λ (r : Stands y ys). inr r) (stands_in y xs ys at)
@@ -379,7 +398,7 @@ stands_around x y (z ∷ later) at = by (λ above. stands_around z y later above
     by above_it around_it false at = inr (around_it at)
 
 -- what isn't left out had begun
-taken_or_begun : (begun : List ℕ) (y : Drawn) (xs : List Drawn) → Stands y xs → (among begun y.entry.ticket ≡ true) ⊎ Stands y (not_begun begun xs)
+pub taken_or_begun : (begun : List ℕ) (y : Drawn) (xs : List Drawn) → Stands y xs → (among begun y.entry.ticket ≡ true) ⊎ Stands y (not_begun begun xs)
 taken_or_begun begun y [] at = absurd at
 taken_or_begun begun y (x ∷ xs) (inl is) =
     ⊎_elim
@@ -396,7 +415,7 @@ taken_or_begun begun y (x ∷ xs) (inr at) =
     by true there = there
     by false there = inr there
 
-not_begun_stands : (begun : List ℕ) (y : Drawn) (xs : List Drawn) → Stands y (not_begun begun xs) → Stands y xs
+pub not_begun_stands : (begun : List ℕ) (y : Drawn) (xs : List Drawn) → Stands y (not_begun begun xs) → Stands y xs
 not_begun_stands begun y [] at = at
 not_begun_stands begun y (x ∷ xs) at = by (λ there. not_begun_stands begun y xs there) (among begun x.entry.ticket) at
   where

@@ -100,7 +100,7 @@ module _ {shape : Shape} (bounds : HasBounds shape) (plain : is_lru shape.kind �
     pushes_inside (Popped e) is = tt
     pushes_inside FoundEmpty is = tt
 
-    pays : (part : Part) → x.entry.part ≡ part → PaysAt shape owed around x.lock part
+    pub pays : (part : Part) → x.entry.part ≡ part → PaysAt shape owed around x.lock part
     pays (parts.Bucket part) is =
         let lock : IsBucketLock x.lock = bucket_lock x.lock (sym (ap sort_of_part is) ∙ sort) in
         record {
@@ -142,7 +142,7 @@ module _ {shape : Shape} (bounds : HasBounds shape) (plain : is_lru shape.kind �
     owes_free (Popped e) is = stays is refl (λ same. absurd (omega (arith, same)))
     owes_free FoundEmpty is = stays is refl (λ same. absurd (omega (arith, same)))
 
-    owes_then : (part : Part) → x.entry.part ≡ part → Owes (owed_after around x.lock part owed) (begun_after x later begun) later
+    pub owes_then : (part : Part) → x.entry.part ≡ part → Owes (owed_after around x.lock part owed) (begun_after x later begun) later
     owes_then (parts.Bucket part) is =
         let lock : IsBucketLock x.lock = bucket_lock x.lock (sym (ap sort_of_part is) ∙ sort) in
         subst (λ (l : DomainId). Owes (owed_given (bucket_of_lock l) owed) (begun_after x later begun) later) (sym lock.is)
@@ -197,7 +197,7 @@ given_none (Some c) owed none b = by_test b c (λ _. put owed c [] b ≡ [])
     (λ other. put_else owed c [] b other ∙ none b)
 
 module _ (shape : Shape) (evicts : is_lru shape.kind ≡ true) (apart : shape.common ≡ false) where
-  own_pays : (x : Drawn) (owed : ℕ → List ℕ) (outer : Option ℕ) → ((b : ℕ) → owed b ≡ []) → IsTrue (is_lock shape x.lock) → (part : Part) → sort_of_part part ≡ sort_of_lock x.lock → PaysAt shape owed outer x.lock part
+  pub own_pays : (x : Drawn) (owed : ℕ → List ℕ) (outer : Option ℕ) → ((b : ℕ) → owed b ≡ []) → IsTrue (is_lock shape x.lock) → (part : Part) → sort_of_part part ≡ sort_of_lock x.lock → PaysAt shape owed outer x.lock part
   own_pays x owed outer none on (parts.Bucket part) sort =
       let lock : IsBucketLock x.lock = bucket_lock x.lock sort in
       record {

@@ -210,7 +210,7 @@ module _ (shape : Shape) (plain : is_lru shape.kind ≡ false) where
   trace_nested cpu spare (verbs.Each flags stop) turns reply trace = handing_nested cpu (StopsAt stop) flags (turns_of turns) reply trace
 
 -- the turns of a call, in an order, without what came before each on its lock
-its_turns : (call : ℕ) (before turns : List Drawn) → turns_of (map (λ (placed : Placed). placed.at) (filter (is_of call) (placed_after before turns))) ≡ map turn_of (its call turns)
+pub its_turns : (call : ℕ) (before turns : List Drawn) → turns_of (map (λ (placed : Placed). placed.at) (filter (is_of call) (placed_after before turns))) ≡ map turn_of (its call turns)
 its_turns call before [] = refl
 its_turns call before (x ∷ later) = by (eqb x.entry.call call) (its_turns call (before ++ x ∷ []) later)
   where

@@ -59,13 +59,13 @@ use Rattle.step_check.proofs.SharedNests.{Stage, idle}
 use Rattle.step_check.proofs.SharedTurns.{Here, shared_here, going_on, refill_around, outer_begun, outer_lock, at_rest_global, freed_there, global_named, local_is, mine}
 use Rattle.step_check.proofs.Standing.{Standing, lists_as, turn_block, other_enabled}
 
-each_of : (P : ℕ → Type 0) (es : List ℕ) → All P es → (e : ℕ) → 1 ≤ times e es → P e
+pub each_of : (P : ℕ → Type 0) (es : List ℕ) → All P es → (e : ℕ) → 1 ≤ times e es → P e
 each_of P [] all e = λ some. absurd (omega (arith, some))
 each_of P (x ∷ es) all e = by_test x e (λ b. 1 ≤ cond b (suc (times e es)) (times e es) → P e)
     (λ same _. subst P same (All-head P x es all))
     (λ other some. each_of P es (All-tail P x es all) e some)
 
-all_of : (P : ℕ → Type 0) (es : List ℕ) → ((e : ℕ) → 1 ≤ times e es → P e) → All P es
+pub all_of : (P : ℕ → Type 0) (es : List ℕ) → ((e : ℕ) → 1 ≤ times e es → P e) → All P es
 all_of P [] each = All-nil P
 all_of P (x ∷ es) each = All-cons P x es (each x (by_test x x (λ b. 1 ≤ cond b (suc (times x es)) (times x es)) (λ _. omega arith) (λ other. absurd (other refl))))
     (all_of P es (λ e some. each e (by_test x e (λ b. 1 ≤ cond b (suc (times e es)) (times e es)) (λ _. omega arith) (λ _. some))))
@@ -77,25 +77,25 @@ owned_is (owners.Hand c) other = refl
 
 module _ {shape : Shape} (bounds : HasBounds shape) (lru : is_lru shape.kind ≡ true) (common : IsTrue shape.common) (cpu_of : ℕ → ℕ) where
   -- A turn at its place, with what is known of the turns, and with the state of the core.
-  record At (contents : DomainId → Content) (m : Midst) (begun : List ℕ) (before : List Drawn) (x : Drawn) (later : List Drawn) (stage : ℕ → Stage) (s : State) : Type 0 where
-    going : Going shape cpu_of contents m begun before (x ∷ later) stage
-    standing : Standing shape contents m s
-    held : Held shape (words_of s) begun (x ∷ later)
-    ranks : HoldsOneOfRank shape s.holder
-    on : AreOnLocks shape (x ∷ later)
-    allowed : Allows shape x.entry.cpu x.entry.part (contents x.lock)
-    tickets : HaveOwnTickets (x ∷ later)
-    its : AreByCpu cpu_of (x ∷ later)
-    own : AreOwn (x ∷ later)
+  pub record At (contents : DomainId → Content) (m : Midst) (begun : List ℕ) (before : List Drawn) (x : Drawn) (later : List Drawn) (stage : ℕ → Stage) (s : State) : Type 0 where
+    pub going : Going shape cpu_of contents m begun before (x ∷ later) stage
+    pub standing : Standing shape contents m s
+    pub held : Held shape (words_of s) begun (x ∷ later)
+    pub ranks : HoldsOneOfRank shape s.holder
+    pub on : AreOnLocks shape (x ∷ later)
+    pub allowed : Allows shape x.entry.cpu x.entry.part (contents x.lock)
+    pub tickets : HaveOwnTickets (x ∷ later)
+    pub its : AreByCpu cpu_of (x ∷ later)
+    pub own : AreOwn (x ∷ later)
 
   module _ (contents : DomainId → Content) (m : Midst) (begun : List ℕ) (before : List Drawn) (x : Drawn) (later : List Drawn) (stage : ℕ → Stage) (s : State) (at : At contents m begun before x later stage s) where
-    abbrev around : List Drawn
+    abbrev pub around : List Drawn
     around = enclosing x later
 
-    abbrev now : DomainId → Content
+    abbrev pub now : DomainId → Content
     now = after_turn shape x.entry.cpu contents (turn_of x)
 
-    abbrev events : List Event
+    abbrev pub events : List Event
     events = turn_events shape around begun (lists_in (now x.lock)) x
 
     made_of : RunsByWords shape (words_of s) events → Made shape (words_of s) (lists_in (now x.lock)) x later begun []
@@ -148,7 +148,7 @@ module _ {shape : Shape} (bounds : HasBounds shape) (lru : is_lru shape.kind ≡
         (ap rank_of (named_by_number shape (Local d) d_is) ∙ sym (ap rank_of (named_by_number shape (Local c) (local_is shape lru common cpu_of c h.within))))
 
     -- What may be done by words, and flushes nothing that is free, may be done; then it is so again.
-    turn_made : RunsByWords shape (words_of s) events → FlushesListed (words_of s) x.entry.part
+    pub turn_made : RunsByWords shape (words_of s) events → FlushesListed (words_of s) x.entry.part
         → AreEnabled shape s events × Standing shape now (midst_after m x.entry.cpu x.lock x.entry.part) (state_after shape s events)
     turn_made words listed = by x.entry.part refl
       where
@@ -218,15 +218,15 @@ module _ {shape : Shape} (bounds : HasBounds shape) (lru : is_lru shape.kind ≡
         by (parts.Own part) is = subst (FlushesListed (words_of s)) (sym is) (All-nil _)
 
     -- the next turn at its place
-    next_going : RunsByWords shape (words_of s) events → Going shape cpu_of now (midst_after m x.entry.cpu x.lock x.entry.part) (begun_after x later begun) (before ++ x ∷ []) later (stages_after stage x)
+    pub next_going : RunsByWords shape (words_of s) events → Going shape cpu_of now (midst_after m x.entry.cpu x.lock x.entry.part) (begun_after x later begun) (before ++ x ∷ []) later (stages_after stage x)
     next_going words = going_on shape lru common cpu_of contents m begun before x later stage (here_of words)
 
-    next_held : RunsByWords shape (words_of s) events → Held shape (words_of (state_after shape s events)) (begun_after x later begun) later
+    pub next_held : RunsByWords shape (words_of s) events → Held shape (words_of (state_after shape s events)) (begun_after x later begun) later
     next_held words =
         let made = made_of words in
         subst (λ (w : Words). Held shape w (begun_after x later begun) later) (made.now_is ∙ sym (words_reached shape events s)) made.after_it
 
-    next_ranks : RunsByWords shape (words_of s) events → HoldsOneOfRank shape (state_after shape s events).holder
+    pub next_ranks : RunsByWords shape (words_of s) events → HoldsOneOfRank shape (state_after shape s events).holder
     next_ranks words = subst (λ (w : Words). HoldsOneOfRank shape w.holder) (sym (words_reached shape events s)) (one_over shape events (words_of s) words at.ranks)
 
   pub decided_along : (n : ℕ) (later before : List Drawn) (contents : DomainId → Content) (m : Midst) (begun : List ℕ) (stage : ℕ → Stage) (s : State) → Standing shape contents m s → Held shape (words_of s) begun later → HoldsOneOfRank shape s.holder
@@ -258,7 +258,7 @@ module _ {shape : Shape} (bounds : HasBounds shape) (lru : is_lru shape.kind ≡
       )
 
 -- at the opening of a map
-stands_first : {shape : Shape} (bounds : HasBounds shape) → Standing shape (opening_content shape) at_rest (opening shape)
+pub stands_first : {shape : Shape} (bounds : HasBounds shape) → Standing shape (opening_content shape) at_rest (opening shape)
 stands_first {shape} bounds =
     let first = opening_fits bounds in
     record {

@@ -78,7 +78,7 @@ left_none (First key) = refl
 left_none (Walk remove room result) = refl
 left_none (Evict e probed) = refl
 
-visit_names : (flushed : List Flush) → visited_elements (map flush_visit flushed) ≡ flushed_elements flushed
+pub visit_names : (flushed : List Flush) → visited_elements (map flush_visit flushed) ≡ flushed_elements flushed
 visit_names [] = refl
 visit_names (flush ∷ flushed) = ap (λ (l : List ℕ). flush.element ∷ l) (visit_names flushed)
 

@@ -1,3 +1,4 @@
 pub mod Ordered
 pub mod InCalls
 pub mod OrderLaws
+pub mod Nests

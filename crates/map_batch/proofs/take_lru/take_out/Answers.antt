@@ -4,7 +4,7 @@ use Rattle.bucket_walks.specs.BatchReads.{PairsSoFar}
 use Rattle.place_table.specs.BucketTurns.{Entered}
 use Rattle.place_table.proofs.PartsMade.{made_part}
 use Rattle.map_batch.specs.LruTakes.{TakesInto}
-use Rattle.map_batch.proofs.LruOut.{emptying_begins, can_detach, has_space, emptying_more, fewer_left, fits_here, room_enough, may_give_over, left_over, may_give_empty, taken_out}
+use Rattle.map_batch.proofs.LruOut.{emptying_begins, can_detach_head, has_space, emptying_more, fewer_left, fits_here, room_enough, may_give_over, left_over, may_give_empty, taken_out}
 use Rattle.map_batch.proofs.take_lru.take_out.Goals as goal
 
 pub give-requires-after_bounds : goal.give-requires-after_bounds
@@ -21,7 +21,7 @@ pub loop-body-init : goal.loop-body-init
 loop-body-init g c = (emptying_begins c.enter_bucket-chain.ensures.inside c.requires.empty, refl)
 
 pub detach-requires : goal.detach-requires
-detach-requires g c = can_detach c.loop-body.invariant.0 c.in-Some.body c.in-Some.ensures.taken c.in-Some.ensures.bodies c.element.result (c.element.ensures ∙ ap (λ (b : Stored). b.element) c.body.ensures)
+detach-requires g c = can_detach_head c.loop-body.invariant.0 c.in-Some.body c.in-Some.ensures.taken c.in-Some.ensures.bodies c.element.result (c.element.ensures ∙ ap (λ (b : Stored). b.element) c.body.ensures)
 
 pub push-requires : goal.push-requires
 push-requires g c =

@@ -10,7 +10,7 @@ use Rattle.run_records.specs.Copies.{IsCopyOf}
 use Rattle.run_records.specs.Races.{HaveComeTo, IsRaceRecord}
 use Rattle.place_words.specs.Phases.{phase_count}
 use Rattle.run_records.proofs.PhaseParts.{whole_to}
-use Rattle.run_records.proofs.RaceRecord.{race_is_record}
+use Rattle.run_records.proofs.RaceEnds.{race_is_record}
 use Rattle.run_records.proofs.Shaped.{race_is_shaped}
 use Rattle.map_run.proofs.race.race_script.Goals as goal
 

@@ -7,5 +7,5 @@ store-requires g c =
     let w = c.requires.words in let at = c.requires.bucket in let h = c.requires.hand in (
       c.requires.table,
       omega (arith, w.0, w.1, c.requires.element),
-      attaches _ _ _ _ c.args.element c.args.bucket c.args.cpu _ _ at.0 _ w.1 c.owner_code.ensures.exact at.3 c.requires.deed c.requires.element at.1 at.2 h.0 h.1 c.requires.not_carried c.requires.hashed,
+      attaches _ _ _ _ c.args.element c.args.bucket c.args.cpu _ _ at.0 _ w.1 c.owner_code.ensures.exact at.3 c.requires.deed c.requires.element at.1 at.2 h.0 h.1 c.requires.not_carried c.requires.hashed c.requires.unread c.requires.around,
     )

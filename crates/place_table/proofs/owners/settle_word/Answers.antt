@@ -7,5 +7,5 @@ store-requires g c =
     let w = c.requires.words in let at = c.requires.lock in let h = c.requires.hand in (
       c.requires.table,
       omega (arith, w.0, w.1, c.requires.element),
-      settles _ _ _ _ c.args.element c.args.cpu _ _ c.args.lock at.0 _ w.1 c.owner_code.ensures.exact at.3 c.requires.deed c.requires.element at.1 at.2 c.requires.has_free_list h.0 h.1 at.4,
+      settles _ _ _ _ c.args.element c.args.cpu _ _ c.args.lock at.0 _ w.1 c.owner_code.ensures.exact at.3 c.requires.deed c.requires.element at.1 at.2 c.requires.has_free_list h.0 h.1 at.4 c.requires.unread c.requires.around,
     )

@@ -7,5 +7,5 @@ load-requires g c =
     let w = c.requires.words in (
       c.requires.table,
       omega (arith, w.0, w.1, c.requires.element.0),
-      rw c.requires.element.1 (sees_owner _ _ _ _ c.args.element _ w.1 c.requires.element.0),
+      rw c.requires.element.1 (sees_owner _ _ _ _ c.args.element _ w.1 c.requires.element.0 c.requires.unread),
     )

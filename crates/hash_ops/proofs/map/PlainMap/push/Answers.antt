@@ -18,7 +18,7 @@ give-requires-after_bounds g c κs within =
     let t = c.self.inside.table in
     let can : CanPush t c.args.body c.args.pass.now = subst (λ (x : TableView). CanPush x c.args.body c.args.pass.now) (sym c.self.view_is) c.requires in
     let is_there : IsTrue (is_lock t.shape (Freelist c.cpu_of-own.result)) = freelist_there t.shape c.cpu_of-own.result c.self.invariant.1 c.cpu_of-own.ensures.within in
-    can_give_pushed c.in-Freelist.ensures can is_there (c.element-element.ensures ∙ ap (λ (b : Stored). b.element) c.body.ensures) c.settle.ensures c.push.ensures.on_top
+    can_give_pushed c.in-Freelist.ensures can is_there (c.element-element.ensures ∙ ap (λ (b : Stored). b.element) c.body.ensures) c.settle.ensures c.push.ensures.on_top c.self.invariant.1
 
 pub returns : goal.returns
 returns g c =
@@ -26,4 +26,4 @@ returns g c =
     let can : CanPush t c.args.body c.args.pass.now = subst (λ (x : TableView). CanPush x c.args.body c.args.pass.now) (sym c.self.view_is) c.requires in
     let is_there : IsTrue (is_lock t.shape (Freelist c.cpu_of-own.result)) = freelist_there t.shape c.cpu_of-own.result c.self.invariant.1 c.cpu_of-own.ensures.within in
     subst (λ (x : TableView). Pushed x c.args.body c.args.pass.now c.give.new.pass) c.self.view_is
-    (pushed_once c.in-Freelist.ensures can is_there (c.element-element.ensures ∙ ap (λ (b : Stored). b.element) c.body.ensures) c.settle.ensures c.push.ensures.on_top c.give.new.pass c.cpu_of-own.ensures.value c.cpu_of-own.ensures.within c.give.ensures)
+    (pushed_once c.in-Freelist.ensures can is_there (c.element-element.ensures ∙ ap (λ (b : Stored). b.element) c.body.ensures) c.settle.ensures c.push.ensures.on_top c.give.new.pass c.self.invariant.1 c.cpu_of-own.ensures.value c.cpu_of-own.ensures.within c.give.ensures)

@@ -1,6 +1,6 @@
 use Rattle.std.proofs.Common.{ap, ◌∙◌}
 use Rattle.map_types.specs.Stored.{Stored}
-use Rattle.place_table.proofs.BucketOut.{can_mark_at}
+use Rattle.place_table.proofs.BucketOut.{can_detach_at}
 use Rattle.place_table.proofs.BucketTurned.{delete_misses, has_out}
 use Rattle.place_table.proofs.PartsMade.{made_part}
 use Rattle.place_table.proofs.table.PlaceTable.delete_from.Goals as goal
@@ -16,7 +16,7 @@ returns-in_default g c =
 pub detach-requires : goal.detach-requires
 detach-requires g c =
     let body = c.body_out-body.result in
-    can_mark_at c.requires body.key body c.element.result c.body_out-body.ensures.present (c.element.ensures ∙ ap (λ (b : Stored). b.element) c.body.ensures)
+    can_detach_at c.requires body.key body c.element.result c.body_out-body.ensures.present (c.element.ensures ∙ ap (λ (b : Stored). b.element) c.body.ensures)
 
 pub returns : goal.returns
 returns g c =

@@ -5,7 +5,7 @@ use Rattle.map_types.specs.Shape.{HasBounds}
 use Rattle.map_types.specs.Sides.{value_read}
 use Rattle.map_types.specs.Stored.{Stored, IsSized}
 use Rattle.place_table.proofs.BucketBodies.{sized_at}
-use Rattle.place_table.proofs.BucketOut.{bounds_here, can_mark_at}
+use Rattle.place_table.proofs.BucketOut.{bounds_here, can_detach_at}
 use Rattle.place_table.proofs.BucketTurned.{take_misses, has_out}
 use Rattle.place_table.proofs.PartsMade.{made_part}
 use Rattle.place_table.proofs.table.PlaceTable.take_from.Goals as goal
@@ -30,7 +30,7 @@ read_value-requires-clause-sized g c =
 pub detach-requires : goal.detach-requires
 detach-requires g c =
     let body = c.body_out-body.result in
-    can_mark_at c.requires.holds body.key body c.element.result c.body_out-body.ensures.present (c.element.ensures ∙ ap (λ (b : Stored). b.element) c.body-2.ensures)
+    can_detach_at c.requires.holds body.key body c.element.result c.body_out-body.ensures.present (c.element.ensures ∙ ap (λ (b : Stored). b.element) c.body-2.ensures)
 
 pub returns-clause-takes : goal.returns-clause-takes
 returns-clause-takes g c =
