@@ -1,3 +1,4 @@
+pub mod ByteLemmas
 pub mod CreationLemmas
 pub mod PairLemmas
 pub mod PowerLemmas

@@ -1,7 +1,8 @@
 //! Bytes that contracts see as a list.
 
-ghost use Rattle.std.specs.Prelude.{◌≡◌, ◌==◌, length, IfOk};
+ghost use Rattle.std.specs.Prelude.{◌≡◌, ◌==◌, ◌+◌, ◌≤◌, ◌++◌, length, take, drop, IfOk};
 ghost use Rattle.map_types.specs.Bytes.{bytes_of};
+ghost use Rattle.map_types.specs.Parts.{zeros};
 
 use crate::NoMemory;
 use std::alloc::Global;
@@ -58,6 +59,24 @@ impl Bytes {
         })
     }
 
+    /// So many bytes, which are all 0.
+    pub fn zeroed(alloc: Global, len: usize) -> Result<Bytes, NoMemory>
+        ensures { IfOk result (λ bytes. bytes ≡ zeros len) }
+    {
+        if len > SHORT {
+            let items = vec![in alloc; 0; len]?;
+            return Ok(Bytes {
+                data: Data::Long(Box::new(alloc, items)?),
+            });
+        }
+        Ok(Bytes {
+            data: Data::Short {
+                bytes: [0; SHORT],
+                len: len as u8,
+            },
+        })
+    }
+
     /// The bytes, in order.
     pub fn as_slice(&self) -> &[u8]
         ensures { result.now ≡ self.now }
@@ -80,6 +99,30 @@ impl Bytes {
         ensures { result ≡ (length self.now == 0) }
     {
         self.as_slice().is_empty()
+    }
+
+    /// Writes bytes over those at a place. The others stay.
+    pub fn write_at(&mut self, start: usize, source: &[u8])
+        requires { start + length source.now ≤ length self.old }
+        ensures { self.new
+            ≡ take start self.old ++ (source.now ++ drop (start + length source.now) self.old) }
+    {
+        match &mut self.data {
+            Data::Short { bytes, len: _ } => {
+                bytes[start..start + source.len()].copy_from_slice(source)
+            }
+            Data::Long(items) => items[start..start + source.len()].copy_from_slice(source),
+        }
+    }
+
+    /// Writes 0 over each byte.
+    pub fn fill_zero(&mut self)
+        ensures { self.new ≡ zeros (length self.old) }
+    {
+        match &mut self.data {
+            Data::Short { bytes, len: _ } => *bytes = [0; SHORT],
+            Data::Long(items) => items.fill(0),
+        }
     }
 
     /// The same bytes once more.
