@@ -100,6 +100,15 @@ parts_laid n size i field bytes start now after value rounded fill exact within 
     let along : (i * round8 size) + round8 size ≡ (i + 1) * round8 size = omega (arith, suc-mul i (round8 size)) in
     placed ∙ step ∙ ap (λ xs. xs ++ drop ((i * round8 size) + round8 size) start) more ∙ ap (λ k. fields_of (parts_of (i + 1) size bytes) ++ drop k start) along
 
+-- a value that is taken from its field has room at its part
+pub value_fits : (n size i field : ℕ) (fields value : List ℕ) → field ≡ round8 size → length fields ≡ n * round8 size → i < n → value ≡ take size (drop (i * field) fields) → (i * size) + length value ≤ n * size
+value_fits n size i field fields value rounded exact within is =
+    let below = part_inside n size i within in
+    let room = part_inside n (round8 size) i within in
+    let above = round8_above size in
+    let from : value ≡ take size (drop (i * round8 size) fields) = is ∙ ap (λ k. take size (drop (i * k) fields)) rounded in
+    omega (arith, ap length from, length-take-le size (drop (i * round8 size) fields) (omega (arith, length-drop (i * round8 size) fields)))
+
 -- one value more from its field
 pub values_laid : (n size i field : ℕ) (fields start now after value : List ℕ) → field ≡ round8 size → length start ≡ n * size → length fields ≡ n * round8 size → i < n → now ≡ concat (values_in i size fields) ++ drop (i * size) start → value ≡ take size (drop (i * field) fields) → after ≡ take (i * size) now ++ (value ++ drop ((i * size) + length value) now) → after ≡ concat (values_in (i + 1) size fields) ++ drop ((i + 1) * size) start
 values_laid n size i field fields start now after value rounded fill exact within so_far is laid =

@@ -1,5 +1,5 @@
 -- Parts that lie end to end: how many there are, which one is at an index, what a write leaves, and that they are got back.
-use Rattle.std.proofs.Common.{◌≡◌, ℕ, zero, suc, ◌+◌, ◌-◌, ◌*◌, ◌<◌, ◌≤◌, List, [], ◌∷◌, ◌++◌, length, take, drop, refl, ap, subst, ◌∙◌, sym, arith, zero-add, add-one, length-drop}
+use Rattle.std.proofs.Common.{◌≡◌, ℕ, zero, suc, ◌+◌, ◌-◌, ◌*◌, ◌<◌, ◌≤◌, List, [], ◌∷◌, ◌++◌, length, take, drop, refl, ap, subst, ◌∙◌, sym, arith, zero-add, add-one, length-append, length-drop}
 use Rattle.std.specs.Prelude.{slice_set}
 use Rattle.std.specs.List.{concat}
 use Rattle.std.proofs.Math.Nat.{suc-mul, zero-mul}
@@ -100,6 +100,12 @@ parts_of-written (suc n) size (suc i) bytes value fill exact within =
     let others = parts_of-written n size i (drop size bytes) value (rest_fills n size bytes fill) exact (omega arith) in
     rw (first, rest, others) refl
 
+-- a write leaves as many bytes as there were
+pub written_fills : (len start : ℕ) (bytes now value : List ℕ) → length bytes ≡ len → start + length value ≤ len → now ≡ take start bytes ++ (value ++ drop (start + length value) bytes) → length now ≡ len
+written_fills len start bytes now value fill room is =
+    let past : List ℕ = drop (start + length value) bytes in
+    omega (arith, ap length is, length-append (take start bytes) (value ++ past), length-append value past, length-take-le start bytes (omega arith), length-drop (start + length value) bytes)
+
 -- one part more at the end
 pub parts_of-more : (n size : ℕ) (bytes : List ℕ) → parts_of (n + 1) size bytes ≡ parts_of n size bytes ++ take size (drop (n * size) bytes) ∷ []
 parts_of-more zero size bytes = rw zero-mul refl
@@ -146,6 +152,10 @@ seen_written n size i bytes now value values seen fill within exact is =
     let at : now ≡ take (i * size) bytes ++ (value ++ drop ((i * size) + size) bytes) =
     is ∙ ap (λ k. take (i * size) bytes ++ (value ++ drop ((i * size) + k) bytes)) sized in
     ap (parts_of n size) at ∙ written ∙ ap (λ (old : List (List ℕ)). slice_set old i value) seen
+
+pub seen_filled : (n size i : ℕ) (bytes before now value : List ℕ) (values : List (List ℕ)) → parts_of n size bytes ≡ values → length bytes ≡ n * size → i < length values → length value ≡ part_size values → length before ≡ n * size → now ≡ take (i * size) before ++ (value ++ drop ((i * size) + length value) before) → length now ≡ n * size
+seen_filled n size i bytes before now value values seen fill within exact same is =
+    written_fills (n * size) (i * size) before now value same (seen_room n size i bytes value values seen fill within exact) is
 
 -- the same over bytes that are 0
 pub seen_new : (n size i : ℕ) (bytes zeroed now value : List ℕ) (values : List (List ℕ)) → parts_of n size bytes ≡ values → length bytes ≡ n * size → i < length values → length value ≡ part_size values → zeroed ≡ zeros (length bytes) → now ≡ take (i * size) zeroed ++ (value ++ drop ((i * size) + length value) zeroed) → parts_of n size now ≡ slice_set (zero_parts (length values) (length value)) i value

@@ -5,16 +5,16 @@ ghost use Rattle.std.specs.Borrow.{sem};
 ghost use Rattle.map_types.specs.Stored.{zero_stored};
 
 use crate::Values;
-use map_types::NoMemory;
+use map_types::{Bytes, NoMemory};
 use std::alloc::Global;
 use std::marker::Model;
 
-/// An element's number, its key and its values. Contracts see a record of the three. The key is one block and the values
-/// are another, whatever the number of parts.
+/// An element's number, its key and its values. Contracts see a record of the three. A short key lies in place, and so
+/// do short values; longer ones have a block each, whatever the number of parts.
 #[derive(Drop)]
 pub struct Body {
     element: u32,
-    key: Vec<u8>,
+    key: Bytes,
     values: Values,
 }
 
@@ -23,7 +23,7 @@ impl Model for Body {
 
     ghost Value = { Stored };
 
-    ghost view = { λ b. record { element = b.element; key = b.key.items; values = b.values } };
+    ghost view = { λ b. record { element = b.element; key = b.key; values = b.values } };
 }
 
 impl Body {
@@ -39,7 +39,7 @@ impl Body {
     ) -> Result<Body, NoMemory>
         ensures { IfOk result (λ body. body ≡ zero_stored element key_size parts size) }
     {
-        let key = vec![in alloc; 0; key_size as usize]?;
+        let key = Bytes::zeroed(alloc, key_size as usize)?;
         let values = Values::zeroed(alloc, parts, size)?;
         Ok(Body {
             element,
@@ -67,7 +67,7 @@ impl Body {
         requires { length key.now ≡ length self.old.key }
         ensures { self.new ≡ record self.old { key = key.now } }
     {
-        self.key.copy_from_slice(key);
+        self.key.write_at(0, key);
     }
 
     /// The values.

@@ -6,7 +6,7 @@ ghost use Rattle.map_types.specs.Parts.{zero_parts, AreOfSize, part_size, part_a
 ghost use Rattle.map_types.specs.ValueLen.{round8};
 ghost use Rattle.percpu_values.specs.Layout.{parts_of};
 
-use map_types::NoMemory;
+use map_types::{Bytes, NoMemory};
 use std::alloc::Global;
 use std::marker::Model;
 
@@ -16,7 +16,7 @@ use std::marker::Model;
 pub struct Values {
     parts: u32,
     size: u32,
-    bytes: Vec<u8>,
+    bytes: Bytes,
 }
 
 impl Model for Values {
@@ -25,9 +25,9 @@ impl Model for Values {
 
     ghost Value = { List (List ℕ) };
 
-    ghost view = { λ v. parts_of v.parts v.size v.bytes.items };
+    ghost view = { λ v. parts_of v.parts v.size v.bytes };
 
-    ghost invariant = { λ v. length v.bytes.items ≡ v.parts * v.size };
+    ghost invariant = { λ v. length v.bytes ≡ v.parts * v.size };
 }
 
 impl Values {
@@ -39,11 +39,22 @@ impl Values {
         Ok(Values {
             parts,
             size,
-            bytes: vec![in alloc; 0; len]?,
+            bytes: Bytes::zeroed(alloc, len)?,
         })
     }
 
-    /// Copies a part, below the number of parts, to `out`, which has as many bytes. So a program on that CPU reads.
+    /// A part, below the number of parts. So a program on that CPU reads.
+    pub fn part(&self, part: u32) -> &[u8]
+        requires { part < length self.now }
+        ensures bytes { result.now ≡ part_at part self.now }
+        // All parts have one size.
+        ensures one_size { AreOfSize (part_size self.now) self.now }
+    {
+        let size = self.size as usize;
+        piece(self.bytes.as_slice(), part as usize * size, size)
+    }
+
+    /// Copies a part, below the number of parts, to `out`, which has as many bytes.
     pub fn read_own(&self, part: u32, out: &mut [u8])
         requires in_range { part < length self.now }
         requires exact { length out.old ≡ part_size self.now }
@@ -51,8 +62,7 @@ impl Values {
         // All parts have one size.
         ensures one_size { AreOfSize (part_size self.now) self.now }
     {
-        let size = self.size as usize;
-        out.copy_from_slice(piece(&self.bytes, part as usize * size, size));
+        out.copy_from_slice(self.part(part));
     }
 
     /// Copies all parts to `out`, each to a field of its size rounded up to a multiple of 8 bytes, which `out` just holds.
@@ -63,7 +73,12 @@ impl Values {
         ensures copied { out.new ≡ fields_of self.now }
         ensures one_size { AreOfSize (part_size self.now) self.now }
     {
-        copy_parts(out, self.parts as usize, self.size as usize, &self.bytes);
+        copy_parts(
+            out,
+            self.parts as usize,
+            self.size as usize,
+            self.bytes.as_slice(),
+        );
     }
 
     /// Writes one part, below the number of parts, by a value of its size. The other parts stay. So a program on that
@@ -74,7 +89,7 @@ impl Values {
         ensures { self.new ≡ written_own part value.now self.old }
     {
         let start = part as usize * self.size as usize;
-        copy_to(&mut self.bytes, start, value);
+        self.bytes.write_at(start, value);
     }
 
     /// Writes all parts, each from the head of its field, which has the size of a part rounded up to a multiple of 8
@@ -99,8 +114,9 @@ impl Values {
         requires exact { length value.now ≡ part_size self.old }
         ensures { self.new ≡ new_own (length self.old) part value.now }
     {
-        self.bytes.fill(0);
-        copy_to(&mut self.bytes, part as usize * self.size as usize, value);
+        self.bytes.fill_zero();
+        self.bytes
+            .write_at(part as usize * self.size as usize, value);
     }
 
     /// Writes all parts as `write_all` does. So the system call fills a new element, after the kernel's
@@ -128,16 +144,17 @@ fn copy_parts(out: &mut [u8], parts: usize, size: usize, bytes: &[u8])
 }
 
 /// Copies so many parts of a size, each from the head of its field, to where they lie end to end.
-fn copy_fields(bytes: &mut [u8], parts: usize, size: usize, fields: &[u8])
+fn copy_fields(bytes: &mut Bytes, parts: usize, size: usize, fields: &[u8])
     requires short { size < 2 ^ 32 }
     requires filled { length bytes.old ≡ parts * size }
     requires exact { length fields.now ≡ parts * round8 size }
-    ensures { bytes.new ≡ concat (values_in parts size fields.now) }
+    ensures written { bytes.new ≡ concat (values_in parts size fields.now) }
+    ensures filled { length bytes.new ≡ parts * size }
 {
     let field = size.next_multiple_of(8);
     for part in 0..parts {
         let value = piece(fields, part * field, size);
-        copy_to(bytes, part * size, value);
+        bytes.write_at(part * size, value);
     }
 }
 
@@ -147,15 +164,6 @@ fn piece(bytes: &[u8], start: usize, size: usize) -> &[u8]
     ensures { result.now ≡ take size (drop start bytes.now) }
 {
     &bytes[start..start + size]
-}
-
-/// Copies a value to a place.
-fn copy_to(bytes: &mut [u8], start: usize, value: &[u8])
-    requires { start + length value.now ≤ length bytes.old }
-    ensures { bytes.new
-        ≡ take start bytes.old ++ (value.now ++ drop (start + length value.now) bytes.old) }
-{
-    bytes[start..start + value.len()].copy_from_slice(value);
 }
 
 /// Copies a value to the field of so many bytes at a place, and zeroes what is left of the field.

@@ -1,23 +1,22 @@
-use Rattle.std.proofs.Common.{◌≡◌, ◌∙◌, ◌+◌, ◌*◌, ap, arith, length, take, drop, ◌++◌}
-use Rattle.map_types.specs.Parts.{zeros}
-use Rattle.std.proofs.lemmas.List.{with_items_is}
-use Rattle.percpu_values.specs.Layout.{parts_of}
-use Rattle.percpu_values.proofs.PartLemmas.{seen_room, seen_new}
+use Rattle.std.proofs.Common.{◌≡◌, ℕ, ◌*◌, arith, ap, length, ◌∙◌}
+use Rattle.std.proofs.lemmas.List.{length-replicate}
+use Rattle.percpu_values.proofs.PartLemmas.{seen_room, seen_filled, seen_new}
 use Rattle.percpu_values.proofs.values.Values.init_own.Goals as goal
 
-pub copy_to-requires : goal.copy_to-requires
-copy_to-requires c =
+pub write_at-requires : goal.write_at-requires
+write_at-requires c =
     let own = c.self.inside in
-    let room = seen_room own.parts own.size c.args.part own.bytes.items c.args.value.now _ c.self.view_is c.self.invariant c.requires.in_range c.requires.exact in
-    omega (arith, room, ap length c.deref_mut.ensures.value)
+    let room = seen_room own.parts own.size c.args.part own.bytes c.args.value.now _ c.self.view_is c.self.invariant c.requires.in_range c.requires.exact in
+    omega (arith, room, c.self.invariant, ap length c.fill_zero.ensures, length-replicate {A = ℕ} (length own.bytes) 0)
+
+pub invariant_of-self : goal.invariant_of-self
+invariant_of-self c =
+    let own = c.self.inside in
+    let blank : length c.fill_zero.new.self ≡ own.parts * own.size =
+    ap length c.fill_zero.ensures ∙ length-replicate {A = ℕ} (length own.bytes) 0 ∙ c.self.invariant in
+    seen_filled own.parts own.size c.args.part own.bytes c.fill_zero.new.self c.write_at.new.self c.args.value.now _ c.self.view_is c.self.invariant c.requires.in_range c.requires.exact blank c.write_at.ensures
 
 pub returns : goal.returns
 returns c =
     let own = c.self.inside in
-    let now = c.copy_to.new.bytes in
-    let long : length now ≡ c.fill.new.self.len = omega arith in
-    let held = with_items_is c.fill.new.self now long in
-    let blank : c.fill.new.self.items ≡ zeros (length own.bytes.items) = c.fill.ensures.items (λ y same. same) ∙ ap zeros own.bytes.ok.0 in
-    let is = c.copy_to.ensures ∙ ap (λ bytes. take (c.args.part * own.size) bytes ++ (c.args.value.now ++ drop ((c.args.part * own.size) + length c.args.value.now) bytes)) c.deref_mut.ensures.value in
-    let written = seen_new own.parts own.size c.args.part own.bytes.items c.fill.new.self.items now c.args.value.now _ c.self.view_is c.self.invariant c.requires.in_range c.requires.exact blank is in
-    ap (parts_of own.parts own.size) held ∙ written
+    seen_new own.parts own.size c.args.part own.bytes c.fill_zero.new.self c.write_at.new.self c.args.value.now _ c.self.view_is c.self.invariant c.requires.in_range c.requires.exact c.fill_zero.ensures c.write_at.ensures
