@@ -27,7 +27,6 @@ on_none_after e lists is is_in =
 -- What is so of local lists after an element left pending, and of the row that it had there, if any.
 pub record IsLeft (e : ℕ) (row : Option Row) (lists : LocalView) : Type 0 where
   pub known : IfSome row (λ row. (row.element ≡ e) × (e < lists.elements) × (times_on e lists ≡ 0))
-  pub off : times e (elements_of lists.pending) ≡ 0
   pub whole : IsLocal lists
 
 -- the row that is found is that of the element, which is on neither list without it
@@ -47,6 +46,5 @@ module _ {free : BodyList} {pending rest : List Row} {steal elements bound : ℕ
       let now : record { free = free; pending = rest; steal = steal; elements = bound } ≡ without_pending e was = λ i. record was { pending = taken i; elements = same i } in
       subst (λ (lists : LocalView). IsLeft e row lists) (sym now) (record {
         known = known_row e was is row found;
-        off = gone_without e pending;
         whole = without_is_local e was is;
       })

@@ -17,9 +17,16 @@ use std::mem;
 
 /// The local lists free and pending of a CPU, and its steal cursor, which is the number of the CPU where its next theft
 /// starts: the kernel's `struct bpf_lru_locallist`. Contracts see the two lists, head first, the cursor, and a bound of the
-/// elements. Each element is on one list at most.
+/// elements. Each element is on one list at most. The lists lie in a block of their own, so that to hold them takes the room
+/// of a pointer.
 #[derive(Drop)]
 pub struct LocalSet<R: Rows> {
+    lists: Box<LocalLists<R>>,
+}
+
+/// What lies in the block of local lists.
+#[derive(Drop)]
+pub(crate) struct LocalLists<R: Rows> {
     pending: R,
     free: BodyStack,
     steal: u32,
@@ -31,18 +38,18 @@ impl<R: Rows> Model for LocalSet<R> {
     ghost Value = { LocalView };
 
     ghost view = { λ s. record {
-      free = s.free;
-      pending = R.rows s.pending;
-      steal = s.steal;
-      elements = R.bound s.pending;
+      free = s.lists.value.free;
+      pending = R.rows s.lists.value.pending;
+      steal = s.lists.value.steal;
+      elements = R.bound s.lists.value.pending;
     } };
 
     ghost invariant = { λ s. IsLocal
         (record {
-          free = s.free;
-          pending = R.rows s.pending;
-          steal = s.steal;
-          elements = R.bound s.pending;
+          free = s.lists.value.free;
+          pending = R.rows s.lists.value.pending;
+          steal = s.lists.value.steal;
+          elements = R.bound s.lists.value.pending;
         }) };
 }
 
@@ -53,10 +60,13 @@ impl<R: Rows> LocalSet<R> {
         ensures exact { IfOk result (λ lists. lists ≡ empty_local elements cpu) }
         ensures whole { IfOk result IsLocal }
     {
-        Ok(LocalSet {
+        let lists = LocalLists {
             pending: R::with_room(alloc, elements)?,
             free: BodyStack::with_room(alloc, elements)?,
             steal: cpu,
+        };
+        Ok(LocalSet {
+            lists: Box::new(alloc, lists)?,
         })
     }
 
@@ -69,7 +79,7 @@ impl<R: Rows> LocalSet<R> {
             × (times_on body.element self.new ≡ 0)) }
         ensures whole { IsLocal self.new }
     {
-        self.free.pop()
+        self.lists.free.pop()
     }
 
     /// Puts a body whose element is on neither list at the head of the free list, where that has room, as the kernel's
@@ -81,7 +91,7 @@ impl<R: Rows> LocalSet<R> {
         ensures exact { self.new ≡ with_free (pushed body self.old.free) self.old }
         ensures whole { IsLocal self.new }
     {
-        self.free.push(body);
+        self.lists.free.push(body);
     }
 
     /// The free list and a stack of bodies change places, their room included. The elements of the stack aren't pending, and
@@ -95,7 +105,7 @@ impl<R: Rows> LocalSet<R> {
         ensures whole { IsLocal self.new }
         ensures was_whole { IsLocal self.old }
     {
-        mem::swap(&mut self.free, other);
+        mem::swap(&mut self.lists.free, other);
     }
 
     /// Puts the row of an element that is on neither list at the head of the pending list, as the kernel's
@@ -106,7 +116,7 @@ impl<R: Rows> LocalSet<R> {
         ensures exact { self.new ≡ with_pending_row row self.old }
         ensures whole { IsLocal self.new }
     {
-        self.pending.push_head(row);
+        self.lists.pending.push_head(row);
     }
 
     /// Takes an element off the pending list, wherever it stands there, as the kernel's `__local_list_pop_pending` does with the
@@ -121,7 +131,7 @@ impl<R: Rows> LocalSet<R> {
         ensures whole { IsLocal self.new }
         ensures was_whole { IsLocal self.old }
     {
-        self.pending.take_out(element)
+        self.lists.pending.take_out(element)
     }
 
     /// The rows of the pending list.
@@ -130,7 +140,7 @@ impl<R: Rows> LocalSet<R> {
         ensures bound { R.bound result.now ≡ self.now.elements }
         ensures whole { IsLocal self.now }
     {
-        &self.pending
+        &self.lists.pending
     }
 
     /// How many bodies are free.
@@ -138,7 +148,7 @@ impl<R: Rows> LocalSet<R> {
         ensures exact { result ≡ length self.now.free.bodies }
         ensures whole { IsLocal self.now }
     {
-        self.free.len()
+        self.lists.free.len()
     }
 
     /// The number of the CPU where the next theft starts, as the kernel's `next_steal`.
@@ -146,7 +156,7 @@ impl<R: Rows> LocalSet<R> {
         ensures exact { result ≡ self.now.steal }
         ensures whole { IsLocal self.now }
     {
-        self.steal
+        self.lists.steal
     }
 
     /// Sets the number of the CPU where the next theft starts.
@@ -154,6 +164,6 @@ impl<R: Rows> LocalSet<R> {
         ensures exact { self.new ≡ with_steal cpu self.old }
         ensures whole { IsLocal self.new }
     {
-        self.steal = cpu;
+        self.lists.steal = cpu;
     }
 }

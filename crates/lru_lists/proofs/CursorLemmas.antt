@@ -12,7 +12,7 @@ use Rattle.map_types.specs.Listed.{elements_of, rows_before, nearest_before, cur
 use Rattle.map_types.proofs.RowLemmas.{times_append, by_test}
 use Rattle.row_list.specs.RowWords.{is_of, without_row, head_row, row_before_from, row_before}
 use Rattle.row_list.proofs.ElementLemmas.{absent_parts}
-use Rattle.row_list.proofs.RowLemmas.{elements_append, times_rows_reverse, found_is_in, kept_without, fewer_without, last_from, last_of_reverse, row_before_split, splits}
+use Rattle.row_list.proofs.RowLemmas.{elements_append, times_rows_reverse, found_is_in, kept_without, last_from, last_of_reverse, row_before_split, splits}
 
 -- a place for the cursor in a list: one of its elements, or the mark
 abbrev pub IsPlaceIn : Option ℕ → List Row → Type 0
@@ -48,10 +48,6 @@ cursor_stays e rows (Some x) place =
     (λ is. subst (λ (y : ℕ). IsPlaceIn (nearest_before y (λ z. eqb z e) rows) (without_row e rows)) (sym is) (nearest_stays e rows))
     (λ other. let kept = kept_without x e rows other in omega arith)
 
-pub placed_in_more : (e : ℕ) (rows : List Row) (at : Option ℕ) → IsPlaceIn at (without_row e rows) → IsPlaceIn at rows
-placed_in_more e rows None place = tt
-placed_in_more e rows (Some x) place = let fewer = fewer_without x e rows in omega arith
-
 -- the neighbour of an element that is there is the nearest one before it
 position_split : (e : ℕ) (front : List Row) (row : Row) (back : List Row) → times e (elements_of front) ≡ 0 → row.element ≡ e → position_or_len (is_of e) (front ++ row ∷ back) ≡ length front
 position_split e [] row back none is =
@@ -84,17 +80,17 @@ neighbour_is_nearest e rows is_in =
     ap (option_map (λ (row : Row). row.element)) (next ∙ sym near)
 
 -- where the cursor is on the element, it goes to that neighbour, else it stays
-pub cursor_goes : (e : ℕ) (rows : List Row) (at : Option ℕ) → IsPlaceIn at rows → at ≡ Some e → cursor_without (λ x. eqb x e) rows at ≡ option_map (λ (row : Row). row.element) (row_before e rows)
-cursor_goes e rows None place is = absurd cc
-cursor_goes e rows (Some x) place is =
+pub cursor_goes : (e : ℕ) (rows : List Row) (at to : Option ℕ) → to ≡ option_map (λ (row : Row). row.element) (row_before e rows) → IsPlaceIn at rows → at ≡ Some e → to ≡ cursor_without (λ x. eqb x e) rows at
+cursor_goes e rows None to goes place is = absurd cc
+cursor_goes e rows (Some x) to goes place is =
     let same : x ≡ e = same_Some x e is in
-    by_test x e (λ b. cond b (nearest_before x (λ y. eqb y e) rows) (Some x) ≡ option_map (λ (row : Row). row.element) (row_before e rows))
-    (λ here. ap (λ (y : ℕ). nearest_before y (λ z. eqb z e) rows) here ∙ sym (neighbour_is_nearest e rows (subst (λ (y : ℕ). IsIn y (elements_of rows)) here place)))
+    by_test x e (λ b. to ≡ cond b (nearest_before x (λ y. eqb y e) rows) (Some x))
+    (λ here. goes ∙ neighbour_is_nearest e rows (subst (λ (y : ℕ). IsIn y (elements_of rows)) here place) ∙ ap (λ (y : ℕ). nearest_before y (λ z. eqb z e) rows) (sym here))
     (λ other. absurd (other same))
 
-pub is_under : (at : Option ℕ) (e : ℕ) → option_eq eqb at (Some e) ≡ true → at ≡ Some e
+pub is_under : (at : Option ℕ) (e : ℕ) → true ≡ option_eq eqb at (Some e) → at ≡ Some e
 is_under None e is = absurd cc
-is_under (Some x) e is = ap Some (eqb-true x e is)
+is_under (Some x) e is = ap Some (eqb-true x e (sym is))
 
 -- the neighbour of a row, by its element, is the neighbour in the list of the elements
 neighbour_from : (last : Option Row) (e : ℕ) (rows : List Row) → option_map (λ (row : Row). row.element) (row_before_from last e rows) ≡ before_from (option_map (λ (row : Row). row.element) last) e (elements_of rows)

@@ -1,6 +1,6 @@
 //! A list set.
 
-ghost use Rattle.std.specs.Prelude.{◌≡◌, ◌==◌, ◌+◌, ◌<◌, ◌≤◌, ◌↔◌, ◌++◌, ℕ, length, slice_get, IfOk, IfSome, IsSome};
+ghost use Rattle.std.specs.Prelude.{◌≡◌, ◌==◌, ◌+◌, ◌<◌, ◌≤◌, ◌↔◌, ◌++◌, ℕ, length, slice_get, IfOk, IfSome, IsSome, MatchOption};
 ghost use Rattle.map_types.specs.Listed.{elements_of, cursor_without};
 ghost use Rattle.row_list.specs.RowWords.{row_of, row_before, without_row};
 ghost use Rattle.std.specs.Option.{option_map};
@@ -20,9 +20,16 @@ use std::mem;
 /// The lists active, inactive and free of an evicting map, and the cursor of the rotation, which is an inactive element or
 /// the mark. Contracts see the three lists, head first, the cursor, and a bound of the elements. Each element is on one
 /// list at most. Every move puts it at the head of its list. Where the element under the cursor leaves inactive, the
-/// cursor goes to its neighbour towards the head, or to the mark.
+/// cursor goes to its neighbour towards the head, or to the mark. The lists lie in a block of their own, so that to hold
+/// them takes the room of a pointer.
 #[derive(Drop)]
 pub struct ListSet<R: Rows> {
+    lists: Box<Lists<R>>,
+}
+
+/// What lies in the block of a set.
+#[derive(Drop)]
+pub(crate) struct Lists<R: Rows> {
     active: R,
     inactive: R,
     free: BodyStack,
@@ -36,22 +43,22 @@ impl<R: Rows> Model for ListSet<R> {
     ghost Value = { SetView };
 
     ghost view = { λ s. record {
-      active = R.rows s.active;
-      inactive = R.rows s.inactive;
-      free = s.free;
-      cursor = s.cursor;
-      elements = R.bound s.active;
+      active = R.rows s.lists.value.active;
+      inactive = R.rows s.lists.value.inactive;
+      free = s.lists.value.free;
+      cursor = s.lists.value.cursor;
+      elements = R.bound s.lists.value.active;
     } };
 
     ghost invariant = { λ s. IsSet
         (record {
-          active = R.rows s.active;
-          inactive = R.rows s.inactive;
-          free = s.free;
-          cursor = s.cursor;
-          elements = R.bound s.active;
+          active = R.rows s.lists.value.active;
+          inactive = R.rows s.lists.value.inactive;
+          free = s.lists.value.free;
+          cursor = s.lists.value.cursor;
+          elements = R.bound s.lists.value.active;
         })
-        × (R.bound s.inactive ≡ R.bound s.active) };
+        × (R.bound s.lists.value.inactive ≡ R.bound s.lists.value.active) };
 }
 
 impl<R: Rows> ListSet<R> {
@@ -60,11 +67,14 @@ impl<R: Rows> ListSet<R> {
         ensures exact { IfOk result (λ set. set ≡ empty_set elements) }
         ensures whole { IfOk result IsSet }
     {
-        Ok(ListSet {
+        let lists = Lists {
             active: R::with_room(alloc, elements)?,
             inactive: R::with_room(alloc, elements)?,
             free: BodyStack::with_room(alloc, elements)?,
             cursor: None,
+        };
+        Ok(ListSet {
+            lists: Box::new(alloc, lists)?,
         })
     }
 
@@ -75,9 +85,10 @@ impl<R: Rows> ListSet<R> {
         ensures exact { self.new ≡ moved_in row to self.old }
         ensures whole { IsSet self.new }
     {
+        let lists: &mut Lists<R> = &mut self.lists;
         match to {
-            ListName::Active => self.active.push_head(row),
-            ListName::Inactive => self.inactive.push_head(row),
+            ListName::Active => lists.active.push_head(row),
+            ListName::Inactive => lists.inactive.push_head(row),
         }
     }
 
@@ -101,8 +112,9 @@ impl<R: Rows> ListSet<R> {
         ensures whole { IsSet self.new }
         ensures was_whole { IsSet self.old }
     {
-        self.leave(element);
-        take_out_of(&mut self.active, &mut self.inactive, element)
+        let lists: &mut Lists<R> = &mut self.lists;
+        lists.cursor = cursor_off(lists.cursor, &lists.inactive, element);
+        take_out_of(&mut lists.active, &mut lists.inactive, element)
     }
 
     /// Frees a body whose element is on no list, where the free list has room.
@@ -113,7 +125,7 @@ impl<R: Rows> ListSet<R> {
         ensures exact { self.new ≡ with_free (pushed body self.old.free) self.old }
         ensures whole { IsSet self.new }
     {
-        self.free.push(body);
+        self.lists.free.push(body);
     }
 
     /// Takes the body at the head of the free list, where there is one. Its element is then on no list.
@@ -124,7 +136,7 @@ impl<R: Rows> ListSet<R> {
             × (times_on body.element self.new ≡ 0)) }
         ensures whole { IsSet self.new }
     {
-        self.free.pop()
+        self.lists.free.pop()
     }
 
     /// The free list and a stack of bodies change places, their room included. The elements of the stack are neither active
@@ -138,7 +150,7 @@ impl<R: Rows> ListSet<R> {
         ensures whole { IsSet self.new }
         ensures was_whole { IsSet self.old }
     {
-        mem::swap(&mut self.free, other);
+        mem::swap(&mut self.lists.free, other);
     }
 
     /// The element under the cursor: None where it is at the mark.
@@ -146,7 +158,7 @@ impl<R: Rows> ListSet<R> {
         ensures exact { result ≡ self.now.cursor }
         ensures whole { IsSet self.now }
     {
-        self.cursor
+        self.lists.cursor
     }
 
     /// Sets the cursor to an inactive element, or to the mark.
@@ -155,7 +167,7 @@ impl<R: Rows> ListSet<R> {
         ensures exact { self.new ≡ with_cursor at self.old }
         ensures whole { IsSet self.new }
     {
-        self.cursor = at;
+        self.lists.cursor = at;
     }
 
     /// The rows of a list.
@@ -165,8 +177,8 @@ impl<R: Rows> ListSet<R> {
         ensures whole { IsSet self.now }
     {
         match list {
-            ListName::Active => &self.active,
-            ListName::Inactive => &self.inactive,
+            ListName::Active => &self.lists.active,
+            ListName::Inactive => &self.lists.inactive,
         }
     }
 
@@ -175,19 +187,19 @@ impl<R: Rows> ListSet<R> {
         ensures exact { result ≡ length self.now.free.bodies }
         ensures whole { IsSet self.now }
     {
-        self.free.len()
+        self.lists.free.len()
     }
+}
 
-    /// Moves the cursor off an element, towards the head.
-    fn leave(&mut self, element: u32)
-        ensures exact { self.new
-            ≡ with_cursor (cursor_without
-            (λ x. x == element) self.old.inactive self.old.cursor) self.old }
-        ensures was_whole { IsSet self.old }
-    {
-        if self.cursor == Some(element) {
-            self.cursor = neighbour_of(&self.inactive, element);
-        }
+/// Where a cursor of the inactive list stands once an element leaves: off it, towards the head.
+fn cursor_off<R: Rows>(cursor: Option<u32>, inactive: &R, element: u32) -> Option<u32>
+    requires { MatchOption cursor (Unit {0}) (λ e. IsIn e (elements_of (R.rows inactive.now))) }
+    ensures { result ≡ cursor_without (λ x. x == element) (R.rows inactive.now) cursor }
+{
+    if cursor == Some(element) {
+        neighbour_of(inactive, element)
+    } else {
+        cursor
     }
 }
 
