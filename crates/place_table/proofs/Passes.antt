@@ -26,7 +26,6 @@ use Rattle.place_words.specs.State.{is_bucket}
 use Rattle.place_table.specs.declared.view.HomeRead.{HomeRead}
 use Rattle.place_table.specs.declared.content.Behind.{Behind}
 use Rattle.place_table.specs.declared.content.Content.{Content}
-use Rattle.place_table.specs.declared.steps.Recorded.{Recorded}
 use Rattle.place_table.specs.declared.strands.FinishedStrand.{FinishedStrand}
 use Rattle.place_table.specs.declared.view.View.{View}
 use Rattle.place_table.specs.declared.view.Hold.{Hold}
@@ -44,7 +43,7 @@ use Rattle.place_table.specs.Nested.{IsInside, AreOutside}
 use Rattle.place_table.specs.Plays.{TakesTicket}
 use Rattle.place_table.specs.Owners.{InnermostOwnersFit}
 use Rattle.place_table.proofs.TicketsTaken.{IsTicketed, put_unticketed, notes_unticketed, owners_unticketed, numbered_by}
-use Rattle.place_table.specs.Recording.{IsLost, RecordsIn, Records, recorded_step, last_from, last_in, entry_given, no_entry, history_with}
+use Rattle.place_table.specs.Recording.{Recorded, IsLost, RecordsIn, Records, recorded_step, last_from, last_in, entry_given, no_entry, history_with}
 use Rattle.place_table.specs.Plays.{Seated, Took, AreElements, IsApartFromHands, GivesBack, GivesSome, entry_by, IsKeptOrLost, MayPut, MayGive, OwnerFits, SeesOwner, HomeFits, SeesHome}
 use Rattle.place_table.specs.TurnNotes.{NotesFit, InnermostFits}
 use Rattle.place_table.specs.Passes.{PassView, TableView, Carries, HandsReal, IsPass, IsPassOf, with_view, without_content, entry_of, HasBegun, SparesDiffer, TookLock, CanGive, Gave, GaveSome, SawOwner, SawHome, spare_of}

@@ -7,7 +7,16 @@ use Rattle.place_words.specs.declared.history.Part.TheVariants.{Free}
 use Rattle.place_words.specs.declared.free_part.FreePart.TheVariants.{FoundEmpty}
 use Rattle.place_words.specs.declared.history.StrandStep.{StrandStep}
 use Rattle.place_table.specs.declared.content.Behind.{Behind}
-use Rattle.place_table.specs.declared.steps.Recorded.{Recorded}
+use Rattle.place_table.specs.declared.content.Content.{Content}
+
+-- a history after a turn, and the entry of the turn where it isn't in it
+pub record Recorded : Type 0 where
+  pub history : Option (Vec Entry Global)
+  pub lost : Option Entry
+
+-- what stands in a slot with a content and a history
+abbrev pub filled : Content → Option (Vec Entry Global) → Behind
+filled content history = record { content = Some content; history = history }
 
 -- the step of a strand that names this place in the lock's history
 abbrev pub recorded_step : DomainId → ℕ → StrandStep

@@ -1,7 +1,5 @@
 //! What lies under a lock.
 
-ghost use Rattle.std.specs.Prelude.{◌≡◌, None};
-
 use bucket_chain::Chain;
 use cpu_freelist::Freelist;
 use linked_rows::LinkedRows;
@@ -32,16 +30,4 @@ pub enum Content {
 pub struct Behind {
     pub content: Option<Content>,
     pub history: Option<Vec<Entry>>,
-}
-
-impl Behind {
-    /// What stands in a slot while its value is out.
-    pub(crate) fn nothing() -> Behind
-        ensures { (result.content ≡ None) × (result.history ≡ None) }
-    {
-        Behind {
-            content: None,
-            history: None,
-        }
-    }
 }

@@ -1,6 +1,8 @@
 //! Single steps on the words of the table, by the seat of a pass.
 
-ghost use Rattle.std.specs.Prelude.{◌≡◌, ℕ, List, [], ◌+◌, ◌*◌, ◌<◌, ◌^◌, ◌∷◌, ◌++◌, length, true, IsTrue, MatchBool, MatchOption, IfSome, IfNone, Some, None};
+ghost use Rattle.std.specs.Prelude.{◌≡◌, ℕ, List, [], ◌+◌, ◌*◌, ◌<◌, ◌^◌, ◌∷◌, ◌++◌, length, true, IsTrue, MatchBool, MatchOption, IfSome, IfNone, Option, Some, None, Vec};
+ghost use Rattle.std.specs.Global.{Global};
+ghost use Rattle.place_words.specs.declared.history.Entry.{Entry};
 ghost use Rattle.atomic_table.specs.Table.{rest};
 ghost use Rattle.map_types.specs.declared.kind.DomainId.TheVariants as locks;
 ghost use Rattle.place_words.specs.Locks.{lock_count, lock_named, lock_number, is_lock};
@@ -16,7 +18,7 @@ ghost use Rattle.place_table.specs.Nested.{MayTake};
 ghost use Rattle.place_table.specs.Words.{word_count, owner_word, home_word, bit_word, ticket_word};
 ghost use Rattle.place_table.specs.declared.view.Ticket.TheVariants.{Unread};
 ghost use Rattle.place_table.specs.Plays.{MayClear, Took, MayGive, IsInnermost, GivesBack, GivesSome, entry_by, TakesTicket, SeesTicket, Marks, Clears, SeesBit, SeesOwner, SeesHome};
-ghost use Rattle.place_table.specs.Recording.{Records, entry_given, history_with};
+ghost use Rattle.place_table.specs.Recording.{Records, entry_given, filled, history_with};
 ghost use Rattle.place_table.specs.Passes.{without_content};
 ghost use Rattle.place_table.specs.TurnNotes.{NotesFit};
 
@@ -83,67 +85,99 @@ pub(crate) fn unload(shared: &SharedTable, seat: &mut TableSeat, lock: u32) -> O
         × (result ≡ behind.content)
         × (seat.new.me ≡ (seat.old.me.0, (lock, without_content behind) ∷ rest seat.old.me.1)) }
 {
-    let Behind { content, history } = shared.exchange(seat, lock as usize, Behind::nothing());
-    // What comes out is the empty slot from above.
-    let _ = shared.exchange(
-        seat,
-        lock as usize,
-        Behind {
-            content: None,
-            history,
-        },
-    );
-    content
+    seat.slot_mut(shared, lock as usize).content.take()
 }
 
-/// The history, or none where the turn has no ticket, and so no entry.
-pub(crate) fn kept_with(ticket: &Option<u64>, history: Option<Vec<Entry>>) -> Option<Vec<Entry>>
-    ensures { result ≡ history_with ticket.now history }
-{
-    match ticket {
-        Some(_) => history,
-        None => None,
-    }
-}
-
-/// A history after a turn, and the entry of the turn where there was no memory for it. There is no history then.
-#[derive(Drop)]
-pub(crate) struct Recorded {
-    pub(crate) history: Option<Vec<Entry>>,
-    pub(crate) lost: Option<Entry>,
-}
-
-/// The history with the entry, and the strand with its step. Where there was no history, or there is no memory for both,
-/// there is none from then on, and the strand stays.
-pub(crate) fn record_turn(
+/// Puts a content into the slot that was taken last, and records the turn in its history and in the strand. Without a ticket the
+/// turn has no entry, and the history is given up. The entry comes back where it isn't recorded.
+pub(crate) fn put_back(
+    shared: &SharedTable,
+    seat: &mut TableSeat,
+    number: u32,
+    content: Content,
+    ticket: &Option<u64>,
     strand: &mut Vec<StrandStep>,
-    history: Option<Vec<Entry>>,
     lock: DomainId,
     entry: Entry,
-) -> Recorded
-    ensures { Records history lock entry strand.old.items strand.new.items result }
+) -> Option<Entry>
+    requires table { seat.old.table_id ≡ shared.now.table_id }
+    requires slot { (behind : Behind) × (seat.old.me.1 ≡ (number, behind) ∷ rest seat.old.me.1) }
+    ensures seat { (seat.new.table_id ≡ seat.old.table_id) × (seat.new.id ≡ seat.old.id) }
+    ensures put { (behind : Behind) × (history : Option (Vec Entry Global))
+        × (seat.old.me.1 ≡ (number, behind) ∷ rest seat.old.me.1)
+        × Records (history_with ticket.now behind.history) lock entry strand.old.items
+        strand.new.items record { history = history; lost = result }
+        × (seat.new.me
+        ≡ (seat.old.me.0, (number, filled content history) ∷ rest seat.old.me.1)) }
 {
-    let Some(mut history) = history else {
-        return Recorded {
-            history: None,
-            lost: Some(entry),
-        };
+    let behind = seat.slot_mut(shared, number as usize);
+    fill(behind, content, ticket, strand, lock, entry)
+}
+
+/// Puts a content into the slot that was taken last, and gives up its history.
+pub(crate) fn put_unrecorded(
+    shared: &SharedTable,
+    seat: &mut TableSeat,
+    number: u32,
+    content: Content,
+)
+    requires table { seat.old.table_id ≡ shared.now.table_id }
+    requires slot { (behind : Behind) × (seat.old.me.1 ≡ (number, behind) ∷ rest seat.old.me.1) }
+    ensures seat { (seat.new.table_id ≡ seat.old.table_id) × (seat.new.id ≡ seat.old.id) }
+    ensures put { seat.new.me
+        ≡ (seat.old.me.0, (number, filled content None) ∷ rest seat.old.me.1) }
+{
+    *seat.slot_mut(shared, number as usize) = Behind {
+        content: Some(content),
+        history: None,
     };
-    if history.reserve(1).is_err() || strand.reserve(1).is_err() {
-        return Recorded {
-            history: None,
-            lost: Some(entry),
-        };
+}
+
+/// What stands in a slot, with the content that it lacked, and with the turn in its history.
+fn fill(
+    behind: &mut Behind,
+    content: Content,
+    ticket: &Option<u64>,
+    strand: &mut Vec<StrandStep>,
+    lock: DomainId,
+    entry: Entry,
+) -> Option<Entry>
+    ensures content { behind.new.content ≡ Some content }
+    ensures recorded { Records (history_with ticket.now behind.old.history) lock entry strand.old.items strand.new.items
+        record { history = behind.new.history; lost = result } }
+{
+    behind.content = Some(content);
+    if ticket.is_none() {
+        behind.history = None;
+        return Some(entry);
+    }
+    record_turn(strand, &mut behind.history, lock, entry)
+}
+
+/// The history with the entry, and the strand with its step. Where there was no history, or there is no memory for both, there
+/// is none from then on, the strand stays, and the entry comes back.
+fn record_turn(
+    strand: &mut Vec<StrandStep>,
+    history: &mut Option<Vec<Entry>>,
+    lock: DomainId,
+    entry: Entry,
+) -> Option<Entry>
+    ensures { Records history.old lock entry strand.old.items strand.new.items
+        record { history = history.new; lost = result } }
+{
+    let Some(entries) = history else {
+        return Some(entry);
+    };
+    if entries.reserve(1).is_err() || strand.reserve(1).is_err() {
+        *history = None;
+        return Some(entry);
     }
     strand.push_reserved(StrandStep {
         lock,
-        index: history.len() as u64,
+        index: entries.len() as u64,
     });
-    history.push_reserved(entry);
-    Recorded {
-        history: Some(history),
-        lost: None,
-    }
+    entries.push_reserved(entry);
+    None
 }
 
 /// Draws the ticket of the turn of the lock that was taken last, which is still held. None where the ticket word has 2^63 or

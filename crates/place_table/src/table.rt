@@ -14,8 +14,8 @@ use crate::owners::{attach_word, claim_word, detach_word, settle_word};
 use crate::pass::Pass;
 use crate::rule::Law;
 use crate::steps::{
-    Recorded, clear_bit, give_lock, kept_with, lose_lock, read_bit, read_home, read_owner,
-    read_ticket, record_turn, set_bit, take_lock, take_ticket, unload,
+    clear_bit, give_lock, lose_lock, put_back, put_unrecorded, read_bit, read_home, read_owner,
+    read_ticket, set_bit, take_lock, take_ticket, unload,
 };
 use crate::view::View;
 use atomic_table::Table;
@@ -171,21 +171,15 @@ impl PlaceTable {
             call: pass.call,
             part,
         };
-        let Behind { history, .. } = shared.exchange(
+        let lost = put_back(
+            shared,
             &mut pass.seat,
-            number as usize,
-            Behind::nothing(),
-        );
-        let history = kept_with(&ticket, history);
-        let Recorded { history, lost } = record_turn(&mut pass.strand, history, lock, entry);
-        // What comes out is the empty slot from above.
-        let _ = shared.exchange(
-            &mut pass.seat,
-            number as usize,
-            Behind {
-                content: Some(content),
-                history,
-            },
+            number,
+            content,
+            &ticket,
+            &mut pass.strand,
+            lock,
+            entry,
         );
         give_lock::<Brand>(shared, &mut pass.seat, number, &lost, &pass.strand);
     }
@@ -198,15 +192,7 @@ impl PlaceTable {
         let shared = &self.table.shared;
         let number = lock_number(&self.shape, lock);
         let _ = take_ticket(shared, &mut pass.seat, self.ticket_word());
-        // What comes out has no content, and its history is given up.
-        let _ = shared.exchange(
-            &mut pass.seat,
-            number as usize,
-            Behind {
-                content: Some(content),
-                history: None,
-            },
-        );
+        put_unrecorded(shared, &mut pass.seat, number, content);
         lose_lock::<Brand>(shared, &mut pass.seat, number, pass.cpu, pass.call);
     }
 
