@@ -1,8 +1,9 @@
 -- What lies under each lock at first.
-use Rattle.std.proofs.Common.{◌≡◌, ℕ, suc, ◌+◌, ◌<◌, ◌≤◌, Bool, true, false, not, ◌&&◌, cond, ltb, List, [], ◌∷◌, ◌++◌, length, ap, ◌∙◌, sym, subst, ⊎_elim, arith}
+use Rattle.std.proofs.Common.{◌≡◌, ℕ, suc, ◌+◌, ◌<◌, ◌≤◌, Bool, true, false, not, ◌&&◌, cond, ltb, List, [], ◌∷◌, ◌++◌, length, All, Option, Some, ap, ◌∙◌, sym, subst, ⊎_elim, arith}
 use Rattle.std.specs.Prelude.{filter, nat_lt}
-use Rattle.std.proofs.lemmas.Bool.{cases_Bool, cases_eq, and_parts, ltb-true}
+use Rattle.std.proofs.lemmas.Bool.{cases_Bool, cases_eq, and_parts, lt-ltb, ltb-true}
 use Rattle.std.proofs.lemmas.List.{length-append}
+use Rattle.std.proofs.lemmas.List.Elements.{All-nil}
 use Rattle.atomic_table.proofs.Lists.{at_last, at_longer}
 use Rattle.map_types.specs.declared.attr.Shape.{Shape}
 use Rattle.map_types.specs.declared.kind.DomainId.{DomainId}
@@ -10,7 +11,10 @@ use Rattle.map_types.specs.declared.kind.DomainId.TheVariants.{Local, Global, Cp
 use Rattle.map_types.specs.ElementLists.{one, times, IsIn}
 use Rattle.map_types.specs.Shape.{HasBounds}
 use Rattle.map_types.specs.Kind.{is_lru}
-use Rattle.place_words.specs.Locks.{is_lock, lock_number}
+use Rattle.map_types.specs.Stored.{IsSized}
+use Rattle.percpu_values.specs.BodyList.{BodyList}
+use Rattle.place_words.specs.Histories.{in_bucket}
+use Rattle.place_words.specs.Locks.{is_lock, first_bucket, lock_named, lock_number}
 use Rattle.place_words.proofs.LockLemmas.{named_by_number}
 use Rattle.place_words.specs.Openings.{is_free, opening_owner, opening_pushed, opening_free}
 use Rattle.place_words.specs.Shares.{share_count}
@@ -19,7 +23,10 @@ use Rattle.place_words.proofs.OpeningLaws.{opening_placed}
 use Rattle.place_words.proofs.OpeningLemmas.{first_next, first_up, first_of_all}
 use Rattle.place_words.proofs.RowLemmas.{stands_where}
 use Rattle.place_table.specs.declared.content.Behind.{Behind}
-use Rattle.place_table.specs.Opening.{IsFirstSlot, AreFirstSlots}
+use Rattle.place_table.specs.declared.content.Content.{Content}
+use Rattle.place_table.specs.declared.content.Content.TheVariants as lying
+use Rattle.place_table.specs.Opening.{IsFirstContent, IsFirstSlot, AreFirstSlots}
+use Rattle.place_table.specs.Rules.{KeptAs}
 use Rattle.place_table.proofs.FirstSpares.{length_pushed, length_stack}
 
 -- Locks
@@ -112,3 +119,12 @@ slots_more shape slots now slot n are last now_is =
           (λ (other : k ≡ n → ⊥). let found = are.each k (omega arith) in (found.0, at_longer slots (slot ∷ []) k found.0 found.1, found.2))
           (cases_eq k n);
     }
+
+-- the slot of an empty bucket
+pub bucket_first : (shape : Shape) (bucket : ℕ) (chain : BodyList) (slot : Behind) → bucket < shape.buckets → slot.content ≡ Some (lying.Bucket chain) → chain.bodies ≡ [] → KeptAs false [] slot → IsFirstSlot shape (first_bucket shape + bucket) slot
+bucket_first shape bucket chain slot within content_is none kept = record {
+  content = subst (λ (found : Option Content). IsFirstContent shape (lock_named shape (first_bucket shape + bucket)) found) (sym content_is)
+      (subst (λ (lock : DomainId). IsFirstContent shape lock (Some (lying.Bucket chain))) (sym (named_by_number shape (Bucket bucket) (lt-ltb bucket shape.buckets within)))
+      (ap in_bucket none, subst (All (IsSized shape)) (sym none) (All-nil (IsSized shape))));
+  kept = kept;
+}

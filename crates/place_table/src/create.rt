@@ -1,17 +1,19 @@
 //! What lies in a table at its opening.
 
-ghost use Rattle.std.specs.Prelude.{◌≡◌, ◌+◌, ◌<◌, ◌≤◌, ◌++◌, ℕ, false, [], length, map, replicate, All, IfOk, OnOk};
+ghost use Rattle.std.specs.Prelude.{◌≡◌, ◌+◌, ◌<◌, ◌≤◌, ◌++◌, ℕ, false, [], length, map, replicate, vec_capacity, All, IfOk, OnOk};
 ghost use Rattle.map_types.specs.Creation.{IsShape};
+ghost use Rattle.map_types.specs.declared.attr.Shape.{Shape};
 ghost use Rattle.map_types.specs.ElementLists.{times, IsIn};
 ghost use Rattle.map_types.specs.Stored.{IsSized};
 ghost use Rattle.place_words.specs.Bodies.{numbers};
 ghost use Rattle.place_words.specs.Codes.{owner_code, HasOwnerCode};
-ghost use Rattle.place_words.specs.Locks.{lock_count};
+ghost use Rattle.place_words.specs.Locks.{first_bucket, first_freelist, lock_count};
 ghost use Rattle.place_words.specs.Openings.{first_spares};
 ghost use Rattle.place_words.specs.Sets.{new_set};
 ghost use Rattle.place_words.specs.OpeningState.{AreOpeningOwners};
 ghost use Rattle.place_table.specs.Contents.{FitsSet, set_told};
 ghost use Rattle.place_table.specs.Opening.{IsFirstContent, IsFirstSlot, AreFirstSlots, AreBodiesOf};
+ghost use Rattle.place_table.specs.Rules.{KeptAs};
 ghost use Rattle.place_table.specs.Words.{opening_words, opening_home_codes};
 
 use crate::content::{Behind, Content, Listing};
@@ -77,8 +79,10 @@ pub(crate) fn first_words(
     requires owners { AreOpeningOwners shape.now owners.now }
     ensures { IfOk result (λ words. words.items ≡ opening_words shape.now) }
 {
-    let mut words = Vec::new(alloc);
-    push_zeros(&mut words, count_locks(shape))?;
+    let locks = count_locks(shape);
+    let count = locks as usize + 3 * shape.elements as usize + 1;
+    let mut words = Vec::with_capacity(alloc, count)?;
+    push_zeros(&mut words, locks)?;
     push_codes(&mut words, owners)?;
     push_homes(&mut words, shape)?;
     push_zeros(&mut words, shape.elements + 1)?;
@@ -164,6 +168,17 @@ fn first_content(
     }
 }
 
+/// A slot with this content, and with no turn of its lock.
+fn slot_with(alloc: Global, content: Option<Content>) -> Behind
+    ensures content { result.content ≡ content }
+    ensures kept { KeptAs false [] result }
+{
+    Behind {
+        content,
+        history: Some(Vec::new(alloc)),
+    }
+}
+
 /// What stands in the slot of a lock at first.
 fn first_slot(alloc: Global, shape: &Shape, owners: &[Owner], lock: u32) -> Result<Behind, NoMemory>
     requires shape { IsShape shape.now }
@@ -171,10 +186,50 @@ fn first_slot(alloc: Global, shape: &Shape, owners: &[Owner], lock: u32) -> Resu
     ensures { IfOk result (λ behind. IsFirstSlot shape.now lock behind) }
 {
     let content = first_content(alloc, shape, owners, lock_named(shape, lock))?;
-    Ok(Behind {
-        content,
-        history: Some(Vec::new(alloc)),
-    })
+    Ok(slot_with(alloc, content))
+}
+
+/// Adds what stands at first in the slots of the locks whose numbers are from one up to another, after those of all locks before.
+fn push_slots(
+    slots: &mut Vec<Behind>,
+    alloc: Global,
+    shape: &Shape,
+    owners: &[Owner],
+    first: u32,
+    past: u32,
+) -> Result<(), NoMemory>
+    requires shape { IsShape shape.now }
+    requires owners { AreOpeningOwners shape.now owners.now }
+    requires ascending { first ≤ past }
+    requires room { past ≤ vec_capacity slots.old }
+    requires before { AreFirstSlots shape.now first slots.old.items }
+    ensures after { OnOk result (AreFirstSlots shape.now past slots.new.items) }
+    ensures room { OnOk result (vec_capacity slots.new ≡ vec_capacity slots.old) }
+{
+    for lock in first..past {
+        slots.push_reserved(first_slot(alloc, shape, owners, lock)?);
+    }
+    Ok(())
+}
+
+/// The slot of an empty bucket.
+fn bucket_slot(alloc: Global) -> Behind
+    ensures { (shape : Shape) (bucket : ℕ) → bucket < shape.buckets
+        → IsFirstSlot shape (first_bucket shape + bucket) result }
+{
+    slot_with(alloc, Some(Content::Bucket(Chain::empty(alloc))))
+}
+
+/// Adds what stands at first in the slots of the buckets, after those of all locks before.
+fn push_buckets(slots: &mut Vec<Behind>, alloc: Global, shape: &Shape)
+    requires room { first_freelist shape.now ≤ vec_capacity slots.old }
+    requires before { AreFirstSlots shape.now (first_bucket shape.now) slots.old.items }
+    ensures after { AreFirstSlots shape.now (first_freelist shape.now) slots.new.items }
+    ensures room { vec_capacity slots.new ≡ vec_capacity slots.old }
+{
+    for _ in 0..shape.buckets {
+        slots.push_reserved(bucket_slot(alloc));
+    }
 }
 
 /// What stands in the slots of all locks at first.
@@ -187,10 +242,13 @@ pub(crate) fn first_slots(
     requires owners { AreOpeningOwners shape.now owners.now }
     ensures { IfOk result (λ slots. AreFirstSlots shape.now (lock_count shape.now) slots.items) }
 {
-    let mut slots = Vec::new(alloc);
-    for lock in 0..count_locks(shape) {
-        slots.push(first_slot(alloc, shape, owners, lock)?)?;
-    }
+    let first_bucket = 2 * shape.cpus + 1;
+    let first_freelist = first_bucket + shape.buckets;
+    let count = count_locks(shape);
+    let mut slots = Vec::with_capacity(alloc, count as usize)?;
+    push_slots(&mut slots, alloc, shape, owners, 0, first_bucket)?;
+    push_buckets(&mut slots, alloc, shape);
+    push_slots(&mut slots, alloc, shape, owners, first_freelist, count)?;
     Ok(slots)
 }
 
