@@ -5,9 +5,9 @@ ghost use Rattle.std.specs.List.{flat_map};
 ghost use Rattle.hex.specs.Hex.{encode_lower};
 ghost use Rattle.map_report.specs.Words.{bytes_text, counted, hash_digits, number_text, option_text};
 
+use itoa::Buffer;
 use map_types::{Bytes, Pairs};
 use std::alloc::AllocError;
-use std::fmt::Write;
 
 /// What is a piece of a report's text.
 pub(crate) trait Piece {
@@ -74,7 +74,7 @@ pub(crate) fn push_counted<T: Piece>(text: &mut String, items: &[T]) -> Result<(
 pub(crate) fn push_decimal(text: &mut String, number: u64) -> Result<(), AllocError>
     ensures { OnOk result (string_bytes text.new ≡ string_bytes text.old ++ decimal number) }
 {
-    write!(text, "{number}")
+    text.push_str(Buffer::new().format(number))
 }
 
 /// Adds a number behind a blank.

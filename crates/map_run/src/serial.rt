@@ -100,7 +100,7 @@ fn run_phases<R: Wait, G: Gate>(
         (phase_count script.now.cuts) pass.new told.replies.items told.starts.items
         told.pieces.items) }
 {
-    let mut replies = Vec::with_capacity(alloc, script.calls.len())?;
+    let mut replies = Vec::new(alloc);
     let mut starts = Vec::with_capacity(alloc, script.cuts.len() + 1)?;
     let mut pieces = Vec::with_capacity(alloc, script.cuts.len() + 1)?;
     let mut first = 0;
@@ -135,10 +135,14 @@ pub(crate) fn calls_between<'a>(calls: &'a [Call], first: usize, next: usize) ->
     &calls[first..next]
 }
 
-/// Puts the replies of a phase behind those of the phases before it.
+/// Puts the replies of a phase behind those of the phases before it. Those of the first phase are kept as they are.
 fn add_replies(replies: &mut Vec<Reply>, mut more: Vec<Reply>) -> Result<(), NoMemory>
     ensures { IfOk result (λ _. replies.new.items ≡ replies.old.items ++ more.items) }
 {
+    if replies.is_empty() {
+        *replies = more;
+        return Ok(());
+    }
     replies.append(&mut more)?;
     Ok(())
 }

@@ -4,6 +4,7 @@ ghost use Rattle.std.specs.Prelude.{◌≡◌};
 
 use map_report::RunRecord;
 use map_types::{List, Reply};
+use std::mem;
 
 /// How a run of the program ended.
 #[derive(Drop)]
@@ -36,5 +37,14 @@ impl<C: Drop> Finish<C> {
         ensures { result ≡ self.status }
     {
         self.status
+    }
+
+    /// The status, for a process that ends with it: what is kept is left to the system, which takes all memory back at once.
+    pub fn exit_status(self) -> u8
+        ensures { result ≡ self.status }
+    {
+        let status = self.status;
+        mem::forget(self);
+        status
     }
 }

@@ -9,7 +9,7 @@ use Rattle.run_records.proofs.BitsSeen.{whole_still}
 
 pub loop-phase-init : goal.loop-phase-init
 loop-phase-init g c = record {
-  ran = phases_first (table_of c.args.map.now) c.args.script.now c.args.pass.now c.in_ok-replies.replies.items c.in_ok-starts.starts.items c.in_ok-pieces.pieces.items c.requires.first c.in_ok-replies.ensures.items c.in_ok-starts.ensures.items c.in_ok-pieces.ensures.items;
+  ran = phases_first (table_of c.args.map.now) c.args.script.now c.args.pass.now c.new-replies.result.items c.in_ok-starts.starts.items c.in_ok-pieces.pieces.items c.requires.first c.new-replies.ensures.items c.in_ok-starts.ensures.items c.in_ok-pieces.ensures.items;
   first = refl;
 }
 
