@@ -1,9 +1,9 @@
 //! Copies of the bodies that a table leaves.
 
 ghost use Rattle.std.specs.Prelude.{◌≡◌, ◌<◌, All, IfOk, length};
-ghost use Rattle.map_types.specs.Parts.{part_size, part_at};
+ghost use Rattle.map_types.specs.Parts.{part_at};
 ghost use Rattle.map_types.specs.Sides.{part_count};
-ghost use Rattle.map_types.specs.Stored.{HasSizes, IsSized};
+ghost use Rattle.map_types.specs.Stored.{IsSized};
 
 use bucket_chain::Chain;
 use map_types::{Bytes, List, NoMemory, Shape};
@@ -35,7 +35,7 @@ fn body_copy(alloc: Global, shape: &Shape, body: &Body) -> Result<Kept, NoMemory
     ensures { IfOk result (λ kept. kept ≡ body.now) }
 {
     let key = Bytes::from_slice(alloc, body.key())?;
-    let values = List::of(parts_of(alloc, part_count(shape), shape.value_size, body)?);
+    let values = List::of(parts_of(alloc, part_count(shape), body)?);
     Ok(Kept {
         element: body.element(),
         key,
@@ -54,32 +54,22 @@ fn part_count(shape: &Shape) -> u32
     }
 }
 
-/// Copies of the parts of a body's values.
-fn parts_of(alloc: Global, parts: u32, size: u32, body: &Body) -> Result<Vec<Bytes>, NoMemory>
-    requires sized { HasSizes (length body.now.key) parts size body.now }
+/// Copies of the parts of a body's values, which are so many.
+fn parts_of(alloc: Global, parts: u32, body: &Body) -> Result<Vec<Bytes>, NoMemory>
+    requires { length body.now.values ≡ parts }
     ensures { IfOk result (λ values. values.items ≡ body.now.values) }
 {
     let mut values = Vec::with_capacity(alloc, parts as usize)?;
     for part in 0..parts {
-        values.push(own_of(alloc, part, size, body)?)?;
+        values.push(own_of(alloc, part, body)?)?;
     }
     Ok(values)
 }
 
 /// A copy of a part of a body's values.
-fn own_of(alloc: Global, part: u32, size: u32, body: &Body) -> Result<Bytes, NoMemory>
-    requires in_range { part < length body.now.values }
-    requires exact { size ≡ part_size body.now.values }
+fn own_of(alloc: Global, part: u32, body: &Body) -> Result<Bytes, NoMemory>
+    requires { part < length body.now.values }
     ensures { IfOk result (λ value. value ≡ part_at part body.now.values) }
 {
-    let mut out = zeros(alloc, size as usize)?;
-    body.values().read_own(part, out.as_mut_slice());
-    Bytes::from_slice(alloc, out.as_slice())
-}
-
-/// So many zeros.
-fn zeros(alloc: Global, count: usize) -> Result<Vec<u8>, NoMemory>
-    ensures { IfOk result (λ bytes. length bytes.items ≡ count) }
-{
-    Ok(vec![in alloc; 0; count]?)
+    Bytes::from_slice(alloc, body.values().part(part))
 }
