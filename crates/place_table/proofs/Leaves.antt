@@ -1,17 +1,19 @@
 -- What is left of the slots of a closed table.
-use Rattle.std.proofs.Common.{◌≡◌, ℕ, zero, suc, ◌+◌, ◌-◌, ◌<◌, ◌≤◌, Bool, true, false, cond, List, [], ◌∷◌, ◌++◌, length, get_or, take, drop, map, nat_lt, ⊎_elim, sym, refl, ap, ◌∙◌, add-one, append-nil, subst, arith, Option, Some, None, Vec, Global}
+use Rattle.std.proofs.Common.{◌≡◌, ℕ, zero, suc, ◌+◌, ◌<◌, ◌≤◌, Bool, true, false, cond, List, [], ◌∷◌, ◌++◌, length, get_or, get_or-set_other, get_or-set_same, set, eqb, take, drop, map, nat_lt, ⊎_elim, sym, refl, ap, ◌∙◌, add-one, append-nil, subst, arith, Option, Some, None, Vec, Global}
 use mathlib.Core.Option.{some, some-injective, some-ne-none}
 use lib.ListN.{get_elem?}
-use Rattle.std.specs.Prelude.{IsTrue, not, filter, slice_get, slice_range, All, ◌||◌, ◌&&◌, option_map, option_to_list, unwrap_or}
+use Rattle.std.specs.Prelude.{IsTrue, IsOk, OnOk, Result, Ok, Err, not, filter, slice_get, ◌||◌, ◌&&◌, option_map, option_to_list, unwrap_or}
 use Rattle.std.specs.List.{flat_map, range_with_len, list_any}
-use Rattle.std.proofs.lemmas.Bool.{cases_Bool}
+use Rattle.std.proofs.lemmas.Bool.{cases_Bool, false≢true}
 use Rattle.std.proofs.lemmas.Grind.{flat_map-append}
-use Rattle.std.proofs.lemmas.List.{take_more, map-append, get_or_default, get_or-map, get_or-take, get_or-drop, length-map, length-take-le, length-drop, ext_get_or}
+use Rattle.std.proofs.lemmas.List.{append_assoc, length-set, take_more, map-append, get_or_default, get_or-map, get_or-take, get_or-drop, length-map, length-take-le, length-drop, ext_get_or}
+use Rattle.std.proofs.Math.Seq.{drop-append_seam, take-length}
 use Rattle.std.proofs.lemmas.List.FromFn.{length-map-range_with_len, get_or-map-range_with_len}
 use Rattle.std.proofs.lemmas.List.Elements.{filter-append}
 use Rattle.std.proofs.lemmas.List.Folds.{list_any-append}
 use Rattle.std.proofs.lemmas.Option.{get_or_from_slice_get, slice_get_within}
 use Rattle.std.proofs.lemmas.Bool.Decides.{nat_tests}
+use Rattle.std.proofs.lemmas.Result.{on_ok_weaker}
 use Rattle.map_types.specs.declared.attr.Shape.{Shape}
 use Rattle.map_types.specs.declared.kind.DomainId.{DomainId}
 use Rattle.map_types.specs.declared.kind.DomainId.TheVariants as named
@@ -37,7 +39,7 @@ use Rattle.place_table.specs.declared.content.Content.TheVariants as lying
 use Rattle.place_table.specs.Contents.{content_told, FitsLock}
 use Rattle.place_table.specs.Closing.{AreSlots, has_lock, all_locks, history_of, state_left}
 use Rattle.place_table.proofs.Worlds.{by_bool}
-use Rattle.place_table.specs.Leaving.{Logs, bodies_in, numbers_in, set_in, locals_in, freelists_in, sets_in, all_locals_in, spares_in, HasSizedBodies, IsHistory, HaveHistories, AreContents, AreKept}
+use Rattle.place_table.specs.Leaving.{Logs, bodies_in, numbers_in, set_in, locals_in, freelists_in, sets_in, all_locals_in, spares_in, HasSizedBodies, IsHistory, HaveHistories, AreApart, AreContents, AreKept, AreTaken}
 
 -- one body more of a copy
 pub take_body : (bodies done now : List Stored) (place : ℕ) (body : Stored) → done ≡ take place bodies → slice_get bodies place ≡ Some body → now ≡ done ++ body ∷ [] → now ≡ take (place + 1) bodies
@@ -126,13 +128,6 @@ kept_one shape log lost n kept now some_lost entries there stays turns pushed is
           ∙ ap (λ (b : Bool). map (history_of shape log) (filter (λ k. not (lost k)) locks) ++ map (history_of shape log) (cond (not b) (n ∷ []) [])) stays);
       lost_is = is.lost_is ∙ sym (ap (list_any lost) more ∙ any_last lost locks n false stays ∙ or_false (list_any lost locks));
     }
-
--- the history of a lock is where its number is
-pub history_at : (shape : Shape) (log : Logs) (lost : ℕ → Bool) (histories : List (Option (Vec Entry Global))) (k n : ℕ) (history : Option (Vec Entry Global)) → HaveHistories shape log lost histories → length histories ≡ lock_count shape
-    → n ≡ k → k < length histories → history ≡ get_or histories k history → has_lock shape n ≡ true → IsHistory (lost n) (log n) history
-history_at shape log lost histories k n history told counted same within at there =
-    let here : get_or histories n None ≡ history = ap (λ (i : ℕ). get_or histories i None) same ∙ get_or_default histories k None history within ∙ sym at in
-    subst (IsHistory (lost n) (log n)) here (told n (omega arith) there)
 
 -- a lock of the map whose record is lost is one of all
 any_between : (test lost : ℕ → Bool) (k a n : ℕ) → a ≤ k → k < a + n → test k ≡ true → lost k ≡ true → list_any lost (filter test (range_with_len a n)) ≡ true
@@ -251,23 +246,27 @@ where_none shape lock tell (name ∷ names) none =
 
 module _ (shape : Shape) (log : Logs) (bit : ℕ → Bool) (spares : List (Option Stored)) (contents : List (Option Content)) (lies : AreContents shape log contents) (counted : length contents ≡ lock_count shape) where
   -- the contents of the buckets' locks are their bodies
-  buckets_told : (first count : ℕ) (buckets : List (List Stored)) → first ≡ first_bucket shape → count ≡ shape.buckets → buckets ≡ map bodies_in (take count (drop first contents))
+  buckets_told : (buckets : List (List Stored)) → buckets ≡ drop (first_bucket shape) (take (first_freelist shape) (map bodies_in contents))
       → buckets ≡ where_lock shape named.Bucket (bucket_at shape (state_left shape log bit spares)) (range_with_len 0 shape.buckets)
-  buckets_told first count buckets first_is count_is are =
-      let long : length (take count (drop first contents)) ≡ count = length-take-le count (drop first contents) (simp length-drop (omega arith)) in
+  buckets_told buckets are =
+      let all : List (List Stored) = map bodies_in contents in
+      let whole : length all ≡ length contents = length-map contents bodies_in in
+      let front : length (take (first_freelist shape) all) ≡ first_freelist shape = length-take-le (first_freelist shape) all (omega arith) in
+      let long : length (drop (first_bucket shape) (take (first_freelist shape) all)) ≡ shape.buckets = simp length-drop (omega arith) in
       where_all shape named.Bucket (bucket_at shape (state_left shape log bit spares)) shape.buckets [] buckets (λ bucket within. passes_below bucket shape.buckets within)
-      (ap length are ∙ length-map (take count (drop first contents)) bodies_in ∙ long ∙ count_is)
+      (ap length are ∙ long)
       (λ bucket within.
       let at = at_lock shape log contents (named.Bucket bucket) (passes_below bucket shape.buckets within) lies in
       ap (λ (l : List (List Stored)). get_or l bucket []) are
-      ∙ get_or-map bodies_in (take count (drop first contents)) bucket None [] (subst (λ (n : ℕ). bucket < n) (sym long) (omega arith))
-      ∙ ap bodies_in (get_or-take count (drop first contents) bucket None (omega arith) ∙ get_or-drop first contents bucket None
-      ∙ ap (λ (i : ℕ). get_or contents (i + bucket) None) first_is ∙ at.1)
+      ∙ get_or-drop (first_bucket shape) (take (first_freelist shape) all) bucket []
+      ∙ get_or-take (first_freelist shape) all (first_bucket shape + bucket) [] (omega arith)
+      ∙ get_or-map bodies_in contents (first_bucket shape + bucket) None [] (omega arith)
+      ∙ ap bodies_in at.1
       ∙ bucket_told shape bucket at.0 at.3
       ∙ ap (λ (c : histories.Content). unwrap_or (bucket_in c) []) at.2)
 
   -- those of the freelists' locks their elements, where the map doesn't evict
-  freelists_told : (freelists : List (List ℕ)) → freelists ≡ freelists_in shape contents → freelists ≡ where_lock shape named.Freelist (freelist_at shape (state_left shape log bit spares)) (range_with_len 0 shape.cpus)
+  freelists_told : (freelists : List (List ℕ)) → freelists ≡ freelists_in shape (drop (first_freelist shape) contents) → freelists ≡ where_lock shape named.Freelist (freelist_at shape (state_left shape log bit spares)) (range_with_len 0 shape.cpus)
   freelists_told freelists are =
       ⊎_elim
       (λ (evicts : is_lru shape.kind ≡ true).
@@ -310,21 +309,21 @@ module _ (shape : Shape) (log : Logs) (bit : ℕ → Bool) (spares : List (Optio
   abbrev shared_now : List SetFinal
   shared_now = where_lock shape (λ one. named.Global) (λ one. final_set (globals_at shape (state_left shape log bit spares))) (range_with_len 0 1)
 
-  shared_told : (sets : List SetFinal) → shape.common ≡ true → sets ≡ set_in (get_or contents (lock_number shape named.Global) None) ∷ [] → sets ≡ shared_now
+  shared_told : (sets : List SetFinal) → shape.common ≡ true → sets ≡ set_in (get_or (take (first_bucket shape) contents) (lock_number shape named.Global) None) ∷ [] → sets ≡ shared_now
   shared_told sets common are =
       where_all shape (λ one. named.Global) (λ one. final_set (globals_at shape (state_left shape log bit spares))) 1 (final_set (new_set [])) sets (λ one within. common) (ap length are)
       (λ one within.
       let at = at_lock shape log contents named.Global common lies in
       ap (λ (l : List SetFinal). get_or l one (final_set (new_set []))) are
-      ∙ ap (λ (n : ℕ). get_or (set_in (get_or contents (lock_number shape named.Global) None) ∷ []) n (final_set (new_set []))) (let none : one ≡ 0 = omega arith in none)
-      ∙ ap set_in at.1
+      ∙ ap (λ (n : ℕ). get_or (set_in (get_or (take (first_bucket shape) contents) (lock_number shape named.Global) None) ∷ []) n (final_set (new_set []))) (let none : one ≡ 0 = omega arith in none)
+      ∙ ap set_in (get_or-take (first_bucket shape) contents (lock_number shape named.Global) None (omega arith) ∙ at.1)
       ∙ shared_is_told shape at.0 at.3
       ∙ ap (λ (c : histories.Content). final_set (unwrap_or (global_in c) (new_set []))) at.2)
 
-  sets_told : (sets : List SetFinal) → sets ≡ sets_in shape contents → sets ≡ shared_now ++ where_lock shape named.CpuLru (λ cpu. final_set (own_at shape (state_left shape log bit spares) cpu)) (range_with_len 0 shape.cpus)
+  sets_told : (sets : List SetFinal) → sets ≡ sets_in shape (take (first_bucket shape) contents) → sets ≡ shared_now ++ where_lock shape named.CpuLru (λ cpu. final_set (own_at shape (state_left shape log bit spares) cpu)) (range_with_len 0 shape.cpus)
   sets_told sets are =
       let own : List SetFinal = where_lock shape named.CpuLru (λ cpu. final_set (own_at shape (state_left shape log bit spares) cpu)) (range_with_len 0 shape.cpus) in
-      let shared : List SetFinal = set_in (get_or contents (lock_number shape named.Global) None) ∷ [] in
+      let shared : List SetFinal = set_in (get_or (take (first_bucket shape) contents) (lock_number shape named.Global) None) ∷ [] in
       let run : List SetFinal = map set_in (drop (first_set shape) (take (first_bucket shape) contents)) in
       let no_own : ((cpu : ℕ) → is_lock shape (named.CpuLru cpu) ≡ false) → own ≡ [] = where_none shape named.CpuLru (λ cpu. final_set (own_at shape (state_left shape log bit spares) cpu)) (range_with_len 0 shape.cpus) in
       ⊎_elim
@@ -343,21 +342,22 @@ module _ (shape : Shape) (log : Logs) (bit : ℕ → Bool) (spares : List (Optio
       (cases_Bool shape.common)
 
   -- those of the local locks their elements and steal cursors
-  locals_told : (locals : List LocalFinal) → locals ≡ all_locals_in shape contents → locals ≡ where_lock shape named.Local (λ cpu. final_local (locals_at shape (state_left shape log bit spares) cpu)) (range_with_len 0 shape.cpus)
+  locals_told : (locals : List LocalFinal) → locals ≡ all_locals_in shape (take (first_bucket shape) contents) → locals ≡ where_lock shape named.Local (λ cpu. final_local (locals_at shape (state_left shape log bit spares) cpu)) (range_with_len 0 shape.cpus)
   locals_told locals are =
       let tell : ℕ → LocalFinal = λ cpu. final_local (locals_at shape (state_left shape log bit spares) cpu) in
-      let run : List (Option Content) = take shape.cpus contents in
+      let front : length (take (first_bucket shape) contents) ≡ first_bucket shape = length-take-le (first_bucket shape) contents (omega arith) in
+      let run : List (Option Content) = take shape.cpus (take (first_bucket shape) contents) in
       ⊎_elim
       (λ (common : shape.common ≡ true).
       let these : locals ≡ map locals_in run = are ∙ ap (λ (b : Bool). cond {A = List LocalFinal} b (map locals_in run) []) common in
-      let long : length run ≡ shape.cpus = length-take-le shape.cpus contents (omega arith) in
+      let long : length run ≡ shape.cpus = length-take-le shape.cpus (take (first_bucket shape) contents) (omega arith) in
       let there : (cpu : ℕ) → cpu < shape.cpus → is_lock shape (named.Local cpu) ≡ true = λ cpu within. ap (λ (b : Bool). b && nat_lt cpu shape.cpus) common ∙ passes_below cpu shape.cpus within in
       where_all shape named.Local tell shape.cpus (final_local (new_locals 0)) locals there (ap length these ∙ length-map run locals_in ∙ long)
       (λ cpu within.
       let at = at_lock shape log contents (named.Local cpu) (there cpu within) lies in
       ap (λ (l : List LocalFinal). get_or l cpu (final_local (new_locals 0))) these
       ∙ get_or-map locals_in run cpu None (final_local (new_locals 0)) (subst (λ (n : ℕ). cpu < n) (sym long) within)
-      ∙ ap locals_in (get_or-take shape.cpus contents cpu None within ∙ at.1)
+      ∙ ap locals_in (get_or-take shape.cpus (take (first_bucket shape) contents) cpu None within ∙ get_or-take (first_bucket shape) contents cpu None (omega arith) ∙ at.1)
       ∙ local_is_told shape cpu at.0 at.3
       ∙ ap (λ (c : histories.Content). final_local (unwrap_or (histories.locals_in c) (new_locals cpu))) at.2))
       (λ (apart : shape.common ≡ false).
@@ -366,16 +366,16 @@ module _ (shape : Shape) (log : Logs) (bit : ℕ → Bool) (spares : List (Optio
       (cases_Bool shape.common)
 
   -- all that is handed out of the map
-  pub finals_left : (first count : ℕ) (finals : Finals) → first ≡ first_bucket shape → count ≡ shape.buckets
-      → finals.buckets ≡ map bodies_in (take count (drop first contents)) → finals.freelists ≡ freelists_in shape contents → finals.spares ≡ spares_in shape spares
-      → finals.sets ≡ sets_in shape contents → finals.locals ≡ all_locals_in shape contents → finals.marked ≡ filter bit (range_with_len 0 shape.elements)
+  pub finals_left : (lists freelists : List (Option Content)) (buckets : List (List Stored)) (finals : Finals) → AreApart shape contents lists freelists buckets
+      → finals.buckets ≡ buckets → finals.freelists ≡ freelists_in shape freelists → finals.spares ≡ spares_in shape spares
+      → finals.sets ≡ sets_in shape lists → finals.locals ≡ all_locals_in shape lists → finals.marked ≡ filter bit (range_with_len 0 shape.elements)
       → finals ≡ finals_of shape (state_left shape log bit spares)
   unfolding finals_of
-  finals_left first count finals first_is count_is buckets freelists spares_are sets locals marked =
-      let all_buckets = buckets_told first count finals.buckets first_is count_is buckets in
-      let all_freelists = freelists_told finals.freelists freelists in
-      let all_sets = sets_told finals.sets sets in
-      let all_locals = locals_told finals.locals locals in
+  finals_left lists freelists buckets finals apart buckets_are freelists_are spares_are sets locals marked =
+      let all_buckets = buckets_told finals.buckets (buckets_are ∙ apart.buckets_are) in
+      let all_freelists = freelists_told finals.freelists (freelists_are ∙ ap (freelists_in shape) apart.freelists_are) in
+      let all_sets = sets_told finals.sets (sets ∙ ap (sets_in shape) apart.lists_are) in
+      let all_locals = locals_told finals.locals (locals ∙ ap (all_locals_in shape) apart.lists_are) in
       λ i. record { buckets = all_buckets i; freelists = all_freelists i; spares = spares_are i; sets = all_sets i; locals = all_locals i; marked = marked i }
 
 bucket_sized : (shape : Shape) (bucket : ℕ) (here : Content) → FitsLock shape (named.Bucket bucket) here → HasSizedBodies shape (Some here)
@@ -385,20 +385,14 @@ bucket_sized shape bucket (lying.Local lists) fits = absurd fits
 bucket_sized shape bucket (lying.Set set) fits = absurd fits
 
 -- the bodies under the buckets' locks have the sizes of the map
-pub buckets_sized : (shape : Shape) (log : Logs) (contents : List (Option Content)) → AreContents shape log contents → length contents ≡ lock_count shape → All (HasSizedBodies shape) (slice_range contents (first_bucket shape) (first_freelist shape))
-buckets_sized shape log contents lies counted = λ k d within.
-    let count : ℕ = first_freelist shape - first_bucket shape in
-    let long : length (take count (drop (first_bucket shape) contents)) ≡ count = length-take-le count (drop (first_bucket shape) contents) (simp length-drop (omega arith)) in
-    let below : k < shape.buckets = omega arith in
-    let at = at_lock shape log contents (named.Bucket k) (passes_below k shape.buckets below) lies in
-    let here : get_or (take count (drop (first_bucket shape) contents)) k d ≡ Some at.0 =
-    get_or_default (take count (drop (first_bucket shape) contents)) k d None within
-    ∙ get_or-take count (drop (first_bucket shape) contents) k None (omega arith) ∙ get_or-drop (first_bucket shape) contents k None ∙ at.1 in
-    subst (HasSizedBodies shape) (sym here) (bucket_sized shape k at.0 at.3)
+pub buckets_sized : (shape : Shape) (log : Logs) (contents : List (Option Content)) → AreContents shape log contents → (bucket : ℕ) → bucket < shape.buckets → HasSizedBodies shape (get_or contents (first_bucket shape + bucket) None)
+buckets_sized shape log contents lies bucket within =
+    let at = at_lock shape log contents (named.Bucket bucket) (passes_below bucket shape.buckets within) lies in
+    subst (HasSizedBodies shape) (sym at.1) (bucket_sized shape bucket at.0 at.3)
 
 -- ---- the slots, contents and histories apart
 
-part_at : {B : Type 0} (part : Behind → B) (slots : List Behind) (k : ℕ) (behind : Behind) (d : B) → get_elem? slots k ≡ some behind → get_or (map part slots) k d ≡ part behind
+pub part_at : {B : Type 0} (part : Behind → B) (slots : List Behind) (k : ℕ) (behind : Behind) (d : B) → get_elem? slots k ≡ some behind → get_or (map part slots) k d ≡ part behind
 part_at part [] k behind d at = absurd (some-ne-none behind (sym at))
 part_at part (x ∷ xs) zero behind d at = ap part (some-injective x behind at)
 part_at part (x ∷ xs) (suc k) behind d at = part_at part xs k behind d at
@@ -412,3 +406,72 @@ pub histories_apart : (shape : Shape) (log : Logs) (lost : ℕ → Bool) (slots 
 histories_apart shape log lost slots histories are is = λ k below there.
     let at = are.each k below there in
     subst (IsHistory (lost k) (log k)) (sym (ap (λ (l : List (Option (Vec Entry Global))). get_or l k None) is ∙ part_at (λ behind. behind.history) slots k at.0 None at.1)) at.2.kept
+
+-- one part of the slots more
+pub part_more : {B : Type 0} (part : Behind → B) (slots : List Behind) (i : ℕ) (behind : Behind) (first done now : List B) → i < length slots → get_elem? slots i ≡ some behind → take i (map part slots) ≡ first ++ done → now ≡ done ++ part behind ∷ []
+    → take (i + 1) (map part slots) ≡ first ++ now
+part_more {B} part slots i behind first done now within at so_far pushed =
+    take_more (map part slots) i (part behind) (subst (λ (n : ℕ). i < n) (sym (length-map slots part)) within)
+    ∙ (λ j. so_far j ++ part_at part slots i behind (part behind) at j ∷ [])
+    ∙ append_assoc first done (part behind ∷ [])
+    ∙ ap (λ (l : List B). first ++ l) (sym pushed)
+
+-- one slot more is empty
+pub taken_more : (filled : List Bool) (n : ℕ) → n < length filled → AreTaken n filled → AreTaken (n + 1) (set filled n false)
+taken_more filled n within are = record {
+  gone = λ k below. by_test k n (λ b. eqb k n ≡ b → get_or (set filled n false) k false ≡ false)
+      (λ here _. ap (λ (z : ℕ). get_or (set filled n false) z false) here ∙ get_or-set_same filled n false false within)
+      (λ other _. get_or-set_other filled n k false false (λ same. other same) ∙ are.gone k (omega arith)) refl;
+  full = λ k past below. get_or-set_other filled n k false false (λ same. omega arith) ∙ are.full k (omega arith) (subst (λ (m : ℕ). k < m) (length-set filled n false) below);
+}
+
+-- at first all are full
+pub first_taken : (filled : List Bool) → ((k : ℕ) → k < length filled → get_or filled k false ≡ true) → AreTaken 0 filled
+first_taken filled full = record { gone = λ k below. absurd (omega (arith, below)); full = λ k _ below. full k below }
+
+-- what comes out of the slots, where it was taken in order
+rest_of : {A : Type 0} (xs rest : List A) (n m : ℕ) → n ≤ length xs → take m xs ≡ take n xs ++ rest → rest ≡ drop n (take m xs)
+rest_of xs rest n m short is =
+    sym (ap (drop n) is ∙ ap (λ (k : ℕ). drop k (take n xs ++ rest)) (sym (length-take-le n xs short)) ∙ drop-append_seam (take n xs) rest)
+
+bodies_apart : (slots : List Behind) → map (λ (behind : Behind). bodies_in behind.content) slots ≡ map bodies_in (map (λ (behind : Behind). behind.content) slots)
+bodies_apart [] = refl
+bodies_apart (slot ∷ slots) = ap (λ (l : List (List Stored)). bodies_in slot.content ∷ l) (bodies_apart slots)
+
+pub all_apart : (shape : Shape) (slots : List Behind) (lists freelists : List (Option Content)) (buckets : List (List Stored)) → length slots ≡ lock_count shape
+    → take (first_bucket shape) (map (λ (behind : Behind). behind.content) slots) ≡ take 0 (map (λ (behind : Behind). behind.content) slots) ++ lists
+    → take (first_freelist shape) (map (λ (behind : Behind). bodies_in behind.content) slots) ≡ take (first_bucket shape) (map (λ (behind : Behind). bodies_in behind.content) slots) ++ buckets
+    → take (lock_count shape) (map (λ (behind : Behind). behind.content) slots) ≡ take (first_freelist shape) (map (λ (behind : Behind). behind.content) slots) ++ freelists
+    → AreApart shape (map (λ (behind : Behind). behind.content) slots) lists freelists buckets
+all_apart shape slots lists freelists buckets counted front middle back =
+    let contents : List (Option Content) = map (λ (behind : Behind). behind.content) slots in
+    let bodies : List (List Stored) = map (λ (behind : Behind). bodies_in behind.content) slots in
+    let long : length contents ≡ lock_count shape = length-map slots (λ (behind : Behind). behind.content) ∙ counted in
+    let many : length bodies ≡ lock_count shape = length-map slots (λ (behind : Behind). bodies_in behind.content) ∙ counted in record {
+      lists_are = rest_of contents lists 0 (first_bucket shape) (omega arith) front;
+      buckets_are = rest_of bodies buckets (first_bucket shape) (first_freelist shape) (omega arith) middle ∙ ap (λ (l : List (List Stored)). drop (first_bucket shape) (take (first_freelist shape) l)) (bodies_apart slots);
+      freelists_are = rest_of contents freelists (first_freelist shape) (lock_count shape) (omega arith) back
+          ∙ ap (drop (first_freelist shape)) (ap (λ (n : ℕ). take n contents) (sym long) ∙ take-length contents);
+    }
+
+-- the history of a slot, and a bucket's place among the locks
+pub history_in : (shape : Shape) (log : Logs) (lost : ℕ → Bool) (slots : List Behind) (k : ℕ) (behind : Behind) → HaveHistories shape log lost (map (λ (b : Behind). b.history) slots) → k < lock_count shape → get_elem? slots k ≡ some behind → has_lock shape k ≡ true → IsHistory (lost k) (log k) behind.history
+history_in shape log lost slots k behind told within at there =
+    subst (IsHistory (lost k) (log k)) (part_at (λ (b : Behind). b.history) slots k behind None at) (told k within there)
+
+pub bucket_named : (shape : Shape) (bucket : ℕ) → bucket < shape.buckets → lock_named shape (first_bucket shape + bucket) ≡ named.Bucket bucket
+bucket_named shape bucket within = named_by_number shape (named.Bucket bucket) (passes_below bucket shape.buckets within)
+
+pub has_bucket : (shape : Shape) (bucket : ℕ) → bucket < shape.buckets → has_lock shape (first_bucket shape + bucket) ≡ true
+has_bucket shape bucket within = ap (is_lock shape) (bucket_named shape bucket within) ∙ passes_below bucket shape.buckets within
+
+pub of_ok : {T E P : Type 0} (r : Result T E) → IsOk r → OnOk r P → P
+of_ok (Ok x) is p = p
+of_ok (Err e) is p = absurd (false≢true is)
+
+-- what holds where two calls in order gave values, and where one did
+pub both_ok : {T E P Q R : Type 0} (was now : Result T E) → OnOk now (IsOk was × P) → OnOk was Q → (Q → P → R) → OnOk now R
+both_ok {T} {E} {P} {Q} {R} was now added so_far more = on_ok_weaker {P = IsOk was × P} now (λ (both : IsOk was × P). more (of_ok was both.0 so_far) both.1) added
+
+pub where_ok : {T E P Q : Type 0} (r : Result T E) → OnOk r P → (P → Q) → OnOk r Q
+where_ok {T} {E} {P} {Q} r holds more = on_ok_weaker {P = P} r more holds

@@ -1,5 +1,5 @@
 -- What the slots of a closed table leave.
-use Rattle.std.specs.Prelude.{◌≡◌, ℕ, ◌<◌, Bool, true, false, not, List, [], ◌∷◌, map, filter, take, drop, Option, None, Some, MatchOption, option_map, option_to_list, All, Vec, slice_index_or, ◌||◌, if◌then◌else◌}
+use Rattle.std.specs.Prelude.{◌≡◌, ℕ, ◌<◌, ◌≤◌, Bool, true, false, not, List, [], ◌∷◌, length, vec_capacity, map, filter, take, drop, Option, None, Some, MatchOption, option_map, option_to_list, All, Vec, slice_index_or, ◌||◌, if◌then◌else◌}
 use Rattle.std.specs.Global.{Global}
 use Rattle.std.specs.List.{flat_map, range_with_len, list_any}
 use Rattle.map_types.specs.declared.attr.Shape.{Shape}
@@ -18,6 +18,7 @@ use Rattle.place_words.specs.Logs.{final_set, final_local}
 use Rattle.place_words.specs.Sets.{new_set}
 use Rattle.place_words.specs.Bodies.{numbers}
 use Rattle.local_lists.specs.LocalLists.{local_told}
+use Rattle.place_table.specs.declared.close.Emptied.{Emptied}
 use Rattle.place_table.specs.declared.content.Content.{Content}
 use Rattle.place_table.specs.declared.content.Content.TheVariants.{Bucket, Freelist, Local, Set}
 use Rattle.place_table.specs.Contents.{content_told, set_told, FitsLock}
@@ -52,15 +53,15 @@ locals_in content = final_local (new_locals 0)
 -- the freelists of a map that doesn't evict, by CPU; of one that evicts the set that the CPUs share, with their local lists by CPU,
 -- or a list set for each
 abbrev pub freelists_in : Shape → List (Option Content) → List (List ℕ)
-freelists_in shape contents = if is_lru shape.kind then [] else map numbers_in (drop (first_freelist shape) contents)
+freelists_in shape freelists = if is_lru shape.kind then [] else map numbers_in freelists
 
 abbrev pub sets_in : Shape → List (Option Content) → List SetFinal
-sets_in shape contents =
-    if shape.common then set_in (slice_index_or contents (lock_number shape named.Global) None) ∷ []
-    else (if is_lru shape.kind then map set_in (drop (first_set shape) (take (first_bucket shape) contents)) else [])
+sets_in shape lists =
+    if shape.common then set_in (slice_index_or lists (lock_number shape named.Global) None) ∷ []
+    else (if is_lru shape.kind then map set_in (drop (first_set shape) lists) else [])
 
 abbrev pub all_locals_in : Shape → List (Option Content) → List LocalFinal
-all_locals_in shape contents = if shape.common then map locals_in (take shape.cpus contents) else []
+all_locals_in shape lists = if shape.common then map locals_in (take shape.cpus lists) else []
 
 -- the elements of the spares that are kept, in the order of their CPUs
 abbrev pub spares_in : Shape → List (Option Stored) → List ℕ
@@ -89,6 +90,30 @@ AreContents shape log contents =
 pub record AreKept (shape : Shape) (log : Logs) (lost : ℕ → Bool) (n : ℕ) (kept : List LockHistory) (some_lost : Bool) : Type 0 where
   pub kept_are : kept ≡ map (history_of shape log) (filter (λ k. not (lost k)) (filter (has_lock shape) (range_with_len 0 n)))
   pub lost_is : some_lost ≡ list_any lost (filter (has_lock shape) (range_with_len 0 n))
+
+-- Of the contents of all slots, by number: what lay under the locks before the buckets, the bodies of the buckets, and what lay
+-- under the locks behind them.
+pub record AreApart (shape : Shape) (contents lists freelists : List (Option Content)) (buckets : List (List Stored)) : Type 0 where
+  pub lists_are : lists ≡ take (first_bucket shape) contents
+  pub buckets_are : buckets ≡ drop (first_bucket shape) (take (first_freelist shape) (map bodies_in contents))
+  pub freelists_are : freelists ≡ drop (first_freelist shape) contents
+
+-- the first n slots are empty, and the others full
+pub record AreTaken (n : ℕ) (slots : List Bool) : Type 0 where
+  pub gone : (k : ℕ) → k < n → slice_index_or slots k false ≡ false
+  pub full : (k : ℕ) → n ≤ k → k < length slots → slice_index_or slots k false ≡ true
+
+-- nothing came out yet, and there is room for all
+pub record HasRoom (shape : Shape) (emptied : Emptied) : Type 0 where
+  pub no_lists : emptied.lists.items ≡ []
+  pub room_for_lists : first_bucket shape ≤ vec_capacity emptied.lists
+  pub no_buckets : emptied.buckets.items ≡ []
+  pub room_for_buckets : shape.buckets ≤ vec_capacity emptied.buckets
+  pub no_freelists : emptied.freelists.items ≡ []
+  pub room_for_freelists : shape.cpus ≤ vec_capacity emptied.freelists
+  pub no_histories : emptied.histories.kept.items ≡ []
+  pub none_lost : emptied.histories.lost ≡ false
+  pub room_for_histories : lock_count shape ≤ vec_capacity emptied.histories.kept
 
 -- a strand that was kept, with its CPUs ascending
 abbrev pub finished_told : Shape → FinishedStrand → Strand

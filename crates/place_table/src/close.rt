@@ -1,13 +1,19 @@
 //! What is read and taken out of a table at its end.
 
-ghost use Rattle.std.specs.Prelude.{◌≡◌, ℕ, ◌+◌, ◌<◌, ◌≤◌, Bool, false, [], IfOk, filter, map, slice_index_or, vec_capacity};
+ghost use Rattle.std.specs.Prelude.{◌≡◌, ℕ, ◌+◌, ◌<◌, ◌≤◌, ◌++◌, ◌∷◌, Bool, true, false, None, [], IfOk, OnOk, IsOk, filter, length, map, slice_index_or, take, vec_capacity};
 ghost use Rattle.std.specs.List.{range_with_len};
 ghost use Rattle.std.specs.Slots.{slots_items, slots_filled, slots_len, IsFull};
+ghost use Rattle.map_types.specs.declared.attr.Shape.{Shape};
+ghost use Rattle.map_types.specs.Creation.{IsShape};
 ghost use Rattle.map_types.specs.ElementLists.{one};
+ghost use Rattle.place_words.specs.Locks.{lock_count, lock_named, first_bucket, first_freelist};
+ghost use Rattle.place_table.specs.Closing.{has_lock};
+ghost use Rattle.place_table.specs.Leaving.{Logs, bodies_in, HasRoom, HasSizedBodies, IsHistory, HaveHistories, AreApart, AreKept, AreTaken};
 
+use crate::body_copies::bucket_copy;
 use crate::content::{Behind, Content};
-use map_types::{List, NoMemory, Numbers};
-use place_words::Entry;
+use map_types::{DomainId, List, NoMemory, Numbers, Shape};
+use place_words::{Entry, Kept, LockHistory, is_lock, lock_named};
 use std::alloc::Global;
 
 /// The elements whose bit is set, where their words begin here.
@@ -33,27 +39,239 @@ pub(crate) fn marked_in(
     Ok(List::of(marked))
 }
 
-/// Takes all slots out, contents and histories apart.
-pub(crate) fn empty_out(
+/// The histories whose record isn't lost, and whether one is.
+#[derive(Drop)]
+pub(crate) struct Histories {
+    pub(crate) kept: Vec<LockHistory>,
+    pub(crate) lost: bool,
+}
+
+impl Histories {
+    /// Keeps the history of a lock, or that it is lost.
+    fn keep(&mut self, lock: DomainId, history: Option<Vec<Entry>>)
+        requires room { length self.old.kept.items < vec_capacity self.old.kept }
+        ensures kept { (shape : Shape) (log : Logs) (lost : ℕ → Bool) (n : ℕ)
+            → lock ≡ lock_named shape n → has_lock shape n ≡ true
+            → IsHistory (lost n) (log n) history
+            → AreKept shape log lost n self.old.kept.items self.old.lost
+            → AreKept shape log lost (n + 1) self.new.kept.items self.new.lost }
+        ensures capacity { vec_capacity self.new.kept ≡ vec_capacity self.old.kept }
+        ensures longer { length self.new.kept.items ≤ length self.old.kept.items + 1 }
+    {
+        let Some(entries) = history else {
+            self.lost = true;
+            return;
+        };
+        self.kept.push_reserved(LockHistory {
+            lock,
+            entries: List::of(entries),
+        });
+    }
+
+    /// Keeps the history of a lock, if the map has the lock, or that it is lost.
+    fn keep_numbered(&mut self, shape: &Shape, number: u32, history: Option<Vec<Entry>>)
+        requires shape { IsShape shape.now }
+        requires room { length self.old.kept.items < vec_capacity self.old.kept }
+        ensures kept { (log : Logs) (lost : ℕ → Bool)
+            → (has_lock shape.now number ≡ true → IsHistory (lost number) (log number) history)
+            → AreKept shape.now log lost number self.old.kept.items self.old.lost
+            → AreKept shape.now log lost (number + 1) self.new.kept.items self.new.lost }
+        ensures capacity { vec_capacity self.new.kept ≡ vec_capacity self.old.kept }
+        ensures longer { length self.new.kept.items ≤ length self.old.kept.items + 1 }
+    {
+        let lock = lock_named(shape, number);
+        if !is_lock(shape, lock) {
+            return;
+        }
+        self.keep(lock, history);
+    }
+}
+
+/// What comes out of the slots: what lay under the locks before the buckets, copies of the buckets, what lay under the locks
+/// behind them, and the histories.
+#[derive(Drop)]
+pub(crate) struct Emptied {
+    pub(crate) lists: Vec<Option<Content>>,
+    pub(crate) buckets: Vec<List<Kept>>,
+    pub(crate) freelists: Vec<Option<Content>>,
+    pub(crate) histories: Histories,
+}
+
+/// Room for all that comes out of the slots of a map.
+pub(crate) fn room_for(alloc: Global, shape: &Shape) -> Result<Emptied, NoMemory>
+    requires shape { IsShape shape.now }
+    ensures { IfOk result (λ emptied. HasRoom shape.now emptied) }
+{
+    let first_set = shape.cpus + 1;
+    let first_bucket = first_set + shape.cpus;
+    let count = first_bucket + shape.buckets + shape.cpus;
+    Ok(Emptied {
+        lists: Vec::with_capacity(alloc, first_bucket as usize)?,
+        buckets: Vec::with_capacity(alloc, shape.buckets as usize)?,
+        freelists: Vec::with_capacity(alloc, shape.cpus as usize)?,
+        histories: Histories {
+            kept: Vec::with_capacity(alloc, count as usize)?,
+            lost: false,
+        },
+    })
+}
+
+/// Takes the slots whose numbers are from one up to another out, contents and histories apart. All slots before are empty.
+fn take_lists(
+    shape: &Shape,
     closed: &mut atomic_table::Closed<Behind, Global>,
     contents: &mut Vec<Option<Content>>,
-    histories: &mut Vec<Option<Vec<Entry>>>,
-    count: usize,
+    histories: &mut Histories,
+    first: u32,
+    past: u32,
 )
-    requires full { IsFull closed.old.slots × (slots_len closed.old.slots ≡ count) }
-    requires room_for_contents { (contents.old.items ≡ []) × (count ≤ vec_capacity contents.old) }
-    requires room_for_histories { (histories.old.items ≡ [])
-        × (count ≤ vec_capacity histories.old) }
-    ensures contents { contents.new.items
-        ≡ map (λ behind. behind.content) (slots_items closed.old.slots) }
-    ensures histories { histories.new.items
-        ≡ map (λ behind. behind.history) (slots_items closed.old.slots) }
+    requires shape { IsShape shape.now }
+    requires within { (first ≤ past) × (past ≤ slots_len closed.old.slots)
+        × (slots_len closed.old.slots ≡ lock_count shape.now) }
+    requires before { AreTaken first (slots_filled closed.old.slots) }
+    requires room { (contents.old.items ≡ []) × (past ≤ first + vec_capacity contents.old) }
+    requires room_for_histories { (length histories.old.kept.items ≤ first)
+        × (past ≤ vec_capacity histories.old.kept) }
+    ensures contents { take past (map (λ behind. behind.content) (slots_items closed.old.slots))
+        ≡ take first (map (λ behind. behind.content) (slots_items closed.old.slots))
+        ++ contents.new.items }
+    ensures histories { (log : Logs) (lost : ℕ → Bool)
+        → HaveHistories shape.now log lost
+        (map (λ behind. behind.history) (slots_items closed.old.slots))
+        → AreKept shape.now log lost first histories.old.kept.items histories.old.lost
+        → AreKept shape.now log lost past histories.new.kept.items histories.new.lost }
+    ensures same { slots_items closed.new.slots ≡ slots_items closed.old.slots }
+    ensures count { slots_len closed.new.slots ≡ slots_len closed.old.slots }
+    ensures after { AreTaken past (slots_filled closed.new.slots) }
+    ensures room { vec_capacity histories.new.kept ≡ vec_capacity histories.old.kept }
+    ensures few { length histories.new.kept.items ≤ past }
+{
+    for slot in first..past {
+        let Behind { content, history } = closed.take(slot as usize);
+        contents.push_reserved(content);
+        histories.keep_numbered(shape, slot, history);
+    }
+}
+
+/// A copy of a bucket.
+fn bucket_left(
+    alloc: Global,
+    shape: &Shape,
+    content: &Option<Content>,
+) -> Result<List<Kept>, NoMemory>
+    requires sized { HasSizedBodies shape.now content.now }
+    ensures { IfOk result (λ bucket. bucket ≡ bodies_in content.now) }
+{
+    match content {
+        Some(Content::Bucket(chain)) => bucket_copy(alloc, shape, chain),
+        _ => Ok(List::of(Vec::new(alloc))),
+    }
+}
+
+/// Adds a copy of a bucket, unless memory wasn't found before.
+fn add_bucket(
+    copied: Result<(), NoMemory>,
+    alloc: Global,
+    shape: &Shape,
+    content: &Option<Content>,
+    buckets: &mut Vec<List<Kept>>,
+) -> Result<(), NoMemory>
+    requires sized { HasSizedBodies shape.now content.now }
+    requires room { length buckets.old.items < vec_capacity buckets.old }
+    ensures added { OnOk result (IsOk copied
+        × (buckets.new.items ≡ buckets.old.items ++ bodies_in content.now ∷ [])) }
+    ensures capacity { vec_capacity buckets.new ≡ vec_capacity buckets.old }
+    ensures longer { length buckets.new.items ≤ length buckets.old.items + 1 }
+{
+    copied?;
+    buckets.push_reserved(bucket_left(alloc, shape, content)?);
+    Ok(())
+}
+
+/// Takes the slots of the buckets out, and copies the buckets while memory is found. All slots before are empty.
+fn take_buckets(
+    alloc: Global,
+    shape: &Shape,
+    closed: &mut atomic_table::Closed<Behind, Global>,
+    buckets: &mut Vec<List<Kept>>,
+    histories: &mut Histories,
+) -> Result<(), NoMemory>
+    requires shape { IsShape shape.now }
+    requires counted { slots_len closed.old.slots ≡ lock_count shape.now }
+    requires before { AreTaken (first_bucket shape.now) (slots_filled closed.old.slots) }
+    requires sized { (bucket : ℕ) → bucket < shape.now.buckets
+        → HasSizedBodies shape.now
+        (slice_index_or (map (λ behind. behind.content) (slots_items closed.old.slots))
+        (first_bucket shape.now + bucket) None) }
+    requires room { (buckets.old.items ≡ []) × (shape.now.buckets ≤ vec_capacity buckets.old) }
+    requires room_for_histories { (length histories.old.kept.items ≤ first_bucket shape.now)
+        × (first_freelist shape.now ≤ vec_capacity histories.old.kept) }
+    ensures buckets { OnOk result
+        (take (first_freelist shape.now)
+        (map (λ behind. bodies_in behind.content) (slots_items closed.old.slots))
+        ≡ take (first_bucket shape.now)
+        (map (λ behind. bodies_in behind.content) (slots_items closed.old.slots))
+        ++ buckets.new.items) }
+    ensures histories { (log : Logs) (lost : ℕ → Bool)
+        → HaveHistories shape.now log lost
+        (map (λ behind. behind.history) (slots_items closed.old.slots))
+        → AreKept shape.now log lost
+        (first_bucket shape.now) histories.old.kept.items histories.old.lost
+        → AreKept shape.now log lost
+        (first_freelist shape.now) histories.new.kept.items histories.new.lost }
+    ensures same { slots_items closed.new.slots ≡ slots_items closed.old.slots }
+    ensures count { slots_len closed.new.slots ≡ slots_len closed.old.slots }
+    ensures after { AreTaken (first_freelist shape.now) (slots_filled closed.new.slots) }
+    ensures room { vec_capacity histories.new.kept ≡ vec_capacity histories.old.kept }
+    ensures few { length histories.new.kept.items ≤ first_freelist shape.now }
+{
+    let first = 2 * shape.cpus as usize + 1;
+    let mut copied = Ok(());
+    for bucket in 0..shape.buckets {
+        let Behind { content, history } = closed.take(first + bucket as usize);
+        histories.keep(DomainId::Bucket(bucket), history);
+        copied = add_bucket(copied, alloc, shape, &content, buckets);
+    }
+    copied
+}
+
+/// Takes all slots out, and copies the buckets while memory is found.
+pub(crate) fn empty_out(
+    alloc: Global,
+    shape: &Shape,
+    closed: &mut atomic_table::Closed<Behind, Global>,
+    emptied: &mut Emptied,
+) -> Result<(), NoMemory>
+    requires shape { IsShape shape.now }
+    requires full { IsFull closed.old.slots × (slots_len closed.old.slots ≡ lock_count shape.now) }
+    requires sized { (bucket : ℕ) → bucket < shape.now.buckets
+        → HasSizedBodies shape.now
+        (slice_index_or (map (λ behind. behind.content) (slots_items closed.old.slots))
+        (first_bucket shape.now + bucket) None) }
+    requires room { HasRoom shape.now emptied.old }
+    ensures apart { OnOk result (AreApart shape.now
+        (map (λ behind. behind.content) (slots_items closed.old.slots))
+        emptied.new.lists.items emptied.new.freelists.items emptied.new.buckets.items) }
+    ensures histories { (log : Logs) (lost : ℕ → Bool)
+        → HaveHistories shape.now log lost
+        (map (λ behind. behind.history) (slots_items closed.old.slots))
+        → AreKept shape.now log lost
+        (lock_count shape.now) emptied.new.histories.kept.items emptied.new.histories.lost }
     ensures empty { (k : ℕ) → k < slots_len closed.new.slots
         → slice_index_or (slots_filled closed.new.slots) k false ≡ false }
 {
-    for slot in 0..count {
-        let Behind { content, history } = closed.take(slot);
-        contents.push_reserved(content);
-        histories.push_reserved(history);
-    }
+    let first_set = shape.cpus + 1;
+    let first_bucket = first_set + shape.cpus;
+    let first_freelist = first_bucket + shape.buckets;
+    let past = first_freelist + shape.cpus;
+    let Emptied {
+        lists,
+        buckets,
+        freelists,
+        histories,
+    } = emptied;
+    take_lists(shape, closed, lists, histories, 0, first_bucket);
+    let copied = take_buckets(alloc, shape, closed, buckets, histories);
+    take_lists(shape, closed, freelists, histories, first_freelist, past);
+    copied
 }

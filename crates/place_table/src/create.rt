@@ -189,7 +189,7 @@ fn first_slot(alloc: Global, shape: &Shape, owners: &[Owner], lock: u32) -> Resu
     Ok(slot_with(alloc, content))
 }
 
-/// Adds what stands at first in the slots of the locks whose numbers are from one up to another, after those of all locks before.
+/// Adds what stands at first in the slots whose numbers are from one up to another, after all slots before.
 fn push_slots(
     slots: &mut Vec<Behind>,
     alloc: Global,
@@ -220,7 +220,7 @@ fn bucket_slot(alloc: Global) -> Behind
     slot_with(alloc, Some(Content::Bucket(Chain::empty(alloc))))
 }
 
-/// Adds what stands at first in the slots of the buckets, after those of all locks before.
+/// Adds what stands at first in the slots of the buckets, after all slots before.
 fn push_buckets(slots: &mut Vec<Behind>, alloc: Global, shape: &Shape)
     requires room { first_freelist shape.now ≤ vec_capacity slots.old }
     requires before { AreFirstSlots shape.now (first_bucket shape.now) slots.old.items }

@@ -8,7 +8,7 @@ ghost use Rattle.place_table.specs.Closing.{IsClosed};
 ghost use Rattle.place_table.specs.Passes.{IsFirstPass, IsPassOf, IsInNoCall, CanSplit, Split, CanJoin, Joined};
 ghost use Rattle.place_table.specs.Views.{is_among};
 
-use crate::close::{empty_out, marked_in};
+use crate::close::{empty_out, marked_in, room_for};
 use crate::closed::Closed;
 use crate::cpus::{add_cpus, drop_cpu, first_cpus, one_cpu};
 use crate::create::{first_slots, first_words, spare_bodies};
@@ -176,15 +176,14 @@ impl PlaceTable {
             ended,
             spares,
         } = pass;
-        let count = table.slot_count();
         let first_bit = table.word_count() - shape.elements as usize - 1;
-        let mut contents = Vec::with_capacity(alloc, count)?;
-        let mut histories = Vec::with_capacity(alloc, count)?;
+        let mut emptied = room_for(alloc, &shape)?;
         let mut closed = table.close_with(seat);
         let marked = marked_in(alloc, &closed, first_bit, shape.elements);
-        empty_out(&mut closed, &mut contents, &mut histories, count);
+        let copied = empty_out(alloc, &shape, &mut closed, &mut emptied);
         closed.free();
         let ended = finish(ended, &cpus, strand);
-        read_slots(alloc, &shape, contents, histories, marked?, ended, &spares)
+        copied?;
+        read_slots(alloc, &shape, emptied, marked?, ended, &spares)
     }
 }

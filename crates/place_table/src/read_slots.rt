@@ -1,21 +1,21 @@
-//! What a closed table leaves, read of its slots.
+//! What a closed table leaves, read of what came out of its slots.
 
-ghost use Rattle.std.specs.Prelude.{◌≡◌, ◌<◌, ◌≤◌, ℕ, ◌+◌, Bool, List, [], ◌∷◌, None, true, false, All, IfOk, OnOk, drop, filter, length, map, slice_index_or, slice_range, take};
+ghost use Rattle.std.specs.Prelude.{◌≡◌, ◌<◌, ◌≤◌, ℕ, ◌+◌, Bool, List, [], ◌∷◌, None, Option, false, IfOk, drop, filter, length, map, slice_index_or, take};
 ghost use Rattle.std.specs.List.{range_with_len};
 ghost use Rattle.map_types.specs.Creation.{IsShape};
-ghost use Rattle.place_words.specs.Locks.{lock_count, first_bucket, first_freelist};
+ghost use Rattle.place_words.specs.Locks.{lock_count};
 ghost use Rattle.place_words.specs.Logs.{final_set, final_local};
 ghost use Rattle.local_lists.specs.LocalLists.{local_told};
 ghost use Rattle.place_words.specs.Locals.{new_locals};
 ghost use Rattle.place_words.specs.Sets.{new_set};
 ghost use Rattle.place_words.specs.Bodies.{numbers};
+ghost use Rattle.place_table.specs.declared.content.Content.{Content};
 ghost use Rattle.place_table.specs.declared.view.Ended.{Ended};
-ghost use Rattle.place_table.specs.Closing.{has_lock};
 ghost use Rattle.place_table.specs.Contents.{set_told};
-ghost use Rattle.place_table.specs.Leaving.{Logs, bodies_in, numbers_in, set_in, locals_in, freelists_in, sets_in, all_locals_in, spares_in, HasSizedBodies, IsHistory, HaveHistories, AreContents, AreKept, finished_told, AreTold, WasLeft};
+ghost use Rattle.place_table.specs.Leaving.{Logs, numbers_in, set_in, locals_in, freelists_in, sets_in, all_locals_in, spares_in, AreApart, AreContents, AreKept, finished_told, AreTold, WasLeft};
 ghost use Rattle.place_table.specs.Passes.{AreFinished};
 
-use crate::body_copies::bucket_copy;
+use crate::close::{Emptied, Histories};
 use crate::closed::Closed;
 use crate::content::{Content, Listing};
 use crate::strands::FinishedStrand;
@@ -24,35 +24,33 @@ use local_lists::LocalSet;
 use lru_lists::{ListName, ListSet};
 use map_types::{List, NoMemory, Numbers, Shape};
 use percpu_values::BoxedBody;
-use place_words::{
-    Entry, Finals, Kept, LocalFinal, LockHistory, SetFinal, Strand, is_lock, lock_named,
-};
+use place_words::{Finals, LocalFinal, LockHistory, SetFinal, Strand};
 use row_list::Rows;
 use std::alloc::Global;
 
-/// What is left of what lay in the slots, contents and histories apart, beside the marked elements, the strands and the
-/// spares. What may be long is shared, so that it is had once more without copies.
+/// What is left of what came out of the slots, beside the marked elements, the strands and the spares. What may be long is
+/// shared, so that it is had once more without copies.
 pub(crate) fn read_slots(
     alloc: Global,
     shape: &Shape,
-    contents: Vec<Option<Content>>,
-    histories: Vec<Option<Vec<Entry>>>,
+    emptied: Emptied,
     marked: Numbers,
     ended: Option<Vec<FinishedStrand>>,
     spares: &[Option<BoxedBody>; 16],
 ) -> Result<Closed, NoMemory>
     requires shape { IsShape shape.now }
-    requires counted { (length contents.items ≡ lock_count shape.now)
-        × (length histories.items ≡ lock_count shape.now) }
-    requires sized { All (HasSizedBodies shape.now)
-        (slice_range contents.items (first_bucket shape.now) (first_freelist shape.now)) }
+    requires counted { shape.now.cpus < length emptied.lists.items }
     ensures { (log : Logs) (lost bit : ℕ → Bool) (strands : List Ended)
-        → AreContents shape.now log contents.items
-        → HaveHistories shape.now log lost histories.items
+        (contents : List (Option Content)) → AreContents shape.now log contents
+        → length contents ≡ lock_count shape.now
+        → AreApart shape.now contents
+        emptied.lists.items emptied.freelists.items emptied.buckets.items
+        → AreKept shape.now log lost
+        (lock_count shape.now) emptied.histories.kept.items emptied.histories.lost
         → marked ≡ filter bit (range_with_len 0 shape.now.elements) → AreFinished strands ended
         → IfOk result (λ closed. WasLeft shape.now log lost bit strands spares.now closed) }
 {
-    let closed = closed_of(alloc, shape, contents, histories, marked, ended, spares)?;
+    let closed = closed_of(alloc, shape, emptied, marked, ended, spares)?;
     let same = share(alloc, closed)?;
     Ok(same)
 }
@@ -97,36 +95,38 @@ fn share_finals(alloc: Global, finals: Finals) -> Result<Finals, NoMemory>
     })
 }
 
-/// What is left of what lay in the slots, contents and histories apart, beside the marked elements, the strands and the
-/// spares.
+/// What is left of what came out of the slots, beside the marked elements, the strands and the spares.
 fn closed_of(
     alloc: Global,
     shape: &Shape,
-    contents: Vec<Option<Content>>,
-    histories: Vec<Option<Vec<Entry>>>,
+    emptied: Emptied,
     marked: Numbers,
     ended: Option<Vec<FinishedStrand>>,
     spares: &[Option<BoxedBody>; 16],
 ) -> Result<Closed, NoMemory>
     requires shape { IsShape shape.now }
-    requires counted { (length contents.items ≡ lock_count shape.now)
-        × (length histories.items ≡ lock_count shape.now) }
-    requires sized { All (HasSizedBodies shape.now)
-        (slice_range contents.items (first_bucket shape.now) (first_freelist shape.now)) }
+    requires counted { shape.now.cpus < length emptied.lists.items }
     ensures { (log : Logs) (lost bit : ℕ → Bool) (strands : List Ended)
-        → AreContents shape.now log contents.items
-        → HaveHistories shape.now log lost histories.items
+        (contents : List (Option Content)) → AreContents shape.now log contents
+        → length contents ≡ lock_count shape.now
+        → AreApart shape.now contents
+        emptied.lists.items emptied.freelists.items emptied.buckets.items
+        → AreKept shape.now log lost
+        (lock_count shape.now) emptied.histories.kept.items emptied.histories.lost
         → marked ≡ filter bit (range_with_len 0 shape.now.elements) → AreFinished strands ended
         → IfOk result (λ closed. WasLeft shape.now log lost bit strands spares.now closed) }
 {
-    let first_bucket = 2 * shape.cpus as usize + 1;
-    let first_freelist = first_bucket + shape.buckets as usize;
-    let buckets = buckets_left(alloc, shape, &contents[first_bucket..first_freelist])?;
+    let Emptied {
+        lists,
+        buckets,
+        freelists,
+        histories,
+    } = emptied;
     let Lists {
         freelists,
         sets,
         locals,
-    } = lists_left(alloc, shape, contents)?;
+    } = lists_left(alloc, shape, lists, freelists)?;
     let Turns {
         histories,
         strands,
@@ -148,37 +148,6 @@ fn closed_of(
     })
 }
 
-/// Copies of buckets.
-fn buckets_left(
-    alloc: Global,
-    shape: &Shape,
-    contents: &[Option<Content>],
-) -> Result<Vec<List<Kept>>, NoMemory>
-    requires sized { All (HasSizedBodies shape.now) contents.now }
-    ensures { IfOk result (λ buckets. buckets.items ≡ map bodies_in contents.now) }
-{
-    let mut buckets = Vec::with_capacity(alloc, contents.len())?;
-    for content in contents {
-        buckets.push(bucket_left(alloc, shape, content)?)?;
-    }
-    Ok(buckets)
-}
-
-/// A copy of a bucket.
-fn bucket_left(
-    alloc: Global,
-    shape: &Shape,
-    content: &Option<Content>,
-) -> Result<List<Kept>, NoMemory>
-    requires sized { HasSizedBodies shape.now content.now }
-    ensures { IfOk result (λ bucket. bucket ≡ bodies_in content.now) }
-{
-    match content {
-        Some(Content::Bucket(chain)) => bucket_copy(alloc, shape, chain),
-        _ => Ok(List::of(Vec::new(alloc))),
-    }
-}
-
 /// The lists of the CPUs.
 #[derive(Drop)]
 struct Lists {
@@ -192,30 +161,28 @@ struct Lists {
 fn lists_left(
     alloc: Global,
     shape: &Shape,
-    contents: Vec<Option<Content>>,
+    lists: Vec<Option<Content>>,
+    freelists: Vec<Option<Content>>,
 ) -> Result<Lists, NoMemory>
     requires shape { IsShape shape.now }
-    requires counted { length contents.items ≡ lock_count shape.now }
-    ensures freelists { IfOk result (λ lists. lists.freelists.items
-        ≡ freelists_in shape.now contents.items) }
-    ensures sets { IfOk result (λ lists. lists.sets.items ≡ sets_in shape.now contents.items) }
-    ensures locals { IfOk result (λ lists. lists.locals.items
-        ≡ all_locals_in shape.now contents.items) }
+    requires counted { shape.now.cpus < length lists.items }
+    ensures freelists { IfOk result (λ left. left.freelists.items
+        ≡ freelists_in shape.now freelists.items) }
+    ensures sets { IfOk result (λ left. left.sets.items ≡ sets_in shape.now lists.items) }
+    ensures locals { IfOk result (λ left. left.locals.items
+        ≡ all_locals_in shape.now lists.items) }
 {
-    let first_set = shape.cpus as usize + 1;
-    let first_bucket = first_set + shape.cpus as usize;
     if shape.common {
-        shared_left(alloc, contents, shape.cpus as usize)
+        shared_left(alloc, lists, shape.cpus as usize)
     } else if shape.kind.is_lru() {
         Ok(Lists {
             freelists: Vec::new(alloc),
-            sets: sets_left(alloc, contents, first_set, first_bucket)?,
+            sets: sets_left(alloc, lists, shape.cpus as usize + 1)?,
             locals: Vec::new(alloc),
         })
     } else {
-        let first_freelist = first_bucket + shape.buckets as usize;
         Ok(Lists {
-            freelists: freelists_left(alloc, contents, first_freelist)?,
+            freelists: freelists_left(alloc, freelists)?,
             sets: Vec::new(alloc),
             locals: Vec::new(alloc),
         })
@@ -302,17 +269,14 @@ fn local_free_left(alloc: Global, mut lists: LocalSet<Listing>) -> Result<Number
     Ok(List::of(elements))
 }
 
-/// The list sets, which stand from one place up to another.
+/// The list sets, which stand from one place on.
 fn sets_left(
     alloc: Global,
-    mut contents: Vec<Option<Content>>,
+    contents: Vec<Option<Content>>,
     first: usize,
-    past: usize,
 ) -> Result<Vec<SetFinal>, NoMemory>
-    ensures { IfOk result (λ sets. sets.items
-        ≡ map set_in (drop first (take past contents.items))) }
+    ensures { IfOk result (λ sets. sets.items ≡ map set_in (drop first contents.items)) }
 {
-    contents.truncate(past);
     let mut sets = Vec::new(alloc);
     for content in contents.into_iter().skip(first) {
         sets.push(set_left(alloc, content)?)?;
@@ -365,17 +329,12 @@ fn free_left(alloc: Global, mut set: ListSet<Listing>) -> Result<Numbers, NoMemo
     Ok(List::of(elements))
 }
 
-/// The elements of the freelists, which stand from here on.
-fn freelists_left(
-    alloc: Global,
-    contents: Vec<Option<Content>>,
-    first: usize,
-) -> Result<Vec<Numbers>, NoMemory>
-    ensures { IfOk result (λ freelists. freelists.items
-        ≡ map numbers_in (drop first contents.items)) }
+/// The elements of the freelists.
+fn freelists_left(alloc: Global, contents: Vec<Option<Content>>) -> Result<Vec<Numbers>, NoMemory>
+    ensures { IfOk result (λ freelists. freelists.items ≡ map numbers_in contents.items) }
 {
-    let mut freelists = Vec::new(alloc);
-    for content in contents.into_iter().skip(first) {
+    let mut freelists = Vec::with_capacity(alloc, contents.len())?;
+    for content in contents {
         freelists.push(freelist_left(alloc, content)?)?;
     }
     Ok(freelists)
@@ -410,17 +369,17 @@ struct Turns {
     lost: bool,
 }
 
-/// The histories of all locks that the map has, with the strands. Where no strands were kept, every record is lost.
+/// The histories with the strands. Where no strands were kept, every record is lost.
 fn turns_left(
     alloc: Global,
     shape: &Shape,
-    histories: Vec<Option<Vec<Entry>>>,
+    histories: Histories,
     ended: Option<Vec<FinishedStrand>>,
 ) -> Result<Turns, NoMemory>
     requires shape { IsShape shape.now }
-    requires counted { length histories.items ≡ lock_count shape.now }
     ensures { (log : Logs) (lost : ℕ → Bool) (strands : List Ended)
-        → HaveHistories shape.now log lost histories.items → AreFinished strands ended
+        → AreKept shape.now log lost (lock_count shape.now) histories.kept.items histories.lost
+        → AreFinished strands ended
         → IfOk result
         (λ turns. AreTold shape.now log lost strands turns.histories turns.strands turns.lost) }
 {
@@ -431,74 +390,12 @@ fn turns_left(
             lost: true,
         });
     };
-    let Histories { kept, lost } = histories_left(alloc, shape, histories)?;
+    let Histories { kept, lost } = histories;
     Ok(Turns {
         histories: List::of(kept),
         strands: strands_left(alloc, shape, ended)?,
         lost,
     })
-}
-
-/// The histories whose record isn't lost, and whether one is.
-#[derive(Drop)]
-struct Histories {
-    kept: Vec<LockHistory>,
-    lost: bool,
-}
-
-/// The histories of all locks that the map has.
-fn histories_left(
-    alloc: Global,
-    shape: &Shape,
-    histories: Vec<Option<Vec<Entry>>>,
-) -> Result<Histories, NoMemory>
-    requires shape { IsShape shape.now }
-    requires counted { length histories.items ≡ lock_count shape.now }
-    ensures { (log : Logs) (lost : ℕ → Bool) → HaveHistories shape.now log lost histories.items
-        → IfOk result (λ left. AreKept shape.now log lost
-        (lock_count shape.now) left.kept.items left.lost) }
-{
-    let mut left = Histories {
-        kept: Vec::new(alloc),
-        lost: false,
-    };
-    let mut number = 0;
-    for history in histories {
-        left.keep(shape, number, history)?;
-        number += 1;
-    }
-    Ok(left)
-}
-
-impl Histories {
-    /// Keeps the history of a lock, if the map has the lock, or that it is lost.
-    fn keep(
-        &mut self,
-        shape: &Shape,
-        number: u32,
-        history: Option<Vec<Entry>>,
-    ) -> Result<(), NoMemory>
-        requires shape { IsShape shape.now }
-        ensures { (log : Logs) (lost : ℕ → Bool)
-            → (has_lock shape.now number ≡ true → IsHistory (lost number) (log number) history)
-            → AreKept shape.now log lost number self.old.kept.items self.old.lost
-            → OnOk result (AreKept shape.now log lost
-            (number + 1) self.new.kept.items self.new.lost) }
-    {
-        let lock = lock_named(shape, number);
-        if !is_lock(shape, lock) {
-            return Ok(());
-        }
-        let Some(entries) = history else {
-            self.lost = true;
-            return Ok(());
-        };
-        self.kept.push(LockHistory {
-            lock,
-            entries: List::of(entries),
-        })?;
-        Ok(())
-    }
 }
 
 /// The strands that were kept.

@@ -1,36 +1,51 @@
-use Rattle.std.proofs.Common.{◌≡◌, ℕ, zero, suc, ◌<◌, ◌+◌, ◌++◌, List, [], ◌∷◌, take, map, false, Bool, eqb, length, get_or, set, refl, sym, ap, ◌∙◌, arith, add-one, get_or-set_other, get_or-set_same}
-use Rattle.std.proofs.lemmas.List.{map-append}
-use mathlib.Core.Option.{some, some-injective, some-ne-none}
-use lib.ListN.{get_elem?}
+use Rattle.std.proofs.Common.{◌≡◌, ℕ, ◌+◌, ◌<◌, ◌++◌, ◌∙◌, List, None, length, map, take, get_or, sym, subst, arith}
+use Rattle.std.specs.Slots.{slots_items, slots_filled}
+use Rattle.map_types.proofs.CreationLemmas.{bounds_of_shape}
+use Rattle.place_words.specs.Locks.{first_bucket, first_freelist, lock_count}
 use Rattle.place_table.specs.declared.content.Behind.{Behind}
+use Rattle.place_table.specs.Leaving.{HasSizedBodies, HaveHistories, bodies_in}
+use Rattle.place_table.proofs.Leaves.{all_apart, first_taken, where_ok}
 use Rattle.place_table.proofs.close.empty_out.Goals as goal
-use Rattle.map_types.proofs.RowLemmas.{by_test}
 
-taken_more : {A : Type 0} (l : List A) (i : ℕ) (a : A) → get_elem? l i ≡ some a → take i l ++ a ∷ [] ≡ take (suc i) l
-taken_more [] i a e = absurd (some-ne-none a (sym e))
-taken_more (x ∷ xs) zero a e = ap (λ y. y ∷ []) (sym (some-injective x a e))
-taken_more (x ∷ xs) (suc i) a e = ap (λ l. x ∷ l) (taken_more xs i a e)
+pub take_lists-requires-clause-before : goal.take_lists-requires-clause-before
+take_lists-requires-clause-before c = first_taken (slots_filled c.args.closed.now.slots) (λ k below. c.requires.full.0 k (omega arith) (subst (λ (n : ℕ). k < n) (sym c.args.closed.now.slots.ok.1) below))
 
--- one part of the slots more
-part_more : {B : Type 0} (part : Behind → B) (slots there : List Behind) (i : ℕ) (behind : Behind) (done now : List B) → there ≡ slots → get_elem? there i ≡ some behind → done ≡ map part (take i slots) → now ≡ done ++ part behind ∷ [] → now ≡ map part (take (i + 1) slots)
-part_more {B} part slots there i behind done now same at so_far pushed =
-    pushed ∙ ap (λ (l : List B). l ++ part behind ∷ []) so_far
-    ∙ sym (map-append part (take i slots) (behind ∷ []))
-    ∙ ap (map part) (taken_more slots i behind (ap (λ (l : List Behind). get_elem? l i) (sym same) ∙ at) ∙ ap (λ (n : ℕ). take n slots) (sym (add-one i)))
+pub take_buckets-copied-requires-clause-sized : goal.take_buckets-copied-requires-clause-sized
+take_buckets-copied-requires-clause-sized c = λ bucket within.
+    subst (λ (l : List Behind). HasSizedBodies c.args.shape.now (get_or (map (λ (b : Behind). b.content) l) (first_bucket c.args.shape.now + bucket) None)) (sym c.take_lists.ensures.same) (c.requires.sized bucket within)
 
-gone_more : (l : List Bool) (i : ℕ) → i < length l → ((k : ℕ) → k < i → get_or l k false ≡ false) → (k : ℕ) → k < i + 1 → get_or (set l i false) k false ≡ false
-gone_more l i h g k below = by_test k i (λ b. eqb k i ≡ b → get_or (set l i false) k false ≡ false) (λ e _. ap (λ (z : ℕ). get_or (set l i false) z false) e ∙ get_or-set_same l i false false h) (λ n _. get_or-set_other l i k false false (λ e. n e) ∙ g k (omega arith)) refl
+pub returns-clause-apart : goal.returns-clause-apart
+returns-clause-apart c =
+    let shape = c.args.shape.now in
+    let slots : List Behind = slots_items c.args.closed.now.slots in
+    let counted : length slots ≡ lock_count shape = sym c.args.closed.now.slots.ok.0 ∙ c.requires.full.1 in
+    where_ok c.take_buckets-copied.result c.take_buckets-copied.ensures.buckets
+    (λ middle. all_apart shape slots c.take_lists.new.contents.items c.take_lists-2.new.contents.items c.take_buckets-copied.new.buckets.items counted
+    c.take_lists.ensures.contents
+    (subst (λ (l : List Behind). take (first_freelist shape) (map (λ (b : Behind). bodies_in b.content) l) ≡ take (first_bucket shape) (map (λ (b : Behind). bodies_in b.content) l) ++ c.take_buckets-copied.new.buckets.items) c.take_lists.ensures.same middle)
+    (subst (λ (l : List Behind). take (lock_count shape) (map (λ (b : Behind). b.content) l) ≡ take (first_freelist shape) (map (λ (b : Behind). b.content) l) ++ c.take_lists-2.new.contents.items) (c.take_buckets-copied.ensures.same ∙ c.take_lists.ensures.same) c.take_lists-2.ensures.contents))
 
-pub loop-slot-preserved : goal.loop-slot-preserved
-loop-slot-preserved c =
-    let others = c.take-content.ensures.others in let so_far = c.loop-slot.invariant in let i : ℕ = c.loop-slot.slot in let below : i < c.args.count = c.loop-slot-test.true in
-    let filled : c.loop-slot.closed.slots.len ≡ length c.loop-slot.closed.slots.filled = c.loop-slot.closed.slots.ok.1 in record {
-      same = others.0 ∙ so_far.same;
-      count = others.2 ∙ so_far.count;
-      full = λ k a b. ap (λ l. get_or l k false) others.1 ∙ (get_or-set_other c.loop-slot.closed.slots.filled i k false false (λ e. omega arith) ∙ so_far.full k (omega arith) b);
-      gone = λ k a. ap (λ l. get_or l k false) others.1 ∙ gone_more c.loop-slot.closed.slots.filled i (omega (arith, so_far.count)) so_far.gone k a;
-      contents = part_more (λ behind. behind.content) _ _ i c.take-content.result c.loop-slot.contents.items _ so_far.same c.take-content.ensures.value so_far.contents c.push_reserved.ensures.items;
-      histories = part_more (λ behind. behind.history) _ _ i c.take-content.result c.loop-slot.histories.items _ so_far.same c.take-content.ensures.value so_far.histories c.push_reserved-in-loop-slot.ensures.items;
-      room_for_contents = rw c.push_reserved.ensures.capacity so_far.room_for_contents;
-      room_for_histories = rw c.push_reserved-in-loop-slot.ensures.capacity so_far.room_for_histories;
-    }
+pub returns-clause-histories : goal.returns-clause-histories
+returns-clause-histories c = λ log lost told.
+    let shape = c.args.shape.now in
+    let same = c.take_lists.ensures.same in
+    let then = c.take_buckets-copied.ensures.same ∙ same in
+    c.take_lists-2.ensures.histories log lost (subst (λ (l : List Behind). HaveHistories shape log lost (map (λ (b : Behind). b.history) l)) (sym then) told)
+    (c.take_buckets-copied.ensures.histories log lost (subst (λ (l : List Behind). HaveHistories shape log lost (map (λ (b : Behind). b.history) l)) (sym same) told)
+    (c.take_lists.ensures.histories log lost told (record { kept_are = c.requires.room.no_histories; lost_is = c.requires.room.none_lost })))
+
+pub returns-clause-empty : goal.returns-clause-empty
+returns-clause-empty c = λ k below. c.take_lists-2.ensures.after.gone k
+    (subst (λ (n : ℕ). k < n) (c.take_lists-2.ensures.count ∙ c.take_buckets-copied.ensures.count ∙ c.take_lists.ensures.count ∙ c.requires.full.1) below)
+
+pub overflow_add-first_set : goal.overflow_add-first_set
+overflow_add-first_set c = let bounds = bounds_of_shape c.args.shape.now c.requires.shape in omega arith
+
+pub overflow_add-first_bucket : goal.overflow_add-first_bucket
+overflow_add-first_bucket c = let bounds = bounds_of_shape c.args.shape.now c.requires.shape in omega arith
+
+pub overflow_add-first_freelist : goal.overflow_add-first_freelist
+overflow_add-first_freelist c = let bounds = bounds_of_shape c.args.shape.now c.requires.shape in omega arith
+
+pub overflow_add-past : goal.overflow_add-past
+overflow_add-past c = let bounds = bounds_of_shape c.args.shape.now c.requires.shape in omega arith

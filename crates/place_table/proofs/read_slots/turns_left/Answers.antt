@@ -12,4 +12,4 @@ returns-in_default c = λ log lost strands histories finished.
 
 pub returns : goal.returns
 returns c = λ log lost strands histories finished.
-    told_all c.args.shape.now log lost strands c.args.ended c.in-Some.ended c.in_ok-kept.field-0.kept.items c.of-2.result c.in_ok-strands_left.field-0 c.in_ok-kept.field-0.lost c.requires.shape c.in-Some.is finished (c.in_ok-kept.ensures log lost histories) c.of-2.ensures c.in_ok-strands_left.ensures
+    told_all c.args.shape.now log lost strands c.args.ended c.in-Some.ended c.args.histories.kept.items c.of-2.result c.in_ok-strands_left.field-0 c.args.histories.lost c.requires.shape c.in-Some.is finished histories c.of-2.ensures c.in_ok-strands_left.ensures

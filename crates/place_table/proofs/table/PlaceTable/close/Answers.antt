@@ -1,6 +1,8 @@
-use Rattle.std.proofs.Common.{◌≡◌, ℕ, ◌∙◌, ◌++◌, ◌∷◌, [], ap, get_or, length, arith}
-use Rattle.std.proofs.lemmas.List.{length-map}
+use Rattle.std.proofs.Common.{◌≡◌, ℕ, ◌∙◌, ◌++◌, ◌∷◌, [], ap, get_or, length, map, refl, arith}
+use Rattle.std.proofs.lemmas.List.{length-map, length-take-le}
 use Rattle.std.specs.Slots.{slots_items}
+use Rattle.place_words.specs.Locks.{first_bucket, lock_count}
+use Rattle.place_table.specs.declared.content.Behind.{Behind}
 use Rattle.place_table.specs.Words.{word_count}
 use Rattle.place_table.specs.Views.{current_strand}
 use Rattle.place_table.specs.Passes.{PassView, TableView}
@@ -8,16 +10,34 @@ use Rattle.place_table.proofs.Closes.{at_its_end, if_closed}
 use Rattle.place_table.proofs.Leaves.{buckets_sized, contents_apart, histories_apart}
 use Rattle.place_table.proofs.table.PlaceTable.close.Goals as goal
 
-pub read_slots-requires-clause-sized : goal.read_slots-requires-clause-sized
-read_slots-requires-clause-sized c =
+pub empty_out-copied-requires-clause-full : goal.empty_out-copied-requires-clause-full
+empty_out-copied-requires-clause-full c =
+    let table : c.self.inside.shape ≡ c.args.self.shape = ap (λ (t : TableView). t.shape) c.self.view_is in
+    let view = ap (λ (p : PassView). p.view) c.pass.view_is in
+    let e = at_its_end c.self.inside.shape c.self.inside.table.shared.key c.args.self.shape (slots_items c.close_with-closed.result.words) (slots_items c.close_with-closed.result.slots) c.pass.inside.seat.id c.pass.inside.seat.me.0 c.args.pass.view
+    c.self.invariant.0 table view c.close_with-closed.ensures.values.2 c.requires.all_cpus c.requires.in_no_call.holds_nothing in
+    (c.close_with-closed.ensures.values.1, c.close_with-closed.result.slots.ok.0 ∙ e.slots_are.counted)
+
+pub empty_out-copied-requires-clause-sized : goal.empty_out-copied-requires-clause-sized
+empty_out-copied-requires-clause-sized c =
     let table : c.self.inside.shape ≡ c.args.self.shape = ap (λ (t : TableView). t.shape) c.self.view_is in
     let view = ap (λ (p : PassView). p.view) c.pass.view_is in
     let slots = slots_items c.close_with-closed.result.slots in
     let e = at_its_end c.self.inside.shape c.self.inside.table.shared.key c.args.self.shape (slots_items c.close_with-closed.result.words) slots c.pass.inside.seat.id c.pass.inside.seat.me.0 c.args.pass.view
     c.self.invariant.0 table view c.close_with-closed.ensures.values.2 c.requires.all_cpus c.requires.in_no_call.holds_nothing in
-    buckets_sized c.self.inside.shape e.log c.empty_out.new.contents.items
-    (contents_apart c.self.inside.shape e.log e.lost slots c.empty_out.new.contents.items e.slots_are c.empty_out.ensures.contents)
-    (ap length c.empty_out.ensures.contents ∙ length-map slots (λ behind. behind.content) ∙ e.slots_are.counted)
+    buckets_sized c.self.inside.shape e.log (map (λ (b : Behind). b.content) slots) (contents_apart c.self.inside.shape e.log e.lost slots _ e.slots_are refl)
+
+pub read_slots-requires-clause-counted : goal.read_slots-requires-clause-counted
+read_slots-requires-clause-counted c =
+    let table : c.self.inside.shape ≡ c.args.self.shape = ap (λ (t : TableView). t.shape) c.self.view_is in
+    let view = ap (λ (p : PassView). p.view) c.pass.view_is in
+    let slots = slots_items c.close_with-closed.result.slots in
+    let e = at_its_end c.self.inside.shape c.self.inside.table.shared.key c.args.self.shape (slots_items c.close_with-closed.result.words) slots c.pass.inside.seat.id c.pass.inside.seat.me.0 c.args.pass.view
+    c.self.invariant.0 table view c.close_with-closed.ensures.values.2 c.requires.all_cpus c.requires.in_no_call.holds_nothing in
+    let counted : length (map (λ (b : Behind). b.content) slots) ≡ lock_count c.self.inside.shape = length-map slots (λ (b : Behind). b.content) ∙ e.slots_are.counted in
+    let apart = c.in_ok-copied.ensures.apart in
+    let lists : length c.empty_out-copied.new.emptied.lists.items ≡ first_bucket c.self.inside.shape = ap length apart.lists_are ∙ length-take-le (first_bucket c.self.inside.shape) (map (λ (b : Behind). b.content) slots) (omega arith) in
+    omega arith
 
 pub returns : goal.returns
 returns c =
@@ -28,10 +48,11 @@ returns c =
     let slots = slots_items c.close_with-closed.result.slots in
     let e = at_its_end c.self.inside.shape c.self.inside.table.shared.key c.args.self.shape words slots c.pass.inside.seat.id v c.args.pass.view
     c.self.invariant.0 table view c.close_with-closed.ensures.values.2 c.requires.all_cpus c.requires.in_no_call.holds_nothing in
-    let contents = contents_apart c.self.inside.shape e.log e.lost slots c.empty_out.new.contents.items e.slots_are c.empty_out.ensures.contents in
-    let histories = histories_apart c.self.inside.shape e.log e.lost slots c.empty_out.new.histories.items e.slots_are c.empty_out.ensures.histories in
+    let contents = contents_apart c.self.inside.shape e.log e.lost slots (map (λ (b : Behind). b.content) slots) e.slots_are refl in
+    let counted : length (map (λ (b : Behind). b.content) slots) ≡ lock_count c.self.inside.shape = length-map slots (λ (b : Behind). b.content) ∙ e.slots_are.counted in
+    let histories = c.empty_out-copied.ensures.histories e.log e.lost (histories_apart c.self.inside.shape e.log e.lost slots _ e.slots_are refl) in
     let all_words : c.word_count.result ≡ word_count c.self.inside.shape = c.word_count.ensures ∙ c.self.invariant.1 in
     let marked = c.in_ok-marked.ensures e.core.bit (λ n less. ap (λ (i : ℕ). get_or words i 0) (omega (arith, all_words)) ∙ e.words_told.bits n less) in
     let finished = c.finish-ended.ensures v.ended (current_strand v) c.pass.invariant.ended_are c.pass.invariant.cpus_are c.pass.invariant.strand_is in
     if_closed c.self.inside.shape c.args.self.shape _ c.args.pass words slots c.read_slots.result e c.requires.all_cpus c.requires.in_no_call c.pass.invariant.hands_real c.pass.invariant.ended_within c.pass.invariant.within table c.pass.view_is
-    (c.read_slots.ensures e.log e.lost e.core.bit (v.ended ++ current_strand v ∷ []) contents histories marked finished)
+    (c.read_slots.ensures e.log e.lost e.core.bit (v.ended ++ current_strand v ∷ []) (map (λ (b : Behind). b.content) slots) contents counted c.in_ok-copied.ensures.apart histories marked finished)
