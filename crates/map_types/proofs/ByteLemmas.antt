@@ -1,6 +1,6 @@
 -- Bytes that are the first ones of an array.
-use Rattle.std.proofs.Common.{◌≡◌, ℕ, ◌+◌, ◌≤◌, List, ◌++◌, length, take, drop, ap, ◌∙◌, sym, append_assoc, arith, length-append, length-drop}
-use Rattle.std.proofs.lemmas.List.{take-append-drop, take_at, take-append-le, drop-append-le, length-take-le, drop-drop}
+use Rattle.std.proofs.Common.{◌≡◌, refl, ℕ, ◌+◌, ◌≤◌, List, ◌++◌, length, take, drop, ap, ◌∙◌, sym, append_assoc, arith, length-append, length-drop}
+use Rattle.std.proofs.lemmas.List.{take-append-drop, take_at, take_all, take-append-le, drop-append-le, length-take-le, drop-drop}
 
 -- a list after bytes are written over those at a place
 abbrev written_at : ℕ → List ℕ → List ℕ → List ℕ
@@ -35,3 +35,10 @@ copied_within len start count bytes source now copied within seen fits counted s
     let behind : drop count (drop start bytes) ≡ drop (start + length source) bytes =
     drop-drop count start bytes ∙ ap (λ n. drop (start + n) bytes) counted in
     ap (λ past. take len (take start bytes ++ (copied ++ past))) behind ∙ ap (λ (piece : List ℕ). take len (take start bytes ++ (piece ++ drop (start + length source) bytes))) same ∙ first_written len start bytes source within (omega arith) ∙ ap (written_at start source) seen
+
+-- bytes of which so many are copied to the front of others
+pub front_taken : (source new rest : List ℕ) (n : ℕ) → length source ≡ n → new ≡ take n source → take (length source) (new ++ rest) ≡ source
+front_taken source new rest n long copied =
+    let whole : take n source ≡ source = take_all n source (omega (arith, long)) in
+    let same : new ≡ source = copied ∙ whole in
+    rw same (take_at source rest (length source) refl)

@@ -4,9 +4,9 @@ use Rattle.map_types.specs.declared.bytes.Data.{Data}
 use Rattle.map_types.specs.declared.bytes.Data.TheVariants.{Short, Long}
 
 abbrev pub bytes_of : Data → List ℕ
-bytes_of (Short bytes len) = take len bytes
+bytes_of (Short len bytes) = take len bytes
 bytes_of (Long items) = items.value.items
 
 abbrev pub IsWithin : Data → Type 0
-IsWithin (Short bytes len) = len ≤ 22
+IsWithin (Short len bytes) = len ≤ 22
 IsWithin (Long items) = ⊤

@@ -21,7 +21,7 @@ pub struct Bytes {
 #[derive(Drop)]
 pub(crate) enum Data {
     /// In place, the first `len` of these.
-    Short { bytes: [u8; SHORT], len: u8 },
+    Short { len: u8, bytes: [u8; SHORT] },
     /// In a block of their own.
     Long(Box<Vec<u8>>),
 }
@@ -42,21 +42,26 @@ impl Bytes {
     pub fn from_slice(alloc: Global, source: &[u8]) -> Result<Bytes, NoMemory>
         ensures { IfOk result (λ copy. copy ≡ source.now) }
     {
-        let len = source.len();
-        if len > SHORT {
+        if source.len() > SHORT {
             let items = source.to_vec(alloc)?;
             return Ok(Bytes {
                 data: Data::Long(Box::new(alloc, items)?),
             });
         }
-        let mut bytes = [0; SHORT];
-        bytes[..len].copy_from_slice(source);
-        Ok(Bytes {
+        Ok(Bytes::short(source))
+    }
+
+    /// A copy of at most 22 bytes. It takes no memory.
+    pub fn short(source: &[u8]) -> Bytes
+        requires { length source.now ≤ 22 }
+        ensures { result ≡ source.now }
+    {
+        Bytes {
             data: Data::Short {
-                bytes,
-                len: len as u8,
+                len: source.len() as u8,
+                bytes: padded(source),
             },
-        })
+        }
     }
 
     /// So many bytes, which are all 0.
@@ -71,8 +76,8 @@ impl Bytes {
         }
         Ok(Bytes {
             data: Data::Short {
-                bytes: [0; SHORT],
                 len: len as u8,
+                bytes: [0; SHORT],
             },
         })
     }
@@ -82,7 +87,7 @@ impl Bytes {
         ensures { result.now ≡ self.now }
     {
         match &self.data {
-            Data::Short { bytes, len } => &bytes[..*len as usize],
+            Data::Short { len, bytes } => &bytes[..*len as usize],
             Data::Long(items) => items.as_slice(),
         }
     }
@@ -108,7 +113,7 @@ impl Bytes {
             ≡ take start self.old ++ (source.now ++ drop (start + length source.now) self.old) }
     {
         match &mut self.data {
-            Data::Short { bytes, len: _ } => {
+            Data::Short { len: _, bytes } => {
                 bytes[start..start + source.len()].copy_from_slice(source)
             }
             Data::Long(items) => items[start..start + source.len()].copy_from_slice(source),
@@ -120,7 +125,7 @@ impl Bytes {
         ensures { self.new ≡ zeros (length self.old) }
     {
         match &mut self.data {
-            Data::Short { bytes, len: _ } => *bytes = [0; SHORT],
+            Data::Short { len: _, bytes } => *bytes = [0; SHORT],
             Data::Long(items) => items.fill(0),
         }
     }
@@ -131,4 +136,23 @@ impl Bytes {
     {
         Bytes::from_slice(alloc, self.as_slice())
     }
+}
+
+/// An array that begins with these bytes. The usual sizes of a key and of a counter are copied in a few words.
+fn padded(source: &[u8]) -> [u8; SHORT]
+    requires { length source.now ≤ 22 }
+    ensures { take (length source.now) result ≡ source.now }
+{
+    let len = source.len();
+    let mut bytes = [0; SHORT];
+    if len == 16 {
+        bytes[..16].copy_from_slice(&source[..16]);
+        return bytes;
+    }
+    if len == 8 {
+        bytes[..8].copy_from_slice(&source[..8]);
+        return bytes;
+    }
+    bytes[..len].copy_from_slice(source);
+    bytes
 }
