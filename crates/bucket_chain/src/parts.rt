@@ -5,7 +5,7 @@ ghost use Rattle.place_words.specs.declared.bucket_part.BucketPart.TheVariants a
 ghost use Rattle.place_words.specs.declared.history.Part.TheVariants as parts;
 
 use map_types::{Bytes, NoMemory, Side};
-use place_words::{BucketPart, Part, Put};
+use place_words::{BucketPart, PackedBucket, Part, Put};
 use std::alloc::Global;
 
 /// The flag of an update that refuses a present key.
@@ -21,16 +21,18 @@ fn bytes_of(alloc: Global, bytes: &[u8]) -> Result<Bytes, NoMemory>
     Bytes::from_slice(alloc, bytes)
 }
 
+/// What was done under a bucket's lock, as it lies in an entry.
+fn packed(alloc: Global, part: BucketPart) -> Result<Part, NoMemory>
+    ensures { IfOk result (λ packed. packed ≡ parts.Bucket part) }
+{
+    Ok(Part::Bucket(PackedBucket::new(alloc, part)?))
+}
+
 /// The entry of a lookup that found no element.
 pub fn lookup_missed(alloc: Global, side: Side, key: &[u8]) -> Result<Part, NoMemory>
     ensures { IfOk result (λ part. part ≡ parts.Bucket (turns.Lookup side key.now None)) }
 {
-    let key = bytes_of(alloc, key)?;
-    Ok(Part::Bucket(BucketPart::Lookup {
-        side,
-        key,
-        got: None,
-    }))
+    Ok(Part::Bucket(PackedBucket::missed(alloc, side, key)?))
 }
 
 /// The entry of a lookup that found an element with this value.
@@ -44,21 +46,15 @@ pub fn lookup_got(
     ensures { IfOk result (λ part. part
         ≡ parts.Bucket (turns.Lookup side key.now (Some (element, value.now)))) }
 {
-    let key = bytes_of(alloc, key)?;
-    let value = bytes_of(alloc, value)?;
-    Ok(Part::Bucket(BucketPart::Lookup {
-        side,
-        key,
-        got: Some((element, value)),
-    }))
+    let part = PackedBucket::got(alloc, side, key, element, value)?;
+    Ok(Part::Bucket(part))
 }
 
 /// The entry of a delete, and the element that is gone.
 pub fn deleted(alloc: Global, key: &[u8], gone: Option<u32>) -> Result<Part, NoMemory>
     ensures { IfOk result (λ part. part ≡ parts.Bucket (turns.Delete key.now gone)) }
 {
-    let key = bytes_of(alloc, key)?;
-    Ok(Part::Bucket(BucketPart::Delete { key, gone }))
+    Ok(Part::Bucket(PackedBucket::deleted(alloc, key, gone)?))
 }
 
 /// The entry of a take that found no element.
@@ -66,7 +62,7 @@ pub fn take_missed(alloc: Global, key: &[u8]) -> Result<Part, NoMemory>
     ensures { IfOk result (λ part. part ≡ parts.Bucket (turns.Take key.now None)) }
 {
     let key = bytes_of(alloc, key)?;
-    Ok(Part::Bucket(BucketPart::Take { key, gone: None }))
+    packed(alloc, BucketPart::Take { key, gone: None })
 }
 
 /// The entry of a take of an element with this value.
@@ -76,10 +72,11 @@ pub fn take_got(alloc: Global, key: &[u8], element: u32, value: &[u8]) -> Result
 {
     let key = bytes_of(alloc, key)?;
     let value = bytes_of(alloc, value)?;
-    Ok(Part::Bucket(BucketPart::Take {
+    let part = BucketPart::Take {
         key,
         gone: Some((element, value)),
-    }))
+    };
+    packed(alloc, part)
 }
 
 /// The entry of an update that was offered this element, if any, and did this.
@@ -95,14 +92,6 @@ pub fn updated(
     ensures { IfOk result (λ part. part
         ≡ parts.Bucket (turns.Update side flags key.now value.now offer put)) }
 {
-    let key = bytes_of(alloc, key)?;
-    let value = bytes_of(alloc, value)?;
-    Ok(Part::Bucket(BucketPart::Update {
-        side,
-        flags,
-        key,
-        value,
-        offer,
-        put,
-    }))
+    let part = PackedBucket::updated(alloc, side, flags, key, value, offer, put)?;
+    Ok(Part::Bucket(part))
 }

@@ -16,7 +16,7 @@ ghost use Rattle.bucket_walks.specs.BatchReads.{all_read, walked_by};
 use bucket_chain::{Chain, body_at, read_value};
 use map_types::{Bytes, List, NoMemory, Shape, Side, value_len};
 use percpu_values::Body;
-use place_words::{BucketPart, Kept, NextFound, Part, Walked};
+use place_words::{BucketPart, Kept, NextFound, PackedBucket, Part, Walked};
 use std::alloc::Global;
 
 /// What follows a key in its bucket.
@@ -37,15 +37,22 @@ fn bytes_of(alloc: Global, bytes: &[u8]) -> Result<Bytes, NoMemory>
     Bytes::from_slice(alloc, bytes)
 }
 
+/// What was done under a bucket's lock, as it lies in an entry.
+fn packed(alloc: Global, part: BucketPart) -> Result<Part, NoMemory>
+    ensures { IfOk result (λ packed. packed ≡ parts.Bucket part) }
+{
+    Ok(Part::Bucket(PackedBucket::new(alloc, part)?))
+}
+
 /// The entry of a look at the head of a bucket, which has this key where there is one.
 pub(crate) fn first_part(alloc: Global, found: bool, key: &[u8]) -> Result<Part, NoMemory>
     ensures { IfOk result (λ part. part ≡ parts.Bucket (turns.First (key_where found key.now))) }
 {
     if found {
         let key = bytes_of(alloc, key)?;
-        Ok(Part::Bucket(BucketPart::First { key: Some(key) }))
+        packed(alloc, BucketPart::First { key: Some(key) })
     } else {
-        Ok(Part::Bucket(BucketPart::First { key: None }))
+        packed(alloc, BucketPart::First { key: None })
     }
 }
 
@@ -61,7 +68,7 @@ pub(crate) fn next_part(
 {
     let key = bytes_of(alloc, key)?;
     let found = next_found(alloc, after, next)?;
-    Ok(Part::Bucket(BucketPart::Next { key, found }))
+    packed(alloc, BucketPart::Next { key, found })
 }
 
 /// What follows a key, with a copy of the key that does.
@@ -92,11 +99,12 @@ pub fn walk_part(
         ≡ parts.Bucket (turns.Walk remove room (walked_by shape.now cpu room chain.now.bodies))) }
 {
     let result = walked(alloc, shape, cpu, room, chain)?;
-    Ok(Part::Bucket(BucketPart::Walk {
+    let part = BucketPart::Walk {
         remove,
         room,
         result,
-    }))
+    };
+    packed(alloc, part)
 }
 
 /// What a batch lookup reads of a bucket: copies of all its elements, or how many they are where there is no room for them.

@@ -45,7 +45,10 @@ fn left_by(part: &Part) -> Option<u32>
     ensures { result ≡ left_by part.now }
 {
     match part {
-        Part::Bucket(part) => left_by_bucket_part(part),
+        Part::Bucket(packed) => match packed.part() {
+            Ok(part) => left_by_bucket_part(part),
+            Err(part) => left_by_bucket_part(&part),
+        },
         _ => None,
     }
 }

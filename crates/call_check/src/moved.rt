@@ -99,7 +99,10 @@ fn gone_by(part: &Part) -> Option<u32>
     ensures { result ≡ gone_by part.now }
 {
     match part {
-        Part::Local(part) => gone_by_local(part),
+        Part::Local(packed) => match packed.part() {
+            Ok(part) => gone_by_local(part),
+            Err(part) => gone_by_local(&part),
+        },
         _ => None,
     }
 }
@@ -150,7 +153,10 @@ fn move_by(table: &mut Vec<bool>, part: &Part)
     ensures moved { (e : ℕ) → e < length table.old.items → slice_index_or table.new.items e false ≡ flushed_by e part.now (slice_index_or table.old.items e false) }
 {
     match part {
-        Part::Local(part) => move_by_local(table, part),
+        Part::Local(packed) => match packed.part() {
+            Ok(part) => move_by_local(table, part),
+            Err(part) => move_by_local(table, &part),
+        },
         _ => {}
     }
 }

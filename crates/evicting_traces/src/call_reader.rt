@@ -119,7 +119,7 @@ fn lookup<'a>(
     ensures { IsSeenAs (told.read_lookup shape.now side key.now seens.now) reply.now result }
 {
     let (got, rest) = read_lookup(shape, side, key, seens)?;
-    rest_if(is_got(reply, got), rest)
+    rest_if(is_got(reply, got.found()), rest)
 }
 
 /// The turns behind an update's.

@@ -78,10 +78,10 @@ fn answers(shape: &Shape, last: &Seen<'_>, before: &Seens<'_>) -> bool
     let stored = hashes(last.note);
     match last.part {
         Part::Bucket(_) | Part::Free(_) => are_tries(shape, &[], stored, before),
-        Part::Local(part) => {
-            let (looks, tries) = local_probes(part);
-            are_answers(shape, looks, tries, stored, before)
-        }
+        Part::Local(packed) => match packed.part() {
+            Ok(part) => are_local(shape, part, stored, before),
+            Err(part) => are_local(shape, &part, stored, before),
+        },
         Part::Global(packed) => match packed.part() {
             Ok(part) => are_global(shape, part, stored, before),
             Err(part) => are_global(shape, &part, stored, before),
@@ -91,6 +91,15 @@ fn answers(shape: &Shape, last: &Seen<'_>, before: &Seens<'_>) -> bool
             Err(part) => are_own(shape, &part, stored, before),
         },
     }
+}
+
+/// Whether turns answer the probes of a turn of local lists.
+fn are_local(shape: &Shape, part: &LocalPart, hashes: &[Option<u32>], before: &Seens<'_>) -> bool
+    requires { HasBounds shape.now }
+    ensures { result ≡ are_answers shape.now (local_probes part.now) hashes.now (turns_in before.now) }
+{
+    let (looks, tries) = local_probes(part);
+    are_answers(shape, looks, tries, hashes, before)
 }
 
 /// Whether turns answer the probes of a turn of the global lists.

@@ -13,8 +13,8 @@ use crate::seen::Seens;
 use crate::takes::read_acquires;
 use key_hash::jhash;
 use map_types::{Bytes, DomainId, Errno, Shape, Side};
-use place_words::{BucketPart, Part, Put};
-use trace_check::{bucket_number, gone_in, got_in, taken_in};
+use place_words::{PackedBucket, Part, Put};
+use trace_check::{FoundAt, bucket_number, gone_in, got_in, taken_in};
 
 /// What an update asks for.
 #[derive(Drop)]
@@ -31,11 +31,11 @@ pub(crate) fn read_lookup<'a>(
     side: Side,
     key: &[u8],
     seens: &Seens<'a>,
-) -> Option<(&'a Option<(u32, Bytes)>, Seens<'a>)>
+) -> Option<(FoundAt<'a>, Seens<'a>)>
     requires bounds { HasBounds shape.now }
     requires key { length key.now ≡ shape.now.key_size }
     ensures { MatchOption result (told.read_lookup shape.now side key.now seens.now ≡ None)
-        (λ read. told.read_lookup shape.now side key.now seens.now ≡ Some (reply_of_got read.0.now, read.1)) }
+        (λ read. told.read_lookup shape.now side key.now seens.now ≡ Some (reply_of_got read.0, read.1)) }
 {
     let (part, rest) = first_at(bucket_number(shape, key), seens)?;
     let got = got_in(part, side, key)?;
@@ -173,7 +173,7 @@ fn read_offer<'a>(
 
 /// What was done in the first turn, if it is this bucket's, and the turns behind it.
 #[tactic(auto, unfolding(crate::specs::Calls::first_at))]
-pub(crate) fn first_at<'a>(bucket: u32, seens: &Seens<'a>) -> Option<(&'a BucketPart, Seens<'a>)>
+pub(crate) fn first_at<'a>(bucket: u32, seens: &Seens<'a>) -> Option<(&'a PackedBucket, Seens<'a>)>
     ensures { MatchOption result (told.first_at bucket seens.now ≡ None) (λ first. told.first_at bucket seens.now ≡ Some (first.0.now, first.1)) }
 {
     let (seen, rest) = seens.split_first()?;

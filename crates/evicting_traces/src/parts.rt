@@ -10,7 +10,9 @@ ghost use Rattle.evicting_traces.specs.Parts as told;
 use crate::seen::Seen;
 use key_hash::bucket_of;
 use map_types::{DomainId, Shape, Side};
-use place_words::{BucketPart, GlobalPart, LocalPart, OwnPart, Part, Put, Seen as Probed, Stolen};
+use place_words::{
+    BucketPart, GlobalPart, LocalPart, OwnPart, PackedBucket, Part, Put, Seen as Probed, Stolen,
+};
 use trace_check::{same_bool, same_side};
 
 /// The element that was popped for a key of this hash.
@@ -55,6 +57,23 @@ fn is_pushed(part: &LocalPart, element: u32, done: bool) -> bool
 
 /// What an update with these words put that was offered this.
 pub(crate) fn put_of(
+    packed: &PackedBucket,
+    side: Side,
+    flags: u32,
+    key: &[u8],
+    value: &[u8],
+    offer: Option<u32>,
+) -> Option<Put>
+    ensures { result ≡ told.put_of side flags key.now value.now offer packed.now }
+{
+    match packed.part() {
+        Ok(part) => put_by(part, side, flags, key, value, offer),
+        Err(part) => put_by(&part, side, flags, key, value, offer),
+    }
+}
+
+/// The same of a part that is at hand.
+fn put_by(
     part: &BucketPart,
     side: Side,
     flags: u32,
@@ -113,9 +132,19 @@ pub(crate) fn is_evict(part: &Part) -> bool
     ensures { result ≡ is_some (told.evicted part.now) }
 {
     match part {
-        Part::Bucket(BucketPart::Evict { .. }) => true,
+        Part::Bucket(packed) => match packed.part() {
+            Ok(part) => is_eviction(part),
+            Err(part) => is_eviction(&part),
+        },
         _ => false,
     }
+}
+
+/// Whether an element was to be evicted.
+fn is_eviction(part: &BucketPart) -> bool
+    ensures { result ≡ is_some (told.evicted_in part.now) }
+{
+    matches!(part, BucketPart::Evict { .. })
 }
 
 /// Whether a turn is what a probe of an element with this hash, which found this, makes of a bucket.
@@ -145,12 +174,23 @@ fn is_try(part: &Part, element: u32, probed: Probed) -> bool
     ensures { result ≡ told.is_try (told.try_of element probed) (told.evicted part.now) }
 {
     match part {
-        Part::Bucket(
-            BucketPart::Evict {
-                element: evicted,
-                probed: found,
-            },
-        ) => element == *evicted && same_seen(probed, *found),
+        Part::Bucket(packed) => match packed.part() {
+            Ok(part) => is_tried(part, element, probed),
+            Err(part) => is_tried(&part, element, probed),
+        },
+        _ => false,
+    }
+}
+
+/// The same of a turn of a bucket.
+fn is_tried(part: &BucketPart, element: u32, probed: Probed) -> bool
+    ensures { result ≡ told.is_try (told.try_of element probed) (told.evicted_in part.now) }
+{
+    match part {
+        BucketPart::Evict {
+            element: evicted,
+            probed: found,
+        } => element == *evicted && same_seen(probed, *found),
         _ => false,
     }
 }
@@ -161,7 +201,10 @@ pub(crate) fn is_local_push(seen: &Seen<'_>, element: u32, done: bool) -> bool
 {
     match seen.lock {
         DomainId::Local(_) => match seen.part {
-            Part::Local(part) => is_pushed(part, element, done),
+            Part::Local(packed) => match packed.part() {
+                Ok(part) => is_pushed(part, element, done),
+                Err(part) => is_pushed(&part, element, done),
+            },
             _ => false,
         },
         _ => false,
@@ -229,7 +272,10 @@ pub(crate) fn popped(seen: &Seen<'_>, cpu: u32, hash: u32) -> Option<u32>
 {
     match seen.lock {
         DomainId::Local(at) if at == cpu => match seen.part {
-            Part::Local(part) => popped_in(part, hash),
+            Part::Local(packed) => match packed.part() {
+                Ok(part) => popped_in(part, hash),
+                Err(part) => popped_in(&part, hash),
+            },
             _ => None,
         },
         _ => None,
@@ -272,9 +318,22 @@ pub(crate) fn theft(seen: &Seen<'_>, from: u32) -> Option<Option<u32>>
 {
     match seen.lock {
         DomainId::Local(at) if at == from => match seen.part {
-            Part::Local(LocalPart::Steal { got, .. }) => Some(stolen_element(*got)),
+            Part::Local(packed) => match packed.part() {
+                Ok(part) => stolen_in(part),
+                Err(part) => stolen_in(&part),
+            },
             _ => None,
         },
+        _ => None,
+    }
+}
+
+/// What a theft got.
+fn stolen_in(part: &LocalPart) -> Option<Option<u32>>
+    ensures { result ≡ option_map (λ (theft : told.Theft). stolen_element theft.0) (told.stolen_in part.now) }
+{
+    match part {
+        LocalPart::Steal { got, .. } => Some(stolen_element(*got)),
         _ => None,
     }
 }
@@ -297,7 +356,10 @@ pub(crate) fn is_home(seen: &Seen<'_>, cpu: u32, hash: u32, element: u32, cursor
         DomainId::Local(at) => {
             at == cpu
                 && match seen.part {
-                    Part::Local(part) => is_added(part, hash, element, cursor),
+                    Part::Local(packed) => match packed.part() {
+                        Ok(part) => is_added(part, hash, element, cursor),
+                        Err(part) => is_added(&part, hash, element, cursor),
+                    },
                     _ => false,
                 }
         }

@@ -75,7 +75,10 @@ fn got_of(
 {
     match seen.lock {
         DomainId::Local(at) if at == cpu => match seen.part {
-            Part::Local(part) => refilled_in(part, hash, flushed, free, shrink),
+            Part::Local(packed) => match packed.part() {
+                Ok(part) => refilled_in(part, hash, flushed, free, shrink),
+                Err(part) => refilled_in(&part, hash, flushed, free, shrink),
+            },
             _ => None,
         },
         _ => None,

@@ -8,11 +8,11 @@ ghost use Rattle.map_types.specs.declared.attr.Shape as shapes;
 ghost use Rattle.place_words.specs.declared.history.Part.TheVariants as parts;
 ghost use Rattle.place_words.specs.Histories.{Allows, in_locals};
 ghost use Rattle.place_words.specs.Locals.{LocalLists, AllowsOnLocal, local_after};
-ghost use Rattle.local_replay.specs.Replays.{LeadsToLocals};
+ghost use Rattle.local_replay.specs.Replays.{IsTurn, LeadsToLocals};
 
 use crate::lists::ReplayedLists;
 use map_types::{List, NoMemory, Shape};
-use place_words::{Entry, LocalFinal, LocalPart, Part};
+use place_words::{Entry, LocalFinal, LocalPart, PackedLocal, Part};
 use replay_words::{Note, ReplayStop};
 use std::alloc::Global;
 
@@ -45,14 +45,13 @@ pub fn replay_local(
     let mut lists = ReplayedLists::new(alloc, cpu);
     let mut notes = List::of(Vec::new(alloc));
     for i in 0..entries.len() {
-        let Some(part) = local_part(&entries[i]) else {
+        let Some(packed) = local_part(&entries[i]) else {
             return Err(ReplayStop::NotAllowed { index: i });
         };
-        if !allows(&lists, alloc, shape, part)? {
+        let Some(note) = packed_turn(&mut lists, alloc, shape, packed)? else {
             return Err(ReplayStop::NotAllowed { index: i });
-        }
-        notes.push(note(&lists, alloc, part)?)?;
-        apply(&mut lists, alloc, part)?;
+        };
+        notes.push(note)?;
     }
     Ok(ReplayedLocals {
         last: lists.last(alloc)?,
@@ -61,7 +60,7 @@ pub fn replay_local(
 }
 
 /// What an entry did to local lists, none where it did something else.
-fn local_part(entry: &Entry) -> Option<&LocalPart>
+fn local_part(entry: &Entry) -> Option<&PackedLocal>
     ensures { MatchOption result
         ((shape : shapes.Shape) (lists : LocalLists) → ¬ Allows shape entry.now.cpu entry.now.part (in_locals lists))
         (λ part. entry.now.part ≡ parts.Local part.now) }
@@ -73,6 +72,42 @@ fn local_part(entry: &Entry) -> Option<&LocalPart>
         Part::Global(_) => None,
         Part::Own(_) => None,
     }
+}
+
+/// Makes a turn, however its part lies, as `turn` does.
+fn packed_turn(
+    lists: &mut ReplayedLists,
+    alloc: Global,
+    shape: &Shape,
+    packed: &PackedLocal,
+) -> Result<Option<Note>, NoMemory>
+    ensures { IfOk result (λ found. MatchOption found
+        (¬ AllowsOnLocal shape.now packed.now lists.old)
+        (IsTurn shape.now packed.now lists.old lists.new)) }
+{
+    match packed.part() {
+        Ok(part) => turn(lists, alloc, shape, part),
+        Err(part) => turn(lists, alloc, shape, &part),
+    }
+}
+
+/// Makes a turn, where it may be this part, and says what is noted of it.
+fn turn(
+    lists: &mut ReplayedLists,
+    alloc: Global,
+    shape: &Shape,
+    part: &LocalPart,
+) -> Result<Option<Note>, NoMemory>
+    ensures { IfOk result (λ found. MatchOption found
+        (¬ AllowsOnLocal shape.now part.now lists.old)
+        (IsTurn shape.now part.now lists.old lists.new)) }
+{
+    if !allows(lists, alloc, shape, part)? {
+        return Ok(None);
+    }
+    let noted = note(lists, alloc, part)?;
+    apply(lists, alloc, part)?;
+    Ok(Some(noted))
 }
 
 /// Whether a turn may be this part.

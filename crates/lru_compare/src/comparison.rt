@@ -9,7 +9,7 @@ use crate::StrictOut;
 use map_report::RunRecord;
 use map_script::Script;
 use map_types::{Call, Errno, NoMemory, Reply, Verb};
-use place_words::{BucketPart, Entry, LockHistory, Part, Seen};
+use place_words::{Entry, LockHistory, Part, Seen};
 use std::alloc::{AllocError, Global};
 use std::fmt::Write;
 
@@ -213,11 +213,8 @@ fn evicted_in(entries: &[Entry]) -> u64
 fn evicts(part: &Part) -> bool
     ensures { result ≡ evicts part.now }
 {
-    matches!(
-        part,
-        Part::Bucket(BucketPart::Evict {
-            probed: Seen::Removed,
-            ..
-        })
-    )
+    match part {
+        Part::Bucket(packed) => matches!(packed.eviction(), Some((_, Seen::Removed))),
+        _ => false,
+    }
 }

@@ -26,6 +26,7 @@ pub mod OwnTurns
 pub mod OwnWalk
 pub mod OwnersAround
 pub mod OwnersLeft
+pub mod PackedParts
 pub mod PassWork
 pub mod Popped
 pub mod Pushes

@@ -1,6 +1,6 @@
 -- The own local lists are refilled within a turn of theirs, and their head is given out, if any came.
 use Rattle.std.proofs.Common.{inl, inr, ◌≡◌, ◌≢◌, ℕ, ◌<◌, cond, eqb, true, Bool, List, [], ◌∷◌, ◌++◌, map, sym, refl, ap, ◌∙◌, subst, Option, Some, None, suc, arith}
-use Rattle.std.specs.Prelude.{◌⊎◌, ◌&&◌, drop, reverse, slice_get, option_map, IfSome, IsTrue, All, MatchBool, MatchOption}
+use Rattle.std.specs.Prelude.{◌⊎◌, ◌&&◌, drop, reverse, slice_get, option_map, IfSome, IsTrue, All, MatchBool}
 use Rattle.std.proofs.lemmas.List.{map-append, reverse-reverse}
 use Rattle.std.specs.List.{AllByRecursion}
 use Rattle.std.proofs.lemmas.List.Elements.{recursion_from_All, All-nil, All-cons}
@@ -400,22 +400,22 @@ module _ {t : TableView} {lists : LocalView} {p q : PassView} (b : OnLocal t p.c
           }
 
     -- The part is what the refill told, or none.
-    as_refill : (hash : ℕ) (got : Option ℕ) (given_part : Option Part) → MatchOption given_part (told_refill ≡ None) (IsRefillPart hash told_refill got) → IfSome given_part (λ x. x ≡ parts.Local (refill_told hash got))
+    as_refill : (hash : ℕ) (got : Option ℕ) (given_part : Option Part) → IfSome given_part (IsRefillPart hash told_refill got) → IfSome given_part (λ x. x ≡ parts.Local (refill_told hash got))
     as_refill hash got given_part is = go given_part told_refill is f.told_is
       where
-        go : (given_part : Option Part) (told : Option Refilled) → MatchOption given_part (told ≡ None) (IsRefillPart hash told got) → IfSome told (λ (refilled : Refilled). (refilled.flushed ≡ visits) × (refilled.gained ≡ gained)) → IfSome given_part (λ x. x ≡ parts.Local (refill_told hash got))
+        go : (given_part : Option Part) (told : Option Refilled) → IfSome given_part (IsRefillPart hash told got) → IfSome told (λ (refilled : Refilled). (refilled.flushed ≡ visits) × (refilled.gained ≡ gained)) → IfSome given_part (λ x. x ≡ parts.Local (refill_told hash got))
         go None told is tells = tt
         go (Some x) None is tells = absurd is
         go (Some x) (Some refilled) is tells = is ∙ (λ i. parts.Local (local.Refill hash (tells.0 i) (tells.1 i) got))
 
     pub may_give_filled : (hash : ℕ) (out : LocalView) (s : PassView) (found : Option Stored) (given_part : Option Part) → MakesPending t hash filled out r s found
-        → MatchOption given_part (told_refill ≡ None) (IsRefillPart hash told_refill (option_map (λ (body : Stored). body.element) found)) → MayGiveBack t (Local p.cpu) s (contents.Local out) given_part
+        → IfSome given_part (IsRefillPart hash told_refill (option_map (λ (body : Stored). body.element) found)) → MayGiveBack t (Local p.cpu) s (contents.Local out) given_part
     may_give_filled hash out s None given_part made is =
         subst (λ (z : LocalView × PassView). MayGiveBack t (Local p.cpu) z.1 (contents.Local z.0) given_part) (λ i. (sym made.1 i, sym made.2 i))
         (may_give_around b (ready_nothing hash made.0) given_part (as_refill hash None given_part is))
     may_give_filled hash out s (Some body) given_part made is = may_give_around b (ready_given made) given_part (as_refill hash (Some body.element) given_part is)
 
-    pub filled_got : {hash : ℕ} {out : LocalView} {s u : PassView} {body : Stored} (given_part : Option Part) → MadePending t hash filled out r s body → MatchOption given_part (told_refill ≡ None) (IsRefillPart hash told_refill (Some body.element))
+    pub filled_got : {hash : ℕ} {out : LocalView} {s u : PassView} {body : Stored} (given_part : Option Part) → MadePending t hash filled out r s body → IfSome given_part (IsRefillPart hash told_refill (Some body.element))
         → GaveBack t (Local p.cpu) s u (contents.Local out) given_part → Acquired t hash p u (Some body)
     filled_got {hash} {out} {s} {u} {body} given_part made is gave = go given_part (as_refill hash (Some body.element) given_part is) gave
       where
@@ -428,7 +428,7 @@ module _ {t : TableView} {lists : LocalView} {p q : PassView} (b : OnLocal t p.c
             let one : given.hold ≡ meant.hold = same_head (sym given.innermost ∙ meant.innermost) in
             got_filled made part meant (subst (λ (h : Hold). GaveAs t s u h part []) one (gave_as t s u part given)) (inl refl)
 
-    pub filled_nothing : {hash cursor : ℕ} {u : PassView} (out : LocalView) (s : PassView) (given_part : Option Part) → MakesPending t hash filled out r s None → cursor ≡ out.steal → MatchOption given_part (told_refill ≡ None) (IsRefillPart hash told_refill None)
+    pub filled_nothing : {hash cursor : ℕ} {u : PassView} (out : LocalView) (s : PassView) (given_part : Option Part) → MakesPending t hash filled out r s None → cursor ≡ out.steal → IfSome given_part (IsRefillPart hash told_refill None)
         → GaveBack t (Local p.cpu) s u (contents.Local out) given_part → RefilledNone t hash cursor p u
     filled_nothing {hash} {cursor} {u} out s given_part made cursor_is is gave =
         go given_part (as_refill hash None given_part is) (subst (λ (z : LocalView × PassView). GaveBack t (Local p.cpu) z.1 u (contents.Local z.0) given_part) (λ i. (made.1 i, made.2 i)) gave)
@@ -465,25 +465,25 @@ module _ {t : TableView} {cpu : ℕ} {p q again : PassView} {here : Slot} {lists
     lock_still = ap Local (mine ∙ sym (f.goes.cpu ∙ (to_q on_lists).cpu))
 
     pub may_give_refilled : {got : Option ℕ} (hash : ℕ) (out : LocalView) (s : PassView) (found : Option Stored) (given_part : Option Part) → MakesPending t hash filled out r s found → got ≡ option_map (λ (body : Stored). body.element) found
-        → MatchOption given_part (told_refill ≡ None) (IsRefillPart hash told_refill got) → MayGiveBack t (Local cpu) s (contents.Local out) given_part
+        → IfSome given_part (IsRefillPart hash told_refill got) → MayGiveBack t (Local cpu) s (contents.Local out) given_part
     may_give_refilled {got} hash out s found given_part made got_is told =
         subst (λ (n : ℕ). MayGiveBack t (Local n) s (contents.Local out) given_part) (sym mine)
-        (may_give_filled on_lists can.common can.can none.0 f hash out s found given_part made (subst (λ (z : Option ℕ). MatchOption given_part (told_refill ≡ None) (IsRefillPart hash told_refill z)) got_is told))
+        (may_give_filled on_lists can.common can.can none.0 f hash out s found given_part made (subst (λ (z : Option ℕ). IfSome given_part (IsRefillPart hash told_refill z)) got_is told))
 
     pub refilled_got : {u : PassView} {got : Option ℕ} {found : Option Stored} {body : Stored} (hash : ℕ) (out : LocalView) (s : PassView) (given_part : Option Part) → found ≡ Some body → MakesPending t hash filled out r s found → got ≡ option_map (λ (body : Stored). body.element) found
-        → MatchOption given_part (told_refill ≡ None) (IsRefillPart hash told_refill got) → GaveBack t (Local cpu) s u (contents.Local out) given_part → Acquired t hash p u (Some body)
+        → IfSome given_part (IsRefillPart hash told_refill got) → GaveBack t (Local cpu) s u (contents.Local out) given_part → Acquired t hash p u (Some body)
     refilled_got {u} {got} {found} {body} hash out s given_part found_is made got_is told gave =
         filled_got on_lists can.common can.can none.0 f given_part (subst (MakesPending t hash filled out r s) found_is made)
-        (subst (λ (z : Option ℕ). MatchOption given_part (told_refill ≡ None) (IsRefillPart hash told_refill z)) (got_is ∙ ap (option_map (λ (x : Stored). x.element)) found_is) told)
+        (subst (λ (z : Option ℕ). IfSome given_part (IsRefillPart hash told_refill z)) (got_is ∙ ap (option_map (λ (x : Stored). x.element)) found_is) told)
         (subst (λ (n : ℕ). GaveBack t (Local n) s u (contents.Local out) given_part) mine gave)
 
     pub refilled_none : {u : PassView} {got : Option ℕ} {found : Option Stored} {cursor : ℕ} (hash : ℕ) (out : LocalView) (s : PassView) (given_part : Option Part) → found ≡ None → MakesPending t hash filled out r s found → got ≡ option_map (λ (body : Stored). body.element) found → cursor ≡ out.steal
-        → MatchOption given_part (told_refill ≡ None) (IsRefillPart hash told_refill got) → GaveBack t (Local cpu) s u (contents.Local out) given_part → (cursor < t.shape.cpus) × RefilledNone t hash cursor p u
+        → IfSome given_part (IsRefillPart hash told_refill got) → GaveBack t (Local cpu) s u (contents.Local out) given_part → (cursor < t.shape.cpus) × RefilledNone t hash cursor p u
     refilled_none {u} {got} {found} {cursor} hash out s given_part found_is made got_is cursor_is told gave =
         let made_none : MakesPending t hash filled out r s None = subst (MakesPending t hash filled out r s) found_is made in
         let few_cpus : cursor < t.shape.cpus = subst (λ (n : ℕ). n < t.shape.cpus) (sym (cursor_is ∙ ap (λ (z : LocalView). z.steal) made_none.1)) f.fits.steal in (
           few_cpus,
           filled_nothing on_lists can.common can.can none.0 f out s given_part made_none cursor_is
-              (subst (λ (z : Option ℕ). MatchOption given_part (told_refill ≡ None) (IsRefillPart hash told_refill z)) (got_is ∙ ap (option_map (λ (x : Stored). x.element)) found_is) told)
+              (subst (λ (z : Option ℕ). IfSome given_part (IsRefillPart hash told_refill z)) (got_is ∙ ap (option_map (λ (x : Stored). x.element)) found_is) told)
               (subst (λ (n : ℕ). GaveBack t (Local n) s u (contents.Local out) given_part) mine gave),
         )

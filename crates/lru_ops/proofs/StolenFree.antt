@@ -11,11 +11,10 @@ use Rattle.map_types.proofs.RowLemmas.{times_append}
 use Rattle.place_words.specs.declared.history.Part.{Part}
 use Rattle.place_words.specs.declared.history.Part.TheVariants as parts
 use Rattle.place_words.specs.declared.home.Home.TheVariants as homes
+use Rattle.place_words.specs.declared.list_part.LocalPart.{LocalPart}
 use Rattle.place_words.specs.declared.list_part.LocalPart.TheVariants as local
 use Rattle.place_words.specs.declared.list_part.Stolen.TheVariants.{Free}
 use Rattle.place_words.specs.declared.owner.Owner.TheVariants as owners
-use Rattle.place_words.specs.declared.visits.Look.{Look}
-use Rattle.place_words.specs.declared.visits.Try.{Try}
 use Rattle.place_words.specs.Bodies.{numbers}
 use Rattle.place_words.specs.Locals.{local_after}
 use Rattle.place_words.specs.Locks.{lock_number}
@@ -283,18 +282,18 @@ module _ {t : TableView} {from : ℕ} {p q : PassView} {here : Slot} {lists : Lo
     pub may_carry : CanRehome t e (homes.Hand cpu) m
     may_carry = subst (λ (n : ℕ). CanRehome t n (homes.Hand cpu) m) (sym e_is) (can_carry can on_lists top claimed_here cpu mine)
 
-    module _ {s : PassView} {first : List Look} {second : List Try} (off : Rehomed t e (homes.Hand cpu) m s) (first_is : first ≡ []) (second_is : second ≡ []) where
+    module _ {s : PassView} {part : LocalPart} (off : Rehomed t e (homes.Hand cpu) m s) (part_is : part ≡ local.Steal (Free e) [] []) where
       abbrev off_here : Rehomed t body.element (homes.Hand p.cpu) m s
       off_here = subst (λ (z : ℕ × ℕ). Rehomed t z.0 (homes.Hand z.1) m s) (λ i. (e_is i, mine i)) off
 
-      abbrev part_is : parts.Local (local.Steal (Free e) first second) ≡ parts.Local (local.Steal (Free body.element) [] [])
-      part_is = λ i. parts.Local (local.Steal (Free (e_is i)) (first_is i) (second_is i))
+      abbrev told_is : parts.Local part ≡ parts.Local (local.Steal (Free body.element) [] [])
+      told_is = ap parts.Local part_is ∙ ap (λ (n : ℕ). parts.Local (local.Steal (Free n) [] [])) e_is
 
-      pub may_give_free : CanGive t (Local from) s (contents.Local left) (parts.Local (local.Steal (Free e) first second))
+      pub may_give_free : CanGive t (Local from) s (contents.Local left) (parts.Local part)
       may_give_free =
-          subst (λ (z : LocalView × Part). CanGive t (Local from) s (contents.Local z.0) z.1) (λ i. (sym left_is i, sym part_is i))
+          subst (λ (z : LocalView × Part). CanGive t (Local from) s (contents.Local z.0) z.1) (λ i. (sym left_is i, sym told_is i))
           (can_give_free can on_lists top claimed_here off_here (subst IsLocal left_is whole))
 
-      pub free_stolen : {u : PassView} → Gave s u (parts.Local (local.Steal (Free e) first second)) → StoleFrom t from p u (Some body)
+      pub free_stolen : {u : PassView} → Gave s u (parts.Local part) → StoleFrom t from p u (Some body)
       free_stolen {u} gave =
-          stole_free can on_lists top claimed_here off_here (subst IsLocal left_is whole) (subst (Gave s u) part_is gave)
+          stole_free can on_lists top claimed_here off_here (subst IsLocal left_is whole) (subst (Gave s u) told_is gave)

@@ -9,7 +9,7 @@ use bucket_chain::Chain;
 use lru_lists::Probed;
 use map_types::DomainId;
 use place_table::{Content, Pass, PlaceTable, Points};
-use place_words::{BucketPart, Owner, Part, Seen};
+use place_words::{Owner, PackedBucket, Part, Seen};
 use std::sync::Wait;
 
 /// Probes a bucket for an element, as the kernel's `htab_lru_map_delete_node`: in one turn of its lock the element is taken
@@ -65,10 +65,7 @@ fn give_removed<G: Points>(
     ensures { EndedWith table.now bucket element pass.old pass.new seen.Removed }
 {
     table.detach(pass, element, bucket);
-    let part = Part::Bucket(BucketPart::Evict {
-        element,
-        probed: Seen::Removed,
-    });
+    let part = Part::Bucket(PackedBucket::evict(element, Seen::Removed));
     table.give_at(
         pass,
         DomainId::Bucket(bucket),
@@ -95,10 +92,7 @@ fn give_held<G: Points>(
     let Owner::Hand(holder) = table.owner_of(pass, element) else {
         unreachable!()
     };
-    let held = Part::Bucket(BucketPart::Evict {
-        element,
-        probed: Seen::Held(holder),
-    });
+    let held = Part::Bucket(PackedBucket::evict(element, Seen::Held(holder)));
     table.give_at(
         pass,
         DomainId::Bucket(bucket),

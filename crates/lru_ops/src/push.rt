@@ -10,7 +10,7 @@ ghost use Rattle.lru_ops.specs.Shared.{CanPushAt, LiesUnder, FreedBy, PushesLoca
 use map_types::{DomainId, Gate};
 use percpu_values::BoxedBody;
 use place_table::{Content, Pass, PlaceTable};
-use place_words::{Home, LocalPart, PackedGlobal, PackedOwn, Part};
+use place_words::{Home, PackedGlobal, PackedLocal, PackedOwn, Part};
 use std::sync::Wait;
 
 /// Frees the element of a body, as `LruMap::push_free`: in the list set in which it lives, or where the CPUs share lists at its
@@ -111,17 +111,11 @@ fn push_local<R: Wait, G: Gate>(
         let _ = table.clear(pass, element);
         table.settle(pass, element, lock);
         lists.push_free(body);
-        let part = Part::Local(LocalPart::Push {
-            element,
-            done: true,
-        });
+        let part = Part::Local(PackedLocal::push(element, true));
         table.give(pass, lock, Content::Local(lists), Some(part), gate);
         None
     } else {
-        let part = Part::Local(LocalPart::Push {
-            element,
-            done: false,
-        });
+        let part = Part::Local(PackedLocal::push(element, false));
         table.give(pass, lock, Content::Local(lists), Some(part), gate);
         Some(body)
     }

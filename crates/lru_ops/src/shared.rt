@@ -1,6 +1,7 @@
 //! How an element is taken where the CPUs of a map share its lists.
 
-ghost use Rattle.std.specs.Prelude.{◌≡◌, MatchOption, None};
+ghost use Rattle.std.specs.Prelude.{◌≡◌, IfSome, MatchOption, None, Some, option_map};
+ghost use Rattle.place_words.specs.declared.history.Part.TheVariants as parts;
 ghost use Rattle.map_types.specs.declared.kind.DomainId.TheVariants as locks;
 ghost use Rattle.lru_ops.specs.Lists.{MapEvicts, Acquired};
 ghost use Rattle.lru_ops.specs.LocalWork.{CanMakePending, MakesPending};
@@ -13,7 +14,7 @@ use local_lists::LocalSet;
 use map_types::{DomainId, Gate, Row};
 use percpu_values::BoxedBody;
 use place_table::{Content, Listing, Pass, PlaceTable};
-use place_words::{LocalPart, Part};
+use place_words::{LocalPart, PackedLocal, Part};
 use std::alloc::Global;
 use std::sync::Wait;
 
@@ -63,14 +64,14 @@ fn take_local<R: Wait, G: Gate>(
     };
     if let Some(body) = make_pending(table, pass, lock, &mut lists, hash) {
         let element = body.body().element();
-        let part = Part::Local(LocalPart::Pop { hash, element });
+        let part = Part::Local(PackedLocal::pop(hash, element));
         table.give(pass, lock, Content::Local(lists), Some(part), gate);
         return Taken::Got(body);
     }
     let refilled = refill(rt, alloc, table, pass, &mut lists, gate);
     let got = make_pending(table, pass, lock, &mut lists, hash);
     let cursor = lists.steal_cursor();
-    let part = refill_part(hash, refilled, element_of(&got));
+    let part = packed_part(alloc, refill_part(hash, refilled, element_of(&got)));
     table.give(pass, lock, Content::Local(lists), part, gate);
     match got {
         Some(body) => Taken::Got(body),
@@ -78,17 +79,25 @@ fn take_local<R: Wait, G: Gate>(
     }
 }
 
-/// The entry of a turn of the local lists that were refilled, none where the refill didn't tell what it did.
-fn refill_part(hash: u32, refilled: Option<Refilled>, got: Option<u32>) -> Option<Part>
-    ensures { MatchOption result (refilled ≡ None) (IsRefillPart hash refilled got) }
+/// What a turn of the local lists tells that were refilled, none where the refill didn't tell what it did.
+fn refill_part(hash: u32, refilled: Option<Refilled>, got: Option<u32>) -> Option<LocalPart>
+    ensures { MatchOption result (refilled ≡ None)
+        (λ part. IsRefillPart hash refilled got (parts.Local part)) }
 {
     let refilled = refilled?;
-    Some(Part::Local(LocalPart::Refill {
+    Some(LocalPart::Refill {
         hash,
         flushed: refilled.flushed,
         gained: refilled.gained,
         got,
-    }))
+    })
+}
+
+/// A part of local lists as it lies in an entry, none where there is none, or no memory for it.
+pub(crate) fn packed_part(alloc: Global, part: Option<LocalPart>) -> Option<Part>
+    ensures { IfSome result (λ packed. option_map parts.Local part ≡ Some packed) }
+{
+    Some(Part::Local(PackedLocal::new(alloc, part?).ok()?))
 }
 
 /// Moves the head of the local free list, where there is one, to the head of pending with this hash, and to the CPU's hand.

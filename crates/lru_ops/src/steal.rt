@@ -1,19 +1,21 @@
 //! The round of thefts of a CPU that found no free element.
 
 ghost use Rattle.std.specs.Prelude.{◌≡◌, ◌<◌, ◌⊎◌, [], IfSome, IfNone};
-ghost use Rattle.place_words.specs.Turns.{ring};
 ghost use Rattle.lru_lists.specs.declared.notes.Noted.TheVariants as noted;
+ghost use Rattle.place_words.specs.declared.history.Part.TheVariants as parts;
+ghost use Rattle.place_words.specs.Turns.{ring};
 ghost use Rattle.lru_ops.specs.Lists.{MapEvicts};
 ghost use Rattle.lru_ops.specs.Shared.{CanSteal, StoleFrom, StoleRound, CanBringHome, BroughtHome};
 ghost use Rattle.lru_ops.specs.Thefts.{CanSearch, Walked, Searched, stolen_of, IsTheft, both_walks};
 
 use crate::probing::{search_all, search_sparing};
+use crate::shared::packed_part;
 use local_lists::LocalSet;
 use lru_lists::Noted;
-use map_types::{DomainId, Gate, List, Row};
+use map_types::{DomainId, Gate, Row};
 use percpu_values::BoxedBody;
 use place_table::{Content, Listing, Pass, PlaceTable};
-use place_words::{Home, LocalPart, Look, Part, Stolen, Try};
+use place_words::{Home, LocalPart, Look, PackedLocal, Part, Stolen, Try};
 use std::alloc::Global;
 use std::marker::Brand;
 use std::sync::Wait;
@@ -72,18 +74,14 @@ fn steal_from<R: Wait, G: Gate>(
         let element = body.body().element();
         table.claim(pass, element, lock);
         table.rehome(pass, element, Home::Hand(cpu));
-        let part = Part::Local(LocalPart::Steal {
-            got: Stolen::Free(element),
-            first: List::of(Vec::new(alloc)),
-            second: List::of(Vec::new(alloc)),
-        });
+        let part = Part::Local(PackedLocal::steal_free(alloc, element));
         table.give(pass, lock, Content::Local(lists), Some(part), gate);
         return Some(body);
     }
     let mut first = Noted::empty(alloc);
     let mut second = Noted::empty(alloc);
     let got = search(rt, table, pass, &mut lists, &mut first, &mut second, gate);
-    let part = steal_part(stolen_of(&got), first, second);
+    let part = packed_part(alloc, steal_part(stolen_of(&got), first, second));
     table.give(pass, lock, Content::Local(lists), part, gate);
     got
 }
@@ -159,11 +157,7 @@ fn bring_home<R: Wait, G: Gate>(
     let _ = table.clear(pass, element);
     lists.add_pending(Row { element, hash });
     lists.set_steal_cursor(cursor);
-    let part = Part::Local(LocalPart::Add {
-        hash,
-        element,
-        cursor,
-    });
+    let part = Part::Local(PackedLocal::add(hash, element, cursor));
     table.give(pass, lock, Content::Local(lists), Some(part), gate);
 }
 
@@ -177,17 +171,17 @@ fn stolen_of(got: &Option<BoxedBody>) -> Stolen
     }
 }
 
-/// The entry of a theft's turn, none where memory for a part of it was not found.
-fn steal_part(stolen: Stolen, first: Noted<Look>, second: Noted<Try>) -> Option<Part>
-    ensures told { IfSome result (IsTheft stolen first second) }
+/// What a theft's turn tells, none where memory for a note of it was not found.
+fn steal_part(stolen: Stolen, first: Noted<Look>, second: Noted<Try>) -> Option<LocalPart>
+    ensures told { IfSome result (λ part. IsTheft stolen first second (parts.Local part)) }
     ensures lost { IfNone result ((first ≡ noted.Lost) ⊎ (second ≡ noted.Lost)) }
 {
     let (Noted::Kept(first), Noted::Kept(second)) = (first, second) else {
         return None;
     };
-    Some(Part::Local(LocalPart::Steal {
+    Some(LocalPart::Steal {
         got: stolen,
         first,
         second,
-    }))
+    })
 }

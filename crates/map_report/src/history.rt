@@ -97,9 +97,15 @@ impl Piece for Part {
 
     fn push_to(&self, text: &mut String) -> Result<(), AllocError> {
         match self {
-            Part::Bucket(part) => part.push_to(text),
+            Part::Bucket(part) => match part.part() {
+                Ok(part) => part.push_to(text),
+                Err(part) => part.push_to(text),
+            },
             Part::Free(part) => part.push_to(text),
-            Part::Local(part) => part.push_to(text),
+            Part::Local(part) => match part.part() {
+                Ok(part) => part.push_to(text),
+                Err(part) => part.push_to(text),
+            },
             Part::Global(part) => match part.part() {
                 Ok(part) => part.push_to(text),
                 Err(part) => part.push_to(text),

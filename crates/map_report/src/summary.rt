@@ -12,7 +12,7 @@ use crate::text::{add_dump_if, add_history_if};
 use crate::{Options, RunRecord};
 use map_script::Script;
 use map_types::{Errno, List, NoMemory, Reply};
-use place_words::{BucketPart, Entry, Kept, LockHistory, Part, Seen};
+use place_words::{Entry, Kept, LockHistory, Part, Seen};
 use std::alloc::{AllocError, Global};
 
 /// What is printed of a run in place of its replies: a line for the map, one for the number of calls, for `ok` and each
@@ -203,13 +203,10 @@ fn evicted_in(entries: &[Entry]) -> u64
 fn evicts(part: &Part) -> bool
     ensures { result ≡ evicts part.now }
 {
-    matches!(
-        part,
-        Part::Bucket(BucketPart::Evict {
-            probed: Seen::Removed,
-            ..
-        })
-    )
+    match part {
+        Part::Bucket(packed) => matches!(packed.eviction(), Some((_, Seen::Removed))),
+        _ => false,
+    }
 }
 
 /// How many elements lie in buckets.

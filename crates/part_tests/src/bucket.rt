@@ -1,7 +1,8 @@
 //! Tests of what a turn of a bucket's lock tells.
 
 use crate::Same;
-use place_words::{BucketPart, NextFound, Walked};
+use crate::same::same_told;
+use place_words::{BucketPart, NextFound, PackedBucket, Walked};
 
 impl Same for NextFound {
     fn same(&self, other: &NextFound) -> bool {
@@ -107,5 +108,11 @@ impl Same for BucketPart {
                 _ => false,
             },
         }
+    }
+}
+
+impl Same for PackedBucket {
+    fn same(&self, other: &PackedBucket) -> bool {
+        same_told(self.part(), other.part())
     }
 }

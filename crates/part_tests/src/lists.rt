@@ -1,9 +1,10 @@
 //! Tests of what a turn of the lock of an LRU list tells.
 
-ghost use Rattle.std.specs.Prelude.{◌≡◌, ◌≢◌, MatchBool, MatchResult};
-
 use crate::Same;
-use place_words::{GlobalPart, LocalPart, OwnPart, PackedGlobal, PackedOwn, ShrinkNote};
+use crate::same::same_told;
+use place_words::{
+    GlobalPart, LocalPart, OwnPart, PackedGlobal, PackedLocal, PackedOwn, ShrinkNote,
+};
 
 impl Same for ShrinkNote {
     fn same(&self, other: &ShrinkNote) -> bool {
@@ -147,6 +148,12 @@ impl Same for OwnPart {
     }
 }
 
+impl Same for PackedLocal {
+    fn same(&self, other: &PackedLocal) -> bool {
+        same_told(self.part(), other.part())
+    }
+}
+
 impl Same for PackedGlobal {
     fn same(&self, other: &PackedGlobal) -> bool {
         same_told(self.part(), other.part())
@@ -156,19 +163,5 @@ impl Same for PackedGlobal {
 impl Same for PackedOwn {
     fn same(&self, other: &PackedOwn) -> bool {
         same_told(self.part(), other.part())
-    }
-}
-
-/// Whether two packed parts are the same, where each is told by reference, or as one that was made for the answer.
-fn same_told<T: Same + Drop>(part: Result<&T, T>, another: Result<&T, T>) -> bool
-    ensures { (one other : T) → MatchResult part.entry (λ told. told.now ≡ one) (λ told. told ≡ one)
-        → MatchResult another.entry (λ told. told.now ≡ other) (λ told. told ≡ other)
-        → MatchBool result (one ≡ other) (one ≢ other) }
-{
-    match (part, another) {
-        (Ok(part), Ok(another)) => part.same(another),
-        (Ok(part), Err(another)) => part.same(&another),
-        (Err(part), Ok(another)) => part.same(another),
-        (Err(part), Err(another)) => part.same(&another),
     }
 }

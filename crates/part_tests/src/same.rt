@@ -1,6 +1,6 @@
 //! The test for equality of values that keep memory of their own, and of lists of any values that have one.
 
-ghost use Rattle.std.specs.Prelude.{◌≡◌, ◌≢◌, MatchBool};
+ghost use Rattle.std.specs.Prelude.{◌≡◌, ◌≢◌, MatchBool, MatchResult};
 
 use map_types::{Bytes, List, Reply};
 use place_words::Part;
@@ -71,6 +71,20 @@ fn are_same<T: Same>(items: &[T], others: &[T]) -> bool
         }
     }
     true
+}
+
+/// Whether two packed parts are the same, where each is told by reference, or as one that was made for the answer.
+pub(crate) fn same_told<T: Same + Drop>(part: Result<&T, T>, another: Result<&T, T>) -> bool
+    ensures { (one other : T) → MatchResult part.entry (λ told. told.now ≡ one) (λ told. told ≡ one)
+        → MatchResult another.entry (λ told. told.now ≡ other) (λ told. told ≡ other)
+        → MatchBool result (one ≡ other) (one ≢ other) }
+{
+    match (part, another) {
+        (Ok(part), Ok(another)) => part.same(another),
+        (Ok(part), Err(another)) => part.same(&another),
+        (Err(part), Ok(another)) => part.same(another),
+        (Err(part), Err(another)) => part.same(&another),
+    }
 }
 
 /// Whether two parts tell the same.

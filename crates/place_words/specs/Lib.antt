@@ -19,6 +19,7 @@ pub mod Named
 pub mod OpeningState
 pub mod Openings
 pub mod Packed
+pub mod PackedBuckets
 pub mod Phases
 pub mod Places
 pub mod PlainTraces

@@ -3,16 +3,16 @@
 ghost use Rattle.std.specs.Prelude.{◌≡◌, IfOk};
 
 use crate::copying::{EqualCopy, copy_each, copy_list};
-use crate::{BucketPart, FreePart, LocalPart, PackedGlobal, PackedOwn};
+use crate::{FreePart, PackedBucket, PackedGlobal, PackedLocal, PackedOwn};
 use map_types::{DomainId, List, NoMemory, Numbers};
 use std::alloc::Global;
 
 /// What one turn of a lock did.
 #[derive(Drop)]
 pub enum Part {
-    Bucket(BucketPart),
+    Bucket(PackedBucket),
     Free(FreePart),
-    Local(LocalPart),
+    Local(PackedLocal),
     Global(PackedGlobal),
     Own(PackedOwn),
 }

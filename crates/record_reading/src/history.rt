@@ -16,7 +16,10 @@ use crate::lock_names::lock_part;
 use crate::numbers::{blank_number, cpu_text, number, number_to};
 use crate::words::behind;
 use map_types::{DomainId, NoMemory, Shape};
-use place_words::{Entry, GlobalPart, OwnPart, PackedGlobal, PackedOwn, Part, StrandStep};
+use place_words::{
+    Entry, GlobalPart, LocalPart, OwnPart, PackedBucket, PackedGlobal, PackedLocal, PackedOwn,
+    Part, StrandStep,
+};
 use std::alloc::Global;
 
 /// `lock NAME N`: a lock of the map, and how many entries its history has.
@@ -168,7 +171,7 @@ fn of_bucket<'a>(
     let Some((part, rest)) = bucket_part(alloc, shape, text)? else {
         return Ok(None);
     };
-    Ok(Some((Part::Bucket(part), rest)))
+    Ok(Some((Part::Bucket(PackedBucket::new(alloc, part)?), rest)))
 }
 
 /// What one turn of a freelist's lock did.
@@ -194,7 +197,23 @@ fn of_local<'a>(
     let Some((part, rest)) = local_part(alloc, shape, text)? else {
         return Ok(None);
     };
-    Ok(Some((Part::Local(part), rest)))
+    Ok(Some((Part::Local(packed_local(alloc, part)?), rest)))
+}
+
+/// A part of local lists as it lies in an entry.
+fn packed_local(alloc: Global, part: LocalPart) -> Result<PackedLocal, NoMemory>
+    ensures { IfOk result (λ packed. packed ≡ part) }
+{
+    match part {
+        LocalPart::Pop { hash, element } => Ok(PackedLocal::pop(hash, element)),
+        LocalPart::Add {
+            hash,
+            element,
+            cursor,
+        } => Ok(PackedLocal::add(hash, element, cursor)),
+        LocalPart::Push { element, done } => Ok(PackedLocal::push(element, done)),
+        turn => PackedLocal::new(alloc, turn),
+    }
 }
 
 /// What one turn of the global lists' lock did.

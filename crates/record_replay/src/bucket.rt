@@ -57,7 +57,10 @@ fn moves(
     ensures { IfOk result (IsStep shape.now cpu part.now (in_bucket chain.old.bodies) (in_bucket chain.new.bodies)) }
 {
     match part {
-        Part::Bucket(part) => turn(alloc, shape, cpu, part, chain),
+        Part::Bucket(packed) => match packed.part() {
+            Ok(part) => turn(alloc, shape, cpu, part, chain),
+            Err(part) => turn(alloc, shape, cpu, &part, chain),
+        },
         Part::Free(_) | Part::Local(_) | Part::Global(_) | Part::Own(_) => Ok(false),
     }
 }

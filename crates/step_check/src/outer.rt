@@ -1,13 +1,13 @@
 //! Which turn encloses one, by their tickets.
 
 ghost use Rattle.std.specs.Prelude.{◌≡◌, ◌<◌, ◌+◌, All, IfOk, None, length, replicate, if◌then◌else◌};
-ghost use Rattle.place_words.specs.Interleaving.{Drawn, is_global_turn, is_inner, is_eviction};
+ghost use Rattle.place_words.specs.Interleaving.{Drawn, is_global_turn, is_inner};
 ghost use Rattle.step_check.specs.Outer.{AreNumbered, AreOuter, HaveOneCpu, first_below, no_next, with_turn};
 ghost use Rattle.step_check.specs.Places.{IsPlace, turns_at};
 
 use crate::places::{TurnPlace, entry_at, lock_at};
 use map_types::{DomainId, NoMemory};
-use place_words::{BucketPart, GlobalPart, LockHistory, Part};
+use place_words::{GlobalPart, LockHistory, Part};
 use std::alloc::Global;
 
 /// Of one call, the next turns whose locks are taken before lists that all CPUs share or a list set, before a bucket, and before a
@@ -133,7 +133,7 @@ fn is_inner(part: &Part) -> bool
     ensures { result ≡ is_inner part.now }
 {
     match part {
-        Part::Bucket(part) => matches!(part, BucketPart::Evict { .. }),
+        Part::Bucket(part) => part.eviction().is_some(),
         Part::Free(_) => true,
         Part::Global(part) => match part.part() {
             Ok(part) => is_global_turn(part),

@@ -1,9 +1,9 @@
 //! One turn of a record.
 
-ghost use Rattle.std.specs.Prelude.{◌≡◌, [], ◌∷◌, ◌++◌, map, IfOk};
+ghost use Rattle.std.specs.Prelude.{ℕ, ◌≡◌, [], ◌∷◌, ◌++◌, map, IfOk};
 ghost use Rattle.place_words.specs.declared.step.Lists as lists_of;
 ghost use Rattle.place_words.specs.declared.step.Step.TheVariants as steps;
-ghost use Rattle.place_words.specs.Interleaving.{bucket_of_lock, does, global_steps, own_steps, part_steps, seen_by, seen_in};
+ghost use Rattle.place_words.specs.Interleaving.{bucket_of_lock, bucket_steps, does, global_steps, local_steps, own_steps, part_steps, seen_by, seen_in};
 ghost use Rattle.step_check.specs.Answers.{view_of};
 ghost use Rattle.step_check.specs.Ran.{Ran, seen_list, step_of};
 ghost use Rattle.step_check.specs.WordsView.{AreWords};
@@ -15,7 +15,7 @@ use crate::owners::sees;
 use crate::parts::{bucket_changes, free_changes, local_changes};
 use crate::words::Kept;
 use map_types::{DomainId, NoMemory, Shape};
-use place_words::{BucketPart, PackedGlobal, PackedOwn, Part, Seen};
+use place_words::{PackedBucket, PackedGlobal, PackedLocal, PackedOwn, Part, Seen};
 use std::alloc::Global;
 
 /// The bucket of a bucket's lock.
@@ -44,16 +44,54 @@ pub(crate) fn part_changes(
 {
     match part {
         Part::Bucket(part) => {
-            let changes = bucket_changes(alloc, shape, bucket_of(lock).unwrap_or(0), part)?;
+            let changes = packed_bucket(alloc, shape, bucket_of(lock).unwrap_or(0), part)?;
             Ok(changes)
         }
         Part::Free(part) => {
             let changes = free_changes(alloc, around, lock, *part)?;
             Ok(changes)
         }
-        Part::Local(part) => local_changes(alloc, cpu, lock, part),
+        Part::Local(part) => packed_local(alloc, cpu, lock, part),
         Part::Global(part) => packed_global(alloc, cpu, part),
         Part::Own(part) => packed_own(alloc, cpu, lock, part),
+    }
+}
+
+/// What a turn of a bucket does, as it is kept.
+fn packed_bucket(
+    alloc: Global,
+    shape: &Shape,
+    bucket: u32,
+    part: &PackedBucket,
+) -> Result<Vec<Change>, NoMemory>
+    ensures { IfOk result (λ changes. (cpu : ℕ)
+        → map (step_of cpu) changes.items ≡ bucket_steps shape.now cpu bucket part.now) }
+{
+    match part.part() {
+        Ok(part) => {
+            let changes = bucket_changes(alloc, shape, bucket, part)?;
+            Ok(changes)
+        }
+        Err(part) => {
+            let changes = bucket_changes(alloc, shape, bucket, &part)?;
+            Ok(changes)
+        }
+    }
+}
+
+/// What a turn of local lists does, as it is kept.
+fn packed_local(
+    alloc: Global,
+    cpu: u32,
+    lock: DomainId,
+    part: &PackedLocal,
+) -> Result<Vec<Change>, NoMemory>
+    ensures { IfOk result (λ changes. map (step_of cpu) changes.items
+        ≡ local_steps cpu lock part.now) }
+{
+    match part.part() {
+        Ok(part) => local_changes(alloc, cpu, lock, part),
+        Err(part) => local_changes(alloc, cpu, lock, &part),
     }
 }
 
@@ -91,21 +129,13 @@ fn packed_own(
 }
 
 /// The element that a turn of a bucket sees in a hand, and whose hand it is.
-fn seen_in_bucket(part: &BucketPart) -> Option<(u32, u32)>
+fn seen_in_bucket(part: &PackedBucket) -> Option<(u32, u32)>
     ensures { seen_in part.now ≡ seen_list result }
 {
-    match part {
-        BucketPart::Evict { element, probed } => match *probed {
-            Seen::Held(hand) => Some((*element, hand)),
-            Seen::Removed => None,
-        },
-        BucketPart::Lookup { .. }
-        | BucketPart::Update { .. }
-        | BucketPart::Delete { .. }
-        | BucketPart::Take { .. }
-        | BucketPart::Next { .. }
-        | BucketPart::First { .. }
-        | BucketPart::Walk { .. } => None,
+    let (element, probed) = part.eviction()?;
+    match probed {
+        Seen::Held(hand) => Some((element, hand)),
+        Seen::Removed => None,
     }
 }
 

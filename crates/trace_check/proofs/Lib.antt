@@ -1,3 +1,4 @@
+mod CommonParts
 pub mod Readers
 pub mod Grouping
 pub mod Rings

@@ -1,5 +1,6 @@
 pub mod Strand
 pub mod Reading
+pub mod Found
 pub mod Calls
 pub mod Pairs
 pub mod BySpares

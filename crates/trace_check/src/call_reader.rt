@@ -111,7 +111,7 @@ fn lookup<'a>(
     ensures { (cpu : ℕ) (spares : told.Left) → IsReadAs (told.read_plain_by shape.now cpu spares (verbs.Lookup side key.now) turns.now) reply.now result }
 {
     let (got, rest) = read_got(shape, side, key, turns)?;
-    rest_if(is_got(reply, got), rest)
+    rest_if(is_got(reply, got.found()), rest)
 }
 
 /// The turns behind an update's.

@@ -6,14 +6,14 @@ ghost use Rattle.trace_check.specs.Reading as reading;
 use crate::parts::is_free;
 use crate::strand::{Turn, Turns};
 use map_types::DomainId;
-use place_words::{BucketPart, Part};
+use place_words::{PackedBucket, Part};
 use std::marker::Model;
 
 /// What a turn of a bucket did, the turns of freelists before it, and the turns behind it.
 #[derive(Drop)]
 pub(crate) struct Group<'a> {
     pub(crate) before: Turns<'a>,
-    pub(crate) part: &'a BucketPart,
+    pub(crate) part: &'a PackedBucket,
     pub(crate) rest: Turns<'a>,
 }
 
@@ -48,7 +48,7 @@ pub(crate) fn bucket_group<'a>(bucket: u32, turns: &Turns<'a>) -> Option<Group<'
 }
 
 /// What a turn did, if it is this bucket's.
-fn at_bucket<'a>(bucket: u32, turn: &Turn<'a>) -> Option<&'a BucketPart>
+fn at_bucket<'a>(bucket: u32, turn: &Turn<'a>) -> Option<&'a PackedBucket>
     ensures { MatchOption result (reading.at_bucket bucket Some turn.now ≡ None)
         (λ part. reading.at_bucket bucket Some turn.now ≡ Some part.now) }
 {
@@ -59,7 +59,7 @@ fn at_bucket<'a>(bucket: u32, turn: &Turn<'a>) -> Option<&'a BucketPart>
 }
 
 /// What was done under a bucket's lock.
-fn bucket_part(part: &Part) -> Option<&BucketPart>
+fn bucket_part(part: &Part) -> Option<&PackedBucket>
     ensures { MatchOption result (reading.of_bucket Some part.now ≡ None) (λ done. reading.of_bucket Some part.now ≡ Some done.now) }
 {
     match part {

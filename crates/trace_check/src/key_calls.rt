@@ -5,6 +5,7 @@ ghost use Rattle.map_types.specs.Shape.{HasBounds};
 ghost use Rattle.place_words.specs.PlainTraces.{element_gone};
 ghost use Rattle.trace_check.specs.Calls as told;
 
+use crate::found::FoundAt;
 use crate::group::bucket_group;
 use crate::key_bucket::bucket_number;
 use crate::looks::{are_pushes, looks_for};
@@ -28,11 +29,10 @@ pub(crate) fn read_got<'a>(
     side: Side,
     key: &[u8],
     turns: &Turns<'a>,
-) -> Option<(&'a Option<(u32, Bytes)>, Turns<'a>)>
+) -> Option<(FoundAt<'a>, Turns<'a>)>
     requires shape { HasBounds shape.now }
     requires key { length key.now ≡ shape.now.key_size }
-    ensures { MatchOption result (told.read_got shape.now side key.now turns.now ≡ None)
-        (λ read. told.read_got shape.now side key.now turns.now ≡ Some (read.0.now, read.1)) }
+    ensures { result ≡ told.read_got shape.now side key.now turns.now }
 {
     let group = bucket_group(bucket_number(shape, key), turns)?;
     let got = got_in(group.part, side, key)?;

@@ -1,12 +1,14 @@
 //! What a turn tells, if it is one that a call asks for.
 
-ghost use Rattle.std.specs.Prelude.{◌≡◌, MatchOption, None, Some};
+ghost use Rattle.std.specs.Prelude.{◌≡◌, MatchOption, None, Some, true};
+ghost use Rattle.place_words.specs.PackedBuckets.{may_lie_in_place};
 ghost use Rattle.place_words.specs.Turns.{on_freelist_of, on_lock};
 ghost use Rattle.trace_check.specs.Calls as told;
 ghost use Rattle.trace_check.specs.Reading as reading;
 
+use crate::found::FoundAt;
 use map_types::{Bytes, DomainId, Side};
-use place_words::{BucketPart, FreePart, NextFound, Part, Put, Walked};
+use place_words::{BucketPart, FreePart, NextFound, PackedBucket, Part, Put, Walked};
 
 /// Whether it is a turn of a freelist.
 pub(crate) fn is_free(part: &Part) -> bool
@@ -36,9 +38,29 @@ pub(crate) fn same_free(part: FreePart, other: FreePart) -> bool
     }
 }
 
+/// What a turn of a bucket did, if that lies in a block. A part that is of no common kind always does.
+fn boxed_part(packed: &PackedBucket) -> Option<&BucketPart>
+    ensures { MatchOption result (may_lie_in_place packed.now ≡ true) (λ part. packed.now ≡ part.now) }
+{
+    match packed.part() {
+        Ok(part) => Some(part),
+        Err(_) => None,
+    }
+}
+
 /// What a lookup of this key got.
-pub fn got_in<'a>(part: &'a BucketPart, side: Side, key: &[u8]) -> Option<&'a Option<(u32, Bytes)>>
-    ensures { MatchOption result (told.got_in side key.now part.now ≡ None) (λ got. told.got_in side key.now part.now ≡ Some got.now) }
+pub fn got_in<'a>(packed: &'a PackedBucket, side: Side, key: &[u8]) -> Option<FoundAt<'a>>
+    ensures { result ≡ told.got_in side key.now packed.now }
+{
+    match packed.part() {
+        Ok(part) => got_there(part, side, key),
+        Err(part) => got_of(part, side, key),
+    }
+}
+
+/// The same of a part that lies in a block.
+fn got_there<'a>(part: &'a BucketPart, side: Side, key: &[u8]) -> Option<FoundAt<'a>>
+    ensures { result ≡ told.got_in side key.now part.now }
 {
     match part {
         BucketPart::Lookup {
@@ -47,7 +69,27 @@ pub fn got_in<'a>(part: &'a BucketPart, side: Side, key: &[u8]) -> Option<&'a Op
             got,
         } => {
             if same_side(side, *was) && key == asked.as_slice() {
-                Some(got)
+                Some(FoundAt::lent(got))
+            } else {
+                None
+            }
+        }
+        _ => None,
+    }
+}
+
+/// The same of a part that was made.
+fn got_of<'a>(part: BucketPart, side: Side, key: &[u8]) -> Option<FoundAt<'a>>
+    ensures { result ≡ told.got_in side key.now part }
+{
+    match part {
+        BucketPart::Lookup {
+            side: was,
+            key: asked,
+            got,
+        } => {
+            if same_side(side, was) && key == asked.as_slice() {
+                Some(FoundAt::made(got))
             } else {
                 None
             }
@@ -57,7 +99,17 @@ pub fn got_in<'a>(part: &'a BucketPart, side: Side, key: &[u8]) -> Option<&'a Op
 }
 
 /// Which element a delete of this key took out.
-pub fn gone_in(part: &BucketPart, key: &[u8]) -> Option<Option<u32>>
+pub fn gone_in(packed: &PackedBucket, key: &[u8]) -> Option<Option<u32>>
+    ensures { result ≡ told.gone_in key.now packed.now }
+{
+    match packed.part() {
+        Ok(part) => gone_of(part, key),
+        Err(part) => gone_of(&part, key),
+    }
+}
+
+/// The same of a part that is at hand.
+fn gone_of(part: &BucketPart, key: &[u8]) -> Option<Option<u32>>
     ensures { result ≡ told.gone_in key.now part.now }
 {
     match part {
@@ -73,9 +125,10 @@ pub fn gone_in(part: &BucketPart, key: &[u8]) -> Option<Option<u32>>
 }
 
 /// What a take of this key took out.
-pub fn taken_in<'a>(part: &'a BucketPart, key: &[u8]) -> Option<&'a Option<(u32, Bytes)>>
-    ensures { MatchOption result (told.taken_in key.now part.now ≡ None) (λ gone. told.taken_in key.now part.now ≡ Some gone.now) }
+pub fn taken_in<'a>(packed: &'a PackedBucket, key: &[u8]) -> Option<&'a Option<(u32, Bytes)>>
+    ensures { MatchOption result (told.taken_in key.now packed.now ≡ None) (λ gone. told.taken_in key.now packed.now ≡ Some gone.now) }
 {
+    let part = boxed_part(packed)?;
     match part {
         BucketPart::Take { key: asked, gone } => {
             if key == asked.as_slice() {
@@ -90,12 +143,22 @@ pub fn taken_in<'a>(part: &'a BucketPart, key: &[u8]) -> Option<&'a Option<(u32,
 
 /// What an update with these words put.
 pub(crate) fn put_in(
-    part: &BucketPart,
+    packed: &PackedBucket,
     side: Side,
     flags: u32,
     key: &[u8],
     value: &[u8],
 ) -> Option<Put>
+    ensures { result ≡ told.put_in side flags key.now value.now packed.now }
+{
+    match packed.part() {
+        Ok(part) => put_by(part, side, flags, key, value),
+        Err(part) => put_by(&part, side, flags, key, value),
+    }
+}
+
+/// The same of a part that is at hand.
+fn put_by(part: &BucketPart, side: Side, flags: u32, key: &[u8], value: &[u8]) -> Option<Put>
     ensures { result ≡ told.put_in side flags key.now value.now part.now }
 {
     match part {
@@ -122,9 +185,10 @@ pub(crate) fn put_in(
 }
 
 /// The key at the head of a bucket, as a turn that looks there tells it.
-pub fn first_in(part: &BucketPart) -> Option<&Option<Bytes>>
-    ensures { MatchOption result (told.first_in part.now ≡ None) (λ key. told.first_in part.now ≡ Some key.now) }
+pub fn first_in(packed: &PackedBucket) -> Option<&Option<Bytes>>
+    ensures { MatchOption result (told.first_in packed.now ≡ None) (λ key. told.first_in packed.now ≡ Some key.now) }
 {
+    let part = boxed_part(packed)?;
     match part {
         BucketPart::First { key } => Some(key),
         _ => None,
@@ -132,9 +196,10 @@ pub fn first_in(part: &BucketPart) -> Option<&Option<Bytes>>
 }
 
 /// What follows this key.
-pub fn found_in<'a>(part: &'a BucketPart, key: &[u8]) -> Option<&'a NextFound>
-    ensures { MatchOption result (told.found_in key.now part.now ≡ None) (λ found. told.found_in key.now part.now ≡ Some found.now) }
+pub fn found_in<'a>(packed: &'a PackedBucket, key: &[u8]) -> Option<&'a NextFound>
+    ensures { MatchOption result (told.found_in key.now packed.now ≡ None) (λ found. told.found_in key.now packed.now ≡ Some found.now) }
 {
+    let part = boxed_part(packed)?;
     match part {
         BucketPart::Next { key: asked, found } => {
             if key == asked.as_slice() {
@@ -155,9 +220,10 @@ pub fn same_bool(one: bool, other: bool) -> bool
 }
 
 /// What a batch, or a walk over all elements, took of a bucket with this room.
-pub fn walked_in(part: &BucketPart, remove: bool, room: u32) -> Option<&Walked>
-    ensures { MatchOption result (told.walked_in remove room part.now ≡ None) (λ walked. told.walked_in remove room part.now ≡ Some walked.now) }
+pub fn walked_in(packed: &PackedBucket, remove: bool, room: u32) -> Option<&Walked>
+    ensures { MatchOption result (told.walked_in remove room packed.now ≡ None) (λ walked. told.walked_in remove room packed.now ≡ Some walked.now) }
 {
+    let part = boxed_part(packed)?;
     match part {
         BucketPart::Walk {
             remove: removes,

@@ -2,6 +2,7 @@ use Rattle.std.proofs.Common.{sym, ap, ◌∙◌}
 use Rattle.map_types.specs.declared.kind.DomainId.TheVariants.{Local}
 use Rattle.place_words.specs.Histories.{in_locals}
 use Rattle.replay_words.proofs.Steps.{none_lead, more_lead, flaw_at}
+use Rattle.local_replay.specs.Replays.{IsTurn}
 use Rattle.local_replay.proofs.LocalSteps.{steps, refused, noted}
 use Rattle.local_replay.proofs.NoteSteps.{noted_more}
 use Rattle.local_replay.proofs.replay.replay_local.Goals as goal
@@ -18,18 +19,19 @@ returns-in_default c =
     flaw_at c.args.shape.now (Local c.args.cpu) c.args.entries.now c.loop-i.i (in_locals c.loop-i.lists) entry entry c.loop-i.invariant.leads c.loop-i-test.true c.index-entries-i.is
     (c.in_default.ensures c.args.shape.now c.loop-i.lists)
 
-pub returns-then-not-branch : goal.returns-then-not-branch
-returns-then-not-branch c =
+pub returns-in_default-2 : goal.returns-in_default-2
+returns-in_default-2 c =
     let entry = c.index-entries-i.result in
     flaw_at c.args.shape.now (Local c.args.cpu) c.args.entries.now c.loop-i.i (in_locals c.loop-i.lists) entry entry c.loop-i.invariant.leads c.loop-i-test.true c.index-entries-i.is
-    (refused c.args.shape.now entry.cpu entry.part c.in-Some.part.now c.loop-i.lists c.in-Some.ensures (rw c.if-not-branch.true at c.in_ok-allows.ensures))
+    (refused c.args.shape.now entry.cpu entry.part c.in-Some.packed.now c.loop-i.lists c.in-Some.ensures (rw c.in_default-2.is at c.in_ok-note.ensures))
 
 pub loop-i-preserved : goal.loop-i-preserved
 loop-i-preserved c =
     let entry = c.index-entries-i.result in
+    let turn : IsTurn c.args.shape.now c.in-Some.packed.now c.loop-i.lists c.packed_turn.new.lists c.in-Some-2.note = rw c.in-Some-2.is at c.in_ok-note.ensures in
     record {
-      leads = more_lead c.args.shape.now (Local c.args.cpu) c.args.entries.now c.loop-i.i (in_locals c.loop-i.lists) (in_locals c.apply.new.lists) entry entry c.loop-i.invariant.leads c.loop-i-test.true c.index-entries-i.is
-          (steps c.args.shape.now entry.cpu entry.part c.in-Some.part.now c.loop-i.lists c.in-Some.ensures c.apply.new.lists (rw c.if-not-branch.false at c.in_ok-allows.ensures) c.in_ok-apply.ensures);
-      noted = noted_more c.args.shape.now (Local c.args.cpu) c.args.entries.now c.loop-i.i entry entry (in_locals c.loop-i.lists) c.loop-i.notes c.push.new.self c.in_ok-note.field-0 c.loop-i-test.true c.index-entries-i.is
-          c.loop-i.invariant.leads.left c.loop-i.invariant.noted (noted c.args.shape.now entry.cpu entry.part c.in-Some.part.now c.loop-i.lists c.in-Some.ensures c.in_ok-note.field-0 c.in_ok-note.ensures) c.in_ok-push.ensures.added;
+      leads = more_lead c.args.shape.now (Local c.args.cpu) c.args.entries.now c.loop-i.i (in_locals c.loop-i.lists) (in_locals c.packed_turn.new.lists) entry entry c.loop-i.invariant.leads c.loop-i-test.true c.index-entries-i.is
+          (steps c.args.shape.now entry.cpu entry.part c.in-Some.packed.now c.loop-i.lists c.in-Some.ensures c.packed_turn.new.lists turn.allowed turn.leads);
+      noted = noted_more c.args.shape.now (Local c.args.cpu) c.args.entries.now c.loop-i.i entry entry (in_locals c.loop-i.lists) c.loop-i.notes c.push.new.self c.in-Some-2.note c.loop-i-test.true c.index-entries-i.is
+          c.loop-i.invariant.leads.left c.loop-i.invariant.noted (noted c.args.shape.now entry.cpu entry.part c.in-Some.packed.now c.loop-i.lists c.in-Some.ensures c.in-Some-2.note turn.noted) c.in_ok-push.ensures.added;
     }
