@@ -1,5 +1,7 @@
 -- Digits that are decoded and judged in one pass.
-use Rattle.std.proofs.Common.{◌≡◌, ℕ, ◌+◌, ◌*◌, ◌%◌, ◌<◌, List, length, take, drop, slice_index, slice_set, Option, Some, None, Ok, refl, sym, ap, arith}
+use Rattle.std.proofs.Common.{◌≡◌, ◌⊎◌, inl, inr, ℕ, ◌+◌, ◌*◌, ◌%◌, ◌<◌, ◌≤◌, List, length, take, drop, slice_index, slice_set, Option, Some, None, Ok, refl, sym, subst, ap, arith, get_or-set_other}
+use Rattle.std.proofs.lemmas.Bool.{cases_eq}
+use Rattle.std.proofs.lemmas.Grind.{get_or-set_at}
 use Rattle.std.specs.Prelude.{MatchOption}
 use Rattle.hex.specs.Hex.{decode_pairs, pair_value, hex_digit_value, digit_or_error}
 use Rattle.hex.proofs.Pairs.{prepend, decode_step}
@@ -26,3 +28,23 @@ pub two_more : (s out : List ℕ) (i high low : ℕ) → 2 * i + 1 < length s �
     → decode_pairs 0 s ≡ prepend (take (i + 1) (slice_set out i ((high * 16 % 256 + low) % 256))) (decode_pairs (2 * (i + 1)) (drop (2 * (i + 1)) s))
 two_more s out i high low fits room is_high is_low small_high small_low so_far =
     decode_step s out i ((high * 16 % 256 + low) % 256) fits room (pair_read (slice_index s (2 * i)) (slice_index s (2 * i + 1)) (2 * i) high low is_high is_low small_high small_low) so_far
+
+-- each value so far is its digit's, and no more than the greatest
+abbrev pub AreValues : List ℕ → List ℕ → ℕ → ℕ → Type 0
+AreValues digits values greatest i =
+    (j : ℕ) → j < i → IsDigitValue (slice_index digits j) (slice_index values j) × (slice_index values j ≤ greatest)
+
+-- one value more
+pub value_added : (digits values : List ℕ) (greatest now i value : ℕ) → i < length values → IsDigitValue (slice_index digits i) value → greatest ≤ now → value ≤ now
+    → AreValues digits values greatest i → AreValues digits (slice_set values i value) now (i + 1)
+value_added digits values greatest now i value room is grows within before j below =
+    elim (cases_eq j i) [
+      | inl one ↦
+          let there : slice_index (slice_set values i value) j ≡ value = get_or-set_at values i j value 0 one room in
+          rw there (subst (λ k. IsDigitValue (slice_index digits k) value) (sym one) is, within)
+      | inr other ↦
+          let same : slice_index (slice_set values i value) j ≡ slice_index values j = get_or-set_other values i j value 0 other in
+          let so_far = before j (omega arith) in
+          let least = so_far.1 in
+          rw same (so_far.0, omega arith)
+    ]

@@ -361,11 +361,25 @@ fn sized_at_front<const BYTES: usize, const DIGITS: usize>(
 {
     let (digits, rest) = text.split_first_chunk::<DIGITS>()?;
     let mut bytes = [0; BYTES];
-    if !decode_digits(digits, &mut bytes) {
+    if !decode_sized(digits, &mut bytes) {
         return None;
     }
     let copy = Bytes::from_slice(alloc, bytes.as_slice()).ok()?;
     Some((copy, rest))
+}
+
+/// Decodes the digits of so many bytes. It isn't inlined, since else the bytes are taken apart before they are all there.
+#[inline(never)]
+fn decode_sized<const BYTES: usize, const DIGITS: usize>(
+    digits: &[u8; DIGITS],
+    bytes: &mut [u8; BYTES],
+) -> bool
+    requires twice { DIGITS ≡ 2 * BYTES }
+    requires some { (1 ≤ BYTES) × (BYTES ≤ 1024) }
+    ensures { IsTrue result → decode_of digits.now ≡ Ok bytes.new }
+{
+    let mut values = [0; DIGITS];
+    decode_digits(digits, &mut values, bytes)
 }
 
 /// Reads bytes of any size but 0.
@@ -376,29 +390,52 @@ fn any_at_front(alloc: Global, size: u32, text: &[u8]) -> Option<(Bytes, &[u8])>
         return None;
     }
     let (digits, rest) = text.split_at_checked(2 * size as usize)?;
+    let mut values = vec![in alloc; 0u8; digits.len()].ok()?;
     let mut bytes = vec![in alloc; 0u8; size as usize].ok()?;
-    if !decode_digits(digits, bytes.as_mut_slice()) {
+    if !decode_digits(digits, values.as_mut_slice(), bytes.as_mut_slice()) {
         return None;
     }
     let copy = Bytes::from_slice(alloc, bytes.as_slice()).ok()?;
     Some((copy, rest))
 }
 
-/// Decodes twice as many digits as there is room for bytes. Where one is no digit it answers false, and the bytes mean
-/// nothing. It judges all digits in one pass with no branch, so that a processor takes many at a time.
+/// Decodes twice as many digits as there is room for bytes, by way of the value of each digit. Where one is no digit it answers
+/// false, and the bytes mean nothing. Neither pass has a branch or looks at every other byte of a text, so that a processor takes
+/// many at a time.
 #[inline(always)]
-fn decode_digits(digits: &[u8], bytes: &mut [u8]) -> bool
-    requires { length digits.now ≡ 2 * length bytes.old }
+fn decode_digits(digits: &[u8], values: &mut [u8], bytes: &mut [u8]) -> bool
+    requires bytes { length digits.now ≡ 2 * length bytes.old }
+    requires values { length values.old ≡ length digits.now }
     ensures { IsTrue result → decode_of digits.now ≡ Ok bytes.new }
 {
-    let mut worst: u8 = 0;
-    for i in 0..bytes.len() {
-        let high = digit_value(digits[2 * i]);
-        let low = digit_value(digits[2 * i + 1]);
-        worst = worst.max(high).max(low);
-        bytes[i] = high.wrapping_mul(16).wrapping_add(low);
+    if digit_values(digits, values) > 15 {
+        return false;
     }
-    worst < 16
+    for i in 0..bytes.len() {
+        bytes[i] = values[2 * i]
+            .wrapping_mul(16)
+            .wrapping_add(values[2 * i + 1]);
+    }
+    true
+}
+
+/// Writes the value of each digit, and answers the greatest of them, which is 255 where one is no digit.
+#[inline(always)]
+fn digit_values(digits: &[u8], values: &mut [u8]) -> u8
+    requires { length values.old ≡ length digits.now }
+    ensures len { length values.new ≡ length values.old }
+    ensures values { (i : ℕ) → i < length digits.now
+        → MatchOption (hex_digit_value (slice_index digits.now i)) (slice_index values.new i ≡ 255)
+        (λ value. slice_index values.new i ≡ value) }
+    ensures greatest { (i : ℕ) → i < length digits.now → slice_index values.new i ≤ result }
+{
+    let mut greatest: u8 = 0;
+    for i in 0..digits.len() {
+        let value = digit_value(digits[i]);
+        values[i] = value;
+        greatest = greatest.max(value);
+    }
+    greatest
 }
 
 /// The value of a hexadecimal digit of either case, and 255 of any other byte.

@@ -10,9 +10,9 @@ pub returns : goal.returns
 returns g c =
     let size = g.row.BYTES in
     let digits = c.in_ok-digits.digits.now in
-    let bytes = c.decode_digits.new.bytes in
+    let bytes = c.decode_sized.new.bytes in
     let split = c.in_ok-digits.ensures.cases in
-    let is : decode_of digits ≡ Ok bytes = c.decode_digits.ensures c.if-not-decode_digits.false in
+    let is : decode_of digits ≡ Ok bytes = c.decode_sized.ensures c.if-not-decode_sized.false in
     let sized : length digits ≡ 2 * size = search rules in
     let whole : c.in_ok-copy.copy ≡ bytes = search rules in
     rw whole (decoded_token size digits bytes c.in_ok-digits.rest.now c.args.text.now c.requires.some.0 sized is (parts_joined g.row.DIGITS c.args.text.now digits c.in_ok-digits.rest.now split.0 split.1))
