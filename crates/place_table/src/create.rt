@@ -24,18 +24,20 @@ use lru_lists::ListSet;
 use map_types::{DomainId, MapKind, NoMemory, Shape};
 use percpu_values::BoxedBody;
 use place_words::{
-    Owner, free_at_first, home_at_first, home_code, is_lock, lock_named, owner_code,
+    Entry, Owner, free_at_first, home_at_first, home_code, is_lock, lock_named, owner_code,
     owners_at_first, spares_at_first,
 };
 use std::alloc::Global;
+
+/// Room for so many turns of a lock is taken at the opening where lists lie under it, since it has many. Memory of this size is a
+/// block of its own, which the system doesn't copy to let it grow.
+const FIRST_TURNS: usize = 4096;
 
 /// Adds so many zeros.
 fn push_zeros(words: &mut Vec<u64>, count: u32) -> Result<(), NoMemory>
     ensures { OnOk result (words.new.items ≡ words.old.items ++ replicate count 0) }
 {
-    for _ in 0..count {
-        words.push(0)?;
-    }
+    words.resize(words.len() + count as usize, 0)?;
     Ok(())
 }
 
@@ -168,15 +170,26 @@ fn first_content(
     }
 }
 
-/// A slot with this content, and with no turn of its lock.
-fn slot_with(alloc: Global, content: Option<Content>) -> Behind
+/// A slot with this content, and with a history that has no turn yet.
+fn slot_with(content: Option<Content>, history: Vec<Entry>) -> Behind
+    requires { history.items ≡ [] }
     ensures content { result.content ≡ content }
     ensures kept { KeptAs false [] result }
 {
     Behind {
         content,
-        history: Some(Vec::new(alloc)),
+        history: Some(history),
     }
+}
+
+/// A history without a turn, with room for the first ones where the map has the lock.
+fn first_history(alloc: Global, shape: &Shape, lock: DomainId) -> Result<Vec<Entry>, NoMemory>
+    ensures { IfOk result (λ history. history.items ≡ []) }
+{
+    if !is_lock(shape, lock) {
+        return Ok(Vec::new(alloc));
+    }
+    Ok(Vec::with_capacity(alloc, FIRST_TURNS)?)
 }
 
 /// What stands in the slot of a lock at first.
@@ -185,8 +198,10 @@ fn first_slot(alloc: Global, shape: &Shape, owners: &[Owner], lock: u32) -> Resu
     requires owners { AreOpeningOwners shape.now owners.now }
     ensures { IfOk result (λ behind. IsFirstSlot shape.now lock behind) }
 {
-    let content = first_content(alloc, shape, owners, lock_named(shape, lock))?;
-    Ok(slot_with(alloc, content))
+    let named = lock_named(shape, lock);
+    let history = first_history(alloc, shape, named)?;
+    let content = first_content(alloc, shape, owners, named)?;
+    Ok(slot_with(content, history))
 }
 
 /// Adds what stands at first in the slots whose numbers are from one up to another, after all slots before.
@@ -217,7 +232,7 @@ fn bucket_slot(alloc: Global) -> Behind
     ensures { (shape : Shape) (bucket : ℕ) → bucket < shape.buckets
         → IsFirstSlot shape (first_bucket shape + bucket) result }
 {
-    slot_with(alloc, Some(Content::Bucket(Chain::empty(alloc))))
+    slot_with(Some(Content::Bucket(Chain::empty(alloc))), Vec::new(alloc))
 }
 
 /// Adds what stands at first in the slots of the buckets, after all slots before.

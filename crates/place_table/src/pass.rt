@@ -69,6 +69,10 @@ impl Pass {
     }
 }
 
+/// Room for so many steps is taken at the opening. Memory of this size is a block of its own, which the system doesn't copy to let
+/// it grow.
+const FIRST_STEPS: usize = 16384;
+
 impl PlaceTable {
     /// A table at its opening, and its first pass. All buckets are empty. The elements lie in the freelists of the CPUs, but for
     /// the spare elements of a map of kind HASH, or on a map that evicts free in the list sets of the CPUs, or in the one that
@@ -78,6 +82,7 @@ impl PlaceTable {
         requires shape { IsShape shape.now }
         ensures { IfOk result (λ made. (made.0.shape ≡ shape.now) × IsFirstPass made.0 made.1) }
     {
+        let strand = Vec::with_capacity(alloc, FIRST_STEPS)?;
         let owners = owners_at_first(alloc, shape)?;
         let words = first_words(alloc, shape, owners.as_slice())?;
         let slots = first_slots(alloc, shape, owners.as_slice())?;
@@ -94,7 +99,7 @@ impl PlaceTable {
                     cpu: shape.cpus,
                     call: 0,
                     cpus: first_cpus(shape.cpus),
-                    strand: Vec::new(alloc),
+                    strand,
                     ended: Some(Vec::new(alloc)),
                     spares,
                 },

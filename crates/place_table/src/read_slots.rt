@@ -27,6 +27,7 @@ use percpu_values::BoxedBody;
 use place_words::{Finals, LocalFinal, LockHistory, SetFinal, Strand};
 use row_list::Rows;
 use std::alloc::Global;
+use std::mem;
 
 /// What is left of what came out of the slots, beside the marked elements, the strands and the spares. What may be long is
 /// shared, so that it is had once more without copies.
@@ -258,13 +259,15 @@ fn lists_of_cpu(alloc: Global, lists: LocalSet<Listing>) -> Result<LocalFinal, N
     })
 }
 
-/// The free elements of local lists, head first.
+/// The free elements of local lists, head first. Their bodies stay where they are: a run ends soon, and the system takes back all
+/// memory at once.
 fn local_free_left(alloc: Global, mut lists: LocalSet<Listing>) -> Result<Numbers, NoMemory>
     ensures { IfOk result (λ elements. elements ≡ numbers lists.free.bodies) }
 {
     let mut elements = Vec::new(alloc);
     while let Some(body) = lists.pop_free() {
         elements.push(body.body().element())?;
+        mem::forget(body);
     }
     Ok(List::of(elements))
 }
@@ -318,13 +321,14 @@ fn own_left(alloc: Global, set: ListSet<Listing>) -> Result<SetFinal, NoMemory>
     })
 }
 
-/// The free elements of a list set, head first.
+/// The free elements of a list set, head first. Their bodies stay where they are.
 fn free_left(alloc: Global, mut set: ListSet<Listing>) -> Result<Numbers, NoMemory>
     ensures { IfOk result (λ elements. elements ≡ numbers set.free.bodies) }
 {
     let mut elements = Vec::new(alloc);
     while let Some(body) = set.free_pop() {
         elements.push(body.body().element())?;
+        mem::forget(body);
     }
     Ok(List::of(elements))
 }
@@ -350,13 +354,14 @@ fn freelist_left(alloc: Global, content: Option<Content>) -> Result<Numbers, NoM
     }
 }
 
-/// The elements of a freelist, top first.
+/// The elements of a freelist, top first. Their bodies stay where they are.
 fn numbers_left(alloc: Global, mut freelist: Freelist) -> Result<Numbers, NoMemory>
     ensures { IfOk result (λ elements. elements ≡ numbers freelist.bodies) }
 {
     let mut elements = Vec::new(alloc);
     while let Some(body) = freelist.pop() {
         elements.push(body.body().element())?;
+        mem::forget(body);
     }
     Ok(List::of(elements))
 }

@@ -31,7 +31,7 @@ use crate::rule::{
 use map_types::DomainId;
 use place_words::{Entry, StrandStep};
 use std::sync::Wait;
-use std::thread;
+use std::{mem, thread};
 
 /// Takes the lock of this number for a CPU, where nobody holds it.
 pub(crate) fn try_lock(shared: &SharedTable, seat: &mut TableSeat, lock: u32, cpu: u32) -> bool
@@ -101,7 +101,8 @@ pub(crate) fn put_back(
     entry: Entry,
 ) -> Option<Entry>
     requires table { seat.old.table_id ≡ shared.now.table_id }
-    requires slot { (behind : Behind) × (seat.old.me.1 ≡ (number, behind) ∷ rest seat.old.me.1) }
+    requires slot { (behind : Behind) × (seat.old.me.1 ≡ (number, behind) ∷ rest seat.old.me.1)
+        × (behind.content ≡ None) }
     ensures seat { (seat.new.table_id ≡ seat.old.table_id) × (seat.new.id ≡ seat.old.id) }
     ensures put { (behind : Behind) × (history : Option (Vec Entry Global))
         × (seat.old.me.1 ≡ (number, behind) ∷ rest seat.old.me.1)
@@ -142,11 +143,13 @@ fn fill(
     lock: DomainId,
     entry: Entry,
 ) -> Option<Entry>
+    requires { behind.old.content ≡ None }
     ensures content { behind.new.content ≡ Some content }
     ensures recorded { Records (history_with ticket.now behind.old.history) lock entry strand.old.items strand.new.items
         record { history = behind.new.history; lost = result } }
 {
-    behind.content = Some(content);
+    // Nothing lies there that would be dropped.
+    mem::forget(mem::replace(&mut behind.content, Some(content)));
     if ticket.is_none() {
         behind.history = None;
         return Some(entry);

@@ -13,7 +13,7 @@ pub put_back-lost-requires-clause-slot : goal.put_back-lost-requires-clause-slot
 put_back-lost-requires-clause-slot c =
     let slot = slot_given _ _ _ _ _ c.requires c.pass.inside.seat.me.0 c.pass.inside.seat.me.1 c.lock_number-number.result (search rules) (search rules) c.pass.invariant.carries in
     let is = ticketed_by c.pass.inside.seat.me _ c.take_ticket-ticket.new.seat.me c.take_ticket-ticket.ensures.took in
-    (slot.0, slots_stay c.pass.inside.seat.me _ c.take_ticket-ticket.new.seat.me is c.lock_number-number.result slot.0 slot.1)
+    (slot.0, slots_stay c.pass.inside.seat.me _ c.take_ticket-ticket.new.seat.me is c.lock_number-number.result slot.0 slot.1, slot.2)
 
 pub give_lock-requires-clause-may : goal.give_lock-requires-clause-may
 give_lock-requires-clause-may c =
