@@ -10,11 +10,9 @@ use std::alloc::Global;
 pub(crate) fn little_endian(alloc: Global, number: u32, size: u32) -> Result<Bytes, NoMemory>
     ensures { IfOk result (λ bytes. bytes ≡ little_endian size number) }
 {
-    let mut bytes = Vec::with_capacity(alloc, size as usize)?;
-    let mut rest = number;
-    for _ in 0..size {
-        bytes.push((rest % 256) as u8)?;
-        rest /= 256;
-    }
-    Bytes::from_slice(alloc, bytes.as_slice())
+    let low = number.to_le_bytes();
+    let count = low.len().min(size as usize);
+    let mut bytes = Bytes::zeroed(alloc, size as usize)?;
+    bytes.write_at(0, &low[..count]);
+    Ok(bytes)
 }
