@@ -4,12 +4,13 @@ ghost use Rattle.std.specs.Prelude.{◌≡◌, ◌+◌, ◌*◌, ◌++◌, ◌�
 ghost use Rattle.std.specs.Bool.{OnFalse};
 ghost use Rattle.std.specs.Prelude.{OnOk};
 ghost use Rattle.std.specs.List.{filter_map};
+ghost use Rattle.place_words.specs.Entries.{entry_read, part_read};
 ghost use Rattle.call_check.specs.RightCalls.{moment_of, ticket_bound};
 ghost use Rattle.call_check.specs.Spares.{AreLow, Rise, change_of, changes_of, left_by, left_by_bucket_part, left_by_put};
 
 use crate::strand_of::phase_of;
 use map_types::{List, NoMemory};
-use place_words::{BucketPart, Entry, LockHistory, Part, Put};
+use place_words::{BucketPart, Entries, EntryAt, LockHistory, PartAt, Put};
 use std::alloc::Global;
 
 /// A replacement: its moment, the CPU that made it, and the old element, which became that CPU's spare.
@@ -41,11 +42,11 @@ fn left_by_bucket_part(part: &BucketPart) -> Option<u32>
 }
 
 /// The element that a turn left as the spare.
-fn left_by(part: &Part) -> Option<u32>
-    ensures { result ≡ left_by part.now }
+fn left_by(part: PartAt<'_>) -> Option<u32>
+    ensures { result ≡ left_by (part_read part.entry) }
 {
     match part {
-        Part::Bucket(packed) => match packed.part() {
+        PartAt::Bucket(packed) => match packed.part() {
             Ok(part) => left_by_bucket_part(part),
             Err(part) => left_by_bucket_part(&part),
         },
@@ -54,8 +55,8 @@ fn left_by(part: &Part) -> Option<u32>
 }
 
 /// The moment of an entry: by the phase of its call, and in one phase by its ticket.
-pub(crate) fn moment_of(cuts: &[u32], entry: &Entry) -> u128
-    ensures { result ≡ moment_of cuts.now entry.now }
+pub(crate) fn moment_of(cuts: &[u32], entry: EntryAt<'_>) -> u128
+    ensures { result ≡ moment_of cuts.now (entry_read entry.entry) }
 {
     moment(phase_of(cuts, entry.call), entry.ticket)
 }
@@ -69,10 +70,10 @@ fn moment(phase: usize, ticket: u64) -> u128
 }
 
 /// The replacement that an entry tells.
-fn change_of(cuts: &[u32], entry: &Entry) -> Option<Change>
-    ensures { result ≡ change_of cuts.now entry.now }
+fn change_of(cuts: &[u32], entry: EntryAt<'_>) -> Option<Change>
+    ensures { result ≡ change_of cuts.now (entry_read entry.entry) }
 {
-    let old = left_by(&entry.part)?;
+    let old = left_by(entry.part)?;
     Some(Change {
         moment: moment_of(cuts, entry),
         cpu: entry.cpu,
@@ -81,18 +82,18 @@ fn change_of(cuts: &[u32], entry: &Entry) -> Option<Change>
 }
 
 /// Adds the replacements of some entries.
-fn push_changes(changes: &mut Vec<Change>, cuts: &[u32], entries: &[Entry]) -> Result<(), NoMemory>
+fn push_changes(changes: &mut Vec<Change>, cuts: &[u32], entries: &Entries) -> Result<(), NoMemory>
     ensures { OnOk result (changes.new.items ≡ changes.old.items ++ filter_map (change_of cuts.now) entries.now) }
 {
-    for entry in entries {
-        push_change(changes, cuts, entry)?;
+    for index in 0..entries.len() {
+        push_change(changes, cuts, entries.at(index))?;
     }
     Ok(())
 }
 
 /// Adds the replacement of an entry.
-fn push_change(changes: &mut Vec<Change>, cuts: &[u32], entry: &Entry) -> Result<(), NoMemory>
-    ensures { OnOk result (changes.new.items ≡ changes.old.items ++ filter_map (change_of cuts.now) (entry.now ∷ [])) }
+fn push_change(changes: &mut Vec<Change>, cuts: &[u32], entry: EntryAt<'_>) -> Result<(), NoMemory>
+    ensures { OnOk result (changes.new.items ≡ changes.old.items ++ filter_map (change_of cuts.now) (entry_read entry.entry ∷ [])) }
 {
     match change_of(cuts, entry) {
         Some(change) => Ok(changes.push(change)?),
@@ -110,7 +111,7 @@ fn changes_of(
 {
     let mut changes = Vec::new(alloc);
     for history in histories {
-        push_changes(&mut changes, cuts, history.entries.as_slice())?;
+        push_changes(&mut changes, cuts, &history.entries)?;
     }
     Ok(changes)
 }

@@ -24,7 +24,7 @@ pub(crate) fn gone_by_cpu(
 {
     let mut table = Vec::new(alloc);
     for cpu in 0..local_lists(shape) {
-        let entries = histories[cpu as usize].entries.as_slice();
+        let entries = &histories[cpu as usize].entries;
         let gone = were_gone(alloc, shape.elements, entries)?;
         table.push(List::of(gone))?;
     }

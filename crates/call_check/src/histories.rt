@@ -2,6 +2,7 @@
 
 ghost use Rattle.std.specs.Prelude.{◌≡◌, IfOk, IsTrue, MatchOption, None, Some, map, slice_get};
 ghost use Rattle.map_types.specs.Creation.{IsShape};
+ghost use Rattle.place_words.specs.Entries.{entry_read};
 ghost use Rattle.place_words.specs.Locks.{is_lock};
 ghost use Rattle.map_report.specs.Record.{entries_of, locks_of};
 ghost use Rattle.record_shape.specs.WellShaped.{lock_of};
@@ -10,7 +11,7 @@ ghost use Rattle.call_check.specs.RightCalls.{call_named, is_of_cpu, named_by};
 ghost use Rattle.call_check.specs.Steps.{HaveHistories};
 
 use map_types::{DomainId, NoMemory, Shape};
-use place_words::{Entry, LockHistory, StrandStep, is_lock, lock_named, lock_number};
+use place_words::{Entries, EntryAt, LockHistory, StrandStep, is_lock, lock_named, lock_number};
 use std::alloc::Global;
 use std::marker::Model;
 
@@ -49,11 +50,11 @@ impl<'a> Histories<'a> {
     }
 
     /// The entry that a step names.
-    pub(crate) fn named_by(&self, step: StrandStep) -> Option<&'a Entry>
+    pub(crate) fn named_by(&self, step: StrandStep) -> Option<EntryAt<'a>>
         requires { IsTrue (is_lock self.now.shape step.lock) }
-        ensures { MatchOption result (named_by self.now.all step ≡ None) (λ entry. named_by self.now.all step ≡ Some entry.now) }
+        ensures { MatchOption result (named_by self.now.all step ≡ None) (λ entry. named_by self.now.all step ≡ Some (entry_read entry)) }
     {
-        let entries: &'a [Entry] = entries_at(
+        let entries: &'a Entries = entries_at(
             self.shape,
             self.all,
             self.places.as_slice(),
@@ -86,13 +87,13 @@ impl<'a> Histories<'a> {
 }
 
 /// The entry at a place of a history.
-fn entry_at(entries: &[Entry], index: u64) -> Option<&Entry>
-    ensures { MatchOption result (slice_get entries.now index ≡ None) (λ entry. slice_get entries.now index ≡ Some entry.now) }
+fn entry_at(entries: &Entries, index: u64) -> Option<EntryAt<'_>>
+    ensures { MatchOption result (slice_get entries.now index ≡ None) (λ entry. slice_get entries.now index ≡ Some (entry_read entry)) }
 {
     if index >= entries.len() as u64 {
         return None;
     }
-    Some(&entries[index as usize])
+    Some(entries.at(index as usize))
 }
 
 /// The entries of a lock's history.
@@ -101,7 +102,7 @@ fn entries_at<'a>(
     histories: &'a [LockHistory],
     places: &[usize],
     lock: DomainId,
-) -> &'a [Entry]
+) -> &'a Entries
     requires shape { IsShape shape.now }
     requires locks { map lock_of histories.now ≡ locks_of shape.now }
     requires places { places.now ≡ places_of shape.now }
@@ -110,7 +111,7 @@ fn entries_at<'a>(
 {
     let number = lock_number(shape, lock) as usize;
     let place = places[number];
-    histories[place].entries.as_slice()
+    &histories[place].entries
 }
 
 /// Where among the histories that of each lock stands, by the numbers of the locks.

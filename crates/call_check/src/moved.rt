@@ -2,11 +2,12 @@
 
 ghost use Rattle.std.specs.Prelude.{◌≡◌, ◌+◌, ◌<◌, ◌≤◌, ◌==◌, ℕ, All, IfOk, false, filter, if◌then◌else◌, length, map, slice_index_or, true};
 ghost use Rattle.std.specs.List.Sorted.{IsNonDecreasingBy, IsPermutation};
+ghost use Rattle.place_words.specs.Entries.{part_read};
 ghost use Rattle.place_words.specs.Takings.{ends_flushed, flushed_by, flushed_by_local, has_visit, is_one, stolen_pending};
 ghost use Rattle.call_check.specs.Moved.{AreGoneBelow, IsPlaced, MovedTo, entry_of, gone_by, gone_by_local, placed, told_by, were_gone};
 
 use map_types::NoMemory;
-use place_words::{Entry, LocalPart, Part, Stolen, Visit};
+use place_words::{Entries, LocalPart, PartAt, Stolen, Visit};
 use std::alloc::Global;
 
 /// A turn of a lock: its ticket, and where its history has it.
@@ -20,7 +21,7 @@ pub(crate) struct Ticketed {
 pub(crate) fn were_gone(
     alloc: Global,
     elements: u32,
-    entries: &[Entry],
+    entries: &Entries,
 ) -> Result<Vec<bool>, NoMemory>
     requires { AreGoneBelow elements entries.now }
     ensures { IfOk result (λ gone. gone.items ≡ were_gone entries.now) }
@@ -32,7 +33,7 @@ pub(crate) fn were_gone(
     for at in 0..order.len() {
         moved = catch_up(&mut table, entries, order.as_slice(), moved, at);
         let place = order[at].place;
-        gone[place] = told_by(table.as_slice(), gone_by(&entries[place].part));
+        gone[place] = told_by(table.as_slice(), gone_by(entries.at(place).part));
     }
     Ok(gone)
 }
@@ -48,7 +49,7 @@ fn none_set(alloc: Global, count: usize) -> Result<Vec<bool>, NoMemory>
 /// Notes what the turns moved that have a lesser ticket than the one at a place, and answers how many these are.
 fn catch_up(
     table: &mut Vec<bool>,
-    entries: &[Entry],
+    entries: &Entries,
     order: &[Ticketed],
     moved: usize,
     at: usize,
@@ -70,7 +71,7 @@ fn catch_up(
 }
 
 /// The turns of a lock by their tickets; those of one ticket stay in the order of its history.
-fn by_ticket(alloc: Global, entries: &[Entry]) -> Result<Vec<Ticketed>, NoMemory>
+fn by_ticket(alloc: Global, entries: &Entries) -> Result<Vec<Ticketed>, NoMemory>
     ensures rise { IfOk result (λ order. IsNonDecreasingBy (λ turn. turn.ticket) order.items) }
     ensures same { IfOk result (λ order. (ticket : ℕ) → filter (λ turn. turn.ticket == ticket) order.items ≡ filter (λ turn. turn.ticket == ticket) (placed entries.now)) }
     ensures all { IfOk result (λ order. IsPermutation (placed entries.now) order.items) }
@@ -81,13 +82,13 @@ fn by_ticket(alloc: Global, entries: &[Entry]) -> Result<Vec<Ticketed>, NoMemory
 }
 
 /// The turns of a lock in the order of its history.
-fn turns_placed(alloc: Global, entries: &[Entry]) -> Result<Vec<Ticketed>, NoMemory>
+fn turns_placed(alloc: Global, entries: &Entries) -> Result<Vec<Ticketed>, NoMemory>
     ensures { IfOk result (λ turns. turns.items ≡ placed entries.now) }
 {
     let mut turns = Vec::new(alloc);
     for place in 0..entries.len() {
         turns.push(Ticketed {
-            ticket: entries[place].ticket,
+            ticket: entries.at(place).ticket,
             place,
         })?;
     }
@@ -95,11 +96,11 @@ fn turns_placed(alloc: Global, entries: &[Entry]) -> Result<Vec<Ticketed>, NoMem
 }
 
 /// The element that a push found gone.
-fn gone_by(part: &Part) -> Option<u32>
-    ensures { result ≡ gone_by part.now }
+fn gone_by(part: PartAt<'_>) -> Option<u32>
+    ensures { result ≡ gone_by (part_read part.entry) }
 {
     match part {
-        Part::Local(packed) => match packed.part() {
+        PartAt::Local(packed) => match packed.part() {
             Ok(part) => gone_by_local(part),
             Err(part) => gone_by_local(&part),
         },
@@ -136,24 +137,24 @@ fn is_set(table: &[bool], element: u32) -> bool
 }
 
 /// Notes who moved elements last, for these turns one after another.
-fn move_all(table: &mut Vec<bool>, entries: &[Entry], order: &[Ticketed])
+fn move_all(table: &mut Vec<bool>, entries: &Entries, order: &[Ticketed])
     requires { All (IsPlaced entries.now) order.now }
     ensures size { length table.new.items ≡ length table.old.items }
     ensures moved { (e : ℕ) → e < length table.old.items → slice_index_or table.new.items e false
         ≡ ends_flushed e (slice_index_or table.old.items e false) (map (entry_of entries.now) order.now) }
 {
     for at in order {
-        move_by(table, &entries[at.place].part);
+        move_by(table, entries.at(at.place).part);
     }
 }
 
 /// Notes which elements a turn moved.
-fn move_by(table: &mut Vec<bool>, part: &Part)
+fn move_by(table: &mut Vec<bool>, part: PartAt<'_>)
     ensures size { length table.new.items ≡ length table.old.items }
-    ensures moved { (e : ℕ) → e < length table.old.items → slice_index_or table.new.items e false ≡ flushed_by e part.now (slice_index_or table.old.items e false) }
+    ensures moved { (e : ℕ) → e < length table.old.items → slice_index_or table.new.items e false ≡ flushed_by e (part_read part.entry) (slice_index_or table.old.items e false) }
 {
     match part {
-        Part::Local(packed) => match packed.part() {
+        PartAt::Local(packed) => match packed.part() {
             Ok(part) => move_by_local(table, part),
             Err(part) => move_by_local(table, &part),
         },

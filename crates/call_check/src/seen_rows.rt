@@ -59,7 +59,7 @@ fn seen_at<'a>(
     match histories.named_by(step) {
         Some(entry) => Seen {
             lock: step.lock,
-            part: &entry.part,
+            part: entry.part,
             note: note_at(shape, notes, step),
             flushed: gone_at(notes.gone, step),
         },

@@ -11,7 +11,7 @@ ghost use Rattle.evicting_traces.specs.Reading.{turns_in};
 use crate::parts::{is_answer, is_evict};
 use crate::seen::{Seen, Seens};
 use map_types::Shape;
-use place_words::{GlobalPart, LocalPart, Look, OwnPart, Part, Seen as Probed, ShrinkNote, Try};
+use place_words::{GlobalPart, LocalPart, Look, OwnPart, PartAt, Seen as Probed, ShrinkNote, Try};
 use replay_words::Note;
 use std::marker::Model;
 
@@ -77,16 +77,16 @@ fn answers(shape: &Shape, last: &Seen<'_>, before: &Seens<'_>) -> bool
 {
     let stored = hashes(last.note);
     match last.part {
-        Part::Bucket(_) | Part::Free(_) => are_tries(shape, &[], stored, before),
-        Part::Local(packed) => match packed.part() {
+        PartAt::Bucket(_) | PartAt::Free(_) => are_tries(shape, &[], stored, before),
+        PartAt::Local(packed) => match packed.part() {
             Ok(part) => are_local(shape, part, stored, before),
             Err(part) => are_local(shape, &part, stored, before),
         },
-        Part::Global(packed) => match packed.part() {
+        PartAt::Global(packed) => match packed.part() {
             Ok(part) => are_global(shape, part, stored, before),
             Err(part) => are_global(shape, &part, stored, before),
         },
-        Part::Own(packed) => match packed.part() {
+        PartAt::Own(packed) => match packed.part() {
             Ok(part) => are_own(shape, part, stored, before),
             Err(part) => are_own(shape, &part, stored, before),
         },

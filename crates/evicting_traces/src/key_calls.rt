@@ -13,7 +13,7 @@ use crate::seen::Seens;
 use crate::takes::read_acquires;
 use key_hash::jhash;
 use map_types::{Bytes, DomainId, Errno, Shape, Side};
-use place_words::{PackedBucket, Part, Put};
+use place_words::{PackedBucket, PartAt, Put};
 use trace_check::{FoundAt, bucket_number, gone_in, got_in, taken_in};
 
 /// What an update asks for.
@@ -179,7 +179,7 @@ pub(crate) fn first_at<'a>(bucket: u32, seens: &Seens<'a>) -> Option<(&'a Packed
     let (seen, rest) = seens.split_first()?;
     match seen.lock {
         DomainId::Bucket(number) if number == bucket => match seen.part {
-            Part::Bucket(part) => Some((part, rest)),
+            PartAt::Bucket(part) => Some((part, rest)),
             _ => None,
         },
         _ => None,

@@ -2,6 +2,7 @@
 
 ghost use Rattle.std.specs.Prelude.{◌≡◌, is_some, option_map};
 ghost use Rattle.map_types.specs.Shape.{HasBounds};
+ghost use Rattle.place_words.specs.Entries.{part_read};
 ghost use Rattle.place_words.specs.Takings.{stolen_element};
 ghost use Rattle.map_types.specs.declared.kind.DomainId.TheVariants as locks;
 ghost use Rattle.evicting_traces.specs.Calls as calls;
@@ -11,7 +12,7 @@ use crate::seen::Seen;
 use key_hash::bucket_of;
 use map_types::{DomainId, Shape, Side};
 use place_words::{
-    BucketPart, GlobalPart, LocalPart, OwnPart, PackedBucket, Part, Put, Seen as Probed, Stolen,
+    BucketPart, GlobalPart, LocalPart, OwnPart, PackedBucket, PartAt, Put, Seen as Probed, Stolen,
 };
 use trace_check::{same_bool, same_side};
 
@@ -128,11 +129,11 @@ fn same_seen(probed: Probed, other: Probed) -> bool
 }
 
 /// Whether it is a turn in which an element was to be evicted.
-pub(crate) fn is_evict(part: &Part) -> bool
-    ensures { result ≡ is_some (told.evicted part.now) }
+pub(crate) fn is_evict(part: PartAt<'_>) -> bool
+    ensures { result ≡ is_some (told.evicted (part_read part.entry)) }
 {
     match part {
-        Part::Bucket(packed) => match packed.part() {
+        PartAt::Bucket(packed) => match packed.part() {
             Ok(part) => is_eviction(part),
             Err(part) => is_eviction(&part),
         },
@@ -170,11 +171,11 @@ pub(crate) fn is_answer(
 }
 
 /// Whether an element was to be evicted, and was found so.
-fn is_try(part: &Part, element: u32, probed: Probed) -> bool
-    ensures { result ≡ told.is_try (told.try_of element probed) (told.evicted part.now) }
+fn is_try(part: PartAt<'_>, element: u32, probed: Probed) -> bool
+    ensures { result ≡ told.is_try (told.try_of element probed) (told.evicted (part_read part.entry)) }
 {
     match part {
-        Part::Bucket(packed) => match packed.part() {
+        PartAt::Bucket(packed) => match packed.part() {
             Ok(part) => is_tried(part, element, probed),
             Err(part) => is_tried(&part, element, probed),
         },
@@ -201,7 +202,7 @@ pub(crate) fn is_local_push(seen: &Seen<'_>, element: u32, done: bool) -> bool
 {
     match seen.lock {
         DomainId::Local(_) => match seen.part {
-            Part::Local(packed) => match packed.part() {
+            PartAt::Local(packed) => match packed.part() {
                 Ok(part) => is_pushed(part, element, done),
                 Err(part) => is_pushed(&part, element, done),
             },
@@ -217,7 +218,7 @@ pub(crate) fn is_global_push(seen: &Seen<'_>, element: u32) -> bool
 {
     match seen.lock {
         DomainId::Global => match seen.part {
-            Part::Global(packed) => match packed.part() {
+            PartAt::Global(packed) => match packed.part() {
                 Ok(part) => is_freed(part, element),
                 Err(part) => is_freed(&part, element),
             },
@@ -245,7 +246,7 @@ pub(crate) fn is_own_push(seen: &Seen<'_>, cpu: u32, element: u32) -> bool
         DomainId::CpuLru(at) => {
             at == cpu
                 && match seen.part {
-                    Part::Own(packed) => match packed.part() {
+                    PartAt::Own(packed) => match packed.part() {
                         Ok(part) => is_own_freed(part, element),
                         Err(part) => is_own_freed(&part, element),
                     },
@@ -272,7 +273,7 @@ pub(crate) fn popped(seen: &Seen<'_>, cpu: u32, hash: u32) -> Option<u32>
 {
     match seen.lock {
         DomainId::Local(at) if at == cpu => match seen.part {
-            Part::Local(packed) => match packed.part() {
+            PartAt::Local(packed) => match packed.part() {
                 Ok(part) => popped_in(part, hash),
                 Err(part) => popped_in(&part, hash),
             },
@@ -288,7 +289,7 @@ pub(crate) fn own_got(seen: &Seen<'_>, cpu: u32, hash: u32) -> Option<Option<u32
 {
     match seen.lock {
         DomainId::CpuLru(at) if at == cpu => match seen.part {
-            Part::Own(packed) => match packed.part() {
+            PartAt::Own(packed) => match packed.part() {
                 Ok(part) => got_of(part, hash),
                 Err(part) => got_of(&part, hash),
             },
@@ -318,7 +319,7 @@ pub(crate) fn theft(seen: &Seen<'_>, from: u32) -> Option<Option<u32>>
 {
     match seen.lock {
         DomainId::Local(at) if at == from => match seen.part {
-            Part::Local(packed) => match packed.part() {
+            PartAt::Local(packed) => match packed.part() {
                 Ok(part) => stolen_in(part),
                 Err(part) => stolen_in(&part),
             },
@@ -356,7 +357,7 @@ pub(crate) fn is_home(seen: &Seen<'_>, cpu: u32, hash: u32, element: u32, cursor
         DomainId::Local(at) => {
             at == cpu
                 && match seen.part {
-                    Part::Local(packed) => match packed.part() {
+                    PartAt::Local(packed) => match packed.part() {
                         Ok(part) => is_added(part, hash, element, cursor),
                         Err(part) => is_added(&part, hash, element, cursor),
                     },

@@ -12,7 +12,7 @@ ghost use Rattle.evicting_traces.specs.Parts as told;
 use crate::seen::Seen;
 use map_types::DomainId;
 use place_words::{
-    Flush, GlobalPart, LocalPart, Look, Part, Seen as Probed, ShrinkNote, Try, Visit,
+    Flush, GlobalPart, LocalPart, Look, PartAt, Seen as Probed, ShrinkNote, Try, Visit,
 };
 use replay_words::Note;
 use trace_check::same_bool;
@@ -28,7 +28,7 @@ pub(crate) fn refilled(
 {
     match given.lock {
         DomainId::Global => match given.part {
-            Part::Global(packed) => match packed.part() {
+            PartAt::Global(packed) => match packed.part() {
                 Ok(part) => refilled_by(part, seen, cpu, hash),
                 Err(part) => refilled_by(&part, seen, cpu, hash),
             },
@@ -75,7 +75,7 @@ fn got_of(
 {
     match seen.lock {
         DomainId::Local(at) if at == cpu => match seen.part {
-            Part::Local(packed) => match packed.part() {
+            PartAt::Local(packed) => match packed.part() {
                 Ok(part) => refilled_in(part, hash, flushed, free, shrink),
                 Err(part) => refilled_in(&part, hash, flushed, free, shrink),
             },

@@ -3,7 +3,7 @@
 ghost use Rattle.std.specs.Prelude.{◌≡◌, ◌∷◌, ◌≤◌, [], MatchOption, None, Some, length, take, if◌then◌else◌};
 
 use map_types::DomainId;
-use place_words::Part;
+use place_words::PartAt;
 use replay_words::Note;
 use std::marker::Model;
 
@@ -11,18 +11,19 @@ use std::marker::Model;
 #[derive(Drop)]
 pub struct Seen<'a> {
     pub lock: DomainId,
-    pub part: &'a Part,
+    pub part: PartAt<'a>,
     pub note: &'a Note,
     pub flushed: bool,
 }
 
 impl<'a> Model for Seen<'a> {
+    ghost use Rattle.place_words.specs.Entries.{part_read};
     ghost use Rattle.place_words.specs.Turns.{on_lock};
     ghost use Rattle.evicting_traces.specs.Reading as reading;
 
     ghost Value = { reading.Seen };
 
-    ghost view = { λ s. reading.seen_of (on_lock s.lock s.part.now) s.note.now s.flushed };
+    ghost view = { λ s. reading.seen_of (on_lock s.lock (part_read s.part)) s.note.now s.flushed };
 }
 
 /// Turns from some place on.

@@ -6,13 +6,14 @@ ghost use Rattle.replay_words.specs.Notes.{local_note};
 ghost use Rattle.replay_words.specs.Replays.{StopsAt};
 ghost use Rattle.map_types.specs.declared.attr.Shape as shapes;
 ghost use Rattle.place_words.specs.declared.history.Part.TheVariants as parts;
+ghost use Rattle.place_words.specs.Entries.{part_read};
 ghost use Rattle.place_words.specs.Histories.{Allows, in_locals};
 ghost use Rattle.place_words.specs.Locals.{LocalLists, AllowsOnLocal, local_after};
 ghost use Rattle.local_replay.specs.Replays.{IsTurn, LeadsToLocals};
 
 use crate::lists::ReplayedLists;
 use map_types::{List, NoMemory, Shape};
-use place_words::{Entry, LocalFinal, LocalPart, PackedLocal, Part};
+use place_words::{Entries, EntryAt, LocalFinal, LocalPart, PackedLocal, PartAt};
 use replay_words::{Note, ReplayStop};
 use std::alloc::Global;
 
@@ -36,7 +37,7 @@ pub fn replay_local(
     alloc: Global,
     shape: &Shape,
     cpu: u32,
-    entries: &[Entry],
+    entries: &Entries,
 ) -> Result<ReplayedLocals, ReplayStop>
     ensures { MatchResult result
         (LeadsToLocals shape.now cpu entries.now)
@@ -45,7 +46,8 @@ pub fn replay_local(
     let mut lists = ReplayedLists::new(alloc, cpu);
     let mut notes = List::of(Vec::new(alloc));
     for i in 0..entries.len() {
-        let Some(packed) = local_part(&entries[i]) else {
+        let entry = entries.at(i);
+        let Some(packed) = local_part(entry) else {
             return Err(ReplayStop::NotAllowed { index: i });
         };
         let Some(note) = packed_turn(&mut lists, alloc, shape, packed)? else {
@@ -60,17 +62,17 @@ pub fn replay_local(
 }
 
 /// What an entry did to local lists, none where it did something else.
-fn local_part(entry: &Entry) -> Option<&PackedLocal>
+fn local_part<'a>(entry: EntryAt<'a>) -> Option<&'a PackedLocal>
     ensures { MatchOption result
-        ((shape : shapes.Shape) (lists : LocalLists) → ¬ Allows shape entry.now.cpu entry.now.part (in_locals lists))
-        (λ part. entry.now.part ≡ parts.Local part.now) }
+        ((shape : shapes.Shape) (lists : LocalLists) → ¬ Allows shape entry.entry.cpu (part_read entry.entry.part) (in_locals lists))
+        (λ part. part_read entry.entry.part ≡ parts.Local part.now) }
 {
-    match &entry.part {
-        Part::Local(part) => Some(part),
-        Part::Bucket(_) => None,
-        Part::Free(_) => None,
-        Part::Global(_) => None,
-        Part::Own(_) => None,
+    match entry.part {
+        PartAt::Local(part) => Some(part),
+        PartAt::Bucket(_) => None,
+        PartAt::Free(_) => None,
+        PartAt::Global(_) => None,
+        PartAt::Own(_) => None,
     }
 }
 

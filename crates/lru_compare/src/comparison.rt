@@ -4,12 +4,13 @@ ghost use Rattle.std.specs.Prelude.{◌≡◌, ◌++◌, IfOk, OnOk, Some, codes
 ghost use Rattle.lru_compare.specs.Comparison.{are_equal, comparison, count_text, gives, hits, is_done, is_hit, is_lookup, is_value, lookups, map_text, refuses, same};
 ghost use Rattle.map_report.specs.Summary.{error_number, evicted, evicts};
 ghost use Rattle.map_report.specs.Words.{number_text};
+ghost use Rattle.place_words.specs.Entries.{part_read};
 
 use crate::StrictOut;
 use map_report::RunRecord;
 use map_script::Script;
 use map_types::{Call, Errno, NoMemory, Reply, Verb};
-use place_words::{Entry, LockHistory, Part, Seen};
+use place_words::{Entries, LockHistory, PartAt, Seen};
 use std::alloc::{AllocError, Global};
 use std::fmt::Write;
 
@@ -190,19 +191,19 @@ fn evicted(histories: &[LockHistory]) -> Result<u64, AllocError>
 {
     let mut total: u64 = 0;
     for history in histories {
-        let count = evicted_in(history.entries.as_slice());
+        let count = evicted_in(&history.entries);
         total = total.checked_add(count).ok_or(AllocError)?;
     }
     Ok(total)
 }
 
 /// How many elements were evicted in these turns of a lock.
-fn evicted_in(entries: &[Entry]) -> u64
+fn evicted_in(entries: &Entries) -> u64
     ensures { result ≡ count_by (λ entry. evicts entry.part) entries.now }
 {
     let mut count = 0;
-    for entry in entries {
-        if evicts(&entry.part) {
+    for index in 0..entries.len() {
+        if evicts(entries.at(index).part) {
             count += 1;
         }
     }
@@ -210,11 +211,11 @@ fn evicted_in(entries: &[Entry]) -> u64
 }
 
 /// Whether a turn took out an element, for another key.
-fn evicts(part: &Part) -> bool
-    ensures { result ≡ evicts part.now }
+fn evicts(part: PartAt<'_>) -> bool
+    ensures { result ≡ evicts (part_read part.entry) }
 {
     match part {
-        Part::Bucket(packed) => matches!(packed.eviction(), Some((_, Seen::Removed))),
+        PartAt::Bucket(packed) => matches!(packed.eviction(), Some((_, Seen::Removed))),
         _ => false,
     }
 }

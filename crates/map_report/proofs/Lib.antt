@@ -1,5 +1,6 @@
 mod JsonLemmas
 mod SummaryLemmas
+pub mod TurnLemmas
 mod WorkedRecord
 mod TicketsWorked
 pub mod LogGrowth

@@ -1,14 +1,15 @@
 //! The lines of a report that say what happened under each lock, and in which order.
 
-ghost use Rattle.std.specs.Prelude.{◌≡◌, [], ◌∷◌, ◌++◌, OnOk, codes, decimal, string_bytes};
+ghost use Rattle.std.specs.Prelude.{◌≡◌, [], ◌∷◌, ◌++◌, OnOk, codes, decimal, map, string_bytes};
 ghost use Rattle.std.specs.List.{flat_map};
+ghost use Rattle.place_words.specs.Entries.{entry_read, part_read};
 ghost use Rattle.map_report.specs.History.{entry_line, history_lines, joined, lock_line, lock_lines, part_text, phase_line, phase_lines, phase_name, record_line, step_line, strand_line, strand_lines};
 
 use crate::lines::{Lines, Section, add_each, add_numbered};
 use crate::piece::{Piece, push_decimal, push_each, push_number};
 use crate::words::push_lock;
 use crate::{PhaseStart, RunRecord};
-use place_words::{Entry, LockHistory, Part, Strand, StrandStep};
+use place_words::{Entries, EntryAt, LockHistory, PartAt, Strand, StrandStep};
 use std::alloc::AllocError;
 
 /// Adds each lock that has an entry with its entries, then, of a script of version 2, the start of each phase, and then
@@ -49,7 +50,18 @@ fn add_lock<L: Lines>(lines: &mut L, history: &LockHistory) -> Result<(), AllocE
         return Ok(());
     }
     lines.add(history)?;
-    add_each(lines, history.entries.as_slice())
+    add_entries(lines, &history.entries)
+}
+
+/// Adds a line for each of the turns of a lock.
+fn add_entries<L: Lines>(lines: &mut L, entries: &Entries) -> Result<(), AllocError>
+    ensures { OnOk result (L.written lines.new
+        ≡ L.written lines.old ++ flat_map L.line (map entry_line entries.now)) }
+{
+    for index in 0..entries.len() {
+        lines.add(&entries.at(index))?;
+    }
+    Ok(())
 }
 
 /// Which lines the text of a record has.
@@ -80,8 +92,8 @@ impl Piece for LockHistory {
 }
 
 /// `TICKET CPU CALL PART`
-impl Piece for Entry {
-    ghost shown = { entry_line };
+impl Piece for EntryAt<'_> {
+    ghost shown = { λ entry. entry_line (entry_read entry) };
 
     fn push_to(&self, text: &mut String) -> Result<(), AllocError> {
         push_decimal(text, self.ticket)?;
@@ -92,25 +104,25 @@ impl Piece for Entry {
     }
 }
 
-impl Piece for Part {
-    ghost shown = { part_text };
+impl Piece for PartAt<'_> {
+    ghost shown = { λ part. part_text (part_read part) };
 
     fn push_to(&self, text: &mut String) -> Result<(), AllocError> {
         match self {
-            Part::Bucket(part) => match part.part() {
+            PartAt::Bucket(part) => match part.part() {
                 Ok(part) => part.push_to(text),
                 Err(part) => part.push_to(text),
             },
-            Part::Free(part) => part.push_to(text),
-            Part::Local(part) => match part.part() {
+            PartAt::Free(part) => part.push_to(text),
+            PartAt::Local(part) => match part.part() {
                 Ok(part) => part.push_to(text),
                 Err(part) => part.push_to(text),
             },
-            Part::Global(part) => match part.part() {
+            PartAt::Global(part) => match part.part() {
                 Ok(part) => part.push_to(text),
                 Err(part) => part.push_to(text),
             },
-            Part::Own(part) => match part.part() {
+            PartAt::Own(part) => match part.part() {
                 Ok(part) => part.push_to(text),
                 Err(part) => part.push_to(text),
             },

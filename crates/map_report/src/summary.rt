@@ -4,6 +4,7 @@ ghost use Rattle.std.specs.Prelude.{◌≡◌, ◌++◌, IfOk, OnOk, codes, coun
 ghost use Rattle.std.specs.List.{flat_map};
 ghost use Rattle.map_report.specs.Summary.{element_lines, error_number, names, evicts, evicted, outcome_line, outcomes, present, summary_lines, summary, total_line};
 ghost use Rattle.map_types.specs.Replies.{error_of};
+ghost use Rattle.place_words.specs.Entries.{part_read};
 
 use crate::lines::Lines;
 use crate::piece::{Piece, push_number};
@@ -12,7 +13,7 @@ use crate::text::{add_dump_if, add_history_if};
 use crate::{Options, RunRecord};
 use map_script::Script;
 use map_types::{Errno, List, NoMemory, Reply};
-use place_words::{Entry, Kept, LockHistory, Part, Seen};
+use place_words::{Entries, Kept, LockHistory, PartAt, Seen};
 use std::alloc::{AllocError, Global};
 
 /// What is printed of a run in place of its replies: a line for the map, one for the number of calls, for `ok` and each
@@ -180,19 +181,19 @@ fn evicted(histories: &[LockHistory]) -> Result<u64, AllocError>
 {
     let mut total: u64 = 0;
     for history in histories {
-        let count = evicted_in(history.entries.as_slice());
+        let count = evicted_in(&history.entries);
         total = total.checked_add(count).ok_or(AllocError)?;
     }
     Ok(total)
 }
 
 /// How many elements were evicted in these turns of a lock.
-fn evicted_in(entries: &[Entry]) -> u64
+fn evicted_in(entries: &Entries) -> u64
     ensures { result ≡ count_by (λ entry. evicts entry.part) entries.now }
 {
     let mut count = 0;
-    for entry in entries {
-        if evicts(&entry.part) {
+    for index in 0..entries.len() {
+        if evicts(entries.at(index).part) {
             count += 1;
         }
     }
@@ -200,11 +201,11 @@ fn evicted_in(entries: &[Entry]) -> u64
 }
 
 /// Whether a turn took out an element, for another key.
-fn evicts(part: &Part) -> bool
-    ensures { result ≡ evicts part.now }
+fn evicts(part: PartAt<'_>) -> bool
+    ensures { result ≡ evicts (part_read part.entry) }
 {
     match part {
-        Part::Bucket(packed) => matches!(packed.eviction(), Some((_, Seen::Removed))),
+        PartAt::Bucket(packed) => matches!(packed.eviction(), Some((_, Seen::Removed))),
         _ => false,
     }
 }

@@ -1,27 +1,45 @@
 //! Tests of what is recorded of a run.
 
-use crate::Same;
-use place_words::{Entry, LockHistory, Part, Strand};
+ghost use Rattle.std.specs.Prelude.{◌≡◌, ◌≢◌, MatchBool};
+ghost use Rattle.place_words.specs.Entries.{entry_read};
+
+use crate::{Same, same_part};
+use place_words::{Entries, Entry, EntryAt, LockHistory, Part, Strand};
 
 impl Same for Part {
     fn same(&self, other: &Part) -> bool {
-        match (self, other) {
-            (Part::Bucket(part), Part::Bucket(another)) => part.same(another),
-            (Part::Free(part), Part::Free(another)) => part.same(another),
-            (Part::Local(part), Part::Local(another)) => part.same(another),
-            (Part::Global(part), Part::Global(another)) => part.same(another),
-            (Part::Own(part), Part::Own(another)) => part.same(another),
-            _ => false,
-        }
+        same_part(self.in_place(), other.in_place())
     }
 }
 
 impl Same for Entry {
     fn same(&self, other: &Entry) -> bool {
-        self.ticket.same(&other.ticket)
-            && self.cpu.same(&other.cpu)
-            && self.call.same(&other.call)
-            && self.part.same(&other.part)
+        same_entry(self.in_place(), other.in_place())
+    }
+}
+
+/// Whether two turns tell the same.
+fn same_entry(one: EntryAt<'_>, another: EntryAt<'_>) -> bool
+    ensures { MatchBool result (entry_read one.entry ≡ entry_read another.entry)
+        (entry_read one.entry ≢ entry_read another.entry) }
+{
+    one.ticket == another.ticket
+        && one.cpu == another.cpu
+        && one.call == another.call
+        && same_part(one.part, another.part)
+}
+
+impl Same for Entries {
+    fn same(&self, other: &Entries) -> bool {
+        if self.len() != other.len() {
+            return false;
+        }
+        for index in 0..self.len() {
+            if !same_entry(self.at(index), other.at(index)) {
+                return false;
+            }
+        }
+        true
     }
 }
 

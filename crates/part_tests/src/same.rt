@@ -1,9 +1,10 @@
 //! The test for equality of values that keep memory of their own, and of lists of any values that have one.
 
 ghost use Rattle.std.specs.Prelude.{◌≡◌, ◌≢◌, MatchBool, MatchResult};
+ghost use Rattle.place_words.specs.Entries.{part_read};
 
 use map_types::{Bytes, List, Reply};
-use place_words::Part;
+use place_words::PartAt;
 
 /// What can be tested for equality, by reference, with no memory.
 pub trait Same {
@@ -88,10 +89,18 @@ pub(crate) fn same_told<T: Same + Drop>(part: Result<&T, T>, another: Result<&T,
 }
 
 /// Whether two parts tell the same.
-pub fn same_part(one: &Part, another: &Part) -> bool
-    ensures { MatchBool result (one.now ≡ another.now) (one.now ≢ another.now) }
+pub fn same_part(one: PartAt<'_>, another: PartAt<'_>) -> bool
+    ensures { MatchBool result (part_read one.entry ≡ part_read another.entry)
+        (part_read one.entry ≢ part_read another.entry) }
 {
-    one.same(another)
+    match (one, another) {
+        (PartAt::Bucket(part), PartAt::Bucket(other)) => part.same(other),
+        (PartAt::Free(part), PartAt::Free(other)) => part.same(&other),
+        (PartAt::Local(part), PartAt::Local(other)) => part.same(other),
+        (PartAt::Global(part), PartAt::Global(other)) => part.same(other),
+        (PartAt::Own(part), PartAt::Own(other)) => part.same(other),
+        _ => false,
+    }
 }
 
 /// Whether two replies are the same.

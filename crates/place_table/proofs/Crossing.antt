@@ -21,8 +21,6 @@ use Rattle.local_lists.proofs.Crossing.{local_send}
 use Rattle.lru_lists.proofs.Crossing.{set_send}
 use Rattle.linked_rows.specs.contracts.linked.LinkedRows as LinkedRows
 use Rattle.linked_rows.proofs.linked.LinkedRows.TheSendSync as linked
-use Rattle.place_words.specs.contracts.history.Entry as Entry
-use Rattle.place_words.proofs.history.Entry.TheSendSync as entry
 use Rattle.place_words.specs.contracts.history.StrandStep as StrandStep
 use Rattle.place_words.proofs.history.StrandStep.TheSendSync as strand
 use Rattle.atomic_table.proofs.shared.Seat.TheSendSync as seat
@@ -35,9 +33,11 @@ use Rattle.place_table.specs.contracts.table.PlaceTable as PlaceTable
 use Rattle.place_table.specs.contracts.table.PlaceTable.TheInside as InTable
 use Rattle.place_table.specs.contracts.content.Content as Content
 use Rattle.place_table.specs.contracts.content.Behind as Behind
+use Rattle.place_table.specs.contracts.content.SlotTurns as SlotTurns
+use Rattle.place_table.proofs.content.SlotTurns.TheSendSync as slot_turns
 use Rattle.place_table.specs.contracts.view.View as View
-use Rattle.place_table.specs.contracts.strands.FinishedStrand as FinishedStrand
-use Rattle.place_table.proofs.strands.FinishedStrand.TheSendSync as finished
+use Rattle.place_table.specs.contracts.strands.TurnsMade as TurnsMade
+use Rattle.place_table.proofs.strands.TurnsMade.TheSendSync as made
 use Rattle.place_table.specs.contracts.pass.Pass as Pass
 use Rattle.place_table.specs.contracts.pass.Pass.TheInside as InPass
 
@@ -56,7 +56,7 @@ content_send = recorded_send (Content.the_field).row _ _ (Content.the_type).to_o
 pub behind_send : IsSend Behind.the_row
 behind_send = recorded_send (Behind.the_field).row _ _ (Behind.the_type).to_one (struct_send (shape Behind.the_type) (
   option_send Content.the_row content_send,
-  (option_send (Vec.the_row Entry.the_row Global.the_row ghosts) (Vec-send Entry.the_row entry.the_send), tt),
+  (option_send SlotTurns.the_row slot_turns.the_send, tt),
 ))
 
 pub pass_send : IsSend Pass.the_row
@@ -70,10 +70,7 @@ pass_send = view_send InPass.the_row _ _ _ _ (recorded_send (InPass.the_field).r
         array_send bool 16 (plain_send _ _ _ _ _),
         (
           Vec-send StrandStep.the_row strand.the_send,
-          (
-            option_send (Vec.the_row FinishedStrand.the_row Global.the_row ghosts) (Vec-send FinishedStrand.the_row finished.the_send),
-            (array_send _ 16 (whole_send BoxedBody.the_row boxed_send), tt),
-          ),
+          (made.the_field_send, (array_send _ 16 (whole_send BoxedBody.the_row boxed_send), tt)),
         ),
       ),
     ),

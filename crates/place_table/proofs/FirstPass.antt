@@ -1,7 +1,6 @@
 -- The first pass of a table is in no call, and keeps the spares that it has in hand.
 use Rattle.std.proofs.Common.{◌≡◌, ℕ, ◌+◌, ◌<◌, ◌≤◌, Bool, true, List, [], length, get_or, Option, None, Some, refl, ap, ◌∙◌, sym, subst, arith, ⊎_elim}
-use Rattle.std.specs.Prelude.{MatchOption, Vec}
-use Rattle.std.specs.Global.{Global}
+use Rattle.std.specs.Prelude.{MatchOption}
 use Rattle.std.proofs.lemmas.Bool.{cases_lt}
 use Rattle.std.proofs.lemmas.List.Elements.{All-nil}
 use Rattle.map_types.specs.declared.attr.Shape.{Shape}
@@ -12,14 +11,16 @@ use Rattle.map_types.specs.Stored.{Stored, IsSized}
 use Rattle.place_words.specs.declared.history.StrandStep.{StrandStep}
 use Rattle.place_words.specs.Openings.{opening_spares, first_spares}
 use Rattle.place_table.specs.declared.content.Behind.{Behind}
-use Rattle.place_table.specs.declared.strands.FinishedStrand.{FinishedStrand}
+use Rattle.place_table.specs.declared.strands.TurnsMade.{TurnsMade}
 use Rattle.place_table.specs.declared.view.View.{View}
 use Rattle.place_table.specs.declared.view.InHand.{InHand}
 use Rattle.place_table.specs.Views.{is_among, is_in_hand_of, numbers_below, spares_from, first_hand, first_view}
-use Rattle.place_table.specs.Passes.{PassView, TableView, spare_of, flags_of, SparesFit, HasCpusOf, IsPass, IsInNoCall, IsFirstPass}
+use Rattle.place_table.specs.Logged.{HaveLogs}
+use Rattle.place_table.specs.Passes.{PassView, TableView, spare_of, flags_of, AreFinished, SparesFit, HasCpusOf, IsPass, IsInNoCall, IsFirstPass}
 use Rattle.place_table.specs.Opening.{AreBodiesOf}
 use Rattle.place_table.proofs.FirstSpares.{hand_past, spares_count, spare_in_hand, spare_at_place}
 use Rattle.place_table.proofs.Opens.{among, among_below}
+use Rattle.place_table.proofs.Recorded.{no_log}
 use Rattle.place_table.proofs.Worlds.{true_false}
 
 -- the body that stands at a CPU's place
@@ -97,12 +98,12 @@ first_mine shape bounds e cpu in_hand = go shape.kind refl in_hand
     go LruHash hash is = true_false (sym is)
     go LruPercpuHash hash is = true_false (sym is)
 
-pub first_is_pass : (shape : Shape) → HasBounds shape → (v : View) (slots : List (ℕ × Behind)) (strand : List StrandStep) (spares : List (Option Stored)) (flags : List Bool) (ended : Vec FinishedStrand Global) → v ≡ first_view shape → slots ≡ [] → strand ≡ [] → AreBodiesOf shape (first_spares shape shape.kind) spares
-    → flags ≡ flags_of (numbers_below shape.cpus) → ended.items ≡ [] → IsPass v slots strand spares flags (Some ended)
-first_is_pass shape bounds v slots strand spares flags ended is none no_steps are all_cpus none_ended =
-    subst (λ (w : View). IsPass w slots strand spares flags (Some ended)) (sym is)
-    (subst (λ (xs : List (ℕ × Behind)). IsPass (first_view shape) xs strand spares flags (Some ended)) (sym none)
-    record { carries = tt; strand_is = no_steps; cpus_are = all_cpus; ended_are = none_ended; spares_fit = first_spares_fit shape spares are; within = λ cpu has. among_below cpu shape.cpus has; ended_within = All-nil (HasCpusOf shape); hands_real = λ e cpu in_hand. (first_real shape bounds e cpu in_hand, among cpu shape.cpus (first_mine shape bounds e cpu in_hand)); unread = refl })
+pub first_is_pass : (shape : Shape) → HasBounds shape → (v : View) (slots : List (ℕ × Behind)) (strand : List StrandStep) (spares : List (Option Stored)) (flags : List Bool) (past : TurnsMade) → v ≡ first_view shape → slots ≡ [] → strand ≡ [] → AreBodiesOf shape (first_spares shape shape.kind) spares
+    → flags ≡ flags_of (numbers_below shape.cpus) → past.log.items ≡ [] → AreFinished [] past.ended → HaveLogs shape [] past.logs → IsPass v slots strand spares flags past
+first_is_pass shape bounds v slots strand spares flags past is none no_steps are all_cpus no_turns none_ended no_logs =
+    subst (λ (w : View). IsPass w slots strand spares flags past) (sym is)
+    (subst (λ (xs : List (ℕ × Behind)). IsPass (first_view shape) xs strand spares flags past) (sym none)
+    record { carries = tt; strand_is = no_steps; log_is = no_log shape past.log.items no_turns; cpus_are = all_cpus; ended_are = none_ended; logs_are = no_logs; spares_fit = first_spares_fit shape spares are; within = λ cpu has. among_below cpu shape.cpus has; ended_within = All-nil (HasCpusOf shape); hands_real = λ e cpu in_hand. (first_real shape bounds e cpu in_hand, among cpu shape.cpus (first_mine shape bounds e cpu in_hand)); unread = refl })
 
 pub is_first_pass : (t : TableView) (p : PassView) → HasBounds t.shape → p.table ≡ t.id → p.view ≡ first_view t.shape → AreBodiesOf t.shape (first_spares t.shape t.shape.kind) p.spares → IsFirstPass t p
 is_first_pass t p bounds of_table is are =

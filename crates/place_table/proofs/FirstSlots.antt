@@ -121,10 +121,10 @@ slots_more shape slots now slot n are last now_is =
     }
 
 -- the slot of an empty bucket
-pub bucket_first : (shape : Shape) (bucket : ℕ) (chain : BodyList) (slot : Behind) → bucket < shape.buckets → slot.content ≡ Some (lying.Bucket chain) → chain.bodies ≡ [] → KeptAs false [] slot → IsFirstSlot shape (first_bucket shape + bucket) slot
-bucket_first shape bucket chain slot within content_is none kept = record {
-  content = subst (λ (found : Option Content). IsFirstContent shape (lock_named shape (first_bucket shape + bucket)) found) (sym content_is)
-      (subst (λ (lock : DomainId). IsFirstContent shape lock (Some (lying.Bucket chain))) (sym (named_by_number shape (Bucket bucket) (lt-ltb bucket shape.buckets within)))
-      (ap in_bucket none, subst (All (IsSized shape)) (sym none) (All-nil (IsSized shape))));
-  kept = kept;
-}
+pub bucket_first : (shape : Shape) (bucket : ℕ) (chain : BodyList) (slot : Behind) → bucket < shape.buckets → slot.content ≡ Some (lying.Bucket chain) → chain.bodies ≡ [] → KeptAs (Bucket bucket) false [] slot → IsFirstSlot shape (first_bucket shape + bucket) slot
+bucket_first shape bucket chain slot within content_is none kept =
+    let named : lock_named shape (first_bucket shape + bucket) ≡ Bucket bucket = named_by_number shape (Bucket bucket) (lt-ltb bucket shape.buckets within) in record {
+      content = subst (λ (found : Option Content). IsFirstContent shape (lock_named shape (first_bucket shape + bucket)) found) (sym content_is)
+          (subst (λ (lock : DomainId). IsFirstContent shape lock (Some (lying.Bucket chain))) (sym named) (ap in_bucket none, subst (All (IsSized shape)) (sym none) (All-nil (IsSized shape))));
+      kept = subst (λ (lock : DomainId). KeptAs lock false [] slot) (sym named) kept;
+    }

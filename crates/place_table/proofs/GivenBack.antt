@@ -42,6 +42,7 @@ use Rattle.place_table.specs.Laws.{StepsAs, goes_by, LeadsOn}
 use Rattle.place_table.specs.declared.view.Turned.{Turned}
 use Rattle.place_table.specs.Views as views
 use Rattle.place_table.specs.Views.{is_among, hold_at, known_log, holding, has_all, is_in_hand_of, home_then, passed_on}
+use Rattle.place_table.specs.SlotTurns.{HasTurns}
 use Rattle.place_table.specs.Rules.{World, Rule, PassKnows, givers, strands_of, AtHome, Tagged, entries, hold, hold_of, IsAboveAll, Ascends, turns_on, turns_of, indexes, logs_of, AreTagged, HashesRight, StillHome, HasRow, IsHashed, is_hand_of, LeadTo, AreNoted, IsCounted, marks_under}
 use Rattle.place_table.specs.Words.{lock_code, owner_word, home_word, bit_word, ticket_word, opening_words}
 use Rattle.place_table.specs.Plays.{Seated, MayPut, MayGive, HasItsTicket, IsRecorded, IsKeptOrLost, GivesBack, GivesSome, entry_by}
@@ -403,7 +404,8 @@ module _ (shape : Shape) (slots pass : ℕ) (v : View) (b : Behind) (cs : List (
                     content_is = may.content_is;
                     told_is = sym content_is;
                     fits = m0.fits;
-                    kept = recorded b.history _ (lo' ≡ true) _ (λ u. (lo' ≡ false) × (u.items ≡ entries l')) rec (λ lo _. lo) (λ u lo p. (lo, p.1 ∙ sym es_is));
+                    kept = recorded b.history _ (lo' ≡ true) _ (λ turns. (lo' ≡ false) × HasTurns (lock_named shape k) (entries l') turns) rec (λ lo _. lo)
+                        (λ turns lo p. (lo, subst (λ (z : List Entry). HasTurns (lock_named shape k) z turns) (sym es_is) p.1));
                   },
                 ),
                 sym (ap lists_of content_is),

@@ -1,7 +1,6 @@
 -- The locks that a pass holds and the elements in its hands, as one element moves.
 use Rattle.std.proofs.Common.{◌≡◌, ◌≢◌, ℕ, ◌<◌, eqb, cond, Bool, true, false, List, [], ◌∷◌, sym, refl, ap, ◌∙◌, subst, Option, Some}
-use Rattle.std.specs.Prelude.{◌&&◌, Vec}
-use Rattle.std.specs.Global.{Global}
+use Rattle.std.specs.Prelude.{◌&&◌}
 use Rattle.map_types.specs.Stored.{Stored}
 use Rattle.map_types.specs.declared.attr.Shape.{Shape}
 use Rattle.map_types.proofs.RowLemmas.{by_test}
@@ -15,7 +14,7 @@ use Rattle.place_words.specs.declared.step.Lists.{Lists}
 use Rattle.place_table.specs.declared.content.Behind.{Behind}
 use Rattle.place_table.specs.declared.view.Hold.{Hold}
 use Rattle.place_table.specs.declared.view.InHand.{InHand}
-use Rattle.place_table.specs.declared.strands.FinishedStrand.{FinishedStrand}
+use Rattle.place_table.specs.declared.strands.TurnsMade.{TurnsMade}
 use Rattle.place_table.specs.declared.view.Notes.{Notes}
 use Rattle.place_table.specs.declared.view.View.{View}
 use Rattle.place_table.specs.Passes.{Carries, HandsReal, IsPass}
@@ -70,14 +69,14 @@ ascends_now shape k now (hold ∷ holds) ascends =
     (λ _. (above_now shape (rank_of (lock_named shape hold.lock)) k now holds ascends.0, ascends_now shape k now holds ascends.1))
 
 -- and so are the slots that the pass has
-pub carries_now : (k : ℕ) (now : Lists) (holds : List Hold) (slots : List (ℕ × Behind)) → Carries holds slots → Carries (with_now k now holds) slots
-carries_now k now [] [] carries = tt
-carries_now k now [] (x ∷ xs) carries = absurd carries
-carries_now k now (hold ∷ holds) [] carries = absurd carries
-carries_now k now (hold ∷ holds) (x ∷ xs) carries =
-    by_test hold.lock k (λ b. Carries (cond b (with_lists now hold ∷ holds) (hold ∷ with_now k now holds)) (x ∷ xs))
+pub carries_now : (shape : Shape) (k : ℕ) (now : Lists) (holds : List Hold) (slots : List (ℕ × Behind)) → Carries shape holds slots → Carries shape (with_now k now holds) slots
+carries_now shape k now [] [] carries = tt
+carries_now shape k now [] (x ∷ xs) carries = absurd carries
+carries_now shape k now (hold ∷ holds) [] carries = absurd carries
+carries_now shape k now (hold ∷ holds) (x ∷ xs) carries =
+    by_test hold.lock k (λ b. Carries shape (cond b (with_lists now hold ∷ holds) (hold ∷ with_now k now holds)) (x ∷ xs))
     (λ _. carries)
-    (λ _. (carries.0, carries.1, carries.2, carries_now k now holds xs carries.3))
+    (λ _. (carries.0, carries.1, carries.2, carries_now shape k now holds xs carries.3))
 
 -- Elements in hand
 
@@ -218,14 +217,16 @@ pub real_without : (shape : Shape) (cpus : List ℕ) (e cpu : ℕ) (hand : List 
 real_without shape cpus e cpu hand all x c in_hand = all x c (was_in_hand e cpu x c hand in_hand)
 
 -- a pass whose elements have moved
-pub is_pass_moved : {flags : List Bool} {ended : Option (Vec FinishedStrand Global)} (v : View) (slots : List (ℕ × Behind)) (strand : List StrandStep) (spares : List (Option Stored)) (held : List Hold) (hand carried : List InHand) (readings : List HomeIn) (notes : List Notes) (touched : List WordStep) (hashes : List HashIn) (after : Seated) → IsPass v slots strand spares flags ended
-    → Carries held slots → HandsReal v.shape v.cpus hand → after ≡ (record (with_places held hand carried readings notes touched v) { hashes = hashes }, slots) → IsPass after.0 after.1 strand spares flags ended
-is_pass_moved {flags} {ended} v slots strand spares held hand carried readings notes touched hashes after pass carries real after_is =
-    subst (λ (z : Seated). IsPass z.0 z.1 strand spares flags ended) (sym after_is) record {
+pub is_pass_moved : {flags : List Bool} {past : TurnsMade} (v : View) (slots : List (ℕ × Behind)) (strand : List StrandStep) (spares : List (Option Stored)) (held : List Hold) (hand carried : List InHand) (readings : List HomeIn) (notes : List Notes) (touched : List WordStep) (hashes : List HashIn) (after : Seated) → IsPass v slots strand spares flags past
+    → Carries v.shape held slots → HandsReal v.shape v.cpus hand → after ≡ (record (with_places held hand carried readings notes touched v) { hashes = hashes }, slots) → IsPass after.0 after.1 strand spares flags past
+is_pass_moved {flags} {past} v slots strand spares held hand carried readings notes touched hashes after pass carries real after_is =
+    subst (λ (z : Seated). IsPass z.0 z.1 strand spares flags past) (sym after_is) record {
       carries = carries;
       strand_is = pass.strand_is;
       cpus_are = pass.cpus_are;
+      log_is = pass.log_is;
       ended_are = pass.ended_are;
+      logs_are = pass.logs_are;
       spares_fit = pass.spares_fit;
       within = pass.within;
       ended_within = pass.ended_within;

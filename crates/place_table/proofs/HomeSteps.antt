@@ -487,17 +487,17 @@ rehomes shape slots pass me c e i code from to i_is code_is common real has know
     (allows_of shape slots pass me (home_word shape e) (λ _. home_code to) (goes_by shape (Rehome c e to)) (λ _. Rehomes e to me) (rehomes_step shape slots pass me c e from to common real has known may unread around))
 
 -- the slots that the pass has
-pub carries_rehomed : (shape : Shape) (from to : Home) (owner : Owner) (e : ℕ) (held : List Hold) (slots : List (ℕ × Behind)) → Carries held slots → Carries (held_with shape to owner e (held_without shape from owner e held)) slots
+pub carries_rehomed : (shape : Shape) (from to : Home) (owner : Owner) (e : ℕ) (held : List Hold) (slots : List (ℕ × Behind)) → Carries shape held slots → Carries shape (held_with shape to owner e (held_without shape from owner e held)) slots
 carries_rehomed shape from to owner e held slots carries = joined to (held_without shape from owner e held) (left from)
   where
-    left : (from : Home) → Carries (held_without shape from owner e held) slots
+    left : (from : Home) → Carries shape (held_without shape from owner e held) slots
     left homes.Unlisted = carries
-    left (homes.In lock) = carries_now _ _ held slots carries
+    left (homes.In lock) = carries_now shape _ _ held slots carries
     left (homes.Hand c) = carries
 
-    joined : (to : Home) (holds : List Hold) → Carries holds slots → Carries (held_with shape to owner e holds) slots
+    joined : (to : Home) (holds : List Hold) → Carries shape holds slots → Carries shape (held_with shape to owner e holds) slots
     joined homes.Unlisted holds carries = carries
-    joined (homes.In lock) holds carries = carries_now _ _ holds slots carries
+    joined (homes.In lock) holds carries = carries_now shape _ _ holds slots carries
     joined (homes.Hand c) holds carries = carries
 
 -- what a caller with a pass knows then

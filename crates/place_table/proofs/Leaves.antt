@@ -1,12 +1,12 @@
 -- What is left of the slots of a closed table.
-use Rattle.std.proofs.Common.{◌≡◌, ℕ, zero, suc, ◌+◌, ◌<◌, ◌≤◌, Bool, true, false, cond, List, [], ◌∷◌, ◌++◌, length, get_or, get_or-set_other, get_or-set_same, set, eqb, take, drop, map, nat_lt, ⊎_elim, sym, refl, ap, ◌∙◌, add-one, append-nil, subst, arith, Option, Some, None, Vec, Global}
+use Rattle.std.proofs.Common.{◌≡◌, ℕ, zero, suc, ◌+◌, ◌<◌, ◌≤◌, Bool, true, false, cond, List, [], ◌∷◌, ◌++◌, length, get_or, get_or-set_other, get_or-set_same, set, eqb, take, drop, map, nat_lt, ⊎_elim, sym, refl, ap, ◌∙◌, add-one, append-nil, subst, arith, ◌⊎◌, ◌≢◌, ◌-◌, ltb, Option, Some, None, Global}
 use mathlib.Core.Option.{some, some-injective, some-ne-none}
 use lib.ListN.{get_elem?}
 use Rattle.std.specs.Prelude.{IsTrue, IsOk, OnOk, Result, Ok, Err, not, filter, slice_get, ◌||◌, ◌&&◌, option_map, option_to_list, unwrap_or}
 use Rattle.std.specs.List.{flat_map, range_with_len, list_any}
-use Rattle.std.proofs.lemmas.Bool.{cases_Bool, false≢true}
+use Rattle.std.proofs.lemmas.Bool.{cases_Bool, cases_eq, cond_both, false≢true, ltb-true, ltb-false}
 use Rattle.std.proofs.lemmas.Grind.{flat_map-append}
-use Rattle.std.proofs.lemmas.List.{append_assoc, length-set, take_more, map-append, get_or_default, get_or-map, get_or-take, get_or-drop, length-map, length-take-le, length-drop, ext_get_or}
+use Rattle.std.proofs.lemmas.List.{append_assoc, length-set, take_more, map-append, get_or_default, get_or-map, get_or-take, get_or-drop, get_or_append_left, get_or_push, length-map, length_push, length-take-le, length-drop, ext_get_or}
 use Rattle.std.proofs.Math.Seq.{drop-append_seam, take-length}
 use Rattle.std.proofs.lemmas.List.FromFn.{length-map-range_with_len, get_or-map-range_with_len}
 use Rattle.std.proofs.lemmas.List.Elements.{filter-append}
@@ -31,15 +31,17 @@ use Rattle.place_words.specs.Locks.{is_lock, lock_named, lock_number, lock_count
 use Rattle.place_words.specs.Logs.{bucket_at, freelist_at, locals_at, globals_at, own_at, final_set, final_local, where_lock, finals_of}
 use Rattle.place_words.specs.Locals.{new_locals}
 use Rattle.place_words.specs.Sets.{new_set}
+use Rattle.place_words.specs.State.{is_bucket}
 use Rattle.place_words.proofs.LockLemmas.{named_by_number, number_within}
 use Rattle.place_words.proofs.RestCounts.{filter_range}
 use Rattle.place_table.specs.declared.content.Behind.{Behind}
 use Rattle.place_table.specs.declared.content.Content.{Content}
+use Rattle.place_table.specs.declared.content.SlotTurns.{SlotTurns}
 use Rattle.place_table.specs.declared.content.Content.TheVariants as lying
 use Rattle.place_table.specs.Contents.{content_told, FitsLock}
 use Rattle.place_table.specs.Closing.{AreSlots, has_lock, all_locks, history_of, state_left}
 use Rattle.place_table.proofs.Worlds.{by_bool}
-use Rattle.place_table.specs.Leaving.{Logs, bodies_in, numbers_in, set_in, locals_in, freelists_in, sets_in, all_locals_in, spares_in, HasSizedBodies, IsHistory, HaveHistories, AreApart, AreContents, AreKept, AreTaken}
+use Rattle.place_table.specs.Leaving.{Logs, bodies_in, numbers_in, set_in, locals_in, freelists_in, sets_in, all_locals_in, spares_in, HasSizedBodies, IsCount, IsSlotHistory, HaveHistories, AreApart, AreContents, AreCounts, AreKept, AreTaken}
 
 -- one body more of a copy
 pub take_body : (bodies done now : List Stored) (place : ℕ) (body : Stored) → done ≡ take place bodies → slice_get bodies place ≡ Some body → now ≡ done ++ body ∷ [] → now ≡ take (place + 1) bodies
@@ -402,10 +404,10 @@ contents_apart shape log lost slots contents are is = λ k below there.
     let at = are.each k below there in
     (at.2.here, ap (λ (l : List (Option Content)). get_or l k None) is ∙ part_at (λ behind. behind.content) slots k at.0 None at.1 ∙ at.2.content_is, at.2.told_is, at.2.fits)
 
-pub histories_apart : (shape : Shape) (log : Logs) (lost : ℕ → Bool) (slots : List Behind) (histories : List (Option (Vec Entry Global))) → AreSlots shape log lost slots → histories ≡ map (λ behind. behind.history) slots → HaveHistories shape log lost histories
+pub histories_apart : (shape : Shape) (log : Logs) (lost : ℕ → Bool) (slots : List Behind) (histories : List (Option SlotTurns)) → AreSlots shape log lost slots → histories ≡ map (λ behind. behind.history) slots → HaveHistories shape log lost histories
 histories_apart shape log lost slots histories are is = λ k below there.
     let at = are.each k below there in
-    subst (IsHistory (lost k) (log k)) (sym (ap (λ (l : List (Option (Vec Entry Global))). get_or l k None) is ∙ part_at (λ behind. behind.history) slots k at.0 None at.1)) at.2.kept
+    subst (IsSlotHistory (lock_named shape k) (lost k) (log k)) (sym (ap (λ (l : List (Option SlotTurns)). get_or l k None) is ∙ part_at (λ behind. behind.history) slots k at.0 None at.1)) at.2.kept
 
 -- one part of the slots more
 pub part_more : {B : Type 0} (part : Behind → B) (slots : List Behind) (i : ℕ) (behind : Behind) (first done now : List B) → i < length slots → get_elem? slots i ≡ some behind → take i (map part slots) ≡ first ++ done → now ≡ done ++ part behind ∷ []
@@ -455,15 +457,46 @@ all_apart shape slots lists freelists buckets counted front middle back =
     }
 
 -- the history of a slot, and a bucket's place among the locks
-pub history_in : (shape : Shape) (log : Logs) (lost : ℕ → Bool) (slots : List Behind) (k : ℕ) (behind : Behind) → HaveHistories shape log lost (map (λ (b : Behind). b.history) slots) → k < lock_count shape → get_elem? slots k ≡ some behind → has_lock shape k ≡ true → IsHistory (lost k) (log k) behind.history
+pub history_in : (shape : Shape) (log : Logs) (lost : ℕ → Bool) (slots : List Behind) (k : ℕ) (behind : Behind) → HaveHistories shape log lost (map (λ (b : Behind). b.history) slots) → k < lock_count shape → get_elem? slots k ≡ some behind → has_lock shape k ≡ true → IsSlotHistory (lock_named shape k) (lost k) (log k) behind.history
 history_in shape log lost slots k behind told within at there =
-    subst (IsHistory (lost k) (log k)) (part_at (λ (b : Behind). b.history) slots k behind None at) (told k within there)
+    subst (IsSlotHistory (lock_named shape k) (lost k) (log k)) (part_at (λ (b : Behind). b.history) slots k behind None at) (told k within there)
+
+-- of the locks before the buckets and behind them none is a bucket's
+pub no_bucket_at : (shape : Shape) (k : ℕ) → (k < first_bucket shape) ⊎ (first_freelist shape ≤ k) → is_bucket (lock_named shape k) ≡ false
+unfolding lock_named
+no_bucket_at shape k outside =
+    cond_both (ltb k shape.cpus) (named.Local k) _ (λ (l : DomainId). is_bucket l ≡ false) (λ _. refl)
+    (λ _. cond_both (eqb k shape.cpus) named.Global _ (λ (l : DomainId). is_bucket l ≡ false) (λ _. refl)
+    (λ _. cond_both (ltb k (first_bucket shape)) (named.CpuLru (k - first_set shape)) _ (λ (l : DomainId). is_bucket l ≡ false) (λ _. refl)
+    (λ no_set. cond_both (ltb k (first_freelist shape)) (named.Bucket (k - first_bucket shape)) (named.Freelist (k - first_freelist shape)) (λ (l : DomainId). is_bucket l ≡ false)
+    (λ bucket.
+    let from_there = ltb-false k (first_bucket shape) no_set in
+    let below = ltb-true k (first_freelist shape) bucket in
+    ⊎_elim (λ (less : k < first_bucket shape). absurd (omega arith)) (λ (past : first_freelist shape ≤ k). absurd (omega arith)) outside)
+    (λ _. refl))))
 
 pub bucket_named : (shape : Shape) (bucket : ℕ) → bucket < shape.buckets → lock_named shape (first_bucket shape + bucket) ≡ named.Bucket bucket
 bucket_named shape bucket within = named_by_number shape (named.Bucket bucket) (passes_below bucket shape.buckets within)
 
 pub has_bucket : (shape : Shape) (bucket : ℕ) → bucket < shape.buckets → has_lock shape (first_bucket shape + bucket) ≡ true
 has_bucket shape bucket within = ap (is_lock shape) (bucket_named shape bucket within) ∙ passes_below bucket shape.buckets within
+
+-- one bucket more, with how many turns it has
+pub counts_more : (shape : Shape) (log : Logs) (lost : ℕ → Bool) (n : ℕ) (counts now : List (Option ℕ)) (count : Option ℕ) → IsCount (lost (first_bucket shape + n)) (log (first_bucket shape + n)) count
+    → now ≡ counts ++ count ∷ [] → AreCounts shape log lost n counts → AreCounts shape log lost (n + 1) now
+counts_more shape log lost n counts now count is pushed are =
+    let long : length now ≡ n + 1 = ap length pushed ∙ length_push counts count ∙ ap (λ (m : ℕ). m + 1) are.counted in
+    let Counted : ℕ → Option ℕ → Type 0 = λ bucket found. IsCount (lost (first_bucket shape + bucket)) (log (first_bucket shape + bucket)) found in record {
+      counted = long;
+      each = λ bucket below. ⊎_elim {C = Counted bucket (get_or now bucket None)}
+          (λ (same : bucket ≡ n).
+          let last : get_or now bucket None ≡ count = ap (λ (l : List (Option ℕ)). get_or l bucket None) pushed ∙ get_or_push counts count None bucket (are.counted ∙ sym same) in
+          subst (λ (z : ℕ × Option ℕ). Counted z.0 z.1) (λ i. (sym same i, sym last i)) is)
+          (λ (other : bucket ≢ n).
+          let front : get_or now bucket None ≡ get_or counts bucket None = ap (λ (l : List (Option ℕ)). get_or l bucket None) pushed ∙ get_or_append_left counts (count ∷ []) None bucket (omega (arith, are.counted)) in
+          subst (Counted bucket) (sym front) (are.each bucket (omega arith)))
+          (cases_eq bucket n);
+    }
 
 pub of_ok : {T E P : Type 0} (r : Result T E) → IsOk r → OnOk r P → P
 of_ok (Ok x) is p = p
@@ -475,3 +508,7 @@ both_ok {T} {E} {P} {Q} {R} was now added so_far more = on_ok_weaker {P = IsOk w
 
 pub where_ok : {T E P Q : Type 0} (r : Result T E) → OnOk r P → (P → Q) → OnOk r Q
 where_ok {T} {E} {P} {Q} r holds more = on_ok_weaker {P = P} r more holds
+
+pub on_ok_always : {T E P : Type 0} (r : Result T E) → P → OnOk r P
+on_ok_always (Ok x) p = p
+on_ok_always (Err e) p = tt

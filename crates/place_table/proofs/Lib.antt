@@ -28,6 +28,7 @@ pub mod HomeSteps
 pub mod JoinedSpares
 pub mod Joins
 pub mod Leaves
+pub mod LogsTell
 pub mod Locks
 pub mod MapLeft
 pub mod MarksNoted
@@ -47,6 +48,7 @@ pub mod PlaceSteps
 pub mod Ranges
 pub mod Readings
 pub mod RealContents
+pub mod Recorded
 pub mod Refused
 pub mod Rehomes
 pub mod SharedOut
@@ -66,6 +68,7 @@ pub mod TicketsTaken
 pub mod TicketsClosed
 pub mod Touches
 pub mod TurnClears
+pub mod TurnPlaces
 pub mod TurnsOn
 pub mod WordSteps
 pub mod Worlds

@@ -1,7 +1,6 @@
 -- Passes once a CPU was split off, and once two were joined.
 use Rattle.std.proofs.Common.{◌≡◌, ◌≢◌, ℕ, ◌<◌, cond, Bool, true, false, List, [], ◌∷◌, ◌++◌, Option, None, Some, sym, refl, ap, ◌∙◌, subst, arith}
-use Rattle.std.specs.Prelude.{All, Vec}
-use Rattle.std.specs.Global.{Global}
+use Rattle.std.specs.Prelude.{All}
 use Rattle.std.proofs.lemmas.List.Elements.{All-append, All-cons, All-nil}
 use Rattle.atomic_table.specs.Seated.{TableId}
 use Rattle.map_types.specs.declared.attr.Shape.{Shape}
@@ -12,13 +11,15 @@ use Rattle.map_types.proofs.CreationLemmas.{bounds_of_shape}
 use Rattle.map_types.proofs.RowLemmas.{by_test}
 use Rattle.place_words.specs.declared.history.StrandStep.{StrandStep}
 use Rattle.place_table.specs.declared.content.Behind.{Behind}
-use Rattle.place_table.specs.declared.strands.FinishedStrand.{FinishedStrand}
+use Rattle.place_table.specs.declared.strands.TurnsMade.{TurnsMade}
 use Rattle.place_table.specs.declared.view.View.{View}
 use Rattle.place_table.specs.declared.view.Hold.{Hold}
 use Rattle.place_table.specs.declared.view.InHand.{InHand}
 use Rattle.place_table.specs.Views.{is_among, is_in_hand_of, without_cpu, in_hand_of, in_other_hands, in_no_hand_of, current_strand, all_strands, split_from, split_off, joined}
 use Rattle.place_table.specs.Plays.{Seated}
+use Rattle.place_table.specs.Logged.{HaveLogs}
 use Rattle.place_table.specs.Passes.{PassView, TableView, Carries, HasCpusOf, IsPass, IsPassOf, IsInNoCall, AreFinished, flags_of, spare_of, SparesDiffer, with_view, with_spares, CanSplit, Split, CanJoin, either_spare, Joined}
+use Rattle.place_table.proofs.Recorded.{no_log}
 use Rattle.place_table.proofs.Worlds.{true_false, by_bool, none_some, among_first}
 use Rattle.place_table.proofs.StrandMoves.{among_append}
 use Rattle.place_table.proofs.Splits.{among_without_same, among_without_other, others_same, others_other, own_same, own_other}
@@ -36,16 +37,18 @@ pub all_within : (v : View) → All (HasCpusOf v.shape) v.ended → HasCpusOf v.
 all_within v ended current =
     All-append (HasCpusOf v.shape) v.ended (current_strand v ∷ []) ended (All-cons (HasCpusOf v.shape) (current_strand v) [] current (All-nil (HasCpusOf v.shape)))
 
-module _ {v : View} {slots : List (ℕ × Behind)} {strand : List StrandStep} {spares : List (Option Stored)} {flags : List Bool} {ended : Option (Vec FinishedStrand Global)} (cpu : ℕ) (pass : IsPass v slots strand spares flags ended) where
+module _ {v : View} {slots : List (ℕ × Behind)} {strand : List StrandStep} {spares : List (Option Stored)} {flags : List Bool} {past : TurnsMade} (cpu : ℕ) (pass : IsPass v slots strand spares flags past) where
   -- what stays, once a CPU is split off
-  pub is_pass_left : (now : List (Option Stored)) (steps : List StrandStep) (left : List Bool) (kept : Option (Vec FinishedStrand Global)) (none : Vec FinishedStrand Global) (after : Seated) → v.held ≡ [] → after ≡ (split_from cpu v, slots) → steps ≡ [] → left ≡ flags_of (without_cpu cpu v.cpus) → kept ≡ Some none → none.items ≡ []
+  pub is_pass_left : (now : List (Option Stored)) (steps : List StrandStep) (left : List Bool) (kept : TurnsMade) (after : Seated) → v.held ≡ [] → after ≡ (split_from cpu v, slots) → steps ≡ [] → left ≡ flags_of (without_cpu cpu v.cpus) → kept.log.items ≡ [] → AreFinished [] kept.ended → HaveLogs v.shape [] kept.logs
       → spare_of cpu now ≡ None → SparesDiffer cpu spares now → IsPass after.0 after.1 steps now left kept
-  is_pass_left now steps left kept none after no_lock after_is no_steps flags_are kept_is no_strands gone stay =
-      subst (λ (z : Seated × Option (Vec FinishedStrand Global)). IsPass z.0.0 z.0.1 steps now left z.1) (λ i. (sym after_is i, sym kept_is i)) record {
-        carries = subst (λ (l : List Hold). Carries l slots) no_lock pass.carries;
+  is_pass_left now steps left kept after no_lock after_is no_steps flags_are no_turns no_strands no_logs gone stay =
+      subst (λ (z : Seated). IsPass z.0 z.1 steps now left kept) (sym after_is) record {
+        carries = subst (λ (l : List Hold). Carries v.shape l slots) no_lock pass.carries;
         strand_is = no_steps;
+        log_is = no_log v.shape kept.log.items no_turns;
         cpus_are = flags_are;
         ended_are = no_strands;
+        logs_are = no_logs;
         spares_fit = λ c body here. by_test c cpu (λ _. IsSized v.shape body)
             (λ same. absurd (none_some (sym gone ∙ (ap (λ (z : ℕ). spare_of z now) (sym same) ∙ here))))
             (λ other. pass.spares_fit c body (sym (stay c other) ∙ here));
@@ -59,14 +62,16 @@ module _ {v : View} {slots : List (ℕ × Behind)} {strand : List StrandStep} {s
       }
 
   -- and the new one
-  pub is_pass_off : (off : List (Option Stored)) (steps : List StrandStep) (one : List Bool) (kept : Option (Vec FinishedStrand Global)) (after : Seated) → is_among cpu v.cpus ≡ true → after ≡ (split_off cpu v, []) → steps ≡ [] → one ≡ flags_of (cpu ∷ []) → AreFinished (all_strands v) kept
+  pub is_pass_off : (off : List (Option Stored)) (steps : List StrandStep) (one : List Bool) (kept : TurnsMade) (after : Seated) → is_among cpu v.cpus ≡ true → after ≡ (split_off cpu v, []) → steps ≡ [] → one ≡ flags_of (cpu ∷ []) → kept.log.items ≡ [] → AreFinished (all_strands v) kept.ended → HaveLogs v.shape (all_strands v) kept.logs
       → spare_of cpu off ≡ spare_of cpu spares → ((c : ℕ) → c ≢ cpu → spare_of c off ≡ None) → IsPass after.0 after.1 steps off one kept
-  is_pass_off off steps one kept after has after_is none flags_are finished own no_others =
+  is_pass_off off steps one kept after has after_is none flags_are no_turns finished logged own no_others =
       subst (λ (z : Seated). IsPass z.0 z.1 steps off one kept) (sym after_is) record {
         carries = tt;
         strand_is = none;
+        log_is = no_log v.shape kept.log.items no_turns;
         cpus_are = flags_are;
         ended_are = finished;
+        logs_are = logged;
         spares_fit = λ c body here. by_test c cpu (λ _. IsSized v.shape body)
             (λ same. pass.spares_fit cpu body (sym own ∙ (ap (λ (z : ℕ). spare_of z off) (sym same) ∙ here)))
             (λ other. absurd (none_some (sym (no_others c other) ∙ here)));
@@ -167,15 +172,18 @@ kept_in_either (Some x) second after body is here f g = f (sym is ∙ here)
 in_theirs : (e c : ℕ) (cpus : List ℕ) (hand : List InHand) → is_in_hand_of e c (in_no_hand_of cpus hand) ≡ true → is_in_hand_of e c hand ≡ true
 in_theirs e c cpus hand in_hand = sym (in_others e c cpus hand (in_no_others e c cpus hand in_hand)) ∙ in_hand
 
-pub is_pass_joined : (v u : View) (slots others : List (ℕ × Behind)) (strand steps now : List StrandStep) (spares theirs all : List (Option Stored)) (flags more both : List Bool) (ended other_ended kept : Option (Vec FinishedStrand Global)) (after : Seated)
-    → IsPass v slots strand spares flags ended → IsPass u others steps theirs more other_ended → v.held ≡ [] → u.shape ≡ v.shape → after ≡ (joined v u, slots) → now ≡ [] → both ≡ flags_of (v.cpus ++ u.cpus) → AreFinished (all_strands v ++ all_strands u) kept
+pub is_pass_joined : (v u : View) (slots others : List (ℕ × Behind)) (strand steps now : List StrandStep) (spares theirs all : List (Option Stored)) (flags more both : List Bool) (past other_past kept : TurnsMade) (after : Seated)
+    → IsPass v slots strand spares flags past → IsPass u others steps theirs more other_past → v.held ≡ [] → u.shape ≡ v.shape → after ≡ (joined v u, slots) → now ≡ [] → both ≡ flags_of (v.cpus ++ u.cpus) → kept.log.items ≡ [] → AreFinished (all_strands v ++ all_strands u) kept.ended
+    → HaveLogs v.shape (all_strands v ++ all_strands u) kept.logs
     → ((cpu : ℕ) → spare_of cpu all ≡ either_spare (spare_of cpu spares) (spare_of cpu theirs)) → IsPass after.0 after.1 now all both kept
-is_pass_joined v u slots others strand steps now spares theirs all flags more both ended other_ended kept after pass other no_lock same_shape after_is none flags_are finished spares_are =
+is_pass_joined v u slots others strand steps now spares theirs all flags more both past other_past kept after pass other no_lock same_shape after_is none flags_are no_turns finished logged spares_are =
     subst (λ (z : Seated). IsPass z.0 z.1 now all both kept) (sym after_is) record {
-      carries = subst (λ (l : List Hold). Carries l slots) no_lock pass.carries;
+      carries = subst (λ (l : List Hold). Carries v.shape l slots) no_lock pass.carries;
       strand_is = none;
+      log_is = no_log v.shape kept.log.items no_turns;
       cpus_are = flags_are;
       ended_are = finished;
+      logs_are = logged;
       spares_fit = λ c body here. kept_in_either (spare_of c spares) (spare_of c theirs) (spare_of c all) body (spares_are c) here
           (λ ours. pass.spares_fit c body ours)
           (λ _ is. subst (λ (z : Shape). IsSized z body) same_shape (other.spares_fit c body is));

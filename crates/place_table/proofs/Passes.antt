@@ -26,7 +26,9 @@ use Rattle.place_words.specs.State.{is_bucket}
 use Rattle.place_table.specs.declared.view.HomeRead.{HomeRead}
 use Rattle.place_table.specs.declared.content.Behind.{Behind}
 use Rattle.place_table.specs.declared.content.Content.{Content}
-use Rattle.place_table.specs.declared.strands.FinishedStrand.{FinishedStrand}
+use Rattle.place_words.specs.declared.turn_logs.LoggedTurn.{LoggedTurn}
+use Rattle.place_table.specs.declared.content.SlotTurns.{SlotTurns}
+use Rattle.place_table.specs.declared.strands.TurnsMade.{TurnsMade}
 use Rattle.place_table.specs.declared.view.View.{View}
 use Rattle.place_table.specs.declared.view.Hold.{Hold}
 use Rattle.place_table.specs.declared.view.Notes.{Notes}
@@ -34,7 +36,7 @@ use Rattle.place_table.specs.declared.view.BitSeen.{BitSeen}
 use Rattle.place_table.specs.Rules.{KeptAs}
 use Rattle.place_table.specs.Contents.{content_told, lists_of, FitsLock}
 use Rattle.place_table.specs.Flushes.{flushed_since}
-use Rattle.place_table.specs.Views.{is_among, is_in_hand_of, hold_at, known_log, home_known, holding, given, with_lost, losing, holds_below, noted, owner_read, home_read, with_homes_read}
+use Rattle.place_table.specs.Views.{is_among, is_in_hand_of, hold_at, known_log, home_known, holding, turned, given, with_lost, losing, holds_below, noted, owner_read, home_read, with_homes_read}
 use Rattle.place_table.specs.declared.view.Ticket.{Ticket}
 use Rattle.place_table.specs.declared.view.Ticket.TheVariants.{Unread, Drawn}
 use Rattle.place_table.specs.Views.{ticketed, ticket_of, number_by, next, numbered_entry, reached_by, refused_by}
@@ -43,8 +45,11 @@ use Rattle.place_table.specs.Nested.{IsInside, AreOutside}
 use Rattle.place_table.specs.Plays.{TakesTicket}
 use Rattle.place_table.specs.Owners.{InnermostOwnersFit}
 use Rattle.place_table.proofs.TicketsTaken.{IsTicketed, put_unticketed, notes_unticketed, owners_unticketed, numbered_by}
-use Rattle.place_table.specs.Recording.{Recorded, IsLost, RecordsIn, Records, recorded_step, last_from, last_in, entry_given, no_entry, history_with}
-use Rattle.place_table.specs.Plays.{Seated, Took, AreElements, IsApartFromHands, GivesBack, GivesSome, entry_by, IsKeptOrLost, MayPut, MayGive, OwnerFits, SeesOwner, HomeFits, SeesHome}
+use Rattle.place_table.specs.Recording.{Recorded, Records, recorded_step}
+use Rattle.place_table.specs.SlotTurns.{HasTurns}
+use Rattle.place_table.specs.Logged.{IsLogOf}
+use Rattle.place_table.proofs.Recorded.{IsHeldHistory, its_ticket, log_given, log_more, number_recorded, one_more, only_if, renumbered}
+use Rattle.place_table.specs.Plays.{IsInnermost, Seated, Took, AreElements, IsApartFromHands, GivesBack, GivesSome, entry_by, IsKeptOrLost, MayPut, MayGive, OwnerFits, SeesOwner, HomeFits, SeesHome}
 use Rattle.place_table.specs.TurnNotes.{NotesFit, InnermostFits}
 use Rattle.place_table.specs.Passes.{PassView, TableView, Carries, HandsReal, IsPass, IsPassOf, with_view, without_content, entry_of, HasBegun, SparesDiffer, TookLock, CanGive, Gave, GaveSome, SawOwner, SawHome, spare_of}
 use Rattle.place_table.proofs.CodeLemmas.{one_owner, one_home, has_owner_code}
@@ -62,16 +67,18 @@ unfolding first_behind
 same_behind slots k a b below others one other = ap (first_behind a) (sym one ∙ other)
 
 -- a pass once a lock is taken and its content is out
-pub is_pass_taken : {flags : List Bool} {ended : Option (Vec FinishedStrand Global)} (v : View) (slots : List (ℕ × Behind)) (strand : List StrandStep) (spares : List (Option Stored)) (k cpu : ℕ) (taken out : Seated) → IsPass v slots strand spares flags ended → Took k cpu (v, slots) taken
-    → (b : Behind) → taken.1 ≡ (k, b) ∷ rest taken.1 → out ≡ (taken.0, (k, without_content b) ∷ rest taken.1) → IsPass out.0 out.1 strand spares flags ended
-is_pass_taken {flags} {ended} v slots strand spares k cpu taken out pass took b slot left =
+pub is_pass_taken : {flags : List Bool} {past : TurnsMade} (v : View) (slots : List (ℕ × Behind)) (strand : List StrandStep) (spares : List (Option Stored)) (k cpu : ℕ) (taken out : Seated) → IsPass v slots strand spares flags past → Took k cpu (v, slots) taken
+    → (b : Behind) → taken.1 ≡ (k, b) ∷ rest taken.1 → out ≡ (taken.0, (k, without_content b) ∷ rest taken.1) → IsPass out.0 out.1 strand spares flags past
+is_pass_taken {flags} {past} v slots strand spares k cpu taken out pass took b slot left =
     let b_is : b ≡ took.behind = same_behind taken.1 k b took.behind (rest taken.1) slots slot (ap (λ (z : Seated). z.1) took.after_is) in
     let out_is : out ≡ (holding took.at took.hold v, (k, without_content took.behind) ∷ slots) = left ∙ (λ i. ((took.after_is i).0, (k, without_content (b_is i)) ∷ rest (took.after_is i).1)) in
-    subst (λ (z : Seated). IsPass z.0 z.1 strand spares flags ended) (sym out_is) record {
-      carries = (sym took.lock, refl, took.reads.kept, pass.carries);
+    subst (λ (z : Seated). IsPass z.0 z.1 strand spares flags past) (sym out_is) record {
+      carries = (sym took.lock, refl, subst (λ (n : ℕ). KeptAs (lock_named v.shape n) took.hold.lost took.hold.log took.behind) (sym took.lock) took.reads.kept, pass.carries);
       strand_is = pass.strand_is;
+      log_is = pass.log_is;
       cpus_are = pass.cpus_are;
       ended_are = pass.ended_are;
+      logs_are = pass.logs_are;
       spares_fit = pass.spares_fit;
       within = pass.within;
       ended_within = pass.ended_within;
@@ -120,120 +127,47 @@ takes_of t lock before after here k cpu old taken out b is begun mine real befor
     }
 
 -- what a pass carries for the lock that it took last
-pub carried_head : (held : List Hold) (slots : List (ℕ × Behind)) (hold : Hold) (below : List Hold) (k : ℕ) → held ≡ hold ∷ below → hold.lock ≡ k → Carries held slots
-    → (b : Behind) × (slots ≡ (k, b) ∷ rest slots) × (b.content ≡ None) × KeptAs hold.lost hold.log b × Carries below (rest slots)
-carried_head held slots hold below k held_is lock carries = go slots (subst (λ l. Carries l slots) held_is carries)
+pub carried_head : (shape : Shape) (held : List Hold) (slots : List (ℕ × Behind)) (hold : Hold) (below : List Hold) (k : ℕ) → held ≡ hold ∷ below → hold.lock ≡ k → Carries shape held slots
+    → (b : Behind) × (slots ≡ (k, b) ∷ rest slots) × (b.content ≡ None) × KeptAs (lock_named shape hold.lock) hold.lost hold.log b × Carries shape below (rest slots)
+carried_head shape held slots hold below k held_is lock carries = go slots (subst (λ l. Carries shape l slots) held_is carries)
   where
-    go : (slots : List (ℕ × Behind)) → Carries (hold ∷ below) slots → (b : Behind) × (slots ≡ (k, b) ∷ rest slots) × (b.content ≡ None) × KeptAs hold.lost hold.log b × Carries below (rest slots)
+    go : (slots : List (ℕ × Behind)) → Carries shape (hold ∷ below) slots → (b : Behind) × (slots ≡ (k, b) ∷ rest slots) × (b.content ≡ None) × KeptAs (lock_named shape hold.lock) hold.lost hold.log b × Carries shape below (rest slots)
     go [] carries = absurd carries
     go (slot ∷ slots) carries = (slot.1, ap (λ (j : ℕ). (j, slot.1) ∷ slots) (carries.0 ∙ lock), carries.1, carries.2, carries.3)
 
 -- and for those below it
-carries_below : (held : List Hold) (slots : List (ℕ × Behind)) → Carries held slots → Carries (holds_below held) (rest slots)
-carries_below [] [] carries = tt
-carries_below [] (slot ∷ slots) carries = absurd carries
-carries_below (hold ∷ holds) [] carries = absurd carries
-carries_below (hold ∷ holds) (slot ∷ slots) carries = carries.3
+carries_below : (shape : Shape) (held : List Hold) (slots : List (ℕ × Behind)) → Carries shape held slots → Carries shape (holds_below held) (rest slots)
+carries_below shape [] [] carries = tt
+carries_below shape [] (slot ∷ slots) carries = absurd carries
+carries_below shape (hold ∷ holds) [] carries = absurd carries
+carries_below shape (hold ∷ holds) (slot ∷ slots) carries = carries.3
 
 -- the slot of the lock that is given back
-pub slot_given : (t : TableView) (lock : DomainId) (p : PassView) (here : Content) (part : Part) (can : CanGive t lock p here part) (v : View) (slots : List (ℕ × Behind)) (k : ℕ) → v ≡ p.view → k ≡ lock_number t.shape lock → Carries v.held slots
-    → (b : Behind) × (slots ≡ (k, b) ∷ rest slots) × (b.content ≡ None) × KeptAs can.hold.lost can.hold.log b × Carries can.below (rest slots)
+pub slot_given : (t : TableView) (lock : DomainId) (p : PassView) (here : Content) (part : Part) (can : CanGive t lock p here part) (v : View) (slots : List (ℕ × Behind)) (k : ℕ) → v ≡ p.view → k ≡ lock_number t.shape lock → Carries v.shape v.held slots
+    → (b : Behind) × (slots ≡ (k, b) ∷ rest slots) × (b.content ≡ None) × KeptAs (lock_named v.shape can.hold.lock) can.hold.lost can.hold.log b × Carries v.shape can.below (rest slots)
 slot_given t lock p here part can v slots k v_is k_is carries =
-    carried_head v.held slots can.hold can.below k (ap (λ (z : View). z.held) v_is ∙ can.innermost) (can.lock_is ∙ sym k_is) carries
+    carried_head v.shape v.held slots can.hold can.below k (ap (λ (z : View). z.held) v_is ∙ can.innermost) (can.lock_is ∙ sym k_is) carries
 
 -- its record is that of the hold
 pub kept_given : (t : TableView) (lock : DomainId) (p : PassView) (here : Content) (part : Part) (can : CanGive t lock p here part) (v : View) (slots : List (ℕ × Behind)) (k : ℕ) (found : Behind) (below : List (ℕ × Behind))
-    → v ≡ p.view → k ≡ lock_number t.shape lock → Carries v.held slots → slots ≡ (k, found) ∷ below → KeptAs can.hold.lost can.hold.log found
+    → v ≡ p.view → k ≡ lock_number t.shape lock → Carries v.shape v.held slots → slots ≡ (k, found) ∷ below → KeptAs lock can.hold.lost can.hold.log found
 kept_given t lock p here part can v slots k found below v_is k_is carries read =
     let slot = slot_given t lock p here part can v slots k v_is k_is carries in
-    subst (KeptAs can.hold.lost can.hold.log) (same_behind slots k slot.0 found (rest slots) below slot.1 read) slot.3
-
--- the entry that was put in last
-last_added : (first entry : Entry) (entries : List Entry) → last_from first (entries ++ entry ∷ []) ≡ entry
-last_added first entry [] = refl
-last_added first entry (next ∷ entries) = last_added next entry entries
-
-last_of_history : (history now : Option (Vec Entry Global)) (lock : DomainId) (entry : Entry) (before after : List StrandStep) (recorded : Recorded) → RecordsIn history now lock entry before after recorded → last_in now ≡ entry
-last_of_history None now lock entry before after recorded records = absurd records
-last_of_history (Some history) None lock entry before after recorded records = absurd records
-last_of_history (Some history) (Some now) lock entry before after recorded records = ap (last_from no_entry) records.0 ∙ last_added no_entry entry history.items
-
-lost_of_recorded : (history now : Option (Vec Entry Global)) (lock : DomainId) (entry : Entry) (before after : List StrandStep) (recorded : Recorded) → RecordsIn history now lock entry before after recorded → recorded.lost ≡ None
-lost_of_recorded None now lock entry before after recorded records = absurd records
-lost_of_recorded (Some history) None lock entry before after recorded records = absurd records
-lost_of_recorded (Some history) (Some now) lock entry before after recorded records = records.1
-
--- the entry that a lock is given back with is the one that was recorded or handed back
-pub entry_given_is : (history : Option (Vec Entry Global)) (lock : DomainId) (entry : Entry) (before after : List StrandStep) (recorded : Recorded) (k : ℕ) (here : Option Content) (slots below : List (ℕ × Behind))
-    → Records history lock entry before after recorded → slots ≡ (k, record { content = here; history = recorded.history }) ∷ below → entry_given recorded.lost slots ≡ entry
-entry_given_is history lock entry before after recorded k here slots below records slot =
-    ⊎_elim
-    (λ (lost : IsLost entry before after recorded). ap (λ o. entry_given o slots) lost.1)
-    (λ (kept : RecordsIn history recorded.history lock entry before after recorded).
-    (λ i. entry_given (lost_of_recorded history recorded.history lock entry before after recorded kept i) (slot i)) ∙ last_of_history history recorded.history lock entry before after recorded kept)
-    records
-
--- a history that is that of the hold has the entry more, and the strand the step, or nothing is recorded
-kept_in : (history now : Option (Vec Entry Global)) (lock : DomainId) (entry : Entry) (before after : List StrandStep) (recorded : Recorded) (lost : Bool) (log : List Entry)
-    → MatchOption history (Unit {0}) (λ u. (lost ≡ false) × (u.items ≡ log)) → RecordsIn history now lock entry before after recorded
-    → MatchOption now (after ≡ before) (λ u. (lost ≡ false) × (u.items ≡ log ++ entry ∷ []) × (after ≡ before ++ recorded_step lock (length log) ∷ []))
-kept_in None now lock entry before after recorded lost log was records = absurd records
-kept_in (Some history) None lock entry before after recorded lost log was records = absurd records
-kept_in (Some history) (Some now) lock entry before after recorded lost log was records =
-    (was.0, records.0 ∙ ap (λ l. l ++ entry ∷ []) was.1, records.2 ∙ ap (λ l. before ++ recorded_step lock (length l) ∷ []) was.1)
-
-one_more : (history : Option (Vec Entry Global)) (lock : DomainId) (entry : Entry) (before after : List StrandStep) (recorded : Recorded) (lost : Bool) (log : List Entry)
-    → MatchOption history (Unit {0}) (λ u. (lost ≡ false) × (u.items ≡ log)) → Records history lock entry before after recorded
-    → MatchOption recorded.history (after ≡ before) (λ u. (lost ≡ false) × (u.items ≡ log ++ entry ∷ []) × (after ≡ before ++ recorded_step lock (length log) ∷ []))
-one_more history lock entry before after recorded lost log was records =
-    ⊎_elim
-    (λ (gone : IsLost entry before after recorded).
-    subst (λ (o : Option (Vec Entry Global)). MatchOption o (after ≡ before) (λ u. (lost ≡ false) × (u.items ≡ log ++ entry ∷ []) × (after ≡ before ++ recorded_step lock (length log) ∷ []))) (sym gone.0) gone.2)
-    (λ (kept : RecordsIn history recorded.history lock entry before after recorded). kept_in history recorded.history lock entry before after recorded lost log was kept)
-    records
+    let shape_is : v.shape ≡ t.shape = ap (λ (z : View). z.shape) v_is ∙ can.of_table.1 in
+    let named : lock_named v.shape can.hold.lock ≡ lock = (λ i. lock_named (shape_is i) (can.lock_is i)) ∙ named_by_number t.shape lock can.there in
+    subst (λ (z : DomainId × Behind). KeptAs z.0 can.hold.lost can.hold.log z.1) (λ i. (named i, same_behind slots k slot.0 found (rest slots) below slot.1 read i)) slot.3
 
 -- what is put back, at the seat
 may_put_at : (shape key : Shape) (v w : View) (hold : Hold) (entry e : Entry) (here : Content) → key ≡ shape → w ≡ v → e ≡ entry → MayPut shape v hold entry.cpu entry.part here → MayPut key w hold e.cpu e.part here
 may_put_at shape key v w hold entry e here key_is w_is e_is may =
     subst (λ (z : Shape × View × Entry). MayPut z.0 z.1 hold z.2.cpu z.2.part here) (λ i. (sym key_is i, sym w_is i, sym e_is i)) may
 
--- what is in a history that is kept
-pub kept_if : (drawn : Option ℕ) (lost : Bool) (log : List Entry) (found : Behind) → KeptAs lost log found → MatchOption (history_with drawn found.history) (Unit {0}) (λ u. (lost ≡ false) × (u.items ≡ log))
-kept_if None lost log found kept = tt
-kept_if (Some t) lost log found kept = go found.history kept
-  where
-    go : (history : Option (Vec Entry Global)) → MatchOption history (lost ≡ true) (λ u. (lost ≡ false) × (u.items ≡ log)) → MatchOption history (Unit {0}) (λ u. (lost ≡ false) × (u.items ≡ log))
-    go None kept = tt
-    go (Some u) kept = kept
-
--- where there is an entry, it has the ticket that was drawn
-ticket_in : (history now : Option (Vec Entry Global)) (lock : DomainId) (entry : Entry) (before after : List StrandStep) (recorded : Recorded) (A : Type 0) → MatchOption history (Unit {0}) (λ _. A) → RecordsIn history now lock entry before after recorded → MatchOption now (Unit {0}) (λ _. A)
-ticket_in None now lock entry before after recorded A is records = absurd records
-ticket_in (Some history) None lock entry before after recorded A is records = absurd records
-ticket_in (Some history) (Some now) lock entry before after recorded A is records = is
-
-its_ticket : (history : Option (Vec Entry Global)) (lock : DomainId) (entry : Entry) (before after : List StrandStep) (recorded : Recorded) (A : Type 0) → MatchOption history (Unit {0}) (λ _. A) → Records history lock entry before after recorded → MatchOption recorded.history (Unit {0}) (λ _. A)
-its_ticket history lock entry before after recorded A is records =
-    ⊎_elim
-    (λ (gone : IsLost entry before after recorded). subst (λ (o : Option (Vec Entry Global)). MatchOption o (Unit {0}) (λ _. A)) (sym gone.0) tt)
-    (λ (kept : RecordsIn history recorded.history lock entry before after recorded). ticket_in history recorded.history lock entry before after recorded A is kept)
-    records
-
-only_if : (history : Option (Vec Entry Global)) (A B : Type 0) → (A → B) → MatchOption history (Unit {0}) (λ _. A) → MatchOption history (Unit {0}) (λ _. B)
-only_if None A B f is = tt
-only_if (Some u) A B f is = f is
-
--- an entry that has its ticket has its number
-renumbered : (history : Option (Vec Entry Global)) (v : View) (entry : Entry) (A : Type 0) (F : Vec Entry Global → Entry → Type 0) → MatchOption history (Unit {0}) (λ _. v.ticket ≡ Drawn entry.ticket) → MatchOption history A (λ u. F u entry) → MatchOption history A (λ u. F u (numbered_entry v entry))
-renumbered None v entry A F drawn is = is
-renumbered (Some u) v entry A F drawn is = subst (λ (n : ℕ). F u (record { ticket = n; cpu = entry.cpu; call = entry.call; part = entry.part })) (sym (ap (λ (x : Ticket). number_by x (next v)) drawn)) is
-
 -- the lock may be given back with what was recorded
-pub may_give : (t : TableView) (lock : DomainId) (p : PassView) (here : Content) (ticket : ℕ) (part : Part) (can : CanGive t lock p here part) (key : Shape) (v : View) (history : Option (Vec Entry Global)) (entry e : Entry) (strand now : List StrandStep) (recorded : Recorded)
-    → key ≡ t.shape → v ≡ p.view → entry ≡ entry_of p ticket part → e ≡ numbered_entry v entry → IsTaken v.ticket → strand ≡ p.view.kept → MatchOption history (Unit {0}) (λ u. (can.hold.lost ≡ false) × (u.items ≡ can.hold.log)) → MatchOption history (Unit {0}) (λ _. v.ticket ≡ Drawn entry.ticket)
-    → Records history lock entry strand now recorded
+pub may_give : (t : TableView) (lock : DomainId) (p : PassView) (here : Content) (ticket : ℕ) (part : Part) (can : CanGive t lock p here part) (key : Shape) (v : View) (history : Option SlotTurns) (log : List LoggedTurn) (entry e : Entry) (strand now : List StrandStep) (recorded : Recorded)
+    → key ≡ t.shape → v ≡ p.view → entry ≡ entry_of p ticket part → e ≡ numbered_entry v entry → IsTaken v.ticket → strand ≡ p.view.kept → IsHeldHistory lock can.hold history → MatchOption history (Unit {0}) (λ _. v.ticket ≡ Drawn entry.ticket)
+    → Records history log lock entry strand now recorded
     → MayGive key v can.hold e now record { content = Some here; history = recorded.history }
-may_give t lock p here ticket part can key v history entry e strand now recorded key_is v_is entry_is e_is taken strand_is kept drawn records =
+may_give t lock p here ticket part can key v history log entry e strand now recorded key_is v_is entry_is e_is taken strand_is kept drawn records =
     let hold : Hold = can.hold in
     let named : lock_named key hold.lock ≡ lock = (λ i. lock_named (key_is i) (can.lock_is i)) ∙ named_by_number t.shape lock can.there in
     let strand_kept : strand ≡ v.kept = strand_is ∙ sym (ap (λ (z : View). z.kept) v_is) in
@@ -244,11 +178,11 @@ may_give t lock p here ticket part can key v history entry e strand now recorded
       taken = taken;
       numbered = ap (λ (z : Entry). z.ticket) e_is;
       ticketed = only_if recorded.history (v.ticket ≡ Drawn entry.ticket) (v.ticket ≡ Drawn e.ticket) (λ is. is ∙ ap Drawn (sym (ap (λ (z : Entry). z.ticket) e_is ∙ ap (λ (x : Ticket). number_by x (next v)) is)))
-          (its_ticket history lock entry strand now recorded (v.ticket ≡ Drawn entry.ticket) drawn records);
-      records = subst (λ (z : List StrandStep × DomainId × Entry). MatchOption recorded.history (now ≡ z.0) (λ u. (hold.lost ≡ false) × (u.items ≡ hold.log ++ z.2 ∷ []) × (now ≡ z.0 ++ recorded_step z.1 (length hold.log) ∷ [])))
+          (its_ticket history log lock entry strand now recorded (v.ticket ≡ Drawn entry.ticket) drawn records);
+      records = subst (λ (z : List StrandStep × DomainId × Entry). MatchOption recorded.history (now ≡ z.0) (λ turns. (hold.lost ≡ false) × HasTurns z.1 (hold.log ++ z.2 ∷ []) turns × (now ≡ z.0 ++ recorded_step z.1 (length hold.log) ∷ [])))
           (λ i. (strand_kept i, sym named i, sym e_is i))
-          (renumbered recorded.history v entry (now ≡ strand) (λ u (z : Entry). (hold.lost ≡ false) × (u.items ≡ hold.log ++ z ∷ []) × (now ≡ strand ++ recorded_step lock (length hold.log) ∷ []))
-          (its_ticket history lock entry strand now recorded (v.ticket ≡ Drawn entry.ticket) drawn records) (one_more history lock entry strand now recorded hold.lost hold.log kept records));
+          (renumbered recorded.history v entry (now ≡ strand) (λ turns (z : Entry). (hold.lost ≡ false) × HasTurns lock (hold.log ++ z ∷ []) turns × (now ≡ strand ++ recorded_step lock (length hold.log) ∷ []))
+          (its_ticket history log lock entry strand now recorded (v.ticket ≡ Drawn entry.ticket) drawn records) (one_more history log lock entry strand now recorded hold kept records));
       inside = subst (λ (z : Shape × Part × List Hold). IsInside z.0 z.1 z.2)
           (λ i. (sym key_is i, ap (λ (y : Entry). y.part) (sym (e_is ∙ ap (numbered_entry v) entry_is)) i, sym (ap (λ (z : View). holds_below z.held) v_is ∙ ap holds_below can.innermost) i)) can.inside;
       noted = subst (λ (z : Shape × View × Part × List Notes). InnermostFits z.0 z.1 hold z.2 z.3)
@@ -273,15 +207,33 @@ may_lose t lock p here part can key v key_is v_is taken = record {
   owners_fit = λ lru. subst (λ (z : Shape × View × List Notes). InnermostOwnersFit z.0 z.1 can.hold p.cpu part z.2) (λ i. (sym key_is i, sym v_is i, sym (ap (λ (z : View). z.notes) v_is ∙ can.notes_are) i)) (can.owners_fit (subst (λ (z : Shape). IsTrue (is_lru z.kind)) key_is lru));
 }
 
+-- the log with what was recorded
+pub log_at_give : (t : TableView) (lock : DomainId) (p : PassView) (here : Content) (part : Part) (can : CanGive t lock p here part) (v ready : View) (x : Ticket) (n : ℕ) (xs : List WordStep) (history : Option SlotTurns) (log : List LoggedTurn) (entry e : Entry) (strand now : List StrandStep) (recorded : Recorded)
+    → v ≡ p.view → ready ≡ ticketed x n xs v → e ≡ numbered_entry ready entry → strand ≡ v.kept → IsLogOf v.shape v.steps v.kept log → IsHeldHistory lock can.hold history → MatchOption history (Unit {0}) (λ _. ready.ticket ≡ Drawn entry.ticket) → Records history log lock entry strand now recorded
+    → (hold : Hold) (below : List Hold) → IsInnermost ready hold below → IsLogOf v.shape (v.steps ++ turned hold.lock hold.log e (ticketed x n xs v) ∷ []) now recorded.log
+log_at_give t lock p here part can v ready x n xs history log entry e strand now recorded v_is ready_is e_is strand_is log_is kept drawn records hold below inner =
+    let same : hold ≡ can.hold = head_is (sym inner ∙ (ap (λ (z : View). z.held) ready_is ∙ (ap (λ (z : View). z.held) v_is ∙ can.innermost))) in
+    let shape_is : v.shape ≡ t.shape = ap (λ (z : View). z.shape) v_is ∙ can.of_table.1 in
+    let named : lock_named v.shape can.hold.lock ≡ lock = (λ i. lock_named (shape_is i) (can.lock_is i)) ∙ named_by_number t.shape lock can.there in
+    subst (λ (h : Hold). IsLogOf v.shape (v.steps ++ turned h.lock h.log e (ticketed x n xs v) ∷ []) now recorded.log) (sym same)
+    (log_given history v.shape v.steps (turned can.hold.lock can.hold.log e (ticketed x n xs v)) log lock entry strand now recorded can.hold named refl
+    (λ none. e_is ∙ number_recorded history log lock ready entry strand now recorded drawn records none) (subst (λ (l : List StrandStep). IsLogOf v.shape v.steps l log) (sym strand_is) log_is) kept records)
+  where
+    head_is : {A : Type 0} {x y : A} {xs ys : List A} → x ∷ xs ≡ y ∷ ys → x ≡ y
+    head_is e = cc
+
 -- a pass once its lock is given back
-is_pass_back : {flags : List Bool} {ended : Option (Vec FinishedStrand Global)} (v : View) (x : Ticket) (n : ℕ) (xs : List WordStep) (slots : List (ℕ × Behind)) (strand now : List StrandStep) (spares : List (Option Stored)) (at : ℕ) (hold : Hold) (entry : Entry) (kept : List StrandStep) (lost : List ℕ) (after : Seated) → IsPass v slots strand spares flags ended
-    → after ≡ (with_lost lost (given at hold entry kept (ticketed x n xs v)), rest slots) → now ≡ kept → IsPass after.0 after.1 now spares flags ended
-is_pass_back {flags} {ended} v x n xs slots strand now spares at hold entry kept lost after pass after_is now_is =
-    subst (λ (z : Seated). IsPass z.0 z.1 now spares flags ended) (sym after_is) record {
-      carries = carries_below v.held slots pass.carries;
+is_pass_back : {flags : List Bool} {past : TurnsMade} (v : View) (x : Ticket) (n : ℕ) (xs : List WordStep) (slots : List (ℕ × Behind)) (strand now : List StrandStep) (log : Vec LoggedTurn Global) (spares : List (Option Stored)) (at : ℕ) (hold : Hold) (entry : Entry) (kept : List StrandStep) (lost : List ℕ) (after : Seated) → IsPass v slots strand spares flags past
+    → IsLogOf v.shape (v.steps ++ turned hold.lock hold.log entry (ticketed x n xs v) ∷ []) kept log.items
+    → after ≡ (with_lost lost (given at hold entry kept (ticketed x n xs v)), rest slots) → now ≡ kept → IsPass after.0 after.1 now spares flags (record past { log = log })
+is_pass_back {flags} {past} v x n xs slots strand now log spares at hold entry kept lost after pass log_is after_is now_is =
+    subst (λ (z : Seated). IsPass z.0 z.1 now spares flags (record past { log = log })) (sym after_is) record {
+      carries = carries_below v.shape v.held slots pass.carries;
       strand_is = now_is;
+      log_is = log_is;
       cpus_are = pass.cpus_are;
       ended_are = pass.ended_are;
+      logs_are = pass.logs_are;
       spares_fit = pass.spares_fit;
       within = pass.within;
       ended_within = pass.ended_within;
@@ -289,18 +241,20 @@ is_pass_back {flags} {ended} v x n xs slots strand now spares at hold entry kept
       unread = refl;
     }
 
-pub is_pass_given : {flags : List Bool} {ended : Option (Vec FinishedStrand Global)} (v : View) (x : Ticket) (n : ℕ) (xs : List WordStep) (slots : List (ℕ × Behind)) (strand now : List StrandStep) (spares : List (Option Stored)) (entry : Entry) (kept : List StrandStep) (put after : Seated) → IsPass v slots strand spares flags ended
-    → put.0 ≡ ticketed x n xs v → rest put.1 ≡ rest slots → GivesBack entry kept put after → now ≡ kept → IsPass after.0 after.1 now spares flags ended
-is_pass_given v x n xs slots strand now spares entry kept put after pass put_is below_is gives now_is =
+pub is_pass_given : {flags : List Bool} {past : TurnsMade} (v : View) (x : Ticket) (n : ℕ) (xs : List WordStep) (slots : List (ℕ × Behind)) (strand now : List StrandStep) (log : Vec LoggedTurn Global) (spares : List (Option Stored)) (entry : Entry) (kept : List StrandStep) (put after : Seated) → IsPass v slots strand spares flags past
+    → ((hold : Hold) (below : List Hold) → IsInnermost put.0 hold below → IsLogOf v.shape (v.steps ++ turned hold.lock hold.log entry (ticketed x n xs v) ∷ []) kept log.items)
+    → put.0 ≡ ticketed x n xs v → rest put.1 ≡ rest slots → GivesBack entry kept put after → now ≡ kept → IsPass after.0 after.1 now spares flags (record past { log = log })
+is_pass_given v x n xs slots strand now log spares entry kept put after pass log_is put_is below_is gives now_is =
     let after_is : after ≡ (given gives.at gives.hold entry kept (ticketed x n xs v), rest slots) = gives.after_is ∙ (λ i. (given gives.at gives.hold entry kept (put_is i), below_is i)) in
-    is_pass_back v x n xs slots strand now spares gives.at gives.hold entry kept v.lost after pass after_is now_is
+    is_pass_back v x n xs slots strand now log spares gives.at gives.hold entry kept v.lost after pass (log_is gives.hold gives.below gives.innermost) after_is now_is
 
 -- and the same without a part
-pub is_pass_lost : {flags : List Bool} {ended : Option (Vec FinishedStrand Global)} (v : View) (x : Ticket) (n : ℕ) (xs : List WordStep) (slots : List (ℕ × Behind)) (strand : List StrandStep) (spares : List (Option Stored)) (cpu call : ℕ) (put after : Seated) → IsPass v slots strand spares flags ended
-    → put.0 ≡ ticketed x n xs v → rest put.1 ≡ rest slots → GivesSome cpu call put after → IsPass after.0 after.1 strand spares flags ended
-is_pass_lost v x n xs slots strand spares cpu call put after pass put_is below_is gives =
-    let after_is : after ≡ (losing gives.at gives.hold (entry_by (ticket_of (ticketed x n xs v)) cpu call gives.part) (ticketed x n xs v), rest slots) = gives.after_is ∙ (λ i. (losing gives.at gives.hold (entry_by (ticket_of (put_is i)) cpu call gives.part) (put_is i), below_is i)) in
-    is_pass_back v x n xs slots strand strand spares gives.at gives.hold (entry_by (ticket_of (ticketed x n xs v)) cpu call gives.part) v.kept (gives.hold.lock ∷ v.lost) after pass after_is pass.strand_is
+pub is_pass_lost : {flags : List Bool} {past : TurnsMade} (v : View) (x : Ticket) (n : ℕ) (xs : List WordStep) (slots : List (ℕ × Behind)) (strand : List StrandStep) (spares : List (Option Stored)) (cpu call : ℕ) (put after : Seated) → IsPass v slots strand spares flags past
+    → put.0 ≡ ticketed x n xs v → rest put.1 ≡ rest slots → GivesSome cpu call put after → IsPass after.0 after.1 strand spares flags past
+is_pass_lost {flags} {past} v x n xs slots strand spares cpu call put after pass put_is below_is gives =
+    let entry : Entry = entry_by (ticket_of (ticketed x n xs v)) cpu call gives.part in
+    let after_is : after ≡ (losing gives.at gives.hold entry (ticketed x n xs v), rest slots) = gives.after_is ∙ (λ i. (losing gives.at gives.hold (entry_by (ticket_of (put_is i)) cpu call gives.part) (put_is i), below_is i)) in
+    is_pass_back {flags = flags} {past = past} v x n xs slots strand strand past.log spares gives.at gives.hold entry v.kept (gives.hold.lock ∷ v.lost) after pass (log_more v.shape v.steps (turned gives.hold.lock gives.hold.log entry (ticketed x n xs v) ∷ []) v.kept past.log.items pass.log_is) after_is pass.strand_is
 
 pub gave_of : (before after : PassView) (ticket : ℕ) (part : Part) (drawn : Option ℕ) (ready : View) (is : IsTicketed (before.view, []) drawn (ready, [])) (entry : Entry) (kept : List StrandStep) (put given_seat : Seated) → TakesTicket (before.view, []) drawn (ready, []) → put.0 ≡ ready → entry ≡ numbered_entry ready (entry_of before ticket part) → GivesBack entry kept put given_seat
     → before.view.ticket ≡ Unread → after ≡ with_view before given_seat.0 → Gave before after part
@@ -367,13 +321,13 @@ gave_some_of t lock before after here part can drawn ready is put given_seat beh
     same_head e = cc
 
 -- a pass that has made a note, and a look at a home
-pub is_pass_read : {flags : List Bool} {ended : Option (Vec FinishedStrand Global)} (v : View) (slots : List (ℕ × Behind)) (strand : List StrandStep) (spares : List (Option Stored)) (homes_read : List HomeRead) (notes : List Notes) (bits : List BitSeen) (touched : List WordStep) (readings : List HomeIn) (after : Seated) → IsPass v slots strand spares flags ended → after ≡ (with_homes_read homes_read (noted notes bits touched readings v), slots) → IsPass after.0 after.1 strand spares flags ended
-is_pass_read {flags} {ended} v slots strand spares homes_read notes bits touched readings after pass after_is =
-    subst (λ (z : Seated). IsPass z.0 z.1 strand spares flags ended) (sym after_is) record { carries = pass.carries; strand_is = pass.strand_is; cpus_are = pass.cpus_are; ended_are = pass.ended_are; spares_fit = pass.spares_fit; within = pass.within; ended_within = pass.ended_within; hands_real = pass.hands_real; unread = pass.unread }
+pub is_pass_read : {flags : List Bool} {past : TurnsMade} (v : View) (slots : List (ℕ × Behind)) (strand : List StrandStep) (spares : List (Option Stored)) (homes_read : List HomeRead) (notes : List Notes) (bits : List BitSeen) (touched : List WordStep) (readings : List HomeIn) (after : Seated) → IsPass v slots strand spares flags past → after ≡ (with_homes_read homes_read (noted notes bits touched readings v), slots) → IsPass after.0 after.1 strand spares flags past
+is_pass_read {flags} {past} v slots strand spares homes_read notes bits touched readings after pass after_is =
+    subst (λ (z : Seated). IsPass z.0 z.1 strand spares flags past) (sym after_is) record { carries = pass.carries; strand_is = pass.strand_is; log_is = pass.log_is; cpus_are = pass.cpus_are; ended_are = pass.ended_are; logs_are = pass.logs_are; spares_fit = pass.spares_fit; within = pass.within; ended_within = pass.ended_within; hands_real = pass.hands_real; unread = pass.unread }
 
 -- a pass that has made a note
-pub is_pass_noted : {flags : List Bool} {ended : Option (Vec FinishedStrand Global)} (v : View) (slots : List (ℕ × Behind)) (strand : List StrandStep) (spares : List (Option Stored)) (notes : List Notes) (bits : List BitSeen) (touched : List WordStep) (readings : List HomeIn) (after : Seated) → IsPass v slots strand spares flags ended → after ≡ (noted notes bits touched readings v, slots) → IsPass after.0 after.1 strand spares flags ended
-is_pass_noted {flags} {ended} v slots strand spares notes bits touched readings after pass after_is = is_pass_read {flags = flags} {ended = ended} v slots strand spares v.homes_read notes bits touched readings after pass after_is
+pub is_pass_noted : {flags : List Bool} {past : TurnsMade} (v : View) (slots : List (ℕ × Behind)) (strand : List StrandStep) (spares : List (Option Stored)) (notes : List Notes) (bits : List BitSeen) (touched : List WordStep) (readings : List HomeIn) (after : Seated) → IsPass v slots strand spares flags past → after ≡ (noted notes bits touched readings v, slots) → IsPass after.0 after.1 strand spares flags past
+is_pass_noted {flags} {past} v slots strand spares notes bits touched readings after pass after_is = is_pass_read {flags = flags} {past = past} v slots strand spares v.homes_read notes bits touched readings after pass after_is
 
 -- the owner that was read has a code
 pub read_has_code : (t : TableView) (e : ℕ) (before : PassView) (old new : Seated) (found : ℕ) → IsShape t.shape → IsPassOf t before → old.0 ≡ before.view → (sees : SeesOwner e old found new) → HasOwnerCode sees.owner
@@ -417,12 +371,14 @@ cpu_is_few t p cpu v is of_table begun cpu_is v_is within =
     omega arith
 
 -- a pass with another spare for one CPU, or with none
-pub is_pass_spared : {flags : List Bool} {ended : Option (Vec FinishedStrand Global)} (v : View) (slots : List (ℕ × Behind)) (strand : List StrandStep) (cpu : ℕ) (spares now : List (Option Stored)) (found : Option Stored) → IsPass v slots strand spares flags ended → spare_of cpu now ≡ found → IfSome found (IsSized v.shape) → SparesDiffer cpu spares now → IsPass v slots strand now flags ended
+pub is_pass_spared : {flags : List Bool} {past : TurnsMade} (v : View) (slots : List (ℕ × Behind)) (strand : List StrandStep) (cpu : ℕ) (spares now : List (Option Stored)) (found : Option Stored) → IsPass v slots strand spares flags past → spare_of cpu now ≡ found → IfSome found (IsSized v.shape) → SparesDiffer cpu spares now → IsPass v slots strand now flags past
 is_pass_spared v slots strand cpu spares now found pass here sized others = record {
   carries = pass.carries;
   strand_is = pass.strand_is;
+  log_is = pass.log_is;
   cpus_are = pass.cpus_are;
   ended_are = pass.ended_are;
+  logs_are = pass.logs_are;
   spares_fit = λ c body kept. by_test c cpu (λ _. IsSized v.shape body)
       (λ same. subst (λ (o : Option Stored). IfSome o (IsSized v.shape)) (sym here ∙ (ap (λ (z : ℕ). spare_of z now) (sym same) ∙ kept)) sized)
       (λ other. pass.spares_fit c body (sym (others c other) ∙ kept));

@@ -1,6 +1,6 @@
 -- The strands that are handed out at the end.
 use Rattle.std.proofs.Common.{◌≡◌, ℕ, ◌≤◌, Bool, true, false, List, [], ◌∷◌, map, get_or, sym, refl, ap, ◌∙◌, subst, arith, Option, Some, Vec, Global}
-use Rattle.std.specs.Prelude.{not, filter}
+use Rattle.std.specs.Prelude.{IfSome, not, filter}
 use Rattle.std.specs.List.{list_any}
 use Rattle.map_types.specs.declared.attr.Shape.{Shape}
 use Rattle.map_types.specs.declared.kind.DomainId.TheVariants as named
@@ -56,9 +56,10 @@ told_none shape log lost strands kept told is no_histories no_strands = record {
 }
 
 pub told_all : (shape : Shape) (log : Logs) (lost : ℕ → Bool) (strands : List Ended) (ended : Option (Vec FinishedStrand Global)) (finished : Vec FinishedStrand Global) (kept histories : List LockHistory) (told : List Strand) (some_lost : Bool)
-    → IsShape shape → ended ≡ Some finished → AreFinished strands ended → AreKept shape log lost (lock_count shape) kept some_lost → histories ≡ kept → told ≡ map (finished_told shape) finished.items → AreTold shape log lost strands histories told some_lost
-told_all shape log lost strands ended finished kept histories told some_lost is there are are_kept same made =
-    let bounds = bounds_of_shape shape is in record {
+    → IsShape shape → ended ≡ Some finished → AreFinished strands ended → IfSome ended (λ _. AreKept shape log lost (lock_count shape) kept some_lost) → histories ≡ kept → told ≡ map (finished_told shape) finished.items → AreTold shape log lost strands histories told some_lost
+told_all shape log lost strands ended finished kept histories told some_lost is there are if_kept same made =
+    let bounds = bounds_of_shape shape is in
+    let are_kept : AreKept shape log lost (lock_count shape) kept some_lost = subst (λ (o : Option (Vec FinishedStrand Global)). IfSome o (λ _. AreKept shape log lost (lock_count shape) kept some_lost)) there if_kept in record {
       strands_lost = false;
       are_kept = record { kept_are = same ∙ are_kept.kept_are; lost_is = are_kept.lost_is };
       told_are = made ∙ (ap (map (finished_told shape)) (subst (AreFinished strands) there are) ∙ all_told shape (filter is_recorded strands) (omega arith));

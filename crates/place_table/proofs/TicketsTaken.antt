@@ -2,9 +2,8 @@
 use Rattle.std.proofs.lemmas.Bool.{ltb-true, ltb-false}
 use Rattle.place_table.specs.Tickets.{IsTaken}
 use Rattle.std.proofs.Common.{arith, append_assoc, ◌++◌, suc, ◌≤◌, ⊎_elim, ◌≡◌, ℕ, ◌+◌, ◌<◌, Bool, true, subst, cond, List, [], ◌∷◌, Option, Some, None, refl, sym, ap, ◌∙◌}
-use Rattle.std.specs.Prelude.{nat_lt, MatchOption, Vec, unwrap_or}
+use Rattle.std.specs.Prelude.{nat_lt, MatchOption, unwrap_or}
 use Rattle.std.specs.Global.{Global}
-use Rattle.place_words.specs.declared.history.Entry.{Entry}
 use Rattle.place_table.specs.Recording.{history_with}
 use Rattle.atomic_table.specs.Table.{rest}
 use Rattle.place_table.specs.declared.content.Behind.{Behind}
@@ -28,7 +27,8 @@ use Rattle.place_table.specs.Owners.{OwnersFit}
 use Rattle.place_table.specs.Idle.{LearnsAll}
 use Rattle.place_table.specs.Plays.{Seated, MayPut, TakesTicket, SeesTicket}
 use Rattle.place_table.specs.Passes.{PassView, TableView, CanGive, with_view, IsPass, IsPassOf, SawTicket, IsNumbered}
-use Rattle.place_table.specs.declared.strands.FinishedStrand.{FinishedStrand}
+use Rattle.place_table.specs.declared.content.SlotTurns.{SlotTurns}
+use Rattle.place_table.specs.declared.strands.TurnsMade.{TurnsMade}
 use Rattle.place_words.specs.declared.history.StrandStep.{StrandStep}
 use Rattle.map_types.specs.Stored.{Stored}
 use Rattle.place_table.proofs.Worlds.{none_some, some_is, by_bool, all_here}
@@ -145,11 +145,11 @@ can_ticketed t lock p here part ticket reached touched can = record {
 }
 
 -- where there is still a history, the ticket was drawn
-pub drawn_if : (drawn : Option ℕ) (history : Option (Vec Entry Global)) (v : View) (n : ℕ) → n ≡ unwrap_or drawn 0 → ((t : ℕ) → drawn ≡ Some t → v.ticket ≡ Drawn t) → MatchOption (history_with drawn history) (Unit {0}) (λ _. v.ticket ≡ Drawn n)
+pub drawn_if : (drawn : Option ℕ) (history : Option SlotTurns) (v : View) (n : ℕ) → n ≡ unwrap_or drawn 0 → ((t : ℕ) → drawn ≡ Some t → v.ticket ≡ Drawn t) → MatchOption (history_with drawn history) (Unit {0}) (λ _. v.ticket ≡ Drawn n)
 drawn_if None history v n is drawn = tt
 drawn_if (Some t) history v n is drawn = go history
   where
-    go : (history : Option (Vec Entry Global)) → MatchOption history (Unit {0}) (λ _. v.ticket ≡ Drawn n)
+    go : (history : Option SlotTurns) → MatchOption history (Unit {0}) (λ _. v.ticket ≡ Drawn n)
     go None = tt
     go (Some u) = drawn t refl ∙ ap Drawn (sym is)
 
@@ -160,13 +160,15 @@ slots_stay before drawn after is k b slots =
     same ∙ (slots ∙ ap (λ (l : List (ℕ × Behind)). (k, b) ∷ rest l) (sym same))
 
 -- a pass that has read the ticket word
-pub is_pass_seen : {flags : List Bool} {ended : Option (Vec FinishedStrand Global)} (v : View) (slots : List (ℕ × Behind)) (strand : List StrandStep) (spares : List (Option Stored)) (n : ℕ) (after : Seated) → IsPass v slots strand spares flags ended → SeesTicket (v, slots) n after → IsPass after.0 after.1 strand spares flags ended
-is_pass_seen {flags} {ended} v slots strand spares n after pass sees =
-    subst (λ (z : Seated). IsPass z.0 z.1 strand spares flags ended) (sym sees.after_is) record {
+pub is_pass_seen : {flags : List Bool} {past : TurnsMade} (v : View) (slots : List (ℕ × Behind)) (strand : List StrandStep) (spares : List (Option Stored)) (n : ℕ) (after : Seated) → IsPass v slots strand spares flags past → SeesTicket (v, slots) n after → IsPass after.0 after.1 strand spares flags past
+is_pass_seen {flags} {past} v slots strand spares n after pass sees =
+    subst (λ (z : Seated). IsPass z.0 z.1 strand spares flags past) (sym sees.after_is) record {
       carries = pass.carries;
       strand_is = pass.strand_is;
       cpus_are = pass.cpus_are;
+      log_is = pass.log_is;
       ended_are = pass.ended_are;
+      logs_are = pass.logs_are;
       spares_fit = pass.spares_fit;
       within = pass.within;
       ended_within = pass.ended_within;

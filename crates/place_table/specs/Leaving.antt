@@ -1,8 +1,9 @@
 -- What the slots of a closed table leave.
-use Rattle.std.specs.Prelude.{◌≡◌, ℕ, ◌<◌, ◌≤◌, Bool, true, false, not, List, [], ◌∷◌, length, vec_capacity, map, filter, take, drop, Option, None, Some, MatchOption, option_map, option_to_list, All, Vec, slice_index_or, ◌||◌, if◌then◌else◌}
+use Rattle.std.specs.Prelude.{◌≡◌, ℕ, ◌+◌, ◌<◌, ◌≤◌, Bool, true, false, not, List, [], ◌∷◌, length, vec_capacity, map, filter, take, drop, Option, None, Some, MatchOption, option_map, option_to_list, All, Vec, slice_get, slice_index_or, ◌||◌, if◌then◌else◌}
 use Rattle.std.specs.Global.{Global}
 use Rattle.std.specs.List.{flat_map, range_with_len, list_any}
 use Rattle.map_types.specs.declared.attr.Shape.{Shape}
+use Rattle.map_types.specs.declared.kind.DomainId.{DomainId}
 use Rattle.map_types.specs.declared.kind.DomainId.TheVariants as named
 use Rattle.map_types.specs.Kind.{is_lru}
 use Rattle.map_types.specs.Stored.{Stored, IsSized}
@@ -19,7 +20,11 @@ use Rattle.place_words.specs.Sets.{new_set}
 use Rattle.place_words.specs.Bodies.{numbers}
 use Rattle.local_lists.specs.LocalLists.{local_told}
 use Rattle.place_table.specs.declared.close.Emptied.{Emptied}
+use Rattle.place_words.specs.declared.turn_logs.LoggedTurn.{LoggedTurn}
+use Rattle.place_words.specs.TurnLogs.{turn_logged}
 use Rattle.place_table.specs.declared.content.Content.{Content}
+use Rattle.place_table.specs.declared.content.SlotTurns.{SlotTurns}
+use Rattle.place_table.specs.SlotTurns.{HasTurns}
 use Rattle.place_table.specs.declared.content.Content.TheVariants.{Bucket, Freelist, Local, Set}
 use Rattle.place_table.specs.Contents.{content_told, set_told, FitsLock}
 use Rattle.place_table.specs.declared.strands.FinishedStrand.{FinishedStrand}
@@ -72,13 +77,44 @@ abbrev pub HasSizedBodies : Shape → Option Content → Type 0
 HasSizedBodies shape content = All (IsSized shape) (bodies_in content)
 
 -- the turns of a lock as its slot has them, nothing where their record is lost
-abbrev pub IsHistory : Bool → List Entry → Option (Vec Entry Global) → Type 0
-IsHistory lost log history = MatchOption history (lost ≡ true) (λ entries. (lost ≡ false) × (entries.items ≡ log))
+abbrev pub IsSlotHistory : DomainId → Bool → List Entry → Option SlotTurns → Type 0
+IsSlotHistory lock lost log history = MatchOption history (lost ≡ true) (λ turns. (lost ≡ false) × HasTurns lock log turns)
 
 -- those of all locks that the map has, by number
-abbrev pub HaveHistories : Shape → Logs → (ℕ → Bool) → List (Option (Vec Entry Global)) → Type 0
+abbrev pub HaveHistories : Shape → Logs → (ℕ → Bool) → List (Option SlotTurns) → Type 0
 HaveHistories shape log lost histories =
-    (k : ℕ) → k < lock_count shape → has_lock shape k ≡ true → IsHistory (lost k) (log k) (slice_index_or histories k None)
+    (k : ℕ) → k < lock_count shape → has_lock shape k ≡ true → IsSlotHistory (lock_named shape k) (lost k) (log k) (slice_index_or histories k None)
+
+-- the turns of a lock as they are handed out, nothing where their record is lost
+abbrev pub IsHistory : Bool → List Entry → Option (List Entry) → Type 0
+IsHistory lost log history = MatchOption history (lost ≡ true) (λ entries. (lost ≡ false) × (entries ≡ log))
+
+-- how many turns of a bucket are logged, nothing where their record is lost
+abbrev pub IsCount : Bool → List Entry → Option ℕ → Type 0
+IsCount lost log count = MatchOption count (lost ≡ true) (λ n. (lost ≡ false) × (n ≡ length log))
+
+-- those of the first n buckets
+pub record AreCounts (shape : Shape) (log : Logs) (lost : ℕ → Bool) (n : ℕ) (counts : List (Option ℕ)) : Type 0 where
+  pub counted : length counts ≡ n
+  pub each : (bucket : ℕ) → bucket < n → IsCount (lost (first_bucket shape + bucket)) (log (first_bucket shape + bucket)) (slice_index_or counts bucket None)
+
+-- a turn of a bucket stands in one of these logs
+pub record StandsInLogs (logs : List (Vec LoggedTurn Global)) (bucket index : ℕ) : Type 0 where
+  pub log : ℕ
+  pub turns : Vec LoggedTurn Global
+  pub turn : ℕ
+  pub logged : LoggedTurn
+  pub log_is : slice_get logs log ≡ Some turns
+  pub turn_is : slice_get turns.items turn ≡ Some logged
+  pub bucket_is : logged.bucket ≡ bucket
+  pub index_is : logged.index ≡ index
+
+-- Logs tell the turns of buckets: each turn in them is one of its bucket, at its place, and of a bucket whose record isn't lost
+-- every turn stands there.
+pub record TellTurns (shape : Shape) (log : Logs) (lost : ℕ → Bool) (logs : List (Vec LoggedTurn Global)) : Type 0 where
+  pub sound : (l n : ℕ) (turns : Vec LoggedTurn Global) (turn : LoggedTurn) → slice_get logs l ≡ Some turns → slice_get turns.items n ≡ Some turn
+      → slice_get (log (first_bucket shape + turn.bucket)) turn.index ≡ Some (turn_logged turn)
+  pub whole : (bucket index : ℕ) → bucket < shape.buckets → lost (first_bucket shape + bucket) ≡ false → index < length (log (first_bucket shape + bucket)) → StandsInLogs logs bucket index
 
 -- what lies under all locks that the map has, by number
 abbrev pub AreContents : Shape → Logs → List (Option Content) → Type 0
@@ -109,6 +145,8 @@ pub record HasRoom (shape : Shape) (emptied : Emptied) : Type 0 where
   pub room_for_lists : first_bucket shape ≤ vec_capacity emptied.lists
   pub no_buckets : emptied.buckets.items ≡ []
   pub room_for_buckets : shape.buckets ≤ vec_capacity emptied.buckets
+  pub no_counts : emptied.counts.items ≡ []
+  pub room_for_counts : shape.buckets ≤ vec_capacity emptied.counts
   pub no_freelists : emptied.freelists.items ≡ []
   pub room_for_freelists : shape.cpus ≤ vec_capacity emptied.freelists
   pub no_histories : emptied.histories.kept.items ≡ []

@@ -12,6 +12,7 @@ pub mod KeyCalls
 pub mod Known
 pub mod Laws
 pub mod Leaving
+pub mod Logged
 pub mod Nested
 pub mod Opening
 pub mod Owners
@@ -20,9 +21,11 @@ pub mod Plays
 pub mod Recording
 pub mod Refusals
 pub mod Rules
+pub mod SlotTurns
 pub mod StoredHashes
 pub mod StrandTurns
 pub mod Tickets
 pub mod TurnNotes
+pub mod TurnPlaces
 pub mod Views
 pub mod Words

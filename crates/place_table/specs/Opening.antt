@@ -21,7 +21,7 @@ IsFirstContent shape lock found =
 -- a slot at first, with no turn of its lock recorded
 pub record IsFirstSlot (shape : Shape) (k : ℕ) (behind : Behind) : Type 0 where
   pub content : IsFirstContent shape (lock_named shape k) behind.content
-  pub kept : KeptAs false [] behind
+  pub kept : KeptAs (lock_named shape k) false [] behind
 
 -- the slots of the first n locks
 pub record AreFirstSlots (shape : Shape) (n : ℕ) (slots : List Behind) : Type 0 where

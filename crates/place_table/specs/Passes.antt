@@ -40,6 +40,8 @@ use Rattle.place_table.specs.declared.view.Ended.{Ended}
 use Rattle.place_table.specs.Contents.{content_told, lists_of, FitsLock}
 use Rattle.place_table.specs.Views.{is_among, hold_at, is_in_hand_of, known_log, first_view, place_of, kept_step, holding, given, losing, claimed, settled, attached, detached, marked, cleared, bit_read, owner_read, home_read, ticket_seen, learning, rehomed, is_recorded, split_from, split_off, joined, home_known}
 use Rattle.place_table.specs.Rules.{KeptAs}
+use Rattle.place_table.specs.Logged.{IsLogOf, HaveLogs}
+use Rattle.place_table.specs.declared.strands.TurnsMade.{TurnsMade}
 use Rattle.place_table.specs.Plays.{AreElements, IsApartFromHands, MayPut, IsInnermost, IsKeptOrLost, IsKnownBit, OwnerFits, IsKnownHome, HomeFits, MayGoHome, MayClear, TakesTicket, IsHashedInto}
 use Rattle.place_table.specs.declared.view.Ticket.{Ticket}
 use Rattle.place_table.specs.declared.view.Ticket.TheVariants.{Unread}
@@ -67,11 +69,12 @@ pub record TableView : Type 0 where
   pub shape : Shape
 
 -- the slots that a pass has, lock by lock: the content is out, and the record is that of the hold
-abbrev pub Carries : List Hold → List (ℕ × Behind) → Type 0
-Carries [] [] = Unit {0}
-Carries [] (x ∷ xs) = ⊥
-Carries (hold ∷ holds) [] = ⊥
-Carries (hold ∷ holds) (x ∷ xs) = (x.0 ≡ hold.lock) × (x.1.content ≡ None) × KeptAs hold.lost hold.log x.1 × Carries holds xs
+abbrev pub Carries : Shape → List Hold → List (ℕ × Behind) → Type 0
+Carries shape [] [] = Unit {0}
+Carries shape [] (x ∷ xs) = ⊥
+Carries shape (hold ∷ holds) [] = ⊥
+Carries shape (hold ∷ holds) (x ∷ xs) =
+    (x.0 ≡ hold.lock) × (x.1.content ≡ None) × KeptAs (lock_named shape hold.lock) hold.lost hold.log x.1 × Carries shape holds xs
 
 -- a slot whose content is out
 abbrev pub without_content : Behind → Behind
@@ -106,11 +109,13 @@ abbrev pub HasCpusOf : Shape → Ended → Type 0
 HasCpusOf shape strand = (cpu : ℕ) → is_among cpu strand.cpus ≡ true → cpu < shape.cpus
 
 -- what holds of each pass
-pub record IsPass (v : View) (slots : List (ℕ × Behind)) (strand : List StrandStep) (spares : List (Option Stored)) (cpus : List Bool) (ended : Option (Vec FinishedStrand Global)) : Type 0 where
-  pub carries : Carries v.held slots
+pub record IsPass (v : View) (slots : List (ℕ × Behind)) (strand : List StrandStep) (spares : List (Option Stored)) (cpus : List Bool) (made : TurnsMade) : Type 0 where
+  pub carries : Carries v.shape v.held slots
   pub strand_is : strand ≡ v.kept
+  pub log_is : IsLogOf v.shape v.steps v.kept made.log.items
   pub cpus_are : cpus ≡ flags_of v.cpus
-  pub ended_are : AreFinished v.ended ended
+  pub ended_are : AreFinished v.ended made.ended
+  pub logs_are : HaveLogs v.shape v.ended made.logs
   pub spares_fit : SparesFit v spares
   -- its CPUs are the map's, and so are those of its strands, and what is in their hands
   pub within : (cpu : ℕ) → is_among cpu v.cpus ≡ true → cpu < v.shape.cpus

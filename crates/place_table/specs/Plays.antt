@@ -43,6 +43,7 @@ use Rattle.place_table.specs.Nested.{IsInside, AreOutside}
 use Rattle.place_table.specs.Owners.{InnermostOwnersFit}
 pub use Rattle.place_table.specs.Owners.{IsListedHere}
 use Rattle.place_table.specs.Contents.{content_told, lists_of, FitsLock}
+use Rattle.place_table.specs.SlotTurns.{HasTurns}
 use Rattle.place_table.specs.Views.{is_among, hold_at, is_in_hand_of, bucket_known, known_log, bit_seen, holding, given, losing, ticket_read, ticket_drawn, ticket_seen, learning, has_all, reached_by, ticket_of, kept_step, holds_below, moved, with_hashes, claimed, settled, attached, detached, marked, cleared, bit_read, owner_read, home_read, rehomed, home_known, came_last}
 use Rattle.place_table.specs.Rules.{IsSlotAfter, is_hand_of}
 use Rattle.place_table.specs.TurnNotes.{HasOnlyHash, NotesFit, InnermostFits}
@@ -144,11 +145,12 @@ pub record MayPut (shape : Shape) (v : View) (hold : Hold) (by : ℕ) (part : Pa
   pub rows_kept : IsTrue (is_lru shape.kind) → KeepsHashes shape v hold here
   pub gone : IsTrue (is_lru shape.kind) → WentOff shape v hold part
 
--- the history has the entry where it isn't lost, and then the strand has its step
+-- The history has the entry, or of a bucket counts it, where it isn't lost, and then the strand has its step. That the log of the pass has
+-- the entry of a bucket's turn is said of the pass.
 abbrev pub IsRecorded : Shape → View → Hold → Entry → List StrandStep → Behind → Type 0
 IsRecorded shape v hold entry kept behind =
     MatchOption behind.history (kept ≡ v.kept)
-    (λ u. (hold.lost ≡ false) × (u.items ≡ hold.log ++ entry ∷ []) × (kept ≡ v.kept ++ kept_step shape hold.lock (length hold.log) ∷ []))
+    (λ turns. (hold.lost ≡ false) × HasTurns (lock_named shape hold.lock) (hold.log ++ entry ∷ []) turns × (kept ≡ v.kept ++ kept_step shape hold.lock (length hold.log) ∷ []))
 
 -- where it has the entry, the entry has the ticket that was drawn
 abbrev pub HasItsTicket : View → Entry → Behind → Type 0

@@ -38,6 +38,7 @@ use Rattle.place_table.specs.declared.view.HomeRead.{HomeRead}
 use Rattle.place_table.specs.declared.view.Turned.{Turned}
 use Rattle.place_table.specs.declared.view.Ended.{Ended}
 use Rattle.place_table.specs.Flushes.{flushed_since}
+use Rattle.place_table.specs.SlotTurns.{HasTurns}
 use Rattle.place_table.specs.declared.view.WordStep.{WordStep}
 use Rattle.place_table.specs.Tickets.{Tickets, NoneLost}
 use Rattle.place_table.specs.Owners.{Owners}
@@ -84,9 +85,9 @@ pub record World : Type 0 where
   -- the steps on all words, in the order in which they were made
   pub touches : List Touch
 
--- what is recorded of a lock: its turns, or nothing where that is lost
-abbrev pub KeptAs : Bool → List Entry → Behind → Type 0
-KeptAs lost log behind = MatchOption behind.history (lost ≡ true) (λ v. (lost ≡ false) × (v.items ≡ log))
+-- what is recorded in the slot of a lock: its turns, or of a bucket how many there are; or nothing where that is lost
+abbrev pub KeptAs : DomainId → Bool → List Entry → Behind → Type 0
+KeptAs lock lost log behind = MatchOption behind.history (lost ≡ true) (λ turns. (lost ≡ false) × HasTurns lock log turns)
 
 -- what stands in the slot of a lock that isn't held: what its turns lead to, and the record of them
 pub record IsSlotAfter (shape : Shape) (k : ℕ) (log : List Entry) (lost : Bool) (behind : Behind) : Type 0 where
@@ -94,7 +95,7 @@ pub record IsSlotAfter (shape : Shape) (k : ℕ) (log : List Entry) (lost : Bool
   pub content_is : behind.content ≡ Some here
   pub told_is : content_told (lock_named shape k) here ≡ content shape (lock_named shape k) log
   pub fits : FitsLock shape (lock_named shape k) here
-  pub kept : KeptAs lost log behind
+  pub kept : KeptAs (lock_named shape k) lost log behind
 
 -- While a lock is held its slot is out. Else what stands there is what its turns lead to.
 abbrev pub AtHome : Shape → ℕ → Option ℕ → List Entry → Lists → Bool → maybe.Option (maybe.Option Behind) → Type 0

@@ -1,6 +1,6 @@
 //! What is read and taken out of a table at its end.
 
-ghost use Rattle.std.specs.Prelude.{◌≡◌, ℕ, ◌+◌, ◌<◌, ◌≤◌, ◌++◌, ◌∷◌, Bool, true, false, None, [], IfOk, OnOk, IsOk, filter, length, map, slice_index_or, take, vec_capacity};
+ghost use Rattle.std.specs.Prelude.{◌≡◌, ◌⊎◌, ℕ, ◌+◌, ◌<◌, ◌≤◌, ◌++◌, ◌∷◌, Bool, true, false, List, None, [], IfOk, OnOk, IsOk, filter, length, map, option_map, slice_index_or, take, vec_capacity};
 ghost use Rattle.std.specs.List.{range_with_len};
 ghost use Rattle.std.specs.Slots.{slots_items, slots_filled, slots_len, IsFull};
 ghost use Rattle.map_types.specs.declared.attr.Shape.{Shape};
@@ -8,13 +8,19 @@ ghost use Rattle.map_types.specs.Creation.{IsShape};
 ghost use Rattle.map_types.specs.ElementLists.{one};
 ghost use Rattle.place_words.specs.Locks.{lock_count, lock_named, first_bucket, first_freelist};
 ghost use Rattle.place_table.specs.Closing.{has_lock};
-ghost use Rattle.place_table.specs.Leaving.{Logs, bodies_in, HasRoom, HasSizedBodies, IsHistory, HaveHistories, AreApart, AreKept, AreTaken};
+ghost use Rattle.map_types.specs.declared.kind.DomainId.{DomainId};
+ghost use Rattle.place_words.specs.declared.history.Entry.{Entry};
+ghost use Rattle.place_words.specs.State.{is_bucket};
+ghost use Rattle.place_words.specs.TurnLogs.{turns_at};
+ghost use Rattle.place_table.specs.Leaving.{Logs, bodies_in, HasRoom, HasSizedBodies, IsCount, IsHistory, IsSlotHistory, HaveHistories, AreApart, AreCounts, AreKept, AreTaken, TellTurns};
 
 use crate::body_copies::bucket_copy;
-use crate::content::{Behind, Content};
+use crate::content::{Behind, Content, SlotTurns};
+use crate::turn_places::{places_of, starts_of};
 use map_types::{DomainId, List, NoMemory, Numbers, Shape};
-use place_words::{Entry, Kept, LockHistory, is_lock, lock_named};
-use std::alloc::Global;
+use place_words::{Entries, Kept, LockHistory, LoggedTurn, TurnLogs, is_lock, lock_named};
+use std::alloc::{AllocError, Global};
+use std::sync::Arc;
 
 /// The elements whose bit is set, where their words begin here.
 pub(crate) fn marked_in(
@@ -48,7 +54,7 @@ pub(crate) struct Histories {
 
 impl Histories {
     /// Keeps the history of a lock, or that it is lost.
-    fn keep(&mut self, lock: DomainId, history: Option<Vec<Entry>>)
+    fn keep(&mut self, lock: DomainId, history: Option<Entries>)
         requires room { length self.old.kept.items < vec_capacity self.old.kept }
         ensures kept { (shape : Shape) (log : Logs) (lost : ℕ → Bool) (n : ℕ)
             → lock ≡ lock_named shape n → has_lock shape n ≡ true
@@ -62,18 +68,16 @@ impl Histories {
             self.lost = true;
             return;
         };
-        self.kept.push_reserved(LockHistory {
-            lock,
-            entries: List::of(entries),
-        });
+        self.kept.push_reserved(LockHistory { lock, entries });
     }
 
     /// Keeps the history of a lock, if the map has the lock, or that it is lost.
-    fn keep_numbered(&mut self, shape: &Shape, number: u32, history: Option<Vec<Entry>>)
+    fn keep_numbered(&mut self, shape: &Shape, number: u32, history: Option<SlotTurns>)
         requires shape { IsShape shape.now }
         requires room { length self.old.kept.items < vec_capacity self.old.kept }
         ensures kept { (log : Logs) (lost : ℕ → Bool)
-            → (has_lock shape.now number ≡ true → IsHistory (lost number) (log number) history)
+            → (has_lock shape.now number ≡ true → is_bucket (lock_named shape.now number) ≡ false
+            × IsSlotHistory (lock_named shape.now number) (lost number) (log number) history)
             → AreKept shape.now log lost number self.old.kept.items self.old.lost
             → AreKept shape.now log lost (number + 1) self.new.kept.items self.new.lost }
         ensures capacity { vec_capacity self.new.kept ≡ vec_capacity self.old.kept }
@@ -83,16 +87,39 @@ impl Histories {
         if !is_lock(shape, lock) {
             return;
         }
-        self.keep(lock, history);
+        self.keep(lock, entries_here(history));
     }
 }
 
-/// What comes out of the slots: what lay under the locks before the buckets, copies of the buckets, what lay under the locks
-/// behind them, and the histories.
+/// The turns that lie in a slot.
+fn entries_here(history: Option<SlotTurns>) -> Option<Entries>
+    ensures { (lock : DomainId) (lost : Bool) (log : List Entry) → is_bucket lock ≡ false
+        → IsSlotHistory lock lost log history → IsHistory lost log result }
+{
+    match history {
+        Some(SlotTurns::Here(entries)) => Some(Box::into_inner(entries)),
+        _ => None,
+    }
+}
+
+/// How many turns of a bucket are logged, none where its record is lost.
+fn turns_counted(history: &Option<SlotTurns>) -> Option<u32>
+    ensures { (lock : DomainId) (lost : Bool) (log : List Entry) → is_bucket lock ≡ true
+        → IsSlotHistory lock lost log history.now → IsCount lost log result }
+{
+    match history {
+        Some(SlotTurns::Logged(count)) => Some(*count),
+        _ => None,
+    }
+}
+
+/// What comes out of the slots: what lay under the locks before the buckets, copies of the buckets and how many turns of each are
+/// logged, what lay under the locks behind them, and the histories.
 #[derive(Drop)]
 pub(crate) struct Emptied {
     pub(crate) lists: Vec<Option<Content>>,
     pub(crate) buckets: Vec<List<Kept>>,
+    pub(crate) counts: Vec<Option<u32>>,
     pub(crate) freelists: Vec<Option<Content>>,
     pub(crate) histories: Histories,
 }
@@ -108,6 +135,7 @@ pub(crate) fn room_for(alloc: Global, shape: &Shape) -> Result<Emptied, NoMemory
     Ok(Emptied {
         lists: Vec::with_capacity(alloc, first_bucket as usize)?,
         buckets: Vec::with_capacity(alloc, shape.buckets as usize)?,
+        counts: Vec::with_capacity(alloc, shape.buckets as usize)?,
         freelists: Vec::with_capacity(alloc, shape.cpus as usize)?,
         histories: Histories {
             kept: Vec::with_capacity(alloc, count as usize)?,
@@ -116,7 +144,8 @@ pub(crate) fn room_for(alloc: Global, shape: &Shape) -> Result<Emptied, NoMemory
     })
 }
 
-/// Takes the slots whose numbers are from one up to another out, contents and histories apart. All slots before are empty.
+/// Takes the slots whose numbers are from one up to another out, contents and histories apart. All slots before are empty. None
+/// of them is a bucket's.
 fn take_lists(
     shape: &Shape,
     closed: &mut atomic_table::Closed<Behind, Global>,
@@ -128,6 +157,7 @@ fn take_lists(
     requires shape { IsShape shape.now }
     requires within { (first ≤ past) × (past ≤ slots_len closed.old.slots)
         × (slots_len closed.old.slots ≡ lock_count shape.now) }
+    requires no_buckets { (past ≤ first_bucket shape.now) ⊎ (first_freelist shape.now ≤ first) }
     requires before { AreTaken first (slots_filled closed.old.slots) }
     requires room { (contents.old.items ≡ []) × (past ≤ first + vec_capacity contents.old) }
     requires room_for_histories { (length histories.old.kept.items ≤ first)
@@ -194,7 +224,7 @@ fn take_buckets(
     shape: &Shape,
     closed: &mut atomic_table::Closed<Behind, Global>,
     buckets: &mut Vec<List<Kept>>,
-    histories: &mut Histories,
+    counts: &mut Vec<Option<u32>>,
 ) -> Result<(), NoMemory>
     requires shape { IsShape shape.now }
     requires counted { slots_len closed.old.slots ≡ lock_count shape.now }
@@ -204,35 +234,75 @@ fn take_buckets(
         (slice_index_or (map (λ behind. behind.content) (slots_items closed.old.slots))
         (first_bucket shape.now + bucket) None) }
     requires room { (buckets.old.items ≡ []) × (shape.now.buckets ≤ vec_capacity buckets.old) }
-    requires room_for_histories { (length histories.old.kept.items ≤ first_bucket shape.now)
-        × (first_freelist shape.now ≤ vec_capacity histories.old.kept) }
+    requires room_for_counts { (counts.old.items ≡ []) × (shape.now.buckets ≤ vec_capacity counts.old) }
     ensures buckets { OnOk result
         (take (first_freelist shape.now)
         (map (λ behind. bodies_in behind.content) (slots_items closed.old.slots))
         ≡ take (first_bucket shape.now)
         (map (λ behind. bodies_in behind.content) (slots_items closed.old.slots))
         ++ buckets.new.items) }
-    ensures histories { (log : Logs) (lost : ℕ → Bool)
+    ensures counts { (log : Logs) (lost : ℕ → Bool)
         → HaveHistories shape.now log lost
         (map (λ behind. behind.history) (slots_items closed.old.slots))
-        → AreKept shape.now log lost
-        (first_bucket shape.now) histories.old.kept.items histories.old.lost
-        → AreKept shape.now log lost
-        (first_freelist shape.now) histories.new.kept.items histories.new.lost }
+        → AreCounts shape.now log lost shape.now.buckets counts.new.items }
+    ensures counted { length counts.new.items ≡ shape.now.buckets }
     ensures same { slots_items closed.new.slots ≡ slots_items closed.old.slots }
     ensures count { slots_len closed.new.slots ≡ slots_len closed.old.slots }
     ensures after { AreTaken (first_freelist shape.now) (slots_filled closed.new.slots) }
-    ensures room { vec_capacity histories.new.kept ≡ vec_capacity histories.old.kept }
-    ensures few { length histories.new.kept.items ≤ first_freelist shape.now }
 {
     let first = 2 * shape.cpus as usize + 1;
     let mut copied = Ok(());
     for bucket in 0..shape.buckets {
         let Behind { content, history } = closed.take(first + bucket as usize);
-        histories.keep(DomainId::Bucket(bucket), history);
+        counts.push_reserved(turns_counted(&history));
         copied = add_bucket(copied, alloc, shape, &content, buckets);
     }
     copied
+}
+
+/// Keeps the histories of the buckets, whose turns stand in the logs of the strands, or that they are lost.
+fn keep_logged(
+    alloc: Global,
+    counts: &[Option<u32>],
+    logs: Vec<Vec<LoggedTurn>>,
+    histories: &mut Histories,
+) -> Result<(), NoMemory>
+    requires room { length histories.old.kept.items + length counts.now ≤ vec_capacity histories.old.kept }
+    ensures kept { (shape : Shape) (log : Logs) (lost : ℕ → Bool)
+        → AreCounts shape log lost shape.buckets counts.now → TellTurns shape log lost logs.items
+        → AreKept shape log lost (first_bucket shape) histories.old.kept.items histories.old.lost
+        → OnOk result (AreKept shape log lost
+        (first_freelist shape) histories.new.kept.items histories.new.lost) }
+    ensures capacity { vec_capacity histories.new.kept ≡ vec_capacity histories.old.kept }
+    ensures longer { length histories.new.kept.items ≤ length histories.old.kept.items + length counts.now }
+{
+    if counts.len() > u32::MAX as usize {
+        return Err(AllocError.into());
+    }
+    let starts = starts_of(alloc, counts)?;
+    let places = places_of(alloc, counts, starts.as_slice(), logs.as_slice())?;
+    let logs = Arc::new(alloc, TurnLogs { logs, places })?;
+    for bucket in 0..counts.len() {
+        let history = logged_at(&logs, starts[bucket], counts[bucket])?;
+        histories.keep(DomainId::Bucket(bucket as u32), history);
+    }
+    Ok(())
+}
+
+/// The turns of a bucket in the logs, so many from one place on, or none where their record is lost.
+fn logged_at(
+    logs: &Arc<TurnLogs>,
+    first: usize,
+    count: Option<u32>,
+) -> Result<Option<Entries>, NoMemory>
+    ensures { IfOk result (λ entries. entries
+        ≡ option_map (turns_at logs.now.value first) count) }
+{
+    let Some(count) = count else {
+        return Ok(None);
+    };
+    let logs = Arc::try_clone(logs)?;
+    Ok(Some(Entries::logged(logs, first, count as usize)))
 }
 
 /// Takes all slots out, and copies the buckets while memory is found.
@@ -241,6 +311,7 @@ pub(crate) fn empty_out(
     shape: &Shape,
     closed: &mut atomic_table::Closed<Behind, Global>,
     emptied: &mut Emptied,
+    logs: Vec<Vec<LoggedTurn>>,
 ) -> Result<(), NoMemory>
     requires shape { IsShape shape.now }
     requires full { IsFull closed.old.slots × (slots_len closed.old.slots ≡ lock_count shape.now) }
@@ -255,8 +326,9 @@ pub(crate) fn empty_out(
     ensures histories { (log : Logs) (lost : ℕ → Bool)
         → HaveHistories shape.now log lost
         (map (λ behind. behind.history) (slots_items closed.old.slots))
-        → AreKept shape.now log lost
-        (lock_count shape.now) emptied.new.histories.kept.items emptied.new.histories.lost }
+        → TellTurns shape.now log lost logs.items
+        → OnOk result (AreKept shape.now log lost
+        (lock_count shape.now) emptied.new.histories.kept.items emptied.new.histories.lost) }
     ensures empty { (k : ℕ) → k < slots_len closed.new.slots
         → slice_index_or (slots_filled closed.new.slots) k false ≡ false }
 {
@@ -267,11 +339,14 @@ pub(crate) fn empty_out(
     let Emptied {
         lists,
         buckets,
+        counts,
         freelists,
         histories,
     } = emptied;
     take_lists(shape, closed, lists, histories, 0, first_bucket);
-    let copied = take_buckets(alloc, shape, closed, buckets, histories);
+    let copied = take_buckets(alloc, shape, closed, buckets, counts);
+    let placed = keep_logged(alloc, counts.as_slice(), logs, histories);
     take_lists(shape, closed, freelists, histories, first_freelist, past);
-    copied
+    copied?;
+    placed
 }

@@ -47,7 +47,7 @@ impl Closed {
         &self.finals
     }
 
-    /// Whether the record of a lock was lost, for want of memory.
+    /// Whether the record of a lock was lost, as for want of memory.
     pub fn lost(&self) -> bool
         ensures { result ≡ self.now.lost }
     {

@@ -5,7 +5,7 @@ use cpu_freelist::Freelist;
 use linked_rows::LinkedRows;
 use local_lists::LocalSet;
 use lru_lists::ListSet;
-use place_words::Entry;
+use place_words::Entries;
 
 /// The lists of rows of a map that evicts.
 pub type Listing = LinkedRows;
@@ -24,10 +24,19 @@ pub enum Content {
     Set(ListSet<Listing>),
 }
 
-/// What stands in the slot of a lock: the content, which is out while the lock is held, and the turns of the lock, none
-/// once memory for one of them was not found.
+/// What a slot keeps of the turns of its lock.
+#[derive(Drop)]
+pub enum SlotTurns {
+    /// The turns themselves. Behind a pointer, so that the many slots of buckets are small.
+    Here(Box<Entries>),
+    /// Of a bucket how many there are. They stand in the logs of strands.
+    Logged(u32),
+}
+
+/// What stands in the slot of a lock: the content, which is out while the lock is held, and what is kept of its turns, none once one
+/// couldn't be recorded.
 #[derive(Drop)]
 pub struct Behind {
     pub content: Option<Content>,
-    pub history: Option<Vec<Entry>>,
+    pub history: Option<SlotTurns>,
 }

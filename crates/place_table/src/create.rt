@@ -3,6 +3,7 @@
 ghost use Rattle.std.specs.Prelude.{◌≡◌, ◌+◌, ◌<◌, ◌≤◌, ◌++◌, ℕ, false, [], length, map, replicate, vec_capacity, All, IfOk, OnOk};
 ghost use Rattle.map_types.specs.Creation.{IsShape};
 ghost use Rattle.map_types.specs.declared.attr.Shape.{Shape};
+ghost use Rattle.map_types.specs.declared.kind.DomainId.{DomainId};
 ghost use Rattle.map_types.specs.ElementLists.{times, IsIn};
 ghost use Rattle.map_types.specs.Stored.{IsSized};
 ghost use Rattle.place_words.specs.Bodies.{numbers};
@@ -14,9 +15,10 @@ ghost use Rattle.place_words.specs.OpeningState.{AreOpeningOwners};
 ghost use Rattle.place_table.specs.Contents.{FitsSet, set_told};
 ghost use Rattle.place_table.specs.Opening.{IsFirstContent, IsFirstSlot, AreFirstSlots, AreBodiesOf};
 ghost use Rattle.place_table.specs.Rules.{KeptAs};
+ghost use Rattle.place_table.specs.SlotTurns.{HasTurns};
 ghost use Rattle.place_table.specs.Words.{opening_words, opening_home_codes};
 
-use crate::content::{Behind, Content, Listing};
+use crate::content::{Behind, Content, Listing, SlotTurns};
 use bucket_chain::Chain;
 use cpu_freelist::Freelist;
 use local_lists::LocalSet;
@@ -24,7 +26,7 @@ use lru_lists::ListSet;
 use map_types::{DomainId, MapKind, NoMemory, Shape};
 use percpu_values::BoxedBody;
 use place_words::{
-    Entry, Owner, free_at_first, home_at_first, home_code, is_lock, lock_named, owner_code,
+    Entries, Owner, free_at_first, home_at_first, home_code, is_lock, lock_named, owner_code,
     owners_at_first, spares_at_first,
 };
 use std::alloc::Global;
@@ -170,11 +172,10 @@ fn first_content(
     }
 }
 
-/// A slot with this content, and with a history that has no turn yet.
-fn slot_with(content: Option<Content>, history: Vec<Entry>) -> Behind
-    requires { history.items ≡ [] }
+/// A slot with this content and this history.
+fn slot_with(content: Option<Content>, history: SlotTurns) -> Behind
     ensures content { result.content ≡ content }
-    ensures kept { KeptAs false [] result }
+    ensures kept { (lock : DomainId) → HasTurns lock [] history → KeptAs lock false [] result }
 {
     Behind {
         content,
@@ -182,14 +183,27 @@ fn slot_with(content: Option<Content>, history: Vec<Entry>) -> Behind
     }
 }
 
-/// A history without a turn, with room for the first ones where the map has the lock.
-fn first_history(alloc: Global, shape: &Shape, lock: DomainId) -> Result<Vec<Entry>, NoMemory>
-    ensures { IfOk result (λ history. history.items ≡ []) }
+/// No turns yet of a lock, with room for the first ones where the map has the lock.
+fn first_entries(alloc: Global, shape: &Shape, lock: DomainId) -> Result<Entries, NoMemory>
+    ensures { IfOk result (λ entries. entries ≡ []) }
 {
     if !is_lock(shape, lock) {
-        return Ok(Vec::new(alloc));
+        return Ok(Entries::none_of(alloc, lock));
     }
-    Ok(Vec::with_capacity(alloc, FIRST_TURNS)?)
+    Entries::with_room(alloc, lock, FIRST_TURNS)
+}
+
+/// A history without a turn, in the form that a slot keeps of the lock.
+fn first_history(alloc: Global, shape: &Shape, lock: DomainId) -> Result<SlotTurns, NoMemory>
+    ensures { IfOk result (λ history. HasTurns lock [] history) }
+{
+    match lock {
+        DomainId::Bucket(_) => Ok(SlotTurns::Logged(0)),
+        DomainId::Local(_) | DomainId::Global | DomainId::CpuLru(_) | DomainId::Freelist(_) => {
+            let entries = first_entries(alloc, shape, lock)?;
+            Ok(SlotTurns::Here(Box::new(alloc, entries)?))
+        }
+    }
 }
 
 /// What stands in the slot of a lock at first.
@@ -232,7 +246,8 @@ fn bucket_slot(alloc: Global) -> Behind
     ensures { (shape : Shape) (bucket : ℕ) → bucket < shape.buckets
         → IsFirstSlot shape (first_bucket shape + bucket) result }
 {
-    slot_with(Some(Content::Bucket(Chain::empty(alloc))), Vec::new(alloc))
+    let content = Content::Bucket(Chain::empty(alloc));
+    slot_with(Some(content), SlotTurns::Logged(0))
 }
 
 /// Adds what stands at first in the slots of the buckets, after all slots before.

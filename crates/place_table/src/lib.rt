@@ -23,11 +23,12 @@ mod spares;
 mod steps;
 mod strands;
 mod table;
+mod turn_places;
 mod view;
 
 pub use bucket_takes::TakenOut;
 pub use closed::Closed;
-pub use content::{Behind, Content, Listing};
+pub use content::{Behind, Content, Listing, SlotTurns};
 pub use gate_points::{At, Points};
 pub use laws::{told_laws, word_laws};
 pub use pass::Pass;

@@ -16,7 +16,7 @@ use crate::read_slots::read_slots;
 use crate::rule::TableSeat;
 use crate::spares::{join_spares, split_spares};
 use crate::steps::{cut_seat, merge_seat};
-use crate::strands::{FinishedStrand, finish, put_together};
+use crate::strands::{TurnsMade, end_strand, ended_told, join_made, none_made};
 use crate::table::PlaceTable;
 use atomic_table::Table;
 use map_types::{NoMemory, Shape};
@@ -34,8 +34,7 @@ pub struct Pass {
     pub(crate) call: u32,
     cpus: [bool; 16],
     pub(crate) strand: Vec<StrandStep>,
-    /// The strands that have ended, none once memory for one wasn't found.
-    ended: Option<Vec<FinishedStrand>>,
+    pub(crate) made: TurnsMade,
     pub(crate) spares: [Option<BoxedBody>; 16],
 }
 
@@ -55,7 +54,7 @@ impl Model for Pass {
     } };
 
     ghost invariant = { λ p. IsPass p.seat.me.0 p.seat.me.1 p.strand.items p.spares p.cpus
-        p.ended };
+        p.made };
 }
 
 impl Pass {
@@ -73,6 +72,9 @@ impl Pass {
 /// it grow.
 const FIRST_STEPS: usize = 16384;
 
+/// And for so many turns of buckets.
+const FIRST_LOGGED: usize = 4096;
+
 impl PlaceTable {
     /// A table at its opening, and its first pass. All buckets are empty. The elements lie in the freelists of the CPUs, but for
     /// the spare elements of a map of kind HASH, or on a map that evicts free in the list sets of the CPUs, or in the one that
@@ -83,6 +85,7 @@ impl PlaceTable {
         ensures { IfOk result (λ made. (made.0.shape ≡ shape.now) × IsFirstPass made.0 made.1) }
     {
         let strand = Vec::with_capacity(alloc, FIRST_STEPS)?;
+        let log = Vec::with_capacity(alloc, FIRST_LOGGED)?;
         let owners = owners_at_first(alloc, shape)?;
         let words = first_words(alloc, shape, owners.as_slice())?;
         let slots = first_slots(alloc, shape, owners.as_slice())?;
@@ -100,7 +103,7 @@ impl PlaceTable {
                     call: 0,
                     cpus: first_cpus(shape.cpus),
                     strand,
-                    ended: Some(Vec::new(alloc)),
+                    made: none_made(alloc, log),
                     spares,
                 },
             )),
@@ -118,8 +121,9 @@ impl PlaceTable {
     {
         let seat = cut_seat::<Brand>(&self.table.shared, &mut pass.seat, cpu);
         let steps = mem::replace(&mut pass.strand, Vec::new(self.alloc));
-        let ended = mem::replace(&mut pass.ended, Some(Vec::new(self.alloc)));
-        let ended = finish(ended, &pass.cpus, steps);
+        let new = none_made(self.alloc, Vec::new(self.alloc));
+        let made = mem::replace(&mut pass.made, new);
+        let made = end_strand(self.alloc, made, &pass.cpus, steps);
         drop_cpu(&mut pass.cpus, cpu);
         Pass {
             seat,
@@ -128,7 +132,7 @@ impl PlaceTable {
             call: 0,
             cpus: one_cpu(cpu),
             strand: Vec::new(self.alloc),
-            ended,
+            made,
             spares: split_spares(&mut pass.spares, cpu),
         }
     }
@@ -147,13 +151,15 @@ impl PlaceTable {
             call: _,
             cpus,
             strand,
-            ended,
+            made,
             mut spares,
         } = other;
         merge_seat::<Brand>(&self.table.shared, &mut pass.seat, seat);
         let steps = mem::replace(&mut pass.strand, Vec::new(self.alloc));
-        let ours = finish(mem::replace(&mut pass.ended, None), &pass.cpus, steps);
-        pass.ended = put_together(ours, finish(ended, &cpus, strand));
+        let new = none_made(self.alloc, Vec::new(self.alloc));
+        let ours = mem::replace(&mut pass.made, new);
+        let ours = end_strand(self.alloc, ours, &pass.cpus, steps);
+        pass.made = join_made(ours, end_strand(self.alloc, made, &cpus, strand));
         add_cpus(&mut pass.cpus, &cpus);
         join_spares(&mut pass.spares, &mut spares);
     }
@@ -178,16 +184,16 @@ impl PlaceTable {
             call: _,
             cpus,
             strand,
-            ended,
+            made,
             spares,
         } = pass;
         let first_bit = table.word_count() - shape.elements as usize - 1;
         let mut emptied = room_for(alloc, &shape)?;
         let mut closed = table.close_with(seat);
         let marked = marked_in(alloc, &closed, first_bit, shape.elements);
-        let copied = empty_out(alloc, &shape, &mut closed, &mut emptied);
+        let (ended, logs) = ended_told(alloc, end_strand(alloc, made, &cpus, strand));
+        let copied = empty_out(alloc, &shape, &mut closed, &mut emptied, logs);
         closed.free();
-        let ended = finish(ended, &cpus, strand);
         copied?;
         read_slots(alloc, &shape, emptied, marked?, ended, &spares)
     }

@@ -1,6 +1,6 @@
 //! What a closed table leaves, read of what came out of its slots.
 
-ghost use Rattle.std.specs.Prelude.{◌≡◌, ◌<◌, ◌≤◌, ℕ, ◌+◌, Bool, List, [], ◌∷◌, None, Option, false, IfOk, drop, filter, length, map, slice_index_or, take};
+ghost use Rattle.std.specs.Prelude.{◌≡◌, ◌<◌, ◌≤◌, ℕ, ◌+◌, Bool, List, [], ◌∷◌, None, Option, false, IfOk, IfSome, drop, filter, length, map, slice_index_or, take};
 ghost use Rattle.std.specs.List.{range_with_len};
 ghost use Rattle.map_types.specs.Creation.{IsShape};
 ghost use Rattle.place_words.specs.Locks.{lock_count};
@@ -46,8 +46,8 @@ pub(crate) fn read_slots(
         → length contents ≡ lock_count shape.now
         → AreApart shape.now contents
         emptied.lists.items emptied.freelists.items emptied.buckets.items
-        → AreKept shape.now log lost
-        (lock_count shape.now) emptied.histories.kept.items emptied.histories.lost
+        → IfSome ended (λ _. AreKept shape.now log lost
+        (lock_count shape.now) emptied.histories.kept.items emptied.histories.lost)
         → marked ≡ filter bit (range_with_len 0 shape.now.elements) → AreFinished strands ended
         → IfOk result (λ closed. WasLeft shape.now log lost bit strands spares.now closed) }
 {
@@ -112,14 +112,15 @@ fn closed_of(
         → length contents ≡ lock_count shape.now
         → AreApart shape.now contents
         emptied.lists.items emptied.freelists.items emptied.buckets.items
-        → AreKept shape.now log lost
-        (lock_count shape.now) emptied.histories.kept.items emptied.histories.lost
+        → IfSome ended (λ _. AreKept shape.now log lost
+        (lock_count shape.now) emptied.histories.kept.items emptied.histories.lost)
         → marked ≡ filter bit (range_with_len 0 shape.now.elements) → AreFinished strands ended
         → IfOk result (λ closed. WasLeft shape.now log lost bit strands spares.now closed) }
 {
     let Emptied {
         lists,
         buckets,
+        counts: _,
         freelists,
         histories,
     } = emptied;
@@ -383,7 +384,8 @@ fn turns_left(
 ) -> Result<Turns, NoMemory>
     requires shape { IsShape shape.now }
     ensures { (log : Logs) (lost : ℕ → Bool) (strands : List Ended)
-        → AreKept shape.now log lost (lock_count shape.now) histories.kept.items histories.lost
+        → IfSome ended (λ _. AreKept shape.now log lost
+        (lock_count shape.now) histories.kept.items histories.lost)
         → AreFinished strands ended
         → IfOk result
         (λ turns. AreTold shape.now log lost strands turns.histories turns.strands turns.lost) }

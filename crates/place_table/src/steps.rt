@@ -1,7 +1,6 @@
 //! Single steps on the words of the table, by the seat of a pass.
 
-ghost use Rattle.std.specs.Prelude.{◌≡◌, ℕ, List, [], ◌+◌, ◌*◌, ◌<◌, ◌^◌, ◌∷◌, ◌++◌, length, true, IsTrue, MatchBool, MatchOption, IfSome, IfNone, Option, Some, None, Vec};
-ghost use Rattle.std.specs.Global.{Global};
+ghost use Rattle.std.specs.Prelude.{◌≡◌, ℕ, List, [], ◌+◌, ◌*◌, ◌<◌, ◌^◌, ◌∷◌, ◌++◌, length, true, IsTrue, MatchBool, MatchOption, IfSome, IfNone, Option, Some, None};
 ghost use Rattle.place_words.specs.declared.history.Entry.{Entry};
 ghost use Rattle.atomic_table.specs.Table.{rest};
 ghost use Rattle.map_types.specs.declared.kind.DomainId.TheVariants as locks;
@@ -18,18 +17,19 @@ ghost use Rattle.place_table.specs.Nested.{MayTake};
 ghost use Rattle.place_table.specs.Words.{word_count, owner_word, home_word, bit_word, ticket_word};
 ghost use Rattle.place_table.specs.declared.view.Ticket.TheVariants.{Unread};
 ghost use Rattle.place_table.specs.Plays.{MayClear, Took, MayGive, IsInnermost, GivesBack, GivesSome, entry_by, TakesTicket, SeesTicket, Marks, Clears, SeesBit, SeesOwner, SeesHome};
-ghost use Rattle.place_table.specs.Recording.{Records, entry_given, filled, history_with};
+ghost use Rattle.place_table.specs.Recording.{IsLogged, Records, RecordsIn, entry_given, filled, history_with, recorded_step};
+ghost use Rattle.place_table.specs.declared.content.SlotTurns.{SlotTurns};
 ghost use Rattle.place_table.specs.Passes.{without_content};
 ghost use Rattle.place_table.specs.TurnNotes.{NotesFit};
 
-use crate::content::{Behind, Content};
+use crate::content::{Behind, Content, SlotTurns};
 use crate::rule::{
     About, Caller, Clearing, Cut, Cutting, DrawingTicket, Giving, Losing, Marking, Merge, Merging,
     ReadingBit, ReadingHome, ReadingOwner, ReadingTicket, SeeingTicket, SharedTable, TableSeat,
     Trying, Turn,
 };
 use map_types::DomainId;
-use place_words::{Entry, StrandStep};
+use place_words::{Entries, Entry, LoggedTurn, Part, StrandStep};
 use std::sync::Wait;
 use std::{mem, thread};
 
@@ -88,7 +88,7 @@ pub(crate) fn unload(shared: &SharedTable, seat: &mut TableSeat, lock: u32) -> O
     seat.slot_mut(shared, lock as usize).content.take()
 }
 
-/// Puts a content into the slot that was taken last, and records the turn in its history and in the strand. Without a ticket the
+/// Puts a content into the slot that was taken last, and records the turn there or in the log, and in the strand. Without a ticket the
 /// turn has no entry, and the history is given up. The entry comes back where it isn't recorded.
 pub(crate) fn put_back(
     shared: &SharedTable,
@@ -97,6 +97,7 @@ pub(crate) fn put_back(
     content: Content,
     ticket: &Option<u64>,
     strand: &mut Vec<StrandStep>,
+    log: &mut Vec<LoggedTurn>,
     lock: DomainId,
     entry: Entry,
 ) -> Option<Entry>
@@ -104,15 +105,15 @@ pub(crate) fn put_back(
     requires slot { (behind : Behind) × (seat.old.me.1 ≡ (number, behind) ∷ rest seat.old.me.1)
         × (behind.content ≡ None) }
     ensures seat { (seat.new.table_id ≡ seat.old.table_id) × (seat.new.id ≡ seat.old.id) }
-    ensures put { (behind : Behind) × (history : Option (Vec Entry Global))
+    ensures put { (behind : Behind) × (history : Option SlotTurns)
         × (seat.old.me.1 ≡ (number, behind) ∷ rest seat.old.me.1)
-        × Records (history_with ticket.now behind.history) lock entry strand.old.items
-        strand.new.items record { history = history; lost = result }
+        × Records (history_with ticket.now behind.history) log.old.items lock entry strand.old.items
+        strand.new.items record { history = history; log = log.new.items; lost = result }
         × (seat.new.me
         ≡ (seat.old.me.0, (number, filled content history) ∷ rest seat.old.me.1)) }
 {
     let behind = seat.slot_mut(shared, number as usize);
-    fill(behind, content, ticket, strand, lock, entry)
+    fill(behind, content, ticket, strand, log, lock, entry)
 }
 
 /// Puts a content into the slot that was taken last, and gives up its history.
@@ -134,19 +135,20 @@ pub(crate) fn put_unrecorded(
     };
 }
 
-/// What stands in a slot, with the content that it lacked, and with the turn in its history.
+/// What stands in a slot, with the content that it lacked, and with the turn recorded.
 fn fill(
     behind: &mut Behind,
     content: Content,
     ticket: &Option<u64>,
     strand: &mut Vec<StrandStep>,
+    log: &mut Vec<LoggedTurn>,
     lock: DomainId,
     entry: Entry,
 ) -> Option<Entry>
     requires { behind.old.content ≡ None }
     ensures content { behind.new.content ≡ Some content }
-    ensures recorded { Records (history_with ticket.now behind.old.history) lock entry strand.old.items strand.new.items
-        record { history = behind.new.history; lost = result } }
+    ensures recorded { Records (history_with ticket.now behind.old.history) log.old.items lock entry strand.old.items strand.new.items
+        record { history = behind.new.history; log = log.new.items; lost = result } }
 {
     // Nothing lies there that would be dropped.
     mem::forget(mem::replace(&mut behind.content, Some(content)));
@@ -154,33 +156,126 @@ fn fill(
         behind.history = None;
         return Some(entry);
     }
-    record_turn(strand, &mut behind.history, lock, entry)
+    record_turn(strand, log, &mut behind.history, lock, entry)
 }
 
-/// The history with the entry, and the strand with its step. Where there was no history, or there is no memory for both, there
-/// is none from then on, the strand stays, and the entry comes back.
+/// The history with the entry, or the log with it, and the strand with its step. Where there was no history, or the turn can't be
+/// recorded, there is none from then on, log and strand stay, and the entry comes back.
 fn record_turn(
     strand: &mut Vec<StrandStep>,
-    history: &mut Option<Vec<Entry>>,
+    log: &mut Vec<LoggedTurn>,
+    history: &mut Option<SlotTurns>,
     lock: DomainId,
     entry: Entry,
 ) -> Option<Entry>
-    ensures { Records history.old lock entry strand.old.items strand.new.items
-        record { history = history.new; lost = result } }
+    ensures { Records history.old log.old.items lock entry strand.old.items strand.new.items
+        record { history = history.new; log = log.new.items; lost = result } }
 {
-    let Some(entries) = history else {
+    let Some(turns) = history else {
         return Some(entry);
     };
-    if entries.reserve(1).is_err() || strand.reserve(1).is_err() {
-        *history = None;
+    match record_in(strand, log, turns, lock, entry) {
+        None => None,
+        Some(entry) => {
+            *history = None;
+            Some(entry)
+        }
+    }
+}
+
+/// The turns with the entry behind them, or the log with it, and the strand with its step. Where it can't be recorded, log and strand
+/// stay, and the entry comes back.
+fn record_in(
+    strand: &mut Vec<StrandStep>,
+    log: &mut Vec<LoggedTurn>,
+    turns: &mut SlotTurns,
+    lock: DomainId,
+    entry: Entry,
+) -> Option<Entry>
+    ensures { MatchOption result (RecordsIn (Some turns.old) log.old.items (Some turns.new) lock entry strand.old.items strand.new.items
+        record { history = Some turns.new; log = log.new.items; lost = None })
+        (λ back. (back ≡ entry) × (log.new.items ≡ log.old.items)
+        × (strand.new.items ≡ strand.old.items)) }
+{
+    match turns {
+        SlotTurns::Here(entries) => record_here(strand, entries, lock, entry),
+        SlotTurns::Logged(count) => record_logged(strand, log, count, lock, entry),
+    }
+}
+
+/// The turns with the entry behind them, and the strand with its step. Where there is no memory for both, or the part is none of this
+/// lock's, the strand stays, and the entry comes back.
+fn record_here(
+    strand: &mut Vec<StrandStep>,
+    entries: &mut Entries,
+    lock: DomainId,
+    entry: Entry,
+) -> Option<Entry>
+    ensures { MatchOption result ((entries.new ≡ entries.old ++ entry ∷ [])
+        × (strand.new.items ≡ strand.old.items ++ recorded_step lock (length entries.old) ∷ []))
+        (λ back. (back ≡ entry) × (strand.new.items ≡ strand.old.items)) }
+{
+    if strand.reserve(1).is_err() {
         return Some(entry);
     }
-    strand.push_reserved(StrandStep {
-        lock,
-        index: entries.len() as u64,
-    });
-    entries.push_reserved(entry);
-    None
+    let index = entries.len() as u64;
+    match entries.push(entry) {
+        Ok(()) => {
+            strand.push_reserved(StrandStep { lock, index });
+            None
+        }
+        Err(entry) => Some(entry),
+    }
+}
+
+/// The log with the turn of a bucket, the strand with its step, and one turn more that is counted. Where there is no memory for
+/// both, the turn is none of a bucket, or its bucket has had 2^32 - 1 turns, log and strand stay, and the entry comes back.
+fn record_logged(
+    strand: &mut Vec<StrandStep>,
+    log: &mut Vec<LoggedTurn>,
+    count: &mut u32,
+    lock: DomainId,
+    entry: Entry,
+) -> Option<Entry>
+    ensures { MatchOption result
+        (IsLogged log.old.items log.new.items count.old count.new lock entry strand.old.items strand.new.items)
+        (λ back. (back ≡ entry) × (log.new.items ≡ log.old.items)
+        × (strand.new.items ≡ strand.old.items)) }
+{
+    let index = *count;
+    if index == u32::MAX || strand.reserve(1).is_err() || log.reserve(1).is_err() {
+        return Some(entry);
+    }
+    let Entry {
+        ticket,
+        cpu,
+        call,
+        part,
+    } = entry;
+    match (lock, part) {
+        (DomainId::Bucket(bucket), Part::Bucket(part)) => {
+            log.push_reserved(LoggedTurn {
+                bucket,
+                index,
+                ticket,
+                cpu,
+                call,
+                part,
+            });
+            strand.push_reserved(StrandStep {
+                lock,
+                index: index as u64,
+            });
+            *count = index + 1;
+            None
+        }
+        (_, part) => Some(Entry {
+            ticket,
+            cpu,
+            call,
+            part,
+        }),
+    }
 }
 
 /// Draws the ticket of the turn of the lock that was taken last, which is still held. None where the ticket word has 2^63 or
@@ -219,6 +314,7 @@ pub(crate) fn give_lock<N: Turn>(
     seat: &mut TableSeat,
     lock: u32,
     lost: &Option<Entry>,
+    log: &Vec<LoggedTurn>,
     strand: &Vec<StrandStep>,
 )
     requires table { seat.old.table_id ≡ shared.now.table_id }
@@ -226,7 +322,7 @@ pub(crate) fn give_lock<N: Turn>(
     requires lock { (lock < lock_count shared.now.key)
         × IsTrue (is_lock shared.now.key (lock_named shared.now.key lock)) }
     requires turn { (N.entry
-        ≡ numbered_entry seat.old.me.0 (entry_given lost.now seat.old.me.1))
+        ≡ numbered_entry seat.old.me.0 (entry_given lost.now log.now.items seat.old.me.1))
         × (N.kept ≡ strand.now.items) }
     requires may { (behind : Behind) × (slots : List (ℕ × Behind)) × (hold : Hold)
         × (below : List Hold) × (seat.old.me.1 ≡ (lock, behind) ∷ slots)
@@ -237,6 +333,7 @@ pub(crate) fn give_lock<N: Turn>(
 {
     // Only the clauses name these.
     let _ = lost;
+    let _ = log;
     let _ = strand;
     shared.store::<Giving<N>>(seat, lock as usize, 0);
 }

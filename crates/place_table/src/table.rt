@@ -178,10 +178,18 @@ impl PlaceTable {
             content,
             &ticket,
             &mut pass.strand,
+            &mut pass.made.log,
             lock,
             entry,
         );
-        give_lock::<Brand>(shared, &mut pass.seat, number, &lost, &pass.strand);
+        give_lock::<Brand>(
+            shared,
+            &mut pass.seat,
+            number,
+            &lost,
+            &pass.made.log,
+            &pass.strand,
+        );
     }
 
     /// Gives the lock back with no part. Its history is lost.

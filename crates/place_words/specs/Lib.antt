@@ -5,6 +5,7 @@ pub mod Choices
 pub mod Codes
 pub mod Counts
 pub mod Cursors
+pub mod Entries
 pub mod Evicting
 pub mod Freelists
 pub mod Globals
@@ -40,6 +41,7 @@ pub mod Takings
 pub mod Tickets
 pub mod Totals
 pub mod Traces
+pub mod TurnLogs
 pub mod Turns
 pub mod Walks
 pub mod Wholeness

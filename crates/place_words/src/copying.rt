@@ -51,7 +51,7 @@ pub(crate) fn copy_each<T: EqualCopy>(list: &List<T>, alloc: Global) -> Result<L
 }
 
 /// Copies of all of these.
-fn copies_of<T: EqualCopy>(alloc: Global, items: &[T]) -> Result<Vec<T>, NoMemory>
+pub(crate) fn copies_of<T: EqualCopy>(alloc: Global, items: &[T]) -> Result<Vec<T>, NoMemory>
     ensures { IfOk result (λ copies. copies.items ≡ items.now) }
 {
     let mut copies = Vec::with_capacity(alloc, items.len())?;

@@ -2,8 +2,8 @@
 
 ghost use Rattle.std.specs.Prelude.{◌≡◌, IfOk};
 
-use crate::copying::{EqualCopy, copy_each, copy_list};
-use crate::{FreePart, PackedBucket, PackedGlobal, PackedLocal, PackedOwn};
+use crate::copying::{EqualCopy, copy_list};
+use crate::{Entries, FreePart, PackedBucket, PackedGlobal, PackedLocal, PackedOwn};
 use map_types::{DomainId, List, NoMemory, Numbers};
 use std::alloc::Global;
 
@@ -31,7 +31,7 @@ pub struct Entry {
 #[derive(Drop)]
 pub struct LockHistory {
     pub lock: DomainId,
-    pub entries: List<Entry>,
+    pub entries: Entries,
 }
 
 /// The turns of some CPUs in a phase of a run, in the order in which they gave the locks back.
@@ -51,29 +51,6 @@ pub struct StrandStep {
     pub index: u64,
 }
 
-impl EqualCopy for Part {
-    fn copy(&self, alloc: Global) -> Result<Part, NoMemory> {
-        match self {
-            Part::Bucket(part) => Ok(Part::Bucket(part.copy(alloc)?)),
-            Part::Free(part) => Ok(Part::Free(*part)),
-            Part::Local(part) => Ok(Part::Local(part.copy(alloc)?)),
-            Part::Global(part) => Ok(Part::Global(part.copy(alloc)?)),
-            Part::Own(part) => Ok(Part::Own(part.copy(alloc)?)),
-        }
-    }
-}
-
-impl EqualCopy for Entry {
-    fn copy(&self, alloc: Global) -> Result<Entry, NoMemory> {
-        Ok(Entry {
-            ticket: self.ticket,
-            cpu: self.cpu,
-            call: self.call,
-            part: self.part.copy(alloc)?,
-        })
-    }
-}
-
 impl LockHistory {
     /// An equal one.
     pub fn copy(&self, alloc: Global) -> Result<LockHistory, NoMemory>
@@ -81,7 +58,7 @@ impl LockHistory {
     {
         Ok(LockHistory {
             lock: self.lock,
-            entries: copy_each(&self.entries, alloc)?,
+            entries: self.entries.copy(alloc)?,
         })
     }
 }

@@ -5,6 +5,7 @@
 
 mod bucket_part;
 mod copying;
+mod entries;
 mod finals;
 mod free_part;
 mod history;
@@ -19,9 +20,11 @@ mod packed_bucket;
 mod pair;
 mod shares;
 mod step;
+mod turn_logs;
 mod visits;
 
 pub use bucket_part::{BucketPart, NextFound, Put, Seen, Walked};
+pub use entries::{Entries, EntryAt, PartAt};
 pub use finals::{Finals, Kept, LocalFinal, SetFinal};
 pub use free_part::FreePart;
 pub use history::{Entry, LockHistory, Part, Strand, StrandStep};
@@ -35,4 +38,5 @@ pub use packed::{PackedGlobal, PackedLocal, PackedOwn};
 pub use packed_bucket::PackedBucket;
 pub use shares::share;
 pub use step::{Lists, Step};
+pub use turn_logs::{LoggedTurn, TurnLogs, TurnPlace};
 pub use visits::{Flush, Look, ShrinkNote, Try, Visit};

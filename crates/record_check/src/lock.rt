@@ -13,7 +13,7 @@ use crate::chains::bucket_told;
 use finals_check::{Lies, Lying, is_told};
 use local_replay::replay_local;
 use map_types::{DomainId, List, Shape};
-use place_words::{Entry, Finals, LockHistory};
+use place_words::{Entries, Finals, LockHistory};
 use record_replay::{replay_bucket, replay_freelist};
 use replay_words::{Note, ReplayStop};
 use set_replay::{replay_global, replay_own};
@@ -41,7 +41,7 @@ pub(crate) fn replay_lock(
         (LockReplays shape.now finals.now history.now.lock history.now.entries)
         (StopsAt shape.now history.now.lock history.now.entries) }
 {
-    let entries = history.entries.as_slice();
+    let entries = &history.entries;
     match history.lock {
         DomainId::Local(cpu) => replay_locals(alloc, shape, finals, cpu, entries),
         DomainId::Global => replay_globals(alloc, shape, finals, entries),
@@ -57,7 +57,7 @@ fn replay_locals(
     shape: &Shape,
     finals: &Finals,
     cpu: u32,
-    entries: &[Entry],
+    entries: &Entries,
 ) -> Result<ReplayedLock, ReplayStop>
     ensures { MatchResult result
         (LockReplays shape.now finals.now (locks.Local cpu) entries.now)
@@ -79,7 +79,7 @@ fn replay_globals(
     alloc: Global,
     shape: &Shape,
     finals: &Finals,
-    entries: &[Entry],
+    entries: &Entries,
 ) -> Result<ReplayedLock, ReplayStop>
     requires shape { IsShape shape.now }
     requires fits { (calls : ℕ) × AllFit (EntryFits shape.now calls locks.Global) entries.now }
@@ -104,7 +104,7 @@ fn replay_owns(
     shape: &Shape,
     finals: &Finals,
     cpu: u32,
-    entries: &[Entry],
+    entries: &Entries,
 ) -> Result<ReplayedLock, ReplayStop>
     requires { IsShape shape.now }
     ensures { MatchResult result
@@ -128,7 +128,7 @@ fn replay_bodies(
     shape: &Shape,
     finals: &Finals,
     number: u32,
-    entries: &[Entry],
+    entries: &Entries,
 ) -> Result<ReplayedLock, ReplayStop>
     requires shape { IsShape shape.now }
     requires fits { (calls : ℕ) × AllFit (EntryFits shape.now calls (locks.Bucket number)) entries.now }
@@ -149,7 +149,7 @@ fn replay_stack(
     shape: &Shape,
     finals: &Finals,
     cpu: u32,
-    entries: &[Entry],
+    entries: &Entries,
 ) -> Result<ReplayedLock, ReplayStop>
     requires { IsShape shape.now }
     ensures { MatchResult result

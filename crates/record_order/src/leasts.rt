@@ -7,7 +7,7 @@ ghost use Rattle.place_words.specs.Tickets.{tickets_of};
 ghost use Rattle.record_order.specs.TicketTables.{HasNumber, least_after, leasts_on_locks, next_least, number_by, raised, raised_for_all};
 
 use map_types::{NoMemory, Shape};
-use place_words::{Entry, LockHistory, Strand, StrandStep, lock_number};
+use place_words::{Entries, LockHistory, Strand, StrandStep, lock_number};
 use std::alloc::Global;
 
 /// The least tickets by the histories, in the order of the locks.
@@ -16,19 +16,19 @@ pub(crate) fn least_on_locks(alloc: Global, histories: &[LockHistory]) -> Result
 {
     let mut leasts = Vec::new(alloc);
     for history in histories {
-        push_leasts(&mut leasts, history.entries.as_slice())?;
+        push_leasts(&mut leasts, &history.entries)?;
     }
     Ok(leasts)
 }
 
 /// Adds those of a history.
-fn push_leasts(leasts: &mut Vec<u64>, entries: &[Entry]) -> Result<(), NoMemory>
+fn push_leasts(leasts: &mut Vec<u64>, entries: &Entries) -> Result<(), NoMemory>
     ensures { OnOk result (leasts.new.items ≡ leasts.old.items ++ least_after 0 (tickets_of entries.now)) }
 {
     let mut least = 0u64;
-    for entry in entries {
+    for index in 0..entries.len() {
         leasts.push(least)?;
-        least = entry.ticket.saturating_add(1);
+        least = entries.at(index).ticket.saturating_add(1);
     }
     Ok(())
 }

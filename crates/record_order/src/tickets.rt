@@ -10,7 +10,7 @@ ghost use Rattle.record_order.specs.TicketTables.{AreReal, firsts_from, place_of
 use crate::leasts::{least_on_locks, raise_for_all};
 use crate::used::first_wrong;
 use map_types::{NoMemory, Shape};
-use place_words::{Entry, LockHistory, Strand, StrandStep, lock_number};
+use place_words::{Entries, LockHistory, Strand, StrandStep, lock_number};
 use std::alloc::Global;
 
 /// Where the first entry stands whose ticket is wrong, in the order of the locks. There is none exactly where the tickets are as a
@@ -48,17 +48,17 @@ fn all_tickets(alloc: Global, histories: &[LockHistory]) -> Result<Vec<u64>, NoM
 {
     let mut tickets = Vec::new(alloc);
     for history in histories {
-        push_tickets(&mut tickets, history.entries.as_slice())?;
+        push_tickets(&mut tickets, &history.entries)?;
     }
     Ok(tickets)
 }
 
 /// Adds the tickets of some entries.
-fn push_tickets(tickets: &mut Vec<u64>, entries: &[Entry]) -> Result<(), NoMemory>
+fn push_tickets(tickets: &mut Vec<u64>, entries: &Entries) -> Result<(), NoMemory>
     ensures { OnOk result (tickets.new.items ≡ tickets.old.items ++ tickets_of entries.now) }
 {
-    for entry in entries {
-        tickets.push(entry.ticket)?;
+    for index in 0..entries.len() {
+        tickets.push(entries.at(index).ticket)?;
     }
     Ok(())
 }

@@ -5,8 +5,10 @@ use Rattle.std.proofs.lemmas.List.{take_more}
 use Rattle.std.proofs.lemmas.List.Elements.{All-nil, All-cons, All-head, All-tail, All-append}
 use Rattle.place_words.specs.declared.history.Entry.{Entry}
 use Rattle.place_words.specs.declared.history.LockHistory.{LockHistory}
+use Rattle.place_words.specs.Phases.{phase_of}
+use Rattle.map_report.specs.Record.{IsInItsPhase}
 use Rattle.map_report.specs.declared.record.PhaseStart.{PhaseStart}
-use Rattle.record_parts.specs.PhaseTables.{IsLeastWrong}
+use Rattle.record_parts.specs.PhaseTables.{IsLeastWrong, IsOnTime}
 use Rattle.record_flaws.specs.PhaseFlaws.{IsRightEntry, IsRightHistory}
 
 pub all_first : {A : Type 0} (P : A → Type 0) (xs ys : List A) → All P (xs ++ ys) → All P xs
@@ -42,16 +44,26 @@ least_more IsRight xs i x first middle least within is before here =
     subst (λ (ys : List _). IsLeastWrong IsRight ys first least) (sym (take_more xs i x within))
     (least_on before (subst (λ (y : _). IsLeastWrong IsRight (y ∷ []) middle least) is here))
 
--- Of one history, by its entries
-pub least_in_one : (cuts : List ℕ) (starts : List PhaseStart) (history : LockHistory) (entries : List Entry) (first least : ℕ) → entries ≡ history.entries
-    → IsLeastWrong (IsRightEntry cuts starts) entries first least → IsLeastWrong (IsRightHistory cuts starts) (history ∷ []) first least
-least_in_one cuts starts history entries first least same by_entries =
-    let here : IsLeastWrong (IsRightEntry cuts starts) history.entries first least = subst (λ (es : List Entry). IsLeastWrong (IsRightEntry cuts starts) es first least) same by_entries in
-    record {
-      within = here.within;
-      right = λ place less. All-cons (IsRightHistory cuts starts place) history [] (here.right place less) (All-nil (IsRightHistory cuts starts place));
-      wrong = elim here.wrong [
-        | inl as_first ↦ inl as_first
-        | inr wrong ↦ inr (λ all. wrong (All-head (IsRightHistory cuts starts least) history [] all))
-      ];
-    }
+-- of one history, by its entries
+pub least_in_one : (cuts : List ℕ) (starts : List PhaseStart) (history : LockHistory) (first least : ℕ)
+    → IsLeastWrong (IsRightEntry cuts starts) history.entries first least → IsLeastWrong (IsRightHistory cuts starts) (history ∷ []) first least
+least_in_one cuts starts history first least here = record {
+  within = here.within;
+  right = λ place less. All-cons (IsRightHistory cuts starts place) history [] (here.right place less) (All-nil (IsRightHistory cuts starts place));
+  wrong = elim here.wrong [
+    | inl as_first ↦ inl as_first
+    | inr wrong ↦ inr (λ all. wrong (All-head (IsRightHistory cuts starts least) history [] all))
+  ];
+}
+
+-- of one entry that isn't in its phase
+pub least_here : (cuts : List ℕ) (starts : List PhaseStart) (entry : Entry) (first phase : ℕ) → phase ≡ phase_of cuts entry.call → phase < first
+    → (IsOnTime starts phase entry.ticket → ⊥) → IsLeastWrong (IsRightEntry cuts starts) (entry ∷ []) first phase
+least_here cuts starts entry first phase is less late = record {
+  within = omega arith;
+  right = λ place below. All-cons (IsRightEntry cuts starts place) entry [] (λ same. absurd (omega (arith, is, same, below))) (All-nil (IsRightEntry cuts starts place));
+  wrong = inr (λ all. late (on_time (All-head (IsRightEntry cuts starts phase) entry [] all (sym is))));
+}
+  where
+    on_time : IsInItsPhase cuts starts entry → IsOnTime starts phase entry.ticket
+    on_time in_phase = subst (λ (p : ℕ). IsOnTime starts p entry.ticket) (sym is) (record { start = in_phase.start; start_is = in_phase.start_is; from = in_phase.from; to = in_phase.to })

@@ -1,9 +1,9 @@
 -- Sums over lists: a strand has as many steps as its CPUs have entries, in all and then on each lock.
-use Rattle.std.proofs.Common.{◌≡◌, ℕ, zero, suc, ◌+◌, ◌<◌, ◌≤◌, Bool, true, false, cond, eqb, ◌&&◌, ◌||◌, List, [], ◌∷◌, ◌++◌, length, map, Some, refl, ap, sym, ◌∙◌, subst, inl, inr, arith}
+use Rattle.std.proofs.Common.{◌≡◌, ℕ, zero, suc, ◌+◌, ◌<◌, ◌≤◌, Bool, true, false, cond, eqb, ◌&&◌, ◌||◌, List, [], ◌∷◌, ◌++◌, length, get_or, map, take, Some, refl, ap, sym, ◌∙◌, subst, inl, inr, arith}
 use Rattle.std.specs.Prelude.{count_by, filter, option_map, slice_get}
 use Rattle.std.specs.List.{flat_map, sum_by}
 use Rattle.std.proofs.lemmas.Bool.{cases_Bool, cases_eq, eq-eqb, ne_eqb, both_ways}
-use Rattle.std.proofs.lemmas.List.Sums.{length-filter, sum_by-cons}
+use Rattle.std.proofs.lemmas.List.Sums.{count_by_more_no, count_by_more_yes, length-filter, sum_by-cons}
 use Rattle.std.proofs.lemmas.Option.{none-some, same_Some, slice_get-map}
 use Rattle.map_types.specs.declared.kind.DomainId.{DomainId}
 use Rattle.map_types.specs.ElementLists.{one}
@@ -75,6 +75,14 @@ counted test xs = sym (length-filter test xs) ∙ left xs
         by : (b : Bool) → length (filter test ys) ≡ total (λ x. one (test x)) ys → length (cond b (y ∷ filter test ys) (filter test ys)) ≡ one b + total (λ x. one (test x)) ys
         by true rest = omega (arith, rest)
         by false rest = omega (arith, rest)
+
+-- one item more that is counted
+pub counted_more : {A : Type 0} (test : A → Bool) (xs : List A) (i : ℕ) (x : A) (first was now : ℕ) → i < length xs → get_or xs i x ≡ x → was ≡ first + count_by test (take i xs)
+    → now ≡ was + cond (test x) 1 0 → now ≡ first + count_by test (take (i + 1) xs)
+counted_more test xs i x first was now within at before here = elim (cases_Bool (test x)) [
+  | inl passed ↦ let more : ◌≡◌ {A = ℕ} (cond (test x) 1 0) 1 = ap (λ (b : Bool). cond b 1 0) passed in omega (arith, before, here, more, count_by_more_yes test xs i x within (ap test at ∙ passed))
+  | inr failed ↦ let more : ◌≡◌ {A = ℕ} (cond (test x) 1 0) 0 = ap (λ (b : Bool). cond b 1 0) failed in omega (arith, before, here, more, count_by_more_no test xs i x within (ap test at ∙ failed))
+]
 
 -- Steps: each is on one lock
 

@@ -2,6 +2,7 @@
 
 ghost use Rattle.std.specs.Prelude.{◌≡◌, ◌≤◌, ◌<◌, ◌-◌, ◌^◌, ◌⊎◌, ℕ, MatchBool, ◌∷◌, [], length, min};
 ghost use Rattle.map_script.specs.WellFormed.{HasPhases};
+ghost use Rattle.place_words.specs.Entries.{entry_read};
 ghost use Rattle.place_words.specs.Phases.{phase_of};
 ghost use Rattle.place_words.specs.Tickets.{all_entries};
 ghost use Rattle.record_flaws.specs.First.{IsFirstWrong};
@@ -12,7 +13,7 @@ ghost use Rattle.record_shape.specs.WellShaped.{StartsFit};
 
 use map_report::{PhaseStart, RunRecord};
 use map_script::Script;
-use place_words::{Entry, LockHistory};
+use place_words::{Entries, EntryAt, LockHistory};
 
 /// The first phase that isn't right: nothing was drawn and nothing marked at the start of the first one, no phase starts below the
 /// one before it or above the number of entries, and each entry of a call of a phase has a ticket from that phase's start on, and
@@ -90,25 +91,25 @@ fn least_in_all(
 {
     let mut least = first;
     for history in histories {
-        least = least_in(cuts, starts, history.entries.as_slice(), least);
+        least = least_in(cuts, starts, &history.entries, least);
     }
     least
 }
 
 /// The least of a number and the phases that aren't right by these entries.
-fn least_in(cuts: &[u32], starts: &[PhaseStart], entries: &[Entry], first: usize) -> usize
+fn least_in(cuts: &[u32], starts: &[PhaseStart], entries: &Entries, first: usize) -> usize
     ensures { IsLeastWrong (IsRightEntry cuts.now starts.now) entries.now first result }
 {
     let mut least = first;
-    for entry in entries {
-        least = least_with(cuts, starts, entry, least);
+    for index in 0..entries.len() {
+        least = least_with(cuts, starts, entries.at(index), least);
     }
     least
 }
 
 /// The number, or the phase of the entry where that is less and the entry isn't in it.
-fn least_with(cuts: &[u32], starts: &[PhaseStart], entry: &Entry, first: usize) -> usize
-    ensures { IsLeastWrong (IsRightEntry cuts.now starts.now) (entry.now ∷ []) first result }
+fn least_with(cuts: &[u32], starts: &[PhaseStart], entry: EntryAt<'_>, first: usize) -> usize
+    ensures { IsLeastWrong (IsRightEntry cuts.now starts.now) (entry_read entry.entry ∷ []) first result }
 {
     let phase = phase_of(cuts, entry.call);
     if phase < first && !is_on_time(starts, phase, entry.ticket) {

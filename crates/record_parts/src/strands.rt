@@ -5,6 +5,7 @@ ghost use Rattle.std.specs.Bool.{OnFalse, OnTrue};
 ghost use Rattle.std.specs.List.{list_all, list_any};
 ghost use Rattle.map_script.specs.WellFormed.{IsWellFormed};
 ghost use Rattle.map_types.specs.Creation.{IsShape};
+ghost use Rattle.place_words.specs.Entries.{entry_read};
 ghost use Rattle.place_words.specs.Locks.{is_lock, lock_count};
 ghost use Rattle.place_words.specs.Phases.{phase_of};
 ghost use Rattle.place_words.specs.Tickets.{all_entries};
@@ -21,7 +22,9 @@ use crate::phases::phase_of;
 use map_report::RunRecord;
 use map_script::Script;
 use map_types::{Call, DomainId, NoMemory, Shape};
-use place_words::{Entry, LockHistory, Strand, StrandStep, is_lock, lock_named, lock_number};
+use place_words::{
+    Entries, EntryAt, LockHistory, Strand, StrandStep, is_lock, lock_named, lock_number,
+};
 use std::alloc::{AllocError, Global};
 
 /// Which place of a lock's history the last step of a strand names.
@@ -172,13 +175,13 @@ fn are_own_calls(script: &Script, kept: &RunRecord, places: &[usize], strand: &S
 }
 
 /// Whether there is an entry at this place, for a call of one of these CPUs.
-fn is_own_call(calls: &[Call], cpus: &[u32], entries: &[Entry], index: u64) -> bool
+fn is_own_call(calls: &[Call], cpus: &[u32], entries: &Entries, index: u64) -> bool
     ensures { result ≡ passes (is_call_of calls.now cpus.now) (slice_get entries.now index) }
 {
     if index >= entries.len() as u64 {
         return false;
     }
-    let number = entries[index as usize].call as usize;
+    let number = entries.at(index as usize).call as usize;
     match calls.get(number.saturating_sub(1)) {
         Some(call) => has_cpu(call.cpu, cpus),
         None => false,
@@ -208,13 +211,13 @@ fn count_all(
 {
     let mut counts = vec![in alloc; 0; size]?;
     for history in histories {
-        count_each(cuts, history.entries.as_slice(), &mut counts)?;
+        count_each(cuts, &history.entries, &mut counts)?;
     }
     Ok(counts)
 }
 
 /// More entries, each of its CPU in its phase.
-fn count_each(cuts: &[u32], entries: &[Entry], counts: &mut Vec<usize>) -> Result<(), NoMemory>
+fn count_each(cuts: &[u32], entries: &Entries, counts: &mut Vec<usize>) -> Result<(), NoMemory>
     requires few { length cuts.now ≤ 63 }
     requires size { length counts.old.items ≡ (length cuts.now + 1) * 16 }
     requires cpus { All (λ entry. entry.cpu < 16) entries.now }
@@ -222,20 +225,20 @@ fn count_each(cuts: &[u32], entries: &[Entry], counts: &mut Vec<usize>) -> Resul
     ensures counts { IfOk result (λ _. (k : _) → slice_index_or counts.new.items k 0
         ≡ slice_index_or counts.old.items k 0 + count_by (λ entry. cell_of cuts.now entry == k) entries.now) }
 {
-    for entry in entries {
-        count(cuts, entry, counts)?;
+    for index in 0..entries.len() {
+        count(cuts, entries.at(index), counts)?;
     }
     Ok(())
 }
 
 /// One more entry of its CPU in its phase.
-fn count(cuts: &[u32], entry: &Entry, counts: &mut Vec<usize>) -> Result<(), NoMemory>
+fn count(cuts: &[u32], entry: EntryAt<'_>, counts: &mut Vec<usize>) -> Result<(), NoMemory>
     requires few { length cuts.now ≤ 63 }
     requires size { length counts.old.items ≡ (length cuts.now + 1) * 16 }
-    requires cpu { entry.now.cpu < 16 }
+    requires cpu { entry.cpu < 16 }
     ensures size { length counts.new.items ≡ length counts.old.items }
     ensures counts { IfOk result (λ _. (k : _) → slice_index_or counts.new.items k 0
-        ≡ slice_index_or counts.old.items k 0 + (if cell_of cuts.now entry.now == k then 1 else 0)) }
+        ≡ slice_index_or counts.old.items k 0 + (if cell_of cuts.now (entry_read entry.entry) == k then 1 else 0)) }
 {
     let cell = cell(phase_of(cuts, entry.call), entry.cpu);
     counts[cell] = counts[cell].checked_add(1).ok_or(AllocError)?;
@@ -364,7 +367,7 @@ fn entries_at<'a>(
     histories: &'a [LockHistory],
     places: &[usize],
     lock: DomainId,
-) -> &'a [Entry]
+) -> &'a Entries
     requires shape { IsShape shape.now }
     requires locks { map lock_of histories.now ≡ locks_of shape.now }
     requires places { places.now ≡ places_of shape.now }
@@ -373,7 +376,7 @@ fn entries_at<'a>(
 {
     let number = lock_number(shape, lock) as usize;
     let place = places[number];
-    histories[place].entries.as_slice()
+    &histories[place].entries
 }
 
 /// Whether a step stands behind what was marked on its lock for its strand. Then its place is marked.
@@ -396,13 +399,13 @@ fn is_next(step: StrandStep, number: usize, stamp: usize, marks: &mut Vec<Mark>)
 }
 
 /// Whether there is an entry at this place, of a CPU of a strand and for a call of its phase.
-fn passes(cuts: &[u32], strand: &Strand, entries: &[Entry], index: u64) -> bool
+fn passes(cuts: &[u32], strand: &Strand, entries: &Entries, index: u64) -> bool
     ensures { result ≡ passes (is_own cuts.now strand.now.phase strand.now.cpus) (slice_get entries.now index) }
 {
     if index >= entries.len() as u64 {
         return false;
     }
-    let entry = &entries[index as usize];
+    let entry = entries.at(index as usize);
     phase_of(cuts, entry.call) == strand.phase as usize
         && has_cpu(entry.cpu, strand.cpus.as_slice())
 }

@@ -13,8 +13,8 @@ use crate::history::{entry_line, is_same_lock, lock_head};
 use crate::lines::Lines;
 use map_script::Script;
 use map_types::{DomainId, List, NoMemory, Shape};
-use place_words::{Entry, LockHistory, is_lock, lock_named};
-use std::alloc::Global;
+use place_words::{Entries, Entry, LockHistory, is_lock, lock_named};
+use std::alloc::{AllocError, Global};
 
 /// An entry of a lock.
 #[tactic(auto, using(crate::proofs::LineLemmas::line_found, crate::proofs::LineLemmas::line_other, crate::proofs::LineLemmas::line_missing))]
@@ -41,7 +41,8 @@ fn read_entry(
     Ok(Some(entry))
 }
 
-/// So many entries of a lock. The text says how many there are to be, so no room is made for them before they are read.
+/// So many entries of a lock. The text says how many there are to be, so no room is made for them before they are read. Each
+/// has a part of the lock's kind, so that memory is all that one may want for.
 #[tactic(auto, using(crate::proofs::LoopLemmas::many_more, crate::proofs::LoopLemmas::many_none, crate::proofs::LoopLemmas::many_done))]
 fn read_entries(
     alloc: Global,
@@ -50,19 +51,21 @@ fn read_entries(
     lock: DomainId,
     count: u64,
     lines: &mut Lines,
-) -> Result<Option<List<Entry>>, NoMemory>
+) -> Result<Option<Entries>, NoMemory>
     requires shape { IsShape shape.now }
     requires calls { calls ≤ 200000 }
     ensures lines { IfOk result (Reads (so_many count (one_line (whole (entry shape.now calls lock))))
         lines.old.0 lines.new.0) }
     ensures rest { lines.new.1 ≡ lines.old.1 }
 {
-    let mut entries = List::of(Vec::new(alloc));
+    let mut entries = Entries::none_of(alloc, lock);
     for place in 0..count {
         let Some(entry) = read_entry(alloc, shape, calls, lock, lines)? else {
             return Ok(None);
         };
-        entries.push(entry)?;
+        if entries.push(entry).is_err() {
+            return Err(AllocError.into());
+        }
     }
     Ok(Some(entries))
 }
@@ -120,7 +123,7 @@ pub(crate) fn read_histories(
         let Some(count) = entries_due(calls, lock, head) else {
             histories.push(LockHistory {
                 lock,
-                entries: List::of(Vec::new(alloc)),
+                entries: Entries::none_of(alloc, lock),
             })?;
             continue;
         };

@@ -4,6 +4,7 @@ ghost use Rattle.std.specs.Prelude.{◌<◌, ℕ, All, IfOk, MatchResult};
 ghost use Rattle.map_types.specs.Creation.{IsShape};
 ghost use Rattle.map_types.specs.Shape.{HasBounds};
 ghost use Rattle.map_types.specs.declared.kind.DomainId.TheVariants as locks;
+ghost use Rattle.place_words.specs.Entries.{part_read};
 ghost use Rattle.place_words.specs.Histories.{in_bucket};
 ghost use Rattle.place_words.specs.Sizes.{AreSized, GivesSized};
 ghost use Rattle.record_replay.specs.BucketSteps.{IsBucketStep, IsSizedEntry, PartIsSized};
@@ -15,7 +16,7 @@ use crate::updates::update;
 use crate::walks::walk;
 use bucket_chain::{Chain, Write};
 use map_types::{NoMemory, Shape};
-use place_words::{BucketPart, Entry, Part};
+use place_words::{BucketPart, Entries, PartAt};
 use replay_words::ReplayStop;
 use std::alloc::Global;
 
@@ -23,7 +24,7 @@ use std::alloc::Global;
 /// that the rules don't allow. An element may stand there twice, under two keys. A turn on a key or an element looks for it from
 /// the head of the bucket, as the kernel does, so it takes time by the number of elements that lie there. A walk that tells all
 /// elements takes time and memory by them. What lies there has keys and values of the map's sizes.
-pub fn replay_bucket(alloc: Global, shape: &Shape, entries: &[Entry]) -> Result<Chain, ReplayStop>
+pub fn replay_bucket(alloc: Global, shape: &Shape, entries: &Entries) -> Result<Chain, ReplayStop>
     requires shape { IsShape shape.now }
     requires sized { All (IsSizedEntry shape.now) entries.now }
     ensures sized { IfOk result (λ chain. AreSized shape.now chain.bodies) }
@@ -33,8 +34,8 @@ pub fn replay_bucket(alloc: Global, shape: &Shape, entries: &[Entry]) -> Result<
 {
     let mut chain = Chain::empty(alloc);
     for i in 0..entries.len() {
-        let entry = &entries[i];
-        if !moves(alloc, shape, entry.cpu, &entry.part, &mut chain)? {
+        let entry = entries.at(i);
+        if !moves(alloc, shape, entry.cpu, entry.part, &mut chain)? {
             return Err(ReplayStop::NotAllowed { index: i });
         }
     }
@@ -46,22 +47,22 @@ fn moves(
     alloc: Global,
     shape: &Shape,
     cpu: u32,
-    part: &Part,
+    part: PartAt<'_>,
     chain: &mut Chain,
 ) -> Result<bool, NoMemory>
     requires shape { IsShape shape.now }
     requires bounds { HasBounds shape.now }
     requires cpu { cpu < shape.now.cpus }
-    requires part { PartIsSized shape.now part.now }
+    requires part { PartIsSized shape.now (part_read part) }
     requires sized { AreSized shape.now chain.old.bodies }
-    ensures { IfOk result (IsStep shape.now cpu part.now (in_bucket chain.old.bodies) (in_bucket chain.new.bodies)) }
+    ensures { IfOk result (IsStep shape.now cpu (part_read part.entry) (in_bucket chain.old.bodies) (in_bucket chain.new.bodies)) }
 {
     match part {
-        Part::Bucket(packed) => match packed.part() {
+        PartAt::Bucket(packed) => match packed.part() {
             Ok(part) => turn(alloc, shape, cpu, part, chain),
             Err(part) => turn(alloc, shape, cpu, &part, chain),
         },
-        Part::Free(_) | Part::Local(_) | Part::Global(_) | Part::Own(_) => Ok(false),
+        PartAt::Free(_) | PartAt::Local(_) | PartAt::Global(_) | PartAt::Own(_) => Ok(false),
     }
 }
 

@@ -4,13 +4,14 @@ ghost use Rattle.std.specs.Prelude.{◌≡◌, ℕ, IfOk, MatchResult, reverse};
 ghost use Rattle.map_types.specs.Creation.{IsShape};
 ghost use Rattle.map_types.specs.declared.attr.Shape as shapes;
 ghost use Rattle.map_types.specs.declared.kind.DomainId.TheVariants as locks;
+ghost use Rattle.place_words.specs.Entries.{part_read};
 ghost use Rattle.place_words.specs.Histories.{on_freelist};
 ghost use Rattle.place_words.specs.Openings.{opening_free};
 ghost use Rattle.record_replay.specs.Popping.{PopsTop};
 ghost use Rattle.replay_words.specs.Replays.{IsStep, Leads, StopsAt};
 
 use map_types::{DomainId, NoMemory, Numbers, Shape};
-use place_words::{Entry, FreePart, Part, free_at_first, owners_at_first};
+use place_words::{Entries, FreePart, PartAt, free_at_first, owners_at_first};
 use replay_words::ReplayStop;
 use std::alloc::Global;
 
@@ -21,7 +22,7 @@ pub fn replay_freelist(
     alloc: Global,
     shape: &Shape,
     cpu: u32,
-    entries: &[Entry],
+    entries: &Entries,
 ) -> Result<Numbers, ReplayStop>
     requires { IsShape shape.now }
     ensures { MatchResult result
@@ -30,7 +31,7 @@ pub fn replay_freelist(
 {
     let mut stack = opening_stack(alloc, shape, cpu)?;
     for i in 0..entries.len() {
-        if !moves(&mut stack, &entries[i].part)? {
+        if !moves(&mut stack, entries.at(i).part)? {
             return Err(ReplayStop::NotAllowed { index: i });
         }
     }
@@ -60,18 +61,18 @@ fn top_first(stack: Vec<u32>) -> Numbers
 }
 
 /// Makes a turn on a stack whose top is last, and says whether it is allowed there.
-fn moves(stack: &mut Vec<u32>, part: &Part) -> Result<bool, NoMemory>
-    ensures { IfOk result (λ allowed. (shape : shapes.Shape) (cpu : ℕ) → IsStep shape cpu part.now
+fn moves(stack: &mut Vec<u32>, part: PartAt<'_>) -> Result<bool, NoMemory>
+    ensures { IfOk result (λ allowed. (shape : shapes.Shape) (cpu : ℕ) → IsStep shape cpu (part_read part.entry)
         (on_freelist (reverse stack.old.items)) (on_freelist (reverse stack.new.items)) allowed) }
 {
     match part {
-        Part::Free(FreePart::Pushed(element)) => {
-            stack.push(*element)?;
+        PartAt::Free(FreePart::Pushed(element)) => {
+            stack.push(element)?;
             Ok(true)
         }
-        Part::Free(FreePart::Popped(element)) => Ok(pops(stack, *element)),
-        Part::Free(FreePart::FoundEmpty) => Ok(stack.is_empty()),
-        Part::Bucket(_) | Part::Local(_) | Part::Global(_) | Part::Own(_) => Ok(false),
+        PartAt::Free(FreePart::Popped(element)) => Ok(pops(stack, element)),
+        PartAt::Free(FreePart::FoundEmpty) => Ok(stack.is_empty()),
+        PartAt::Bucket(_) | PartAt::Local(_) | PartAt::Global(_) | PartAt::Own(_) => Ok(false),
     }
 }
 

@@ -1,6 +1,7 @@
 //! Turns of the global set that an entry tells.
 
 ghost use Rattle.std.specs.Prelude.{◌≡◌, ◌<◌, All, IfOk, Some, true};
+ghost use Rattle.place_words.specs.Entries.{part_read};
 ghost use Rattle.place_words.specs.declared.history.Part.TheVariants as parts;
 ghost use Rattle.place_words.specs.declared.visits.Flush as flushes_record;
 ghost use Rattle.set_replay.specs.GlobalTurns.{AreMarked, FlushesBelow, list_of as list_named, ComingJudged, FlushJudged, PopJudged, MovingJudged, GlobalEntryJudged, GlobalShrinkJudged, GlobalTurnJudged};
@@ -14,7 +15,7 @@ use crate::told::Calls;
 use lru_lists::{ListName, ListSet};
 use map_types::{List, NoMemory, Row};
 use percpu_values::BodyStack;
-use place_words::{Flush, GlobalPart, PackedGlobal, Part, ShrinkNote};
+use place_words::{Flush, GlobalPart, PackedGlobal, PartAt, ShrinkNote};
 use replay_words::Note;
 use row_list::Rows;
 use std::alloc::Global;
@@ -30,16 +31,16 @@ pub(crate) fn global_entry<S: Rows>(
     calls: &mut Calls,
     set: &mut ListSet<S>,
     marks: &mut Vec<bool>,
-    part: &Part,
+    part: PartAt<'_>,
 ) -> Result<Option<Note>, NoMemory>
     requires room { HasFreeRoom set.old }
     requires marks { AreMarked marks.old.items set.old }
-    requires below { FlushesBelow set.old.elements part.now }
-    ensures { IfOk result (GlobalEntryJudged part.now set.old set.new marks.new.items) }
+    requires below { FlushesBelow set.old.elements (part_read part) }
+    ensures { IfOk result (GlobalEntryJudged (part_read part.entry) set.old set.new marks.new.items) }
 {
     match part {
-        Part::Global(part) => global_packed(alloc, calls, set, marks, part),
-        Part::Bucket(_) | Part::Free(_) | Part::Local(_) | Part::Own(_) => Ok(None),
+        PartAt::Global(part) => global_packed(alloc, calls, set, marks, part),
+        PartAt::Bucket(_) | PartAt::Free(_) | PartAt::Local(_) | PartAt::Own(_) => Ok(None),
     }
 }
 

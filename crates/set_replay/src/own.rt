@@ -2,6 +2,7 @@
 
 ghost use Rattle.std.specs.Prelude.{◌≡◌, IfOk, map, Some};
 ghost use Rattle.lru_lists.specs.declared.bits.ProbeCall as probe_calls;
+ghost use Rattle.place_words.specs.Entries.{part_read};
 ghost use Rattle.place_words.specs.Histories.{in_own};
 ghost use Rattle.place_words.specs.declared.history.Part.TheVariants as parts;
 ghost use Rattle.set_replay.specs.Pushing.{HasFreeRoom};
@@ -15,7 +16,7 @@ use crate::told::Calls;
 use lru_lists::{ListName, ListSet, ProbeCall};
 use map_types::{List, NoMemory, Row};
 use percpu_values::BodyStack;
-use place_words::{OwnPart, PackedOwn, Part, ShrinkNote};
+use place_words::{OwnPart, PackedOwn, PartAt, ShrinkNote};
 use replay_words::Note;
 use row_list::Rows;
 use std::alloc::Global;
@@ -30,14 +31,14 @@ pub(crate) fn own_entry<S: Rows>(
     alloc: Global,
     calls: &mut Calls,
     set: &mut ListSet<S>,
-    part: &Part,
+    part: PartAt<'_>,
 ) -> Result<Option<Note>, NoMemory>
     requires { HasFreeRoom set.old }
-    ensures { IfOk result (EntryJudged in_own part.now set.old set.new) }
+    ensures { IfOk result (EntryJudged in_own (part_read part.entry) set.old set.new) }
 {
     match part {
-        Part::Own(part) => own_packed(alloc, calls, set, part),
-        Part::Bucket(_) | Part::Free(_) | Part::Local(_) | Part::Global(_) => Ok(None),
+        PartAt::Own(part) => own_packed(alloc, calls, set, part),
+        PartAt::Bucket(_) | PartAt::Free(_) | PartAt::Local(_) | PartAt::Global(_) => Ok(None),
     }
 }
 

@@ -21,7 +21,7 @@ use linked_rows::LinkedRows;
 use lru_lists::{ListName, ListSet};
 use map_types::{DomainId, List, NoMemory, Numbers, Shape};
 use percpu_values::BoxedBody;
-use place_words::{Entry, SetFinal, free_at_first, owners_at_first};
+use place_words::{Entries, SetFinal, free_at_first, owners_at_first};
 use replay_words::{Note, ReplayStop};
 use row_list::Rows;
 use std::alloc::Global;
@@ -42,7 +42,7 @@ pub fn replay_own(
     alloc: Global,
     shape: &Shape,
     cpu: u32,
-    entries: &[Entry],
+    entries: &Entries,
 ) -> Result<ReplayedSet, ReplayStop>
     requires { IsShape shape.now }
     ensures { MatchResult result
@@ -53,7 +53,7 @@ pub fn replay_own(
     let mut calls = Calls::empty(alloc);
     let mut notes = List::of(Vec::new(alloc));
     for i in 0..entries.len() {
-        let Some(note) = own_entry(alloc, &mut calls, &mut set, &entries[i].part)? else {
+        let Some(note) = own_entry(alloc, &mut calls, &mut set, entries.at(i).part)? else {
             return Err(ReplayStop::NotAllowed { index: i });
         };
         notes.push(note)?;
@@ -68,7 +68,7 @@ pub fn replay_own(
 pub fn replay_global(
     alloc: Global,
     shape: &Shape,
-    entries: &[Entry],
+    entries: &Entries,
 ) -> Result<ReplayedSet, ReplayStop>
     requires shape { IsShape shape.now }
     // as it is in a well-shaped record
@@ -81,7 +81,7 @@ pub fn replay_global(
     let mut calls = Calls::empty(alloc);
     let mut notes = List::of(Vec::new(alloc));
     for i in 0..entries.len() {
-        let part = &entries[i].part;
+        let part = entries.at(i).part;
         let Some(note) = global_entry(alloc, &mut calls, &mut set, &mut marks, part)? else {
             return Err(ReplayStop::NotAllowed { index: i });
         };

@@ -106,7 +106,7 @@ fn flushes_listed(kept: &Kept, histories: &[LockHistory], turns: &Turns, ticket:
     ensures { MatchBool result (FlushesListed (words_in (view_of kept.now)) (turn_in (turns_of histories.now turns.now) ticket).entry.part)
         (¬ FlushesListed (words_in (view_of kept.now)) (turn_in (turns_of histories.now turns.now) ticket).entry.part) }
 {
-    part_flushes_listed(kept, &entry_at(histories, turns.places[ticket]).part)
+    part_flushes_listed(kept, entry_at(histories, turns.places[ticket]).part)
 }
 
 /// The bucket of the innermost turn that encloses the one of a ticket.
@@ -157,7 +157,7 @@ fn run_turn(
         entry.cpu,
         lock_at(histories, place),
         bucket,
-        &entry.part,
+        entry.part,
     )?;
     Ok(given)
 }

@@ -2,22 +2,23 @@
 
 ghost use Rattle.std.specs.Prelude.{◌≡◌, ◌≢◌, All, MatchBool, map};
 ghost use Rattle.place_words.specs.declared.owner.Owner.TheVariants as owners;
+ghost use Rattle.place_words.specs.Entries.{part_read};
 ghost use Rattle.step_check.specs.Answers.{view_of};
 ghost use Rattle.step_check.specs.Judged.{FlushesListed, flushed_in};
 ghost use Rattle.step_check.specs.WordsView.{AreWords, words_in};
 
 use crate::words::Kept;
-use place_words::{GlobalPart, Owner, PackedGlobal, Part};
+use place_words::{GlobalPart, Owner, PackedGlobal, PartAt};
 
 /// Whether what a part flushes isn't free.
-pub(crate) fn part_flushes_listed(kept: &Kept, part: &Part) -> bool
+pub(crate) fn part_flushes_listed(kept: &Kept, part: PartAt<'_>) -> bool
     requires { AreWords (view_of kept.now) }
-    ensures { MatchBool result (FlushesListed (words_in (view_of kept.now)) part.now)
-        (¬ FlushesListed (words_in (view_of kept.now)) part.now) }
+    ensures { MatchBool result (FlushesListed (words_in (view_of kept.now)) (part_read part.entry))
+        (¬ FlushesListed (words_in (view_of kept.now)) (part_read part.entry)) }
 {
     match part {
-        Part::Global(part) => packed_flushes_listed(kept, part),
-        Part::Bucket(_) | Part::Free(_) | Part::Local(_) | Part::Own(_) => true,
+        PartAt::Global(part) => packed_flushes_listed(kept, part),
+        PartAt::Bucket(_) | PartAt::Free(_) | PartAt::Local(_) | PartAt::Own(_) => true,
     }
 }
 

@@ -1,13 +1,14 @@
 //! Which turn encloses one, by their tickets.
 
 ghost use Rattle.std.specs.Prelude.{◌≡◌, ◌<◌, ◌+◌, All, IfOk, None, length, replicate, if◌then◌else◌};
+ghost use Rattle.place_words.specs.Entries.{part_read};
 ghost use Rattle.place_words.specs.Interleaving.{Drawn, is_global_turn, is_inner};
 ghost use Rattle.step_check.specs.Outer.{AreNumbered, AreOuter, HaveOneCpu, first_below, no_next, with_turn};
 ghost use Rattle.step_check.specs.Places.{IsPlace, turns_at};
 
 use crate::places::{TurnPlace, entry_at, lock_at};
 use map_types::{DomainId, NoMemory};
-use place_words::{GlobalPart, LockHistory, Part};
+use place_words::{GlobalPart, LockHistory, PartAt};
 use std::alloc::Global;
 
 /// Of one call, the next turns whose locks are taken before lists that all CPUs share or a list set, before a bucket, and before a
@@ -76,14 +77,14 @@ fn find_outer(
         let lock = lock_at(histories, places[ticket]);
         let entry = entry_at(histories, places[ticket]);
         let later = next[entry.call as usize];
-        outer[ticket] = outer_turn(later, lock, &entry.part);
+        outer[ticket] = outer_turn(later, lock, entry.part);
         next[entry.call as usize] = with_turn(later, lock, ticket);
     }
 }
 
 /// The innermost turn that encloses one with this part, under this lock.
-fn outer_turn(next: NextTurns, lock: DomainId, part: &Part) -> Option<usize>
-    ensures { result ≡ (if is_inner part.now then first_below next lock else None) }
+fn outer_turn(next: NextTurns, lock: DomainId, part: PartAt<'_>) -> Option<usize>
+    ensures { result ≡ (if is_inner (part_read part.entry) then first_below next lock else None) }
 {
     if is_inner(part) {
         first_below(next, lock)
@@ -129,17 +130,17 @@ fn with_turn(next: NextTurns, lock: DomainId, ticket: usize) -> NextTurns
 }
 
 /// Whether what a turn did is done inside another turn.
-fn is_inner(part: &Part) -> bool
-    ensures { result ≡ is_inner part.now }
+fn is_inner(part: PartAt<'_>) -> bool
+    ensures { result ≡ is_inner (part_read part.entry) }
 {
     match part {
-        Part::Bucket(part) => part.eviction().is_some(),
-        Part::Free(_) => true,
-        Part::Global(part) => match part.part() {
+        PartAt::Bucket(part) => part.eviction().is_some(),
+        PartAt::Free(_) => true,
+        PartAt::Global(part) => match part.part() {
             Ok(part) => is_global_turn(part),
             Err(part) => is_global_turn(&part),
         },
-        Part::Local(_) | Part::Own(_) => false,
+        PartAt::Local(_) | PartAt::Own(_) => false,
     }
 }
 

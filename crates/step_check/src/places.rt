@@ -2,13 +2,14 @@
 
 ghost use Rattle.std.specs.Prelude.{◌≡◌, ℕ, ◌++◌, ◌<◌, All, IfOk, IsPermutation, OnOk, filter, length, slice_index_or, replicate};
 ghost use Rattle.std.specs.List.{range_with_len};
+ghost use Rattle.place_words.specs.Entries.{entry_read};
 ghost use Rattle.place_words.specs.Tickets.{all_entries, tickets_of};
 ghost use Rattle.turn_order.specs.Ordered.{all_drawn};
 ghost use Rattle.step_check.specs.Places.{AreInOrder, IsPlace, entry_at, has_ticket, history_at, last_of, places_in, turns_at};
 ghost use Rattle.step_check.specs.declared.places.TurnPlace.{TurnPlace};
 
 use map_types::{DomainId, NoMemory};
-use place_words::{Entry, LockHistory};
+use place_words::{Entries, EntryAt, LockHistory};
 use std::alloc::Global;
 
 /// Where a turn stands: the number of its history, and its index there.
@@ -27,11 +28,11 @@ pub(crate) fn lock_at(histories: &[LockHistory], place: TurnPlace) -> DomainId
 }
 
 /// The entry of a turn.
-pub(crate) fn entry_at(histories: &[LockHistory], place: TurnPlace) -> &Entry
+pub(crate) fn entry_at(histories: &[LockHistory], place: TurnPlace) -> EntryAt<'_>
     requires { IsPlace histories.now place }
-    ensures { result.now ≡ entry_at histories.now place }
+    ensures { entry_read result ≡ entry_at histories.now place }
 {
-    &histories[place.history].entries.as_slice()[place.index]
+    histories[place.history].entries.at(place.index)
 }
 
 /// The places of all turns, in the order of their tickets, each of which was drawn once.
@@ -56,7 +57,7 @@ fn all_places(alloc: Global, histories: &[LockHistory]) -> Result<Vec<TurnPlace>
 {
     let mut places = Vec::new(alloc);
     for number in 0..histories.len() {
-        push_places(&mut places, number, histories[number].entries.as_slice())?;
+        push_places(&mut places, number, &histories[number].entries)?;
     }
     Ok(places)
 }
@@ -65,7 +66,7 @@ fn all_places(alloc: Global, histories: &[LockHistory]) -> Result<Vec<TurnPlace>
 fn push_places(
     places: &mut Vec<TurnPlace>,
     history: usize,
-    entries: &[Entry],
+    entries: &Entries,
 ) -> Result<(), NoMemory>
     ensures { OnOk result (places.new.items ≡ places.old.items ++ places_in history 0 entries.now) }
 {

@@ -3,6 +3,7 @@
 ghost use Rattle.std.specs.Prelude.{ℕ, ◌≡◌, [], ◌∷◌, ◌++◌, map, IfOk};
 ghost use Rattle.place_words.specs.declared.step.Lists as lists_of;
 ghost use Rattle.place_words.specs.declared.step.Step.TheVariants as steps;
+ghost use Rattle.place_words.specs.Entries.{part_read};
 ghost use Rattle.place_words.specs.Interleaving.{bucket_of_lock, bucket_steps, does, global_steps, local_steps, own_steps, part_steps, seen_by, seen_in};
 ghost use Rattle.step_check.specs.Answers.{view_of};
 ghost use Rattle.step_check.specs.Ran.{Ran, seen_list, step_of};
@@ -15,7 +16,7 @@ use crate::owners::sees;
 use crate::parts::{bucket_changes, free_changes, local_changes};
 use crate::words::Kept;
 use map_types::{DomainId, NoMemory, Shape};
-use place_words::{PackedBucket, PackedGlobal, PackedLocal, PackedOwn, Part, Seen};
+use place_words::{PackedBucket, PackedGlobal, PackedLocal, PackedOwn, PartAt, Seen};
 use std::alloc::Global;
 
 /// The bucket of a bucket's lock.
@@ -37,23 +38,23 @@ pub(crate) fn part_changes(
     cpu: u32,
     lock: DomainId,
     around: Option<u32>,
-    part: &Part,
+    part: PartAt<'_>,
 ) -> Result<Vec<Change>, NoMemory>
     ensures { IfOk result (λ changes. map (step_of cpu) changes.items
-        ≡ part_steps shape.now cpu lock around part.now) }
+        ≡ part_steps shape.now cpu lock around (part_read part.entry)) }
 {
     match part {
-        Part::Bucket(part) => {
+        PartAt::Bucket(part) => {
             let changes = packed_bucket(alloc, shape, bucket_of(lock).unwrap_or(0), part)?;
             Ok(changes)
         }
-        Part::Free(part) => {
-            let changes = free_changes(alloc, around, lock, *part)?;
+        PartAt::Free(part) => {
+            let changes = free_changes(alloc, around, lock, part)?;
             Ok(changes)
         }
-        Part::Local(part) => packed_local(alloc, cpu, lock, part),
-        Part::Global(part) => packed_global(alloc, cpu, part),
-        Part::Own(part) => packed_own(alloc, cpu, lock, part),
+        PartAt::Local(part) => packed_local(alloc, cpu, lock, part),
+        PartAt::Global(part) => packed_global(alloc, cpu, part),
+        PartAt::Own(part) => packed_own(alloc, cpu, lock, part),
     }
 }
 
@@ -140,19 +141,19 @@ fn seen_in_bucket(part: &PackedBucket) -> Option<(u32, u32)>
 }
 
 /// The element that a turn sees in a hand, and whose hand it is.
-fn seen_of(part: &Part) -> Option<(u32, u32)>
-    ensures { seen_by part.now ≡ seen_list result }
+fn seen_of(part: PartAt<'_>) -> Option<(u32, u32)>
+    ensures { seen_by (part_read part.entry) ≡ seen_list result }
 {
     match part {
-        Part::Bucket(part) => seen_in_bucket(part),
-        Part::Free(_) | Part::Local(_) | Part::Global(_) | Part::Own(_) => None,
+        PartAt::Bucket(part) => seen_in_bucket(part),
+        PartAt::Free(_) | PartAt::Local(_) | PartAt::Global(_) | PartAt::Own(_) => None,
     }
 }
 
 /// Whether what a turn sees in a hand is there.
-fn all_seen(kept: &Kept, part: &Part) -> bool
+fn all_seen(kept: &Kept, part: PartAt<'_>) -> bool
     requires { AreWords (view_of kept.now) }
-    ensures { Ran (view_of kept.now) (seen_by part.now) (view_of kept.now) result }
+    ensures { Ran (view_of kept.now) (seen_by (part_read part.entry)) (view_of kept.now) result }
 {
     match seen_of(part) {
         Some((element, hand)) => sees(kept, element, hand),
@@ -167,12 +168,12 @@ pub(crate) fn run_part(
     cpu: u32,
     lock: DomainId,
     around: Option<u32>,
-    part: &Part,
+    part: PartAt<'_>,
 ) -> Result<bool, NoMemory>
     requires { AreWords (view_of kept.old) }
     ensures { IfOk result (λ answer. (lists : lists_of.Lists) → Ran (view_of kept.old)
-        (map does (part_steps kept.old.shape cpu lock around part.now)
-        ++ seen_by part.now ++ does (steps.Give cpu lock lists) ∷ []) (view_of kept.new) answer) }
+        (map does (part_steps kept.old.shape cpu lock around (part_read part.entry))
+        ++ seen_by (part_read part.entry) ++ does (steps.Give cpu lock lists) ∷ []) (view_of kept.new) answer) }
 {
     let changes = part_changes(alloc, &kept.shape, cpu, lock, around, part)?;
     if !run_changes(kept, cpu, changes.as_slice()) {

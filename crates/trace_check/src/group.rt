@@ -1,12 +1,13 @@
 //! A bucket's turn, with the turns of freelists before it.
 
 ghost use Rattle.std.specs.Prelude.{◌≡◌, MatchOption, None, Some};
+ghost use Rattle.place_words.specs.Entries.{part_read};
 ghost use Rattle.trace_check.specs.Reading as reading;
 
 use crate::parts::is_free;
 use crate::strand::{Turn, Turns};
 use map_types::DomainId;
-use place_words::{PackedBucket, Part};
+use place_words::{PackedBucket, PartAt};
 use std::marker::Model;
 
 /// What a turn of a bucket did, the turns of freelists before it, and the turns behind it.
@@ -59,11 +60,12 @@ fn at_bucket<'a>(bucket: u32, turn: &Turn<'a>) -> Option<&'a PackedBucket>
 }
 
 /// What was done under a bucket's lock.
-fn bucket_part(part: &Part) -> Option<&PackedBucket>
-    ensures { MatchOption result (reading.of_bucket Some part.now ≡ None) (λ done. reading.of_bucket Some part.now ≡ Some done.now) }
+fn bucket_part<'a>(part: PartAt<'a>) -> Option<&'a PackedBucket>
+    ensures { MatchOption result (reading.of_bucket Some (part_read part.entry) ≡ None)
+        (λ done. reading.of_bucket Some (part_read part.entry) ≡ Some done.now) }
 {
     match part {
-        Part::Bucket(done) => Some(done),
+        PartAt::Bucket(done) => Some(done),
         _ => None,
     }
 }

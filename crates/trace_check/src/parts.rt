@@ -1,6 +1,7 @@
 //! What a turn tells, if it is one that a call asks for.
 
 ghost use Rattle.std.specs.Prelude.{◌≡◌, MatchOption, None, Some, true};
+ghost use Rattle.place_words.specs.Entries.{part_read};
 ghost use Rattle.place_words.specs.PackedBuckets.{may_lie_in_place};
 ghost use Rattle.place_words.specs.Turns.{on_freelist_of, on_lock};
 ghost use Rattle.trace_check.specs.Calls as told;
@@ -8,13 +9,13 @@ ghost use Rattle.trace_check.specs.Reading as reading;
 
 use crate::found::FoundAt;
 use map_types::{Bytes, DomainId, Side};
-use place_words::{BucketPart, FreePart, NextFound, PackedBucket, Part, Put, Walked};
+use place_words::{BucketPart, FreePart, NextFound, PackedBucket, PartAt, Put, Walked};
 
 /// Whether it is a turn of a freelist.
-pub(crate) fn is_free(part: &Part) -> bool
-    ensures { result ≡ reading.is_free part.now }
+pub(crate) fn is_free(part: PartAt<'_>) -> bool
+    ensures { result ≡ reading.is_free (part_read part.entry) }
 {
-    matches!(part, Part::Free(_))
+    matches!(part, PartAt::Free(_))
 }
 
 /// Whether two sides are one.
@@ -241,12 +242,12 @@ pub fn walked_in(packed: &PackedBucket, remove: bool, room: u32) -> Option<&Walk
 }
 
 /// Whether a turn of this lock with this part is the turn of a CPU's freelist in which so much was done.
-pub(crate) fn is_free_turn(lock: DomainId, part: &Part, cpu: u32, wanted: FreePart) -> bool
-    ensures { result ≡ reading.same_turn (on_freelist_of cpu wanted) (on_lock lock part.now) }
+pub(crate) fn is_free_turn(lock: DomainId, part: PartAt<'_>, cpu: u32, wanted: FreePart) -> bool
+    ensures { result ≡ reading.same_turn (on_freelist_of cpu wanted) (on_lock lock (part_read part.entry)) }
 {
     match lock {
         DomainId::Freelist(at) => match part {
-            Part::Free(done) => cpu == at && same_free(wanted, *done),
+            PartAt::Free(done) => cpu == at && same_free(wanted, done),
             _ => false,
         },
         _ => false,

@@ -1,27 +1,28 @@
 //! The turns of a strand from some place on, which lie in the histories of the locks.
 
 ghost use Rattle.std.specs.Prelude.{◌≡◌, ◌∷◌, [], ◌≤◌, All, MatchOption, None, Some, length, take, if◌then◌else◌};
-ghost use Rattle.place_words.specs.Turns.{on_lock};
+ghost use Rattle.place_words.specs.Entries.{part_read};
 ghost use Rattle.trace_check.specs.Reading.{same_turns};
 ghost use Rattle.trace_check.specs.Strand as strand;
 
 use map_types::{DomainId, Shape};
-use place_words::{Entry, LockHistory, Part, StrandStep};
+use place_words::{LockHistory, PartAt, StrandStep};
 use std::marker::Model;
 
 /// A turn: its lock, and what was done under it.
 #[derive(Drop)]
 pub struct Turn<'a> {
     pub lock: DomainId,
-    pub part: &'a Part,
+    pub part: PartAt<'a>,
 }
 
 impl<'a> Model for Turn<'a> {
+    ghost use Rattle.place_words.specs.Entries.{part_read};
     ghost use Rattle.place_words.specs.Turns.{Turn, on_lock};
 
     ghost Value = { Turn };
 
-    ghost view = { λ t. on_lock t.lock t.part.now };
+    ghost view = { λ t. on_lock t.lock (part_read t.part) };
 }
 
 /// Turns of a strand on a map that doesn't evict, which are read where they lie.
@@ -113,14 +114,12 @@ impl<'a> Turns<'a> {
 }
 
 /// What the turn did that a step names.
-fn part_at<'a>(buckets: u32, histories: &'a [LockHistory], step: StrandStep) -> &'a Part
+fn part_at<'a>(buckets: u32, histories: &'a [LockHistory], step: StrandStep) -> PartAt<'a>
     requires { strand.IsEntry buckets histories.now step }
-    ensures { result.now ≡ strand.part_at buckets histories.now step }
+    ensures { part_read result ≡ strand.part_at buckets histories.now step }
 {
     let history: &'a LockHistory = &histories[history_place(buckets, step.lock)];
-    let entries: &'a [Entry] = history.entries.as_slice();
-    let entry: &'a Entry = &entries[step.index as usize];
-    &entry.part
+    history.entries.at(step.index as usize).part
 }
 
 /// Where a lock's history stands.

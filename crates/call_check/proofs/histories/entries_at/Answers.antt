@@ -24,7 +24,7 @@ returns c =
     let here : get_or c.args.histories.now (get_or c.args.places.now c.lock_number-number.result 0) c.index-histories-place.result ≡ at.history =
     ap (λ (k : ℕ). get_or c.args.histories.now k c.index-histories-place.result) same
     ∙ get_or_from_slice_get c.args.histories.now (place_of c.args.shape.now (lock_number c.args.shape.now c.args.lock)) at.history c.index-histories-place.result at.there in
-    c.as_slice.ensures ∙ (ap (λ (h : LockHistory). h.entries) here ∙ sym at.entries_are)
+    ap (λ (h : LockHistory). h.entries) here ∙ sym at.entries_are
 
 pub offset_bounds-histories-place : goal.offset_bounds-histories-place
 offset_bounds-histories-place c =

@@ -2,5 +2,5 @@ use Rattle.std.specs.Prelude.{◌≡◌, count_by, take}
 use Rattle.map_report.specs.Summary.{evicts}
 use Rattle.map_report.proofs.summary.evicted_in.Given as goal
 
-abbrev pub invariant-loop-entry : goal.invariant-loop-entry
-invariant-loop-entry l = l.count ≡ count_by (λ entry. evicts entry.part) (take l.entry-index l.entries)
+abbrev pub invariant-loop-index : goal.invariant-loop-index
+invariant-loop-index l = l.count ≡ count_by (λ entry. evicts entry.part) (take l.index l.entries)

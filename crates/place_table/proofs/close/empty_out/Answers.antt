@@ -3,8 +3,8 @@ use Rattle.std.specs.Slots.{slots_items, slots_filled}
 use Rattle.map_types.proofs.CreationLemmas.{bounds_of_shape}
 use Rattle.place_words.specs.Locks.{first_bucket, first_freelist, lock_count}
 use Rattle.place_table.specs.declared.content.Behind.{Behind}
-use Rattle.place_table.specs.Leaving.{HasSizedBodies, HaveHistories, bodies_in}
-use Rattle.place_table.proofs.Leaves.{all_apart, first_taken, where_ok}
+use Rattle.place_table.specs.Leaving.{AreCounts, HasSizedBodies, HaveHistories, bodies_in}
+use Rattle.place_table.proofs.Leaves.{all_apart, first_taken, on_ok_always, where_ok}
 use Rattle.place_table.proofs.close.empty_out.Goals as goal
 
 pub take_lists-requires-clause-before : goal.take_lists-requires-clause-before
@@ -19,20 +19,23 @@ returns-clause-apart c =
     let shape = c.args.shape.now in
     let slots : List Behind = slots_items c.args.closed.now.slots in
     let counted : length slots ≡ lock_count shape = sym c.args.closed.now.slots.ok.0 ∙ c.requires.full.1 in
-    where_ok c.take_buckets-copied.result c.take_buckets-copied.ensures.buckets
-    (λ middle. all_apart shape slots c.take_lists.new.contents.items c.take_lists-2.new.contents.items c.take_buckets-copied.new.buckets.items counted
+    on_ok_always c.keep_logged-placed.result
+    (all_apart shape slots c.take_lists.new.contents.items c.take_lists-2.new.contents.items c.take_buckets-copied.new.buckets.items counted
     c.take_lists.ensures.contents
-    (subst (λ (l : List Behind). take (first_freelist shape) (map (λ (b : Behind). bodies_in b.content) l) ≡ take (first_bucket shape) (map (λ (b : Behind). bodies_in b.content) l) ++ c.take_buckets-copied.new.buckets.items) c.take_lists.ensures.same middle)
+    (subst (λ (l : List Behind). take (first_freelist shape) (map (λ (b : Behind). bodies_in b.content) l) ≡ take (first_bucket shape) (map (λ (b : Behind). bodies_in b.content) l) ++ c.take_buckets-copied.new.buckets.items) c.take_lists.ensures.same c.in_ok-copied.ensures.buckets)
     (subst (λ (l : List Behind). take (lock_count shape) (map (λ (b : Behind). b.content) l) ≡ take (first_freelist shape) (map (λ (b : Behind). b.content) l) ++ c.take_lists-2.new.contents.items) (c.take_buckets-copied.ensures.same ∙ c.take_lists.ensures.same) c.take_lists-2.ensures.contents))
 
 pub returns-clause-histories : goal.returns-clause-histories
-returns-clause-histories c = λ log lost told.
+returns-clause-histories c = λ log lost told tell.
     let shape = c.args.shape.now in
     let same = c.take_lists.ensures.same in
     let then = c.take_buckets-copied.ensures.same ∙ same in
-    c.take_lists-2.ensures.histories log lost (subst (λ (l : List Behind). HaveHistories shape log lost (map (λ (b : Behind). b.history) l)) (sym then) told)
-    (c.take_buckets-copied.ensures.histories log lost (subst (λ (l : List Behind). HaveHistories shape log lost (map (λ (b : Behind). b.history) l)) (sym same) told)
+    let counts = subst (AreCounts shape log lost shape.buckets) (sym c.as_slice.ensures.value)
+    (c.take_buckets-copied.ensures.counts log lost (subst (λ (l : List Behind). HaveHistories shape log lost (map (λ (b : Behind). b.history) l)) (sym same) told)) in
+    where_ok c.keep_logged-placed.result
+    (c.keep_logged-placed.ensures.kept shape log lost counts tell
     (c.take_lists.ensures.histories log lost told (record { kept_are = c.requires.room.no_histories; lost_is = c.requires.room.none_lost })))
+    (c.take_lists-2.ensures.histories log lost (subst (λ (l : List Behind). HaveHistories shape log lost (map (λ (b : Behind). b.history) l)) (sym then) told))
 
 pub returns-clause-empty : goal.returns-clause-empty
 returns-clause-empty c = λ k below. c.take_lists-2.ensures.after.gone k

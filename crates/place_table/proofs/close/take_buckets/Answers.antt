@@ -1,12 +1,14 @@
 use Rattle.std.proofs.Common.{◌≡◌, ℕ, ◌+◌, ◌*◌, ◌<◌, ◌∙◌, List, length, map, take, set, None, false, ap, sym, subst, arith}
+use Rattle.std.proofs.lemmas.List.{length_push}
 use Rattle.std.specs.Slots.{slots_items, slots_filled}
 use mathlib.Core.Option.{some}
 use lib.ListN.{get_elem?}
 use Rattle.map_types.specs.Stored.{Stored}
-use Rattle.place_words.specs.Locks.{lock_count, first_bucket}
+use Rattle.place_words.specs.Locks.{lock_count, lock_named, first_bucket}
+use Rattle.place_words.specs.State.{is_bucket}
 use Rattle.place_table.specs.declared.content.Behind.{Behind}
-use Rattle.place_table.specs.Leaving.{AreKept, AreTaken, HasSizedBodies, bodies_in}
-use Rattle.place_table.proofs.Leaves.{both_ok, bucket_named, has_bucket, history_in, part_at, part_more, taken_more}
+use Rattle.place_table.specs.Leaving.{AreCounts, AreTaken, HasSizedBodies, bodies_in}
+use Rattle.place_table.proofs.Leaves.{both_ok, bucket_named, counts_more, has_bucket, history_in, part_at, part_more, taken_more}
 use Rattle.place_table.proofs.close.take_buckets.Goals as goal
 
 pub add_bucket-copied-requires-clause-sized : goal.add_bucket-copied-requires-clause-sized
@@ -37,6 +39,7 @@ loop-bucket-preserved c =
     let filled : i < length c.loop-bucket.closed.slots.filled = omega (arith, c.loop-bucket.closed.slots.ok.1, so_far.count, c.requires.counted, below) in
     let at : get_elem? slots i ≡ some behind =
     ap (λ (k : ℕ). get_elem? slots k) place ∙ ap (λ (l : List Behind). get_elem? l (2 * shape.cpus + 1 + bucket)) (sym so_far.same) ∙ c.take-content.ensures.value in
+    let one_more = ap length c.push_reserved.ensures.items ∙ length_push c.loop-bucket.counts.items c.turns_counted.result in
     let bodies : List (List Stored) = map (λ (b : Behind). bodies_in b.content) slots in record {
       same = others.0 ∙ so_far.same;
       count = others.2 ∙ so_far.count;
@@ -47,9 +50,15 @@ loop-bucket-preserved c =
           ∙ part_more (λ (b : Behind). bodies_in b.content) slots i behind (take (first_bucket shape) bodies) c.loop-bucket.buckets.items _ within at done added);
       many = omega (arith, c.add_bucket-copied.ensures.longer, so_far.many);
       room = c.add_bucket-copied.ensures.capacity ∙ so_far.room;
-      histories = λ log lost told before.
-          subst (λ (k : ℕ). AreKept shape log lost k c.keep.new.self.kept.items c.keep.new.self.lost) next
-          (c.keep.ensures.kept shape log lost i (sym (bucket_named shape bucket below)) (has_bucket shape bucket below) (history_in shape log lost slots i behind told real at (has_bucket shape bucket below)) (so_far.histories log lost told before));
-      room_for_histories = c.keep.ensures.capacity ∙ so_far.room_for_histories;
-      few = omega (arith, c.keep.ensures.longer, so_far.few);
+      room_for_counts = c.push_reserved.ensures.capacity ∙ so_far.room_for_counts;
+      counts = λ log lost told.
+          counts_more shape log lost bucket c.loop-bucket.counts.items _ c.turns_counted.result
+          (c.turns_counted.ensures (lock_named shape i) (lost i) (log i) (ap is_bucket (bucket_named shape bucket below)) (history_in shape log lost slots i behind told real at (has_bucket shape bucket below)))
+          c.push_reserved.ensures.items (so_far.counts log lost told);
+      counted = omega (arith, one_more, so_far.counted);
     }
+
+pub returns-clause-counts : goal.returns-clause-counts
+returns-clause-counts c = λ log lost told.
+    let all : c.loop-bucket.bucket ≡ c.args.shape.now.buckets = omega arith in
+    subst (λ (n : ℕ). AreCounts c.args.shape.now log lost n c.loop-bucket.counts.items) all (c.loop-bucket.invariant.counts log lost told)

@@ -3,7 +3,7 @@ use Rattle.std.specs.Prelude.{OnOk}
 use Rattle.std.specs.Slots.{slots_filled, slots_len, slots_items}
 use Rattle.place_words.specs.Locks.{first_bucket}
 use Rattle.place_table.specs.declared.content.Behind.{Behind}
-use Rattle.place_table.specs.Leaving.{Logs, bodies_in, HaveHistories, AreKept, AreTaken}
+use Rattle.place_table.specs.Leaving.{Logs, bodies_in, HaveHistories, AreCounts, AreTaken}
 use Rattle.place_table.proofs.close.take_buckets.Given as goal
 
 -- the slots of the buckets so far
@@ -16,8 +16,7 @@ invariant-loop-bucket l = record {
       ≡ take (first_bucket l.shape) (map (λ (behind : Behind). bodies_in behind.content) (slots_items l.fn.closed.slots)) ++ l.buckets.items);
   many : length l.buckets.items ≤ l.bucket;
   room : vec_capacity l.buckets ≡ vec_capacity l.fn.buckets;
-  histories : (log : Logs) (lost : ℕ → Bool) → HaveHistories l.shape log lost (map (λ (behind : Behind). behind.history) (slots_items l.fn.closed.slots))
-      → AreKept l.shape log lost (first_bucket l.shape) l.fn.histories.kept.items l.fn.histories.lost → AreKept l.shape log lost (first_bucket l.shape + l.bucket) l.histories.kept.items l.histories.lost;
-  room_for_histories : vec_capacity l.histories.kept ≡ vec_capacity l.fn.histories.kept;
-  few : length l.histories.kept.items ≤ first_bucket l.shape + l.bucket;
+  room_for_counts : vec_capacity l.counts ≡ vec_capacity l.fn.counts;
+  counts : (log : Logs) (lost : ℕ → Bool) → HaveHistories l.shape log lost (map (λ (behind : Behind). behind.history) (slots_items l.fn.closed.slots)) → AreCounts l.shape log lost l.bucket l.counts.items;
+  counted : length l.counts.items ≡ l.bucket;
 }

@@ -4,5 +4,5 @@ use Rattle.record_order.specs.TicketTables.{least_after}
 use Rattle.record_order.proofs.leasts.push_leasts.Given as goal
 
 -- those so far and those that are left are those of all
-abbrev pub invariant-loop-entry : goal.invariant-loop-entry
-invariant-loop-entry l = l.leasts.items ++ least_after l.least (tickets_of (drop l.entry-index l.entries)) ≡ l.fn.leasts.items ++ least_after 0 (tickets_of l.entries)
+abbrev pub invariant-loop-index : goal.invariant-loop-index
+invariant-loop-index l = l.leasts.items ++ least_after l.least (tickets_of (drop l.index l.entries)) ≡ l.fn.leasts.items ++ least_after 0 (tickets_of l.entries)

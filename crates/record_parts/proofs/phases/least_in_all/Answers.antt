@@ -7,4 +7,4 @@ pub loop-history-preserved : goal.loop-history-preserved
 loop-history-preserved c =
     least_more (IsRightHistory c.args.cuts.now c.args.starts.now) c.args.histories.now c.loop-history.history-index c.history-item.result c.args.first c.loop-history.least c.least_in-least.result
     (omega arith) c.history-item.is c.loop-history.invariant
-    (least_in_one c.args.cuts.now c.args.starts.now c.history-item.result _ c.loop-history.least c.least_in-least.result c.as_slice.ensures c.least_in-least.ensures)
+    (least_in_one c.args.cuts.now c.args.starts.now c.history-item.result c.loop-history.least c.least_in-least.result c.least_in-least.ensures)

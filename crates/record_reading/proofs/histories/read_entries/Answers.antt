@@ -6,7 +6,7 @@ use Rattle.record_reading.proofs.LoopLemmas.{many_start, many_none}
 use Rattle.record_reading.proofs.histories.read_entries.Goals as goal
 
 pub loop-place-init : goal.loop-place-init
-loop-place-init c = (many_start (one_line (whole (entry c.args.shape.now c.args.calls c.args.lock))) c.args.count c.args.lines.now.0 c.of-entries.result (cc), refl)
+loop-place-init c = (many_start (one_line (whole (entry c.args.shape.now c.args.calls c.args.lock))) c.args.count c.args.lines.now.0 c.none_of-entries.result c.none_of-entries.ensures, refl)
 
 pub returns-in_default-clause-lines : goal.returns-in_default-clause-lines
 returns-in_default-clause-lines c =

@@ -18,7 +18,7 @@ loop-number-preserved-in_default c =
     let less : c.loop-number.number < lock_count c.args.script.now.shape = subst (λ n. c.loop-number.number < n) c.count_locks-number-end.ensures c.loop-number-test.true in (
       subst (HistoriesSoFar c.args.script.now (c.loop-number.number + 1) c.loop-number.head c.args.lines.now.0 c.loop-number.lines.0) (sym c.in_ok-push.ensures.added)
           (histories_empty c.args.script.now c.loop-number.number c.loop-number.head c.args.lines.now.0 c.loop-number.lines.0 c.loop-number.histories c.loop-number.invariant.0 less c.lock_named-lock.result c.lock_named-lock.ensures c.is_lock.result c.is_lock.ensures c.if-not-is_lock.false
-          c.len-calls.result c.len-calls.ensures c.entries_due.result c.entries_due.ensures c.in_default.is c.of.result (cc)),
+          c.len-calls.result c.len-calls.ensures c.entries_due.result c.entries_due.ensures c.in_default.is c.none_of.result c.none_of.ensures),
       c.loop-number.invariant.1,
     )
 

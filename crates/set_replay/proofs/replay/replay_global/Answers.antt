@@ -1,6 +1,7 @@
-use Rattle.std.proofs.Common.{ℕ, subst, sym, refl, get_or, ◌∙◌}
+use Rattle.std.proofs.Common.{ℕ, ◌<◌, ◌≤◌, length, subst, sym, refl, ◌∙◌, arith}
 use Rattle.place_words.specs.declared.history.Entry.{Entry}
 use Rattle.map_types.specs.declared.kind.DomainId.TheVariants as locks
+use Rattle.place_words.specs.Entries.{entry_read}
 use Rattle.place_words.specs.Histories.{in_global}
 use Rattle.place_words.specs.Openings.{opening_free}
 use Rattle.set_replay.specs.GlobalTurns.{GlobalEntryJudged, GlobalMade, FlushesBelow}
@@ -19,25 +20,31 @@ loop-i-init c =
 
 pub global_entry-requires-clause-below : goal.global_entry-requires-clause-below
 global_entry-requires-clause-below c =
-    subst (λ (n : ℕ). FlushesBelow n (get_or c.args.entries.now c.loop-i.i c.index-entries-i.result).part) (sym c.loop-i.invariant.bound)
-    (c.requires.below c.loop-i.i c.index-entries-i.result c.loop-i-test.true)
+    let entry : Entry = entry_read c.at.result in
+    let within : c.loop-i.i < length c.args.entries.now = omega (arith, c.loop-i-test.true, c.len-i-end.ensures) in
+    subst (λ (n : ℕ). FlushesBelow n entry.part) (sym c.loop-i.invariant.bound)
+    (subst (λ (e : Entry). FlushesBelow c.args.shape.now.elements e.part) (c.at.ensures.whatever entry) (c.requires.below c.loop-i.i entry within))
 
 pub returns-in_default : goal.returns-in_default
 returns-in_default c =
-    let entry : Entry = get_or c.args.entries.now c.loop-i.i c.index-entries-i.result in
-    stops in_global c.loop-i.invariant.so_far entry c.index-entries-i.result c.loop-i-test.true refl
+    let entry : Entry = entry_read c.at.result in
+    let within : c.loop-i.i < length c.args.entries.now = omega (arith, c.loop-i-test.true, c.len-i-end.ensures) in
+    stops in_global c.loop-i.invariant.so_far entry entry within (sym (c.at.ensures.whatever entry))
     (subst (GlobalEntryJudged entry.part c.loop-i.set c.global_entry.new.set c.global_entry.new.marks.items) c.in_default.is c.in_ok-note.ensures)
 
 pub loop-i-preserved : goal.loop-i-preserved
 loop-i-preserved c =
-    let entry : Entry = get_or c.args.entries.now c.loop-i.i c.index-entries-i.result in
+    let entry : Entry = entry_read c.at.result in
+    let within : c.loop-i.i < length c.args.entries.now = omega (arith, c.loop-i-test.true, c.len-i-end.ensures) in
     let made : GlobalMade entry.part c.loop-i.set c.global_entry.new.set c.global_entry.new.marks.items c.in-Some.note =
     subst (GlobalEntryJudged entry.part c.loop-i.set c.global_entry.new.set c.global_entry.new.marks.items) c.in-Some.is c.in_ok-note.ensures in
     record {
-      so_far = goes_on in_global c.loop-i.invariant.so_far entry c.index-entries-i.result c.loop-i-test.true refl c.global_entry.new.set c.in-Some.note c.push.new.self c.in_ok-push.ensures.added made.made;
+      so_far = goes_on in_global c.loop-i.invariant.so_far entry entry within (sym (c.at.ensures.whatever entry)) c.global_entry.new.set c.in-Some.note c.push.new.self c.in_ok-push.ensures.added made.made;
       marked = made.marked;
       bound = made.bound ∙ c.loop-i.invariant.bound;
     }
 
 pub returns : goal.returns
-returns c = all_made in_global (record { last = c.in_ok-final_of.field-0; notes = c.loop-i.notes }) c.loop-i.invariant.so_far c.loop-i-test.false c.in_ok-final_of.ensures refl
+returns c =
+    let past : length c.args.entries.now ≤ c.loop-i.i = omega (arith, c.loop-i-test.false, c.len-i-end.ensures) in
+    all_made in_global (record { last = c.in_ok-final_of.field-0; notes = c.loop-i.notes }) c.loop-i.invariant.so_far past c.in_ok-final_of.ensures refl

@@ -1,6 +1,7 @@
-use Rattle.std.proofs.Common.{subst, refl, get_or, ◌∙◌}
+use Rattle.std.proofs.Common.{◌<◌, ◌≤◌, length, subst, refl, sym, ◌∙◌, arith}
 use Rattle.place_words.specs.declared.history.Entry.{Entry}
 use Rattle.map_types.specs.declared.kind.DomainId.TheVariants as locks
+use Rattle.place_words.specs.Entries.{entry_read}
 use Rattle.place_words.specs.Histories.{in_own}
 use Rattle.set_replay.specs.Replayed.{EntryJudged}
 use Rattle.set_replay.proofs.Replaying.{begins, goes_on, stops, all_made}
@@ -12,15 +13,19 @@ loop-i-init c =
 
 pub returns-in_default : goal.returns-in_default
 returns-in_default c =
-    let entry : Entry = get_or c.args.entries.now c.loop-i.i c.index-entries-i.result in
-    stops in_own c.loop-i.invariant entry c.index-entries-i.result c.loop-i-test.true refl
+    let entry : Entry = entry_read c.at.result in
+    let within : c.loop-i.i < length c.args.entries.now = omega (arith, c.loop-i-test.true, c.len-i-end.ensures) in
+    stops in_own c.loop-i.invariant entry entry within (sym (c.at.ensures.whatever entry))
     (subst (EntryJudged in_own entry.part c.loop-i.set c.own_entry.new.set) c.in_default.is c.in_ok-note.ensures)
 
 pub loop-i-preserved : goal.loop-i-preserved
 loop-i-preserved c =
-    let entry : Entry = get_or c.args.entries.now c.loop-i.i c.index-entries-i.result in
-    goes_on in_own c.loop-i.invariant entry c.index-entries-i.result c.loop-i-test.true refl c.own_entry.new.set c.in-Some.note c.push.new.self c.in_ok-push.ensures.added
+    let entry : Entry = entry_read c.at.result in
+    let within : c.loop-i.i < length c.args.entries.now = omega (arith, c.loop-i-test.true, c.len-i-end.ensures) in
+    goes_on in_own c.loop-i.invariant entry entry within (sym (c.at.ensures.whatever entry)) c.own_entry.new.set c.in-Some.note c.push.new.self c.in_ok-push.ensures.added
     (subst (EntryJudged in_own entry.part c.loop-i.set c.own_entry.new.set) c.in-Some.is c.in_ok-note.ensures)
 
 pub returns : goal.returns
-returns c = all_made in_own (record { last = c.in_ok-final_of.field-0; notes = c.loop-i.notes }) c.loop-i.invariant c.loop-i-test.false c.in_ok-final_of.ensures refl
+returns c =
+    let past : length c.args.entries.now ≤ c.loop-i.i = omega (arith, c.loop-i-test.false, c.len-i-end.ensures) in
+    all_made in_own (record { last = c.in_ok-final_of.field-0; notes = c.loop-i.notes }) c.loop-i.invariant past c.in_ok-final_of.ensures refl

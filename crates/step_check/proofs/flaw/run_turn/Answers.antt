@@ -1,4 +1,5 @@
 use Rattle.std.proofs.Common.{◌++◌, ◌∙◌}
+use Rattle.place_words.specs.Entries.{entry_read}
 use Rattle.place_words.specs.Interleaving.{tickets_of}
 use Rattle.step_check.specs.Answers.{view_of}
 use Rattle.step_check.specs.Begun.{around_in, turns_of}
@@ -26,9 +27,9 @@ returns-clause-shape c = same_shape (view_of c.take_one.new.kept) (view_of c.run
 pub returns-clause-ran : goal.returns-clause-ran
 returns-clause-ran c = λ before lists begun.
     run_all (turns_of c.args.histories.now c.args.turns.now) c.args.ticket before lists (view_of c.args.kept.now) (view_of c.take_around.new.kept) (view_of c.take_one.new.kept) (view_of c.run_part.new.kept) c.take_around.new.begun c.take_one.new.begun c.in_ok-around.around c.in_ok-taken.taken c.in_ok-given.given
-    c.bucket_around-bucket.result record { lock = c.lock_at.result; entry = c.entry_at-entry.result.now }
+    c.bucket_around-bucket.result record { lock = c.lock_at.result; entry = entry_read c.entry_at-entry.result }
     (own_ticket c.args.histories.now c.args.turns.now c.args.ticket c.requires.turns c.requires.within) (around_after c.args.histories.now c.args.turns.now c.args.ticket c.requires.turns)
     (c.in_ok-around.ensures.taken before begun) c.if-not-around.false (λ so_far. c.in_ok-taken.ensures.taken (tickets_of (around_in (turns_of c.args.histories.now c.args.turns.now) c.args.ticket) ++ before) so_far) c.if-not-taken.false
     (c.in_ok-taken.ensures.shape ∙ c.in_ok-around.ensures.shape) c.bucket_around-bucket.ensures
-    (turn_told c.args.histories.now c.args.turns.now c.args.ticket c.index-place.result.now _ c.lock_at.result c.entry_at-entry.result.now c.requires.within c.index-place.ensures c.lock_at.ensures c.entry_at-entry.ensures)
+    (turn_told c.args.histories.now c.args.turns.now c.args.ticket c.index-place.result.now _ c.lock_at.result (entry_read c.entry_at-entry.result) c.requires.within c.index-place.ensures c.lock_at.ensures c.entry_at-entry.ensures)
     (c.in_ok-given.ensures lists)

@@ -1,5 +1,6 @@
 use Rattle.std.proofs.Common.{◌≡◌, ◌+◌, ◌-◌, ◌<◌, refl, sym, subst, length, get_or, arith}
 use Rattle.std.proofs.lemmas.List.{length-map}
+use Rattle.place_words.specs.Entries.{entry_read}
 use Rattle.place_words.specs.Interleaving.{Drawn}
 use Rattle.step_check.specs.Places.{no_turn, turn_at, turns_at}
 use Rattle.step_check.proofs.OuterTurns.{call_within, found_end, found_more, found_told, its_call, turn_read}
@@ -7,23 +8,23 @@ use Rattle.step_check.proofs.outer.find_outer.Goals as goal
 
 pub slice_copy_out-later : goal.slice_copy_out-later
 slice_copy_out-later c =
-    call_within c.args.histories.now c.args.places.now (length c.args.places.now - 1 - c.loop-handled.handled) (length c.args.next.now) c.loop-handled.next c.lock_at-lock.result c.entry_at-entry.result.now _ (omega (arith, c.loop-handled-test.true)) c.requires.calls c.loop-handled.invariant.room
+    call_within c.args.histories.now c.args.places.now (length c.args.places.now - 1 - c.loop-handled.handled) (length c.args.next.now) c.loop-handled.next c.lock_at-lock.result (entry_read c.entry_at-entry.result) _ (omega (arith, c.loop-handled-test.true)) c.requires.calls c.loop-handled.invariant.room
     c.lock_at-lock.ensures c.entry_at-entry.ensures
 
 pub bounds-next-entry : goal.bounds-next-entry
 bounds-next-entry c =
-    call_within c.args.histories.now c.args.places.now (length c.args.places.now - 1 - c.loop-handled.handled) (length c.args.next.now) c.loop-handled.next c.lock_at-lock.result c.entry_at-entry.result.now _ (omega (arith, c.loop-handled-test.true)) c.requires.calls c.loop-handled.invariant.room
+    call_within c.args.histories.now c.args.places.now (length c.args.places.now - 1 - c.loop-handled.handled) (length c.args.next.now) c.loop-handled.next c.lock_at-lock.result (entry_read c.entry_at-entry.result) _ (omega (arith, c.loop-handled-test.true)) c.requires.calls c.loop-handled.invariant.room
     c.lock_at-lock.ensures c.entry_at-entry.ensures
 
 pub loop-handled-preserved : goal.loop-handled-preserved
 loop-handled-preserved c =
     let hs = c.args.histories.now in
     let ps = c.args.places.now in
-    let turn : Drawn = record { lock = c.lock_at-lock.result; entry = c.entry_at-entry.result.now } in
+    let turn : Drawn = record { lock = c.lock_at-lock.result; entry = entry_read c.entry_at-entry.result } in
     let less : length ps - 1 - c.loop-handled.handled < length ps = omega (arith, c.loop-handled-test.true) in
     let less_turns : length ps - 1 - c.loop-handled.handled < length (turns_at hs ps) = subst (λ n. length ps - 1 - c.loop-handled.handled < n) (sym (length-map ps (turn_at hs))) less in
     let at : turn ≡ get_or (turns_at hs ps) (length ps - 1 - c.loop-handled.handled) no_turn =
-    turn_read hs ps (length ps - 1 - c.loop-handled.handled) c.lock_at-lock.result c.entry_at-entry.result.now _ less c.lock_at-lock.ensures c.entry_at-entry.ensures in
+    turn_read hs ps (length ps - 1 - c.loop-handled.handled) c.lock_at-lock.result (entry_read c.entry_at-entry.result) _ less c.lock_at-lock.ensures c.entry_at-entry.ensures in
     let from_is : length ps - c.loop-handled.handled ≡ (length ps - 1 - c.loop-handled.handled) + 1 = omega (arith, c.loop-handled-test.true) in
     let now_is : length ps - 1 - c.loop-handled.handled ≡ length ps - (c.loop-handled.handled + 1) = omega arith in
     found_end (turns_at hs ps) (length ps - 1 - c.loop-handled.handled) (length ps - (c.loop-handled.handled + 1)) (length c.args.next.now) _ _ now_is

@@ -1,4 +1,5 @@
 use Rattle.std.proofs.Common.{refl}
+use Rattle.place_words.specs.Entries.{entry_read}
 use Rattle.step_check.proofs.ByTicket.{set_all, set_more}
 use Rattle.step_check.proofs.places.set_places.Goals as goal
 
@@ -7,7 +8,7 @@ loop-place-init c = record { long = refl; last = λ ticket none. refl }
 
 pub loop-place-preserved : goal.loop-place-preserved
 loop-place-preserved c =
-    set_more c.args.histories.now c.args.places.now c.loop-place.place-index c.args.by_ticket.now c.loop-place.by_ticket c.entry_at-entry.result.now _ c.loop-place-test.true c.entry_at-entry.ensures
+    set_more c.args.histories.now c.args.places.now c.loop-place.place-index c.args.by_ticket.now c.loop-place.by_ticket (entry_read c.entry_at-entry.result) _ c.loop-place-test.true c.entry_at-entry.ensures
     c.requires.within c.loop-place.invariant
 
 pub returns : goal.returns

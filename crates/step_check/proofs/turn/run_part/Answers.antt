@@ -1,4 +1,5 @@
 use Rattle.std.proofs.Common.{ap, map, ◌∙◌}
+use Rattle.place_words.specs.Entries.{part_read}
 use Rattle.place_words.specs.Interleaving.{does, seen_by}
 use Rattle.step_check.specs.Answers.{view_of}
 use Rattle.step_check.specs.Ran.{step_of}
@@ -12,12 +13,12 @@ returns-then-not-run_changes c = λ lists.
 
 pub returns-then-not-all_seen : goal.returns-then-not-all_seen
 returns-then-not-all_seen c = λ lists.
-    part_unseen (view_of c.args.kept.now) (view_of c.run_changes.new.kept) (map does (map (step_of c.args.cpu) c.as_slice.result.now)) _ (seen_by c.args.part.now) _ c.run_changes.result c.all_seen.result
+    part_unseen (view_of c.args.kept.now) (view_of c.run_changes.new.kept) (map does (map (step_of c.args.cpu) c.as_slice.result.now)) _ (seen_by (part_read c.args.part)) _ c.run_changes.result c.all_seen.result
     (ap (map does) (ap (map (step_of c.args.cpu)) c.as_slice.ensures.value ∙ c.in_ok-changes.ensures)) c.run_changes.ensures c.if-not-run_changes.false c.all_seen.ensures c.if-not-all_seen.true
 
 pub returns : goal.returns
 returns c = λ lists.
-    part_given (view_of c.args.kept.now) (view_of c.run_changes.new.kept) (view_of c.give.new.kept) (map does (map (step_of c.args.cpu) c.as_slice.result.now)) _ (seen_by c.args.part.now) _ c.run_changes.result c.all_seen.result c.in_ok-given.given
+    part_given (view_of c.args.kept.now) (view_of c.run_changes.new.kept) (view_of c.give.new.kept) (map does (map (step_of c.args.cpu) c.as_slice.result.now)) _ (seen_by (part_read c.args.part)) _ c.run_changes.result c.all_seen.result c.in_ok-given.given
     (ap (map does) (ap (map (step_of c.args.cpu)) c.as_slice.ensures.value ∙ c.in_ok-changes.ensures)) c.run_changes.ensures c.if-not-run_changes.false c.all_seen.ensures c.if-not-all_seen.false
     (ran_give (view_of c.run_changes.new.kept) (view_of c.give.new.kept) c.args.cpu c.args.lock lists c.in_ok-given.given
     (are_words (view_of c.args.kept.now) (view_of c.run_changes.new.kept) (map does (map (step_of c.args.cpu) c.as_slice.result.now)) c.run_changes.result c.run_changes.ensures)

@@ -11,5 +11,5 @@ returns-in_default-clause-kept c = λ shape log lost n named there told is.
 pub returns-clause-kept : goal.returns-clause-kept
 returns-clause-kept c = λ shape log lost n named there told is.
     let turns = subst (IsHistory (lost n) (log n)) c.in-Some.is told in
-    kept_one shape log lost n c.args.self.now.kept.items c.push_reserved.new.self.items c.args.self.now.lost c.of.result there turns.0 (c.of.ensures ∙ turns.1)
-    (c.push_reserved.ensures.items ∙ ap (λ (lock : DomainId). c.args.self.now.kept.items ++ record { lock = lock; entries = c.of.result } ∷ []) named) is
+    kept_one shape log lost n c.args.self.now.kept.items c.push_reserved.new.self.items c.args.self.now.lost c.in-Some.entries there turns.0 turns.1
+    (c.push_reserved.ensures.items ∙ ap (λ (lock : DomainId). c.args.self.now.kept.items ++ record { lock = lock; entries = c.in-Some.entries } ∷ []) named) is

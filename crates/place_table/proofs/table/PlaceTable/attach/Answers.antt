@@ -27,4 +27,4 @@ attach_word-requires-clause-code c =
     has_owner_code c.args.self.now.shape (owners.Bucket c.args.bucket) is c.requires.there
 
 pub invariant_of-pass : goal.invariant_of-pass
-invariant_of-pass c = is_pass_moved _ _ _ _ _ _ _ _ _ _ _ _ c.pass.invariant (carries_now _ _ _ _ c.pass.invariant.carries) (real_without c.pass.inside.seat.me.0.shape _ _ _ _ c.pass.invariant.hands_real) c.attach_word.ensures.attached.1
+invariant_of-pass c = is_pass_moved _ _ _ _ _ _ _ _ _ _ _ _ c.pass.invariant (carries_now _ _ _ _ _ c.pass.invariant.carries) (real_without c.pass.inside.seat.me.0.shape _ _ _ _ c.pass.invariant.hands_real) c.attach_word.ensures.attached.1

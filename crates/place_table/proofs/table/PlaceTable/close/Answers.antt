@@ -1,4 +1,6 @@
-use Rattle.std.proofs.Common.{◌≡◌, ℕ, ◌∙◌, ◌++◌, ◌∷◌, [], ap, get_or, length, map, refl, arith}
+use Rattle.std.proofs.Common.{◌≡◌, ℕ, ◌∙◌, ◌++◌, ◌∷◌, [], ap, get_or, length, map, refl, subst, arith}
+use Rattle.std.proofs.lemmas.Option.{IfSome_then}
+use Rattle.map_types.specs.declared.attr.Shape.{Shape}
 use Rattle.std.proofs.lemmas.List.{length-map, length-take-le}
 use Rattle.std.specs.Slots.{slots_items}
 use Rattle.place_words.specs.Locks.{first_bucket, lock_count}
@@ -7,6 +9,8 @@ use Rattle.place_table.specs.Words.{word_count}
 use Rattle.place_table.specs.Views.{current_strand}
 use Rattle.place_table.specs.Passes.{PassView, TableView}
 use Rattle.place_table.proofs.Closes.{at_its_end, if_closed}
+use Rattle.place_table.specs.Logged.{AreLogsOf}
+use Rattle.place_table.proofs.LogsTell.{logs_tell}
 use Rattle.place_table.proofs.Leaves.{buckets_sized, contents_apart, histories_apart}
 use Rattle.place_table.proofs.table.PlaceTable.close.Goals as goal
 
@@ -50,9 +54,12 @@ returns c =
     c.self.invariant.0 table view c.close_with-closed.ensures.values.2 c.requires.all_cpus c.requires.in_no_call.holds_nothing in
     let contents = contents_apart c.self.inside.shape e.log e.lost slots (map (λ (b : Behind). b.content) slots) e.slots_are refl in
     let counted : length (map (λ (b : Behind). b.content) slots) ≡ lock_count c.self.inside.shape = length-map slots (λ (b : Behind). b.content) ∙ e.slots_are.counted in
-    let histories = c.empty_out-copied.ensures.histories e.log e.lost (histories_apart c.self.inside.shape e.log e.lost slots _ e.slots_are refl) in
     let all_words : c.word_count.result ≡ word_count c.self.inside.shape = c.word_count.ensures ∙ c.self.invariant.1 in
     let marked = c.in_ok-marked.ensures e.core.bit (λ n less. ap (λ (i : ℕ). get_or words i 0) (omega (arith, all_words)) ∙ e.words_told.bits n less) in
-    let finished = c.finish-ended.ensures v.ended (current_strand v) c.pass.invariant.ended_are c.pass.invariant.cpus_are c.pass.invariant.strand_is in
+    let strands = v.ended ++ current_strand v ∷ [] in
+    let logs = c.ended_told-ended.ensures.logs v.shape strands (c.end_strand.ensures.logs v.shape v.ended (current_strand v) c.pass.invariant.logs_are c.pass.invariant.log_is) in
+    let histories = IfSome_then _ logs (λ _ are. c.in_ok-copied.ensures.histories e.log e.lost (histories_apart c.self.inside.shape e.log e.lost slots _ e.slots_are refl)
+    (logs_tell c.self.inside.shape strands c.ended_told-ended.result.1.items e.log e.lost (subst (λ (s : Shape). AreLogsOf s strands c.ended_told-ended.result.1.items) e.shape_is are) e.stand e.turns e.recorded)) in
+    let finished = c.ended_told-ended.ensures.ended strands (c.end_strand.ensures.ended v.ended (current_strand v) c.pass.invariant.ended_are c.pass.invariant.cpus_are c.pass.invariant.strand_is) in
     if_closed c.self.inside.shape c.args.self.shape _ c.args.pass words slots c.read_slots.result e c.requires.all_cpus c.requires.in_no_call c.pass.invariant.hands_real c.pass.invariant.ended_within c.pass.invariant.within table c.pass.view_is
-    (c.read_slots.ensures e.log e.lost e.core.bit (v.ended ++ current_strand v ∷ []) (map (λ (b : Behind). b.content) slots) contents counted c.in_ok-copied.ensures.apart histories marked finished)
+    (c.read_slots.ensures e.log e.lost e.core.bit strands (map (λ (b : Behind). b.content) slots) contents counted c.in_ok-copied.ensures.apart histories marked finished)

@@ -16,4 +16,4 @@ pub invariant_of-pass : goal.invariant_of-pass
 invariant_of-pass c =
     let real = subst (λ (s : Shape). c.args.element < s.elements) (sym (ap (λ (p : PassView). p.view.shape) c.pass.view_is ∙ c.requires.there.of_table.1)) c.requires.there.real in
     let mine = subst (λ (p : PassView). is_among p.cpu p.view.cpus ≡ true) (sym c.pass.view_is) c.requires.there.begun in
-    is_pass_moved _ _ _ _ _ _ _ _ _ _ _ _ c.pass.invariant (carries_now _ _ _ _ c.pass.invariant.carries) (real_with c.pass.inside.seat.me.0.shape _ _ _ _ c.pass.invariant.hands_real real mine) c.detach_word.ensures.detached.1
+    is_pass_moved _ _ _ _ _ _ _ _ _ _ _ _ c.pass.invariant (carries_now _ _ _ _ _ c.pass.invariant.carries) (real_with c.pass.inside.seat.me.0.shape _ _ _ _ c.pass.invariant.hands_real real mine) c.detach_word.ensures.detached.1

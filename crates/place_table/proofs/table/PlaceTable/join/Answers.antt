@@ -1,7 +1,7 @@
-use Rattle.std.proofs.Common.{Option, ap, sym, subst, ◌∙◌}
-use Rattle.std.specs.Prelude.{Vec}
-use Rattle.std.specs.Global.{Global}
-use Rattle.place_table.specs.declared.strands.FinishedStrand.{FinishedStrand}
+use Rattle.std.proofs.Common.{ap, sym, subst, ◌∙◌}
+use Rattle.map_types.specs.declared.attr.Shape.{Shape}
+use Rattle.place_table.specs.declared.strands.TurnsMade.{TurnsMade}
+use Rattle.place_table.specs.Logged.{IsLogOf, HaveLogs}
 use Rattle.place_table.specs.Views.{current_strand, all_strands}
 use Rattle.place_table.specs.Passes.{PassView, AreFinished}
 use Rattle.place_table.proofs.Parted.{is_pass_joined, joined_of}
@@ -12,12 +12,18 @@ invariant_of-pass c =
     let v = c.pass.inside.seat.me.0 in let u = c.other.inside.seat.me.0 in
     let no_lock = ap (λ (z : PassView). z.view.held) c.pass.view_is ∙ c.requires.in_no_call.holds_nothing in
     let shapes = ap (λ (z : PassView). z.view.shape) c.other.view_is ∙ (c.requires.other_of_table.1 ∙ sym (ap (λ (z : PassView). z.view.shape) c.pass.view_is ∙ c.requires.of_table.1)) in
-    let ended = subst (λ (o : Option (Vec FinishedStrand Global)). AreFinished v.ended o) (sym c.replace.ensures.value) c.pass.invariant.ended_are in
-    let ours = c.finish-ours.ensures v.ended (current_strand v) ended c.pass.invariant.cpus_are (ap (λ z. z.items) c.replace-steps.ensures.value ∙ c.pass.invariant.strand_is) in
-    let theirs = c.finish.ensures u.ended (current_strand u) c.other.invariant.ended_are c.other.invariant.cpus_are c.other.invariant.strand_is in
+    let was = sym c.replace-ours.ensures.value in
+    let ended = subst (λ (z : TurnsMade). AreFinished v.ended z.ended) was c.pass.invariant.ended_are in
+    let logs = subst (λ (z : TurnsMade). HaveLogs v.shape v.ended z.logs) was c.pass.invariant.logs_are in
+    let log = subst (λ (z : TurnsMade). IsLogOf v.shape v.steps v.kept z.log.items) was c.pass.invariant.log_is in
+    let ours = c.end_strand-ours.ensures.ended v.ended (current_strand v) ended c.pass.invariant.cpus_are (ap (λ z. z.items) c.replace-steps.ensures.value ∙ c.pass.invariant.strand_is) in
+    let our_logs = c.end_strand-ours.ensures.logs v.shape v.ended (current_strand v) logs log in
+    let theirs = c.end_strand.ensures.ended u.ended (current_strand u) c.other.invariant.ended_are c.other.invariant.cpus_are c.other.invariant.strand_is in
+    let their_logs = subst (λ (s : Shape). HaveLogs s (all_strands u) c.end_strand.result.logs) shapes (c.end_strand.ensures.logs u.shape u.ended (current_strand u) c.other.invariant.logs_are c.other.invariant.log_is) in
     is_pass_joined v u _ _ _ _ _ _ _ _ _ _ _ _ _ _ _ c.pass.invariant c.other.invariant no_lock shapes c.merge_seat.ensures.joined (ap (λ z. z.items) c.replace-steps.ensures.after ∙ c.new.ensures.items)
     (c.add_cpus.ensures v.cpus u.cpus c.pass.invariant.cpus_are c.other.invariant.cpus_are)
-    (c.put_together.ensures (all_strands v) (all_strands u) ours theirs) c.join_spares.ensures
+    c.join_made.ensures.log (c.join_made.ensures.ended (all_strands v) (all_strands u) ours theirs)
+    (c.join_made.ensures.logs v.shape (all_strands v) (all_strands u) our_logs their_logs) c.join_spares.ensures
 
 pub returns : goal.returns
 returns c =

@@ -19,4 +19,4 @@ settle_word-requires-clause-element c =
     subst (λ (s : Shape). c.args.element < s.elements) (ap (λ (p : PassView). p.view.shape) c.pass.view_is ∙ (c.requires.of_table.1 ∙ sym shape_is)) real
 
 pub invariant_of-pass : goal.invariant_of-pass
-invariant_of-pass c = is_pass_moved _ _ _ _ _ _ _ _ _ _ _ _ c.pass.invariant (carries_now _ _ _ _ c.pass.invariant.carries) (real_without c.pass.inside.seat.me.0.shape _ _ _ _ c.pass.invariant.hands_real) c.settle_word.ensures.settled.1
+invariant_of-pass c = is_pass_moved _ _ _ _ _ _ _ _ _ _ _ _ c.pass.invariant (carries_now _ _ _ _ _ c.pass.invariant.carries) (real_without c.pass.inside.seat.me.0.shape _ _ _ _ c.pass.invariant.hands_real) c.settle_word.ensures.settled.1

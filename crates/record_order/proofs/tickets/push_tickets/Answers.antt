@@ -1,0 +1,10 @@
+use Rattle.std.proofs.Common.{arith}
+use Rattle.place_words.specs.Entries.{entry_read}
+use Rattle.record_order.proofs.Loops.{ticket_more}
+use Rattle.record_order.proofs.tickets.push_tickets.Goals as goal
+
+pub loop-index-preserved : goal.loop-index-preserved
+loop-index-preserved c =
+    let entry = entry_read c.at.result in
+    ticket_more c.args.entries.now c.loop-index.index entry (omega (arith, c.len-index-end.ensures, c.loop-index-test.true)) (c.at.ensures.whatever entry)
+    c.loop-index.tickets.items c.push.new.self.items _ c.in_ok-push.ensures.items c.loop-index.invariant
