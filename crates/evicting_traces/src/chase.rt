@@ -1,8 +1,9 @@
 //! A turn of a list lock with the turns of its probes.
 
-ghost use Rattle.std.specs.Prelude.{◌≡◌, ◌∷◌, false, List, MatchOption, None, Some};
+ghost use Rattle.std.specs.Prelude.{◌≡◌, ◌∷◌, false, List, MatchOption, None, Some, option_map};
 ghost use Rattle.map_types.specs.Shape.{HasBounds};
 ghost use Rattle.place_words.specs.declared.visits.Try as tries;
+ghost use Rattle.place_words.specs.Packed.{own_read};
 ghost use Rattle.place_words.specs.Takings.{global_probes, local_probes, own_probes, shrink_probes, walk_probes};
 ghost use Rattle.evicting_traces.specs.Calls as told;
 ghost use Rattle.evicting_traces.specs.Parts.{are_answers, hashes_noted, try_of};
@@ -11,7 +12,7 @@ ghost use Rattle.evicting_traces.specs.Reading.{turns_in};
 use crate::parts::{is_answer, is_evict};
 use crate::seen::{Seen, Seens};
 use map_types::Shape;
-use place_words::{GlobalPart, LocalPart, Look, OwnPart, PartAt, Seen as Probed, ShrinkNote, Try};
+use place_words::{GlobalPart, LocalPart, Look, OwnAt, PartAt, Seen as Probed, ShrinkNote, Try};
 use replay_words::Note;
 use std::marker::Model;
 
@@ -86,10 +87,7 @@ fn answers(shape: &Shape, last: &Seen<'_>, before: &Seens<'_>) -> bool
             Ok(part) => are_global(shape, part, stored, before),
             Err(part) => are_global(shape, &part, stored, before),
         },
-        PartAt::Own(packed) => match packed.part() {
-            Ok(part) => are_own(shape, part, stored, before),
-            Err(part) => are_own(shape, &part, stored, before),
-        },
+        PartAt::Own(packed) => are_own(shape, packed.part(), stored, before),
     }
 }
 
@@ -109,7 +107,7 @@ fn are_global(shape: &Shape, part: &GlobalPart, hashes: &[Option<u32>], before: 
 {
     match part {
         GlobalPart::Turn { shrink, .. } => {
-            let (looks, tries) = shrink_probes(shrink);
+            let (looks, tries) = shrink_probes(shrink.as_ref());
             are_answers(shape, looks, tries, hashes, before)
         }
         GlobalPart::Push { .. } => are_tries(shape, &[], hashes, before),
@@ -117,16 +115,16 @@ fn are_global(shape: &Shape, part: &GlobalPart, hashes: &[Option<u32>], before: 
 }
 
 /// Whether turns answer the probes of a turn of a CPU's own lists.
-fn are_own(shape: &Shape, part: &OwnPart, hashes: &[Option<u32>], before: &Seens<'_>) -> bool
+fn are_own(shape: &Shape, part: OwnAt<'_>, hashes: &[Option<u32>], before: &Seens<'_>) -> bool
     requires { HasBounds shape.now }
-    ensures { result ≡ are_answers shape.now (own_probes part.now) hashes.now (turns_in before.now) }
+    ensures { result ≡ are_answers shape.now (own_probes (own_read part.entry)) hashes.now (turns_in before.now) }
 {
     match part {
-        OwnPart::Turn { shrink, .. } => {
+        OwnAt::Turn { shrink, .. } => {
             let (looks, tries) = shrink_probes(shrink);
             are_answers(shape, looks, tries, hashes, before)
         }
-        OwnPart::Push { .. } => are_tries(shape, &[], hashes, before),
+        OwnAt::Push { .. } => are_tries(shape, &[], hashes, before),
     }
 }
 
@@ -141,8 +139,8 @@ fn local_probes(part: &LocalPart) -> (&[Look], &[Try])
 }
 
 /// What a shrink looked at and tried.
-fn shrink_probes(shrink: &Option<ShrinkNote>) -> (&[Look], &[Try])
-    ensures { shrink_probes shrink.now ≡ walk_probes result.0.now result.1.now }
+fn shrink_probes(shrink: Option<&ShrinkNote>) -> (&[Look], &[Try])
+    ensures { shrink_probes (option_map (λ note. note.now) shrink.entry) ≡ walk_probes result.0.now result.1.now }
 {
     match shrink {
         None => (&[], &[]),

@@ -3,6 +3,7 @@
 ghost use Rattle.std.specs.Prelude.{◌≡◌, is_some, option_map};
 ghost use Rattle.map_types.specs.Shape.{HasBounds};
 ghost use Rattle.place_words.specs.Entries.{part_read};
+ghost use Rattle.place_words.specs.Packed.{own_read};
 ghost use Rattle.place_words.specs.Takings.{stolen_element};
 ghost use Rattle.map_types.specs.declared.kind.DomainId.TheVariants as locks;
 ghost use Rattle.evicting_traces.specs.Calls as calls;
@@ -12,7 +13,7 @@ use crate::seen::Seen;
 use key_hash::bucket_of;
 use map_types::{DomainId, Shape, Side};
 use place_words::{
-    BucketPart, GlobalPart, LocalPart, OwnPart, PackedBucket, PartAt, Put, Seen as Probed, Stolen,
+    BucketPart, GlobalPart, LocalPart, OwnAt, PackedBucket, PartAt, Put, Seen as Probed, Stolen,
 };
 use trace_check::{same_bool, same_side};
 
@@ -246,10 +247,7 @@ pub(crate) fn is_own_push(seen: &Seen<'_>, cpu: u32, element: u32) -> bool
         DomainId::CpuLru(at) => {
             at == cpu
                 && match seen.part {
-                    PartAt::Own(packed) => match packed.part() {
-                        Ok(part) => is_own_freed(part, element),
-                        Err(part) => is_own_freed(&part, element),
-                    },
+                    PartAt::Own(packed) => is_own_freed(packed.part(), element),
                     _ => false,
                 }
         }
@@ -258,12 +256,12 @@ pub(crate) fn is_own_push(seen: &Seen<'_>, cpu: u32, element: u32) -> bool
 }
 
 /// Whether this element was freed.
-fn is_own_freed(part: &OwnPart, element: u32) -> bool
-    ensures { result ≡ is_some (told.own_freed_in element part.now) }
+fn is_own_freed(part: OwnAt<'_>, element: u32) -> bool
+    ensures { result ≡ is_some (told.own_freed_in element (own_read part.entry)) }
 {
     match part {
-        OwnPart::Push { element: pushed } => element == *pushed,
-        OwnPart::Turn { .. } => false,
+        OwnAt::Push { element: pushed } => element == pushed,
+        OwnAt::Turn { .. } => false,
     }
 }
 
@@ -289,10 +287,7 @@ pub(crate) fn own_got(seen: &Seen<'_>, cpu: u32, hash: u32) -> Option<Option<u32
 {
     match seen.lock {
         DomainId::CpuLru(at) if at == cpu => match seen.part {
-            PartAt::Own(packed) => match packed.part() {
-                Ok(part) => got_of(part, hash),
-                Err(part) => got_of(&part, hash),
-            },
+            PartAt::Own(packed) => got_of(packed.part(), hash),
             _ => None,
         },
         _ => None,
@@ -300,15 +295,15 @@ pub(crate) fn own_got(seen: &Seen<'_>, cpu: u32, hash: u32) -> Option<Option<u32
 }
 
 /// What was got for a key of this hash.
-fn got_of(part: &OwnPart, hash: u32) -> Option<Option<u32>>
-    ensures { result ≡ option_map (λ (given : told.OwnGiving). given.3) (told.own_given_in hash part.now) }
+fn got_of(part: OwnAt<'_>, hash: u32) -> Option<Option<u32>>
+    ensures { result ≡ option_map (λ (given : told.OwnGiving). given.3) (told.own_given_in hash (own_read part.entry)) }
 {
     match part {
-        OwnPart::Turn {
+        OwnAt::Turn {
             hash: stored,
             got,
             ..
-        } if hash == *stored => Some(*got),
+        } if hash == stored => Some(got),
         _ => None,
     }
 }

@@ -122,10 +122,7 @@ impl Piece for PartAt<'_> {
                 Ok(part) => part.push_to(text),
                 Err(part) => part.push_to(text),
             },
-            PartAt::Own(part) => match part.part() {
-                Ok(part) => part.push_to(text),
-                Err(part) => part.push_to(text),
-            },
+            PartAt::Own(part) => part.part().push_to(text),
         }
     }
 }

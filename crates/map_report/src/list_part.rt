@@ -1,9 +1,10 @@
 //! What one turn of the lock of an LRU list did, as text.
 
-ghost use Rattle.std.specs.Prelude.{◌≡◌, ◌++◌, OnOk, Some, string_bytes};
+ghost use Rattle.std.specs.Prelude.{◌≡◌, ◌++◌, OnOk, Some, option_map, string_bytes};
 ghost use Rattle.place_words.specs.declared.list_part.GlobalPart.TheVariants as global;
 ghost use Rattle.place_words.specs.declared.list_part.LocalPart.TheVariants as local;
 ghost use Rattle.place_words.specs.declared.list_part.OwnPart.TheVariants as own;
+ghost use Rattle.place_words.specs.Packed.{own_read};
 ghost use Rattle.map_report.specs.ListParts.{done_text, flush_text, global_part_text, got_text, local_part_text, look_text, own_part_text, probe_text, probed_text, push_text, rotation_text, shrink_text, stolen_text, try_text, visit_text};
 ghost use Rattle.map_report.specs.Words.{counted};
 
@@ -11,7 +12,7 @@ use crate::piece::{Piece, push_counted, push_decimal, push_hash};
 use crate::words::bit_text;
 use map_types::{List, Numbers};
 use place_words::{
-    Flush, GlobalPart, LocalPart, Look, OwnPart, Seen, ShrinkNote, Stolen, Try, Visit,
+    Flush, GlobalPart, LocalPart, Look, OwnAt, Seen, ShrinkNote, Stolen, Try, Visit,
 };
 use std::alloc::AllocError;
 
@@ -84,15 +85,14 @@ fn push_probe(text: &mut String, probed: Seen) -> Result<(), AllocError>
     }
 }
 
-/// ` shrink TARGET N`, what was looked at, ` forced N` and what was tried by force. ` shrink no` where there was no shrink.
-impl Piece for Option<ShrinkNote> {
-    ghost shown = { shrink_text };
-
-    fn push_to(&self, text: &mut String) -> Result<(), AllocError> {
-        match self {
-            Some(note) => push_note(text, note),
-            None => text.push_str(" shrink no"),
-        }
+/// Adds ` shrink TARGET N`, what was looked at, ` forced N` and what was tried by force. ` shrink no` where there was no shrink.
+fn push_shrink(text: &mut String, shrink: Option<&ShrinkNote>) -> Result<(), AllocError>
+    ensures { OnOk result (string_bytes text.new
+        ≡ string_bytes text.old ++ shrink_text (option_map (λ note. note.now) shrink.entry)) }
+{
+    match shrink {
+        Some(note) => push_note(text, note),
+        None => text.push_str(" shrink no"),
     }
 }
 
@@ -294,22 +294,22 @@ fn push_global_turn(
     push_list(text, "turn flush", flushed.as_slice())?;
     push_rotation(text, active.as_slice(), inactive.as_slice())?;
     push_list(text, " free", free.as_slice())?;
-    shrink.push_to(text)
+    push_shrink(text, shrink.as_ref())
 }
 
-impl Piece for OwnPart {
-    ghost shown = { own_part_text };
+impl Piece for OwnAt<'_> {
+    ghost shown = { λ part. own_part_text (own_read part) };
 
     fn push_to(&self, text: &mut String) -> Result<(), AllocError> {
         match self {
-            OwnPart::Turn {
+            OwnAt::Turn {
                 hash,
                 active,
                 inactive,
                 shrink,
                 got,
-            } => push_own_turn(text, *hash, active, inactive, shrink, *got),
-            OwnPart::Push { element } => push_push(text, *element),
+            } => push_own_turn(text, *hash, active, inactive, *shrink, *got),
+            OwnAt::Push { element } => push_push(text, *element),
         }
     }
 }
@@ -318,18 +318,19 @@ impl Piece for OwnPart {
 fn push_own_turn(
     text: &mut String,
     hash: u32,
-    active: &List<Visit>,
-    inactive: &List<Visit>,
-    shrink: &Option<ShrinkNote>,
+    active: &[Visit],
+    inactive: &[Visit],
+    shrink: Option<&ShrinkNote>,
     got: Option<u32>,
 ) -> Result<(), AllocError>
     ensures { OnOk result (string_bytes text.new
         ≡ string_bytes text.old
-        ++ own_part_text (own.Turn hash active.now inactive.now shrink.now got)) }
+        ++ own_part_text (own.Turn hash active.now inactive.now
+        (option_map (λ note. note.now) shrink.entry) got)) }
 {
     text.push_str("turn ")?;
     push_hash(text, hash)?;
-    push_rotation(text, active.as_slice(), inactive.as_slice())?;
-    shrink.push_to(text)?;
+    push_rotation(text, active, inactive)?;
+    push_shrink(text, shrink)?;
     push_got(text, got)
 }

@@ -1,10 +1,11 @@
 //! Tests of what a turn of the lock of an LRU list tells.
 
+ghost use Rattle.std.specs.Prelude.{◌≡◌, ◌≢◌, MatchBool, option_map};
+ghost use Rattle.place_words.specs.Packed.{own_read};
+
 use crate::Same;
-use crate::same::same_told;
-use place_words::{
-    GlobalPart, LocalPart, OwnPart, PackedGlobal, PackedLocal, PackedOwn, ShrinkNote,
-};
+use crate::same::{are_same, same_told};
+use place_words::{GlobalPart, LocalPart, OwnAt, PackedGlobal, PackedLocal, PackedOwn, ShrinkNote};
 
 impl Same for ShrinkNote {
     fn same(&self, other: &ShrinkNote) -> bool {
@@ -113,41 +114,6 @@ impl Same for GlobalPart {
     }
 }
 
-impl Same for OwnPart {
-    fn same(&self, other: &OwnPart) -> bool {
-        match self {
-            OwnPart::Turn {
-                hash,
-                active,
-                inactive,
-                shrink,
-                got,
-            } => match other {
-                OwnPart::Turn {
-                    hash: other_hash,
-                    active: other_active,
-                    inactive: other_inactive,
-                    shrink: other_shrink,
-                    got: other_got,
-                } => {
-                    hash.same(other_hash)
-                        && active.same(other_active)
-                        && inactive.same(other_inactive)
-                        && shrink.same(other_shrink)
-                        && got.same(other_got)
-                }
-                _ => false,
-            },
-            OwnPart::Push { element } => match other {
-                OwnPart::Push {
-                    element: other_element,
-                } => element.same(other_element),
-                _ => false,
-            },
-        }
-    }
-}
-
 impl Same for PackedLocal {
     fn same(&self, other: &PackedLocal) -> bool {
         same_told(self.part(), other.part())
@@ -162,6 +128,52 @@ impl Same for PackedGlobal {
 
 impl Same for PackedOwn {
     fn same(&self, other: &PackedOwn) -> bool {
-        same_told(self.part(), other.part())
+        same_own(self.part(), other.part())
+    }
+}
+
+/// Whether two parts of an own set, each read in place, are the same.
+fn same_own(one: OwnAt<'_>, another: OwnAt<'_>) -> bool
+    ensures { MatchBool result (own_read one.entry ≡ own_read another.entry)
+        (own_read one.entry ≢ own_read another.entry) }
+{
+    match (one, another) {
+        (
+            OwnAt::Turn {
+                hash,
+                active,
+                inactive,
+                shrink,
+                got,
+            },
+            OwnAt::Turn {
+                hash: other_hash,
+                active: other_active,
+                inactive: other_inactive,
+                shrink: other_shrink,
+                got: other_got,
+            },
+        ) => {
+            hash.same(&other_hash)
+                && are_same(active, other_active)
+                && are_same(inactive, other_inactive)
+                && same_shrink(shrink, other_shrink)
+                && got.same(&other_got)
+        }
+        (OwnAt::Push { element }, OwnAt::Push { element: other }) => element.same(&other),
+        _ => false,
+    }
+}
+
+/// Whether two shrinks, where there are any, are the same.
+fn same_shrink(one: Option<&ShrinkNote>, another: Option<&ShrinkNote>) -> bool
+    ensures { MatchBool result
+        (option_map (λ note. note.now) one.entry ≡ option_map (λ note. note.now) another.entry)
+        (option_map (λ note. note.now) one.entry ≢ option_map (λ note. note.now) another.entry) }
+{
+    match (one, another) {
+        (Some(note), Some(other)) => note.same(other),
+        (None, None) => true,
+        _ => false,
     }
 }

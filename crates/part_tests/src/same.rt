@@ -60,7 +60,7 @@ impl<T: Same> Same for List<T> {
 }
 
 /// Whether two slices have the same items in the same order.
-fn are_same<T: Same>(items: &[T], others: &[T]) -> bool
+pub(crate) fn are_same<T: Same>(items: &[T], others: &[T]) -> bool
     ensures { MatchBool result (items.now ≡ others.now) (items.now ≢ others.now) }
 {
     if items.len() != others.len() {

@@ -1,5 +1,5 @@
 -- Which part of a list lock an entry stands for, in whatever form it lies there.
-use Rattle.std.specs.Prelude.{[]}
+use Rattle.std.specs.Prelude.{[], ◌≤◌, length, take, drop, option_map, ⊤}
 use Rattle.place_words.specs.declared.list_part.GlobalPart.{GlobalPart}
 use Rattle.place_words.specs.declared.list_part.GlobalPart.TheVariants as global
 use Rattle.place_words.specs.declared.list_part.LocalPart.{LocalPart}
@@ -13,6 +13,9 @@ use Rattle.place_words.specs.declared.packed.LocalData.{LocalData}
 use Rattle.place_words.specs.declared.packed.LocalData.TheVariants as local_data
 use Rattle.place_words.specs.declared.packed.OwnData.{OwnData}
 use Rattle.place_words.specs.declared.packed.OwnData.TheVariants as own_data
+use Rattle.place_words.specs.declared.packed.OwnAt.{OwnAt}
+use Rattle.place_words.specs.declared.packed.OwnAt.TheVariants as own_at
+use Rattle.place_words.specs.declared.packed.OwnTurn.{OwnTurn}
 
 abbrev pub local_of : LocalData → LocalPart
 local_of (local_data.Boxed part) = part.value
@@ -25,6 +28,23 @@ abbrev pub global_of : GlobalData → GlobalPart
 global_of (global_data.Boxed part) = part.value
 global_of (global_data.Push element) = global.Push element
 
+-- a turn of an own set, with what its rotation came by side by side
+abbrev pub turn_of_own : OwnTurn → OwnPart
+turn_of_own turn = own.Turn turn.hash (take turn.active turn.visits.items) (drop turn.active turn.visits.items) (option_map (λ note. note.value) turn.shrink) turn.got
+
 abbrev pub own_of : OwnData → OwnPart
-own_of (own_data.Boxed part) = part.value
+own_of (own_data.Turn turn) = turn_of_own turn.value
 own_of (own_data.Push element) = own.Push element
+
+-- it has as many as are told active
+abbrev pub IsOwnTurn : OwnTurn → Type 0
+IsOwnTurn turn = turn.active ≤ length turn.visits.items
+
+abbrev pub IsOwn : OwnData → Type 0
+IsOwn (own_data.Turn turn) = IsOwnTurn turn.value
+IsOwn (own_data.Push element) = ⊤
+
+-- the part that is read in place
+abbrev pub own_read : OwnAt → OwnPart
+own_read (own_at.Turn hash active inactive shrink got) = own.Turn hash active.now inactive.now (option_map (λ note. note.now) shrink) got
+own_read (own_at.Push element) = own.Push element

@@ -34,7 +34,7 @@ pub use list_part::{GlobalPart, LocalPart, OwnPart, Stolen};
 pub use lock::{is_lock, lock_named, lock_number, rank};
 pub use opening::{free_at_first, home_at_first, owners_at_first, spares_at_first};
 pub use owner::{Owner, is_free, owner_code, owner_of_code};
-pub use packed::{PackedGlobal, PackedLocal, PackedOwn};
+pub use packed::{OwnAt, PackedGlobal, PackedLocal, PackedOwn};
 pub use packed_bucket::PackedBucket;
 pub use shares::share;
 pub use step::{Lists, Step};

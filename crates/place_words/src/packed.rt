@@ -1,16 +1,17 @@
 //! Parts of list locks as they lie in an entry. One that has much to tell lies in a block of its own, so that the many small entries
 //! don't make room for it.
 
-ghost use Rattle.std.specs.Prelude.{◌≡◌, [], IfOk, MatchResult};
+ghost use Rattle.std.specs.Prelude.{◌≡◌, [], IfOk, MatchResult, option_map};
+ghost use Rattle.place_words.specs.Packed.{own_read, turn_of_own, IsOwnTurn};
 ghost use Rattle.place_words.specs.declared.list_part.GlobalPart.TheVariants as global;
 ghost use Rattle.place_words.specs.declared.list_part.LocalPart.TheVariants as local;
 ghost use Rattle.place_words.specs.declared.list_part.OwnPart.TheVariants as own;
 ghost use Rattle.place_words.specs.declared.list_part.Stolen.TheVariants as stolen;
 
 use crate::copying::EqualCopy;
-use crate::{GlobalPart, LocalPart, OwnPart, Stolen};
+use crate::{GlobalPart, LocalPart, OwnPart, ShrinkNote, Stolen, Visit};
 use map_types::{List, NoMemory};
-use std::alloc::Global;
+use std::alloc::{AllocError, Global};
 use std::marker::Model;
 
 /// What one turn of the lock of a CPU's local lists did. Contracts see the part.
@@ -226,19 +227,48 @@ pub struct PackedOwn {
 /// Where a part of an own set lies.
 #[derive(Drop)]
 pub(crate) enum OwnData {
-    /// In a block of its own.
-    Boxed(Box<OwnPart>),
+    /// In a block of its own: a turn of the lists.
+    Turn(Box<OwnTurn>),
     /// In place: a push of this element.
     Push(u32),
 }
 
+/// A turn of an own set. What the rotation came by lies side by side, active elements before inactive ones, and a shrink, which few
+/// turns have, in a block of its own.
+#[derive(Drop)]
+pub(crate) struct OwnTurn {
+    hash: u32,
+    /// So many of the elements that the rotation came by were active.
+    active: u32,
+    visits: Vec<Visit>,
+    shrink: Option<Box<ShrinkNote>>,
+    got: Option<u32>,
+}
+
+/// What one turn of the lock of a CPU's own list set did, read where it lies.
+#[derive(Clone, Copy)]
+pub enum OwnAt<'a> {
+    Turn {
+        hash: u32,
+        active: &'a [Visit],
+        inactive: &'a [Visit],
+        shrink: Option<&'a ShrinkNote>,
+        got: Option<u32>,
+    },
+    Push {
+        element: u32,
+    },
+}
+
 impl Model for PackedOwn {
     ghost use Rattle.place_words.specs.declared.list_part.OwnPart.{OwnPart};
-    ghost use Rattle.place_words.specs.Packed.{own_of};
+    ghost use Rattle.place_words.specs.Packed.{own_of, IsOwn};
 
     ghost Value = { OwnPart };
 
     ghost view = { λ p. own_of p.data };
+
+    ghost invariant = { λ p. IsOwn p.data };
 }
 
 impl PackedOwn {
@@ -246,8 +276,41 @@ impl PackedOwn {
     pub fn new(alloc: Global, part: OwnPart) -> Result<PackedOwn, NoMemory>
         ensures { IfOk result (λ packed. packed ≡ part) }
     {
+        match part {
+            OwnPart::Turn {
+                hash,
+                active,
+                inactive,
+                shrink,
+                got,
+            } => PackedOwn::turn(
+                alloc,
+                hash,
+                active.as_slice(),
+                inactive.as_slice(),
+                shrink,
+                got,
+            ),
+            OwnPart::Push { element } => Ok(PackedOwn::push(element)),
+        }
+    }
+
+    /// A turn of the lists: which active and inactive elements its rotation came by, a shrink, if there was one, and which element,
+    /// if any, it got for a key with this hash.
+    pub fn turn(
+        alloc: Global,
+        hash: u32,
+        active: &[Visit],
+        inactive: &[Visit],
+        shrink: Option<ShrinkNote>,
+        got: Option<u32>,
+    ) -> Result<PackedOwn, NoMemory>
+        ensures { IfOk result (λ packed. packed
+            ≡ own.Turn hash active.now inactive.now shrink got) }
+    {
+        let turn = own_turn(alloc, hash, active, inactive, shrink, got)?;
         Ok(PackedOwn {
-            data: OwnData::Boxed(Box::new(alloc, part)?),
+            data: OwnData::Turn(Box::new(alloc, turn)?),
         })
     }
 
@@ -260,22 +323,118 @@ impl PackedOwn {
         }
     }
 
-    /// The part: the one in its block, or one that is made for the answer.
-    pub fn part(&self) -> Result<&OwnPart, OwnPart>
-        ensures { MatchResult result (λ part. part.now ≡ self.now) (λ part. part ≡ self.now) }
+    /// The part, read where it lies.
+    pub fn part(&self) -> OwnAt<'_>
+        ensures { own_read result ≡ self.now }
     {
         match &self.data {
-            OwnData::Boxed(part) => Ok(part),
-            OwnData::Push(element) => Err(OwnPart::Push { element: *element }),
+            OwnData::Turn(turn) => turn_read(turn),
+            OwnData::Push(element) => OwnAt::Push { element: *element },
+        }
+    }
+}
+
+impl OwnPart {
+    /// The same part, read in place.
+    pub fn in_place(&self) -> OwnAt<'_>
+        ensures { own_read result ≡ self.now }
+    {
+        match self {
+            OwnPart::Turn {
+                hash,
+                active,
+                inactive,
+                shrink,
+                got,
+            } => OwnAt::Turn {
+                hash: *hash,
+                active: active.as_slice(),
+                inactive: inactive.as_slice(),
+                shrink: shrink.as_ref(),
+                got: *got,
+            },
+            OwnPart::Push { element } => OwnAt::Push { element: *element },
         }
     }
 }
 
 impl EqualCopy for PackedOwn {
     fn copy(&self, alloc: Global) -> Result<PackedOwn, NoMemory> {
-        match &self.data {
-            OwnData::Boxed(part) => PackedOwn::new(alloc, part.copy(alloc)?),
-            OwnData::Push(element) => Ok(PackedOwn::push(*element)),
+        match self.part() {
+            OwnAt::Turn {
+                hash,
+                active,
+                inactive,
+                shrink,
+                got,
+            } => PackedOwn::turn(
+                alloc,
+                hash,
+                active,
+                inactive,
+                shrink_copy(alloc, shrink)?,
+                got,
+            ),
+            OwnAt::Push { element } => Ok(PackedOwn::push(element)),
         }
+    }
+}
+
+/// A turn of an own set, with what its rotation came by side by side.
+fn own_turn(
+    alloc: Global,
+    hash: u32,
+    active: &[Visit],
+    inactive: &[Visit],
+    shrink: Option<ShrinkNote>,
+    got: Option<u32>,
+) -> Result<OwnTurn, NoMemory>
+    ensures { IfOk result (λ turn. (turn_of_own turn ≡ own.Turn hash active.now inactive.now shrink got)
+        × IsOwnTurn turn) }
+{
+    if active.len() > u32::MAX as usize {
+        return Err(AllocError.into());
+    }
+    let mut visits = Vec::with_capacity(alloc, active.len() + inactive.len())?;
+    visits.extend_from_slice(active)?;
+    visits.extend_from_slice(inactive)?;
+    let shrink = match shrink {
+        Some(shrink) => Some(Box::new(alloc, shrink)?),
+        None => None,
+    };
+    Ok(OwnTurn {
+        hash,
+        active: active.len() as u32,
+        visits,
+        shrink,
+        got,
+    })
+}
+
+/// A turn of an own set, read where it lies.
+fn turn_read(turn: &OwnTurn) -> OwnAt<'_>
+    requires { IsOwnTurn turn.now }
+    ensures { own_read result ≡ turn_of_own turn.now }
+{
+    let active = turn.active as usize;
+    OwnAt::Turn {
+        hash: turn.hash,
+        active: &turn.visits[..active],
+        inactive: &turn.visits[active..],
+        shrink: match &turn.shrink {
+            Some(shrink) => Some(shrink),
+            None => None,
+        },
+        got: turn.got,
+    }
+}
+
+/// A copy of a shrink, if there is one.
+fn shrink_copy(alloc: Global, shrink: Option<&ShrinkNote>) -> Result<Option<ShrinkNote>, NoMemory>
+    ensures { IfOk result (λ copy. copy ≡ option_map (λ s. s.now) shrink.entry) }
+{
+    match shrink {
+        Some(shrink) => Ok(Some(shrink.copy(alloc)?)),
+        None => Ok(None),
     }
 }

@@ -1,10 +1,10 @@
 //! Turns of a CPU's own set that an entry tells.
 
-ghost use Rattle.std.specs.Prelude.{◌≡◌, IfOk, map, Some};
+ghost use Rattle.std.specs.Prelude.{◌≡◌, IfOk, map, option_map, Some};
 ghost use Rattle.lru_lists.specs.declared.bits.ProbeCall as probe_calls;
 ghost use Rattle.place_words.specs.Entries.{part_read};
 ghost use Rattle.place_words.specs.Histories.{in_own};
-ghost use Rattle.place_words.specs.declared.history.Part.TheVariants as parts;
+ghost use Rattle.place_words.specs.Packed.{own_read};
 ghost use Rattle.set_replay.specs.Pushing.{HasFreeRoom};
 ghost use Rattle.set_replay.specs.Replayed.{EntryJudged};
 ghost use Rattle.set_replay.specs.OwnTurns.{OwnShrinkJudged, GivingJudged, OwnTurnJudged};
@@ -16,7 +16,7 @@ use crate::told::Calls;
 use lru_lists::{ListName, ListSet, ProbeCall};
 use map_types::{List, NoMemory, Row};
 use percpu_values::BodyStack;
-use place_words::{OwnPart, PackedOwn, PartAt, ShrinkNote};
+use place_words::{OwnAt, PartAt, ShrinkNote};
 use replay_words::Note;
 use row_list::Rows;
 use std::alloc::Global;
@@ -37,30 +37,8 @@ pub(crate) fn own_entry<S: Rows>(
     ensures { IfOk result (EntryJudged in_own (part_read part.entry) set.old set.new) }
 {
     match part {
-        PartAt::Own(part) => own_packed(alloc, calls, set, part),
+        PartAt::Own(part) => own_turn(alloc, calls, set, part.part()),
         PartAt::Bucket(_) | PartAt::Free(_) | PartAt::Local(_) | PartAt::Global(_) => Ok(None),
-    }
-}
-
-/// The same of the part of an own set.
-fn own_packed<S: Rows>(
-    alloc: Global,
-    calls: &mut Calls,
-    set: &mut ListSet<S>,
-    part: &PackedOwn,
-) -> Result<Option<Note>, NoMemory>
-    requires { HasFreeRoom set.old }
-    ensures { IfOk result (EntryJudged in_own (parts.Own part.now) set.old set.new) }
-{
-    match part.part() {
-        Ok(part) => {
-            let answer = own_turn(alloc, calls, set, part)?;
-            Ok(answer)
-        }
-        Err(part) => {
-            let answer = own_turn(alloc, calls, set, &part)?;
-            Ok(answer)
-        }
     }
 }
 
@@ -69,40 +47,33 @@ pub(crate) fn own_turn<S: Rows>(
     alloc: Global,
     calls: &mut Calls,
     set: &mut ListSet<S>,
-    part: &OwnPart,
+    part: OwnAt<'_>,
 ) -> Result<Option<Note>, NoMemory>
     requires { HasFreeRoom set.old }
-    ensures { IfOk result (OwnTurnJudged part.now set.old set.new) }
+    ensures { IfOk result (OwnTurnJudged (own_read part.entry) set.old set.new) }
 {
     match part {
-        OwnPart::Turn {
+        OwnAt::Turn {
             hash,
             active,
             inactive,
             shrink,
             got,
         } => {
-            if !rotates(
-                alloc,
-                calls,
-                set,
-                SCANS,
-                active.as_slice(),
-                inactive.as_slice(),
-            )? {
+            if !rotates(alloc, calls, set, SCANS, active, inactive)? {
                 return Ok(None);
             }
             let Some(hashes) = own_shrinks(alloc, calls, set, shrink)? else {
                 return Ok(None);
             };
-            if gives_out(set, *hash, *got) {
+            if gives_out(set, hash, got) {
                 Ok(Some(Note::Probes(hashes)))
             } else {
                 Ok(None)
             }
         }
-        OwnPart::Push { element } => {
-            if pushes(alloc, set, *element)? {
+        OwnAt::Push { element } => {
+            if pushes(alloc, set, element)? {
                 Ok(Some(Note::Nothing))
             } else {
                 Ok(None)
@@ -116,10 +87,10 @@ fn own_shrinks<S: Rows>(
     alloc: Global,
     calls: &mut Calls,
     set: &mut ListSet<S>,
-    shrink: &Option<ShrinkNote>,
+    shrink: Option<&ShrinkNote>,
 ) -> Result<Option<List<Option<u32>>>, NoMemory>
     requires { HasFreeRoom set.old }
-    ensures { IfOk result (OwnShrinkJudged shrink.now set.old set.new) }
+    ensures { IfOk result (OwnShrinkJudged (option_map (λ note. note.now) shrink.entry) set.old set.new) }
 {
     match shrink {
         None => {

@@ -1,9 +1,10 @@
 //! What the turns of list sets do to the words of their elements.
 
-ghost use Rattle.std.specs.Prelude.{◌≡◌, ℕ, ◌++◌, map, filter, IfOk};
+ghost use Rattle.std.specs.Prelude.{◌≡◌, ℕ, ◌++◌, map, filter, option_map, IfOk};
 ghost use Rattle.std.specs.List.{flat_map};
 ghost use Rattle.place_words.specs.Interleaving.{claims, global_steps, own_steps, freed_steps};
 ghost use Rattle.place_words.specs.Globals.{flushed_elements};
+ghost use Rattle.place_words.specs.Packed.{own_read};
 ghost use Rattle.place_words.specs.Shrinking.{look_removed, try_removed, freed};
 ghost use Rattle.place_words.specs.Takings.{freed_by};
 ghost use Rattle.place_words.specs.declared.home.Home.TheVariants as homes;
@@ -15,7 +16,7 @@ ghost use Rattle.step_check.specs.declared.change.Change.TheVariants as variants
 
 use crate::change::Change;
 use map_types::{DomainId, NoMemory};
-use place_words::{Flush, GlobalPart, Home, Look, OwnPart, Seen, ShrinkNote, Try};
+use place_words::{Flush, GlobalPart, Home, Look, OwnAt, Seen, ShrinkNote, Try};
 use std::alloc::Global;
 
 /// Whether a walk that spares set bits removed an element.
@@ -68,8 +69,9 @@ fn forced_off(alloc: Global, tries: &[Try]) -> Result<Vec<u32>, NoMemory>
 }
 
 /// The elements that a shrink freed.
-fn freed(alloc: Global, shrink: &Option<ShrinkNote>) -> Result<Vec<u32>, NoMemory>
-    ensures { IfOk result (λ elements. elements.items ≡ freed_by shrink.now) }
+fn freed(alloc: Global, shrink: Option<&ShrinkNote>) -> Result<Vec<u32>, NoMemory>
+    ensures { IfOk result (λ elements. elements.items
+        ≡ freed_by (option_map (λ note. note.now) shrink.entry)) }
 {
     match shrink {
         None => Ok(Vec::new(alloc)),
@@ -98,11 +100,12 @@ fn claimed(alloc: Global, lock: DomainId, got: Option<u32>) -> Result<Vec<Change
 fn own_turn(
     alloc: Global,
     lock: DomainId,
-    shrink: &Option<ShrinkNote>,
+    shrink: Option<&ShrinkNote>,
     got: Option<u32>,
 ) -> Result<Vec<Change>, NoMemory>
     ensures { IfOk result (λ changes. (cpu : ℕ) → map (step_of cpu) changes.items
-        ≡ map (λ e. steps.Settle cpu e lock) (freed_by shrink.now) ++ claims cpu lock got) }
+        ≡ map (λ e. steps.Settle cpu e lock) (freed_by (option_map (λ note. note.now) shrink.entry))
+        ++ claims cpu lock got) }
 {
     let elements = freed(alloc, shrink)?;
     let mut changes = settled(alloc, lock, elements.as_slice())?;
@@ -115,19 +118,16 @@ fn own_turn(
 pub(crate) fn own_changes(
     alloc: Global,
     lock: DomainId,
-    part: &OwnPart,
+    part: OwnAt<'_>,
 ) -> Result<Vec<Change>, NoMemory>
     ensures { IfOk result (λ changes. (cpu : ℕ)
-        → map (step_of cpu) changes.items ≡ own_steps cpu lock part.now) }
+        → map (step_of cpu) changes.items ≡ own_steps cpu lock (own_read part.entry)) }
 {
     match part {
-        OwnPart::Turn { shrink, got, .. } => own_turn(alloc, lock, shrink, *got),
-        OwnPart::Push { element } => {
+        OwnAt::Turn { shrink, got, .. } => own_turn(alloc, lock, shrink, got),
+        OwnAt::Push { element } => {
             let mut changes = Vec::new(alloc);
-            changes.push(Change::Settle {
-                element: *element,
-                lock,
-            })?;
+            changes.push(Change::Settle { element, lock })?;
             Ok(changes)
         }
     }
@@ -159,12 +159,12 @@ fn global_turn(
     cpu: u32,
     flushed: &[Flush],
     free: &[u32],
-    shrink: &Option<ShrinkNote>,
+    shrink: Option<&ShrinkNote>,
 ) -> Result<Vec<Change>, NoMemory>
     ensures { IfOk result (λ changes. map (step_of cpu) changes.items
         ≡ map (λ e. steps.Rehome cpu e (homes.In ids.Global)) (flushed_elements flushed.now)
         ++ map (λ e. steps.Rehome cpu e (homes.In (ids.Local cpu))) free.now
-        ++ flat_map (freed_steps cpu) (freed_by shrink.now)) }
+        ++ flat_map (freed_steps cpu) (freed_by (option_map (λ note. note.now) shrink.entry))) }
 {
     let mut changes = flushed_home(alloc, flushed)?;
     let moved = rehomed(alloc, Home::In(DomainId::Local(cpu)), free)?;
@@ -190,7 +190,13 @@ pub(crate) fn global_changes(
             free,
             shrink,
             ..
-        } => global_turn(alloc, cpu, flushed.as_slice(), free.as_slice(), shrink),
+        } => global_turn(
+            alloc,
+            cpu,
+            flushed.as_slice(),
+            free.as_slice(),
+            shrink.as_ref(),
+        ),
         GlobalPart::Push { element } => {
             let mut changes = Vec::new(alloc);
             changes.push(Change::Settle {

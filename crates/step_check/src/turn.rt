@@ -117,16 +117,8 @@ fn packed_own(
     ensures { IfOk result (λ changes.
         map (step_of cpu) changes.items ≡ own_steps cpu lock part.now) }
 {
-    match part.part() {
-        Ok(part) => {
-            let changes = own_changes(alloc, lock, part)?;
-            Ok(changes)
-        }
-        Err(part) => {
-            let changes = own_changes(alloc, lock, &part)?;
-            Ok(changes)
-        }
-    }
+    let changes = own_changes(alloc, lock, part.part())?;
+    Ok(changes)
 }
 
 /// The element that a turn of a bucket sees in a hand, and whose hand it is.
